@@ -1,0 +1,4 @@
+//! The owners of a block, and the refusals that every layer above answers.
+#![tactic(auto)]
+
+pub mod error;
