@@ -1,0 +1,30 @@
+-- Places: where a window stands, and what is seen of a window.
+use Rattle.std.specs.Prelude.{ℕ, ◌+◌, Bool, ◌&&◌, ◌==◌, if◌then◌else◌, List, length}
+use Rattle.arc_block.specs.Block.{Facts, native_facts}
+
+-- A window stands on nothing, on a static slice, or on a block at an offset. N is what a block goes by.
+pub data Place (N M : Type 0) : Type 0 where
+  nowhere : Place N M
+  static_data : Place N M
+  on_block : (block : N) → (offset : ℕ) → (facts : Facts M) → Place N M
+
+-- what is seen of a window: its items, and where it stands
+pub record Sight (T N M : Type 0) : Type 0 where
+  pub items : List T
+  pub place : Place N M
+
+-- by places further in
+abbrev pub moved : {N M : Type 0} → ℕ → Place N M → Place N M
+moved by nowhere = nowhere
+moved by static_data = static_data
+moved by (on_block block offset facts) = on_block block (offset + by) facts
+
+-- where a window stands that is made of a list: with no items, under a layout with static data, on nothing; else at
+-- the front of a new native block with a place for each item
+abbrev pub made_place : {T N M : Type 0} → Bool → N → List T → Place N M
+made_place has_static block items = if has_static && (length items == 0) then nowhere else on_block block 0 (native_facts (length items))
+
+-- where the part of a window from start to end stands: an empty one, under a layout with static data, on nothing; else
+-- where its source stands, that much further in
+abbrev pub part_place : {N M : Type 0} → Bool → ℕ → ℕ → Place N M → Place N M
+part_place has_static start end place = if has_static && (start == end) then nowhere else moved start place

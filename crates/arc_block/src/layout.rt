@@ -1,0 +1,33 @@
+//! Layouts: how a window holds what it stands on.
+ghost use Rattle.std.specs.Prelude.{◌≡◌, Bool, true, refl};
+
+/// A layout of windows.
+pub trait Layout {
+    /// Whether windows may stand on nothing, or on static data.
+    ghost STATIC: { Bool };
+
+    /// Whether windows may stand on nothing, or on static data.
+    const STATIC: bool;
+}
+
+/// Layouts under which windows may stand on nothing, or on static data.
+pub trait StaticLayout: Layout {
+    ghost has_static: { Self.STATIC ≡ true };
+}
+
+/// The default layout: a window stands on a counted block. `ANY` says whether that may be a vector or a buffer of the
+/// caller's, `STATIC` whether windows may stand on nothing, or on static data.
+pub struct ArcLayout<const ANY: bool, const STATIC: bool>;
+
+impl<const ANY: bool, const STATIC: bool> Layout for ArcLayout<ANY, STATIC> {
+    ghost STATIC = { STATIC };
+
+    const STATIC: bool = STATIC;
+}
+
+impl<const ANY: bool> StaticLayout for ArcLayout<ANY, true> {
+    ghost has_static = { refl };
+}
+
+/// The layout of windows that name none.
+pub type DefaultLayout = ArcLayout<true, true>;

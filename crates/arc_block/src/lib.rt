@@ -1,0 +1,5 @@
+//! Blocks, and the layouts that say how a window stands on one.
+#![tactic(auto)]
+
+pub mod block;
+pub mod layout;

@@ -1,0 +1,26 @@
+-- The lists of a slice kind: where one may be cut, and what a test of a range answers.
+use Rattle.std.specs.Prelude.{ℕ, ◌≤◌, Bool, IsTrue, nat_lt, ◌&&◌, if◌then◌else◌, List, length, take, drop, Result, Ok, Err}
+use Rattle.arc_owners.specs.declared.error.RangeError.{RangeError}
+use Rattle.arc_owners.specs.declared.error.RangeError.TheVariants.{OutOfRange, InvalidRange, NotBoundary}
+
+-- the part from start to end
+abbrev pub sub : {T : Type 0} → List T → ℕ → ℕ → List T
+sub xs start end = drop start (take end xs)
+
+-- an edge is a place, the end included, at which the kind may cut the list
+pub record IsEdge {T : Type 0} (boundary : List T → ℕ → Bool) (xs : List T) (at : ℕ) : Type 0 where
+  pub within : at ≤ length xs
+  pub cuts : IsTrue (boundary xs at)
+
+-- a range begins and ends at an edge
+pub record IsRange {T : Type 0} (boundary : List T → ℕ → Bool) (xs : List T) (start end : ℕ) : Type 0 where
+  pub ordered : start ≤ end
+  pub from : IsEdge boundary xs start
+  pub to : IsEdge boundary xs end
+
+-- what a test of a range answers: the end is asked first, then the order, then the edges
+abbrev pub range_answer : {T : Type 0} → (List T → ℕ → Bool) → List T → ℕ → ℕ → Result (Unit {0}) RangeError
+range_answer boundary xs start end =
+    if nat_lt (length xs) end then Err OutOfRange else
+    if nat_lt end start then Err InvalidRange else
+    if boundary xs start && boundary xs end then Ok tt else Err NotBoundary

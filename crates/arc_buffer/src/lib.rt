@@ -1,0 +1,4 @@
+//! What a window's items may be.
+#![tactic(auto)]
+
+pub mod kinds;

@@ -1,0 +1,2 @@
+//! Read windows.
+#![tactic(auto)]

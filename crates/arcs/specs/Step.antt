@@ -1,0 +1,84 @@
+-- One step of a table of lists: what each command is answered, and the table after it.
+use Rattle.std.specs.Prelude.{◌≡◌, ℕ, ◌+◌, Bool, List, [], ◌∷◌, ◌++◌, length, Option, Some, None, IsSome, slice_set, Result, Ok, Err}
+use Rattle.std.specs.Option.{option_map_or}
+use Rattle.arc_owners.specs.declared.error.RangeError.{RangeError}
+use Rattle.arc_owners.specs.declared.error.OwnerError.TheVariants.{CountFull}
+use Rattle.arc_buffer.specs.Slice.{IsRange, sub, range_answer}
+use Rattle.arc_block.specs.Place.{Place, nowhere, static_data, on_block, made_place, part_place}
+use Rattle.arc_block.specs.Table.{Row, Table, reader, row_at, block_of}
+use Rattle.arcs.specs.RunOf.{RunOf}
+use Rattle.arcs.specs.declared.command.Command.{Command}
+use Rattle.arcs.specs.declared.command.Command.TheVariants.{Slice, Sub, Show, Drop}
+use Rattle.arcs.specs.declared.command.Reply.{Reply}
+use Rattle.arcs.specs.declared.command.Reply.TheVariants as reply
+
+-- what a table is run under: whether its layout has static data, and where its kind may be cut
+pub record Setting (T : Type 0) : Type 0 where
+  pub has_static : Bool
+  pub boundary : List T → ℕ → Bool
+
+-- a reply, and the table after it
+abbrev pub Outcome : Type 0 → Type 0 → Type 0
+Outcome T M = Reply (List T) × Table T M
+
+-- a window more, under the next number; the table has had this many blocks then
+abbrev pub with_window : {T M : Type 0} → Table T M → List T → Place ℕ M → ℕ → Outcome T M
+with_window t items place blocks =
+    (reply.New (length t.rows), record { rows = t.rows ++ Some (record { items = items; place = place; role = reader }) ∷ []; blocks = blocks })
+
+-- how many blocks there have been, with a window made at this place
+abbrev pub blocks_after : {M : Type 0} → ℕ → Place ℕ M → ℕ
+blocks_after blocks nowhere = blocks
+blocks_after blocks static_data = blocks
+blocks_after blocks (on_block block offset facts) = blocks + 1
+
+-- a window over a copy of the items
+abbrev pub made : {T M : Type 0} → Setting T → Table T M → List T → Outcome T M
+made setting t items = let place = made_place setting.has_static t.blocks items in with_window t items place (blocks_after t.blocks place)
+
+-- a window over a part of a row
+abbrev pub cut : {T M : Type 0} → Setting T → Table T M → Row T M → ℕ → ℕ → Outcome T M
+cut setting t row start end = with_window t (sub row.items start end) (part_place setting.has_static start end row.place) t.blocks
+
+-- the row with this number, if there is one
+abbrev pub on_row : {T M : Type 0} → Table T M → ℕ → (Row T M → Outcome T M) → Outcome T M
+on_row t i then = option_map_or then (row_at t i) (reply.NoWindow, t)
+
+-- only in range
+abbrev pub in_range : {T M : Type 0} → Result (Unit {0}) RangeError → Table T M → Outcome T M → Outcome T M
+in_range (Ok done) t then = then
+in_range (Err e) t then = (reply.Range e, t)
+
+-- what a command is answered, and the table after it, where neither memory nor a count is short
+abbrev pub answer : {T M : Type 0} → Setting T → Table T M → Command (List T) → Outcome T M
+answer setting t (Slice items) = made setting t items
+answer setting t (Sub i start end) = on_row t i (λ row. in_range (range_answer setting.boundary row.items start end) t (cut setting t row start end))
+answer setting t (Show i) = on_row t i (λ row. (reply.Items row.items, t))
+answer setting t (Drop i) = on_row t i (λ row. (reply.Ok, record t { rows = slice_set t.rows i None }))
+
+-- in place of these replies want of memory may come: a window was to be made, or a list to be copied
+abbrev pub WantsMemory : {X : Type 0} → Reply X → Type 0
+WantsMemory (reply.New number) = Unit {0}
+WantsMemory (reply.Items items) = Unit {0}
+WantsMemory other = ⊥
+
+-- the want-of-memory list
+abbrev pub MayWant : {T M : Type 0} → Setting T → Table T M → Command (List T) → Type 0
+MayWant setting t c = WantsMemory (answer setting t c).0
+
+-- the commands by which a block would have one owner more
+abbrev pub MayBeFull : {T M : Type 0} → Setting T → Table T M → Command (List T) → Type 0
+MayBeFull {T} {M} setting t (Sub i start end) =
+    (row : Row T M) × (row_at t i ≡ Some row) × IsRange setting.boundary row.items start end
+    × IsSome (block_of (part_place setting.has_static start end row.place))
+MayBeFull setting t other = ⊥
+
+-- From old, the table may give this reply to the command and go on to new. A refusal changes nothing.
+abbrev pub Step : {T M : Type 0} → Setting T → Table T M → Command (List T) → Reply (List T) → Table T M → Type 0
+Step setting old c reply.Alloc new = MayWant setting old c × (new ≡ old)
+Step setting old c (reply.Owner CountFull) new = MayBeFull setting old c × (new ≡ old)
+Step setting old c reply new = answer setting old c ≡ (reply, new)
+
+-- the table may give these replies to these commands, one after another
+abbrev pub Run : {T M : Type 0} → Setting T → Table T M → List (Command (List T)) → List (Reply (List T)) → Table T M → Type 0
+Run setting = RunOf (Step setting)

@@ -1,0 +1,38 @@
+//! What a script asks of its windows, and what it is answered.
+use arc_owners::error::{OwnerError, RangeError};
+
+/// A command, where X holds items. Windows go by their numbers.
+#[derive(Debug, Drop)]
+pub enum Command<X> {
+    /// A window over a copy of these items.
+    Slice(X),
+    /// A window over the part from `start` to `end` of another.
+    Sub {
+        window: usize,
+        start: usize,
+        end: usize,
+    },
+    /// The items of a window.
+    Show { window: usize },
+    /// The end of a window.
+    Drop { window: usize },
+}
+
+/// What a command is answered, where X holds items.
+#[derive(Debug, Drop)]
+pub enum Reply<X> {
+    /// A window was made, and has this number.
+    New(usize),
+    /// It is done.
+    Ok,
+    /// The items of the window.
+    Items(X),
+    /// No window has this number, or none has it any more.
+    NoWindow,
+    /// The range isn't one of the window.
+    Range(RangeError),
+    /// There is no owner more.
+    Owner(OwnerError),
+    /// Memory was refused; nothing changed.
+    Alloc,
+}

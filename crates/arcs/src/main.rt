@@ -1,0 +1,6 @@
+//! Windows driven by a script: lines in, replies out.
+#![tactic(auto)]
+
+mod command;
+
+fn main() {}
