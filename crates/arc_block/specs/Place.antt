@@ -19,12 +19,14 @@ moved by nowhere = nowhere
 moved by static_data = static_data
 moved by (on_block block offset facts) = on_block block (offset + by) facts
 
--- where a window stands that is made of a list: with no items, under a layout with static data, on nothing; else at
--- the front of a new native block with a place for each item
-abbrev pub made_place : {T N M : Type 0} → Bool → N → List T → Place N M
-made_place has_static block items = if has_static && (length items == 0) then nowhere else on_block block 0 (native_facts (length items))
+-- the empty rule: under a layout with static data a window that is made with no items stands on nothing
+abbrev pub empty_rule : {T N M : Type 0} → Bool → List T → Place N M → Place N M
+empty_rule has_static items place = if has_static && (length items == 0) then nowhere else place
 
--- where the part of a window from start to end stands: an empty one, under a layout with static data, on nothing; else
--- where its source stands, that much further in
-abbrev pub part_place : {N M : Type 0} → Bool → ℕ → ℕ → Place N M → Place N M
-part_place has_static start end place = if has_static && (start == end) then nowhere else moved start place
+-- where a window stands that is made of a list: at the front of a new native block with a place for each item
+abbrev pub made_place : {T N M : Type 0} → Bool → N → List T → Place N M
+made_place has_static block items = empty_rule has_static items (on_block block 0 (native_facts (length items)))
+
+-- where a part stands that begins at start: where its source does, that much further in
+abbrev pub part_place : {T N M : Type 0} → Bool → List T → ℕ → Place N M → Place N M
+part_place has_static items start place = empty_rule has_static items (moved start place)

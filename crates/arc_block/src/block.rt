@@ -9,7 +9,6 @@ use std::marker::Model;
 use std::sync::Arc;
 
 /// An owner of a block. The block is given back with its last owner.
-#[derive(Drop)]
 pub struct Block<S: Slice, A: Allocator = Global> {
     items: Arc<Vec<S::Item, A>, A>,
 }
@@ -20,6 +19,13 @@ impl<S: Slice, A: Allocator> Model for Block<S, A> {
     ghost Value = { Held S.Item (Unit {0}) };
 
     ghost view = { λ b. native_block b.items.value.items };
+}
+
+impl<S: Slice, A: Allocator> Drop for Block<S, A> {
+    fn drop(self) {
+        let Block { items } = self;
+        drop(items);
+    }
 }
 
 impl<S: Slice, A: Allocator + Copy> Block<S, A> {

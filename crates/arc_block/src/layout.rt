@@ -1,5 +1,5 @@
 //! Layouts: how a window holds what it stands on.
-ghost use Rattle.std.specs.Prelude.{◌≡◌, Bool, true, refl};
+ghost use Rattle.std.specs.Prelude.{◌≡◌, ◌==◌, ◌&&◌, Bool, true, refl};
 
 /// A layout of windows.
 pub trait Layout {
@@ -17,6 +17,7 @@ pub trait StaticLayout: Layout {
 
 /// The default layout: a window stands on a counted block. `ANY` says whether that may be a vector or a buffer of the
 /// caller's, `STATIC` whether windows may stand on nothing, or on static data.
+#[derive(Clone, Copy, Debug, PartialEq, Eq)]
 pub struct ArcLayout<const ANY: bool, const STATIC: bool>;
 
 impl<const ANY: bool, const STATIC: bool> Layout for ArcLayout<ANY, STATIC> {
@@ -31,3 +32,11 @@ impl<const ANY: bool> StaticLayout for ArcLayout<ANY, true> {
 
 /// The layout of windows that name none.
 pub type DefaultLayout = ArcLayout<true, true>;
+
+/// Whether a window that is made with `len` items stands on nothing: one with none does, where the layout has static
+/// data.
+pub fn stands_on_nothing<L: Layout>(len: usize) -> bool
+    ensures { result ≡ (L.STATIC && (len == 0)) }
+{
+    L::STATIC && len == 0
+}

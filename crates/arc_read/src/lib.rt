@@ -1,2 +1,4 @@
-//! Read windows.
+//! Read windows: shared, cut and cloned without a copy.
 #![tactic(auto)]
+
+pub mod slice;

@@ -38,7 +38,7 @@ made setting t items = let place = made_place setting.has_static t.blocks items 
 
 -- a window over a part of a row
 abbrev pub cut : {T M : Type 0} → Setting T → Table T M → Row T M → ℕ → ℕ → Outcome T M
-cut setting t row start end = with_window t (sub row.items start end) (part_place setting.has_static start end row.place) t.blocks
+cut setting t row start end = let items = sub row.items start end in with_window t items (part_place setting.has_static items start row.place) t.blocks
 
 -- the row with this number, if there is one
 abbrev pub on_row : {T M : Type 0} → Table T M → ℕ → (Row T M → Outcome T M) → Outcome T M
@@ -70,7 +70,7 @@ MayWant setting t c = WantsMemory (answer setting t c).0
 abbrev pub MayBeFull : {T M : Type 0} → Setting T → Table T M → Command (List T) → Type 0
 MayBeFull {T} {M} setting t (Sub i start end) =
     (row : Row T M) × (row_at t i ≡ Some row) × IsRange setting.boundary row.items start end
-    × IsSome (block_of (part_place setting.has_static start end row.place))
+    × IsSome (block_of (part_place setting.has_static (sub row.items start end) start row.place))
 MayBeFull setting t other = ⊥
 
 -- From old, the table may give this reply to the command and go on to new. A refusal changes nothing.
