@@ -8,6 +8,11 @@ pub data Place (N M : Type 0) : Type 0 where
   static_data : Place N M
   on_block : (block : N) → (offset : ℕ) → (facts : Facts M) → Place N M
 
+abbrev pub IsOnBlock : {N M : Type 0} → Place N M → Type 0
+IsOnBlock nowhere = ⊥
+IsOnBlock static_data = ⊥
+IsOnBlock (on_block block offset facts) = Unit {0}
+
 -- what is seen of a window: its items, and where it stands
 pub record Sight (T N M : Type 0) : Type 0 where
   pub items : List T

@@ -1,7 +1,8 @@
 //! `ArcSlice`, a window that is read.
-ghost use Rattle.std.specs.Prelude.{◌≡◌, ℕ, ◌≤◌, ◌==◌, ◌↔◌, true, IsTrue, List, [], length, IsOk, IfOk, IfErr};
-ghost use Rattle.arc_buffer.specs.Slice.{IsRange, range_answer, sub};
-ghost use Rattle.arc_block.specs.Place.{nowhere, made_place, part_place};
+ghost use Rattle.std.specs.Prelude.{◌≡◌, ◌==◌, ◌↔◌, [], length, IsOk, IfOk, IfErr, OnErr};
+ghost use Rattle.arc_buffer.specs.Slice.{IsRange, range_answer};
+ghost use Rattle.arc_block.specs.Place.{nowhere, IsOnBlock};
+ghost use Rattle.arc_read.specs.Window.{made_window, part_window};
 
 use arc_block::block::Block;
 use arc_block::layout::{DefaultLayout, Layout, StaticLayout, stands_on_nothing};
@@ -71,8 +72,8 @@ impl<S: Slice, L: Layout, A: Allocator + Copy, H: Mark> ArcSlice<S, L, A, H> {
     where
         S: CopySlice,
         S::Item: Copy,
-        ensures ok { IfOk result (λ window. window ≡ record { items = items.now; place = made_place L.STATIC tt items.now }) }
-        ensures empty { L.STATIC ≡ true → items.now ≡ [] → IsOk result }
+        ensures ok { IfOk result (λ window. window ≡ made_window L.STATIC items.now) }
+        ensures refused { OnErr result (IsOnBlock (made_window L.STATIC items.now).place) }
     {
         let block = if stands_on_nothing::<L>(items.len()) {
             None
@@ -144,7 +145,7 @@ impl<S: Slice, L: Layout, A: Allocator + Copy, H: Mark> ArcSlice<S, L, A, H> {
     pub fn try_clone(&self, rt: &impl Wait) -> Result<Self, OwnerError>
         ensures ok { IfOk result (λ window. window ≡ self.now) }
         ensures refused { IfErr result (λ e. e ≡ OwnerError.CountFull) }
-        ensures nowhere { self.now.place ≡ nowhere → IsOk result }
+        ensures owner { OnErr result (IsOnBlock self.now.place) }
     {
         let _ = rt;
         let block = match &self.block {
@@ -168,11 +169,9 @@ impl<S: Slice, L: Layout, A: Allocator + Copy, H: Mark> ArcSlice<S, L, A, H> {
     where
         S: Subsliceable,
         requires { IsRange S.boundary self.now.items start end }
-        ensures ok { IfOk result (λ window. let items = sub self.now.items start end in
-            window ≡ record { items = items; place = part_place L.STATIC items start self.now.place }) }
+        ensures ok { IfOk result (λ window. window ≡ part_window L.STATIC self.now start end) }
         ensures refused { IfErr result (λ e. e ≡ OwnerError.CountFull) }
-        ensures empty { L.STATIC ≡ true → start ≡ end → IsOk result }
-        ensures nowhere { self.now.place ≡ nowhere → IsOk result }
+        ensures owner { OnErr result (IsOnBlock (part_window L.STATIC self.now start end).place) }
     {
         let _ = rt;
         match &self.block {

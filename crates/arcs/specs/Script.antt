@@ -33,16 +33,16 @@ pub record AreLines (input : List ℕ) (lines : List (List ℕ)) : Type 0 where
 abbrev pub bytes : Setting ℕ
 bytes = record { has_static = true; boundary = λ items at. true }
 
--- the script's tables, whose metadata are numbers
-abbrev pub Windows : Type 0
-Windows = Table ℕ ℕ
+-- the script's tables: no window has metadata
+abbrev pub ByteTable : Type 0
+ByteTable = Table ℕ (Unit {0})
 
 -- the line says no command
 abbrev pub IsBad : List ℕ → Type 0
 IsBad line = (c : Command (List ℕ)) → ¬ Says line c
 
 -- what a line is answered: one step of the command that it says, or None where it says none and nothing changes
-abbrev pub Answers : Windows → List ℕ → Option (Reply (List ℕ)) → Windows → Type 0
+abbrev pub Answers : ByteTable → List ℕ → Option (Reply (List ℕ)) → ByteTable → Type 0
 Answers old line (Some reply) new = (c : Command (List ℕ)) × Says line c × Step bytes old c reply new
 Answers old line None new = IsBad line × (new ≡ old)
 
@@ -54,7 +54,7 @@ answer_text None = codes "bad line"
 pub record IsReplyText (input text : List ℕ) : Type 0 where
   pub lines : List (List ℕ)
   pub replies : List (Option (Reply (List ℕ)))
-  pub after : Windows
+  pub after : ByteTable
   pub cut : AreLines input lines
   pub run : RunOf Answers empty_table lines replies after
   pub written : text ≡ ended (map answer_text replies)

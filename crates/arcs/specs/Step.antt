@@ -1,11 +1,11 @@
 -- One step of a table of lists: what each command is answered, and the table after it.
-use Rattle.std.specs.Prelude.{◌≡◌, ℕ, ◌+◌, Bool, List, [], ◌∷◌, ◌++◌, length, Option, Some, None, IsSome, slice_set, Result, Ok, Err}
+use Rattle.std.specs.Prelude.{◌≡◌, ℕ, ◌+◌, Bool, List, [], ◌∷◌, ◌++◌, length, Option, Some, None, slice_set, Result, Ok, Err}
 use Rattle.std.specs.Option.{option_map_or}
 use Rattle.arc_owners.specs.declared.error.RangeError.{RangeError}
 use Rattle.arc_owners.specs.declared.error.OwnerError.TheVariants.{CountFull}
 use Rattle.arc_buffer.specs.Slice.{IsRange, sub, range_answer}
-use Rattle.arc_block.specs.Place.{Place, nowhere, static_data, on_block, made_place, part_place}
-use Rattle.arc_block.specs.Table.{Row, Table, reader, row_at, block_of}
+use Rattle.arc_block.specs.Place.{Place, nowhere, static_data, on_block, IsOnBlock, made_place, part_place}
+use Rattle.arc_block.specs.Table.{Row, Table, reader, row_at}
 use Rattle.arcs.specs.RunOf.{RunOf}
 use Rattle.arcs.specs.declared.command.Command.{Command}
 use Rattle.arcs.specs.declared.command.Command.TheVariants.{Slice, Sub, Show, Drop}
@@ -70,7 +70,7 @@ MayWant setting t c = WantsMemory (answer setting t c).0
 abbrev pub MayBeFull : {T M : Type 0} → Setting T → Table T M → Command (List T) → Type 0
 MayBeFull {T} {M} setting t (Sub i start end) =
     (row : Row T M) × (row_at t i ≡ Some row) × IsRange setting.boundary row.items start end
-    × IsSome (block_of (part_place setting.has_static (sub row.items start end) start row.place))
+    × IsOnBlock (part_place setting.has_static (sub row.items start end) start row.place)
 MayBeFull setting t other = ⊥
 
 -- From old, the table may give this reply to the command and go on to new. A refusal changes nothing.

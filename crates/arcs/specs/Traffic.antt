@@ -10,9 +10,10 @@ pub record Traffic : Type 0 where
 -- after a call over a slice that passed its first bytes, or failed
 abbrev pub after_call : {E : Type 0} → Traffic → List ℕ → Result ℕ E → Traffic
 after_call t slice (Ok n) = record {
-    bytes = t.bytes ++ take n slice;
-    failures = t.failures;
-    empties = if n == 0 && nat_lt 0 (length slice) then t.empties + 1 else t.empties }
+  bytes = t.bytes ++ take n slice;
+  failures = t.failures;
+  empties = if n == 0 && nat_lt 0 (length slice) then t.empties + 1 else t.empties;
+}
 after_call t slice (Err e) = record t { failures = t.failures + 1 }
 
 -- from one moment to the next a reader gave some input and a writer took some text, which go together

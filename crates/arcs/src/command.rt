@@ -13,9 +13,13 @@ pub enum Command<X> {
         end: usize,
     },
     /// The items of a window.
-    Show { window: usize },
+    Show {
+        window: usize,
+    },
     /// The end of a window.
-    Drop { window: usize },
+    Drop {
+        window: usize,
+    },
 }
 
 /// What a command is answered, where X holds items.

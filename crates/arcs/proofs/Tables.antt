@@ -1,0 +1,50 @@
+-- Steps of the windows, as steps of their table.
+use Rattle.std.proofs.Common.{◌≡◌, ℕ, zero, suc, Bool, true, false, ◌&&◌, ◌==◌, if◌then◌else◌, List, [], ◌∷◌, length, map, Option, Some, None, MatchOption, is_some, slice_set, refl, sym, ap, ◌∙◌, subst}
+use Rattle.std.specs.Option.{option_map_or}
+use Rattle.arc_owners.specs.declared.error.OwnerError.{OwnerError}
+use Rattle.arc_owners.specs.declared.error.OwnerError.TheVariants.{CountFull}
+use Rattle.arc_buffer.specs.Slice.{IsRange, sub}
+use Rattle.arc_block.specs.Place.{Place, nowhere, static_data, on_block, IsOnBlock, moved, part_place}
+use Rattle.arc_block.specs.Table.{Row, row_at}
+use Rattle.arc_read.specs.Window.{part_window}
+use Rattle.arcs.specs.Step.{Step, answer}
+use Rattle.arcs.specs.Script.{ByteTable, bytes}
+use Rattle.arcs.specs.Rows.{numbered, row_of}
+use Rattle.arcs.specs.declared.windows.Entry.{Entry}
+use Rattle.arcs.specs.declared.command.Command.TheVariants as command
+use Rattle.arcs.specs.declared.command.Reply.TheVariants as reply
+
+-- a place may be set before each is changed, or after
+pub map-slice_set : {X Y : Type 0} (f : X → Y) (xs : List X) (i : ℕ) (x : X) → map f (slice_set xs i x) ≡ slice_set (map f xs) i (f x)
+map-slice_set f [] i x = refl
+map-slice_set f (y ∷ ys) zero x = refl
+map-slice_set f (y ∷ ys) (suc i) x = ap (λ zs. f y ∷ zs) (map-slice_set f ys i x)
+
+-- dropping a window that is there
+pub dropped : {X : Type 0} (t : ByteTable) (i : ℕ) (view : X → Row ℕ (Unit {0})) (found : Option X) → MatchOption found (row_at t i ≡ None) (λ x. row_at t i ≡ Some (view x)) → is_some found ≡ true
+    → (rows : List (Option (Row ℕ (Unit {0})))) → rows ≡ slice_set t.rows i None → answer bytes t (command.Drop i) ≡ (reply.Ok, record { rows = rows; blocks = t.blocks })
+dropped t i view (Some x) there some rows after =
+    ap (λ r. option_map_or (λ row. (reply.Ok, record { rows = slice_set t.rows i None; blocks = t.blocks })) r (reply.NoWindow, t)) there
+    ∙ ap (λ rs. (reply.Ok, record { rows = rs; blocks = t.blocks })) (sym after)
+dropped t i view None there some rows after = cc
+
+-- the number of a block doesn't change whether a part stands on one
+numbered_unless : {M : Type 0} (nothing : Bool) (start n : ℕ) (p : Place (Unit {0}) M) → IsOnBlock (if nothing then nowhere else moved start p) → IsOnBlock (if nothing then nowhere else moved start (numbered n p))
+numbered_unless true start n p h = h
+numbered_unless false start n nowhere h = h
+numbered_unless false start n static_data h = h
+numbered_unless false start n (on_block it offset facts) h = h
+
+pub part-numbered : {T M : Type 0} (has_static : Bool) (items : List T) (start n : ℕ) (p : Place (Unit {0}) M) → IsOnBlock (part_place has_static items start p) → IsOnBlock (part_place has_static items start (numbered n p))
+part-numbered has_static items start n p h = numbered_unless (has_static && (length items == 0)) start n p h
+
+-- a part is refused where the block can have no owner more
+pub refused : {A : Type 0} (old new : ByteTable) (i start end : ℕ) (there again : Entry A) (e : OwnerError) → new ≡ old → e ≡ CountFull → row_at old i ≡ Some (row_of there) → row_at new i ≡ Some (row_of again)
+    → IsRange bytes.boundary there.window.items start end → IsOnBlock (part_window true again.window start end).place
+    → Step bytes old (command.Sub i start end) (reply.Owner e) new
+refused old new i start end there again e same full is still range owner =
+    let P : OwnerError → Type 0 = λ x. Step bytes old (command.Sub i start end) (reply.Owner x) new in
+    let one : row_of again ≡ row_of there = cc (ap (λ t. row_at t i) (sym same) ∙ still) in
+    let Q : Row ℕ (Unit {0}) → Type 0 = λ row. IsOnBlock (part_place true (sub row.items start end) start row.place) in
+    let numbered_owner : Q (row_of again) = part-numbered true (sub again.window.items start end) start again.block again.window.place owner in
+    subst P (sym full) ((row_of there, is, range, subst Q one numbered_owner), same)

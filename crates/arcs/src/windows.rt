@@ -1,0 +1,138 @@
+//! The windows of a script, by number.
+ghost use Rattle.std.specs.Prelude.{◌≤◌, vec_len};
+
+use crate::command::{Command, Reply};
+use arc_block::layout::DefaultLayout;
+use arc_buffer::kinds::Plain;
+use arc_read::slice::ArcSlice;
+use std::alloc::Allocator;
+use std::sync::Wait;
+
+/// A window, and the number of the block that it stands on, if it stands on one.
+#[derive(Drop)]
+pub struct Entry<A: Allocator> {
+    window: ArcSlice<Plain<u8>, DefaultLayout, A>,
+    block: usize,
+}
+
+/// The windows of a script under their numbers, `None` where one has gone, and how many blocks they have stood on.
+#[derive(Drop)]
+pub struct Windows<A: Allocator> {
+    entries: Vec<Option<Entry<A>>, A>,
+    blocks: usize,
+    alloc: A,
+    ghost counted: { blocks ≤ vec_len entries },
+}
+
+impl<A: Allocator + Copy> Windows<A> {
+    ghost use Rattle.std.specs.Prelude.{◌≡◌, Some, None, MatchOption};
+    ghost use Rattle.arc_block.specs.Table.{empty_table, row_at};
+    ghost use Rattle.arcs.specs.Step.{Step};
+    ghost use Rattle.arcs.specs.Script.{bytes};
+    ghost use Rattle.arcs.specs.Seen.{seen_command, seen_reply};
+    ghost use Rattle.arcs.specs.Rows.{row_of, table_of};
+    ghost use Rattle.arcs.specs.declared.command.Command.TheVariants as command;
+
+    /// No window yet. Takes no memory.
+    pub fn new(alloc: A) -> Self
+        ensures { table_of result ≡ empty_table }
+    {
+        Windows {
+            entries: Vec::new(alloc),
+            blocks: 0,
+            alloc,
+        }
+    }
+
+    /// Carries out one command. A refusal changes nothing; what the command brought is let go.
+    ///
+    /// Takes memory for a window more, for what a window is made of and for what is shown; refused, the answer is
+    /// `Alloc`.
+    pub fn step(&mut self, rt: &impl Wait, command: Command<Vec<u8, A>>) -> Reply<Vec<u8, A>>
+        ensures { Step bytes (table_of self.old) (seen_command command) (seen_reply result) (table_of self.new) }
+    {
+        match command {
+            Command::Slice(items) => self.slice(items),
+            Command::Sub { window, start, end } => self.sub(rt, window, start, end),
+            Command::Show { window } => self.show(window),
+            Command::Drop { window } => self.release(window),
+        }
+    }
+
+    /// The window with this number, if it was made and hasn't gone.
+    fn entry(&self, i: usize) -> Option<&Entry<A>>
+        ensures { MatchOption result (row_at (table_of self.now) i ≡ None) (λ entry. row_at (table_of self.now) i ≡ Some (row_of entry.now)) }
+    {
+        self.entries.get(i)?.as_ref()
+    }
+
+    /// A window over a copy of the items.
+    fn slice(&mut self, items: Vec<u8, A>) -> Reply<Vec<u8, A>>
+        ensures { Step bytes (table_of self.old) (command.Slice items.items) (seen_reply result) (table_of self.new) }
+    {
+        if self.entries.reserve(1).is_err() {
+            return Reply::Alloc;
+        }
+        let Ok(window) = ArcSlice::try_from_slice(self.alloc, &items) else {
+            return Reply::Alloc;
+        };
+        let number = self.entries.len();
+        let block = self.blocks;
+        self.entries.push_reserved(Some(Entry { window, block }));
+        if !items.is_empty() {
+            self.blocks += 1;
+        }
+        Reply::New(number)
+    }
+
+    /// A window over the part from `start` to `end` of another.
+    fn sub(&mut self, rt: &impl Wait, i: usize, start: usize, end: usize) -> Reply<Vec<u8, A>>
+        ensures { Step bytes (table_of self.old) (command.Sub i start end) (seen_reply result) (table_of self.new) }
+    {
+        let Some(entry) = self.entry(i) else {
+            return Reply::NoWindow;
+        };
+        if let Err(e) = entry.window.check_range(start, end) {
+            return Reply::Range(e);
+        }
+        if self.entries.reserve(1).is_err() {
+            return Reply::Alloc;
+        }
+        let Some(entry) = self.entry(i) else {
+            unreachable!()
+        };
+        let block = entry.block;
+        match entry.window.try_subslice(rt, start, end) {
+            Ok(window) => {
+                let number = self.entries.len();
+                self.entries.push_reserved(Some(Entry { window, block }));
+                Reply::New(number)
+            }
+            Err(e) => Reply::Owner(e),
+        }
+    }
+
+    /// The items of a window.
+    fn show(&self, i: usize) -> Reply<Vec<u8, A>>
+        ensures { Step bytes (table_of self.now) (command.Show i) (seen_reply result) (table_of self.now) }
+    {
+        let Some(entry) = self.entry(i) else {
+            return Reply::NoWindow;
+        };
+        match Vec::from_slice(self.alloc, entry.window.as_slice()) {
+            Ok(items) => Reply::Items(items),
+            Err(_) => Reply::Alloc,
+        }
+    }
+
+    /// The end of a window.
+    fn release(&mut self, i: usize) -> Reply<Vec<u8, A>>
+        ensures { Step bytes (table_of self.old) (command.Drop i) (seen_reply result) (table_of self.new) }
+    {
+        if self.entry(i).is_none() {
+            return Reply::NoWindow;
+        }
+        self.entries[i] = None;
+        Reply::Ok
+    }
+}
