@@ -1,5 +1,5 @@
 -- What a reader or a writer tells of its calls.
-use Rattle.std.specs.Prelude.{◌≡◌, ℕ, ◌+◌, ◌==◌, ◌&&◌, nat_lt, if◌then◌else◌, List, ◌++◌, length, take, Result, Ok, Err}
+use Rattle.std.specs.Prelude.{◌≡◌, ℕ, ◌+◌, ◌==◌, ◌&&◌, nat_lt, if◌then◌else◌, List, [], ◌++◌, length, take, Option, Some, None}
 
 -- the bytes that passed in all calls; how many calls failed; and how many, over a slice that isn't empty, passed nothing
 pub record Traffic : Type 0 where
@@ -7,14 +7,18 @@ pub record Traffic : Type 0 where
   pub failures : ℕ
   pub empties : ℕ
 
--- after a call over a slice that passed its first bytes, or failed
-abbrev pub after_call : {E : Type 0} → Traffic → List ℕ → Result ℕ E → Traffic
-after_call t slice (Ok n) = record {
+-- before any call
+abbrev pub no_traffic : Traffic
+no_traffic = record { bytes = []; failures = 0; empties = 0 }
+
+-- after a call over a slice: so many of its first bytes passed, or the call failed
+abbrev pub after_call : Traffic → List ℕ → Option ℕ → Traffic
+after_call t slice (Some n) = record {
   bytes = t.bytes ++ take n slice;
   failures = t.failures;
   empties = if n == 0 && nat_lt 0 (length slice) then t.empties + 1 else t.empties;
 }
-after_call t slice (Err e) = record t { failures = t.failures + 1 }
+after_call t slice None = record t { failures = t.failures + 1 }
 
 -- from one moment to the next a reader gave some input and a writer took some text, which go together
 pub record Exchanges (fits : List ℕ → List ℕ → Type 0) (reader reader' writer writer' : Traffic) : Type 0 where

@@ -2,6 +2,8 @@
 #![tactic(auto)]
 
 mod command;
+mod device;
+mod log;
 mod windows;
 
 pub fn probe(rt: &(impl std::sync::Wait + AllocGlobal)) -> command::Reply<Vec<u8>> {
@@ -10,3 +12,9 @@ pub fn probe(rt: &(impl std::sync::Wait + AllocGlobal)) -> command::Reply<Vec<u8
 }
 
 fn main() {}
+
+pub fn probe2(r: &mut device::Counted<std::io::Stdin>, w: &mut device::Counted<std::io::Stdout>) {
+    let mut b = [0u8; 4];
+    let _ = device::Source::read(r, &mut b);
+    let _ = device::Sink::write(w, &b);
+}

@@ -1,0 +1,83 @@
+//! Readers and writers that tell what passed.
+ghost use Rattle.std.specs.Prelude.{◌≡◌, ◌≤◌, length, IfOk};
+ghost use Rattle.std.specs.Result.{result_ok};
+ghost use Rattle.arcs.specs.Traffic.{no_traffic};
+
+use crate::log::{Call, Log};
+use std::io;
+use std::io::{Read, Write};
+
+/// What gives a script its bytes: std's `read`, which tells its bytes and counts its failures and the ends it found.
+pub trait Source {
+    ghost use Rattle.arcs.specs.Traffic.{Traffic, after_call};
+
+    /// What its reads have given so far.
+    ghost traffic: { Self → Traffic };
+
+    /// Reads into the front of `buf`, and answers how many bytes: none where `buf` is empty or the end was found.
+    fn read(&mut self, buf: &mut [u8]) -> io::Result<usize>
+        ensures bound { IfOk result (λ n. n ≤ length buf.new) }
+        ensures told { traffic self.new ≡ after_call (traffic self.old) buf.new (result_ok result) };
+}
+
+/// What takes a script's replies: std's `write`, which tells its bytes and counts its failures and the writes that took
+/// nothing.
+pub trait Sink {
+    ghost use Rattle.arcs.specs.Traffic.{Traffic, after_call};
+
+    /// What its writes have taken so far.
+    ghost traffic: { Self → Traffic };
+
+    /// Writes from the front of `buf`, and answers how many bytes it took.
+    fn write(&mut self, buf: &[u8]) -> io::Result<usize>
+        ensures bound { IfOk result (λ n. n ≤ length buf.now) }
+        ensures told { traffic self.new ≡ after_call (traffic self.old) buf.now (result_ok result) };
+}
+
+/// A reader or a writer of std's, with what it has told.
+#[derive(Drop)]
+pub struct Counted<T> {
+    device: T,
+    log: Log,
+}
+
+impl<T> Counted<T> {
+    /// A device from which nothing was asked yet.
+    pub fn new(device: T) -> Self
+        ensures device { result.device ≡ device }
+        ensures untold { result.log.traffic ≡ no_traffic }
+    {
+        Counted {
+            device,
+            log: Log::new(),
+        }
+    }
+}
+
+impl<T: Read> Source for Counted<T> {
+    ghost traffic = { λ c. c.log.traffic };
+
+    fn read(&mut self, buf: &mut [u8]) -> io::Result<usize> {
+        let result = self.device.read(buf);
+        let passed = match &result {
+            Ok(n) => Some(*n),
+            Err(_) => None,
+        };
+        self.log = self.log.then(&Call { slice: buf, passed });
+        result
+    }
+}
+
+impl<T: Write> Sink for Counted<T> {
+    ghost traffic = { λ c. c.log.traffic };
+
+    fn write(&mut self, buf: &[u8]) -> io::Result<usize> {
+        let result = self.device.write(buf);
+        let passed = match &result {
+            Ok(n) => Some(*n),
+            Err(_) => None,
+        };
+        self.log = self.log.then(&Call { slice: buf, passed });
+        result
+    }
+}
