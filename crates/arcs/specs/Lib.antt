@@ -1,5 +1,7 @@
 pub mod RunOf
 pub mod Step
 pub mod Text
+pub mod Seen
+pub mod Reading
 pub mod Script
 pub mod Traffic
