@@ -1,9 +1,9 @@
 -- Commands: what is read is written so, and what can be written is read again.
-use Rattle.std.proofs.Common.{◌≡◌, ℕ, ◌<◌, ◌≤◌, true, List, [], ◌∷◌, length, cond, Option, Some, None, ◌⊎◌, inl, inr, refl, sym, ap, subst, ◌∙◌, arith}
+use Rattle.std.proofs.Common.{◌≡◌, ℕ, Bool, true, false, leb, ◌<◌, ◌≤◌, List, [], ◌∷◌, length, cond, Option, Some, None, ◌⊎◌, inl, inr, refl, sym, ap, subst, ◌∙◌, arith}
 use Rattle.std.specs.Prelude.{decimal, codes, IsSomeAnd}
 use Rattle.std.specs.List.{join_with_byte, list_all}
 use Rattle.std.specs.Str.{bytes_eq}
-use Rattle.std.proofs.lemmas.Bool.{cases_Bool, cases_lt, cond-false, cond-true}
+use Rattle.std.proofs.lemmas.Bool.{cases_Bool, leb-true, le-leb, cond-false, cond-true}
 use Rattle.std.proofs.lemmas.List.Splits.{join_with_byte-slice_split}
 use Rattle.std.proofs.lemmas.Option.{none-some, same_Some}
 use Rattle.std.proofs.lemmas.Slice.Eq.{bytes_eq-Decides}
@@ -64,7 +64,7 @@ sub_said words c e =
     let start = took_number i.rest (λ y. first_by number_of y.1 >>= λ z. only z.1 (Sub i.value y.0 z.0)) c i.goes in
     let end = took_number start.rest (λ z. only z.1 (Sub i.value start.value z.0)) c start.goes in
     let all = took_all end.rest (Sub i.value start.value end.value) c end.goes in
-    subst (SaidBy (codes "sub" ∷ words)) all.1 (record { writable = (i.fits, start.fits, end.fits); are = cc })
+    subst (SaidBy (codes "sub" ∷ words)) {x = Sub i.value start.value end.value} all.1 (record { writable = (i.fits, start.fits, end.fits); are = cc })
 
 show_said : (words : List (List ℕ)) (c : Command (List ℕ)) → show_of words ≡ Some c → SaidBy (codes "show" ∷ words) c
 unfolding show_of
@@ -131,17 +131,29 @@ unread_is_bad line none c says = none-some c (sym none ∙ says_read line c says
 pub long_is_bad : (line : List ℕ) → longest_line < length line → IsBad line
 long_is_bad line long c says = omega (arith, says.fits)
 
+cond_option : {X : Type 0} (b : Bool) (o : Option X) (x : X) → cond b o None ≡ Some x → (b ≡ true) × (o ≡ Some x)
+cond_option true o x e = (refl, e)
+cond_option false o x e = absurd (none-some x e)
+
+-- what a line says, if it says a command
+abbrev pub reading : List ℕ → Option (Command (List ℕ))
+reading line = cond (leb (length line) longest_line) (command_of (words_of_line line)) None
+
+pub reading_says : (line : List ℕ) (c : Command (List ℕ)) → reading line ≡ Some c → Says line c
+reading_says line c e =
+    let found = cond_option (leb (length line) longest_line) (command_of (words_of_line line)) c e in
+    line_says line c (leb-true _ _ found.0) found.1
+
+pub unread_is_none : (line : List ℕ) → reading line ≡ None → IsBad line
+unread_is_none line none c says = none-some c (sym none ∙ rw (le-leb _ _ says.fits) (says_read line c says))
+
 -- each line says a command, or is bad
 pub says_or_bad : (line : List ℕ) → ((c : Command (List ℕ)) × Says line c) ⊎ IsBad line
-says_or_bad line =
-    elim (cases_lt longest_line (length line)) [
-      | inl long ↦ inr (long_is_bad line long)
-      | inr fits ↦ at (command_of (words_of_line line)) refl fits
-    ]
+says_or_bad line = at (reading line) refl
   where
-    at : (o : Option (Command (List ℕ))) → command_of (words_of_line line) ≡ o → length line ≤ longest_line → ((c : Command (List ℕ)) × Says line c) ⊎ IsBad line
-    at None seen fits = inr (unread_is_bad line seen)
-    at (Some c) seen fits = inl (c, line_says line c fits seen)
+    at : (o : Option (Command (List ℕ))) → reading line ≡ o → ((c : Command (List ℕ)) × Says line c) ⊎ IsBad line
+    at None seen = inr (unread_is_none line seen)
+    at (Some c) seen = inl (c, reading_says line c seen)
 
 -- no line says two
 pub says_one : (line : List ℕ) (c d : Command (List ℕ)) → Says line c → Says line d → c ≡ d

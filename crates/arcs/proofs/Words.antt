@@ -185,15 +185,13 @@ words-join word [] free = slice_split_none is_space word free.0
 words-join word (next ∷ words) free =
     slice_split_at is_space word space (join_with_byte space (next ∷ words)) free.0 refl ∙ ap (λ (rest : List (List ℕ)). word ∷ rest) (words-join next words free.1)
 
--- bytes that pass a test that no space passes
-pub no_space_by : (test : ℕ → Bool) → ((byte : ℕ) → test byte ≡ true → is_space byte ≡ false) → (word : List ℕ) → list_all test word ≡ true → NoSpace word
-no_space_by test apart [] pass = All-nil (λ byte. is_space byte ≡ false)
-no_space_by test apart (byte ∷ word) pass =
-    let both = and_parts _ _ pass in
-    All-cons (λ b. is_space b ≡ false) byte word (apart byte both.0) (no_space_by test apart word both.1)
+-- what holds of the elements that pass a test holds of each, where all pass
+pub all_by : {X : Type 0} (test : X → Bool) (P : X → Type 0) → ((x : X) → test x ≡ true → P x) → (xs : List X) → list_all test xs ≡ true → All P xs
+all_by test P from [] pass = All-nil P
+all_by test P from (x ∷ xs) pass = let both = and_parts _ _ pass in All-cons P x xs (from x both.0) (all_by test P from xs both.1)
 
 pub no_space_text : (word : List ℕ) → list_all (λ byte. not (is_space byte)) word ≡ true → NoSpace word
-no_space_text word pass = no_space_by (λ byte. not (is_space byte)) (λ byte e. not-true _ e) word pass
+no_space_text word pass = all_by (λ byte. not (is_space byte)) (λ byte. is_space byte ≡ false) (λ byte e. not-true _ e) word pass
 
 no_space_digits : (word : List ℕ) → AllDigits 10 word → NoSpace word
 no_space_digits [] digits = All-nil (λ byte. is_space byte ≡ false)
@@ -208,7 +206,7 @@ pub no_space_items : (items : List ℕ) → list_all is_item items ≡ true → 
 no_space_items items fit =
     elim (items_word_is items fit) [
       | inl is ↦ subst NoSpace (sym is) (no_space_text (codes "-") refl)
-      | inr is ↦ no_space_by is_hex_digit (λ byte e. grind (arith, nat_tests)) (items_word items) is.digits
+      | inr is ↦ all_by is_hex_digit (λ byte. is_space byte ≡ false) (λ byte e. grind (arith, nat_tests)) (items_word items) is.digits
     ]
 
 -- ---- bytes, by the two ways to say it

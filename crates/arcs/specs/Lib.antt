@@ -4,4 +4,5 @@ pub mod Text
 pub mod Seen
 pub mod Reading
 pub mod Script
+pub mod Writing
 pub mod Traffic

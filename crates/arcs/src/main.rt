@@ -3,5 +3,6 @@
 
 mod command;
 mod parse;
+mod text;
 
 fn main() {}

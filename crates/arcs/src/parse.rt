@@ -243,3 +243,8 @@ pub fn parse<A: Allocator + Copy>(
         Err(Unread::Memory) => Err(AllocError),
     }
 }
+
+/// No line says two commands.
+pub fn one_command()
+    ensures { (line : List ℕ) (c d : Command (List ℕ)) → Says line c → Says line d → c ≡ d }
+{}
