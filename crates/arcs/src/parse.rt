@@ -248,3 +248,6 @@ pub fn parse<A: Allocator + Copy>(
 pub fn one_command()
     ensures { (line : List ℕ) (c d : Command (List ℕ)) → Says line c → Says line d → c ≡ d }
 {}
+
+#[cfg(test)]
+mod tests;

@@ -127,3 +127,6 @@ pub fn push_answer<A: Allocator>(
     }
     pushed
 }
+
+#[cfg(test)]
+mod tests;
