@@ -1,2 +1,8 @@
+pub mod Words
+pub mod Forms
+pub mod Runs
+pub mod Lines
+pub mod Texts
 pub mod Tables
 pub mod Empty
+pub mod Rows

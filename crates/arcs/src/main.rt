@@ -4,6 +4,8 @@
 mod command;
 mod device;
 mod log;
+mod parse;
+mod text;
 mod windows;
 
 pub fn probe(rt: &(impl std::sync::Wait + AllocGlobal)) -> command::Reply<Vec<u8>> {
@@ -17,4 +19,13 @@ pub fn probe2(r: &mut device::Counted<std::io::Stdin>, w: &mut device::Counted<s
     let mut b = [0u8; 4];
     let _ = device::Source::read(r, &mut b);
     let _ = device::Sink::write(w, &b);
+}
+
+pub fn probe3(
+    rt: &(impl std::sync::Wait + AllocGlobal),
+    line: &[u8],
+) -> Result<Option<command::Command<Vec<u8>>>, arc_owners::error::AllocError> {
+    let mut out = Vec::new(rt.alloc());
+    text::push_answer(&mut out, &None)?;
+    parse::parse(rt.alloc(), line)
 }

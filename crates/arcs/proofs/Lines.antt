@@ -1,0 +1,97 @@
+-- Each line has an answer, and each list of lines a run.
+use Rattle.std.proofs.Common.{◌≡◌, ◌≢◌, ℕ, Bool, not, eqb, true, List, [], ◌∷◌, Option, Some, None, Result, Ok, Err, refl}
+use Rattle.std.specs.List.{list_all, AllByRecursion}
+use Rattle.std.specs.Option.{option_map_or}
+use Rattle.std.proofs.lemmas.Bool.{eqb-false, not-true}
+use Rattle.std.proofs.lemmas.List.Elements.{All-contains, recursion_from_All}
+use Rattle.arc_owners.specs.declared.error.RangeError.{RangeError}
+use Rattle.arc_block.specs.Table.{Row, Table, row_at}
+use Rattle.arcs.specs.declared.command.Command.{Command}
+use Rattle.arcs.specs.declared.command.Command.TheVariants.{Slice, Sub, Show, Drop}
+use Rattle.arcs.specs.declared.command.Reply.{Reply}
+use Rattle.arcs.specs.declared.command.Reply.TheVariants as reply
+use Rattle.arcs.specs.RunOf.{RunOf}
+use Rattle.arcs.specs.Step.{Setting, Outcome, cut, in_range, answer, Step}
+use Rattle.arc_buffer.specs.Slice.{range_answer}
+use Rattle.arcs.specs.Text.{line_feed}
+use Rattle.arcs.specs.Script.{HasNoFeed, bytes, ByteTable, Answers}
+use Rattle.arcs.proofs.Forms.{reading, reading_says, unread_is_none}
+use Rattle.arcs.proofs.Words.{all_by}
+
+-- ---- the answer is a step
+
+-- neither memory nor a count was short
+abbrev IsPlain : {X : Type 0} → Reply X → Type 0
+IsPlain reply.Alloc = ⊥
+IsPlain (reply.Owner e) = ⊥
+IsPlain other = Unit {0}
+
+on_row_plain : {T M : Type 0} (t : Table T M) (then : Row T M → Outcome T M) (row : Option (Row T M)) → ((r : Row T M) → IsPlain (then r).0) → IsPlain (option_map_or then row (reply.NoWindow, t)).0
+on_row_plain t then None plain = tt
+on_row_plain t then (Some row) plain = plain row
+
+in_range_plain : {T M : Type 0} (t : Table T M) (r : Result (Unit {0}) RangeError) (then : Outcome T M) → IsPlain then.0 → IsPlain (in_range r t then).0
+in_range_plain t (Ok done) then plain = plain
+in_range_plain t (Err e) then plain = tt
+
+answer_plain : {T M : Type 0} (setting : Setting T) (t : Table T M) (c : Command (List T)) → IsPlain (answer setting t c).0
+answer_plain setting t (Slice items) = tt
+answer_plain setting t (Sub i start end) = on_row_plain t _ (row_at t i) (λ row. in_range_plain t (range_answer setting.boundary row.items start end) (cut setting t row start end) tt)
+answer_plain setting t (Show i) = on_row_plain t _ (row_at t i) (λ row. tt)
+answer_plain setting t (Drop i) = on_row_plain t _ (row_at t i) (λ row. tt)
+
+plain_step : {T M : Type 0} (setting : Setting T) (old : Table T M) (c : Command (List T)) (r : Reply (List T)) (new : Table T M) → IsPlain r → answer setting old c ≡ (r, new) → Step setting old c r new
+plain_step setting old c (reply.New number) new plain e = e
+plain_step setting old c reply.Ok new plain e = e
+plain_step setting old c (reply.Items items) new plain e = e
+plain_step setting old c reply.NoWindow new plain e = e
+plain_step setting old c (reply.Range f) new plain e = e
+plain_step setting old c (reply.Owner f) new plain e = absurd plain
+plain_step setting old c reply.Alloc new plain e = absurd plain
+
+-- what a command is answered where nothing is short is one of its steps
+pub answer_step : {T M : Type 0} (setting : Setting T) (old : Table T M) (c : Command (List T)) → Step setting old c (answer setting old c).0 (answer setting old c).1
+answer_step setting old c = plain_step setting old c _ _ (answer_plain setting old c) refl
+
+-- ---- each line, and each list of lines
+
+-- what a line is answered where nothing is short, by what it says
+abbrev pub answered : ByteTable → Option (Command (List ℕ)) → Option (Reply (List ℕ)) × ByteTable
+answered old None = (None, old)
+answered old (Some c) = (Some (answer bytes old c).0, (answer bytes old c).1)
+
+answered_is : (old : ByteTable) (line : List ℕ) (said : Option (Command (List ℕ))) → reading line ≡ said → Answers old line (answered old said).0 (answered old said).1
+answered_is old line None e = (unread_is_none line e, refl)
+answered_is old line (Some c) e = (c, reading_says line c e, answer_step bytes old c)
+
+pub line_answered : (old : ByteTable) (line : List ℕ) → Answers old line (answered old (reading line)).0 (answered old (reading line)).1
+line_answered old line = answered_is old line (reading line) refl
+
+pub answers_exist : (old : ByteTable) (line : List ℕ) → (a : Option (Reply (List ℕ))) × (new : ByteTable) × Answers old line a new
+answers_exist old line = ((answered old (reading line)).0, (answered old (reading line)).1, line_answered old line)
+
+-- the replies to lines where nothing is short, and the table after them
+abbrev pub script : ByteTable → List (List ℕ) → List (Option (Reply (List ℕ))) × ByteTable
+script old [] = ([], old)
+script old (line ∷ lines) =
+    let first = answered old (reading line) in
+    let rest = script first.1 lines in
+    (first.0 ∷ rest.0, rest.1)
+
+pub run_script : (old : ByteTable) (lines : List (List ℕ)) → RunOf Answers old lines (script old lines).0 (script old lines).1
+run_script old [] = refl
+run_script old (line ∷ lines) = (_, line_answered old line, run_script (answered old (reading line)).1 lines)
+
+pub run_exists : (old : ByteTable) (lines : List (List ℕ)) → (replies : List (Option (Reply (List ℕ)))) × (new : ByteTable) × RunOf Answers old lines replies new
+run_exists old lines = ((script old lines).0, (script old lines).1, run_script old lines)
+
+-- ---- no line feed
+
+abbrev pub is_line : List ℕ → Bool
+is_line line = list_all (λ byte. not (eqb byte line_feed)) line
+
+pub no_feed : (line : List ℕ) → is_line line ≡ true → HasNoFeed line
+no_feed line pass has = All-contains (λ byte. byte ≢ line_feed) line line_feed (all_by (λ byte. not (eqb byte line_feed)) (λ byte. byte ≢ line_feed) (λ byte e. eqb-false _ _ (not-true _ e)) line pass) has refl
+
+pub no_feeds : (lines : List (List ℕ)) → list_all is_line lines ≡ true → AllByRecursion HasNoFeed lines
+no_feeds lines pass = recursion_from_All HasNoFeed lines (all_by is_line HasNoFeed no_feed lines pass)

@@ -1,0 +1,13 @@
+use Rattle.std.proofs.Common.{◌≡◌, ◌++◌, length, IsTrue}
+use Rattle.std.specs.List.{list_all}
+use Rattle.arcs.specs.Reading.{is_hex_digit, pairs}
+use Rattle.arcs.proofs.parse.decoded.Given as goal
+
+abbrev pub invariant-loop-rest : goal.invariant-loop-rest
+invariant-loop-rest g l = record {
+  digits : IsTrue (list_all is_hex_digit l.rest);
+  made : l.items.items ++ pairs l.rest ≡ pairs l.hex.digits.now;
+}
+
+abbrev pub decreases-loop-rest : goal.decreases-loop-rest
+decreases-loop-rest g l = length l.rest

@@ -1,0 +1,132 @@
+//! Writing what lines are answered.
+ghost use Rattle.std.specs.Prelude.{◌≡◌, ◌++◌, ◌<◌, decimal, OnErr, OnOk};
+ghost use Rattle.arcs.specs.Text.{hex, hex_digit, items_word, owner_text, range_text, reply_text};
+ghost use Rattle.arcs.specs.Seen.{seen_reply};
+ghost use Rattle.arcs.specs.Writing.{Extends, answer_line};
+
+use crate::command::Reply;
+use arc_owners::error::{AllocError, OwnerError, RangeError};
+use std::alloc::Allocator;
+
+/// The hex digit of a number below 16.
+fn digit_of(number: u8) -> u8
+    requires { number < 16 }
+    ensures { result ≡ hex_digit number }
+{
+    if number < 10 {
+        b'0' + number
+    } else {
+        b'a' + (number - 10)
+    }
+}
+
+/// Why there is no such range, in words.
+fn range_words(error: RangeError) -> &'static [u8]
+    ensures { result.now ≡ range_text error }
+{
+    match error {
+        RangeError::OutOfRange => b"out of range",
+        RangeError::InvalidRange => b"invalid range",
+        RangeError::NotBoundary => b"not a char boundary",
+    }
+}
+
+/// Why there is no owner more, in words.
+fn owner_words(error: OwnerError) -> &'static [u8]
+    ensures { result.now ≡ owner_text error }
+{
+    match error {
+        OwnerError::AllocError => b"allocation error",
+        OwnerError::CountFull => b"count full",
+    }
+}
+
+fn push_number<A: Allocator>(out: &mut Vec<u8, A>, number: usize) -> Result<(), AllocError>
+    ensures ok { OnOk result (out.new.items ≡ out.old.items ++ decimal number) }
+    ensures err { OnErr result (Extends out.old.items out.new.items) }
+{
+    if number >= 10 {
+        push_number(out, number / 10)?;
+    }
+    out.push(b'0' + (number % 10) as u8)?;
+    Ok(())
+}
+
+fn push_hex<A: Allocator>(out: &mut Vec<u8, A>, items: &[u8]) -> Result<(), AllocError>
+    ensures ok { OnOk result (out.new.items ≡ out.old.items ++ hex items.now) }
+    ensures err { OnErr result (Extends out.old.items out.new.items) }
+{
+    for item in items {
+        out.extend_from_slice(&[digit_of(item / 16), digit_of(item % 16)])?;
+    }
+    Ok(())
+}
+
+fn push_items<A: Allocator>(out: &mut Vec<u8, A>, items: &[u8]) -> Result<(), AllocError>
+    ensures ok { OnOk result (out.new.items ≡ out.old.items ++ items_word items.now) }
+    ensures err { OnErr result (Extends out.old.items out.new.items) }
+{
+    if items.is_empty() {
+        out.push(b'-')?;
+        return Ok(());
+    }
+    push_hex(out, items)
+}
+
+fn push_reply<A: Allocator>(
+    out: &mut Vec<u8, A>,
+    reply: &Reply<Vec<u8, A>>,
+) -> Result<(), AllocError>
+    ensures ok { OnOk result (out.new.items ≡ out.old.items ++ reply_text (seen_reply reply.now)) }
+    ensures err { OnErr result (Extends out.old.items out.new.items) }
+{
+    match reply {
+        Reply::New(number) => {
+            out.push(b'h')?;
+            push_number(out, *number)?;
+        }
+        Reply::Ok => out.extend_from_slice(b"ok")?,
+        Reply::Items(items) => push_items(out, items)?,
+        Reply::NoWindow => out.extend_from_slice(b"no window")?,
+        Reply::Range(error) => out.extend_from_slice(range_words(*error))?,
+        Reply::Owner(error) => out.extend_from_slice(owner_words(*error))?,
+        Reply::Alloc => out.extend_from_slice(b"allocation error")?,
+    }
+    Ok(())
+}
+
+fn push_line<A: Allocator>(
+    out: &mut Vec<u8, A>,
+    answer: &Option<Reply<Vec<u8, A>>>,
+) -> Result<(), AllocError>
+    ensures ok { OnOk result (out.new.items ≡ out.old.items ++ answer_line answer.now) }
+    ensures err { OnErr result (Extends out.old.items out.new.items) }
+{
+    match answer {
+        Some(reply) => push_reply(out, reply)?,
+        None => out.extend_from_slice(b"bad line")?,
+    }
+    out.push(b'\n')?;
+    Ok(())
+}
+
+/// Appends what a line is answered, with its line feed: the text of the reply, or `bad line` for `None`. Takes memory
+/// where `out` has no room: a refusal is an `Err`, and leaves `out` with the bytes that it had. `answer_text` is the
+/// definition.
+pub fn push_answer<A: Allocator>(
+    out: &mut Vec<u8, A>,
+    answer: &Option<Reply<Vec<u8, A>>>,
+) -> Result<(), AllocError>
+    ensures ok { OnOk result (out.new.items ≡ out.old.items ++ answer_line answer.now) }
+    ensures err { OnErr result (out.new.items ≡ out.old.items) }
+{
+    let len = out.len();
+    let pushed = push_line(out, answer);
+    if pushed.is_err() {
+        out.truncate(len);
+    }
+    pushed
+}
+
+#[cfg(test)]
+mod tests;
