@@ -1,0 +1,4 @@
+pub mod Histories
+pub mod Machine
+pub mod Agreement
+pub mod Worlds

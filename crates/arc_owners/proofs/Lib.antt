@@ -1,0 +1,4 @@
+pub mod Numbers
+pub mod Owned
+pub mod Legality
+pub mod Steps
