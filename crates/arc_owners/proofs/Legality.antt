@@ -20,3 +20,11 @@ legal-after_at most began start (x ∷ before) e after h = subst (λ (b : List E
 -- each entry of a legal history may follow what stands before it
 pub legal-at : (most : ℕ) (began : Beginning) (h before : List Entry) (e : Entry) (after : List Entry) → IsLegal most began h → h ≡ before ++ e ∷ after → MayFollow most began before e
 legal-at most began h before e after legal split = legal-after_at most began [] before e after (subst (λ (l : List Entry). IsLegal most began l) split legal)
+
+legal-after_front : (most : ℕ) (began : Beginning) (start before rest : List Entry) → IsLegalAfter most began start (before ++ rest) → IsLegalAfter most began start before
+legal-after_front most began start [] rest h = tt
+legal-after_front most began start (x ∷ before) rest h = (h.0, legal-after_front most began (start ++ x ∷ []) before rest h.1)
+
+-- each front of a legal history is legal
+pub legal-front : (most : ℕ) (began : Beginning) (h before rest : List Entry) → IsLegal most began h → h ≡ before ++ rest → IsLegal most began before
+legal-front most began h before rest legal split = legal-after_front most began [] before rest (subst (λ (l : List Entry). IsLegal most began l) split legal)

@@ -2,3 +2,4 @@ pub mod Numbers
 pub mod Owned
 pub mod Legality
 pub mod Steps
+pub mod Told

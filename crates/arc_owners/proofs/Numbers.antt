@@ -75,3 +75,23 @@ in-filter n p (x ∷ xs) h k = elim (cases_Bool (eqb x n)) [
     inl same ↦ (let e : p x ≡ true = ap p (eqb-true x n same) ∙ k in rw e (rw same refl))
   | inr other ↦ (let rest = in-filter n p xs (rw other at h) k in elim (cases_Bool (p x)) [ inl e ↦ rw e (rw other rest) | inr e ↦ rw e rest ])
   ]
+
+-- what a filter keeps stood there before
+pub in-unfiltered : (n : ℕ) (p : ℕ → Bool) (xs : List ℕ) → is_in n (filter p xs) ≡ true → is_in n xs ≡ true
+in-unfiltered n p [] h = h
+in-unfiltered n p (x ∷ xs) h = elim (cases_Bool (eqb x n)) [
+    inl same ↦ rw same refl
+  | inr other ↦ rw other (elim (cases_Bool (p x)) [
+        inl e ↦ in-unfiltered n p xs (rw other at (rw e at h))
+      | inr e ↦ in-unfiltered n p xs (rw e at h)
+      ])
+  ]
+
+-- one more number, that is not there, stands once
+pub times-made : (xs : List ℕ) (new : ℕ) → is_in new xs ≡ false → ((n : ℕ) → times n xs ≤ 1) → (n : ℕ) → times n (xs ++ new ∷ []) ≤ 1
+times-made xs new fresh once n =
+    elim (cases_Bool (eqb new n)) [
+        inl same ↦ (let none : times n xs ≡ 0 = times-not_in n xs (ap (λ x. is_in x xs) (sym (eqb-true new n same)) ∙ fresh) in
+                    omega (arith, times-append n xs (new ∷ []), times-one n new))
+      | inr other ↦ omega (arith, times-append n xs (new ∷ []), times-other n new other, once n)
+      ]

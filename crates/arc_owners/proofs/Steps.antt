@@ -7,8 +7,8 @@ use Rattle.arc_owners.specs.declared.owners.entry.Entry.TheVariants.{Up, Full, D
 use Rattle.arc_owners.specs.declared.owners.event.Event.{Event}
 use Rattle.arc_owners.specs.declared.owners.event.Event.TheVariants.{Load, ExchangeWon, ExchangeLost, CountUp, FullFound, CountDown, UniquenessLoad}
 use Rattle.arc_owners.specs.Histories.{Beginning, Lone, Counted, is_in, owner_made, owner_ended, is_promotion, owners_ever, owners_ended, live_owners, is_promoted, is_counted, MayFollow, IsLegal}
-use Rattle.arc_owners.specs.Machine.{Machine, opening, begins_counted, is_fresh, may_happen, with_number, without_number, changed, step, run}
-use Rattle.arc_owners.proofs.Numbers.{times, length-without, times-append, times-in, times-not_in, times-one, times-other, times-filter}
+use Rattle.arc_owners.specs.Machine.{Machine, opening, begins_counted, is_fresh, may_happen, with_number, without_number, changed, step, run, after_events}
+use Rattle.arc_owners.proofs.Numbers.{times, length-without, times-in, times-one, times-filter, times-made}
 use Rattle.arc_owners.proofs.Owned.{live-same, live-made, live-ended, never_lived, promoted-append}
 use Rattle.arc_owners.proofs.Legality.{legal-append}
 
@@ -99,15 +99,6 @@ module _ (most : ℕ) (began : Beginning) (m : Machine) (s : Stands most began m
     legal = legal-append most began m.entries e s.legal may;
     }
 
-  once-made : (new : ℕ) → is_in new m.live ≡ false → (n : ℕ) → times n (m.live ++ new ∷ []) ≤ 1
-  once-made new fresh n =
-      elim (cases_Bool (eqb new n)) [
-          inl same ↦ (let e : new ≡ n = eqb-true new n same in
-                      let none : times n m.live ≡ 0 = times-not_in n m.live (ap (λ x. is_in x m.live) (sym e) ∙ fresh) in
-                      omega (arith, times-append n m.live (new ∷ []), times-one n new))
-        | inr other ↦ omega (arith, times-append n m.live (new ∷ []), times-other n new other, s.once n)
-        ]
-
   loaded : (thread : ℕ) → m.counted ≡ false → Stands most began (record m { ready = with_number thread m.ready })
   loaded thread c = record {
     live = s.live;
@@ -128,7 +119,7 @@ module _ (most : ℕ) (began : Beginning) (m : Machine) (s : Stands most began m
         live = ap (λ xs. xs ++ new ∷ []) s.live ∙ sym (live-made m.entries (Promote by new) new refl refl parts.1);
         count = sym (ap (λ xs. length (xs ++ new ∷ [])) alone);
         within = two;
-        once = once-made new parts.0;
+        once = times-made m.live new parts.0 s.once;
         counted = sym (counted-won began m.entries by new (sym s.counted ∙ c));
         lone = λ f. absurd (false≢true (sym f));
         ready = s.ready;
@@ -143,7 +134,7 @@ module _ (most : ℕ) (began : Beginning) (m : Machine) (s : Stands most began m
         live = ap (λ xs. xs ++ new ∷ []) s.live ∙ sym (live-made m.entries (Up by new) new refl refl parts.1);
         count = omega (arith, s.count, length-append m.live (new ∷ []));
         within = omega arith;
-        once = once-made new parts.0;
+        once = times-made m.live new parts.0 s.once;
         counted = c ∙ sym (counted-more began m.entries (Up by new) (has_count c));
         lone = λ f. absurd (false≢true (sym f ∙ c));
         ready = s.ready;
@@ -213,3 +204,7 @@ module _ (most : ℕ) (began : Beginning) (m : Machine) (s : Stands most began m
 pub run-stands : (most : ℕ) (began : Beginning) (m : Machine) (events : List Event) → 2 ≤ most → Stands most began m → Stands most began (run most m events)
 run-stands most began m [] two s = s
 run-stands most began m (event ∷ events) two s = run-stands most began (step most m event) events two (step-stands most began m s two event)
+
+-- the word counts its live owners after every run
+pub run-count : (most : ℕ) (began : Beginning) (events : List Event) → 2 ≤ most → (after_events most began events).count ≡ length (after_events most began events).live
+run-count most began events two = (run-stands most began (opening began) events two (opening-stands most began two)).count

@@ -1,8 +1,9 @@
 -- When a run of the word machine agrees with an owner history.
 use Rattle.std.specs.Prelude.{◌≡◌, ℕ, Bool, true, false, List, [], ◌∷◌, ◌++◌, length, ◌⊎◌}
 use Rattle.arc_owners.specs.Histories.{Beginning, live_owners, is_counted}
-use Rattle.arc_owners.specs.Machine.{Machine}
+use Rattle.arc_owners.specs.Machine.{Machine, after_events}
 use Rattle.arc_owners.specs.declared.owners.entry.Entry.{Entry}
+use Rattle.arc_owners.specs.declared.owners.event.Event.{Event}
 use Rattle.arc_owners.specs.declared.owners.entry.Entry.TheVariants.{Down}
 
 -- the machine tells the history: its entries in order, its live owners, and their number; a lone word has one owner
@@ -22,3 +23,7 @@ abbrev pub Agrees : Beginning → Machine → List Entry → Type 0
 Agrees began m history =
     Tells began m history
     ⊎ ((owner : ℕ) × (m.live ≡ owner ∷ []) × Tells began m m.entries × (history ≡ m.entries ++ Down owner ∷ []))
+
+-- the run of these events on a block from its beginning agrees with the history
+abbrev pub RunAgrees : ℕ → Beginning → List Event → List Entry → Type 0
+RunAgrees most began events history = Agrees began (after_events most began events) history

@@ -2,3 +2,4 @@ pub mod Histories
 pub mod Machine
 pub mod Agreement
 pub mod Worlds
+pub mod Laws

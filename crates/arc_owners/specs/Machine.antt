@@ -1,5 +1,6 @@
 -- The word machine: what each event does to a block's word.
 use Rattle.std.specs.Prelude.{ℕ, ◌+◌, ◌-◌, ◌==◌, nat_lt, Bool, true, false, not, ◌&&◌, List, [], ◌∷◌, ◌++◌, filter, if◌then◌else◌}
+use Rattle.std.specs.List.{fold}
 use Rattle.arc_owners.specs.Histories.{Beginning, Lone, Counted, is_in, owners_ended}
 use Rattle.arc_owners.specs.declared.owners.entry.Entry.{Entry}
 use Rattle.arc_owners.specs.declared.owners.entry.Entry.TheVariants.{Up, Full, Down, Alone, Promote, Joined}
@@ -18,6 +19,11 @@ pub record Machine : Type 0 where
 abbrev pub begins_counted : Beginning → Bool
 begins_counted Lone = false
 begins_counted Counted = true
+
+-- how a block begins, from whether it has a count
+abbrev pub beginning : Bool → Beginning
+beginning false = Lone
+beginning true = Counted
 
 -- the machine as a block begins: owner 0 lives
 abbrev pub opening : Beginning → Machine
@@ -61,5 +67,8 @@ step most m event = if may_happen most m event then changed m event else m
 
 -- the machine after these events, in order
 abbrev pub run : ℕ → Machine → List Event → Machine
-run most m [] = m
-run most m (event ∷ events) = run most (step most m event) events
+run most m events = fold (step most) m events
+
+-- the machine after these events on a block from its beginning
+abbrev pub after_events : ℕ → Beginning → List Event → Machine
+after_events most began events = run most (opening began) events

@@ -2,9 +2,12 @@
 
 mod entry;
 mod event;
+mod interleavings;
+mod replays;
 mod world;
 
 pub use entry::Entry;
 pub use event::Event;
-
+pub use interleavings::keeps;
+pub use replays::{replay, replay_lone};
 pub use world::World;

@@ -1,9 +1,9 @@
 //! What a run of the word machine leaves, and its one step.
-ghost use Rattle.std.specs.Prelude.{◌≡◌, ◌<◌, ◌-◌, ◌^◌, OnOk};
+ghost use Rattle.std.specs.Prelude.{◌≡◌, IsTrue, OnOk, IfOk, length};
 ghost use Rattle.std.specs.List.{list_any};
 ghost use Rattle.arc_owners.specs.Histories.{is_end_of};
 ghost use Rattle.arc_owners.specs.Worlds.{machine_of};
-ghost use Rattle.arc_owners.specs.Machine.{may_happen, changed, is_fresh, with_number, without_number};
+ghost use Rattle.arc_owners.specs.Machine.{may_happen, changed, is_fresh, with_number, without_number, opening, beginning, step};
 
 use super::entry::Entry;
 use super::event::Event;
@@ -23,6 +23,23 @@ pub struct World<A: Allocator = Global> {
     pub ready: Vec<u64, A>,
     /// The entries of the history, oldest first.
     pub entries: Vec<Entry, A>,
+}
+
+impl<A: Allocator + Copy> World<A> {
+    /// A block's word as it begins: with a count or lone, and owner 0 alone.
+    pub(crate) fn opening(alloc: A, counted: bool) -> Result<Self, AllocError>
+        ensures { IfOk result (λ world. machine_of world ≡ opening (beginning counted)) }
+    {
+        let mut live = Vec::new(alloc);
+        live.push(0)?;
+        Ok(World {
+            counted,
+            count: 1,
+            live,
+            ready: Vec::new(alloc),
+            entries: Vec::new(alloc),
+        })
+    }
 }
 
 impl<A: Allocator> World<A> {
@@ -84,10 +101,22 @@ impl<A: Allocator> World<A> {
         }
     }
 
+    /// Makes an event, where it may happen.
+    #[tactic(auto, unfolding(crate::specs::Machine::step))]
+    pub(crate) fn happen(&mut self, most: u64, event: Event) -> Result<(), AllocError>
+        requires { self.old.count ≡ length self.old.live.items }
+        ensures { OnOk result (machine_of self.new ≡ step most (machine_of self.old) event) }
+    {
+        if self.may_happen(most, event) {
+            self.change(most, event)?;
+        }
+        Ok(())
+    }
+
     /// Makes an event that may happen.
-    fn change(&mut self, event: Event) -> Result<(), AllocError>
-        requires room { self.old.count < 2 ^ 64 - 1 }
-        requires owned { 0 < self.old.count }
+    fn change(&mut self, most: u64, event: Event) -> Result<(), AllocError>
+        requires allowed { IsTrue (may_happen most (machine_of self.old) event) }
+        requires owned { self.old.count ≡ length self.old.live.items }
         ensures { OnOk result (machine_of self.new ≡ changed (machine_of self.old) event) }
     {
         match event {
