@@ -1,5 +1,5 @@
 -- Legal histories grow by one entry, and each entry of one may follow what stands before it.
-use Rattle.std.proofs.Common.{inl, inr, ◌≡◌, ℕ, ◌+◌, ◌≤◌, Bool, true, false, List, [], ◌∷◌, ◌++◌, length, refl, sym, ◌∙◌, ap, subst, arith, append_assoc}
+use Rattle.std.proofs.Common.{◌≡◌, ℕ, List, [], ◌∷◌, ◌++◌, sym, subst, append_assoc}
 use Rattle.arc_owners.specs.declared.owners.entry.Entry.{Entry}
 use Rattle.std.proofs.lemmas.List.{append-nil}
 use Rattle.arc_owners.specs.Histories.{Beginning, MayFollow, IsLegalAfter, IsLegal}

@@ -3,3 +3,4 @@ pub mod Owned
 pub mod Legality
 pub mod Steps
 pub mod Told
+pub mod Rows

@@ -1,7 +1,7 @@
 -- What one more entry does to the owners of a history.
-use Rattle.std.proofs.Common.{inl, inr, ◌≡◌, ℕ, Bool, true, false, eqb, cond, List, [], ◌∷◌, ◌++◌, Option, Some, None, refl, sym, ◌∙◌, ap, subst, arith, append_assoc, not, ◌&&◌, ◌||◌}
-use Rattle.std.specs.List.{list_any, filter, filter_map, cons_option}
-use Rattle.std.proofs.lemmas.Bool.{cases_Bool, eqb-true, false≢true, or_from, or_left}
+use Rattle.std.proofs.Common.{inl, inr, ◌≡◌, ℕ, false, eqb, List, [], ◌∷◌, ◌++◌, Some, None, refl, sym, ◌∙◌, ap, not, ◌&&◌, ◌||◌}
+use Rattle.std.specs.List.{list_any, cons_option}
+use Rattle.std.proofs.lemmas.Bool.{cases_Bool, false≢true}
 use Rattle.std.proofs.lemmas.List.{append-nil}
 use Rattle.std.proofs.lemmas.List.Folds.{list_any-append}
 use Rattle.std.proofs.lemmas.List.Elements.{filter-append, filter_map-append, filter_agree}
@@ -43,9 +43,9 @@ in_ended-append : (x owner : ℕ) (ended : List ℕ) → (not (is_in x ended) &&
 in_ended-append x owner ended =
     rw (list_any-append (λ y. eqb y x) ended (owner ∷ []), eqb_sym x owner)
     (elim (cases_Bool (is_in x ended)) [
-        inl h ↦ rw h refl
+      | inl h ↦ rw h refl
       | inr h ↦ rw h (elim (cases_Bool (eqb owner x)) [ inl k ↦ rw k refl | inr k ↦ rw k refl ])
-      ])
+    ])
 
 -- a release takes its owner from the live ones
 pub live-ended : (h : List Entry) (owner : ℕ) → live_owners (h ++ Down owner ∷ []) ≡ without_number owner (live_owners h)
@@ -55,16 +55,16 @@ live-ended h owner =
     let ended : owners_ended (h ++ Down owner ∷ []) ≡ owners_ended h ++ owner ∷ [] = ended-append h (Down owner) in
     rw (ever, ended)
     (sym (filter-filter (λ x. not (is_in x (owners_ended h))) (λ x. not (eqb x owner)) (owners_ever h)
-        ∙ filter_agree (λ x. not (is_in x (owners_ended h)) && not (eqb x owner)) (λ x. not (is_in x (owners_ended h ++ owner ∷ []))) (λ x. in_ended-append x owner (owners_ended h)) (owners_ever h)))
+    ∙ filter_agree (λ x. not (is_in x (owners_ended h)) && not (eqb x owner)) (λ x. not (is_in x (owners_ended h ++ owner ∷ []))) (λ x. in_ended-append x owner (owners_ended h)) (owners_ever h)))
 
 -- a number that neither lives nor ended never lived
 pub never_lived : (h : List Entry) (new : ℕ) → is_in new (live_owners h) ≡ false → is_in new (owners_ended h) ≡ false → is_in new (owners_ever h) ≡ false
 unfolding live_owners
 never_lived h new live ended =
     elim (cases_Bool (is_in new (owners_ever h))) [
-        inl ever ↦ absurd (false≢true (sym live ∙ in-filter new (λ x. not (is_in x (owners_ended h))) (owners_ever h) ever (rw ended refl)))
+      | inl ever ↦ absurd (false≢true (sym live ∙ in-filter new (λ x. not (is_in x (owners_ended h))) (owners_ever h) ever (rw ended refl)))
       | inr never ↦ never
-      ]
+    ]
 
 -- an owner ended where one of the entries ends it
 pub any_ends : (h : List Entry) (owner : ℕ) → list_any (is_end_of owner) h ≡ is_in owner (owners_ended h)

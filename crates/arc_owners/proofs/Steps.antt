@@ -1,7 +1,6 @@
 -- What holds of the word machine after every run, and that each event keeps it.
-use Rattle.std.proofs.Common.{inl, inr, ◌≡◌, ℕ, ◌+◌, ◌-◌, ◌≤◌, ◌<◌, Bool, true, false, eqb, ltb, cond, List, [], ◌∷◌, ◌++◌, length, Some, None, refl, sym, ◌∙◌, ap, subst, arith, length-append, not, ◌&&◌, ◌||◌}
-use Rattle.std.specs.List.{list_any, filter}
-use Rattle.std.proofs.lemmas.Bool.{cases_Bool, eqb-true, eqb-false, eq-eqb, ne_eqb, ltb-true, false≢true, not-true, and_parts, or_from, or_left, or_right, cond-true, cond-false}
+use Rattle.std.proofs.Common.{inl, inr, ◌≡◌, ℕ, ◌+◌, ◌-◌, ◌≤◌, ◌<◌, true, false, eqb, ltb, List, [], ◌∷◌, ◌++◌, length, None, refl, sym, ◌∙◌, ap, arith, length-append, not, ◌&&◌, ◌||◌}
+use Rattle.std.proofs.lemmas.Bool.{cases_Bool, eqb-true, eq-eqb, ltb-true, false≢true, not-true, and_parts, or_left, or_right}
 use Rattle.arc_owners.specs.declared.owners.entry.Entry.{Entry}
 use Rattle.arc_owners.specs.declared.owners.entry.Entry.TheVariants.{Up, Full, Down, Alone, Promote, Joined}
 use Rattle.arc_owners.specs.declared.owners.event.Event.{Event}
@@ -74,7 +73,7 @@ opening-stands most began two = record {
   lone = λ c. (refl, refl);
   ready = λ c. refl;
   legal = tt;
-  }
+}
 
 module _ (most : ℕ) (began : Beginning) (m : Machine) (s : Stands most began m) where
   lives : (by : ℕ) → is_in by m.live ≡ true → is_in by (live_owners m.entries) ≡ true
@@ -97,7 +96,7 @@ module _ (most : ℕ) (began : Beginning) (m : Machine) (s : Stands most began m
     lone = λ f. absurd (false≢true (sym f ∙ c));
     ready = s.ready;
     legal = legal-append most began m.entries e s.legal may;
-    }
+  }
 
   loaded : (thread : ℕ) → m.counted ≡ false → Stands most began (record m { ready = with_number thread m.ready })
   loaded thread c = record {
@@ -109,7 +108,7 @@ module _ (most : ℕ) (began : Beginning) (m : Machine) (s : Stands most began m
     lone = s.lone;
     ready = λ b. absurd (false≢true (sym c ∙ (s.counted ∙ begun-counted began m.entries b)));
     legal = s.legal;
-    }
+  }
 
   won : (by new : ℕ) → 2 ≤ most → m.counted ≡ false → is_in by m.live ≡ true → is_fresh new m ≡ true → Stands most began (record m { counted = true; count = 2; live = m.live ++ new ∷ []; entries = m.entries ++ Promote by new ∷ [] })
   won by new two c by_lives fresh =
@@ -156,10 +155,14 @@ module _ (most : ℕ) (began : Beginning) (m : Machine) (s : Stands most began m
 
   asked : (by : ℕ) → m.counted ≡ true → is_in by m.live ≡ true → Stands most began (record m { entries = m.entries ++ Alone by (eqb m.count 1) ∷ [] })
   asked by c by_lives =
-      quiet (Alone by (eqb m.count 1)) c refl refl
-      (lives by by_lives, has_count c,
-        (λ found. sym s.live ∙ one_is m.live by by_lives (sym s.count ∙ eqb-true m.count 1 found),
-         λ alone. eq-eqb m.count 1 (s.count ∙ (ap length s.live ∙ ap length alone))))
+      quiet (Alone by (eqb m.count 1)) c refl refl (
+        lives by by_lives,
+        has_count c,
+        (
+          λ found. sym s.live ∙ one_is m.live by by_lives (sym s.count ∙ eqb-true m.count 1 found),
+          λ alone. eq-eqb m.count 1 (s.count ∙ (ap length s.live ∙ ap length alone)),
+        ),
+      )
 
   -- an event that may happen
   changed-stands : 2 ≤ most → (event : Event) → may_happen most m event ≡ true → Stands most began (changed m event)
@@ -197,9 +200,9 @@ module _ (most : ℕ) (began : Beginning) (m : Machine) (s : Stands most began m
   pub step-stands : 2 ≤ most → (event : Event) → Stands most began (step most m event)
   unfolding step
   step-stands two event = elim (cases_Bool (may_happen most m event)) [
-      inl h ↦ rw h (changed-stands two event h)
+    | inl h ↦ rw h (changed-stands two event h)
     | inr h ↦ rw h s
-    ]
+  ]
 
 pub run-stands : (most : ℕ) (began : Beginning) (m : Machine) (events : List Event) → 2 ≤ most → Stands most began m → Stands most began (run most m events)
 run-stands most began m [] two s = s

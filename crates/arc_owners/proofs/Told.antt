@@ -1,19 +1,19 @@
 -- What legal histories tell, and that runs agree with them.
-use Rattle.std.proofs.Common.{inl, inr, ◌≡◌, ◌≢◌, ℕ, ◌+◌, ◌-◌, ◌≤◌, ◌<◌, ◌⊎◌, Bool, true, false, eqb, ltb, cond, List, [], ◌∷◌, ◌++◌, length, Some, None, refl, sym, ◌∙◌, ap, subst, arith, length-append, append_assoc, not, ◌&&◌, ◌||◌}
-use Rattle.std.specs.List.{list_any, filter, cons_option}
+use Rattle.std.proofs.Common.{inl, inr, ◌≡◌, ℕ, ◌≤◌, true, false, eqb, List, [], ◌∷◌, ◌++◌, length, Some, None, refl, sym, ◌∙◌, ap, subst, arith, length-append, append_assoc, not, ◌||◌}
+use Rattle.std.specs.List.{filter, cons_option}
 use Rattle.std.proofs.lemmas.List.{append-nil}
 use Rattle.std.proofs.lemmas.List.Folds.{list_any-append}
-use Rattle.std.proofs.lemmas.Bool.{cases_Bool, eqb-true, eq-eqb, or_left, false≢true, not-true, and_parts, and_left, or_parts, or_cases}
+use Rattle.std.proofs.lemmas.Bool.{cases_Bool, eqb-true, eq-eqb, or_left, false≢true, and_left, or_cases}
 use Rattle.arc_owners.specs.declared.owners.entry.Entry.{Entry}
 use Rattle.arc_owners.specs.declared.owners.entry.Entry.TheVariants.{Up, Full, Down, Alone, Promote, Joined}
 use Rattle.arc_owners.specs.declared.owners.event.Event.{Event}
 use Rattle.arc_owners.specs.declared.owners.event.Event.TheVariants.{Load, ExchangeWon, ExchangeLost, CountUp, FullFound, CountDown, UniquenessLoad}
-use Rattle.arc_owners.specs.Histories.{Beginning, Lone, Counted, is_in, owner_made, owner_ended, is_promotion, owners_ever, owners_ended, live_owners, is_promoted, is_counted, LivesAlone, MayFollow, IsLegalAfter, IsLegal}
+use Rattle.arc_owners.specs.Histories.{Beginning, is_in, owner_made, owner_ended, is_promotion, owners_ever, owners_ended, live_owners, is_counted, LivesAlone, MayFollow, IsLegalAfter, IsLegal}
 use Rattle.arc_owners.specs.Laws.{PromotedOnce, LosersAfterWinner, NothingAfterLast, ReleasedByLast, AloneIsExact}
-use Rattle.arc_owners.specs.Agreement.{Tells, ended_by, Agrees, RunAgrees}
-use Rattle.arc_owners.specs.Machine.{Machine, opening, is_fresh, may_happen, without_number, changed, step, run, after_events}
-use Rattle.arc_owners.proofs.Numbers.{times, length-without, times-append, times-in, times-not_in, times-one, times-other, times-filter, times-made, in-unfiltered}
-use Rattle.arc_owners.proofs.Owned.{live-same, live-made, live-ended, ended-append, ever-append, promoted-append}
+use Rattle.arc_owners.specs.Agreement.{Tells, Agrees}
+use Rattle.arc_owners.specs.Machine.{Machine, opening, may_happen, without_number, step, run, after_events}
+use Rattle.arc_owners.proofs.Numbers.{times, length-without, times-in, times-one, times-filter, times-made, in-unfiltered}
+use Rattle.arc_owners.proofs.Owned.{live-same, live-made, live-ended, ended-append, ever-append}
 use Rattle.arc_owners.proofs.Legality.{legal-append, legal-at, legal-front}
 use Rattle.arc_owners.proofs.Steps.{Stands, opening-stands, run-stands, one_is, counted-more, counted-won}
 
@@ -76,8 +76,8 @@ owned-same : (h : List Entry) (e : Entry) → owner_made e ≡ None → owner_en
 owned-same h e made ends o = record {
   once = λ n. subst (λ (xs : List ℕ). times n xs ≤ 1) (sym (live-same h e made ends)) (o.once n);
   ended = λ n g. ap (is_in n) (ever-append h e) ∙ in-append n (owners_ever h) (cons_option (owner_made e) [])
-    (o.ended n (sym (ap (is_in n) (ended-append h e ∙ (rw ends (append-nil (owners_ended h))))) ∙ g));
-  }
+      (o.ended n (sym (ap (is_in n) (ended-append h e ∙ (rw ends (append-nil (owners_ended h))))) ∙ g));
+}
 
 -- in a history whose owners stand so, a number that never lived did not end
 unended : (h : List Entry) (new : ℕ) → is_in new (owners_ever h) ≡ false → Owned h → is_in new (owners_ended h) ≡ false
@@ -89,25 +89,25 @@ grown h e new made ends never o = live-made h e new made ends (unended h new nev
 owned-made : (h : List Entry) (e : Entry) (new : ℕ) → owner_made e ≡ Some new → owner_ended e ≡ None → is_in new (owners_ever h) ≡ false → Owned h → Owned (h ++ e ∷ [])
 owned-made h e new made ends never o =
     let fresh_live : is_in new (live_owners h) ≡ false =
-        elim (cases_Bool (is_in new (live_owners h))) [ inl g ↦ absurd (false≢true (sym never ∙ lived h new g)) | inr g ↦ g ] in
+    elim (cases_Bool (is_in new (live_owners h))) [ inl g ↦ absurd (false≢true (sym never ∙ lived h new g)) | inr g ↦ g ] in
     record {
       once = λ n. subst (λ (xs : List ℕ). times n xs ≤ 1) (sym (grown h e new made ends never o)) (times-made (live_owners h) new fresh_live o.once n);
       ended = λ n g. ap (is_in n) (ever-append h e) ∙ in-append n (owners_ever h) (cons_option (owner_made e) [])
-        (o.ended n (sym (ap (is_in n) (ended-append h e ∙ (rw ends (append-nil (owners_ended h))))) ∙ g));
+          (o.ended n (sym (ap (is_in n) (ended-append h e ∙ (rw ends (append-nil (owners_ended h))))) ∙ g));
     }
 
 owned-ended : (h : List Entry) (owner : ℕ) → is_in owner (live_owners h) ≡ true → Owned h → Owned (h ++ Down owner ∷ [])
 owned-ended h owner lives o = record {
   once = λ n. subst (λ (xs : List ℕ). times n xs ≤ 1) (sym (live-ended h owner)) (omega (arith, times-filter n (λ x. not (eqb x owner)) (live_owners h), o.once n));
   ended = λ n g. ap (is_in n) (ever-append h (Down owner)) ∙ in-append n (owners_ever h) []
-    (elim (or_cases (is_in n (owners_ended h)) (eqb owner n || false) (sym (list_any-append (λ x. eqb x n) (owners_ended h) (owner ∷ [])) ∙ (sym (ap (is_in n) (ended-append h (Down owner))) ∙ g))) [
-        inl before ↦ o.ended n before
-      | inr now ↦ (elim (or_cases (eqb owner n) false now) [
-            inl same ↦ subst (λ (x : ℕ). is_in x (owners_ever h) ≡ true) (eqb-true owner n same) (lived h owner lives)
+      (elim (or_cases (is_in n (owners_ended h)) (eqb owner n || false) (sym (list_any-append (λ x. eqb x n) (owners_ended h) (owner ∷ [])) ∙ (sym (ap (is_in n) (ended-append h (Down owner))) ∙ g))) [
+        | inl before ↦ o.ended n before
+        | inr now ↦ (elim (or_cases (eqb owner n) false now) [
+          | inl same ↦ subst (λ (x : ℕ). is_in x (owners_ever h) ≡ true) (eqb-true owner n same) (lived h owner lives)
           | inr never ↦ absurd (false≢true never)
-          ])
+        ])
       ]);
-  }
+}
 
 owned-more : (most : ℕ) (began : Beginning) (h : List Entry) (e : Entry) → Owned h → MayFollow most began h e → Owned (h ++ e ∷ [])
 owned-more most began h (Up by new) o may = owned-made h (Up by new) new refl refl may.1 o
@@ -176,7 +176,7 @@ tells most began m s = record {
   count = s.count ∙ ap length s.live;
   counted = s.counted;
   lone = λ c. sym (ap length s.live) ∙ ap length (s.lone c).0;
-  }
+}
 
 -- each history with which a machine that stands so agrees is legal
 pub agrees-legal : (most : ℕ) (began : Beginning) (m : Machine) (h : List Entry) → Stands most began m → Agrees began m h → IsLegal most began h

@@ -1,5 +1,5 @@
 -- When a run of the word machine agrees with an owner history.
-use Rattle.std.specs.Prelude.{◌≡◌, ℕ, Bool, true, false, List, [], ◌∷◌, ◌++◌, length, ◌⊎◌}
+use Rattle.std.specs.Prelude.{◌≡◌, ℕ, false, List, [], ◌∷◌, ◌++◌, length, ◌⊎◌}
 use Rattle.arc_owners.specs.Histories.{Beginning, live_owners, is_counted}
 use Rattle.arc_owners.specs.Machine.{Machine, after_events}
 use Rattle.arc_owners.specs.declared.owners.entry.Entry.{Entry}

@@ -11,3 +11,6 @@ pub use event::Event;
 pub use interleavings::keeps;
 pub use replays::{replay, replay_lone};
 pub use world::World;
+
+#[cfg(test)]
+mod tests;

@@ -5,11 +5,21 @@
 #[derive(Clone, Copy, Debug, PartialEq, Eq)]
 pub enum Event {
     /// A load of the word that found it lone.
-    Load { thread: u64, by: u64 },
+    Load {
+        thread: u64,
+        by: u64,
+    },
     /// The promoting exchange found the word lone and put a count of 2 in its place.
-    ExchangeWon { thread: u64, by: u64, new: u64 },
+    ExchangeWon {
+        thread: u64,
+        by: u64,
+        new: u64,
+    },
     /// The promoting exchange found a count in place already.
-    ExchangeLost { thread: u64, by: u64 },
+    ExchangeLost {
+        thread: u64,
+        by: u64,
+    },
     /// The count was raised by one.
     CountUp {
         thread: u64,
@@ -18,9 +28,20 @@ pub enum Event {
         new: u64,
     },
     /// The count was found at its greatest and left as it was.
-    FullFound { thread: u64, by: u64 },
+    FullFound {
+        thread: u64,
+        by: u64,
+    },
     /// The count was lowered by one, and the owner is released.
-    CountDown { thread: u64, by: u64, seen: u64 },
+    CountDown {
+        thread: u64,
+        by: u64,
+        seen: u64,
+    },
     /// The count was read to learn whether the owner is alone.
-    UniquenessLoad { thread: u64, by: u64, seen: u64 },
+    UniquenessLoad {
+        thread: u64,
+        by: u64,
+        seen: u64,
+    },
 }

@@ -48,5 +48,4 @@ pub fn keeps<const MAX: u64>(events: &[Event])
     ensures no_event_after_end { (began : Beginning) (owner : ℕ) (later : List AnyEvent) →
         let m = after_events MAX began events.now in
         m.live ≡ owner ∷ [] → run MAX (ended_by owner m) later ≡ ended_by owner m }
-{
-}
+{}

@@ -63,7 +63,7 @@ impl<A: Allocator> World<A> {
         ensures { result ≡ may_happen most (machine_of self.now) event }
     {
         match event {
-            Event::Load { thread: _, by } => self.live.contains(&by) && !self.counted,
+            Event::Load { by, .. } => self.live.contains(&by) && !self.counted,
             Event::ExchangeWon { thread, by, new } => {
                 self.live.contains(&by)
                     && !self.counted
@@ -73,31 +73,19 @@ impl<A: Allocator> World<A> {
             Event::ExchangeLost { thread, by } => {
                 self.live.contains(&by) && self.counted && self.ready.contains(&thread)
             }
-            Event::CountUp {
-                thread: _,
-                by,
-                seen,
-                new,
-            } => {
+            Event::CountUp { by, seen, new, .. } => {
                 self.live.contains(&by)
                     && self.counted
                     && self.count == seen
                     && seen < most
                     && self.is_fresh(new)
             }
-            Event::FullFound { thread: _, by } => {
+            Event::FullFound { by, .. } => {
                 self.live.contains(&by) && self.counted && self.count == most
             }
-            Event::CountDown {
-                thread: _,
-                by,
-                seen,
+            Event::CountDown { by, seen, .. } | Event::UniquenessLoad { by, seen, .. } => {
+                self.live.contains(&by) && self.counted && self.count == seen
             }
-            | Event::UniquenessLoad {
-                thread: _,
-                by,
-                seen,
-            } => self.live.contains(&by) && self.counted && self.count == seen,
         }
     }
 
@@ -120,39 +108,28 @@ impl<A: Allocator> World<A> {
         ensures { OnOk result (machine_of self.new ≡ changed (machine_of self.old) event) }
     {
         match event {
-            Event::Load { thread, by: _ } => add_number(&mut self.ready, thread)?,
-            Event::ExchangeWon { thread: _, by, new } => {
+            Event::Load { thread, .. } => add_number(&mut self.ready, thread)?,
+            Event::ExchangeWon { by, new, .. } => {
                 self.entries.push(Entry::Promote(by, new))?;
                 self.live.push(new)?;
                 self.counted = true;
                 self.count = 2;
             }
-            Event::ExchangeLost { thread: _, by } => self.entries.push(Entry::Joined(by))?,
-            Event::CountUp {
-                thread: _,
-                by,
-                seen: _,
-                new,
-            } => {
+            Event::ExchangeLost { by, .. } => self.entries.push(Entry::Joined(by))?,
+            Event::CountUp { by, new, .. } => {
                 self.entries.push(Entry::Up(by, new))?;
                 self.live.push(new)?;
                 self.count += 1;
             }
-            Event::FullFound { thread: _, by } => self.entries.push(Entry::Full(by))?,
-            Event::CountDown {
-                thread: _,
-                by,
-                seen: _,
-            } => {
+            Event::FullFound { by, .. } => self.entries.push(Entry::Full(by))?,
+            Event::CountDown { by, .. } => {
                 self.entries.push(Entry::Down(by))?;
                 remove_number(&mut self.live, by);
                 self.count -= 1;
             }
-            Event::UniquenessLoad {
-                thread: _,
-                by,
-                seen: _,
-            } => self.entries.push(Entry::Alone(by, self.count == 1))?,
+            Event::UniquenessLoad { by, .. } => {
+                self.entries.push(Entry::Alone(by, self.count == 1))?;
+            }
         }
         Ok(())
     }

@@ -1,6 +1,4 @@
-use Rattle.std.proofs.Common.{◌≡◌, ℕ, List, [], ◌∷◌, ◌++◌, length, ap, refl, ◌∙◌, inl, inr}
-use Rattle.arc_owners.specs.declared.owners.entry.Entry.{Entry}
-use Rattle.arc_owners.specs.Histories.{Beginning}
+use Rattle.std.proofs.Common.{length, ap, refl, ◌∙◌, inl, inr}
 use Rattle.arc_owners.specs.Machine.{after_events}
 use Rattle.arc_owners.specs.Agreement.{ended_by}
 use Rattle.arc_owners.proofs.Told.{stands, tells, agrees-legal, sole-ended, stays, promoted_once, losers_after_winner, nothing_after_last, released_by_last, alone_is_exact}

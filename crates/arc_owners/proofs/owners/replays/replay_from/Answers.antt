@@ -1,6 +1,5 @@
-use Rattle.std.proofs.Common.{ℕ, take, length, ap, sym, ◌∙◌}
-use Rattle.arc_owners.specs.Machine.{Machine, beginning, after_events}
-use Rattle.arc_owners.specs.Worlds.{machine_of}
+use Rattle.std.proofs.Common.{take, length, ap, sym, ◌∙◌}
+use Rattle.arc_owners.specs.Machine.{Machine, beginning}
 use Rattle.arc_owners.proofs.Steps.{run-count}
 use Rattle.arc_owners.proofs.owners.replays.replay_from.Goals as goal
 
