@@ -10,9 +10,10 @@ ghost use Rattle.arc_owners.specs.Laws.{PromotedOnce, LosersAfterWinner, Nothing
 
 use super::event::Event;
 
-/// Says, of any list of events by any number of threads, that the word machine goes through it as a legal history of
-/// owners tells, both where the block began with a count and where it began as a lone vector. `MAX` is the greatest
-/// count. There is nothing to run: the contract is the whole of it.
+/// The law of every interleaving. Whatever these events are and whichever threads make them, the run of the word
+/// machine agrees with a legal history of owners, on a block that began with a count as on one that began as a lone
+/// vector. `MAX` is the greatest count. The contract is the whole of it: there is nothing to run, and no memory to take.
+/// The words are those of `Histories`, `Machine`, `Agreement` and `Laws` in specs/.
 pub fn keeps<const MAX: u64>(events: &[Event])
     requires { 2 ≤ MAX }
     // The run agrees with the history of its entries.

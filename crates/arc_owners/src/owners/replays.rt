@@ -9,9 +9,10 @@ use super::world::World;
 use crate::error::AllocError;
 use std::alloc::Allocator;
 
-/// What a block's word, its owners and its history are after these events, from a word with a count of 1 and owner 0.
-/// An event that isn't allowed where it comes changes nothing. `MAX` is the greatest count. Takes memory for the lists
-/// of the answer, and is refused only where a request for it was.
+/// What a block's word, its owners and its history are after these events, from a word with a count of 1 and owner 0:
+/// `after_events` in specs/. An event that isn't allowed where it comes changes nothing. `MAX` is the greatest count.
+/// It takes memory for the lists of the answer, and answers `AllocError` only where a request for memory was refused.
+/// Each event takes a look at the live owners, and one that makes an owner also at the entries so far.
 pub fn replay<const MAX: u64, A: Allocator + Copy>(
     alloc: A,
     events: &[Event],
@@ -22,7 +23,7 @@ pub fn replay<const MAX: u64, A: Allocator + Copy>(
     replay_from(alloc, true, MAX, events)
 }
 
-/// The same from the word of a lone vector, which owner 0 owns alone.
+/// The same as `replay`, from the word of a lone vector, which owner 0 owns alone.
 pub fn replay_lone<const MAX: u64, A: Allocator + Copy>(
     alloc: A,
     events: &[Event],

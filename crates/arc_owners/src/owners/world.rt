@@ -10,7 +10,8 @@ use super::event::Event;
 use crate::error::AllocError;
 use std::alloc::{Allocator, Global};
 
-/// The state of a block's word after a run of events, with the history that the run wrote.
+/// The state of a block's word after a run of events, with the history that the run wrote: `Machine` in specs/, which
+/// `machine_of` reads off it. The former owners are those whose `Down` stands in the entries.
 #[derive(Drop)]
 pub struct World<A: Allocator = Global> {
     /// Whether the word has a count, or is still lone.
