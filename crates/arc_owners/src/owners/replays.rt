@@ -41,7 +41,8 @@ fn replay_from<A: Allocator + Copy>(
     events: &[Event],
 ) -> Result<World<A>, AllocError>
     requires { 2 ≤ most }
-    ensures { IfOk result (λ world. machine_of world ≡ after_events most (beginning counted) events.now) }
+    ensures { IfOk result (λ world.
+        machine_of world ≡ after_events most (beginning counted) events.now) }
 {
     let mut world = World::opening(alloc, counted)?;
     for event in events {
