@@ -1,0 +1,5 @@
+pub mod Histories
+pub mod Machine
+pub mod Agreement
+pub mod Worlds
+pub mod Laws

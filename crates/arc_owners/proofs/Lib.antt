@@ -1,0 +1,6 @@
+pub mod Numbers
+pub mod Owned
+pub mod Legality
+pub mod Steps
+pub mod Told
+pub mod Rows

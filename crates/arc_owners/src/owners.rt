@@ -1,0 +1,16 @@
+//! Who owns a block: the events that threads make on its word, the history that they write, and the plain program that replays them.
+
+mod entry;
+mod event;
+mod interleavings;
+mod replays;
+mod world;
+
+pub use entry::Entry;
+pub use event::Event;
+pub use interleavings::keeps;
+pub use replays::{replay, replay_lone};
+pub use world::World;
+
+#[cfg(test)]
+mod tests;

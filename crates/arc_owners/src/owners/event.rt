@@ -1,0 +1,48 @@
+//! The events of the word machine.
+
+/// One atomic step on a block's words, an event of the word machine (`Machine` in specs/). `thread` is the number of the
+/// thread that makes it, `by` that of the live owner through which it acts, `seen` the count that it found, and `new`
+/// the number of the owner that it makes, which was never live. Where it isn't allowed it changes nothing.
+#[derive(Clone, Copy, Debug, PartialEq, Eq)]
+pub enum Event {
+    /// A load of the word. Where that is lone, the thread is ready from then on.
+    Load {
+        thread: u64,
+        by: u64,
+    },
+    /// The promoting exchange of a ready thread found the word lone and put a count of 2 in its place.
+    ExchangeWon {
+        thread: u64,
+        by: u64,
+        new: u64,
+    },
+    /// The promoting exchange of a ready thread found a count in place already.
+    ExchangeLost {
+        thread: u64,
+        by: u64,
+    },
+    /// The count was raised by one for the new owner, from one below the greatest.
+    CountUp {
+        thread: u64,
+        by: u64,
+        seen: u64,
+        new: u64,
+    },
+    /// The count was found at its greatest and left as it was.
+    FullFound {
+        thread: u64,
+        by: u64,
+    },
+    /// The count was lowered by one, and the owner through which it acts is released.
+    CountDown {
+        thread: u64,
+        by: u64,
+        seen: u64,
+    },
+    /// The count was read to learn whether the owner is alone.
+    UniquenessLoad {
+        thread: u64,
+        by: u64,
+        seen: u64,
+    },
+}

@@ -1,0 +1,314 @@
+//! The worked runs, the events that change nothing, and a refused request for memory.
+use super::*;
+use crate::error::AllocError;
+use linked_list_allocator::LocalHeap;
+use std::alloc::{Allocator, Global};
+use std::process::Abort;
+use std::test::Fail;
+
+/// A run of a word that began with a count, over all kinds of step that such a word has.
+const COUNTED_RUN: [Event; 6] = [
+    Event::CountUp {
+        thread: 1,
+        by: 0,
+        seen: 1,
+        new: 1,
+    },
+    Event::CountUp {
+        thread: 1,
+        by: 0,
+        seen: 2,
+        new: 2,
+    },
+    Event::FullFound { thread: 1, by: 0 },
+    Event::CountDown {
+        thread: 1,
+        by: 1,
+        seen: 3,
+    },
+    Event::UniquenessLoad {
+        thread: 1,
+        by: 0,
+        seen: 2,
+    },
+    Event::CountUp {
+        thread: 1,
+        by: 0,
+        seen: 5,
+        new: 3,
+    },
+];
+
+/// Two threads promote a lone vector at once, and the one that loses raises the winner's count.
+const PROMOTION: [Event; 5] = [
+    Event::Load { thread: 1, by: 0 },
+    Event::Load { thread: 2, by: 0 },
+    Event::ExchangeWon {
+        thread: 1,
+        by: 0,
+        new: 1,
+    },
+    Event::ExchangeLost { thread: 2, by: 0 },
+    Event::CountUp {
+        thread: 2,
+        by: 0,
+        seen: 2,
+        new: 2,
+    },
+];
+
+#[test]
+fn counted_run(rt: HostRuntime) -> Result<(), Fail> {
+    let world = replay::<3, _>(rt.alloc(), &COUNTED_RUN)?;
+    assert!(rt; world.counted);
+    assert_eq!(rt; world.count, 2);
+    assert_eq!(rt; world.live.as_slice(), [0, 2].as_slice());
+    assert_eq!(rt; world.ready.len(), 0);
+    assert_eq!(rt;
+        world.entries.as_slice(),
+        [
+            Entry::Up(0, 1),
+            Entry::Up(0, 2),
+            Entry::Full(0),
+            Entry::Down(1),
+            Entry::Alone(0, false)
+        ]
+        .as_slice()
+    );
+    Ok(())
+}
+
+#[test]
+fn lone_runs(rt: HostRuntime) -> Result<(), Fail> {
+    keeps::<3>(&PROMOTION);
+    let world = replay_lone::<3, _>(rt.alloc(), &PROMOTION)?;
+    assert!(rt; world.counted);
+    assert_eq!(rt; world.count, 3);
+    assert_eq!(rt; world.live.as_slice(), [0, 1, 2].as_slice());
+    assert_eq!(rt;
+        world.entries.as_slice(),
+        [Entry::Promote(0, 1), Entry::Joined(0), Entry::Up(0, 2)].as_slice()
+    );
+    let events = [
+        Event::Load { thread: 2, by: 0 },
+        Event::Load { thread: 1, by: 0 },
+        Event::ExchangeWon {
+            thread: 1,
+            by: 0,
+            new: 1,
+        },
+        Event::CountDown {
+            thread: 1,
+            by: 0,
+            seen: 2,
+        },
+    ];
+    let world = replay_lone::<3, _>(rt.alloc(), &events)?;
+    assert_eq!(rt; world.count, 1);
+    assert_eq!(rt; world.live.as_slice(), [1].as_slice());
+    Ok(())
+}
+
+#[test]
+fn number_never_live(rt: HostRuntime) -> Result<(), Fail> {
+    let world = replay::<3, _>(
+        rt.alloc(),
+        &[Event::CountUp {
+            thread: 1,
+            by: 0,
+            seen: 1,
+            new: 7,
+        }],
+    )?;
+    assert_eq!(rt; world.live.as_slice(), [0, 7].as_slice());
+    Ok(())
+}
+
+fn with_event(
+    alloc: Global,
+    counted: bool,
+    events: &[Event],
+    event: Event,
+) -> Result<World, AllocError> {
+    let mut all = Vec::from_slice(alloc, events)?;
+    all.push(event)?;
+    if counted {
+        replay::<3, _>(alloc, &all)
+    } else {
+        replay_lone::<3, _>(alloc, &all)
+    }
+}
+
+fn assert_same<A: Allocator, B: Allocator>(
+    rt: &impl Abort,
+    found: &World<A>,
+    wanted: &World<B>,
+    event: Event,
+) {
+    assert_eq!(rt; found.counted, wanted.counted, "at {event:?}");
+    assert_eq!(rt; found.count, wanted.count, "at {event:?}");
+    assert_eq!(rt;
+        found.live.as_slice(),
+        wanted.live.as_slice(),
+        "at {event:?}"
+    );
+    assert_eq!(rt;
+        found.ready.as_slice(),
+        wanted.ready.as_slice(),
+        "at {event:?}"
+    );
+    assert_eq!(rt;
+        found.entries.as_slice(),
+        wanted.entries.as_slice(),
+        "at {event:?}"
+    );
+}
+
+#[test]
+fn nothing_changes_on_a_count(rt: HostRuntime) -> Result<(), Fail> {
+    let wanted = replay::<3, _>(rt.alloc(), &COUNTED_RUN)?;
+    for event in [
+        Event::Load { thread: 1, by: 0 },
+        Event::ExchangeWon {
+            thread: 1,
+            by: 0,
+            new: 3,
+        },
+        Event::ExchangeLost { thread: 1, by: 0 },
+        Event::CountUp {
+            thread: 1,
+            by: 1,
+            seen: 2,
+            new: 3,
+        },
+        Event::CountUp {
+            thread: 1,
+            by: 0,
+            seen: 1,
+            new: 3,
+        },
+        Event::CountUp {
+            thread: 1,
+            by: 0,
+            seen: 2,
+            new: 2,
+        },
+        Event::CountUp {
+            thread: 1,
+            by: 0,
+            seen: 2,
+            new: 1,
+        },
+        Event::FullFound { thread: 1, by: 0 },
+        Event::CountDown {
+            thread: 1,
+            by: 1,
+            seen: 2,
+        },
+        Event::CountDown {
+            thread: 1,
+            by: 0,
+            seen: 3,
+        },
+        Event::UniquenessLoad {
+            thread: 1,
+            by: 1,
+            seen: 2,
+        },
+        Event::UniquenessLoad {
+            thread: 1,
+            by: 0,
+            seen: 1,
+        },
+    ] {
+        let found = with_event(rt.alloc(), true, &COUNTED_RUN, event)?;
+        assert_same(&rt, &found, &wanted, event);
+    }
+    Ok(())
+}
+
+#[test]
+fn nothing_changes_at_the_greatest_count(rt: HostRuntime) -> Result<(), Fail> {
+    let wanted = replay_lone::<3, _>(rt.alloc(), &PROMOTION)?;
+    let event = Event::CountUp {
+        thread: 1,
+        by: 0,
+        seen: 3,
+        new: 3,
+    };
+    let found = with_event(rt.alloc(), false, &PROMOTION, event)?;
+    assert_same(&rt, &found, &wanted, event);
+    Ok(())
+}
+
+#[test]
+fn nothing_changes_on_a_lone_word(rt: HostRuntime) -> Result<(), Fail> {
+    let events = [Event::Load { thread: 1, by: 0 }];
+    let wanted = replay_lone::<3, _>(rt.alloc(), &events)?;
+    assert_eq!(rt; wanted.ready.as_slice(), [1].as_slice());
+    for event in [
+        Event::Load { thread: 2, by: 1 },
+        Event::ExchangeWon {
+            thread: 2,
+            by: 0,
+            new: 1,
+        },
+        Event::ExchangeWon {
+            thread: 1,
+            by: 0,
+            new: 0,
+        },
+        Event::ExchangeLost { thread: 1, by: 0 },
+        Event::CountUp {
+            thread: 1,
+            by: 0,
+            seen: 1,
+            new: 1,
+        },
+        Event::FullFound { thread: 1, by: 0 },
+        Event::CountDown {
+            thread: 1,
+            by: 0,
+            seen: 1,
+        },
+        Event::UniquenessLoad {
+            thread: 1,
+            by: 0,
+            seen: 1,
+        },
+    ] {
+        let found = with_event(rt.alloc(), false, &events, event)?;
+        assert_same(&rt, &found, &wanted, event);
+    }
+    Ok(())
+}
+
+/// A heap of its own, larger each time: a run that the heap has no room for is refused, and one that fits is as ever.
+#[test]
+fn memory_refused(rt: HostRuntime) -> Result<(), Fail> {
+    let wanted = replay_lone::<3, _>(rt.alloc(), &PROMOTION)?;
+    let mut refused = 0u64;
+    for blocks in 2..64usize {
+        let heap = LocalHeap::new(rt.alloc(), blocks * 16)?;
+        match replay_lone::<3, _>(&heap, &PROMOTION) {
+            Ok(found) => {
+                assert_eq!(rt;
+                    found.live.as_slice(),
+                    wanted.live.as_slice(),
+                    "in {blocks} blocks"
+                );
+                assert_eq!(rt;
+                    found.entries.as_slice(),
+                    wanted.entries.as_slice(),
+                    "in {blocks} blocks"
+                );
+            }
+            Err(error) => {
+                assert_eq!(rt; error, AllocError);
+                refused = refused.wrapping_add(1);
+            }
+        }
+    }
+    assert!(rt; 0 < refused && refused < 62, "{refused} were refused");
+    Ok(())
+}
