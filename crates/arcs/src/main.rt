@@ -5,6 +5,7 @@ mod command;
 mod device;
 mod log;
 mod parse;
+mod script;
 mod text;
 mod windows;
 
@@ -28,4 +29,8 @@ pub fn probe3(
     let mut out = Vec::new(rt.alloc());
     text::push_answer(&mut out, &None)?;
     parse::parse(rt.alloc(), line)
+}
+
+pub fn probe4(rt: &(impl std::sync::Wait + AllocGlobal), w: &mut device::Counted<std::io::Stdout>) {
+    let _ = script::write_out(w, b"x");
 }

@@ -25,11 +25,12 @@ pub struct Windows<A: Allocator> {
 }
 
 impl<A: Allocator + Copy> Windows<A> {
-    ghost use Rattle.std.specs.Prelude.{◌≡◌, Some, None, MatchOption};
+    ghost use Rattle.std.specs.Prelude.{◌≡◌, ℕ, List, Some, None, MatchOption};
+    ghost use Rattle.std.specs.Option.{option_map};
     ghost use Rattle.arc_block.specs.Table.{empty_table, row_at};
     ghost use Rattle.arcs.specs.Step.{Step};
-    ghost use Rattle.arcs.specs.Script.{bytes};
-    ghost use Rattle.arcs.specs.Seen.{seen_command, seen_reply};
+    ghost use Rattle.arcs.specs.Script.{Answers, bytes};
+    ghost use Rattle.arcs.specs.Seen.{IsReadAs, seen_command, seen_reply};
     ghost use Rattle.arcs.specs.Rows.{row_of, table_of};
     ghost use Rattle.arcs.specs.declared.command.Command.TheVariants as command;
 
@@ -56,6 +57,20 @@ impl<A: Allocator + Copy> Windows<A> {
             Command::Sub { window, start, end } => self.sub(rt, window, start, end),
             Command::Show { window } => self.show(window),
             Command::Drop { window } => self.release(window),
+        }
+    }
+
+    /// Answers a line that was read: the command that it says is carried out, and a line that says none changes nothing.
+    pub fn answer(
+        &mut self,
+        rt: &impl Wait,
+        said: Option<Command<Vec<u8, A>>>,
+    ) -> Option<Reply<Vec<u8, A>>>
+        ensures { (line : List ℕ) → IsReadAs line said → Answers (table_of self.old) line (option_map seen_reply result) (table_of self.new) }
+    {
+        match said {
+            Some(command) => Some(self.step(rt, command)),
+            None => None,
         }
     }
 

@@ -1,0 +1,60 @@
+-- Every input is cut into lines.
+use Rattle.std.proofs.Common.{◌≡◌, ◌≢◌, ℕ, zero, suc, ◌<◌, Bool, true, false, eqb, List, [], ◌∷◌, ◌++◌, length, Contains, inl, inr, refl, ap, ◌∙◌, arith}
+use Rattle.std.specs.List.{AllByRecursion}
+use Rattle.std.proofs.lemmas.List.Elements.{Contains-append_cases}
+use Rattle.std.proofs.lemmas.Bool.{eqb-false, eqb-true}
+use Rattle.arcs.specs.Text.{line_feed}
+use Rattle.arcs.specs.Script.{HasNoFeed, ended}
+
+-- lines that have ended, and what stands behind the last line feed
+pub record Split (bytes : List ℕ) : Type 0 where
+  pub whole : List (List ℕ)
+  pub rest : List ℕ
+  pub cut : bytes ≡ ended whole ++ rest
+  pub each : AllByRecursion HasNoFeed whole
+  pub last : HasNoFeed rest
+
+pub empty_has_no_feed : HasNoFeed []
+empty_has_no_feed (k, below, is) = absurd (omega arith)
+
+pub no_feed-append : (xs ys : List ℕ) → HasNoFeed xs → HasNoFeed ys → HasNoFeed (xs ++ ys)
+no_feed-append xs ys front back has = elim (Contains-append_cases xs ys line_feed has) [ inl h ↦ front h | inr h ↦ back h ]
+
+byte_is_no_feed : (byte : ℕ) → byte ≢ line_feed → HasNoFeed (byte ∷ [])
+byte_is_no_feed byte other (zero, below, is) = other is
+byte_is_no_feed byte other (suc k, below, is) = absurd (omega arith)
+
+-- a byte that is no line feed stands at the front of the first line
+at_front : (byte : ℕ) (bytes : List ℕ) (whole : List (List ℕ)) (rest : List ℕ) → byte ≢ line_feed → bytes ≡ ended whole ++ rest → AllByRecursion HasNoFeed whole → HasNoFeed rest → Split (byte ∷ bytes)
+at_front byte bytes [] rest other cut each last = record {
+  whole = [];
+  rest = byte ∷ rest;
+  cut = ap (λ xs. byte ∷ xs) cut;
+  each = tt;
+  last = no_feed-append (byte ∷ []) rest (byte_is_no_feed byte other) last;
+}
+at_front byte bytes (line ∷ lines) rest other cut each last = record {
+  whole = (byte ∷ line) ∷ lines;
+  rest = rest;
+  cut = ap (λ xs. byte ∷ xs) cut;
+  each = (no_feed-append (byte ∷ []) line (byte_is_no_feed byte other) each.0, each.1);
+  last = last;
+}
+
+one_more : (byte : ℕ) (bytes : List ℕ) (ends : Bool) → eqb byte line_feed ≡ ends → Split bytes → Split (byte ∷ bytes)
+one_more byte bytes true is s = record {
+  whole = [] ∷ s.whole;
+  rest = s.rest;
+  cut = ap (λ x. x ∷ bytes) (eqb-true byte line_feed is) ∙ ap (λ xs. line_feed ∷ xs) s.cut;
+  each = (empty_has_no_feed, s.each);
+  last = s.last;
+}
+one_more byte bytes false is s = at_front byte bytes s.whole s.rest (eqb-false byte line_feed is) s.cut s.each s.last
+
+pub split_exists : (bytes : List ℕ) → Split bytes
+split_exists [] = record { whole = []; rest = []; cut = refl; each = tt; last = empty_has_no_feed }
+split_exists (byte ∷ bytes) = one_more byte bytes (eqb byte line_feed) refl (split_exists bytes)
+
+pub all-append : {X : Type 0} (P : X → Type 0) (xs ys : List X) → AllByRecursion P xs → AllByRecursion P ys → AllByRecursion P (xs ++ ys)
+all-append P [] ys front back = back
+all-append P (x ∷ xs) ys front back = (front.0, all-append P xs ys front.1 back)
