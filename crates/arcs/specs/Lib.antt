@@ -10,3 +10,4 @@ pub mod Traffic
 pub mod Underway
 pub mod Engine
 pub mod Faults
+pub mod Program
