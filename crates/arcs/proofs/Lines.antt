@@ -17,7 +17,7 @@ use Rattle.arcs.specs.RunOf.{RunOf}
 use Rattle.arcs.specs.Step.{Setting, Outcome, cut, in_range, answer, MayWant, Step}
 use Rattle.arc_buffer.specs.Slice.{range_answer}
 use Rattle.arcs.specs.Text.{line_feed, Says}
-use Rattle.arcs.specs.Script.{ended, HasNoFeed, AreLines, bytes, ByteTable, Answers, answer_text, BeginsReplyText}
+use Rattle.arcs.specs.Script.{ended, HasNoFeed, AreLines, byte_setting, ByteTable, Answers, answer_text, BeginsReplyText}
 use Rattle.arcs.specs.Reading.{BringsItems}
 use Rattle.arcs.proofs.Forms.{reading, reading_says, unread_is_none}
 use Rattle.arcs.proofs.Runs.{run_append}
@@ -63,11 +63,11 @@ answer_step setting old c = plain_step setting old c _ _ (answer_plain setting o
 -- what a line is answered where nothing is short, by what it says
 abbrev pub answered : ByteTable → Option (Command (List ℕ)) → Option (Reply (List ℕ)) × ByteTable
 answered old None = (None, old)
-answered old (Some c) = (Some (answer bytes old c).0, (answer bytes old c).1)
+answered old (Some c) = (Some (answer byte_setting old c).0, (answer byte_setting old c).1)
 
 answered_is : (old : ByteTable) (line : List ℕ) (said : Option (Command (List ℕ))) → reading line ≡ said → Answers old line (answered old said).0 (answered old said).1
 answered_is old line None e = (unread_is_none line e, refl)
-answered_is old line (Some c) e = (c, reading_says line c e, answer_step bytes old c)
+answered_is old line (Some c) e = (c, reading_says line c e, answer_step byte_setting old c)
 
 pub line_answered : (old : ByteTable) (line : List ℕ) → Answers old line (answered old (reading line)).0 (answered old (reading line)).1
 line_answered old line = answered_is old line (reading line) refl
@@ -83,12 +83,12 @@ script old (line ∷ lines) =
     let rest = script first.1 lines in
     (first.0 ∷ rest.0, rest.1)
 
-pub run_script : (old : ByteTable) (lines : List (List ℕ)) → RunOf Answers old lines (script old lines).0 (script old lines).1
-run_script old [] = refl
-run_script old (line ∷ lines) = (_, line_answered old line, run_script (answered old (reading line)).1 lines)
+pub script_runs : (old : ByteTable) (lines : List (List ℕ)) → RunOf Answers old lines (script old lines).0 (script old lines).1
+script_runs old [] = refl
+script_runs old (line ∷ lines) = (_, line_answered old line, script_runs (answered old (reading line)).1 lines)
 
 pub run_exists : (old : ByteTable) (lines : List (List ℕ)) → (replies : List (Option (Reply (List ℕ)))) × (new : ByteTable) × RunOf Answers old lines replies new
-run_exists old lines = ((script old lines).0, (script old lines).1, run_script old lines)
+run_exists old lines = ((script old lines).0, (script old lines).1, script_runs old lines)
 
 -- ---- no line feed
 
@@ -111,7 +111,7 @@ items_want setting old (Drop i) brings = absurd brings
 
 -- then the line may be answered so, and nothing changes
 pub want_answers : (old : ByteTable) (line : List ℕ) → (c : Command (List ℕ)) × Says line c × BringsItems c → Answers old line (Some reply.Alloc) old
-want_answers old line said = (said.0, said.1, (items_want bytes old said.0 said.2, refl))
+want_answers old line said = (said.0, said.1, (items_want byte_setting old said.0 said.2, refl))
 
 -- ---- a text that goes on
 
@@ -131,7 +131,7 @@ begins input text more lines rest replies mid cut run written =
         replies = all;
         after = (script mid rest).1;
         cut = cut;
-        run = run_append Answers empty_table lines replies mid rest others (script mid rest).1 run (run_script mid rest);
+        run = run_append Answers empty_table lines replies mid rest others (script mid rest).1 run (script_runs mid rest);
         written = sym (append_assoc text more (ended (map answer_text others))) ∙ ap (λ (front : List ℕ). front ++ ended (map answer_text others)) written ∙ sym (ended_append replies others);
       };
     }

@@ -149,7 +149,7 @@ fn items(rest: Rest) -> Result<(Hex, Rest), Unread>
 }
 
 /// Nothing is left.
-fn ended(rest: Rest) -> Result<(), Unread>
+fn nothing_left(rest: Rest) -> Result<(), Unread>
     ensures { Reads (λ x. x) Never result (only (words_in rest.entry) tt) }
 {
     match rest {
@@ -177,7 +177,7 @@ fn slice<A: Allocator>(alloc: A, rest: Rest) -> Result<Command<Vec<u8, A>>, Unre
     ensures { Reads seen_command BringsItems result (slice_of (words_in rest.entry)) }
 {
     let (hex, rest) = items(rest)?;
-    ended(rest)?;
+    nothing_left(rest)?;
     Ok(Command::Slice(decoded(alloc, hex)?))
 }
 
@@ -189,7 +189,7 @@ fn sub<A: Allocator>(rest: Rest) -> Result<Command<Vec<u8, A>>, Unread>
     let (window, rest) = number(rest)?;
     let (start, rest) = number(rest)?;
     let (end, rest) = number(rest)?;
-    ended(rest)?;
+    nothing_left(rest)?;
     Ok(Command::Sub { window, start, end })
 }
 
@@ -199,7 +199,7 @@ fn show<A: Allocator>(rest: Rest) -> Result<Command<Vec<u8, A>>, Unread>
     ensures { Reads seen_command BringsItems result (show_of (words_in rest.entry)) }
 {
     let (window, rest) = number(rest)?;
-    ended(rest)?;
+    nothing_left(rest)?;
     Ok(Command::Show { window })
 }
 
@@ -209,7 +209,7 @@ fn drop<A: Allocator>(rest: Rest) -> Result<Command<Vec<u8, A>>, Unread>
     ensures { Reads seen_command BringsItems result (drop_of (words_in rest.entry)) }
 {
     let (window, rest) = number(rest)?;
-    ended(rest)?;
+    nothing_left(rest)?;
     Ok(Command::Drop { window })
 }
 
