@@ -199,3 +199,20 @@ end_begun {start} {input} {out} writer' a front = record {
 -- of nothing that was read nothing was written
 pub begun_nothing : (writer : Traffic) → IsBegun writer.bytes [] writer
 begun_nothing writer = begun {table = empty_table} [] writer (nothing_read writer empty_table refl) (record { sent = []; rest = []; parts = refl; taken = sym (append-nil writer.bytes) })
+
+-- each input has a reply text
+pub reply_text_exists : (input : List ℕ) → (text : List ℕ) × IsReplyText input text
+reply_text_exists input =
+    let s = split_exists input in
+    let lines : List (List ℕ) = s.whole ++ last_line s.rest in
+    let r = run_exists empty_table lines in (
+      ended (map answer_text r.0),
+      record {
+        lines = lines;
+        replies = r.0;
+        after = r.1;
+        cut = record { whole = s.whole; rest = s.rest; cut = s.cut; each = s.each; last = s.last; are = refl };
+        run = r.2;
+        written = refl;
+      },
+    )

@@ -1,7 +1,7 @@
 //! Running a script: lines from a reader, replies to a writer.
 ghost use Rattle.std.specs.Prelude.{◌≡◌, ◌<◌, ◌≤◌, ◌+◌, ◌++◌, ◌∷◌, List, ℕ, [], false, length, take, drop, OnOk, OnErr, IfOk, IfErr, IfSome, MatchOption, vec_len};
 ghost use Rattle.arcs.specs.Text.{line_feed};
-ghost use Rattle.arcs.specs.Script.{BeginsReplyText, HasNoFeed, IsReplyText};
+ghost use Rattle.arcs.specs.Script.{AreLines, BeginsReplyText, HasNoFeed, IsReplyText};
 ghost use Rattle.arcs.specs.Traffic.{Exchanges, NoFault, TakesFront, Traffic, faults};
 ghost use Rattle.arcs.specs.Faults.{IsCause, IsWhy};
 ghost use Rattle.arcs.specs.declared.parse.TheConstants.{LONGEST_LINE};
@@ -291,3 +291,9 @@ pub fn run_script<R: Source, W: Sink, A: Allocator + Copy>(
     }
     unreachable!()
 }
+
+/// Each input has replies, and is cut into lines in one way.
+pub fn every_input_is_answered()
+    ensures answered { (input : List ℕ) → (text : List ℕ) × IsReplyText input text }
+    ensures lines { (input : List ℕ) (lines others : List (List ℕ)) → AreLines input lines → AreLines input others → lines ≡ others }
+{}
