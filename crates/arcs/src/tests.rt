@@ -14,6 +14,14 @@ const HELLO: &[u8] = b"slice 48656c6c6f20776f726c64\nsub 0 0 5\nshow 1\n";
 
 const HELLO_REPLIES: &[u8] = b"h0\nh1\n48656c6c6f\n";
 
+/// Its replies where memory may be refused to one of its commands.
+const REPLIES_IN_NEED: [&[u8]; 4] = [
+    HELLO_REPLIES,
+    b"h0\nh1\nallocation error\n",
+    b"h0\nallocation error\nno window\n",
+    b"allocation error\nno window\nno window\n",
+];
+
 /// Scripts, each with its replies.
 const SCRIPTS: [(&[u8], &[u8]); 15] = [
     (HELLO, HELLO_REPLIES),
@@ -385,25 +393,23 @@ fn memory_refused(rt: HostRuntime) -> Result<(), Fail> {
         let mut writer = Taken::new(rt.alloc(), usize::MAX);
         let mut faults = Taken::new(rt.alloc(), usize::MAX);
         let status = program(&rt, &heap, &["arc"], &mut reader, &mut writer, &mut faults)?;
-        let is_begun = [
-            HELLO_REPLIES,
-            b"h0\nh1\nallocation error\n",
-            b"h0\nallocation error\nno window\n",
-            b"allocation error\nno window\nno window\n",
-        ]
-        .iter()
-        .any(|replies| replies.starts_with(&writer.bytes));
+        let text = writer.bytes.as_slice();
+        let is_begun = REPLIES_IN_NEED
+            .iter()
+            .any(|replies| replies.starts_with(text));
         assert!(rt; is_begun, "in {blocks} blocks");
         assert_eq!(rt; heap.used(), 0, "in {blocks} blocks");
         if status == 0 {
             assert_eq!(rt; faults.bytes.len(), 0, "in {blocks} blocks");
             assert!(rt; reader.input.is_empty(), "in {blocks} blocks");
+            let is_whole = REPLIES_IN_NEED.iter().any(|replies| *replies == text);
+            assert!(rt; is_whole, "in {blocks} blocks");
         } else {
             assert_eq!(rt; status, 1, "in {blocks} blocks");
             assert_eq!(rt; faults.bytes.as_slice(), b"allocation error\n".as_slice());
             cut = cut.saturating_add(1);
         }
-        if writer.bytes.as_slice() == HELLO_REPLIES {
+        if text == HELLO_REPLIES {
             assert_eq!(rt; status, 0, "in {blocks} blocks");
             whole = whole.saturating_add(1);
         }
