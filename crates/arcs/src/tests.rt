@@ -1,0 +1,462 @@
+//! Scripts and their replies, readers and writers that give or take little or fail, and the program's words and statuses.
+use super::*;
+use crate::program::run_args;
+use crate::script::{ScriptError, ScriptLayout, run_script};
+use linked_list_allocator::LocalHeap;
+use std::alloc::{AllocError, Allocator, Global};
+use std::io;
+use std::io::{ErrorKind, Read, Write};
+use std::sync::Wait;
+use std::test::Fail;
+
+/// A script, and its replies.
+const HELLO: &[u8] = b"slice 48656c6c6f20776f726c64\nsub 0 0 5\nshow 1\n";
+
+const HELLO_REPLIES: &[u8] = b"h0\nh1\n48656c6c6f\n";
+
+/// Its replies where memory may be refused to one of its commands.
+const REPLIES_IN_NEED: [&[u8]; 4] = [
+    HELLO_REPLIES,
+    b"h0\nh1\nallocation error\n",
+    b"h0\nallocation error\nno window\n",
+    b"allocation error\nno window\nno window\n",
+];
+
+/// Scripts, each with its replies.
+const SCRIPTS: [(&[u8], &[u8]); 15] = [
+    (HELLO, HELLO_REPLIES),
+    (
+        b"sub 0 0 1\nslice 0A\nslice -\nshow 0",
+        b"no window\nbad line\nh0\n-\n",
+    ),
+    (
+        b"slice 0102\nsub 0 0 3\nsub 0 2 1\nsub 0 1 1\nshow 1\ndrop 0\nshow 0\n",
+        b"h0\nout of range\ninvalid range\nh1\n-\nok\nno window\n",
+    ),
+    (b"", b""),
+    (b"\n", b"bad line\n"),
+    (b"show  0\n", b"bad line\n"),
+    (b" show 0\n", b"bad line\n"),
+    (b"show 0\r\n", b"bad line\n"),
+    (b"show 00\n", b"bad line\n"),
+    (b"show 1000000000000000000\n", b"bad line\n"),
+    (b"show 999999999999999999\n", b"no window\n"),
+    (b"slice 0\n", b"bad line\n"),
+    (b"slice\n", b"bad line\n"),
+    (b"\xff\n", b"bad line\n"),
+    (b"slice 41\nsho", b"h0\nbad line\n"),
+];
+
+/// Words that are not the program's.
+const OTHER_WORDS: [&[&str]; 7] = [
+    &[],
+    &["storm"],
+    &["arc", "x"],
+    &["arc x"],
+    &["boxed"],
+    &[""],
+    &["arcs"],
+];
+
+const USAGE: &[u8] = b"usage: arcs arc|boxed|vec|raw|storm N\n";
+
+/// A reader over memory. It gives at most `size` bytes a call.
+#[derive(Drop)]
+struct Pieces<'a> {
+    input: &'a [u8],
+    size: usize,
+    calls: usize,
+    fails_at: Option<usize>,
+}
+
+impl<'a> Pieces<'a> {
+    fn new(input: &'a [u8], size: usize) -> Self {
+        Pieces {
+            input,
+            size,
+            calls: 0,
+            fails_at: None,
+        }
+    }
+
+    fn failing(input: &'a [u8], size: usize, call: usize) -> Self {
+        Pieces {
+            input,
+            size,
+            calls: 0,
+            fails_at: Some(call),
+        }
+    }
+}
+
+impl Read for Pieces<'_> {
+    fn read(&mut self, buf: &mut [u8]) -> io::Result<usize> {
+        self.calls = self.calls.saturating_add(1);
+        if self.fails_at == Some(self.calls) {
+            return Err(io::Error::from(ErrorKind::Other));
+        }
+        let n = self.size.min(buf.len()).min(self.input.len());
+        let (piece, rest) = self.input.split_at(n);
+        buf[..n].copy_from_slice(piece);
+        self.input = rest;
+        Ok(n)
+    }
+}
+
+/// A writer into memory. It takes at most `size` bytes a call.
+#[derive(Drop)]
+struct Taken {
+    bytes: Vec<u8>,
+    size: usize,
+    calls: usize,
+    fails_at: Option<usize>,
+}
+
+impl Taken {
+    fn new(alloc: Global, size: usize) -> Self {
+        Taken {
+            bytes: Vec::new(alloc),
+            size,
+            calls: 0,
+            fails_at: None,
+        }
+    }
+
+    fn failing(alloc: Global, size: usize, call: usize) -> Self {
+        Taken {
+            bytes: Vec::new(alloc),
+            size,
+            calls: 0,
+            fails_at: Some(call),
+        }
+    }
+}
+
+impl Write for Taken {
+    fn write(&mut self, buf: &[u8]) -> io::Result<usize> {
+        self.calls = self.calls.saturating_add(1);
+        if self.fails_at == Some(self.calls) {
+            return Err(io::Error::from(ErrorKind::Other));
+        }
+        let n = self.size.min(buf.len());
+        self.bytes.extend_from_slice(&buf[..n])?;
+        Ok(n)
+    }
+
+    fn flush(&mut self) -> io::Result<()> {
+        Ok(())
+    }
+}
+
+/// Runs a script over memory.
+fn run(
+    rt: &impl Wait,
+    alloc: Global,
+    reader: &mut Pieces,
+    writer: &mut Taken,
+) -> Result<(), ScriptError> {
+    let mut source = Counted::new(reader);
+    let mut sink = Counted::new(writer);
+    run_script(rt, alloc, &mut source, &mut sink, ScriptLayout::Arc)
+}
+
+/// Whether a script has these replies: read and written at once, and a byte a call.
+fn has_replies(rt: &impl Wait, alloc: Global, script: &[u8], replies: &[u8]) -> bool {
+    let mut right = true;
+    for size in [usize::MAX, 1] {
+        let mut reader = Pieces::new(script, size);
+        let mut writer = Taken::new(alloc, size);
+        let ran = run(rt, alloc, &mut reader, &mut writer);
+        right = right
+            && ran.is_ok()
+            && reader.input.is_empty()
+            && writer.bytes.as_slice() == replies;
+    }
+    right
+}
+
+fn push_digits(text: &mut Vec<u8>, digits: usize) -> Result<(), AllocError> {
+    for _ in 0..digits {
+        text.push(b'0')?;
+    }
+    Ok(())
+}
+
+/// `slice` with so many digits, all 0, as a line.
+fn slice_line(alloc: Global, digits: usize) -> Result<Vec<u8>, AllocError> {
+    let mut line = Vec::from_slice(alloc, b"slice ")?;
+    push_digits(&mut line, digits)?;
+    line.push(b'\n')?;
+    Ok(line)
+}
+
+#[test]
+fn scripts(rt: HostRuntime) {
+    for (script, replies) in SCRIPTS {
+        assert!(rt;
+            has_replies(&rt, rt.alloc(), script, replies),
+            "at {script:?}"
+        );
+    }
+}
+
+/// The longest line that is one, and the shortest lines that are too long.
+#[test]
+fn longest_line(rt: HostRuntime) -> Result<(), Fail> {
+    let mut script = slice_line(rt.alloc(), 65_530)?;
+    assert_eq!(rt; script.len(), 65_537);
+    script.extend_from_slice(b"show 0\n")?;
+    let mut replies = Vec::from_slice(rt.alloc(), b"h0\n")?;
+    push_digits(&mut replies, 65_530)?;
+    replies.push(b'\n')?;
+    assert!(rt; has_replies(&rt, rt.alloc(), &script, &replies));
+    for digits in [65_531, 65_532] {
+        let mut script = slice_line(rt.alloc(), digits)?;
+        script.extend_from_slice(b"show 0\n")?;
+        assert!(rt;
+            has_replies(&rt, rt.alloc(), &script, b"bad line\nno window\n"),
+            "at {digits} digits"
+        );
+    }
+    Ok(())
+}
+
+/// A piece of the input with replies of some 480,000 bytes.
+#[test]
+fn many_replies(rt: HostRuntime) -> Result<(), Fail> {
+    let mut script = slice_line(rt.alloc(), 40_000)?;
+    let mut replies = Vec::from_slice(rt.alloc(), b"h0\n")?;
+    for new in [
+        "h1\n", "h2\n", "h3\n", "h4\n", "h5\n", "h6\n", "h7\n", "h8\n", "h9\n", "h10\n", "h11\n",
+        "h12\n",
+    ] {
+        script.extend_from_slice(b"show 0\nsub 0 0 1\n")?;
+        push_digits(&mut replies, 40_000)?;
+        replies.push(b'\n')?;
+        replies.extend_from_slice(new.as_bytes())?;
+    }
+    assert!(rt; script.len() < 65_536);
+    assert!(rt; has_replies(&rt, rt.alloc(), &script, &replies));
+    Ok(())
+}
+
+#[test]
+fn failed_reads(rt: HostRuntime) {
+    let mut reader = Pieces::new(HELLO, 7);
+    let mut writer = Taken::new(rt.alloc(), usize::MAX);
+    assert_eq!(rt; run(&rt, rt.alloc(), &mut reader, &mut writer), Ok(()));
+    assert_eq!(rt; reader.calls, 8, "46 bytes and the end");
+    for call in 1..=8 {
+        let mut reader = Pieces::failing(HELLO, 7, call);
+        let mut writer = Taken::new(rt.alloc(), usize::MAX);
+        let ran = run(&rt, rt.alloc(), &mut reader, &mut writer);
+        assert_eq!(rt; ran, Err(ScriptError::Read), "at call {call}");
+        assert_eq!(rt; reader.calls, call);
+        assert!(rt; HELLO_REPLIES.starts_with(&writer.bytes), "at call {call}");
+    }
+}
+
+#[test]
+fn failed_writes(rt: HostRuntime) {
+    let mut reader = Pieces::new(HELLO, usize::MAX);
+    let mut writer = Taken::new(rt.alloc(), 3);
+    assert_eq!(rt; run(&rt, rt.alloc(), &mut reader, &mut writer), Ok(()));
+    assert_eq!(rt; writer.calls, 6, "17 bytes");
+    for call in 1..=6 {
+        let mut reader = Pieces::new(HELLO, usize::MAX);
+        let mut writer = Taken::failing(rt.alloc(), 3, call);
+        let ran = run(&rt, rt.alloc(), &mut reader, &mut writer);
+        assert_eq!(rt; ran, Err(ScriptError::Write), "at call {call}");
+        assert_eq!(rt; writer.calls, call);
+        assert_eq!(rt;
+            writer.bytes.as_slice(),
+            &HELLO_REPLIES[..3 * (call - 1)],
+            "at call {call}"
+        );
+    }
+    let mut reader = Pieces::new(HELLO, usize::MAX);
+    let mut writer = Taken::new(rt.alloc(), 0);
+    let ran = run(&rt, rt.alloc(), &mut reader, &mut writer);
+    assert_eq!(rt; ran, Err(ScriptError::Write));
+    assert_eq!(rt; writer.bytes.len(), 0);
+    assert_eq!(rt; writer.calls, 1);
+}
+
+/// Runs the program over memory.
+fn program<A: Allocator + Copy>(
+    rt: &(impl Wait + AllocGlobal),
+    alloc: A,
+    words: &[&str],
+    reader: &mut Pieces,
+    writer: &mut Taken,
+    faults: &mut Taken,
+) -> Result<u8, AllocError> {
+    let mut owned = Vec::new(rt.alloc());
+    for word in words {
+        owned.push(String::from_str(rt.alloc(), word)?)?;
+    }
+    let mut source = Counted::new(reader);
+    let mut sink = Counted::new(writer);
+    let mut told = Counted::new(faults);
+    Ok(run_args(rt, alloc, &owned, &mut source, &mut sink, &mut told))
+}
+
+#[test]
+fn other_words(rt: HostRuntime) -> Result<(), Fail> {
+    for words in OTHER_WORDS {
+        for size in [usize::MAX, 1, 0] {
+            let mut reader = Pieces::new(HELLO, usize::MAX);
+            let mut writer = Taken::new(rt.alloc(), usize::MAX);
+            let mut faults = Taken::new(rt.alloc(), size);
+            let status = program(
+                &rt,
+                rt.alloc(),
+                words,
+                &mut reader,
+                &mut writer,
+                &mut faults,
+            )?;
+            assert_eq!(rt; status, 2, "at {words:?}");
+            assert_eq!(rt; reader.calls, 0);
+            assert_eq!(rt; writer.calls, 0);
+            let told = if size == 0 { b"".as_slice() } else { USAGE };
+            assert_eq!(rt; faults.bytes.as_slice(), told);
+        }
+    }
+    Ok(())
+}
+
+#[test]
+fn statuses(rt: HostRuntime) -> Result<(), Fail> {
+    for (read_fails, write_fails, wanted, told, replies) in [
+        (None, None, 0, b"".as_slice(), HELLO_REPLIES),
+        (
+            Some(1),
+            None,
+            3,
+            b"read failed\n".as_slice(),
+            b"".as_slice(),
+        ),
+        (
+            None,
+            Some(1),
+            4,
+            b"write failed\n".as_slice(),
+            b"".as_slice(),
+        ),
+        (Some(2), None, 3, b"read failed\n".as_slice(), HELLO_REPLIES),
+        (
+            None,
+            Some(2),
+            4,
+            b"write failed\n".as_slice(),
+            b"h0\n".as_slice(),
+        ),
+    ] {
+        for fault_fails in [None, Some(1)] {
+            let mut reader = Pieces::new(HELLO, usize::MAX);
+            reader.fails_at = read_fails;
+            let mut writer = Taken::new(rt.alloc(), if write_fails.is_some() { 3 } else { 100 });
+            writer.fails_at = write_fails;
+            let mut faults = Taken::new(rt.alloc(), 5);
+            faults.fails_at = fault_fails;
+            let status = program(
+                &rt,
+                rt.alloc(),
+                &["arc"],
+                &mut reader,
+                &mut writer,
+                &mut faults,
+            )?;
+            assert_eq!(rt; status, wanted);
+            assert_eq!(rt; writer.bytes.as_slice(), replies);
+            let told = if fault_fails.is_some() {
+                b"".as_slice()
+            } else {
+                told
+            };
+            assert_eq!(rt; faults.bytes.as_slice(), told);
+        }
+    }
+    Ok(())
+}
+
+/// A heap of its own, larger each time: at first it has no room for a piece of the input. A refusal while a command is
+/// carried out is a reply, and any other ends the run.
+#[test]
+fn memory_refused(rt: HostRuntime) -> Result<(), Fail> {
+    let mut cut = 0u64;
+    let mut whole = 0u64;
+    for blocks in 4064..4352usize {
+        let heap = LocalHeap::new(rt.alloc(), blocks * 16)?;
+        let mut reader = Pieces::new(HELLO, 1);
+        let mut writer = Taken::new(rt.alloc(), usize::MAX);
+        let mut faults = Taken::new(rt.alloc(), usize::MAX);
+        let status = program(&rt, &heap, &["arc"], &mut reader, &mut writer, &mut faults)?;
+        let text = writer.bytes.as_slice();
+        let is_begun = REPLIES_IN_NEED
+            .iter()
+            .any(|replies| replies.starts_with(text));
+        assert!(rt; is_begun, "in {blocks} blocks");
+        assert_eq!(rt; heap.used(), 0, "in {blocks} blocks");
+        if status == 0 {
+            assert_eq!(rt; faults.bytes.len(), 0, "in {blocks} blocks");
+            assert!(rt; reader.input.is_empty(), "in {blocks} blocks");
+            let is_whole = REPLIES_IN_NEED.iter().any(|replies| *replies == text);
+            assert!(rt; is_whole, "in {blocks} blocks");
+        } else {
+            assert_eq!(rt; status, 1, "in {blocks} blocks");
+            assert_eq!(rt; faults.bytes.as_slice(), b"allocation error\n".as_slice());
+            cut = cut.saturating_add(1);
+        }
+        if text == HELLO_REPLIES {
+            assert_eq!(rt; status, 0, "in {blocks} blocks");
+            whole = whole.saturating_add(1);
+        }
+    }
+    assert!(rt; 32 < cut && 0 < whole, "{cut} were cut, and {whole} whole");
+    Ok(())
+}
+
+/// The replies to earlier lines stand where a later line has no room: only the line is refused here.
+#[test]
+fn line_refused(rt: HostRuntime) -> Result<(), Fail> {
+    let mut script = Vec::from_slice(rt.alloc(), HELLO)?;
+    script.extend_from_slice(b"show ")?;
+    push_digits(&mut script, 20_000)?;
+    let mut replies = Vec::from_slice(rt.alloc(), HELLO_REPLIES)?;
+    replies.extend_from_slice(b"bad line\n")?;
+    for (size, wanted, told) in [
+        (72_000, 1, b"allocation error\n".as_slice()),
+        (80_000, 1, b"allocation error\n".as_slice()),
+        (200_000, 0, b"".as_slice()),
+    ] {
+        let heap = LocalHeap::new(rt.alloc(), size)?;
+        let mut reader = Pieces::new(&script, 46);
+        let mut writer = Taken::new(rt.alloc(), usize::MAX);
+        let mut faults = Taken::new(rt.alloc(), usize::MAX);
+        let status = program(&rt, &heap, &["arc"], &mut reader, &mut writer, &mut faults)?;
+        let text = if wanted == 0 {
+            replies.as_slice()
+        } else {
+            HELLO_REPLIES
+        };
+        assert_eq!(rt; status, wanted, "in {size} bytes");
+        assert_eq!(rt; writer.bytes.as_slice(), text, "in {size} bytes");
+        assert_eq!(rt; faults.bytes.as_slice(), told, "in {size} bytes");
+        assert_eq!(rt; heap.used(), 0, "in {size} bytes");
+    }
+    Ok(())
+}
+
+#[test]
+fn faults_in_words(rt: HostRuntime) -> Result<(), Fail> {
+    for (error, words) in [
+        (ScriptError::Read, "read failed"),
+        (ScriptError::Write, "write failed"),
+        (ScriptError::Alloc, "allocation error"),
+    ] {
+        assert_eq!(rt; error.to_string(rt.alloc())?.as_str(), words);
+    }
+    Ok(())
+}
