@@ -1,7 +1,6 @@
 -- The table of lists: every window has a number and a list of its own.
 use Rattle.std.specs.Prelude.{◌≡◌, ℕ, List, [], Option, Some, None, slice_get}
 use Rattle.std.specs.Option.{option_flatten}
-use Rattle.arc_block.specs.Block.{Facts}
 use Rattle.arc_block.specs.Place.{Place, nowhere, static_data, on_block}
 
 -- what a window may do

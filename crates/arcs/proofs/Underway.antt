@@ -1,11 +1,10 @@
 -- How a script that is being run goes on.
-use Rattle.std.proofs.Common.{◌≡◌, ℕ, ◌<◌, ◌+◌, Bool, true, false, List, [], ◌∷◌, ◌++◌, map, length, Option, refl, sym, ap, ◌∙◌, subst, append_assoc, arith}
+use Rattle.std.proofs.Common.{◌≡◌, ℕ, Bool, true, false, List, [], ◌∷◌, ◌++◌, map, Option, refl, sym, ap, ◌∙◌, subst, append_assoc, arith}
 use Rattle.std.proofs.lemmas.List.{map-append, append-nil}
 use Rattle.std.proofs.lemmas.Grind.{flat_map-append}
 use Rattle.arc_block.specs.Table.{empty_table}
-use Rattle.arcs.specs.RunOf.{RunOf}
-use Rattle.arcs.specs.Text.{line_feed, longest_line}
-use Rattle.arcs.specs.Script.{ByteTable, HasNoFeed, AreLines, Answers, ended, last_line, answer_text, IsReplyText, BeginsReplyText}
+use Rattle.arcs.specs.Text.{line_feed}
+use Rattle.arcs.specs.Script.{ByteTable, HasNoFeed, Answers, ended, last_line, answer_text, IsReplyText}
 use Rattle.arcs.specs.Traffic.{Traffic, TakesFront}
 use Rattle.arcs.specs.Underway.{Holds, IsUnderway, IsAnswered, IsBegun, Ends}
 use Rattle.arcs.specs.declared.command.Reply.{Reply}

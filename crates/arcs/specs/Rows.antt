@@ -1,8 +1,8 @@
 -- The windows of a script as the rows of a table.
-use Rattle.std.specs.Prelude.{ℕ, List, Option, map}
+use Rattle.std.specs.Prelude.{ℕ, map}
 use Rattle.std.specs.Option.{option_map}
 use Rattle.arc_block.specs.Place.{Place, nowhere, static_data, on_block}
-use Rattle.arc_block.specs.Table.{Row, Table, reader}
+use Rattle.arc_block.specs.Table.{Row, reader}
 use Rattle.arcs.specs.Script.{ByteTable}
 use Rattle.arcs.specs.declared.windows.Entry.{Entry}
 use Rattle.arcs.specs.declared.windows.Windows.{Windows}

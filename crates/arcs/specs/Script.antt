@@ -1,5 +1,5 @@
 -- Scripts: the lines of an input, what each is answered, and what is written.
-use Rattle.std.specs.Prelude.{◌≡◌, ℕ, Bool, true, List, [], ◌∷◌, ◌++◌, Option, Some, None, map, flat_map, Contains, codes}
+use Rattle.std.specs.Prelude.{◌≡◌, ℕ, true, List, [], ◌∷◌, ◌++◌, Option, Some, None, map, flat_map, Contains, codes}
 use Rattle.std.specs.List.{AllByRecursion}
 use Rattle.arc_block.specs.Table.{Table, empty_table}
 use Rattle.arcs.specs.RunOf.{RunOf}

@@ -1,5 +1,5 @@
 -- A script that is being run: what was read and written so far, and what is still held.
-use Rattle.std.specs.Prelude.{◌≡◌, ℕ, ◌<◌, ◌+◌, Bool, true, false, List, [], ◌∷◌, ◌++◌, map, length, Option}
+use Rattle.std.specs.Prelude.{◌≡◌, ℕ, ◌<◌, Bool, true, false, List, [], ◌∷◌, ◌++◌, map, length, Option}
 use Rattle.std.specs.List.{AllByRecursion}
 use Rattle.arc_block.specs.Table.{empty_table}
 use Rattle.arcs.specs.RunOf.{RunOf}

@@ -1,5 +1,5 @@
 -- Line after line is read, and then what stands behind the last line feed of the piece.
-use Rattle.std.proofs.Common.{◌≡◌, ◌++◌, ◌∷◌, [], ap, ◌∙◌, sym, append_assoc}
+use Rattle.std.proofs.Common.{◌++◌, ◌∷◌, [], ◌∙◌}
 use Rattle.arcs.specs.Text.{line_feed}
 use Rattle.arcs.proofs.Going.{on_err, stops_now, stops_later, stops_longer, reads_on, reads_held, reads_whole, line_parts, more_parts}
 use Rattle.arcs.proofs.script.Engine.feed.Goals as goal

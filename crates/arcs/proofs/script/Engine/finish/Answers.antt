@@ -1,6 +1,5 @@
 -- All lines are answered, and the replies go out, or a front of them.
-use Rattle.std.proofs.Common.{subst, sym}
-use Rattle.arcs.proofs.Going.{on_err, none_taken, begun_at_end}
+use Rattle.arcs.proofs.Going.{on_err, begun_at_end}
 use Rattle.arcs.proofs.Underway.{all_out, end_begun}
 use Rattle.arcs.proofs.script.Engine.finish.Goals as goal
 

@@ -1,6 +1,6 @@
 -- What was read goes through the engine, and the replies go out.
-use Rattle.std.proofs.Common.{sym, ap, ◌∙◌}
-use Rattle.arcs.proofs.Going.{on_err, stops_now, reads_and_out, reads_then_stops, run_stops_now, run_stops, run_goes_on}
+use Rattle.std.proofs.Common.{ap, ◌∙◌}
+use Rattle.arcs.proofs.Going.{on_err, reads_and_out, reads_then_stops, run_stops_now, run_stops, run_goes_on}
 use Rattle.arcs.proofs.script.Engine.take_piece.Goals as goal
 
 pub returns-in_default-clause-begun : goal.returns-in_default-clause-begun
