@@ -83,7 +83,7 @@ owned-same h e made ends o = record {
 unended : (h : List Entry) (new : ℕ) → is_in new (owners_ever h) ≡ false → Owned h → is_in new (owners_ended h) ≡ false
 unended h new never o = elim (cases_Bool (is_in new (owners_ended h))) [ inl g ↦ absurd (false≢true (sym never ∙ o.ended new g)) | inr g ↦ g ]
 
-grown : (h : List Entry) (e : Entry) (new : ℕ) → owner_made e ≡ Some new → owner_ended e ≡ None → is_in new (owners_ever h) ≡ false → Owned h → live_owners (h ++ e ∷ []) ≡ live_owners h ++ new ∷ []
+pub grown : (h : List Entry) (e : Entry) (new : ℕ) → owner_made e ≡ Some new → owner_ended e ≡ None → is_in new (owners_ever h) ≡ false → Owned h → live_owners (h ++ e ∷ []) ≡ live_owners h ++ new ∷ []
 grown h e new made ends never o = live-made h e new made ends (unended h new never o)
 
 owned-made : (h : List Entry) (e : Entry) (new : ℕ) → owner_made e ≡ Some new → owner_ended e ≡ None → is_in new (owners_ever h) ≡ false → Owned h → Owned (h ++ e ∷ [])

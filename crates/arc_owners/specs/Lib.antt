@@ -3,3 +3,4 @@ pub mod Machine
 pub mod Agreement
 pub mod Worlds
 pub mod Laws
+pub mod Book

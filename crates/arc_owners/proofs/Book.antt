@@ -1,0 +1,6 @@
+-- The ghost side of a block's word, its owners and their passes.
+pub mod Cells
+pub mod Rolls
+pub mod Accounts
+pub mod Parts
+pub mod Opened
