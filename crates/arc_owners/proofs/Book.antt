@@ -4,3 +4,4 @@ pub mod Rolls
 pub mod Accounts
 pub mod Parts
 pub mod Opened
+pub mod Moves

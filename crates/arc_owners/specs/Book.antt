@@ -10,11 +10,12 @@ use base.Algebra.{Algebra}
 use base.SetCodes.{coded}
 use base.Algebras.{both, shares, agreed}
 use base.Growing.{Order, prefixes, once, latest, at_least}
-use base.Fml.{Share, Fml, ftrue, fsep, fex, fnamed}
+use base.Fml.{Share, Fml, ftrue, fsep, fex, flft, fnamed}
 use types.Keyed.{entry, entries_from, ticket}
 use types.RcWeak.{part, rest}
 use Rattle.core.specs.Sync.RawAtomic.{word}
 use Rattle.arc_owners.specs.declared.owners.entry.Entry.{Entry}
+use Rattle.arc_owners.specs.declared.owners.entry.Entry.TheVariants.{Up, Full, Down, Alone}
 use Rattle.arc_owners.specs.contracts.owners.entry.Entry as entry_type
 use Rattle.arc_owners.specs.Histories.{live_owners, owners_ever, is_counted, MayFollow, IsLegal}
 use Rattle.arc_owners.specs.Machine.{beginning}
@@ -208,9 +209,38 @@ pub record Adds (t : Names) (p : ℕ) (seen before : List Line) (e : Entry) : Ty
   pub may : MayFollow t.most (beginning t.counted) (entries_of before) e
   pub legal : IsLegal t.most (beginning t.counted) (entries_of before ++ e ∷ [])
 
--- what a call leaves that added an entry: the pass, with what it has seen since
-abbrev pub left_by : Names → ℕ → Bool → List Line → Entry → Fml → List Line → Fml
-left_by t p ready seen e gain before = fsep (told (Adds t p seen before e)) (fsep (pass_holds t p ready (before ++ (p, e) ∷ [])) gain)
+-- what a call leaves that added an entry to the history before it: the pass, with what it has seen since
+abbrev pub left_by : Names → ℕ → Bool → List Line → (List Line → Entry) → (List Line → Fml) → List Line → Fml
+left_by t p ready seen e gain before = fsep (told (Adds t p seen before (e before))) (fsep (pass_holds t p ready (before ++ (p, e before) ∷ [])) (gain before))
 
-abbrev pub added : Names → ℕ → Bool → List Line → Entry → Fml → Fml
+abbrev pub added : Names → ℕ → Bool → List Line → (List Line → Entry) → (List Line → Fml) → Fml
 added t p ready seen e gain = fex (List Line) (left_by t p ready seen e gain)
+
+-- the number of the next owner of a running call: how many owners the history had
+abbrev pub next_owner : List Line → ℕ
+next_owner ls = length (owners_ever (entries_of ls))
+
+-- a look at the number of the word
+abbrev pub looked : Names → ℕ → Bool → List Line → ℕ → Lease → Share → ℕ → Fml
+looked t p ready seen o l q n = added t p ready seen (λ _. Alone o (n == 1)) (λ _. right t o l q)
+
+-- a look that adds an entry where the number is the greatest
+abbrev pub glanced_at : Names → ℕ → Bool → List Line → ℕ → Lease → Share → Bool → Fml
+glanced_at t p ready seen o l q true = added t p ready seen (λ _. Full o) (λ _. right t o l q)
+glanced_at t p ready seen o l q false = fsep (pass_holds t p ready seen) (right t o l q)
+
+abbrev pub glanced : Names → ℕ → Bool → List Line → ℕ → Lease → Share → ℕ → Fml
+glanced t p ready seen o l q n = glanced_at t p ready seen o l q (n == t.most)
+
+-- an exchange, which makes an owner where it wins
+abbrev pub raised_by : Names → ℕ → Bool → List Line → ℕ → Lease → Share → Bool → Fml
+raised_by t p ready seen o l q true = added t p ready seen (λ before. Up o (next_owner before)) (λ before. fsep (right t o l q) (fsep (right t (next_owner before) l quarter) (stake l)))
+raised_by t p ready seen o l q false = fsep (pass_holds t p ready seen) (right t o l q)
+
+-- what the last owner has from its end: the whole token of the lifetime, and the ticket
+abbrev pub spoils : Lease → Bool → Fml
+spoils l true = fsep (flft (l.0 ∷ []) full_share) (ticket l.1 0)
+spoils l false = ftrue
+
+abbrev pub lowered_by : Names → ℕ → Bool → List Line → ℕ → Lease → ℕ → Fml
+lowered_by t p ready seen o l n = added t p ready seen (λ _. Down o) (λ _. spoils l (n == 1))

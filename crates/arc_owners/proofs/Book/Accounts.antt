@@ -125,3 +125,6 @@ module _ (t : Names) (a : Account) (f : Fits t a) (p : ℕ) (ready : Bool) (seat
 
   pub may-full : (o : ℕ) (l : Lease) → get_or a.roll o (false, no_lease) ≡ (true, l) → counted_there → how_many a.roll ≡ t.most → MayFollow t.most began h (Full o)
   may-full o l is c full = (lives o l is, c, ap length f.live ∙ full)
+
+  pub some-live : (o : ℕ) (l : Lease) → get_or a.roll o (false, no_lease) ≡ (true, l) → 0 < how_many a.roll
+  some-live o l is = omega (arith, length-without o (living 0 a.roll), times-in o (living 0 a.roll) (living-in 0 o o a.roll l (omega arith) is))

@@ -83,24 +83,27 @@ module _ {M : Type 1} {𝓤 : Ura M} (𝓛 : Logic 𝓤) (t : Names) where
         move ! (8 ∷ 10 ∷ 9 ∷ []) $ use3 𝓛 (given (Seen 𝓛 t w seen a.lines) (‵ (latest_of a.lines) ⊛ ‵ (withheld t w seen))) (sees 𝓛 t w seen a.lines) $ learn ! (λ seen_is. split ! $
         by ! (k a (record { fits = f; number = number; counted = counted; seat_is = seat_is; owner_is = owner_is; seen_is = seen_is }))))))))) 
 
-    module _ (a : Account) (so : Shown a) (e : Entry) (roll : List (Bool × Lease)) where
+    module _ (a : Account) (so : Shown a) (entry : List Line → Entry) (roll : List (Bool × Lease)) where
+      abbrev e : Entry
+      e = entry a.lines
+
       abbrev a' : Account
       a' = wrote a p ready e roll
 
       abbrev n' : ℕ
       n' = how_many roll
 
-      abbrev pub Done : Fml → Pr
-      Done gain = ⟦ behind t n' ⟧ ∗ ⟦ contents t ⟧ ∗ ⟦ added t p ready seen e gain ⟧
+      abbrev pub Done : (List Line → Fml) → Pr
+      Done gain = ⟦ behind t n' ⟧ ∗ ⟦ contents t ⟧ ∗ ⟦ added t p ready seen entry gain ⟧
 
       pub made-kept : made_by p a.lines ≡ made_by p seen
       made-kept = sym (so.fits.made p) ∙ ap (λ (s : Bool × Seat). s.1.1) so.seat_is.1
 
-      pub shut : (gain : Fml) → MayFollow t.most (beginning t.counted) (entries_of a.lines) e → Fits t a'
-          → ⟦ latest_of a.lines ⟧ ∗ ⟦ withheld t t.whole seen ⟧ ∗ ⟦ rolled roll ⟧ ∗ ⟦ seated a.seats ⟧ ∗ ⟦ seat p ready (made_by p seen) ⟧ ∗ ⟦ located t a.lines ⟧ ∗ ⟦ has_place t ⟧ ∗ ⟦ counted_as t full_share (how_many a.roll) ⟧ ∗ ⟦ pool a.lease n' ⟧ ∗ ⟦ gain ⟧
+      pub shut : (gain : List Line → Fml) → MayFollow t.most (beginning t.counted) (entries_of a.lines) e → Fits t a'
+          → ⟦ latest_of a.lines ⟧ ∗ ⟦ withheld t t.whole seen ⟧ ∗ ⟦ rolled roll ⟧ ∗ ⟦ seated a.seats ⟧ ∗ ⟦ seat p ready (made_by p seen) ⟧ ∗ ⟦ located t a.lines ⟧ ∗ ⟦ has_place t ⟧ ∗ ⟦ counted_as t full_share (how_many a.roll) ⟧ ∗ ⟦ pool a.lease n' ⟧ ∗ ⟦ gain a.lines ⟧
           ⊢ upd 𝓤 (Done gain)
       shut gain may f = let w : Bool = t.whole in let Z : Pr = Done gain in let ls : List Line = a'.lines in let made : List Entry = made_by p a.lines ++ e ∷ [] in
-          qed 𝓛 (‵ (latest_of a.lines) ∷ ‵ (withheld t w seen) ∷ ‵ (rolled roll) ∷ ‵ (seated a.seats) ∷ ‵ (seat p ready (made_by p seen)) ∷ ‵ (located t a.lines) ∷ ‵ (has_place t) ∷ ‵ (counted_as t full_share (how_many a.roll)) ∷ ‵ (pool a.lease n') ∷ ‵ gain ∷ []) ∵
+          qed 𝓛 (‵ (latest_of a.lines) ∷ ‵ (withheld t w seen) ∷ ‵ (rolled roll) ∷ ‵ (seated a.seats) ∷ ‵ (seat p ready (made_by p seen)) ∷ ‵ (located t a.lines) ∷ ‵ (has_place t) ∷ ‵ (counted_as t full_share (how_many a.roll)) ∷ ‵ (pool a.lease n') ∷ ‵ (gain a.lines) ∷ []) ∵
           use2 𝓛 (raw (upd 𝓤 (⟦ latest_of ls ⟧ ∗ ⟦ reached t ls ⟧ ∗ ⟦ withheld t w ls ⟧))) (writes 𝓛 t w seen a.lines ((p, e) ∷ []) so.seen_is.1) $
           settle 𝓛 Z (‵ (latest_of ls) ⊛ ‵ (reached t ls) ⊛ ‵ (withheld t w ls)) $ split3 ! $
           -- [latest; reached; withheld; roll; seats; seat; located; the key; count; pool; gain]
@@ -117,7 +120,7 @@ module _ {M : Type 1} {𝓤 : Ura M} (𝓛 : Logic 𝓤) (t : Names) where
           -- [pass; located; quarter; three quarters; seats; latest; roll; the key; pool; gain]
           move ! (0 ∷ 9 ∷ []) $ fjoin ! $ nothing ! $ fpack ! (Adds t p seen a.lines e) (λ _. ftrue)
           (record { after_seen = so.seen_is.0; own = made-kept; undisturbed = so.seen_is.1; may = may; legal = subst (λ (es : List Entry). Rattle.arc_owners.specs.Histories.IsLegal t.most (beginning t.counted) es) (entries-append a.lines p e) f.legal }) $
-          fjoin ! $ fpack ! (List Line) (left_by t p ready seen e gain) a.lines $
+          fjoin ! $ fpack ! (List Line) (left_by t p ready seen entry gain) a.lines $
           -- [added; located; quarter; three quarters; seats; latest; roll; the key; pool]
           move ! (2 ∷ 7 ∷ []) $ fjoin ! $ frame ! $
           -- [added; located; three quarters; seats; latest; roll; pool]
