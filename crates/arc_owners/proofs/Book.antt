@@ -5,3 +5,4 @@ pub mod Accounts
 pub mod Parts
 pub mod Opened
 pub mod Moves
+pub mod Shared

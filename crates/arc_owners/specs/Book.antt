@@ -10,9 +10,11 @@ use base.Algebra.{Algebra}
 use base.SetCodes.{coded}
 use base.Algebras.{both, shares, agreed}
 use base.Growing.{Order, prefixes, once, latest, at_least}
-use base.Fml.{Share, Fml, ftrue, fsep, fex, flft, fnamed}
+use base.Before.{before}
+use base.Fml.{Lft, Share, Fml, ftrue, ffalse, fsep, fex, flft, fbor, fshr_bor, fnamed}
 use types.Keyed.{entry, entries_from, ticket}
 use types.RcWeak.{part, rest}
+use denote.RawPtr.{Ptr, block_ptr, null_ptr}
 use Rattle.core.specs.Sync.RawAtomic.{word}
 use Rattle.arc_owners.specs.declared.owners.entry.Entry.{Entry}
 use Rattle.arc_owners.specs.declared.owners.entry.Entry.TheVariants.{Up, Full, Down, Alone}
@@ -190,16 +192,17 @@ lies t b o n = fsep (word b o n) (behind t n)
 abbrev pub counting : Names → ℕ → ℕ → Fml
 counting t b o = fex ℕ (lies t b o)
 
+-- the book, and a beginning of its history: what can be had twice
+abbrev pub known : Names → List Line → Fml
+known t ls = fsep (fnamed t.number (contents t)) (reached t ls)
+
 -- what an owner has: the book, the history in which it was made, its right, and its stake
 abbrev pub share_owns : Names → ℕ → Lease → List Line → Fml
-share_owns t o l born = fsep (fsep (fnamed t.number (contents t)) (reached t born)) (fsep (right t o l quarter) (stake l))
+share_owns t o l born = fsep (known t born) (fsep (right t o l quarter) (stake l))
 
 -- what a pass of a block has: the book, what it has seen, and its seat, with what it has made of that
 abbrev pub pass_holds : Names → ℕ → Bool → List Line → Fml
 pass_holds t p ready seen = fsep (reached t seen) (fsep (withheld t t.whole seen) (cell seat_coded t.passes p quarter (ready, made_by p seen)))
-
-abbrev pub pass_owns : Names → ℕ → Bool → List Line → Fml
-pass_owns t p ready seen = fsep (fnamed t.number (contents t)) (pass_holds t p ready seen)
 
 -- the pass p, which has seen these lines, adds an entry to the history before it
 pub record Adds (t : Names) (p : ℕ) (seen before : List Line) (e : Entry) : Type 0 where
@@ -244,3 +247,29 @@ spoils l false = ftrue
 
 abbrev pub lowered_by : Names → ℕ → Bool → List Line → ℕ → Lease → ℕ → Fml
 lowered_by t p ready seen o l n = added t p ready seen (λ _. Down o) (λ _. spoils l (n == 1))
+
+-- a `&` to the word: an invariant over a borrow of it, whose number is past the book's
+abbrev pub lent : Names → ℕ → ℕ → Lft → Lft × ℕ → Fml
+lent t b o κ z = fsep (before κ z.0) (fsep (told (t.number < z.1)) (fnamed z.1 (fbor z.0 (counting t b o))))
+
+abbrev pub word_shares : Names → Ptr → Lft → Fml
+word_shares t (block_ptr b o) κ = fex (Lft × ℕ) (lent t b o κ)
+word_shares t null_ptr κ = ffalse
+
+-- an owner's right that is held, or none
+abbrev pub right_owns : Bool → Names → ℕ → Lease → List Line → Fml
+right_owns true t o l born = share_owns t o l born
+right_owns false t o l born = ftrue
+
+abbrev pub right_shares : Bool → Names → ℕ → Lease → List Line → Lft → Fml
+right_shares true t o l born κ = fsep (known t born) (fshr_bor κ (λ q. right t o l q))
+right_shares false t o l born κ = ftrue
+
+-- a pass of a block, or of none
+abbrev pub trace_owns : Bool → Names → ℕ → Bool → List Line → Fml
+trace_owns true t p ready seen = fsep (known t seen) (fsep (withheld t t.whole seen) (cell seat_coded t.passes p quarter (ready, made_by p seen)))
+trace_owns false t p ready seen = ftrue
+
+abbrev pub trace_shares : Bool → Names → List Line → Fml
+trace_shares true t seen = known t seen
+trace_shares false t seen = ftrue

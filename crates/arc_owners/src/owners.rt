@@ -4,6 +4,7 @@ mod entry;
 mod event;
 mod interleavings;
 mod replays;
+mod word;
 mod world;
 
 pub use entry::Entry;

@@ -1,0 +1,105 @@
+//! The word of a count, and what stands behind it in the proofs. The walks stand here; `Owners` and its tokens are thin wrappers.
+ghost use Rattle.std.specs.Prelude.{◌≡◌, ℕ, Bool, true, false, List};
+ghost use base.Fml.{fsep, fex};
+ghost use base.Stored.{coded_list};
+ghost use Rattle.arc_owners.specs.Book.{Names, names_coded, Line, line_coded, Lease, lease_coded, behind, word_shares, right_owns, right_shares, trace_owns, trace_shares, spoils};
+
+use std::marker::{Model, Move, Owns, PhantomData};
+
+/// A count, in one word. Contracts see which block it is of.
+pub(crate) struct Word {
+    bits: u64,
+}
+
+impl Owns for Word {
+    ghost Value = { Names };
+
+    ghost coded = { names_coded };
+
+    ghost shr_at = { λ t p κ. word_shares t p κ };
+}
+
+impl Move for Word {
+    ghost own_val = { λ t vs. fex ℕ (λ n. fsep (Fields.own_val (record { bits = n }) vs) (behind t n)) };
+}
+
+/// The right of one owner, where it is held. It has no bytes.
+pub(crate) struct Right {
+    marker: PhantomData<()>,
+    pub(crate) ghost held: { Bool },
+    pub(crate) ghost names: { Names } by { names_coded },
+    pub(crate) ghost owner: { ℕ },
+    pub(crate) ghost lease: { Lease } by { lease_coded },
+    pub(crate) ghost born: { List Line } by { coded_list line_coded },
+}
+
+impl Model for Right {
+    ghost also_owns = { λ r. right_owns r.held r.names r.owner r.lease r.born };
+
+    ghost also_shares = { λ r _ κ. right_shares r.held r.names r.owner r.lease r.born κ };
+}
+
+/// What a caller has seen of a block's history, and made of it, where it is of a block. It has no bytes.
+pub(crate) struct Trace {
+    marker: PhantomData<()>,
+    pub(crate) ghost bound: { Bool },
+    pub(crate) ghost names: { Names } by { names_coded },
+    pub(crate) ghost number: { ℕ },
+    pub(crate) ghost ready: { Bool },
+    pub(crate) ghost lines: { List Line } by { coded_list line_coded },
+}
+
+impl Model for Trace {
+    ghost also_owns = { λ p. trace_owns p.bound p.names p.number p.ready p.lines };
+
+    ghost also_shares = { λ p _ κ. trace_shares p.bound p.names p.lines };
+}
+
+/// What an owner's end leaves: of the last owner, the right to end the lifetime for which the block is lent.
+pub(crate) struct Spoils {
+    marker: PhantomData<()>,
+    pub(crate) ghost last: { Bool },
+    pub(crate) ghost lease: { Lease } by { lease_coded },
+}
+
+impl Model for Spoils {
+    ghost also_owns = { λ s. spoils s.lease s.last };
+}
+
+impl Drop for Word {
+    fn drop(self) {
+        let Self { bits: _ } = self;
+    }
+}
+
+impl Drop for Right {
+    fn drop(self) {
+        let Self { marker: _ } = self;
+    }
+}
+
+impl Drop for Trace {
+    fn drop(self) {
+        let Self { marker: _ } = self;
+    }
+}
+
+impl Drop for Spoils {
+    fn drop(self) {
+        let Self { marker: _ } = self;
+    }
+}
+
+unsafe impl Send for Word {}
+
+unsafe impl Sync for Word {}
+
+unsafe impl Send for Right {}
+
+unsafe impl Sync for Right {}
+
+unsafe impl Send for Trace {}
+
+unsafe impl Sync for Trace {}
+
+unsafe impl Send for Spoils {}
