@@ -6,3 +6,4 @@ pub mod Parts
 pub mod Opened
 pub mod Moves
 pub mod Shared
+pub mod Places

@@ -273,3 +273,33 @@ trace_owns false t p ready seen = ftrue
 abbrev pub trace_shares : Bool → Names → List Line → Fml
 trace_shares true t seen = known t seen
 trace_shares false t seen = ftrue
+
+-- these lines are those before, after all that the pass had seen, and then its own entry
+abbrev pub AddedTo : Names → ℕ → List Line → (List Line → Entry) → List Line → List Line → Type 0
+AddedTo t p seen e before ls = Adds t p seen before (e before) × (ls ≡ before ++ (p, e before) ∷ [])
+
+abbrev pub Written : Names → ℕ → List Line → Entry → List Line → Type 0
+Written t p seen e ls = (before : List Line) × AddedTo t p seen (λ _. e) before ls
+
+-- what a look leaves
+abbrev pub after_look : Names → ℕ → Bool → List Line → ℕ → Lease → Share → ℕ → List Line → Fml
+after_look t p ready seen o l q n ls = fsep (told (Written t p seen (Alone o (n == 1)) ls)) (fsep (trace_owns true t p ready ls) (right t o l q))
+
+-- the count was found at its greatest, which is an entry, or the pass is as it was
+abbrev pub Filled : Names → ℕ → List Line → ℕ → Bool → List Line → Type 0
+Filled t p seen o true ls = Written t p seen (Full o) ls
+Filled t p seen o false ls = ls ≡ seen
+
+abbrev pub after_glance : Names → ℕ → Bool → List Line → ℕ → Lease → Share → ℕ → List Line → Fml
+after_glance t p ready seen o l q n ls = fsep (told (Filled t p seen o (n == t.most) ls)) (fsep (trace_owns true t p ready ls) (right t o l q))
+
+-- a new owner, by its number and the history in which it was made, or none
+abbrev pub MadeOne : Names → ℕ → List Line → ℕ → Bool → List Line → Bool × ℕ → Type 0
+MadeOne t p seen o true ls new = (before : List Line) × AddedTo t p seen (λ h. Up o (next_owner h)) before ls × (new.0 ≡ true) × (new.1 ≡ next_owner before)
+MadeOne t p seen o false ls new = (ls ≡ seen) × (new.0 ≡ false)
+
+abbrev pub after_raise : Names → ℕ → Bool → List Line → ℕ → Lease → Share → ℕ → ℕ → List Line × (Bool × ℕ) → Fml
+after_raise t p ready seen o l q old n u = fsep (told (MadeOne t p seen o (n == old) u.0 u.1)) (fsep (trace_owns true t p ready u.0) (fsep (right t o l q) (right_owns u.1.0 t u.1.1 l u.0)))
+
+abbrev pub after_lower : Names → ℕ → Bool → List Line → ℕ → Lease → ℕ → List Line → Fml
+after_lower t p ready seen o l n ls = fsep (told (Written t p seen (Down o) ls)) (fsep (trace_owns true t p ready ls) (spoils l (n == 1)))

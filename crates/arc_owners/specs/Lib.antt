@@ -4,3 +4,4 @@ pub mod Agreement
 pub mod Worlds
 pub mod Laws
 pub mod Book
+pub mod Traces

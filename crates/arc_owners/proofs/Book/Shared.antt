@@ -3,8 +3,8 @@ use Rattle.std.proofs.Common.{◌≡◌, ℕ, zero, suc, Bool, true, false, List
 use seplogic.Ra.Ura.{Ura}
 use base.Share
 use base.Share.{quarter}
-use base.Logic.{SProp, ent, sep, wand, emp, id⊢, snd∗}
-use base.Fml.{Lft, Share, Fml, ftrue, fsep, fbor, fshr_bor, fnamed}
+use base.Logic.{SProp, ent, sep, wand, ex, emp, id⊢, snd∗}
+use base.Fml.{Lft, Share, Fml, Incl-refl, ftrue, fsep, fbor, fshr_bor, fnamed}
 use base.Growing.{latest, at_least}
 use base.Shift.{Keyless}
 use base.Before.{before}
@@ -13,6 +13,7 @@ use types.Logic.{Logic, sem, lfts}
 use types.Growing.{at_least_dup}
 use types.Keyed.{entry_keyless, token}
 use types.Tokens.{bor_fracture}
+use types.Frac.{shr_bor-Acc_by}
 use types.Kit.{‵, raw, ◌⊛◌, later, ◌$◌, ◌∵◌, !, qed, by, move, drop, split, fsplit, fjoin, use1, use2, updating, await, now, done}
 use denote.Sharing.{ShrLaws, said, one, beside, nothing}
 use denote.SharingLaws.{beside_shr_laws, one_shr_laws, nothing_shr_laws}
@@ -82,6 +83,9 @@ module _ {M : Type 1} {𝓤 : Ura M} (𝓛 : Logic 𝓤) (t : Names) where
     pub right_lends : (h : Bool) (born : List Line) (λ' : Lft) → Lends 𝓛 (right_owns h t o l born) (right_shares h t o l born) λ'
     right_lends true born λ' = Lends-both 𝓛 (known t born) (fsep (R quarter) (stake l)) (said (known t born)) (one R) λ' (lends_twice 𝓛 (known t born) (known_twice born) λ') (Lends-first 𝓛 (R quarter) (stake l) (one R) λ' (fractured λ'))
     right_lends false born λ' = Lends-nothing 𝓛 ftrue λ'
+
+    pub right_read : (born : List Line) (κ : Lft) (q : Share) → ent 𝓤 (sep 𝓤 ⟦ right_shares true t o l born κ ⟧ (A.lft κ q)) (H.⇛ (ex 𝓤 (λ (s : Share). sep 𝓤 ⟦ R s ⟧ (wand 𝓤 ⟦ R s ⟧ (H.⇛ (A.lft κ q))))))
+    right_read born κ q = qed 𝓛 (‵ (right_shares true t o l born κ) ∷ ‵ (base.Fml.flft κ q) ∷ []) ∵ fsplit ! $ drop ! $ by ! (shr_bor-Acc_by 𝓛 R right_halves κ ((κ, q) ∷ []) (Incl-refl κ))
 
   pub trace_lends : (b : Bool) (p : ℕ) (ready : Bool) (seen : List Line) (λ' : Lft) → Lends 𝓛 (trace_owns b t p ready seen) (said (trace_shares b t seen)) λ'
   trace_lends true p ready seen λ' = Lends-first 𝓛 (known t seen) _ (said (known t seen)) λ' (lends_twice 𝓛 (known t seen) (known_twice seen) λ')

@@ -2,9 +2,12 @@
 ghost use Rattle.std.specs.Prelude.{◌≡◌, ℕ, Bool, true, false, List};
 ghost use base.Fml.{fsep, fex};
 ghost use base.Stored.{coded_list};
+ghost use Rattle.arc_owners.specs.declared.owners.entry.Entry.TheVariants.{Alone, Down};
 ghost use Rattle.arc_owners.specs.Book.{Names, names_coded, Line, line_coded, Lease, lease_coded, behind, word_shares, right_owns, right_shares, trace_owns, trace_shares, spoils};
 
-use std::marker::{Model, Move, Owns, PhantomData};
+use std::marker::{Brand, Model, Move, Owns, PhantomData};
+use std::sync::atomic::Ordering::SeqCst;
+use std::sync::atomic::raw;
 
 /// A count, in one word. Contracts see which block it is of.
 pub(crate) struct Word {
@@ -64,6 +67,19 @@ pub(crate) struct Spoils {
 
 impl Model for Spoils {
     ghost also_owns = { λ s. spoils s.lease s.last };
+}
+
+impl Word {
+    ghost use Rattle.std.specs.Prelude.{◌==◌};
+    ghost use Rattle.arc_owners.specs.Traces.{IsHeld, IsOf, SamePass, Wrote};
+
+    /// Reads the number, which tells whether the owner is alone.
+    pub(crate) fn look(&self, by: &Right, pass: &mut Trace) -> u64
+        requires { IsHeld self.now by.now × IsOf self.now pass.old }
+        ensures { SamePass self.now pass.old pass.new × Wrote self.now pass.old pass.new (Alone by.now.owner (result == 1)) }
+    {
+        unsafe { raw::load::<Brand>(self as *const Self as *const u64, SeqCst) }
+    }
 }
 
 impl Drop for Word {
