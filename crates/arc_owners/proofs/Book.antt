@@ -7,3 +7,4 @@ pub mod Opened
 pub mod Moves
 pub mod Shared
 pub mod Places
+pub mod Begins

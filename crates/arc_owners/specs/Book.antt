@@ -147,14 +147,18 @@ pub record Account : Type 0 where
   pub seats : List (Bool × Seat)
   pub lease : Lease
 
-pub record Fits (t : Names) (a : Account) : Type 0 where
-  pub legal : IsLegal t.most (beginning t.counted) (entries_of a.lines)
+pub record FitsFor (most : ℕ) (counted : Bool) (a : Account) : Type 0 where
+  pub legal : IsLegal most (beginning counted) (entries_of a.lines)
   pub live : live_owners (entries_of a.lines) ≡ living 0 a.roll
   pub ever : owners_ever (entries_of a.lines) ≡ upto 0 (length a.roll)
   pub made : (p : ℕ) → (slice_index_or a.seats p (false, fresh_seat)).1.1 ≡ made_by p a.lines
   pub leased : (o : ℕ) (l : Lease) → slice_index_or a.roll o (false, no_lease) ≡ (true, l) → l ≡ a.lease
-  pub within : how_many a.roll ≤ t.most
-  pub small : t.most < 2 ^ 64
+  pub within : how_many a.roll ≤ most
+  pub small : most < 2 ^ 64
+
+-- the account is true of the block
+abbrev pub Fits : Names → Account → Type 0
+Fits t a = FitsFor t.most t.counted a
 
 -- what the owners leave in the book of the lifetime, with the ticket for its end
 abbrev pub pool : Lease → ℕ → Fml

@@ -5,6 +5,7 @@ ghost use base.Stored.{coded_list};
 ghost use Rattle.arc_owners.specs.declared.owners.entry.Entry.TheVariants.{Alone, Down};
 ghost use Rattle.arc_owners.specs.Book.{Names, names_coded, Line, line_coded, Lease, lease_coded, behind, word_shares, right_owns, right_shares, trace_owns, trace_shares, spoils};
 
+use atomic_table::exchange;
 use std::marker::{Brand, Model, Move, Owns, PhantomData};
 use std::sync::atomic::Ordering::SeqCst;
 use std::sync::atomic::raw;
@@ -71,7 +72,8 @@ impl Model for Spoils {
 
 impl Word {
     ghost use Rattle.std.specs.Prelude.{◌==◌};
-    ghost use Rattle.arc_owners.specs.Traces.{IsHeld, IsOf, SamePass, Wrote};
+    ghost use Rattle.arc_owners.specs.Traces.{IsHeld, IsOf, IsNext, SamePass, Wrote, FullIf, RaisedIf};
+    ghost use Rattle.std.specs.Prelude.{◌≢◌};
 
     /// Reads the number, which tells whether the owner is alone.
     pub(crate) fn look(&self, by: &Right, pass: &mut Trace) -> u64
@@ -79,6 +81,37 @@ impl Word {
         ensures { SamePass self.now pass.old pass.new × Wrote self.now pass.old pass.new (Alone by.now.owner (result == 1)) }
     {
         unsafe { raw::load::<Brand>(self as *const Self as *const u64, SeqCst) }
+    }
+
+    /// Reads the number. It is an entry where it is the greatest.
+    pub(crate) fn glance(&self, by: &Right, pass: &mut Trace) -> u64
+        requires { IsHeld self.now by.now × IsOf self.now pass.old }
+        ensures { SamePass self.now pass.old pass.new × FullIf self.now pass.old pass.new by.now (result == self.now.most) }
+    {
+        unsafe { raw::load::<Brand>(self as *const Self as *const u64, SeqCst) }
+    }
+
+    /// The number found, which has become `next` if it was `old`, and then there is a new owner.
+    pub(crate) fn raise(
+        &self,
+        by: &Right,
+        pass: &mut Trace,
+        new: &mut Right,
+        old: u64,
+        next: u64,
+    ) -> u64
+        requires { IsHeld self.now by.now × IsOf self.now pass.old × (old ≢ self.now.most) × IsNext old next }
+        ensures { SamePass self.now pass.old pass.new × RaisedIf self.now pass.old pass.new by.now new.new (result == old) }
+    {
+        unsafe { exchange::<Brand>(self as *const Self as *const u64, old, next) }
+    }
+
+    /// The number found, which is one less now, and this owner has ended.
+    pub(crate) fn lower(&self, own: &mut Right, pass: &mut Trace, last: &mut Spoils) -> u64
+        requires { IsHeld self.now own.old × IsOf self.now pass.old }
+        ensures { SamePass self.now pass.old pass.new × Wrote self.now pass.old pass.new (Down own.old.owner) × (own.new.held ≡ false) × (last.new.last ≡ (result == 1)) × (last.new.lease ≡ own.old.lease) }
+    {
+        unsafe { raw::fetch_sub::<Brand>(self as *const Self as *const u64, 1, SeqCst) }
     }
 }
 
