@@ -8,3 +8,4 @@ pub mod Moves
 pub mod Shared
 pub mod Places
 pub mod Begins
+pub mod Fields

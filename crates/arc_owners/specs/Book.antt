@@ -249,8 +249,12 @@ abbrev pub spoils : Lease → Bool → Fml
 spoils l true = fsep (flft (l.0 ∷ []) full_share) (ticket l.1 0)
 spoils l false = ftrue
 
+-- how many owners live after these lines
+abbrev pub how_many_live : List Line → ℕ
+how_many_live ls = length (live_owners (entries_of ls))
+
 abbrev pub lowered_by : Names → ℕ → Bool → List Line → ℕ → Lease → ℕ → Fml
-lowered_by t p ready seen o l n = added t p ready seen (λ _. Down o) (λ _. spoils l (n == 1))
+lowered_by t p ready seen o l n = added t p ready seen (λ _. Down o) (λ before. fsep (told (n ≡ how_many_live before)) (spoils l (n == 1)))
 
 -- a `&` to the word: an invariant over a borrow of it, whose number is past the book's
 abbrev pub lent : Names → ℕ → ℕ → Lft → Lft × ℕ → Fml
@@ -305,5 +309,9 @@ MadeOne t p seen o false ls new = (ls ≡ seen) × (new.0 ≡ false)
 abbrev pub after_raise : Names → ℕ → Bool → List Line → ℕ → Lease → Share → ℕ → ℕ → List Line × (Bool × ℕ) → Fml
 after_raise t p ready seen o l q old n u = fsep (told (MadeOne t p seen o (n == old) u.0 u.1)) (fsep (trace_owns true t p ready u.0) (fsep (right t o l q) (right_owns u.1.0 t u.1.1 l u.0)))
 
+-- an owner ended, where the word counted so many
+abbrev pub Lowered : Names → ℕ → List Line → ℕ → ℕ → List Line → Type 0
+Lowered t p seen o n ls = (before : List Line) × AddedTo t p seen (λ _. Down o) before ls × (n ≡ how_many_live before)
+
 abbrev pub after_lower : Names → ℕ → Bool → List Line → ℕ → Lease → ℕ → List Line → Fml
-after_lower t p ready seen o l n ls = fsep (told (Written t p seen (Down o) ls)) (fsep (trace_owns true t p ready ls) (spoils l (n == 1)))
+after_lower t p ready seen o l n ls = fsep (told (Lowered t p seen o n ls)) (fsep (trace_owns true t p ready ls) (spoils l (n == 1)))

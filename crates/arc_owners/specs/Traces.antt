@@ -3,7 +3,7 @@ use Rattle.std.specs.Prelude.{◌≡◌, ℕ, ◌+◌, ◌-◌, ◌^◌, ◌<◌
 use Rattle.arc_owners.specs.declared.owners.entry.Entry.{Entry}
 use Rattle.arc_owners.specs.declared.owners.word.Right.{Right}
 use Rattle.arc_owners.specs.declared.owners.word.Trace.{Trace}
-use Rattle.arc_owners.specs.Book.{Names, Line, Written, Filled, MadeOne}
+use Rattle.arc_owners.specs.Book.{Names, Line, Written, Filled, MadeOne, Lowered}
 
 -- the right is held, by an owner of this block
 abbrev pub IsHeld : Names → Right → Type 0
@@ -28,6 +28,10 @@ FullIf t p r by b = Filled t p.number p.lines by.owner b r.lines
 -- a new owner was made through this one, or nothing was done
 abbrev pub RaisedIf : Names → Trace → Trace → Right → Right → Bool → Type 0
 RaisedIf t p r by new b = MadeOne t p.number p.lines by.owner b r.lines (new.held, new.owner) × (new.names ≡ t) × (new.lease ≡ by.lease) × (new.born ≡ r.lines)
+
+-- this owner ended, where the word counted so many
+abbrev pub Ended : Names → Trace → Trace → Right → ℕ → Type 0
+Ended t p r own n = Lowered t p.number p.lines own.owner n r.lines
 
 abbrev pub IsNext : ℕ → ℕ → Type 0
 IsNext old next = old < 2 ^ 64 - 1 → next ≡ old + 1

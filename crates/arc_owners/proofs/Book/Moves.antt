@@ -14,7 +14,7 @@ use Rattle.arc_owners.specs.declared.owners.entry.Entry.{Entry}
 use Rattle.arc_owners.specs.declared.owners.entry.Entry.TheVariants.{Up, Full, Down, Alone}
 use Rattle.arc_owners.specs.Histories.{MayFollow}
 use Rattle.arc_owners.specs.Machine.{beginning}
-use Rattle.arc_owners.specs.Book.{Names, Line, entries_of, made_by, withheld, has_place, located, Lease, lease_coded, no_lease, right, counted_as, pool, stake, how_many, upto, Account, Fits, contents, behind, pass_holds, added, next_owner, looked, glanced, glanced_at, raised_by, spoils, lowered_by}
+use Rattle.arc_owners.specs.Book.{Names, Line, entries_of, made_by, withheld, has_place, located, Lease, lease_coded, no_lease, right, counted_as, pool, stake, how_many, upto, Account, Fits, contents, behind, pass_holds, added, next_owner, looked, glanced, glanced_at, raised_by, spoils, lowered_by, told, how_many_live}
 use Rattle.arc_owners.proofs.Book.Accounts.{wrote, raised, lowered, fits-aside, fits-raised, fits-lowered, how_many-raised, how_many-lowered, lives, some-live, may-look, may-raise, may-full}
 use Rattle.arc_owners.proofs.Book.Rolls.{length-upto}
 use Rattle.arc_owners.proofs.Book.Cells.{row_adds, row_ends}
@@ -131,7 +131,7 @@ module _ {M : Type 1} {𝓤 : Ura M} (𝓛 : Logic 𝓤) (t : Names) (p : ℕ) (
 
   -- the count is lowered by one, and the owner ends
   pub lowers : (n m : ℕ) → (0 < n → n < 2 ^ 64 → m ≡ n - 1) → ⟦ behind t n ⟧ ∗ ⟦ contents t ⟧ ∗ ⟦ pass_holds t p ready seen ⟧ ∗ ⟦ right t o l quarter ⟧ ∗ ⟦ stake l ⟧ ⊢ ToPr (lowered_by t p ready seen o l n) m
-  lowers n m next = let q : Share = quarter in let Z : Pr = ToPr (lowered_by t p ready seen o l n) m in let G : List Line → Fml = λ _. spoils l (eqb n 1) in
+  lowers n m next = let q : Share = quarter in let Z : Pr = ToPr (lowered_by t p ready seen o l n) m in let G : List Line → Fml = λ before. fsep (told (n ≡ how_many_live before)) (spoils l (eqb n 1)) in
       opened 𝓛 t n p ready seen o l q ⟦ stake l ⟧ Z (λ a so.
       let same : n ≡ how_many a.roll = so.number in let within : how_many a.roll ≤ t.most = so.fits.within in let small : t.most < 2 ^ 64 = so.fits.small in
       let live : 0 < how_many a.roll = some-live t a so.fits p ready so.seat_is.0 o l so.owner_is.1 in
@@ -150,5 +150,6 @@ module _ {M : Type 1} {𝓤 : Ura M} (𝓛 : Logic 𝓤) (t : Names) (p : ℕ) (
       move ! (8 ∷ 9 ∷ []) $ rewrite ! 0 (λ (k : Lease × ℕ). ‵ (pool k.0 k.1)) (λ i. (sym leased i, sym same i)) refl $
       use2 𝓛 (‵ (pool l (how_many roll')) ⊛ ‵ (spoils l (eqb n 1))) (pool_ends n (how_many roll') (omega arith) (eqb n 1) refl) $ split ! $
       rewrite ! 0 (λ (k : Lease). ‵ (pool k (how_many roll'))) leased refl $
-      -- [pool; spoils; roll; latest; withheld; seats; seat; located; the key; count]
+      move ! (1 ∷ []) $ nothing ! $ fpack ! (n ≡ how_many_live a.lines) (λ _. ftrue) (same ∙ sym (ap length so.fits.live)) $ fjoin ! $ move ! (1 ∷ 0 ∷ []) $
+      -- [pool; gain; roll; latest; withheld; seats; seat; located; the key; count]
       move ! (3 ∷ 4 ∷ 2 ∷ 5 ∷ 6 ∷ 7 ∷ 8 ∷ 9 ∷ 0 ∷ 1 ∷ []) $ by ! (shut 𝓛 t n p ready seen o l q a so (λ _. Down o) roll' G may fits')))

@@ -13,7 +13,7 @@ use Rattle.core.specs.Sync.RawAtomic.{word, asks, always}
 use Rattle.core.proofs.raw_atomic.Asked.{borrowed_with, LiesWith, AgainWith}
 use Rattle.arc_owners.specs.declared.owners.entry.Entry.{Entry}
 use Rattle.arc_owners.specs.declared.owners.entry.Entry.TheVariants.{Up, Full, Down, Alone}
-use Rattle.arc_owners.specs.Book.{Names, Line, Lease, reached, right, stake, contents, behind, lies, counting, known, pass_holds, trace_owns, right_owns, spoils, told, Adds, left_by, added, next_owner, looked, glanced, glanced_at, raised_by, lowered_by, Written, Filled, MadeOne, after_look, after_glance, after_raise, after_lower}
+use Rattle.arc_owners.specs.Book.{Names, Line, Lease, reached, right, stake, contents, behind, lies, counting, known, pass_holds, trace_owns, right_owns, spoils, told, Adds, left_by, added, next_owner, looked, glanced, glanced_at, raised_by, lowered_by, Written, Filled, MadeOne, after_look, after_glance, after_raise, after_lower, AddedTo, Lowered, how_many_live}
 use Rattle.arc_owners.proofs.Book.Shared.{known_twice}
 use Rattle.arc_owners.proofs.Book.Moves.{looks, glances, tries, lowers}
 
@@ -119,9 +119,13 @@ module _ {M : Type 1} {𝓤 : Ura M} (𝓛 : Logic 𝓤) (t : Names) where
       at_raise s old m room next = begun s (λ n. either (eqb n old) m n) ⟦ right t own l s ⟧ (λ n. fex (List Line × (Bool × ℕ)) (after_raise t p ready seen own l s old n))
           (λ n. turned ⟦ right t own l s ⟧ ⟦ raised_by t p ready seen own l s (eqb n old) ⟧ ⟦ behind t n ⟧ ⟦ behind t (either (eqb n old) m n) ⟧ (tries 𝓛 t p ready seen own l s n old m room next) ⟦ fex (List Line × (Bool × ℕ)) (after_raise t p ready seen own l s old n) ⟧ (raise_out s (eqb n old)))
 
+      lowered_in : (n : ℕ) (ls before : List Line) → AddedTo t p seen (λ _. Down own) before ls → ⟦ T ls ⟧ ∗ ⟦ fsep (told (n ≡ how_many_live before)) (spoils l (eqb n 1)) ⟧ ⊢ ⟦ fex (List Line) (after_lower t p ready seen own l n) ⟧
+      lowered_in n ls before so = let S : Fml = spoils l (eqb n 1) in qed 𝓛 (‵ (T ls) ∷ ‵ (fsep (told (n ≡ how_many_live before)) S) ∷ []) ∵ move ! (1 ∷ []) $ fsplit ! $ fpick ! (λ number. drop ! $ move ! (1 ∷ 0 ∷ []) $ fjoin ! $ nothing ! $
+          fpack ! (Lowered t p seen own n ls) (λ _. ftrue) (before, so, number) $ fjoin ! $ fpack ! (List Line) (after_lower t p ready seen own l n) ls $ done !)
+
       lower_out : (n : ℕ) → ⟦ N ⟧ ∗ ⟦ lowered_by t p ready seen own l n ⟧ ⊢ ⟦ fex (List Line) (after_lower t p ready seen own l n) ⟧
-      lower_out n = let e : Entry = Down own in wrote_out (λ _. e) (λ _. spoils l (eqb n 1)) _ (λ before so. let ls : List Line = before ++ (p, e) ∷ [] in qed 𝓛 (‵ (T ls) ∷ ‵ (spoils l (eqb n 1)) ∷ []) ∵ fjoin ! $ nothing ! $
-          fpack ! (Written t p seen e ls) (λ _. ftrue) (before, (so, refl)) $ fjoin ! $ fpack ! (List Line) (after_lower t p ready seen own l n) ls $ done !)
+      lower_out n = wrote_out (λ _. Down own) (λ before. fsep (told (n ≡ how_many_live before)) (spoils l (eqb n 1))) ⟦ fex (List Line) (after_lower t p ready seen own l n) ⟧
+          (λ before so. lowered_in n (before ++ (p, Down own) ∷ []) before (so, refl))
 
       abbrev pub less : ℕ → ℕ
       less n = (n + (2 ^ 64 - 1)) % 2 ^ 64

@@ -2,7 +2,7 @@
 ghost use Rattle.std.specs.Prelude.{◌≡◌, ℕ, Bool, true, false, List};
 ghost use base.Fml.{fsep, fex};
 ghost use base.Stored.{coded_list};
-ghost use Rattle.arc_owners.specs.declared.owners.entry.Entry.TheVariants.{Alone, Down};
+ghost use Rattle.arc_owners.specs.declared.owners.entry.Entry.TheVariants.{Alone};
 ghost use Rattle.arc_owners.specs.Book.{Names, names_coded, Line, line_coded, Lease, lease_coded, behind, word_shares, right_owns, right_shares, trace_owns, trace_shares, spoils};
 
 use atomic_table::exchange;
@@ -72,8 +72,25 @@ impl Model for Spoils {
 
 impl Word {
     ghost use Rattle.std.specs.Prelude.{◌==◌};
-    ghost use Rattle.arc_owners.specs.Traces.{IsHeld, IsOf, IsNext, SamePass, Wrote, FullIf, RaisedIf};
-    ghost use Rattle.std.specs.Prelude.{◌≢◌};
+    ghost use Rattle.arc_owners.specs.Traces.{IsHeld, IsOf, IsNext, SamePass, Wrote, FullIf, RaisedIf, Ended};
+    ghost use Rattle.std.specs.Prelude.{◌≢◌, ◌≤◌, []};
+
+    /// The word of a new block with one owner, its right, and a pass.
+    pub(crate) fn open(most: u64, whole: bool) -> (Word, Right, Trace)
+        requires { 1 ≤ most }
+        ensures { (result.0.most ≡ most) × (result.0.counted ≡ true) × (result.0.whole ≡ whole) × IsHeld result.0 result.1 × IsOf result.0 result.2 × (result.1.owner ≡ 0) × (result.1.born ≡ []) × (result.2.number ≡ 0) × (result.2.ready ≡ false) × (result.2.lines ≡ []) }
+    {
+        let _ = (most, whole);
+        (
+            Word { bits: 1 },
+            Right {
+                marker: PhantomData,
+            },
+            Trace {
+                marker: PhantomData,
+            },
+        )
+    }
 
     /// Reads the number, which tells whether the owner is alone.
     pub(crate) fn look(&self, by: &Right, pass: &mut Trace) -> u64
@@ -109,9 +126,66 @@ impl Word {
     /// The number found, which is one less now, and this owner has ended.
     pub(crate) fn lower(&self, own: &mut Right, pass: &mut Trace, last: &mut Spoils) -> u64
         requires { IsHeld self.now own.old × IsOf self.now pass.old }
-        ensures { SamePass self.now pass.old pass.new × Wrote self.now pass.old pass.new (Down own.old.owner) × (own.new.held ≡ false) × (last.new.last ≡ (result == 1)) × (last.new.lease ≡ own.old.lease) }
+        ensures { SamePass self.now pass.old pass.new × Ended self.now pass.old pass.new own.old result × (own.new.held ≡ false) × (last.new.last ≡ (result == 1)) × (last.new.lease ≡ own.old.lease) }
     {
         unsafe { raw::fetch_sub::<Brand>(self as *const Self as *const u64, 1, SeqCst) }
+    }
+}
+
+impl Right {
+    ghost use mathlib.Core.List.{IsPrefix};
+    ghost use Rattle.std.specs.Prelude.{[]};
+    ghost use Rattle.arc_owners.specs.Book.{made_by};
+
+    /// No right.
+    pub(crate) fn none() -> Right
+        ensures { result.held ≡ false }
+    {
+        Right {
+            marker: PhantomData,
+        }
+    }
+
+    /// A new pass of this owner's block.
+    pub(crate) fn fork(&self) -> Trace
+        requires { (self.now.held ≡ true) × (self.now.names.whole ≡ false) }
+        ensures { (result.bound ≡ true) × (result.names ≡ self.now.names) × (result.ready ≡ false) × IsPrefix self.now.born result.lines × (made_by result.number result.lines ≡ []) }
+    {
+        Trace {
+            marker: PhantomData,
+        }
+    }
+}
+
+impl Trace {
+    ghost use mathlib.Core.List.{IsPrefix};
+    ghost use Rattle.arc_owners.specs.Book.{made_by};
+    ghost use Rattle.arc_owners.specs.Traces.{SamePass};
+
+    /// A pass of no block.
+    pub(crate) fn none() -> Trace
+        ensures { result.bound ≡ false }
+    {
+        Trace {
+            marker: PhantomData,
+        }
+    }
+
+    /// Afterwards it has seen what both had seen.
+    pub(crate) fn learn(&mut self, other: &Trace)
+        requires { (self.old.bound ≡ true) × (other.now.bound ≡ true) × (other.now.names ≡ self.old.names) }
+        ensures { SamePass self.old.names self.old self.new × IsPrefix self.old.lines self.new.lines × IsPrefix other.now.lines self.new.lines × (made_by self.old.number self.new.lines ≡ made_by self.old.number self.old.lines) }
+    {}
+}
+
+impl Spoils {
+    /// Nothing.
+    pub(crate) fn none() -> Spoils
+        ensures { result.last ≡ false }
+    {
+        Spoils {
+            marker: PhantomData,
+        }
     }
 }
 
