@@ -1,5 +1,6 @@
 //! Who owns a block: the events that threads make on its word, the history that they write, and the plain program that replays them.
 
+mod counted;
 mod entry;
 mod event;
 mod interleavings;
@@ -7,6 +8,7 @@ mod replays;
 mod word;
 mod world;
 
+pub use counted::{Owners, Pass, Share};
 pub use entry::Entry;
 pub use event::Event;
 pub use interleavings::keeps;

@@ -116,9 +116,14 @@ module _ (t : Names) (a : Account) (f : Fits t a) (p : ℕ) (ready : Bool) (seat
   counted_there = is_counted began h ≡ true
 
   pub may-look : (o : ℕ) (l : Lease) → get_or a.roll o (false, no_lease) ≡ (true, l) → counted_there → MayFollow t.most began h (Alone o (eqb (how_many a.roll) 1))
-  may-look o l is c = (lives o l is, c, (
-    (λ (one : eqb (how_many a.roll) 1 ≡ true). one_is (live_owners h) o (lives o l is) (ap length f.live ∙ eqb-true (how_many a.roll) 1 one)),
-    (λ (alone : live_owners h ≡ o ∷ []). Rattle.std.proofs.lemmas.Bool.eq-eqb (how_many a.roll) 1 (sym (ap length f.live) ∙ ap length alone))))
+  may-look o l is c = (
+    lives o l is,
+    c,
+    (
+      (λ (one : eqb (how_many a.roll) 1 ≡ true). one_is (live_owners h) o (lives o l is) (ap length f.live ∙ eqb-true (how_many a.roll) 1 one)),
+      (λ (alone : live_owners h ≡ o ∷ []). Rattle.std.proofs.lemmas.Bool.eq-eqb (how_many a.roll) 1 (sym (ap length f.live) ∙ ap length alone)),
+    ),
+  )
 
   pub may-raise : (o : ℕ) (l : Lease) → get_or a.roll o (false, no_lease) ≡ (true, l) → counted_there → how_many a.roll < t.most → MayFollow t.most began h (Up o (length a.roll))
   may-raise o l is c room = (lives o l is, never, c, (let e : length (live_owners h) ≡ how_many a.roll = ap length f.live in omega arith))

@@ -108,7 +108,7 @@ module _ {M : Type 1} {𝓤 : Ura M} (𝓛 : Logic 𝓤) where
       move ! (5 ∷ 6 ∷ []) $ fjoin ! $ move ! (2 ∷ 0 ∷ []) $ fjoin ! $ use1 𝓛 (‵ (right_owns true t 0 l [])) (id⊢ 𝓤 _) $
       -- [the right; the word's; known; withheld; the seat]
       move ! (3 ∷ 4 ∷ []) $ fjoin ! $ move ! (3 ∷ 0 ∷ []) $ fjoin ! $ use1 𝓛 (‵ (trace_owns true t 0 false [])) (id⊢ 𝓤 _) $
-      now ! $ show ! (Fresh most w) (t, l) $ check ! (refl, refl, refl) $ move ! (2 ∷ 1 ∷ 0 ∷ []) $ done !))))))))) 
+      now ! $ show ! (Fresh most w) (t, l) $ check ! (refl, refl, refl) $ move ! (2 ∷ 1 ∷ 0 ∷ []) $ done !)))))))))
 
   module _ (t : Names) where
     abbrev J : Fml

@@ -58,7 +58,7 @@ module _ {M : Type 1} {𝓤 : Ura M} (𝓛 : Logic 𝓤) (t : Names) (p : ℕ) (
   pub looks : (q : Share) (n : ℕ) → Before q n ⊢ ToPr (looked t p ready seen o l q n) n
   looks q n = opens q n (ToPr (looked t p ready seen o l q n) n) (λ a so. let e = Alone o (eqb n 1) in
       let may : MayFollow t.most (beginning t.counted) (entries_of a.lines) e = subst (λ (m : ℕ). MayFollow t.most (beginning t.counted) (entries_of a.lines) (Alone o (eqb m 1))) (sym so.number)
-          (may-look t a so.fits p ready so.seat_is.0 o l so.owner_is.1 so.counted) in
+      (may-look t a so.fits p ready so.seat_is.0 o l so.owner_is.1 so.counted) in
       aside q n e a so may (fits-aside t a so.fits p ready so.seat_is.0 e refl refl may))
 
   -- the count is found at its greatest

@@ -81,7 +81,7 @@ module _ {M : Type 1} {𝓤 : Ura M} (𝓛 : Logic 𝓤) (t : Names) where
         (row_finds lease_coded 𝓛 t.rights no_lease a.roll 0 o o q l (omega arith)) $ learn ! (λ owner_is. split ! $
         -- [roll; right; seats; seat; located; the key; count; pool; latest; withheld; reached; X]
         move ! (8 ∷ 10 ∷ 9 ∷ []) $ use3 𝓛 (given (Seen 𝓛 t w seen a.lines) (‵ (latest_of a.lines) ⊛ ‵ (withheld t w seen))) (sees 𝓛 t w seen a.lines) $ learn ! (λ seen_is. split ! $
-        by ! (k a (record { fits = f; number = number; counted = counted; seat_is = seat_is; owner_is = owner_is; seen_is = seen_is }))))))))) 
+        by ! (k a (record { fits = f; number = number; counted = counted; seat_is = seat_is; owner_is = owner_is; seen_is = seen_is })))))))))
 
     module _ (a : Account) (so : Shown a) (entry : List Line → Entry) (roll : List (Bool × Lease)) where
       abbrev e : Entry
