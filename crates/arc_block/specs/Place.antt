@@ -1,6 +1,6 @@
 -- Places: where a window stands, and what is seen of a window.
 use Rattle.std.specs.Prelude.{ℕ, ◌+◌, Bool, ◌&&◌, ◌==◌, if◌then◌else◌, List, length}
-use Rattle.arc_block.specs.Block.{Facts, native_facts}
+use Rattle.arc_block.specs.Block.{Facts}
 
 -- A window stands on nothing, on a static slice, or on a block at an offset. N is what a block goes by.
 pub data Place (N M : Type 0) : Type 0 where
@@ -28,9 +28,9 @@ moved by (on_block block offset facts) = on_block block (offset + by) facts
 abbrev pub empty_rule : {T N M : Type 0} → Bool → List T → Place N M → Place N M
 empty_rule has_static items place = if has_static && (length items == 0) then nowhere else place
 
--- where a window stands that is made of a list: at the front of a new native block with a place for each item
-abbrev pub made_place : {T N M : Type 0} → Bool → N → List T → Place N M
-made_place has_static block items = empty_rule has_static items (on_block block 0 (native_facts (length items)))
+-- where a window stands that is made of a list on a new block: at the front of it
+abbrev pub made_place : {T N M : Type 0} → Bool → N → Facts M → List T → Place N M
+made_place has_static block facts items = empty_rule has_static items (on_block block 0 facts)
 
 -- where a part stands that begins at start: where its source does, that much further in
 abbrev pub part_place : {T N M : Type 0} → Bool → List T → ℕ → Place N M → Place N M

@@ -1,5 +1,6 @@
 -- The table of lists: every window has a number and a list of its own.
 use Rattle.std.specs.Prelude.{◌≡◌, ℕ, List, [], Option, Some, None, slice_get}
+use Rattle.std.specs.Option.{option_flatten}
 use Rattle.arc_block.specs.Block.{Facts}
 use Rattle.arc_block.specs.Place.{Place, nowhere, static_data, on_block}
 
@@ -26,13 +27,9 @@ pub record Table (T M : Type 0) : Type 0 where
 abbrev pub empty_table : {T M : Type 0} → Table T M
 empty_table = record { rows = []; blocks = 0 }
 
-abbrev pub flat : {T : Type 0} → Option (Option T) → Option T
-flat None = None
-flat (Some x) = x
-
 -- the row with this number, where it was made and isn't gone
 abbrev pub row_at : {T M : Type 0} → Table T M → ℕ → Option (Row T M)
-row_at t i = flat (slice_get t.rows i)
+row_at t i = option_flatten (slice_get t.rows i)
 
 -- the block on which a place lies
 abbrev pub block_of : {M : Type 0} → Place ℕ M → Option ℕ

@@ -45,8 +45,8 @@ impl<S: Slice, A: Allocator + Copy> Block<S, A> {
 }
 
 impl<S: Slice, A: Allocator> Block<S, A> {
-    /// One owner more of the same block. It takes no memory and copies no item: it is refused where the count is full,
-    /// and nowhere else.
+    /// One owner more of the same block. Takes no memory and copies no item. `CountFull` where the count can't be
+    /// raised; no clause says yet how many owners that takes.
     pub fn try_share(&self) -> Result<Self, CountFull>
         ensures { IfOk result (λ owner. owner ≡ self.now) }
     {

@@ -1,6 +1,7 @@
 //! Slice kinds: markers that say what a window's items are, and which lists of them are legal.
-ghost use Rattle.std.specs.Prelude.{◌≡◌, ℕ, ◌≤◌, ◌↔◌, Bool, true, IsTrue, IsOk, List, [], length};
-ghost use Rattle.arc_buffer.specs.Slice.{IsRange, sub};
+ghost use Rattle.std.specs.Prelude.{◌≡◌, ℕ, ◌+◌, ◌≤◌, ◌↔◌, Bool, true, IsTrue, IsOk, List, [], length, refl};
+ghost use Rattle.std.proofs.Common.{arith};
+ghost use Rattle.arc_buffer.specs.Slice.{IsEdge, IsRange, sub};
 
 use std::convert::Infallible;
 use std::marker::PhantomData;
@@ -37,12 +38,20 @@ pub trait Subsliceable: Slice {
         requires { at ≤ length items.now }
         ensures { result ≡ boundary items.now at };
 
+    /// A legal list may be cut at both ends.
+    ghost ends_are_edges: { (xs : List Self.Item) → Self.is_legal xs
+        → IsEdge boundary xs 0 × IsEdge boundary xs (length xs) };
+
+    /// A range may be cut where the list may.
+    ghost range_edges: { (xs : List Self.Item) (start end at : ℕ) → Self.is_legal xs → IsRange boundary xs start end
+        → start + at ≤ end → boundary (sub xs start end) at ≡ boundary xs (start + at) };
+
     /// A range of a legal list is legal.
     ghost range_is_legal: { (xs : List Self.Item) (start end : ℕ)
         → Self.is_legal xs → IsRange boundary xs start end → Self.is_legal (sub xs start end) };
 }
 
-/// Kinds whose items may be copied from any slice.
+/// The Copy kinds: a window may be made of a copy of any slice of the items.
 pub trait CopySlice: Slice {
     /// Each list is legal.
     ghost all_are_legal: { (xs : List Self.Item) → Self.is_legal xs };
@@ -79,6 +88,10 @@ impl<T: Copy + Send + Sync + Drop> Subsliceable for Plain<T> {
         let _ = at;
         true
     }
+
+    ghost ends_are_edges = { λ _ _. (record { within = Prim.omega arith; cuts = refl }, record { within = Prim.omega arith; cuts = refl }) };
+
+    ghost range_edges = { λ _ _ _ _ _ _ _. refl };
 
     ghost range_is_legal = { λ _ _ _ _ _. tt };
 }

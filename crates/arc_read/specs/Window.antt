@@ -1,16 +1,16 @@
 -- What is seen of a read window, and what holds of its parts.
 use Rattle.std.specs.Prelude.{◌≡◌, ℕ, ◌≤◌, Bool, List, [], length, Option, Some, None}
 use Rattle.arc_buffer.specs.Slice.{sub}
-use Rattle.arc_block.specs.Block.{Held}
+use Rattle.arc_block.specs.Block.{Held, native_facts}
 use Rattle.arc_block.specs.Place.{Sight, nowhere, on_block, made_place, part_place}
 
 -- a window alone doesn't say which block it stands on
 abbrev pub Window : Type 0 → Type 0
 Window T = Sight T (Unit {0}) (Unit {0})
 
--- the window that is made of a list
+-- the window that is made of a list: a native block has a place for each item
 abbrev pub made_window : {T : Type 0} → Bool → List T → Window T
-made_window has_static items = record { items = items; place = made_place has_static tt items }
+made_window has_static items = record { items = items; place = made_place has_static tt (native_facts (length items)) items }
 
 -- the window over a window's part from start to end
 abbrev pub part_window : {T : Type 0} → Bool → Window T → ℕ → ℕ → Window T

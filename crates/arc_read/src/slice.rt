@@ -192,3 +192,6 @@ impl<S: Slice, L: Layout, A: Allocator + Copy, H: Mark> ArcSlice<S, L, A, H> {
         }
     }
 }
+
+#[cfg(test)]
+mod tests;

@@ -1,5 +1,5 @@
 -- Commands: what is read is written so, and what can be written is read again.
-use Rattle.std.proofs.Common.{◌≡◌, ℕ, Bool, true, false, leb, ◌<◌, ◌≤◌, List, [], ◌∷◌, length, cond, Option, Some, None, ◌⊎◌, inl, inr, refl, sym, ap, subst, ◌∙◌, arith}
+use Rattle.std.proofs.Common.{◌≡◌, ℕ, Bool, true, false, leb, ◌≤◌, List, [], ◌∷◌, length, cond, Option, Some, None, ◌⊎◌, inl, inr, refl, sym, ap, subst, ◌∙◌}
 use Rattle.std.specs.Prelude.{decimal, codes, IsSomeAnd}
 use Rattle.std.specs.List.{join_with_byte, list_all}
 use Rattle.std.specs.Str.{bytes_eq}
@@ -127,9 +127,6 @@ says_read line c says = rw (says.words, words_apart c says.writable) (command_ag
 
 pub unread_is_bad : (line : List ℕ) → command_of (words_of_line line) ≡ None → IsBad line
 unread_is_bad line none c says = none-some c (sym none ∙ says_read line c says)
-
-pub long_is_bad : (line : List ℕ) → longest_line < length line → IsBad line
-long_is_bad line long c says = omega (arith, says.fits)
 
 cond_option : {X : Type 0} (b : Bool) (o : Option X) (x : X) → cond b o None ≡ Some x → (b ≡ true) × (o ≡ Some x)
 cond_option true o x e = (refl, e)

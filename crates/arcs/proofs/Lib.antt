@@ -5,4 +5,7 @@ pub mod Lines
 pub mod Texts
 pub mod Tables
 pub mod Empty
+pub mod Splits
+pub mod Underway
+pub mod Going
 pub mod Rows

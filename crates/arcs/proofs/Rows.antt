@@ -6,7 +6,7 @@ use Rattle.std.specs.List.{AllByRecursion}
 use Rattle.arc_block.specs.Table.{empty_table}
 use Rattle.arcs.specs.Script.{ended, last_line, HasNoFeed, answer_text, IsReplyText}
 use Rattle.arcs.specs.Reading.{slice_of, sub_of, show_of, drop_of, command_of}
-use Rattle.arcs.proofs.Lines.{script, run_script, no_feed, no_feeds}
+use Rattle.arcs.proofs.Lines.{script, script_runs, no_feed, no_feeds}
 
 -- whole lines, and a rest behind the last feed
 abbrev pub input_of : List (List ℕ) → List ℕ → List ℕ
@@ -19,7 +19,7 @@ script_text whole rest each last = record {
   replies = (script empty_table (whole ++ last_line rest)).0;
   after = (script empty_table (whole ++ last_line rest)).1;
   cut = record { whole = whole; rest = rest; cut = refl; each = each; last = last; are = refl };
-  run = run_script empty_table (whole ++ last_line rest);
+  run = script_runs empty_table (whole ++ last_line rest);
   written = refl;
 }
 

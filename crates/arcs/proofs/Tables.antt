@@ -8,7 +8,7 @@ use Rattle.arc_block.specs.Place.{Place, nowhere, static_data, on_block, IsOnBlo
 use Rattle.arc_block.specs.Table.{Row, row_at}
 use Rattle.arc_read.specs.Window.{part_window}
 use Rattle.arcs.specs.Step.{Step, answer}
-use Rattle.arcs.specs.Script.{ByteTable, bytes}
+use Rattle.arcs.specs.Script.{ByteTable, byte_setting}
 use Rattle.arcs.specs.Rows.{numbered, row_of}
 use Rattle.arcs.specs.declared.windows.Entry.{Entry}
 use Rattle.arcs.specs.declared.command.Command.TheVariants as command
@@ -22,7 +22,7 @@ map-slice_set f (y ∷ ys) (suc i) x = ap (λ zs. f y ∷ zs) (map-slice_set f y
 
 -- dropping a window that is there
 pub dropped : {X : Type 0} (t : ByteTable) (i : ℕ) (view : X → Row ℕ (Unit {0})) (found : Option X) → MatchOption found (row_at t i ≡ None) (λ x. row_at t i ≡ Some (view x)) → is_some found ≡ true
-    → (rows : List (Option (Row ℕ (Unit {0})))) → rows ≡ slice_set t.rows i None → answer bytes t (command.Drop i) ≡ (reply.Ok, record { rows = rows; blocks = t.blocks })
+    → (rows : List (Option (Row ℕ (Unit {0})))) → rows ≡ slice_set t.rows i None → answer byte_setting t (command.Drop i) ≡ (reply.Ok, record { rows = rows; blocks = t.blocks })
 dropped t i view (Some x) there some rows after =
     ap (λ r. option_map_or (λ row. (reply.Ok, record { rows = slice_set t.rows i None; blocks = t.blocks })) r (reply.NoWindow, t)) there
     ∙ ap (λ rs. (reply.Ok, record { rows = rs; blocks = t.blocks })) (sym after)
@@ -40,10 +40,10 @@ part-numbered has_static items start n p h = numbered_unless (has_static && (len
 
 -- a part is refused where the block can have no owner more
 pub refused : {A : Type 0} (old new : ByteTable) (i start end : ℕ) (there again : Entry A) (e : OwnerError) → new ≡ old → e ≡ CountFull → row_at old i ≡ Some (row_of there) → row_at new i ≡ Some (row_of again)
-    → IsRange bytes.boundary there.window.items start end → IsOnBlock (part_window true again.window start end).place
-    → Step bytes old (command.Sub i start end) (reply.Owner e) new
+    → IsRange byte_setting.boundary there.window.items start end → IsOnBlock (part_window true again.window start end).place
+    → Step byte_setting old (command.Sub i start end) (reply.Owner e) new
 refused old new i start end there again e same full is still range owner =
-    let P : OwnerError → Type 0 = λ x. Step bytes old (command.Sub i start end) (reply.Owner x) new in
+    let P : OwnerError → Type 0 = λ x. Step byte_setting old (command.Sub i start end) (reply.Owner x) new in
     let one : row_of again ≡ row_of there = cc (ap (λ t. row_at t i) (sym same) ∙ still) in
     let Q : Row ℕ (Unit {0}) → Type 0 = λ row. IsOnBlock (part_place true (sub row.items start end) start row.place) in
     let numbered_owner : Q (row_of again) = part-numbered true (sub again.window.items start end) start again.block again.window.place owner in

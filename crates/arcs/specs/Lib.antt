@@ -1,9 +1,13 @@
 pub mod RunOf
 pub mod Step
 pub mod Text
-pub mod Seen
 pub mod Reading
 pub mod Script
+pub mod Seen
 pub mod Writing
 pub mod Rows
 pub mod Traffic
+pub mod Underway
+pub mod Engine
+pub mod Faults
+pub mod Program

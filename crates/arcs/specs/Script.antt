@@ -30,8 +30,8 @@ pub record AreLines (input : List ℕ) (lines : List (List ℕ)) : Type 0 where
   pub are : lines ≡ whole ++ last_line rest
 
 -- a byte window may be cut anywhere, and its layout has static data
-abbrev pub bytes : Setting ℕ
-bytes = record { has_static = true; boundary = λ items at. true }
+abbrev pub byte_setting : Setting ℕ
+byte_setting = record { has_static = true; boundary = λ items at. true }
 
 -- the script's tables: no window has metadata
 abbrev pub ByteTable : Type 0
@@ -43,7 +43,7 @@ IsBad line = (c : Command (List ℕ)) → ¬ Says line c
 
 -- what a line is answered: one step of the command that it says, or None where it says none and nothing changes
 abbrev pub Answers : ByteTable → List ℕ → Option (Reply (List ℕ)) → ByteTable → Type 0
-Answers old line (Some reply) new = (c : Command (List ℕ)) × Says line c × Step bytes old c reply new
+Answers old line (Some reply) new = (c : Command (List ℕ)) × Says line c × Step byte_setting old c reply new
 Answers old line None new = IsBad line × (new ≡ old)
 
 abbrev pub answer_text : Option (Reply (List ℕ)) → List ℕ

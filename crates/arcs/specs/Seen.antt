@@ -1,7 +1,9 @@
 -- Commands and replies whose items lie in vectors, as the texts see them.
-use Rattle.std.specs.Prelude.{ℕ, List}
+use Rattle.std.specs.Prelude.{ℕ, List, Option, MatchOption}
 use Rattle.std.specs.declared.vec.Vec.{Vec}
 use Rattle.std.specs.Vec.{vec_items}
+use Rattle.arcs.specs.Text.{Says}
+use Rattle.arcs.specs.Script.{IsBad}
 use Rattle.arcs.specs.declared.command.Command.{Command}
 use Rattle.arcs.specs.declared.command.Command.TheVariants.{Slice, Sub, Show, Drop}
 use Rattle.arcs.specs.declared.command.Reply.{Reply}
@@ -29,3 +31,7 @@ seen_command c = map_command vec_items c
 
 abbrev pub seen_reply : {A : Type 0} → Reply (Vec ℕ A) → Reply (List ℕ)
 seen_reply r = map_reply vec_items r
+
+-- the line says this command, or is bad
+abbrev pub IsReadAs : {A : Type 0} → List ℕ → Option (Command (Vec ℕ A)) → Type 0
+IsReadAs line said = MatchOption said (IsBad line) (λ c. Says line (seen_command c))

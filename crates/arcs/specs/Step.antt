@@ -4,6 +4,7 @@ use Rattle.std.specs.Option.{option_map_or}
 use Rattle.arc_owners.specs.declared.error.RangeError.{RangeError}
 use Rattle.arc_owners.specs.declared.error.OwnerError.TheVariants.{CountFull}
 use Rattle.arc_buffer.specs.Slice.{IsRange, sub, range_answer}
+use Rattle.arc_block.specs.Block.{native_facts}
 use Rattle.arc_block.specs.Place.{Place, nowhere, static_data, on_block, IsOnBlock, made_place, part_place}
 use Rattle.arc_block.specs.Table.{Row, Table, reader, row_at}
 use Rattle.arcs.specs.RunOf.{RunOf}
@@ -34,7 +35,7 @@ blocks_after blocks (on_block block offset facts) = blocks + 1
 
 -- a window over a copy of the items
 abbrev pub made : {T M : Type 0} → Setting T → Table T M → List T → Outcome T M
-made setting t items = let place = made_place setting.has_static t.blocks items in with_window t items place (blocks_after t.blocks place)
+made setting t items = let place = made_place setting.has_static t.blocks (native_facts (length items)) items in with_window t items place (blocks_after t.blocks place)
 
 -- a window over a part of a row
 abbrev pub cut : {T M : Type 0} → Setting T → Table T M → Row T M → ℕ → ℕ → Outcome T M

@@ -27,3 +27,18 @@ pub record Exchanges (fits : List ℕ → List ℕ → Type 0) (reader reader' w
   pub given : reader'.bytes ≡ reader.bytes ++ input
   pub taken : writer'.bytes ≡ writer.bytes ++ text
   pub fit : fits input text
+
+-- how many of a writer's calls failed or took nothing
+abbrev pub faults : Traffic → ℕ
+faults t = t.failures + t.empties
+
+-- a writer's calls went well from one moment to the other
+abbrev pub NoFault : Traffic → Traffic → Type 0
+NoFault old new = (new.failures ≡ old.failures) × (new.empties ≡ old.empties)
+
+-- a writer took some of the bytes from their front, and nothing else
+pub record TakesFront (bytes : List ℕ) (old new : Traffic) : Type 0 where
+  pub sent : List ℕ
+  pub rest : List ℕ
+  pub parts : bytes ≡ sent ++ rest
+  pub taken : new.bytes ≡ old.bytes ++ sent

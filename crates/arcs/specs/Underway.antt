@@ -45,4 +45,4 @@ pub record IsBegun (start input : List ℕ) (writer : Traffic) : Type 0 where
 pub record Ends (held : List ℕ) (too_long : Bool) (old new : ByteTable) (out out' : List ℕ) : Type 0 where
   pub answer : Option (Reply (List ℕ))
   pub answered : (line : List ℕ) → Holds held too_long line → Answers old line answer new
-  pub appended : out' ≡ out ++ answer_text answer ++ line_feed ∷ []
+  pub appended : out' ≡ out ++ (answer_text answer ++ line_feed ∷ [])

@@ -5,27 +5,31 @@ mod command;
 mod device;
 mod log;
 mod parse;
+mod program;
+mod script;
 mod text;
 mod windows;
 
-pub fn probe(rt: &(impl std::sync::Wait + AllocGlobal)) -> command::Reply<Vec<u8>> {
-    let mut w = windows::Windows::new(rt.alloc());
-    w.step(rt, command::Command::Show { window: 0 })
-}
+use device::{Counted, Sink};
+use std::process::ExitCode;
 
-fn main() {}
-
-pub fn probe2(r: &mut device::Counted<std::io::Stdin>, w: &mut device::Counted<std::io::Stdout>) {
-    let mut b = [0u8; 4];
-    let _ = device::Source::read(r, &mut b);
-    let _ = device::Sink::write(w, &b);
-}
-
-pub fn probe3(
-    rt: &(impl std::sync::Wait + AllocGlobal),
-    line: &[u8],
-) -> Result<Option<command::Command<Vec<u8>>>, arc_owners::error::AllocError> {
-    let mut out = Vec::new(rt.alloc());
-    text::push_answer(&mut out, &None)?;
-    parse::parse(rt.alloc(), line)
+fn main(rt: HostRuntime) -> ExitCode {
+    let mut reader = Counted::new(rt.stdin());
+    let mut writer = Counted::new(rt.stdout());
+    let mut faults = Counted::new(rt.stderr());
+    let status = match program::words(&rt) {
+        Ok(words) => program::run_args(
+            &rt,
+            rt.alloc(),
+            &words,
+            &mut reader,
+            &mut writer,
+            &mut faults,
+        ),
+        Err(_) => {
+            let _ = faults.write(b"allocation error\n");
+            1
+        }
+    };
+    ExitCode::from(status)
 }

@@ -77,6 +77,7 @@ fn number_in(word: &[u8]) -> Option<usize>
     if word.is_empty() || word.len() > MOST_DIGITS {
         return None;
     }
+    // A number has one form, so a first 0 stands alone.
     if word[0] == b'0' && word.len() > 1 {
         return None;
     }
@@ -99,12 +100,14 @@ fn number(rest: Rest) -> Result<(usize, Rest), Unread>
     Ok((number, rest))
 }
 
+/// Whether a byte is a hex digit. Only lower case is.
 fn is_digit(byte: u8) -> bool
     ensures { result ≡ is_hex_digit byte }
 {
     matches!(byte, b'0'..=b'9' | b'a'..=b'f')
 }
 
+/// Whether each byte is a hex digit.
 fn are_digits(word: &[u8]) -> bool
     ensures { result ≡ list_all is_hex_digit word.now }
 {
@@ -146,7 +149,7 @@ fn items(rest: Rest) -> Result<(Hex, Rest), Unread>
 }
 
 /// Nothing is left.
-fn ended(rest: Rest) -> Result<(), Unread>
+fn nothing_left(rest: Rest) -> Result<(), Unread>
     ensures { Reads (λ x. x) Never result (only (words_in rest.entry) tt) }
 {
     match rest {
@@ -174,7 +177,7 @@ fn slice<A: Allocator>(alloc: A, rest: Rest) -> Result<Command<Vec<u8, A>>, Unre
     ensures { Reads seen_command BringsItems result (slice_of (words_in rest.entry)) }
 {
     let (hex, rest) = items(rest)?;
-    ended(rest)?;
+    nothing_left(rest)?;
     Ok(Command::Slice(decoded(alloc, hex)?))
 }
 
@@ -186,7 +189,7 @@ fn sub<A: Allocator>(rest: Rest) -> Result<Command<Vec<u8, A>>, Unread>
     let (window, rest) = number(rest)?;
     let (start, rest) = number(rest)?;
     let (end, rest) = number(rest)?;
-    ended(rest)?;
+    nothing_left(rest)?;
     Ok(Command::Sub { window, start, end })
 }
 
@@ -196,7 +199,7 @@ fn show<A: Allocator>(rest: Rest) -> Result<Command<Vec<u8, A>>, Unread>
     ensures { Reads seen_command BringsItems result (show_of (words_in rest.entry)) }
 {
     let (window, rest) = number(rest)?;
-    ended(rest)?;
+    nothing_left(rest)?;
     Ok(Command::Show { window })
 }
 
@@ -206,10 +209,11 @@ fn drop<A: Allocator>(rest: Rest) -> Result<Command<Vec<u8, A>>, Unread>
     ensures { Reads seen_command BringsItems result (drop_of (words_in rest.entry)) }
 {
     let (window, rest) = number(rest)?;
-    ended(rest)?;
+    nothing_left(rest)?;
     Ok(Command::Drop { window })
 }
 
+/// The command that the words of a line say.
 #[tactic(auto, unfolding(crate::specs::Reading::command_of))]
 fn command<A: Allocator>(alloc: A, line: &[u8]) -> Result<Command<Vec<u8, A>>, Unread>
     ensures { Reads seen_command BringsItems result (command_of (words_of_line line.now)) }
@@ -224,9 +228,9 @@ fn command<A: Allocator>(alloc: A, line: &[u8]) -> Result<Command<Vec<u8, A>>, U
     }
 }
 
-/// The command that a line says, or `None` where it says none. Only the items of a command take memory, in one
-/// block of their length: a refusal is an `Err`, and no line that is bad asks for any. `Says` and `IsBad` are the
-/// definitions.
+/// The command that a line says, or `None` where it says none (`Says` and `IsBad` in `specs/`). A line of more than
+/// `LONGEST_LINE` bytes says none. Takes memory for the items of a command alone, once, for their number of bytes.
+/// `Err` where that memory is refused: the line then says a command that brings items.
 pub fn parse<A: Allocator + Copy>(
     alloc: A,
     line: &[u8],
@@ -244,7 +248,7 @@ pub fn parse<A: Allocator + Copy>(
     }
 }
 
-/// No line says two commands.
+/// No line says two commands. Does nothing: its contract is the law.
 pub fn one_command()
     ensures { (line : List ℕ) (c d : Command (List ℕ)) → Says line c → Says line d → c ≡ d }
 {}

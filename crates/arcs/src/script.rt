@@ -1,10 +1,13 @@
 //! Running a script: lines from a reader, replies to a writer.
-ghost use Rattle.std.specs.Prelude.{◌≡◌, ◌<◌, ◌≤◌, ◌++◌, ◌∷◌, List, ℕ, [], false, length, take, drop, OnOk, OnErr, IfErr, vec_len, Contains};
+ghost use Rattle.std.specs.Prelude.{◌≡◌, ◌<◌, ◌≤◌, ◌+◌, ◌++◌, ◌∷◌, List, ℕ, [], false, length, take, drop, OnOk, OnErr, IfOk, IfErr, IfSome, MatchOption, vec_len};
 ghost use Rattle.arcs.specs.Text.{line_feed};
-ghost use Rattle.arcs.specs.Traffic.{NoFault, TakesFront, faults};
+ghost use Rattle.arcs.specs.Script.{AreLines, BeginsReplyText, HasNoFeed, IsReplyText};
+ghost use Rattle.arcs.specs.Traffic.{Exchanges, NoFault, TakesFront, Traffic, faults};
+ghost use Rattle.arcs.specs.Faults.{IsCause, IsWhy};
 ghost use Rattle.arcs.specs.declared.parse.TheConstants.{LONGEST_LINE};
 ghost use Rattle.arcs.specs.declared.script.ScriptError.TheVariants as script_error;
 
+use crate::command::Command;
 use crate::device::{Sink, Source};
 use crate::parse::{LONGEST_LINE, parse};
 use crate::text::push_answer;
@@ -37,6 +40,13 @@ impl From<AllocError> for ScriptError {
     fn from(_: AllocError) -> Self {
         ScriptError::Alloc
     }
+}
+
+/// The layouts under which a script may be run.
+#[derive(Clone, Copy, Debug, PartialEq, Eq)]
+pub enum ScriptLayout {
+    /// `ArcLayout<true, true>`.
+    Arc,
 }
 
 /// Writes the bytes, in as many calls as it takes.
@@ -72,8 +82,10 @@ impl<A: Allocator + Copy> Engine<A> {
     ghost use Rattle.std.specs.Prelude.{◌≡◌};
     ghost use Rattle.arc_block.specs.Table.{empty_table};
     ghost use Rattle.arcs.specs.Rows.{table_of};
+    ghost use Rattle.arcs.specs.Seen.{IsReadAs};
+    ghost use Rattle.arcs.specs.Underway.{Holds, Ends, IsAnswered, IsBegun};
     ghost use Rattle.arcs.specs.Script.{HasNoFeed};
-    ghost use Rattle.arcs.specs.Underway.{Holds, Ends};
+    ghost use Rattle.arcs.specs.Engine.{HasRead, IsRunning, Reads, Stops};
 
     fn new(alloc: A) -> Self
         ensures windows { table_of result.windows ≡ empty_table }
@@ -104,24 +116,184 @@ impl<A: Allocator + Copy> Engine<A> {
         Ok(())
     }
 
+    /// Reads the line that has come.
+    fn read_line(&self) -> Result<Option<Command<Vec<u8, A>>>, AllocError>
+        ensures { IfOk result (λ said. (line : List ℕ) → Holds self.now.line.items self.now.too_long line → IsReadAs line said) }
+    {
+        if self.too_long {
+            return Ok(None);
+        }
+        parse(self.alloc, &self.line)
+    }
+
     /// Answers the line that has come.
     fn end_line(&mut self, rt: &impl Wait) -> Result<(), AllocError>
         ensures ok { OnOk result (Ends self.old.line.items self.old.too_long (table_of self.old.windows) (table_of self.new.windows) self.old.out.items self.new.out.items) }
         ensures line { OnOk result ((self.new.line.items ≡ []) × (self.new.too_long ≡ false)) }
         ensures err { OnErr result (self.new.out.items ≡ self.old.out.items) }
     {
-        let said = if self.too_long {
-            None
-        } else {
-            parse(self.alloc, &self.line)?
-        };
-        let answer = match said {
-            Some(command) => Some(self.windows.step(rt, command)),
-            None => None,
-        };
+        let said = self.read_line()?;
+        let answer = self.windows.answer(rt, said);
         push_answer(&mut self.out, &answer)?;
         self.line.clear();
         self.too_long = false;
         Ok(())
     }
+
+    /// Writes the replies that are held.
+    fn flush<W: Sink>(&mut self, writer: &mut W) -> Result<(), ScriptError>
+        ensures ok { OnOk result (((W.traffic writer.new).bytes ≡ (W.traffic writer.old).bytes ++ self.old.out.items) × (self.new.out.items ≡ [])) }
+        ensures windows { table_of self.new.windows ≡ table_of self.old.windows }
+        ensures line { (self.new.line.items ≡ self.old.line.items) × (self.new.too_long ≡ self.old.too_long) }
+        ensures clean { OnOk result (NoFault (W.traffic writer.old) (W.traffic writer.new)) }
+        ensures err { OnErr result (TakesFront self.old.out.items (W.traffic writer.old) (W.traffic writer.new)) }
+        ensures fault { IfErr result (IsWhy (W.traffic writer.old) (W.traffic writer.new)) }
+    {
+        write_out(writer, &self.out)?;
+        self.out.clear();
+        Ok(())
+    }
+
+    /// Takes the end of a line and its line feed, and answers the line. Replies go out where many are held.
+    fn take_line<W: Sink>(
+        &mut self,
+        rt: &impl Wait,
+        writer: &mut W,
+        bytes: &[u8],
+    ) -> Result<(), ScriptError>
+        requires { HasNoFeed bytes.now }
+        ensures ok { OnOk result (Reads (bytes.now ++ line_feed ∷ []) (W.traffic writer.old) (W.traffic writer.new) self.old self.new) }
+        ensures clean { OnOk result (NoFault (W.traffic writer.old) (W.traffic writer.new)) }
+        ensures err { OnErr result (Stops (bytes.now ++ line_feed ∷ []) (W.traffic writer.old) (W.traffic writer.new) self.old) }
+        ensures fault { IfErr result (IsWhy (W.traffic writer.old) (W.traffic writer.new)) }
+    {
+        self.hold(bytes)?;
+        self.end_line(rt)?;
+        if self.out.len() >= PIECE {
+            self.flush(writer)?;
+        }
+        Ok(())
+    }
+
+    /// Takes a piece of the input.
+    fn feed<W: Sink>(
+        &mut self,
+        rt: &impl Wait,
+        writer: &mut W,
+        piece: &[u8],
+    ) -> Result<(), ScriptError>
+        ensures ok { OnOk result (Reads piece.now (W.traffic writer.old) (W.traffic writer.new) self.old self.new) }
+        ensures clean { OnOk result (NoFault (W.traffic writer.old) (W.traffic writer.new)) }
+        ensures err { OnErr result (Stops piece.now (W.traffic writer.old) (W.traffic writer.new) self.old) }
+        ensures fault { IfErr result (IsWhy (W.traffic writer.old) (W.traffic writer.new)) }
+    {
+        let mut rest = piece;
+        'lines: while let Some((line, behind)) = first_line(rest) {
+            self.take_line(rt, writer, line)?;
+            rest = behind;
+        }
+        self.hold(rest)?;
+        Ok(())
+    }
+
+    /// Reads a piece of the input, answers its lines and writes their replies. `false` at the end of the input.
+    fn take_piece<R: Source, W: Sink>(
+        &mut self,
+        rt: &impl Wait,
+        reader: &mut R,
+        writer: &mut W,
+        piece: &mut [u8],
+    ) -> Result<bool, ScriptError>
+        requires { 0 < length piece.old }
+        ensures ok { OnOk result ((r w : Traffic) → IsRunning r (R.traffic reader.old) w (W.traffic writer.old) self.old → IsRunning r (R.traffic reader.new) w (W.traffic writer.new) self.new) }
+        ensures end { IfOk result (λ more. more ≡ false → (R.traffic reader.old).empties < (R.traffic reader.new).empties) }
+        ensures empties { (R.traffic reader.old).empties ≤ (R.traffic reader.new).empties }
+        ensures begun { OnErr result ((r w : Traffic) → IsRunning r (R.traffic reader.old) w (W.traffic writer.old) self.old → Exchanges BeginsReplyText r (R.traffic reader.new) w (W.traffic writer.new)) }
+        ensures fault { IfErr result (IsCause (R.traffic reader.old) (R.traffic reader.new) (W.traffic writer.old) (W.traffic writer.new)) }
+    {
+        let Ok(read) = reader.read(piece) else {
+            return Err(ScriptError::Read);
+        };
+        if read == 0 {
+            return Ok(false);
+        }
+        self.feed(rt, writer, &piece[..read])?;
+        self.flush(writer)?;
+        Ok(true)
+    }
+
+    /// Answers what stands behind the last line feed, unless it is empty.
+    fn answer_rest(&mut self, rt: &impl Wait) -> Result<(), AllocError>
+        ensures ok { OnOk result ((start input : List ℕ) (writer : Traffic) → HasRead start input writer self.old → IsAnswered start input writer self.new.out.items) }
+    {
+        if !self.too_long && self.line.is_empty() {
+            return Ok(());
+        }
+        self.end_line(rt)?;
+        Ok(())
+    }
+
+    /// Answers what stands behind the last line feed, unless it is empty, and writes what is held.
+    fn finish<W: Sink>(&mut self, rt: &impl Wait, writer: &mut W) -> Result<(), ScriptError>
+        ensures ok { OnOk result ((start input : List ℕ) → HasRead start input (W.traffic writer.old) self.old → IsAnswered start input (W.traffic writer.new) []) }
+        ensures clean { OnOk result (NoFault (W.traffic writer.old) (W.traffic writer.new)) }
+        ensures err { OnErr result ((start input : List ℕ) → HasRead start input (W.traffic writer.old) self.old → IsBegun start input (W.traffic writer.new)) }
+        ensures fault { IfErr result (IsWhy (W.traffic writer.old) (W.traffic writer.new)) }
+    {
+        self.answer_rest(rt)?;
+        self.flush(writer)?;
+        Ok(())
+    }
 }
+
+/// The bytes before the first line feed, and those behind it.
+fn first_line(bytes: &[u8]) -> Option<(&[u8], &[u8])>
+    ensures { MatchOption result (HasNoFeed bytes.now) (λ parts. HasNoFeed parts.0.now × (bytes.now ≡ parts.0.now ++ line_feed ∷ parts.1.now)) }
+{
+    let end = bytes.iter().position(|byte| *byte == b'\n')?;
+    Some((&bytes[..end], &bytes[end + 1..]))
+}
+
+/// Room for a piece of the input.
+fn room<A: Allocator>(alloc: A) -> Result<Vec<u8, A>, AllocError>
+    ensures { IfOk result (λ piece. vec_len piece ≡ PIECE) }
+{
+    Ok(vec![in alloc; 0u8; PIECE]?)
+}
+
+/// Runs a script: each line of the input is answered by one line of the output, and the windows go with the run.
+///
+/// It reads in pieces of at most 65,536 bytes, holds no more of a line than 65,536 bytes, and writes the replies when a
+/// piece is done and whenever 65,536 bytes of them are held. `Read` where a read failed, `Write` where a write failed or
+/// took nothing, `Alloc` where memory was refused for a line, for its items or for replies that are held; what was written
+/// is then a beginning of the replies. Each window is released at the end and on every fault.
+pub fn run_script<R: Source, W: Sink, A: Allocator + Copy>(
+    rt: &impl Wait,
+    alloc: A,
+    reader: &mut R,
+    writer: &mut W,
+    layout: ScriptLayout,
+) -> Result<(), ScriptError>
+    ensures ok { OnOk result (Exchanges IsReplyText (R.traffic reader.old) (R.traffic reader.new) (W.traffic writer.old) (W.traffic writer.new)) }
+    ensures end { OnOk result ((R.traffic reader.old).empties < (R.traffic reader.new).empties) }
+    ensures clean { OnOk result (((R.traffic reader.new).failures ≡ (R.traffic reader.old).failures) × NoFault (W.traffic writer.old) (W.traffic writer.new)) }
+
+    ensures begun { OnErr result (Exchanges BeginsReplyText (R.traffic reader.old) (R.traffic reader.new) (W.traffic writer.old) (W.traffic writer.new)) }
+    ensures fault { IfErr result (IsCause (R.traffic reader.old) (R.traffic reader.new) (W.traffic writer.old) (W.traffic writer.new)) }
+{
+    let ScriptLayout::Arc = layout;
+    let mut piece = room(alloc)?;
+    let mut engine = Engine::new(alloc);
+    'pieces: for _ in rt.forever() {
+        if !engine.take_piece(rt, reader, writer, &mut piece)? {
+            return engine.finish(rt, writer);
+        }
+    }
+    unreachable!()
+}
+
+/// Each input has replies, and is cut into lines in one way.
+pub fn every_input_is_answered()
+    ensures answered { (input : List ℕ) → (text : List ℕ) × IsReplyText input text }
+    ensures lines { (input : List ℕ) (lines others : List (List ℕ)) → AreLines input lines → AreLines input others → lines ≡ others }
+{}

@@ -41,6 +41,7 @@ fn owner_words(error: OwnerError) -> &'static [u8]
     }
 }
 
+/// Appends a number in decimal.
 fn push_number<A: Allocator>(out: &mut Vec<u8, A>, number: usize) -> Result<(), AllocError>
     ensures ok { OnOk result (out.new.items ≡ out.old.items ++ decimal number) }
     ensures err { OnErr result (Extends out.old.items out.new.items) }
@@ -52,6 +53,7 @@ fn push_number<A: Allocator>(out: &mut Vec<u8, A>, number: usize) -> Result<(), 
     Ok(())
 }
 
+/// Appends two hex digits an item.
 fn push_hex<A: Allocator>(out: &mut Vec<u8, A>, items: &[u8]) -> Result<(), AllocError>
     ensures ok { OnOk result (out.new.items ≡ out.old.items ++ hex items.now) }
     ensures err { OnErr result (Extends out.old.items out.new.items) }
@@ -62,6 +64,7 @@ fn push_hex<A: Allocator>(out: &mut Vec<u8, A>, items: &[u8]) -> Result<(), Allo
     Ok(())
 }
 
+/// Appends items as a word: a dash where there are none.
 fn push_items<A: Allocator>(out: &mut Vec<u8, A>, items: &[u8]) -> Result<(), AllocError>
     ensures ok { OnOk result (out.new.items ≡ out.old.items ++ items_word items.now) }
     ensures err { OnErr result (Extends out.old.items out.new.items) }
@@ -73,6 +76,7 @@ fn push_items<A: Allocator>(out: &mut Vec<u8, A>, items: &[u8]) -> Result<(), Al
     push_hex(out, items)
 }
 
+/// Appends the text of a reply. An `Err` may leave a part of it.
 fn push_reply<A: Allocator>(
     out: &mut Vec<u8, A>,
     reply: &Reply<Vec<u8, A>>,
@@ -95,6 +99,7 @@ fn push_reply<A: Allocator>(
     Ok(())
 }
 
+/// Appends what a line is answered. An `Err` may leave a part of it.
 fn push_line<A: Allocator>(
     out: &mut Vec<u8, A>,
     answer: &Option<Reply<Vec<u8, A>>>,
@@ -110,9 +115,9 @@ fn push_line<A: Allocator>(
     Ok(())
 }
 
-/// Appends what a line is answered, with its line feed: the text of the reply, or `bad line` for `None`. Takes memory
-/// where `out` has no room: a refusal is an `Err`, and leaves `out` with the bytes that it had. `answer_text` is the
-/// definition.
+/// Appends what a line is answered, with its line feed: the text of the reply, or `bad line` for `None` (`answer_text`
+/// in `specs/`). Items take two bytes each. Takes memory where `out` has no room: `Err` where that is refused, and
+/// `out` then has the bytes that it had.
 pub fn push_answer<A: Allocator>(
     out: &mut Vec<u8, A>,
     answer: &Option<Reply<Vec<u8, A>>>,

@@ -25,11 +25,12 @@ pub struct Windows<A: Allocator> {
 }
 
 impl<A: Allocator + Copy> Windows<A> {
-    ghost use Rattle.std.specs.Prelude.{◌≡◌, Some, None, MatchOption};
+    ghost use Rattle.std.specs.Prelude.{◌≡◌, ℕ, List, Some, None, MatchOption};
+    ghost use Rattle.std.specs.Option.{option_map};
     ghost use Rattle.arc_block.specs.Table.{empty_table, row_at};
     ghost use Rattle.arcs.specs.Step.{Step};
-    ghost use Rattle.arcs.specs.Script.{bytes};
-    ghost use Rattle.arcs.specs.Seen.{seen_command, seen_reply};
+    ghost use Rattle.arcs.specs.Script.{Answers, byte_setting};
+    ghost use Rattle.arcs.specs.Seen.{IsReadAs, seen_command, seen_reply};
     ghost use Rattle.arcs.specs.Rows.{row_of, table_of};
     ghost use Rattle.arcs.specs.declared.command.Command.TheVariants as command;
 
@@ -49,13 +50,27 @@ impl<A: Allocator + Copy> Windows<A> {
     /// Takes memory for a window more, for what a window is made of and for what is shown; refused, the answer is
     /// `Alloc`.
     pub fn step(&mut self, rt: &impl Wait, command: Command<Vec<u8, A>>) -> Reply<Vec<u8, A>>
-        ensures { Step bytes (table_of self.old) (seen_command command) (seen_reply result) (table_of self.new) }
+        ensures { Step byte_setting (table_of self.old) (seen_command command) (seen_reply result) (table_of self.new) }
     {
         match command {
             Command::Slice(items) => self.slice(items),
             Command::Sub { window, start, end } => self.sub(rt, window, start, end),
             Command::Show { window } => self.show(window),
             Command::Drop { window } => self.release(window),
+        }
+    }
+
+    /// Answers a line that was read: the command that it says is carried out, and a line that says none changes nothing.
+    pub fn answer(
+        &mut self,
+        rt: &impl Wait,
+        said: Option<Command<Vec<u8, A>>>,
+    ) -> Option<Reply<Vec<u8, A>>>
+        ensures { (line : List ℕ) → IsReadAs line said → Answers (table_of self.old) line (option_map seen_reply result) (table_of self.new) }
+    {
+        match said {
+            Some(command) => Some(self.step(rt, command)),
+            None => None,
         }
     }
 
@@ -68,7 +83,7 @@ impl<A: Allocator + Copy> Windows<A> {
 
     /// A window over a copy of the items.
     fn slice(&mut self, items: Vec<u8, A>) -> Reply<Vec<u8, A>>
-        ensures { Step bytes (table_of self.old) (command.Slice items.items) (seen_reply result) (table_of self.new) }
+        ensures { Step byte_setting (table_of self.old) (command.Slice items.items) (seen_reply result) (table_of self.new) }
     {
         if self.entries.reserve(1).is_err() {
             return Reply::Alloc;
@@ -87,7 +102,7 @@ impl<A: Allocator + Copy> Windows<A> {
 
     /// A window over the part from `start` to `end` of another.
     fn sub(&mut self, rt: &impl Wait, i: usize, start: usize, end: usize) -> Reply<Vec<u8, A>>
-        ensures { Step bytes (table_of self.old) (command.Sub i start end) (seen_reply result) (table_of self.new) }
+        ensures { Step byte_setting (table_of self.old) (command.Sub i start end) (seen_reply result) (table_of self.new) }
     {
         let Some(entry) = self.entry(i) else {
             return Reply::NoWindow;
@@ -114,7 +129,7 @@ impl<A: Allocator + Copy> Windows<A> {
 
     /// The items of a window.
     fn show(&self, i: usize) -> Reply<Vec<u8, A>>
-        ensures { Step bytes (table_of self.now) (command.Show i) (seen_reply result) (table_of self.now) }
+        ensures { Step byte_setting (table_of self.now) (command.Show i) (seen_reply result) (table_of self.now) }
     {
         let Some(entry) = self.entry(i) else {
             return Reply::NoWindow;
@@ -127,7 +142,7 @@ impl<A: Allocator + Copy> Windows<A> {
 
     /// The end of a window.
     fn release(&mut self, i: usize) -> Reply<Vec<u8, A>>
-        ensures { Step bytes (table_of self.old) (command.Drop i) (seen_reply result) (table_of self.new) }
+        ensures { Step byte_setting (table_of self.old) (command.Drop i) (seen_reply result) (table_of self.new) }
     {
         if self.entry(i).is_none() {
             return Reply::NoWindow;

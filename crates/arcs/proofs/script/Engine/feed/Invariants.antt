@@ -1,0 +1,16 @@
+use Rattle.std.proofs.Common.{◌≡◌, List, ℕ, ◌++◌, length}
+use Rattle.arcs.specs.Traffic.{NoFault}
+use Rattle.arcs.specs.Engine.{Reads}
+use Rattle.arcs.proofs.script.Engine.feed.Given as goal
+
+-- a front of the piece was read, and the rest is left
+abbrev pub invariant-lines : goal.invariant-lines
+invariant-lines g l =
+    let told = g.W.Sink.traffic in
+    record {
+      front : (front : List ℕ) × (l.piece ≡ front ++ l.rest) × Reads front (told l.fn.writer) (told l.writer) l.fn.self l.self;
+      clean : NoFault (told l.fn.writer) (told l.writer);
+    }
+
+abbrev pub decreases-lines : goal.decreases-lines
+decreases-lines g l = length l.rest

@@ -1,0 +1,41 @@
+-- Pieces are taken one after another; at the end of the input the engine finishes.
+use Rattle.std.proofs.Common.{◌∙◌, arith}
+use Rattle.arcs.proofs.Going.{on_err, on_ok_then, on_err_then, if_err_then, run_begins, nothing_exchanged, exchange_answered, exchange_begun, why_is_cause}
+use Rattle.arcs.proofs.script.run_script.Goals as goal
+
+pub returns-in_err-piece-clause-begun : goal.returns-in_err-piece-clause-begun
+returns-in_err-piece-clause-begun g c = on_err c.from_residual.result (nothing_exchanged _ _)
+
+pub pieces-init : goal.pieces-init
+pieces-init g c = record {
+  running = run_begins _ _ c.new-engine.result c.new-engine.ensures.windows c.new-engine.ensures.line c.new-engine.ensures.out;
+  empties = omega arith;
+  room = c.in_ok-piece.ensures;
+}
+
+pub returns-then-not-branch-clause-ok : goal.returns-then-not-branch-clause-ok
+returns-then-not-branch-clause-ok g c =
+    let run = c.in_ok-take_piece.ensures.ok _ _ c.pieces.invariant.running in
+    on_ok_then c.finish.result c.finish.ensures.ok (λ h. exchange_answered _ _ (g.W.Sink.traffic c.args.writer.now) _ run.input run.given (h (g.W.Sink.traffic c.args.writer.now).bytes run.input run.read))
+
+pub returns-then-not-branch-clause-clean : goal.returns-then-not-branch-clause-clean
+returns-then-not-branch-clause-clean g c =
+    let run = c.in_ok-take_piece.ensures.ok _ _ c.pieces.invariant.running in
+    on_ok_then c.finish.result c.finish.ensures.clean (λ h. (run.failures, (h.0 ∙ run.clean.0, h.1 ∙ run.clean.1)))
+
+pub returns-then-not-branch-clause-begun : goal.returns-then-not-branch-clause-begun
+returns-then-not-branch-clause-begun g c =
+    let run = c.in_ok-take_piece.ensures.ok _ _ c.pieces.invariant.running in
+    on_err_then c.finish.result c.finish.ensures.err (λ h. exchange_begun _ _ (g.W.Sink.traffic c.args.writer.now) _ run.input run.given (h (g.W.Sink.traffic c.args.writer.now).bytes run.input run.read))
+
+pub returns-then-not-branch-clause-fault : goal.returns-then-not-branch-clause-fault
+returns-then-not-branch-clause-fault g c =
+    let run = c.in_ok-take_piece.ensures.ok _ _ c.pieces.invariant.running in
+    if_err_then c.finish.result c.finish.ensures.fault (why_is_cause (g.R.Source.traffic c.args.reader.now) (g.R.Source.traffic c.take_piece.new.reader) (g.W.Sink.traffic c.args.writer.now) (g.W.Sink.traffic c.take_piece.new.writer) (g.W.Sink.traffic c.finish.new.writer) run.failures run.clean)
+
+pub pieces-preserved : goal.pieces-preserved
+pieces-preserved g c = record {
+  running = c.in_ok-take_piece.ensures.ok _ _ c.pieces.invariant.running;
+  empties = omega (arith, c.pieces.invariant.empties, c.in_ok-take_piece.ensures.empties);
+  room = c.pieces.invariant.room;
+}

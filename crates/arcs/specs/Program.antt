@@ -1,0 +1,37 @@
+-- What the program does with its words.
+use Rattle.std.specs.Prelude.{◌≡◌, ◌<◌, ℕ, List, [], ◌∷◌, map, Result, Ok, Err, MatchResult, String, string_bytes, codes}
+use Rattle.std.specs.declared.alloc.Global.{Global}
+use Rattle.arcs.specs.Script.{IsReplyText, BeginsReplyText}
+use Rattle.arcs.specs.Traffic.{Traffic, Exchanges, NoFault}
+use Rattle.arcs.specs.Faults.{IsCause}
+use Rattle.arcs.specs.declared.script.ScriptError.{ScriptError}
+use Rattle.arcs.specs.declared.script.ScriptError.TheVariants.{Read, Write, Alloc}
+
+-- the words are the one word `arc`
+abbrev pub IsArc : List (String Global) → Type 0
+IsArc words = map string_bytes words ≡ codes "arc" ∷ []
+
+-- the status of a run
+abbrev pub status_of : Result (Unit {0}) ScriptError → ℕ
+status_of (Ok done) = 0
+status_of (Err Alloc) = 1
+status_of (Err Read) = 3
+status_of (Err Write) = 4
+
+-- a run to the end of the input
+pub record IsWhole (reader reader' writer writer' : Traffic) : Type 0 where
+  pub text : Exchanges IsReplyText reader reader' writer writer'
+  pub end : reader.empties < reader'.empties
+  pub failures : reader'.failures ≡ reader.failures
+  pub clean : NoFault writer writer'
+
+-- a run that was given up
+pub record IsCut (reader reader' writer writer' : Traffic) (error : ScriptError) : Type 0 where
+  pub text : Exchanges BeginsReplyText reader reader' writer writer'
+  pub cause : IsCause reader reader' writer writer' error
+
+-- a run of the script, and its status
+pub record IsRun (reader reader' writer writer' : Traffic) (status : ℕ) : Type 0 where
+  pub outcome : Result (Unit {0}) ScriptError
+  pub told : status ≡ status_of outcome
+  pub run : MatchResult outcome (λ done. IsWhole reader reader' writer writer') (IsCut reader reader' writer writer')
