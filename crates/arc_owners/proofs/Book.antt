@@ -9,3 +9,4 @@ pub mod Shared
 pub mod Places
 pub mod Begins
 pub mod Fields
+pub mod Ends

@@ -5,3 +5,4 @@ pub mod Worlds
 pub mod Laws
 pub mod Book
 pub mod Traces
+pub mod Releases

@@ -1,9 +1,11 @@
 -- What a step says of an owner's right and of the pass that makes it.
-use Rattle.std.specs.Prelude.{◌≡◌, ℕ, ◌+◌, ◌-◌, ◌^◌, ◌<◌, Bool, true, false, List}
+use Rattle.std.specs.Prelude.{◌≡◌, ℕ, ◌+◌, ◌-◌, ◌^◌, ◌<◌, Bool, true, false, List, IsTrue, ◌↔◌}
 use Rattle.arc_owners.specs.declared.owners.entry.Entry.{Entry}
+use Rattle.arc_owners.specs.declared.owners.entry.Entry.TheVariants.{Down}
+use Rattle.arc_owners.specs.Histories.{LivesAlone}
 use Rattle.arc_owners.specs.declared.owners.word.Right.{Right}
 use Rattle.arc_owners.specs.declared.owners.word.Trace.{Trace}
-use Rattle.arc_owners.specs.Book.{Names, Line, Written, Filled, MadeOne, Lowered}
+use Rattle.arc_owners.specs.Book.{Names, Line, Written, Filled, MadeOne, Lowered, AddedTo, entries_of}
 
 -- the right is held, by an owner of this block
 abbrev pub IsHeld : Names → Right → Type 0
@@ -35,3 +37,7 @@ Ended t p r own n = Lowered t p.number p.lines own.owner n r.lines
 
 abbrev pub IsNext : ℕ → ℕ → Type 0
 IsNext old next = old < 2 ^ 64 - 1 → next ≡ old + 1
+
+-- this owner ended, and whether it was the last one
+abbrev pub Ends : Names → Trace → Trace → ℕ → Bool → Type 0
+Ends t p r o last = (before : List Line) × AddedTo t p.number p.lines (λ _. Down o) before r.lines × (IsTrue last ↔ LivesAlone o (entries_of before))

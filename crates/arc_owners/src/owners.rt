@@ -8,7 +8,7 @@ mod replays;
 mod word;
 mod world;
 
-pub use counted::{Owners, Pass, Share};
+pub use counted::{Last, Owners, Pass, Release, Share};
 pub use entry::Entry;
 pub use event::Event;
 pub use interleavings::keeps;

@@ -1,7 +1,7 @@
 //! The owners of a block whose word began with a count.
-ghost use Rattle.std.specs.Prelude.{◌≡◌, ◌≤◌, ◌==◌, ℕ, true, false, [], IsTrue, ◌↔◌};
+ghost use Rattle.std.specs.Prelude.{◌≡◌, ◌≤◌, true, false, [], IfSome, IfNone, IfOk, IfErr};
 ghost use mathlib.Core.List.{IsPrefix};
-ghost use Rattle.arc_owners.specs.declared.owners.entry.Entry.TheVariants.{Alone};
+ghost use Rattle.arc_owners.specs.declared.owners.entry.Entry.TheVariants.{Alone, Full};
 ghost use Rattle.arc_owners.specs.Book.{made_by};
 ghost use Rattle.arc_owners.specs.Traces.{IsOf, SamePass, Wrote};
 
@@ -35,6 +35,22 @@ pub struct Pass<H: Mark = Open> {
     mark: PhantomData<H>,
 }
 
+/// The end of the last owner: the right to end the lifetime for which the block is lent.
+#[derive(Drop)]
+pub struct Last {
+    spoils: Spoils,
+    ghost last: { spoils.last ≡ true },
+}
+
+/// What an owner's end finds.
+#[derive(Drop)]
+pub enum Release {
+    /// It was the last owner.
+    Last(Last),
+    /// Other owners live.
+    NotLast,
+}
+
 impl<H: Mark> Pass<H> {
     /// A pass of no block.
     pub fn none() -> Pass<H>
@@ -48,6 +64,9 @@ impl<H: Mark> Pass<H> {
 }
 
 impl<const MAX: u64, H: Mark> Owners<MAX, H> {
+    ghost use Rattle.arc_owners.specs.Releases.{is_last};
+    ghost use Rattle.arc_owners.specs.Traces.{RaisedIf, Ends};
+
     /// The owners of a new block: one owner, and a pass that has seen nothing.
     pub fn new() -> (Owners<MAX, H>, Share<H>, Pass<H>)
         requires { 2 ≤ MAX }
@@ -80,6 +99,73 @@ impl<const MAX: u64, H: Mark> Owners<MAX, H> {
         ensures entry { Wrote self.now.word pass.old.trace pass.new.trace (Alone by.now.right.owner result) }
     {
         self.word.look(&by.right, &mut pass.trace) == 1
+    }
+
+    /// One try to raise the count: nothing where the number changed between its two steps.
+    fn try_up(&self, by: &Share<H>, pass: &mut Pass<H>) -> Option<Result<Share<H>, CountFull>>
+        requires most { self.now.word.most ≡ MAX }
+        requires share { by.now.right.names ≡ self.now.word }
+        requires pass { IsOf self.now.word pass.old.trace }
+        ensures same { SamePass self.now.word pass.old.trace pass.new.trace }
+        ensures made { IfSome result (λ r. IfOk r (λ s. RaisedIf self.now.word pass.old.trace pass.new.trace by.now.right s.right true)) }
+        ensures full { IfSome result (λ r. IfErr r (λ _. Wrote self.now.word pass.old.trace pass.new.trace (Full by.now.right.owner))) }
+        ensures again { IfNone result (pass.new.trace.lines ≡ pass.old.trace.lines) }
+    {
+        let old = self.word.glance(&by.right, &mut pass.trace);
+        if old == MAX {
+            return Some(Err(CountFull));
+        }
+        let mut new = Right::none();
+        let next = old.wrapping_add(1);
+        let found = self
+            .word
+            .raise(&by.right, &mut pass.trace, &mut new, old, next);
+        if found != old {
+            return None;
+        }
+        Some(Ok(Share {
+            right: new,
+            mark: PhantomData,
+        }))
+    }
+
+    /// Makes a new owner, tried again until the exchange wins or finds the count at its greatest, which is refused.
+    pub fn up_as(
+        &self,
+        rt: &impl Wait,
+        by: &Share<H>,
+        pass: &mut Pass<H>,
+    ) -> Result<Share<H>, CountFull>
+        requires most { self.now.word.most ≡ MAX }
+        requires share { by.now.right.names ≡ self.now.word }
+        requires pass { IsOf self.now.word pass.old.trace }
+        ensures same { SamePass self.now.word pass.old.trace pass.new.trace }
+        ensures made { IfOk result (λ s. RaisedIf self.now.word pass.old.trace pass.new.trace by.now.right s.right true) }
+        ensures full { IfErr result (λ _. Wrote self.now.word pass.old.trace pass.new.trace (Full by.now.right.owner)) }
+    {
+        for _ in rt.forever() {
+            if let Some(made) = self.try_up(by, pass) {
+                return made;
+            }
+        }
+        unreachable!()
+    }
+
+    /// Ends an owner by one subtraction. It says whether that was the last one.
+    pub fn down_as(&self, share: Share<H>, pass: &mut Pass<H>) -> Release
+        requires share { share.right.names ≡ self.now.word }
+        requires pass { IsOf self.now.word pass.old.trace }
+        ensures same { SamePass self.now.word pass.old.trace pass.new.trace }
+        ensures entry { Ends self.now.word pass.old.trace pass.new.trace share.right.owner (is_last result) }
+    {
+        let mut last = Spoils::none();
+        let mut right = share.right;
+        let found = self.word.lower(&mut right, &mut pass.trace, &mut last);
+        if found == 1 {
+            Release::Last(Last { spoils: last })
+        } else {
+            Release::NotLast
+        }
     }
 
     /// Afterwards the first pass has seen at least what the other had. It adds no entry.
