@@ -16,4 +16,6 @@ pub use replays::{replay, replay_lone};
 pub use world::World;
 
 #[cfg(test)]
+mod counted_tests;
+#[cfg(test)]
 mod tests;
