@@ -3,6 +3,7 @@ pub mod Cells
 pub mod Rolls
 pub mod Accounts
 pub mod Parts
+pub mod Events
 pub mod Opened
 pub mod Moves
 pub mod Shared

@@ -21,6 +21,7 @@ use Rattle.arc_owners.specs.declared.owners.entry.Entry.TheVariants.{Up, Full, D
 use Rattle.arc_owners.specs.contracts.owners.entry.Entry as entry_type
 use Rattle.arc_owners.specs.Histories.{live_owners, owners_ever, is_counted, MayFollow, IsLegal}
 use Rattle.arc_owners.specs.Machine.{beginning}
+use Rattle.arc_owners.specs.Agreement.{IsOneEvent}
 
 -- which block it is: the number of its book, the ghost names in it, and what is fixed when it begins
 pub record Names : Type 0 where
@@ -215,6 +216,7 @@ pub record Adds (t : Names) (p : ℕ) (seen before : List Line) (e : Entry) : Ty
   pub undisturbed : t.whole ≡ true → seen ≡ before
   pub may : MayFollow t.most (beginning t.counted) (entries_of before) e
   pub legal : IsLegal t.most (beginning t.counted) (entries_of before ++ e ∷ [])
+  pub event : IsOneEvent t.most (beginning t.counted) (entries_of before) e
 
 -- what a call leaves that added an entry to the history before it: the pass, with what it has seen since
 abbrev pub left_by : Names → ℕ → Bool → List Line → (List Line → Entry) → (List Line → Fml) → List Line → Fml

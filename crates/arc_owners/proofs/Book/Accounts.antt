@@ -1,19 +1,18 @@
 -- An account stays true where one more line is written by a pass, with what that line does to the roll.
-use Rattle.std.proofs.Common.{inl, inr, ◌≡◌, ℕ, zero, suc, ◌+◌, ◌^◌, ◌<◌, ◌≤◌, Bool, true, false, eqb, List, [], ◌∷◌, ◌++◌, length, get_or, set, Option, Some, None, refl, sym, ap, ◌∙◌, subst, arith, length-append, length-set}
-use Rattle.std.specs.List.{cons_option}
+use Rattle.std.proofs.Common.{inl, inr, ◌≡◌, ℕ, suc, ◌+◌, ◌<◌, ◌≤◌, Bool, true, false, eqb, List, [], ◌∷◌, ◌++◌, length, get_or, set, None, refl, sym, ap, ◌∙◌, subst, arith, length-append, length-set}
 use Rattle.std.proofs.lemmas.Bool.{eqb-true, eqb-false, cases_Bool, false≢true}
 use Rattle.std.proofs.lemmas.List.{append-nil}
 use Rattle.arc_owners.specs.declared.owners.entry.Entry.{Entry}
-use Rattle.arc_owners.specs.declared.owners.entry.Entry.TheVariants.{Up, Full, Down, Alone, Promote, Joined}
-use Rattle.arc_owners.specs.Histories.{Beginning, is_in, owner_made, owner_ended, live_owners, owners_ever, is_counted, MayFollow, IsLegal, Lives, NeverLived, LivesAlone}
+use Rattle.arc_owners.specs.declared.owners.entry.Entry.TheVariants.{Up, Full, Down, Alone}
+use Rattle.arc_owners.specs.Histories.{Beginning, is_in, owner_made, owner_ended, live_owners, owners_ever, is_counted, MayFollow, IsLegal, Lives, NeverLived}
 use Rattle.arc_owners.specs.Machine.{beginning, without_number}
-use Rattle.arc_owners.specs.Book.{Names, Line, entries_of, made_by, Lease, no_lease, Seat, fresh_seat, living, upto, how_many, Account, Fits}
+use Rattle.arc_owners.specs.Book.{Names, entries_of, made_by, Lease, no_lease, Seat, fresh_seat, living, upto, how_many, Account, Fits}
 use Rattle.arc_owners.proofs.Owned.{live-same, live-ended, ever-append}
 use Rattle.arc_owners.proofs.Legality.{legal-append}
 use Rattle.arc_owners.proofs.Numbers.{length-without, times-in, times-one}
 use Rattle.arc_owners.proofs.Steps.{one_is}
-use Rattle.arc_owners.proofs.Told.{Owned, grown, legal-owned}
-use Rattle.arc_owners.proofs.Book.Rolls.{entries-append, made-own, made-other, living-made, living-ended, living-in, upto-fresh, upto-more, get-set, get-set_other, get-more, get-last, get-past}
+use Rattle.arc_owners.proofs.Told.{grown, legal-owned}
+use Rattle.arc_owners.proofs.Book.Rolls.{entries-append, made-own, made-other, living-made, living-ended, living-in, upto-fresh, upto-more, get-set, get-set_other, get-more, get-last}
 
 abbrev pub seat_of : List (Bool × Seat) → ℕ → Bool × Seat
 seat_of seats p = get_or seats p (false, fresh_seat)

@@ -1,7 +1,7 @@
 -- A new book, a pass that learns what another has seen, and a new pass. Assumes `Logic`.
-use Rattle.std.proofs.Common.{inl, inr, ◌≡◌, ℕ, zero, suc, ◌+◌, ◌-◌, ◌^◌, ◌<◌, ◌≤◌, Bool, true, false, eqb, List, [], ◌∷◌, ◌++◌, length, get_or, refl, sym, ap, ◌∙◌, subst, arith}
+use Rattle.std.proofs.Common.{inl, inr, ◌≡◌, ℕ, zero, suc, ◌^◌, ◌<◌, ◌≤◌, Bool, true, false, eqb, List, [], ◌∷◌, ◌++◌, length, get_or, refl, sym, ap, ◌∙◌, subst, arith}
 use Rattle.std.proofs.lemmas.Bool.{eqb-true, eqb-false, cases_Bool, false≢true}
-use mathlib.Core.Option.{Option, none, some}
+use mathlib.Core.Option.{Option, some}
 use mathlib.Core.List.{IsPrefix}
 use seplogic.Ra.Ura.{Ura}
 use base.Fraction.{full_share}
@@ -10,23 +10,23 @@ use base.Share
 use base.Share.{quarter, three_quarters}
 use base.Stored.{coded_ℕ}
 use base.Logic.{SProp, ent, sep, ex, guard, upd, emp, id⊢, via, upd_i}
-use base.Fml.{Lft, Share, Fml, ftrue, fsep, fex, flft, finv, fnamed}
+use base.Fml.{Fml, ftrue, fsep, finv, fnamed}
 use base.Growing.{latest, at_least}
 use types.Logic.{Logic, sem}
 use types.Owned.{basic, named_past}
-use types.Growing.{latest_new, latest_shows, latest_bounds, latest_cut, at_least_dup}
+use types.Growing.{latest_new, latest_shows, latest_bounds, latest_cut}
 use types.Keyed.{entries_new, entries_take, entries_from, ticket, token}
 use types.RcWeak.{part, rest, cut}
 use types.Tokens.{lft_new}
-use types.Kit.{‵, raw, ◌⊛◌, some as any, given, later, ◌$◌, ◌∵◌, !, qed, by, move, keep, drop, split, split3, fsplit, fjoin, fpick, fpack, pick, learn, show, check, assume, frame, group, done, use0, use1, use2, use3, rewrite, suffices, settle, updating, await, now}
+use types.Kit.{‵, raw, ◌⊛◌, some as any, given, later, ◌$◌, ◌∵◌, !, qed, move, drop, split, fsplit, fjoin, fpick, fpack, pick, learn, show, check, assume, frame, group, done, use0, use1, use2, use3, rewrite, suffices, settle, updating, await, now}
 use denote.Steps.{nothing}
 use Rattle.arc_owners.specs.Histories.{is_counted, live_owners, owners_ever, owners_ended}
 use Rattle.arc_owners.specs.Machine.{beginning}
-use Rattle.arc_owners.specs.Book.{Names, Line, entries_of, made_by, Lease, lease_coded, no_lease, Seat, seat_coded, fresh_seat, halved, cell, row, lines_order, reached, authority, withheld, places, is_there, has_place, located, told, right, stake, pool, counted_as, funds, how_many, Account, Fits, standing, contents, behind, known, right_owns, trace_owns}
+use Rattle.arc_owners.specs.Book.{Names, Line, made_by, Lease, lease_coded, no_lease, Seat, seat_coded, fresh_seat, halved, cell, row, lines_order, reached, authority, withheld, places, is_there, told, pool, Account, Fits, contents, behind, known, right_owns, trace_owns}
 use Rattle.arc_owners.proofs.Book.Rolls.{get-more, get-last}
 use Rattle.arc_owners.proofs.Book.Cells.{row_new, row_adds, row_finds, cell_parts}
 use Rattle.arc_owners.proofs.Book.Parts.{top, sees}
-use Rattle.arc_owners.proofs.Book.Opened.{shuts, latest_of, rolled, seated, seat}
+use Rattle.arc_owners.proofs.Book.Opened.{shuts, latest_of, seated, seat}
 use Rattle.arc_owners.proofs.Book.Shared.{known_twice}
 
 abbrev first_account : Lease → Account

@@ -1,5 +1,5 @@
 -- Cells under one ghost name, one at a time. Assumes `Logic`.
-use Rattle.std.proofs.Common.{◌≡◌, ℕ, zero, suc, ◌+◌, ◌<◌, Bool, true, false, List, [], ◌∷◌, ◌++◌, length, get_or, set, sym, refl, ap, ◌∙◌, subst, arith}
+use Rattle.std.proofs.Common.{◌≡◌, ℕ, zero, suc, ◌+◌, ◌<◌, Bool, true, false, List, [], ◌∷◌, ◌++◌, length, get_or, set, sym, refl, ap, subst, arith}
 use mathlib.Mathlib.Data.Part.{◌∈◌, mem_unique}
 use seplogic.Ra.Pcs.{OpDef, OpDef-comm}
 use seplogic.Ra.Ura.{Ura}

@@ -1,5 +1,5 @@
 -- An owner's end was the last one where the word counted one owner.
-use Rattle.std.proofs.Common.{◌≡◌, ℕ, Bool, eqb, List, [], ◌∷◌, length, sym, ap, ◌∙◌, subst, ◌↔◌}
+use Rattle.std.proofs.Common.{◌≡◌, ℕ, Bool, eqb, List, length, sym, ap, ◌∙◌, subst, ◌↔◌}
 use Rattle.std.specs.Prelude.{IsTrue}
 use Rattle.std.proofs.lemmas.Bool.{eqb-true, eq-eqb}
 use Rattle.arc_owners.specs.declared.owners.entry.Entry.TheVariants.{Down}

@@ -1,5 +1,5 @@
 -- The machine value of a word of a count. Assumes `Logic`.
-use Rattle.std.proofs.Common.{◌≡◌, ℕ, ◌^◌, ◌<◌, List, [], ◌∷◌, refl, w64}
+use Rattle.std.proofs.Common.{ℕ, ◌^◌, ◌<◌, List, [], ◌∷◌, refl, w64}
 use seplogic.Ra.Ura.{Ura}
 use mir.Val.{Val, vint, vstruct, vcons, vnil}
 use base.Logic.{ent, emp}

@@ -1,11 +1,10 @@
 -- What each step of a count does to the book, wherever the word lies. Assumes `Logic`.
 use Rattle.std.proofs.Common.{◌≡◌, ℕ, zero, suc, ◌+◌, ◌-◌, ◌%◌, ◌^◌, ◌<◌, ◌≤◌, Bool, true, false, eqb, List, [], ◌∷◌, ◌++◌, length, get_or, set, refl, sym, ap, ◌∙◌, subst, arith}
-use Rattle.std.proofs.lemmas.Bool.{eqb-true, eqb-false, eq-eqb, cases_Bool}
-use Rattle.std.proofs.lemmas.Bool.{ne_eqb}
+use Rattle.std.proofs.lemmas.Bool.{eqb-true, eqb-false, cases_Bool}
 use seplogic.Ra.Ura.{Ura}
 use base.Fraction.{full_share}
-use base.Share.{quarter, three_quarters}
-use base.Logic.{SProp, ent, sep, guard, upd, emp, id⊢, via, guard_i, upd_i}
+use base.Share.{quarter}
+use base.Logic.{SProp, ent, sep, upd, emp, id⊢, upd_i}
 use base.Fml.{Share, Fml, ftrue, fsep, fex}
 use types.Logic.{Logic, sem}
 use types.Kit.{‵, raw, ◌⊛◌, given, ◌$◌, ◌∵◌, !, qed, by, move, keep, drop, split, split3, fsplit, fjoin, fpick, fpack, learn, check, done, frame, use1, use2, use3, rewrite, suffices, settle}
@@ -14,12 +13,13 @@ use Rattle.arc_owners.specs.declared.owners.entry.Entry.{Entry}
 use Rattle.arc_owners.specs.declared.owners.entry.Entry.TheVariants.{Up, Full, Down, Alone}
 use Rattle.arc_owners.specs.Histories.{MayFollow}
 use Rattle.arc_owners.specs.Machine.{beginning}
-use Rattle.arc_owners.specs.Book.{Names, Line, entries_of, made_by, withheld, has_place, located, Lease, lease_coded, no_lease, right, counted_as, pool, stake, how_many, upto, Account, Fits, contents, behind, pass_holds, added, next_owner, looked, glanced, glanced_at, raised_by, spoils, lowered_by, told, how_many_live}
+use Rattle.arc_owners.specs.Book.{Names, Line, entries_of, made_by, withheld, has_place, located, Lease, lease_coded, no_lease, right, counted_as, pool, stake, how_many, Account, Fits, contents, behind, pass_holds, added, next_owner, looked, glanced, glanced_at, raised_by, spoils, lowered_by, told, how_many_live}
 use Rattle.arc_owners.proofs.Book.Accounts.{wrote, raised, lowered, fits-aside, fits-raised, fits-lowered, how_many-raised, how_many-lowered, lives, some-live, may-look, may-raise, may-full}
 use Rattle.arc_owners.proofs.Book.Rolls.{length-upto}
+use Rattle.arc_owners.proofs.Book.Events.{IsStep}
 use Rattle.arc_owners.proofs.Book.Cells.{row_adds, row_ends}
 use Rattle.arc_owners.proofs.Book.Parts.{pool_more, pool_less, pool_last}
-use Rattle.arc_owners.proofs.Book.Opened.{latest_of, rolled, seated, seat, Shown, Open, Done, opened, shut}
+use Rattle.arc_owners.proofs.Book.Opened.{latest_of, rolled, seated, seat, Shown, Open, opened, shut}
 
 module _ {M : Type 1} {𝓤 : Ura M} (𝓛 : Logic 𝓤) (t : Names) (p : ℕ) (ready : Bool) (seen : List Line) (o : ℕ) (l : Lease) where
   abbrev Pr : Type 2
@@ -37,12 +37,12 @@ module _ {M : Type 1} {𝓤 : Ura M} (𝓛 : Logic 𝓤) (t : Names) (p : ℕ) (
   infix 26 ◌⊢◌
   infixr 35 ◌∗◌
   -- an entry that leaves the owners as they are
-  aside : (q : Share) (n : ℕ) (entry : Entry) (a : Account) (so : Shown 𝓛 t n p ready seen o l q a) → MayFollow t.most (beginning t.counted) (entries_of a.lines) entry → Fits t (wrote a p ready entry a.roll)
+  aside : (q : Share) (n : ℕ) (entry : Entry) (a : Account) (so : Shown 𝓛 t n p ready seen o l q a) → IsStep entry → MayFollow t.most (beginning t.counted) (entries_of a.lines) entry → Fits t (wrote a p ready entry a.roll)
       → Open 𝓛 t n p ready seen o l q a (emp 𝓤) ⊢ upd 𝓤 (⟦ behind t n ⟧ ∗ ⟦ contents t ⟧ ∗ ⟦ added t p ready seen (λ _. entry) (λ _. right t o l q) ⟧)
-  aside q n entry a so may f = let G : List Line → Fml = λ _. right t o l q in
+  aside q n entry a so step may f = let G : List Line → Fml = λ _. right t o l q in
       subst (λ (m : ℕ). Open 𝓛 t n p ready seen o l q a (emp 𝓤) ⊢ upd 𝓤 (⟦ behind t m ⟧ ∗ ⟦ contents t ⟧ ∗ ⟦ added t p ready seen (λ _. entry) G ⟧)) (sym so.number)
       (qed 𝓛 (‵ (latest_of 𝓛 t a.lines) ∷ ‵ (withheld t t.whole seen) ∷ ‵ (rolled 𝓛 t a.roll) ∷ ‵ (right t o l q) ∷ ‵ (seated 𝓛 t a.seats) ∷ ‵ (seat 𝓛 t p ready (made_by p seen)) ∷ ‵ (located t a.lines) ∷ ‵ (has_place t) ∷ ‵ (counted_as t full_share (how_many a.roll)) ∷ ‵ (pool a.lease (how_many a.roll)) ∷ raw (emp 𝓤) ∷ []) ∵
-      keep ! (0 ∷ 1 ∷ 2 ∷ 4 ∷ 5 ∷ 6 ∷ 7 ∷ 8 ∷ 9 ∷ 3 ∷ []) $ by ! (shut 𝓛 t n p ready seen o l q a so (λ _. entry) a.roll G may f))
+      keep ! (0 ∷ 1 ∷ 2 ∷ 4 ∷ 5 ∷ 6 ∷ 7 ∷ 8 ∷ 9 ∷ 3 ∷ []) $ by ! (shut 𝓛 t n p ready seen o l q a so (λ _. entry) a.roll G step may f))
 
   abbrev Before : Share → ℕ → Pr
   Before q n = ⟦ behind t n ⟧ ∗ ⟦ contents t ⟧ ∗ ⟦ pass_holds t p ready seen ⟧ ∗ ⟦ right t o l q ⟧
@@ -59,13 +59,13 @@ module _ {M : Type 1} {𝓤 : Ura M} (𝓛 : Logic 𝓤) (t : Names) (p : ℕ) (
   looks q n = opens q n (ToPr (looked t p ready seen o l q n) n) (λ a so. let e = Alone o (eqb n 1) in
       let may : MayFollow t.most (beginning t.counted) (entries_of a.lines) e = subst (λ (m : ℕ). MayFollow t.most (beginning t.counted) (entries_of a.lines) (Alone o (eqb m 1))) (sym so.number)
       (may-look t a so.fits p ready so.seat_is.0 o l so.owner_is.1 so.counted) in
-      aside q n e a so may (fits-aside t a so.fits p ready so.seat_is.0 e refl refl may))
+      aside q n e a so tt may (fits-aside t a so.fits p ready so.seat_is.0 e refl refl may))
 
   -- the count is found at its greatest
   fills : (q : Share) (n : ℕ) → n ≡ t.most → Before q n ⊢ ToPr (added t p ready seen (λ _. Full o) (λ _. right t o l q)) n
   fills q n full = opens q n (ToPr (added t p ready seen (λ _. Full o) (λ _. right t o l q)) n) (λ a so. let e = Full o in
       let may : MayFollow t.most (beginning t.counted) (entries_of a.lines) e = may-full t a so.fits p ready so.seat_is.0 o l so.owner_is.1 so.counted (sym so.number ∙ full) in
-      aside q n e a so may (fits-aside t a so.fits p ready so.seat_is.0 e refl refl may))
+      aside q n e a so tt may (fits-aside t a so.fits p ready so.seat_is.0 e refl refl may))
 
   nothing_done : (q : Share) (n : ℕ) → Before q n ⊢ ToPr (fsep (pass_holds t p ready seen) (right t o l q)) n
   nothing_done q n = upd_i 𝓤 _
@@ -112,7 +112,7 @@ module _ {M : Type 1} {𝓤 : Ura M} (𝓛 : Logic 𝓤) (t : Names) (p : ℕ) (
       rewrite ! 1 (λ (k : Lease). ‵ (stake k)) (sym leased) refl $ rewrite ! 3 (λ (k : ℕ × Lease). ‵ (right t k.0 k.1 quarter)) (λ i. (is i, sym leased i)) refl $
       move ! (3 ∷ 1 ∷ []) $ fjoin ! $ move ! (5 ∷ 0 ∷ []) $ fjoin ! $
       -- [gain; pool; roll; latest; withheld; seats; seat; located; the key; count]
-      move ! (3 ∷ 4 ∷ 2 ∷ 5 ∷ 6 ∷ 7 ∷ 8 ∷ 9 ∷ 1 ∷ 0 ∷ []) $ by ! (shut 𝓛 t n p ready seen o l q a so up_entry roll' (up_gain q) may' fits')))
+      move ! (3 ∷ 4 ∷ 2 ∷ 5 ∷ 6 ∷ 7 ∷ 8 ∷ 9 ∷ 1 ∷ 0 ∷ []) $ by ! (shut 𝓛 t n p ready seen o l q a so up_entry roll' (up_gain q) tt may' fits')))
 
   pub tries : (q : Share) (n old m : ℕ) → ¬ (old ≡ t.most) → (old < 2 ^ 64 - 1 → m ≡ old + 1) → Before q n ⊢ ToPr (raised_by t p ready seen o l q (eqb n old)) (prog.Atomic.either (eqb n old) m n)
   tries q n old m room next = elim (cases_Bool (eqb n old)) [
@@ -152,4 +152,4 @@ module _ {M : Type 1} {𝓤 : Ura M} (𝓛 : Logic 𝓤) (t : Names) (p : ℕ) (
       rewrite ! 0 (λ (k : Lease). ‵ (pool k (how_many roll'))) leased refl $
       move ! (1 ∷ []) $ nothing ! $ fpack ! (n ≡ how_many_live a.lines) (λ _. ftrue) (same ∙ sym (ap length so.fits.live)) $ fjoin ! $ move ! (1 ∷ 0 ∷ []) $
       -- [pool; gain; roll; latest; withheld; seats; seat; located; the key; count]
-      move ! (3 ∷ 4 ∷ 2 ∷ 5 ∷ 6 ∷ 7 ∷ 8 ∷ 9 ∷ 0 ∷ 1 ∷ []) $ by ! (shut 𝓛 t n p ready seen o l q a so (λ _. Down o) roll' G may fits')))
+      move ! (3 ∷ 4 ∷ 2 ∷ 5 ∷ 6 ∷ 7 ∷ 8 ∷ 9 ∷ 0 ∷ 1 ∷ []) $ by ! (shut 𝓛 t n p ready seen o l q a so (λ _. Down o) roll' G tt may fits')))

@@ -1,20 +1,21 @@
 -- The book opened for one step, with the number of the word, a pass and a share of an owner's right; and shut again with one more line. Assumes `Logic`.
-use Rattle.std.proofs.Common.{◌≡◌, ℕ, zero, suc, ◌+◌, ◌^◌, ◌<◌, Bool, true, false, List, [], ◌∷◌, ◌++◌, length, get_or, set, refl, sym, ap, ◌∙◌, subst, arith}
+use Rattle.std.proofs.Common.{◌≡◌, ℕ, ◌<◌, Bool, true, false, List, [], ◌∷◌, ◌++◌, length, get_or, refl, sym, ap, ◌∙◌, subst, arith}
 use mathlib.Core.List.{IsPrefix}
 use seplogic.Ra.Ura.{Ura}
 use base.Fraction.{full_share}
 use base.Share.{quarter, three_quarters}
 use base.Stored.{coded_ℕ}
-use base.Logic.{SProp, ent, sep, guard, upd, emp, id⊢, via, guard_i, upd_i}
-use base.Fml.{Share, Fml, ftrue, fsep, fex}
+use base.Logic.{SProp, ent, sep, upd, upd_i}
+use base.Fml.{Share, Fml, ftrue}
 use types.Logic.{Logic, sem}
 use types.Kit.{‵, raw, ◌⊛◌, given, ◌$◌, ◌∵◌, !, qed, by, move, drop, split, split3, fsplit, fjoin, fpick, fpack, learn, check, done, frame, use1, use2, use3, rewrite, suffices, settle}
 use denote.Steps.{nothing}
 use Rattle.arc_owners.specs.declared.owners.entry.Entry.{Entry}
 use Rattle.arc_owners.specs.Histories.{is_counted, MayFollow}
 use Rattle.arc_owners.specs.Machine.{beginning}
-use Rattle.arc_owners.specs.Book.{Names, Line, entries_of, made_by, lines_order, authority, reached, withheld, has_place, located, told, Lease, lease_coded, no_lease, Seat, seat_coded, fresh_seat, cell, row, right, counted_as, pool, stake, how_many, Account, Fits, funds, standing, contents, behind, pass_holds, Adds, left_by, added}
+use Rattle.arc_owners.specs.Book.{Names, Line, entries_of, made_by, reached, withheld, has_place, located, Lease, lease_coded, no_lease, Seat, seat_coded, fresh_seat, cell, row, right, counted_as, pool, how_many, Account, Fits, standing, contents, behind, pass_holds, Adds, left_by, added}
 use Rattle.arc_owners.proofs.Book.Rolls.{entries-append, made-own}
+use Rattle.arc_owners.proofs.Book.Events.{IsStep, one_event}
 use Rattle.arc_owners.proofs.Book.Accounts.{seat_of, seat_set, wrote}
 use Rattle.arc_owners.proofs.Book.Cells.{cell_whole, cell_parts, row_finds, row_writes}
 use Rattle.arc_owners.proofs.Book.Parts.{top, Seen, sees, writes, counts, keyed, stays}
@@ -99,10 +100,10 @@ module _ {M : Type 1} {𝓤 : Ura M} (𝓛 : Logic 𝓤) (t : Names) where
       pub made-kept : made_by p a.lines ≡ made_by p seen
       made-kept = sym (so.fits.made p) ∙ ap (λ (s : Bool × Seat). s.1.1) so.seat_is.1
 
-      pub shut : (gain : List Line → Fml) → MayFollow t.most (beginning t.counted) (entries_of a.lines) e → Fits t a'
+      pub shut : (gain : List Line → Fml) → IsStep e → MayFollow t.most (beginning t.counted) (entries_of a.lines) e → Fits t a'
           → ⟦ latest_of a.lines ⟧ ∗ ⟦ withheld t t.whole seen ⟧ ∗ ⟦ rolled roll ⟧ ∗ ⟦ seated a.seats ⟧ ∗ ⟦ seat p ready (made_by p seen) ⟧ ∗ ⟦ located t a.lines ⟧ ∗ ⟦ has_place t ⟧ ∗ ⟦ counted_as t full_share (how_many a.roll) ⟧ ∗ ⟦ pool a.lease n' ⟧ ∗ ⟦ gain a.lines ⟧
           ⊢ upd 𝓤 (Done gain)
-      shut gain may f = let w : Bool = t.whole in let Z : Pr = Done gain in let ls : List Line = a'.lines in let made : List Entry = made_by p a.lines ++ e ∷ [] in
+      shut gain step may f = let w : Bool = t.whole in let Z : Pr = Done gain in let ls : List Line = a'.lines in let made : List Entry = made_by p a.lines ++ e ∷ [] in
           qed 𝓛 (‵ (latest_of a.lines) ∷ ‵ (withheld t w seen) ∷ ‵ (rolled roll) ∷ ‵ (seated a.seats) ∷ ‵ (seat p ready (made_by p seen)) ∷ ‵ (located t a.lines) ∷ ‵ (has_place t) ∷ ‵ (counted_as t full_share (how_many a.roll)) ∷ ‵ (pool a.lease n') ∷ ‵ (gain a.lines) ∷ []) ∵
           use2 𝓛 (raw (upd 𝓤 (⟦ latest_of ls ⟧ ∗ ⟦ reached t ls ⟧ ∗ ⟦ withheld t w ls ⟧))) (writes 𝓛 t w seen a.lines ((p, e) ∷ []) so.seen_is.1) $
           settle 𝓛 Z (‵ (latest_of ls) ⊛ ‵ (reached t ls) ⊛ ‵ (withheld t w ls)) $ split3 ! $
@@ -119,7 +120,7 @@ module _ {M : Type 1} {𝓤 : Ura M} (𝓛 : Logic 𝓤) (t : Names) where
           suffices ! _ (upd_i 𝓤 Z) $ move ! (7 ∷ 4 ∷ []) $ fjoin ! $ move ! (6 ∷ 0 ∷ []) $ fjoin ! $
           -- [pass; located; quarter; three quarters; seats; latest; roll; the key; pool; gain]
           move ! (0 ∷ 9 ∷ []) $ fjoin ! $ nothing ! $ fpack ! (Adds t p seen a.lines e) (λ _. ftrue)
-          (record { after_seen = so.seen_is.0; own = made-kept; undisturbed = so.seen_is.1; may = may; legal = subst (λ (es : List Entry). Rattle.arc_owners.specs.Histories.IsLegal t.most (beginning t.counted) es) (entries-append a.lines p e) f.legal }) $
+          (record { after_seen = so.seen_is.0; own = made-kept; undisturbed = so.seen_is.1; may = may; legal = subst (λ (es : List Entry). Rattle.arc_owners.specs.Histories.IsLegal t.most (beginning t.counted) es) (entries-append a.lines p e) f.legal; event = one_event t.most (beginning t.counted) (entries_of a.lines) so.fits.legal so.counted e step may }) $
           fjoin ! $ fpack ! (List Line) (left_by t p ready seen entry gain) a.lines $
           -- [added; located; quarter; three quarters; seats; latest; roll; the key; pool]
           move ! (2 ∷ 7 ∷ []) $ fjoin ! $ frame ! $

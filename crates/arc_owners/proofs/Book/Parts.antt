@@ -1,5 +1,5 @@
 -- The parts of an open book, one at a time: its history, where the count lies, the count, and the lifetime. Assumes `Logic`.
-use Rattle.std.proofs.Common.{◌≡◌, ℕ, zero, suc, ◌+◌, ◌-◌, ◌^◌, ◌<◌, Bool, true, false, List, [], ◌∷◌, ◌++◌, refl, sym, ap, ◌∙◌, subst, arith}
+use Rattle.std.proofs.Common.{◌≡◌, ℕ, zero, suc, ◌+◌, ◌-◌, ◌^◌, ◌<◌, Bool, true, false, List, [], ◌∷◌, ◌++◌, refl, sym, ap, ◌∙◌, arith}
 use Rattle.std.proofs.lemmas.Bool.{false≢true}
 use mathlib.Core.Option.{Option, none, some}
 use mathlib.Core.List.{IsPrefix}
@@ -7,15 +7,14 @@ use seplogic.Ra.Ura.{Ura}
 use base.Fraction.{full_share}
 use base.Share
 use base.Share.{quarter, three_quarters}
-use base.Logic.{SProp, ent, sep, guard, upd, emp, id⊢, via, guard_i, upd_i}
-use base.Fml.{Fml, ftrue, fsep, fex, flft}
+use base.Logic.{SProp, ent, sep, guard, upd, upd_i}
+use base.Fml.{Fml, ftrue, fsep, flft}
 use base.Growing.{latest, at_least, once}
 use types.Logic.{Logic, sem}
 use types.Growing.{latest_grows, latest_shows, latest_bounds, latest_agrees, latest_cut, latest_glue}
 use types.Keyed.{ticket}
-use types.RcWeak.{part, rest, takes, gives, whole}
-use types.Kit as kit
-use types.Kit.{‵, raw, ◌⊛◌, given, ◌$◌, ◌∵◌, !, qed, by, move, drop, split, split3, fsplit, fjoin, fpick, fpack, learn, check, done, use1, use2, rewrite, suffices, settle}
+use types.RcWeak.{rest, takes, gives, whole}
+use types.Kit.{‵, raw, ◌⊛◌, given, ◌$◌, ◌∵◌, !, qed, move, drop, split, fsplit, fjoin, fpick, fpack, learn, check, done, use1, use2, rewrite, suffices, settle}
 use denote.Steps.{nothing}
 use Rattle.arc_owners.specs.declared.owners.entry.Entry.{Entry}
 use Rattle.arc_owners.specs.Histories.{is_counted}

@@ -1,8 +1,8 @@
 -- Each step of a count where the word lies: what the machine's step asks. Assumes `Logic`.
-use Rattle.std.proofs.Common.{inl, inr, ◌≡◌, ℕ, zero, suc, ◌+◌, ◌-◌, ◌%◌, ◌^◌, ◌<◌, ◌≤◌, Bool, true, false, eqb, List, [], ◌∷◌, ◌++◌, refl, sym, ap, ◌∙◌, subst, arith}
+use Rattle.std.proofs.Common.{◌≡◌, ℕ, ◌+◌, ◌-◌, ◌%◌, ◌^◌, ◌<◌, Bool, true, false, eqb, List, [], ◌∷◌, ◌++◌, refl, arith}
 use seplogic.Ra.Ura.{Ura}
 use base.Share.{quarter}
-use base.Logic.{SProp, ent, sep, wand, ex, all, upd, emp, id⊢, via, upd_i, upd_mono}
+use base.Logic.{SProp, ent, sep, ex, upd, id⊢, upd_i}
 use base.Fml.{Lft, Share, Fml, ftrue, fsep, fex, flft, fbor, fnamed}
 use prog.Atomic.{either}
 use types.Logic.{Logic, sem}
@@ -13,7 +13,7 @@ use Rattle.core.specs.Sync.RawAtomic.{word, asks, always}
 use Rattle.core.proofs.raw_atomic.Asked.{borrowed_with, LiesWith, AgainWith}
 use Rattle.arc_owners.specs.declared.owners.entry.Entry.{Entry}
 use Rattle.arc_owners.specs.declared.owners.entry.Entry.TheVariants.{Up, Full, Down, Alone}
-use Rattle.arc_owners.specs.Book.{Names, Line, Lease, reached, right, stake, contents, behind, lies, counting, known, pass_holds, trace_owns, right_owns, spoils, told, Adds, left_by, added, next_owner, looked, glanced, glanced_at, raised_by, lowered_by, Written, Filled, MadeOne, after_look, after_glance, after_raise, after_lower, AddedTo, Lowered, how_many_live}
+use Rattle.arc_owners.specs.Book.{Names, Line, Lease, right, stake, contents, behind, lies, counting, known, pass_holds, trace_owns, right_owns, spoils, told, Adds, added, next_owner, looked, glanced, glanced_at, raised_by, lowered_by, Written, Filled, MadeOne, after_look, after_glance, after_raise, after_lower, AddedTo, Lowered, how_many_live}
 use Rattle.arc_owners.proofs.Book.Shared.{known_twice}
 use Rattle.arc_owners.proofs.Book.Moves.{looks, glances, tries, lowers}
 

@@ -1,5 +1,5 @@
 -- What a `&` to an owner's right or to a pass holds, and that all of it may go to another thread. Assumes `Logic`.
-use Rattle.std.proofs.Common.{◌≡◌, ℕ, zero, suc, Bool, true, false, List, [], ◌∷◌}
+use Rattle.std.proofs.Common.{ℕ, zero, suc, Bool, true, false, List, [], ◌∷◌}
 use seplogic.Ra.Ura.{Ura}
 use base.Share
 use base.Share.{quarter}
@@ -14,12 +14,12 @@ use types.Growing.{at_least_dup}
 use types.Keyed.{entry_keyless, token}
 use types.Tokens.{bor_fracture}
 use types.Frac.{shr_bor-Acc_by}
-use types.Kit.{‵, raw, ◌⊛◌, later, ◌$◌, ◌∵◌, !, qed, by, move, drop, split, fsplit, fjoin, use1, use2, updating, await, now, done}
-use denote.Sharing.{ShrLaws, said, one, beside, nothing}
+use types.Kit.{‵, raw, ◌⊛◌, ◌$◌, ◌∵◌, !, qed, by, move, drop, split, fsplit, fjoin, use1, updating, now, done}
+use denote.Sharing.{ShrLaws, said, one}
 use denote.SharingLaws.{beside_shr_laws, one_shr_laws, nothing_shr_laws}
 use denote.Struct.Lending.{Lends, Lends-first, Lends-both, Lends-nothing}
 use Rattle.logbook.proofs.Fields.{lends_twice}
-use Rattle.arc_owners.specs.Book.{Names, Line, Lease, lease_coded, no_lease, seat_coded, fresh_seat, halved, lines_order, reached, withheld, pool, right, contents, known, behind, counting, share_owns, right_owns, right_shares, trace_owns, trace_shares, spoils, stake}
+use Rattle.arc_owners.specs.Book.{Names, Line, Lease, lease_coded, no_lease, seat_coded, fresh_seat, halved, lines_order, reached, withheld, pool, right, contents, known, behind, right_owns, right_shares, trace_owns, trace_shares, spoils, stake}
 use Rattle.arc_owners.proofs.Book.Cells.{row_keyless, cell_cut, cell_joins}
 
 pool_keyless : (l : Lease) (n : ℕ) → Keyless (pool l n)

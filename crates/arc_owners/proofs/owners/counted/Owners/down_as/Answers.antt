@@ -1,5 +1,5 @@
-use Rattle.std.proofs.Common.{true, false}
-use Rattle.std.proofs.lemmas.Bool.{eq-eqb, ne_eqb}
+use Rattle.std.proofs.Common.{true}
+use Rattle.std.proofs.lemmas.Bool.{eq-eqb}
 use Rattle.arc_owners.proofs.Book.Ends.{ends_when}
 use Rattle.arc_owners.proofs.owners.counted.Owners.down_as.Goals as goal
 

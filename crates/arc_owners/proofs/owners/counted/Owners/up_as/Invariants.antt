@@ -1,5 +1,4 @@
 use Rattle.std.proofs.Common.{◌≡◌}
-use Rattle.arc_owners.specs.Traces.{SamePass}
 use Rattle.arc_owners.proofs.owners.counted.Owners.up_as.Given as goal
 
 abbrev pub invariant-loop : goal.invariant-loop

@@ -1,5 +1,4 @@
 -- A `&` to an owner's right holds its book and shares of the right. Assumes `Logic`.
-use mathlib.Core.List.{[], ◌∷◌}
 use denote.Param.Shared.{copy_shared}
 use denote.Struct.Laws.{field_copy}
 use denote.Struct.Lending.{of_Lends}

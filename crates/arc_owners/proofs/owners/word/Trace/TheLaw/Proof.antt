@@ -1,5 +1,4 @@
 -- A `&` to a pass holds what it knows. Assumes `Logic`.
-use mathlib.Core.List.{[], ◌∷◌}
 use denote.Param.Shared.{copy_shared}
 use denote.Struct.Laws.{field_copy}
 use denote.Struct.Lending.{of_Lends}

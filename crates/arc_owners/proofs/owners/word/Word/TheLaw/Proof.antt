@@ -1,5 +1,5 @@
 -- A `&` to the word of a count is an invariant over a borrow of it, whose number is past the book's. Assumes `Logic`.
-use Rattle.std.proofs.Common.{◌≡◌, ℕ, zero, ◌+◌, ◌<◌, ◌≤◌, List, [], ◌∷◌, sym, refl, arith, add-zero, subst}
+use Rattle.std.proofs.Common.{ℕ, zero, ◌+◌, ◌<◌, ◌≤◌, List, [], ◌∷◌, sym, refl, arith, add-zero, subst}
 use seplogic.Ra.Ura.{Ura}
 use mir.Syntax.{ty_struct}
 use mir.Val.{Val}
@@ -22,7 +22,7 @@ use denote.Struct.Parts.{shape_of, Struct-left, left_Struct}
 use Rattle.core.specs.Sync.RawAtomic.{word}
 use Rattle.core.proofs.cell.Borrows.{flag, by_one}
 use Rattle.core.proofs.tally.Steps.{word_in, word_out}
-use Rattle.arc_owners.specs.Book.{Names, told, behind, lies, counting, lent, word_shares}
+use Rattle.arc_owners.specs.Book.{Names, behind, lies, counting, lent}
 use Rattle.arc_owners.specs.contracts.owners.word.Word as C
 use Rattle.arc_owners.proofs.owners.word.Word.TheLaw.Statement.{statement}
 

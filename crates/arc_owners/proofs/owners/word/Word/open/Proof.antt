@@ -1,46 +1,31 @@
 -- `open` makes a new book, with its first owner and its first pass.
-use Rattle.std.proofs.Common.{◌≡◌, ℕ, ◌+◌, ◌-◌, ◌^◌, ◌<◌, Bool, true, false, eqb, List, [], ◌∷◌, ◌++◌, sym, refl, ap, ◌∙◌, lit<, w64}
-use mir.Syntax.{named}
-use mir.Val.{Val, vunit, vint, vptr, vstruct, vcons, vnil, of_list}
-use base.Logic.{SProp, wand, emp, id⊢, via, apply∗}
-use base.Fml.{Lft, Share, Fml, ftrue, fsep, fex, feq, flft, fhide}
-use types.Logic.{sem}
+use Rattle.std.proofs.Common.{◌≡◌, true, false, List, [], ◌∷◌, ◌++◌, refl, lit<, w64}
+use mir.Val.{Val, vint, vstruct, vcons, vnil, of_list}
+use base.Logic.{SProp, emp}
+use base.Fml.{ftrue, fsep, feq}
 use types.Kit.{‵, raw, ◌⊛◌, some, given, later, mean, at_ret, ◌$◌, ◌∵◌, !, qed, by, move, keep, drop, split, join, group, fsplit, fsplit3, fjoin, fjoin3, fpick, fpack, pick, learn, use0, use1, use2, use3, await, rewrite, feq_i, flt_i}
-use types.Run.{stop, fld, addr, lit, unit_lit, of_opd, no_more, and_then, first, blocks, exec, Calls-last, returns, enter}
-use types.ByLocal.{alloc_all, pass_all, free_all, look_at, get, get_in, through, sets, lands_last, env}
-use types.Part.{agg, sub, whole}
-use contract.Monad.{fact, fact_i}
+use types.Run.{lit, no_more, and_then, returns, enter}
+use types.ByLocal.{alloc_all, pass_all, free_all, look_at, get, sets}
+use types.Part.{agg}
+use contract.Monad.{fact_i}
 use contract.Running.{tables}
-use contract.Shared.{Lends-one}
-use denote.Exit.{yes, no}
+use denote.Exit.{yes}
 use denote.RattleType.{owns, Valss}
 use denote.RattleType
 use denote.Signature.{types_at, plain}
-use denote.Builtin.{RefOf, u64, unit}
-use denote.Ref.{mut_vals, mut_Tells, shr_vals, shr_Tells}
+use denote.Builtin.{u64, unit}
 use denote.Plain.{uint_vals, uint_Tells}
-use denote.Memory.{hidden_shr}
-use denote.RawPtr.{block_ptr}
-use denote.Opens.{unhide}
-use denote.Steps.{nothing, opens, closes}
-use denote.Struct.Lending.{lent_out}
-use denote.Triple.Walked.{Stays, stay_dropped, stay_ref, walk_of, Goes-dropped, Goes-ref}
-use Rattle.core.specs.contracts.marker.PhantomData as marker
-use Rattle.core.proofs.atomic.Steps.{tail}
+use denote.Steps.{nothing}
+use denote.Triple.Walked.{Stays, stay_dropped, walk_of, Goes-dropped}
 use Rattle.std.proofs.raw_atomic.Walks.{proved}
-use Rattle.std.proofs.raw_atomic.Calls.{fm, found, finds, loads, subs, seq_cst}
-use Rattle.logbook.proofs.Fields.{token, Token, token_told, token_made, ends}
-use Rattle.arc_owners.specs.Book.{Names, Line, Lease, right, right_shares, right_owns, trace_owns, spoils, after_look, after_glance, after_raise, after_lower}
+use Rattle.logbook.proofs.Fields.{token, Token, token_made, ends}
+use Rattle.arc_owners.specs.Book.{Names, Lease, right_owns, trace_owns}
 use Rattle.arc_owners.specs.contracts.owners.word.Word as Word
 use Rattle.arc_owners.specs.contracts.owners.word.Right as Right
 use Rattle.arc_owners.specs.contracts.owners.word.Trace as Trace
-use Rattle.arc_owners.specs.contracts.owners.word.Spoils as Spoils
-use Rattle.arc_owners.proofs.Book.Shared.{right_read}
-use Rattle.arc_owners.proofs.Book.Places as places
 use denote.Builtin.{bool}
 use denote.Plain.{bool_vals, bool_Tells}
-use mathlib.Core.List.{IsPrefix}
-use Rattle.arc_owners.specs.Book.{made_by, reached, behind, known, trace_shares}
+use Rattle.arc_owners.specs.Book.{behind}
 use Rattle.arc_owners.proofs.Book.Fields.{word_val, word_made}
 use Rattle.arc_owners.proofs.Book.Begins as begins
 use Rattle.arc_owners.specs.contracts.owners.word.Word.«open» as f
