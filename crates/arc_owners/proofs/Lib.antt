@@ -4,3 +4,4 @@ pub mod Legality
 pub mod Steps
 pub mod Told
 pub mod Rows
+pub mod Book

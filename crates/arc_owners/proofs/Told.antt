@@ -68,7 +68,7 @@ in-append : (n : ℕ) (xs ys : List ℕ) → is_in n xs ≡ true → is_in n (xs
 in-append n xs ys h = list_any-append (λ x. eqb x n) xs ys ∙ or_left (is_in n xs) (is_in n ys) h
 
 -- each live owner lived
-lived : (h : List Entry) (n : ℕ) → is_in n (live_owners h) ≡ true → is_in n (owners_ever h) ≡ true
+pub lived : (h : List Entry) (n : ℕ) → is_in n (live_owners h) ≡ true → is_in n (owners_ever h) ≡ true
 unfolding live_owners
 lived h n live = in-unfiltered n (λ x. not (is_in x (owners_ended h))) (owners_ever h) live
 
@@ -80,10 +80,10 @@ owned-same h e made ends o = record {
 }
 
 -- in a history whose owners stand so, a number that never lived did not end
-unended : (h : List Entry) (new : ℕ) → is_in new (owners_ever h) ≡ false → Owned h → is_in new (owners_ended h) ≡ false
+pub unended : (h : List Entry) (new : ℕ) → is_in new (owners_ever h) ≡ false → Owned h → is_in new (owners_ended h) ≡ false
 unended h new never o = elim (cases_Bool (is_in new (owners_ended h))) [ inl g ↦ absurd (false≢true (sym never ∙ o.ended new g)) | inr g ↦ g ]
 
-grown : (h : List Entry) (e : Entry) (new : ℕ) → owner_made e ≡ Some new → owner_ended e ≡ None → is_in new (owners_ever h) ≡ false → Owned h → live_owners (h ++ e ∷ []) ≡ live_owners h ++ new ∷ []
+pub grown : (h : List Entry) (e : Entry) (new : ℕ) → owner_made e ≡ Some new → owner_ended e ≡ None → is_in new (owners_ever h) ≡ false → Owned h → live_owners (h ++ e ∷ []) ≡ live_owners h ++ new ∷ []
 grown h e new made ends never o = live-made h e new made ends (unended h new never o)
 
 owned-made : (h : List Entry) (e : Entry) (new : ℕ) → owner_made e ≡ Some new → owner_ended e ≡ None → is_in new (owners_ever h) ≡ false → Owned h → Owned (h ++ e ∷ [])

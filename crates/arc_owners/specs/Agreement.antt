@@ -1,7 +1,7 @@
 -- When a run of the word machine agrees with an owner history.
-use Rattle.std.specs.Prelude.{◌≡◌, ℕ, false, List, [], ◌∷◌, ◌++◌, length, ◌⊎◌}
+use Rattle.std.specs.Prelude.{◌≡◌, ℕ, true, false, List, [], ◌∷◌, ◌++◌, length, ◌⊎◌}
 use Rattle.arc_owners.specs.Histories.{Beginning, live_owners, is_counted}
-use Rattle.arc_owners.specs.Machine.{Machine, after_events}
+use Rattle.arc_owners.specs.Machine.{Machine, may_happen, changed, after_events}
 use Rattle.arc_owners.specs.declared.owners.entry.Entry.{Entry}
 use Rattle.arc_owners.specs.declared.owners.event.Event.{Event}
 use Rattle.arc_owners.specs.declared.owners.entry.Entry.TheVariants.{Down}
@@ -27,3 +27,7 @@ Agrees began m history =
 -- the run of these events on a block from its beginning agrees with the history
 abbrev pub RunAgrees : ℕ → Beginning → List Event → List Entry → Type 0
 RunAgrees most began events history = Agrees began (after_events most began events) history
+
+-- the entry is what one event of the word machine writes, whatever state tells the history before it and whichever thread makes it
+abbrev pub IsOneEvent : ℕ → Beginning → List Entry → Entry → Type 0
+IsOneEvent most began history entry = (m : Machine) (thread : ℕ) → Tells began m history → (event : Event) × (may_happen most m event ≡ true) × Tells began (changed m event) (history ++ entry ∷ [])

@@ -1,16 +1,21 @@
 //! Who owns a block: the events that threads make on its word, the history that they write, and the plain program that replays them.
 
+mod counted;
 mod entry;
 mod event;
 mod interleavings;
 mod replays;
+mod word;
 mod world;
 
+pub use counted::{Last, Owners, Pass, Release, Share};
 pub use entry::Entry;
 pub use event::Event;
 pub use interleavings::keeps;
 pub use replays::{replay, replay_lone};
 pub use world::World;
 
+#[cfg(test)]
+mod counted_tests;
 #[cfg(test)]
 mod tests;

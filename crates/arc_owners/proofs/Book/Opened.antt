@@ -1,0 +1,128 @@
+-- The book opened for one step, with the number of the word, a pass and a share of an owner's right; and shut again with one more line. Assumes `Logic`.
+use Rattle.std.proofs.Common.{◌≡◌, ℕ, ◌<◌, Bool, true, false, List, [], ◌∷◌, ◌++◌, length, get_or, refl, sym, ap, ◌∙◌, subst, arith}
+use mathlib.Core.List.{IsPrefix}
+use seplogic.Ra.Ura.{Ura}
+use base.Fraction.{full_share}
+use base.Share.{quarter, three_quarters}
+use base.Stored.{coded_ℕ}
+use base.Logic.{SProp, ent, sep, upd, upd_i}
+use base.Fml.{Share, Fml, ftrue}
+use types.Logic.{Logic, sem}
+use types.Kit.{‵, raw, ◌⊛◌, given, ◌$◌, ◌∵◌, !, qed, by, move, drop, split, split3, fsplit, fjoin, fpick, fpack, learn, check, done, frame, use1, use2, use3, rewrite, suffices, settle}
+use denote.Steps.{nothing}
+use Rattle.arc_owners.specs.declared.owners.entry.Entry.{Entry}
+use Rattle.arc_owners.specs.Histories.{is_counted, MayFollow}
+use Rattle.arc_owners.specs.Machine.{beginning}
+use Rattle.arc_owners.specs.Book.{Names, Line, entries_of, made_by, reached, withheld, has_place, located, Lease, lease_coded, no_lease, Seat, seat_coded, fresh_seat, cell, row, right, counted_as, pool, how_many, Account, Fits, standing, contents, behind, pass_holds, Adds, left_by, added}
+use Rattle.arc_owners.proofs.Book.Rolls.{entries-append, made-own}
+use Rattle.arc_owners.proofs.Book.Events.{IsStep, one_event}
+use Rattle.arc_owners.proofs.Book.Accounts.{seat_of, seat_set, wrote}
+use Rattle.arc_owners.proofs.Book.Cells.{cell_whole, cell_parts, row_finds, row_writes}
+use Rattle.arc_owners.proofs.Book.Parts.{top, Seen, sees, writes, counts, keyed, stays}
+
+module _ {M : Type 1} {𝓤 : Ura M} (𝓛 : Logic 𝓤) (t : Names) where
+  abbrev Pr : Type 2
+  Pr = SProp 𝓤
+
+  abbrev ◌⊢◌ : Pr → Pr → Type 1
+  P ⊢ Q = ent 𝓤 P Q
+
+  abbrev ◌∗◌ : Pr → Pr → Pr
+  P ∗ Q = sep 𝓤 P Q
+
+  abbrev ⟦◌⟧ : Fml → Pr
+  ⟦ P ⟧ = sem 𝓛 P
+
+  infix 26 ◌⊢◌
+  infixr 35 ◌∗◌
+  abbrev pub latest_of : List Line → Fml
+  latest_of ls = top 𝓛 t t.whole ls
+
+  abbrev pub rolled : List (Bool × Lease) → Fml
+  rolled xs = row lease_coded no_lease t.rights 0 xs
+
+  abbrev pub seated : List (Bool × Seat) → Fml
+  seated xs = row seat_coded fresh_seat t.passes 0 xs
+
+  abbrev pub seat : ℕ → Bool → List Entry → Fml
+  seat p ready made = cell seat_coded t.passes p quarter (ready, made)
+
+  pub shuts : (a : Account) → Fits t a → ⟦ latest_of a.lines ⟧ ∗ ⟦ located t a.lines ⟧ ∗ ⟦ rolled a.roll ⟧ ∗ ⟦ seated a.seats ⟧ ∗ ⟦ counted_as t three_quarters (how_many a.roll) ⟧ ∗ ⟦ pool a.lease (how_many a.roll) ⟧ ⊢ ⟦ contents t ⟧
+  shuts a f = qed 𝓛 (‵ (latest_of a.lines) ∷ ‵ (located t a.lines) ∷ ‵ (rolled a.roll) ∷ ‵ (seated a.seats) ∷ ‵ (counted_as t three_quarters (how_many a.roll)) ∷ ‵ (pool a.lease (how_many a.roll)) ∷ []) ∵
+      nothing ! $ fpack ! (Fits t a) (λ _. ftrue) f $ move ! (5 ∷ 6 ∷ 0 ∷ []) $ fjoin ! $ fjoin ! $ move ! (4 ∷ 0 ∷ []) $ fjoin ! $ move ! (3 ∷ 0 ∷ []) $ fjoin ! $ move ! (2 ∷ 0 ∷ []) $ fjoin ! $ move ! (1 ∷ 0 ∷ []) $ fjoin ! $
+      fpack ! Account (standing t) a $ done !
+
+  module _ (n p : ℕ) (ready : Bool) (seen : List Line) (o : ℕ) (l : Lease) (q : Share) where
+    -- what the open book shows
+    pub record Shown (a : Account) : Type 0 where
+      pub fits : Fits t a
+      pub number : n ≡ how_many a.roll
+      pub counted : counts 𝓛 t a.lines
+      pub seat_is : (p < length a.seats) × (seat_of a.seats p ≡ (true, (ready, made_by p seen)))
+      pub owner_is : (o < length a.roll) × (get_or a.roll o (false, no_lease) ≡ (true, l))
+      pub seen_is : IsPrefix seen a.lines × (t.whole ≡ true → seen ≡ a.lines)
+
+    abbrev pub Open : Account → Pr → Pr
+    Open a X = ⟦ latest_of a.lines ⟧ ∗ ⟦ withheld t t.whole seen ⟧ ∗ ⟦ rolled a.roll ⟧ ∗ ⟦ right t o l q ⟧ ∗ ⟦ seated a.seats ⟧ ∗ ⟦ seat p ready (made_by p seen) ⟧ ∗ ⟦ located t a.lines ⟧ ∗ ⟦ has_place t ⟧ ∗ ⟦ counted_as t full_share (how_many a.roll) ⟧ ∗ ⟦ pool a.lease (how_many a.roll) ⟧ ∗ X
+
+    pub opened : (X Z : Pr) → ((a : Account) → Shown a → Open a X ⊢ Z) → ⟦ behind t n ⟧ ∗ ⟦ contents t ⟧ ∗ ⟦ pass_holds t p ready seen ⟧ ∗ ⟦ right t o l q ⟧ ∗ X ⊢ Z
+    opened X Z k = let w : Bool = t.whole in qed 𝓛 (‵ (behind t n) ∷ ‵ (contents t) ∷ ‵ (pass_holds t p ready seen) ∷ ‵ (right t o l q) ∷ raw X ∷ []) ∵
+        move ! (2 ∷ []) $ fsplit ! $ move ! (1 ∷ []) $ fsplit ! $ move ! (3 ∷ []) $ fsplit ! $ move ! (5 ∷ []) $
+        -- [contents; the count's quarter; the key; withheld; seat; reached; right; X]
+        fpick ! (λ a. fsplit ! $ move ! (1 ∷ []) $ fsplit ! $ move ! (1 ∷ []) $ fsplit ! $ move ! (1 ∷ []) $ fsplit ! $ move ! (1 ∷ []) $ fsplit ! $ move ! (1 ∷ []) $ fpick ! (λ f. drop ! $ fsplit ! $
+        -- [three quarters; pool; seats; roll; located; latest; the count's quarter; the key; withheld; seat; reached; right; X]
+        move ! (6 ∷ 0 ∷ []) $ use2 𝓛 (given (n ≡ how_many a.roll) (‵ (counted_as t full_share (how_many a.roll)))) (cell_whole coded_ℕ 𝓛 t.count 0 n (how_many a.roll)) $ learn ! (λ number.
+        -- [count; pool; seats; roll; located; latest; the key; withheld; seat; reached; right; X]
+        move ! (4 ∷ 6 ∷ []) $ use2 𝓛 (given (counts 𝓛 t a.lines) (‵ (located t a.lines) ⊛ ‵ (has_place t))) (keyed 𝓛 t a.lines) $ learn ! (λ counted. split ! $
+        -- [located; the key; count; pool; seats; roll; latest; withheld; seat; reached; right; X]
+        move ! (4 ∷ 8 ∷ []) $ use2 𝓛 (given ((p < length a.seats) × (seat_of a.seats p ≡ (true, (ready, made_by p seen)))) (‵ (seated a.seats) ⊛ ‵ (seat p ready (made_by p seen))))
+        (row_finds seat_coded 𝓛 t.passes fresh_seat a.seats 0 p p quarter (ready, made_by p seen) (omega arith)) $ learn ! (λ seat_is. split ! $
+        -- [seats; seat; located; the key; count; pool; roll; latest; withheld; reached; right; X]
+        move ! (6 ∷ 10 ∷ []) $ use2 𝓛 (given ((o < length a.roll) × (get_or a.roll o (false, no_lease) ≡ (true, l))) (‵ (rolled a.roll) ⊛ ‵ (right t o l q)))
+        (row_finds lease_coded 𝓛 t.rights no_lease a.roll 0 o o q l (omega arith)) $ learn ! (λ owner_is. split ! $
+        -- [roll; right; seats; seat; located; the key; count; pool; latest; withheld; reached; X]
+        move ! (8 ∷ 10 ∷ 9 ∷ []) $ use3 𝓛 (given (Seen 𝓛 t w seen a.lines) (‵ (latest_of a.lines) ⊛ ‵ (withheld t w seen))) (sees 𝓛 t w seen a.lines) $ learn ! (λ seen_is. split ! $
+        by ! (k a (record { fits = f; number = number; counted = counted; seat_is = seat_is; owner_is = owner_is; seen_is = seen_is })))))))))
+
+    module _ (a : Account) (so : Shown a) (entry : List Line → Entry) (roll : List (Bool × Lease)) where
+      abbrev e : Entry
+      e = entry a.lines
+
+      abbrev a' : Account
+      a' = wrote a p ready e roll
+
+      abbrev n' : ℕ
+      n' = how_many roll
+
+      abbrev pub Done : (List Line → Fml) → Pr
+      Done gain = ⟦ behind t n' ⟧ ∗ ⟦ contents t ⟧ ∗ ⟦ added t p ready seen entry gain ⟧
+
+      pub made-kept : made_by p a.lines ≡ made_by p seen
+      made-kept = sym (so.fits.made p) ∙ ap (λ (s : Bool × Seat). s.1.1) so.seat_is.1
+
+      pub shut : (gain : List Line → Fml) → IsStep e → MayFollow t.most (beginning t.counted) (entries_of a.lines) e → Fits t a'
+          → ⟦ latest_of a.lines ⟧ ∗ ⟦ withheld t t.whole seen ⟧ ∗ ⟦ rolled roll ⟧ ∗ ⟦ seated a.seats ⟧ ∗ ⟦ seat p ready (made_by p seen) ⟧ ∗ ⟦ located t a.lines ⟧ ∗ ⟦ has_place t ⟧ ∗ ⟦ counted_as t full_share (how_many a.roll) ⟧ ∗ ⟦ pool a.lease n' ⟧ ∗ ⟦ gain a.lines ⟧
+          ⊢ upd 𝓤 (Done gain)
+      shut gain step may f = let w : Bool = t.whole in let Z : Pr = Done gain in let ls : List Line = a'.lines in let made : List Entry = made_by p a.lines ++ e ∷ [] in
+          qed 𝓛 (‵ (latest_of a.lines) ∷ ‵ (withheld t w seen) ∷ ‵ (rolled roll) ∷ ‵ (seated a.seats) ∷ ‵ (seat p ready (made_by p seen)) ∷ ‵ (located t a.lines) ∷ ‵ (has_place t) ∷ ‵ (counted_as t full_share (how_many a.roll)) ∷ ‵ (pool a.lease n') ∷ ‵ (gain a.lines) ∷ []) ∵
+          use2 𝓛 (raw (upd 𝓤 (⟦ latest_of ls ⟧ ∗ ⟦ reached t ls ⟧ ∗ ⟦ withheld t w ls ⟧))) (writes 𝓛 t w seen a.lines ((p, e) ∷ []) so.seen_is.1) $
+          settle 𝓛 Z (‵ (latest_of ls) ⊛ ‵ (reached t ls) ⊛ ‵ (withheld t w ls)) $ split3 ! $
+          -- [latest; reached; withheld; roll; seats; seat; located; the key; count; pool; gain]
+          move ! (4 ∷ 5 ∷ []) $ use2 𝓛 (raw (upd 𝓤 (⟦ seated (seat_set a.seats p ready made) ⟧ ∗ ⟦ seat p ready made ⟧)))
+          (row_writes seat_coded 𝓛 t.passes fresh_seat a.seats p (ready, made_by p seen) (ready, made) so.seat_is.0 so.seat_is.1) $ settle 𝓛 Z (‵ (seated (seat_set a.seats p ready made)) ⊛ ‵ (seat p ready made)) $ split ! $
+          -- [seats; seat; latest; reached; withheld; roll; located; the key; count; pool; gain]
+          move ! (8 ∷ []) $ use1 𝓛 (raw (upd 𝓤 (⟦ counted_as t quarter n' ⟧ ∗ ⟦ counted_as t three_quarters n' ⟧))) (cell_parts coded_ℕ 𝓛 t.count 0 (how_many a.roll) n') $
+          settle 𝓛 Z (‵ (counted_as t quarter n') ⊛ ‵ (counted_as t three_quarters n')) $ split ! $
+          -- [quarter; three quarters; seats; seat; latest; reached; withheld; roll; located; the key; pool; gain]
+          move ! (8 ∷ []) $ use1 𝓛 (‵ (located t ls)) (stays 𝓛 t a.lines p e so.counted) $
+          -- [located; quarter; three quarters; seats; seat; latest; reached; withheld; roll; the key; pool; gain]
+          rewrite ! 4 (λ (m : List Entry). ‵ (seat p ready m)) (sym (made-own p a.lines e)) refl $
+          suffices ! _ (upd_i 𝓤 Z) $ move ! (7 ∷ 4 ∷ []) $ fjoin ! $ move ! (6 ∷ 0 ∷ []) $ fjoin ! $
+          -- [pass; located; quarter; three quarters; seats; latest; roll; the key; pool; gain]
+          move ! (0 ∷ 9 ∷ []) $ fjoin ! $ nothing ! $ fpack ! (Adds t p seen a.lines e) (λ _. ftrue)
+          (record { after_seen = so.seen_is.0; own = made-kept; undisturbed = so.seen_is.1; may = may; legal = subst (λ (es : List Entry). Rattle.arc_owners.specs.Histories.IsLegal t.most (beginning t.counted) es) (entries-append a.lines p e) f.legal; event = one_event t.most (beginning t.counted) (entries_of a.lines) so.fits.legal so.counted e step may }) $
+          fjoin ! $ fpack ! (List Line) (left_by t p ready seen entry gain) a.lines $
+          -- [added; located; quarter; three quarters; seats; latest; roll; the key; pool]
+          move ! (2 ∷ 7 ∷ []) $ fjoin ! $ frame ! $
+          -- [added; located; three quarters; seats; latest; roll; pool]
+          move ! (4 ∷ 1 ∷ 5 ∷ 3 ∷ 2 ∷ 6 ∷ 0 ∷ []) $ types.Kit.group ! 6 $ use1 𝓛 (‵ (contents t)) (shuts a' f) $ done !

@@ -1,0 +1,108 @@
+-- The parts of an open book, one at a time: its history, where the count lies, the count, and the lifetime. Assumes `Logic`.
+use Rattle.std.proofs.Common.{◌≡◌, ℕ, zero, suc, ◌+◌, ◌-◌, ◌^◌, ◌<◌, Bool, true, false, List, [], ◌∷◌, ◌++◌, refl, sym, ap, ◌∙◌, arith}
+use Rattle.std.proofs.lemmas.Bool.{false≢true}
+use mathlib.Core.Option.{Option, none, some}
+use mathlib.Core.List.{IsPrefix}
+use seplogic.Ra.Ura.{Ura}
+use base.Fraction.{full_share}
+use base.Share
+use base.Share.{quarter, three_quarters}
+use base.Logic.{SProp, ent, sep, guard, upd, upd_i}
+use base.Fml.{Fml, ftrue, fsep, flft}
+use base.Growing.{latest, at_least, once}
+use types.Logic.{Logic, sem}
+use types.Growing.{latest_grows, latest_shows, latest_bounds, latest_agrees, latest_cut, latest_glue}
+use types.Keyed.{ticket}
+use types.RcWeak.{rest, takes, gives, whole}
+use types.Kit.{‵, raw, ◌⊛◌, given, ◌$◌, ◌∵◌, !, qed, move, drop, split, fsplit, fjoin, fpick, fpack, learn, check, done, use1, use2, rewrite, suffices, settle}
+use denote.Steps.{nothing}
+use Rattle.arc_owners.specs.declared.owners.entry.Entry.{Entry}
+use Rattle.arc_owners.specs.Histories.{is_counted}
+use Rattle.arc_owners.specs.Machine.{beginning}
+use Rattle.arc_owners.specs.Book.{Names, Line, entries_of, lines_order, authority, reached, withheld, places, is_there, has_place, located, told, Lease, pool, stake}
+use Rattle.arc_owners.proofs.Steps.{counted-more}
+use Rattle.arc_owners.proofs.Book.Rolls.{entries-append}
+
+module _ {M : Type 1} {𝓤 : Ura M} (𝓛 : Logic 𝓤) (t : Names) where
+  abbrev Pr : Type 2
+  Pr = SProp 𝓤
+
+  abbrev ◌⊢◌ : Pr → Pr → Type 1
+  P ⊢ Q = ent 𝓤 P Q
+
+  abbrev ◌∗◌ : Pr → Pr → Pr
+  P ∗ Q = sep 𝓤 P Q
+
+  abbrev ⟦◌⟧ : Fml → Pr
+  ⟦ P ⟧ = sem 𝓛 P
+
+  infix 26 ◌⊢◌
+  infixr 35 ◌∗◌
+  abbrev pub top : Bool → List Line → Fml
+  top w ls = latest lines_order (authority w) t.history ls
+
+  -- what a pass has seen is a beginning of the history, and under `Whole` all of it
+  abbrev pub Seen : Bool → List Line → List Line → Type 0
+  Seen w seen ls = IsPrefix seen ls × (w ≡ true → seen ≡ ls)
+
+  pub sees : (w : Bool) (seen ls : List Line) → ⟦ top w ls ⟧ ∗ ⟦ reached t seen ⟧ ∗ ⟦ withheld t w seen ⟧ ⊢ guard 𝓤 (Seen w seen ls) (⟦ top w ls ⟧ ∗ ⟦ withheld t w seen ⟧)
+  sees true seen ls = qed 𝓛 (‵ (top true ls) ∷ ‵ (reached t seen) ∷ ‵ (withheld t true seen) ∷ []) ∵
+      use2 𝓛 (given (IsPrefix seen ls) (‵ (top true ls) ⊛ ‵ (reached t seen))) (latest_bounds lines_order 𝓛 three_quarters t.history ls seen) $ learn ! (λ p. split ! $ move ! (1 ∷ []) $ drop ! $ move ! (1 ∷ 0 ∷ []) $
+      use2 𝓛 (given (seen ≡ ls) (‵ (withheld t true seen) ⊛ ‵ (top true ls))) (latest_agrees lines_order 𝓛 quarter three_quarters t.history seen ls) $ learn ! (λ e. check ! (p, λ _. e) $ split ! $ move ! (1 ∷ 0 ∷ []) $ done !))
+  sees false seen ls = qed 𝓛 (‵ (top false ls) ∷ ‵ (reached t seen) ∷ ‵ (withheld t false seen) ∷ []) ∵
+      use2 𝓛 (given (IsPrefix seen ls) (‵ (top false ls) ⊛ ‵ (reached t seen))) (latest_bounds lines_order 𝓛 full_share t.history ls seen) $ learn ! (λ p. split ! $ move ! (1 ∷ []) $ drop ! $
+      check ! (p, λ (e : false ≡ true). absurd (false≢true e)) $ done !)
+
+  abbrev Written : Bool → List Line → Pr
+  Written w ls = ⟦ top w ls ⟧ ∗ ⟦ reached t ls ⟧ ∗ ⟦ withheld t w ls ⟧
+
+  pub writes : (w : Bool) (seen ls more : List Line) → (w ≡ true → seen ≡ ls) → ⟦ top w ls ⟧ ∗ ⟦ withheld t w seen ⟧ ⊢ upd 𝓤 (Written w (ls ++ more))
+  writes true seen ls more all_seen = let all : List Line = ls ++ more in let Z : Pr = Written true all in qed 𝓛 (‵ (top true ls) ∷ ‵ (withheld t true seen) ∷ []) ∵
+      rewrite ! 1 (λ (s : List Line). ‵ (withheld t true s)) (all_seen refl) refl $ move ! (1 ∷ 0 ∷ []) $
+      use2 𝓛 (‵ (latest lines_order full_share t.history ls)) (latest_glue lines_order 𝓛 full_share quarter three_quarters t.history ls Share.quarters) $
+      use1 𝓛 (raw (upd 𝓤 ⟦ latest lines_order full_share t.history all ⟧)) (latest_grows lines_order 𝓛 t.history ls all (more, refl)) $ settle 𝓛 Z (‵ (latest lines_order full_share t.history all)) $
+      use1 𝓛 (‵ (latest lines_order full_share t.history all) ⊛ ‵ (reached t all)) (latest_shows lines_order 𝓛 full_share t.history all all (lines_order.same all)) $ split ! $
+      use1 𝓛 (‵ (withheld t true all) ⊛ ‵ (top true all)) (latest_cut lines_order 𝓛 full_share quarter three_quarters t.history all Share.quarters) $ split ! $
+      suffices ! _ (upd_i 𝓤 Z) $ move ! (1 ∷ 2 ∷ 0 ∷ []) $ done !
+  writes false seen ls more all_seen = let all : List Line = ls ++ more in let Z : Pr = Written false all in qed 𝓛 (‵ (top false ls) ∷ ‵ (withheld t false seen) ∷ []) ∵
+      use1 𝓛 (raw (upd 𝓤 ⟦ top false all ⟧)) (latest_grows lines_order 𝓛 t.history ls all (more, refl)) $ settle 𝓛 Z (‵ (top false all)) $
+      use1 𝓛 (‵ (top false all) ⊛ ‵ (reached t all)) (latest_shows lines_order 𝓛 full_share t.history all all (lines_order.same all)) $ split ! $ suffices ! _ (upd_i 𝓤 Z) $ done !
+
+  abbrev pub counts : List Line → Type 0
+  counts ls = is_counted (beginning t.counted) (entries_of ls) ≡ true
+
+  -- whoever knows that the count has a place knows that the word is counted
+  there : (y : ℕ × ℕ) (x : Option (ℕ × ℕ)) → places.le (some y) x → is_there x ≡ true
+  unfolding once
+  there y none h = absurd h
+  there y (some x) h = refl
+
+  pub keyed : (ls : List Line) → ⟦ located t ls ⟧ ∗ ⟦ has_place t ⟧ ⊢ guard 𝓤 (counts ls) (⟦ located t ls ⟧ ∗ ⟦ has_place t ⟧)
+  keyed ls = let F : Option (ℕ × ℕ) → Fml = λ x. fsep (latest places three_quarters t.place x) (told (is_counted (beginning t.counted) (entries_of ls) ≡ is_there x)) in let G : ℕ × ℕ → Fml = λ y. at_least places t.place (some y) in
+      qed 𝓛 (‵ (located t ls) ∷ ‵ (has_place t) ∷ []) ∵ fpick ! (λ x. fsplit ! $ move ! (1 ∷ []) $ fpick ! (λ e. drop ! $ move ! (1 ∷ []) $ fpick ! (λ y. move ! (1 ∷ 0 ∷ []) $
+      use2 𝓛 (given (places.le (some y) x) (‵ (latest places three_quarters t.place x) ⊛ ‵ (at_least places t.place (some y)))) (latest_bounds places 𝓛 three_quarters t.place x (some y)) $
+      learn ! (λ le. check ! (e ∙ there y x le) $ split ! $ nothing ! $ fpack ! (is_counted (beginning t.counted) (entries_of ls) ≡ is_there x) (λ _. ftrue) e $ move ! (1 ∷ 0 ∷ []) $ fjoin ! $ fpack ! (Option (ℕ × ℕ)) F x $
+      move ! (1 ∷ []) $ fpack ! (ℕ × ℕ) G y $ move ! (1 ∷ 0 ∷ []) $ done !))))
+
+  -- a count keeps its place
+  pub stays : (ls : List Line) (p : ℕ) (e : Entry) → counts ls → ⟦ located t ls ⟧ ⊢ ⟦ located t (ls ++ (p, e) ∷ []) ⟧
+  stays ls p e c = let more : List Line = ls ++ (p, e) ∷ [] in let F : Option (ℕ × ℕ) → Fml = λ x. fsep (latest places three_quarters t.place x) (told (is_counted (beginning t.counted) (entries_of more) ≡ is_there x)) in
+      qed 𝓛 (‵ (located t ls) ∷ []) ∵ fpick ! (λ x. fsplit ! $ move ! (1 ∷ []) $ fpick ! (λ is. drop ! $ nothing ! $
+      fpack ! (is_counted (beginning t.counted) (entries_of more) ≡ is_there x) (λ _. ftrue) (ap (is_counted (beginning t.counted)) (entries-append ls p e) ∙ (counted-more (beginning t.counted) (entries_of ls) e c ∙ (sym c ∙ is))) $
+      move ! (1 ∷ 0 ∷ []) $ fjoin ! $ fpack ! (Option (ℕ × ℕ)) F x $ done !))
+
+  -- the pool of the lifetime, with one owner more, one less, and none
+  pub pool_more : (l : Lease) (n m : ℕ) → 0 < n → m ≡ n + 1 → m < 2 ^ 64 → ⟦ pool l n ⟧ ⊢ ⟦ pool l m ⟧ ∗ ⟦ stake l ⟧
+  pool_more l zero m live is fits = absurd (omega arith)
+  pool_more l (suc n) zero live is fits = absurd (omega arith)
+  pool_more l (suc n) (suc m) live is fits = let e : suc n + 1 ≡ suc m = omega arith in qed 𝓛 (‵ (pool l (suc n)) ∷ []) ∵ fsplit ! $
+      use1 𝓛 (‵ (rest 64 l.0 (suc n + 1)) ⊛ ‵ (stake l)) (takes 64 𝓛 l.0 (suc n) (omega arith)) $ split ! $ rewrite ! 0 (λ (k : ℕ). ‵ (rest 64 l.0 k)) e refl $ move ! (0 ∷ 2 ∷ []) $ fjoin ! $ done !
+
+  pub pool_less : (l : Lease) (n m : ℕ) → 0 < m → n ≡ m + 1 → ⟦ pool l n ⟧ ∗ ⟦ stake l ⟧ ⊢ ⟦ pool l m ⟧
+  pool_less l zero m live is = absurd (omega arith)
+  pool_less l (suc n) zero live is = absurd (omega arith)
+  pool_less l (suc n) (suc m) live is = let e : suc n - 1 ≡ suc m = omega arith in qed 𝓛 (‵ (pool l (suc n)) ∷ ‵ (stake l) ∷ []) ∵ fsplit ! $ move ! (0 ∷ 2 ∷ []) $
+      use2 𝓛 (‵ (rest 64 l.0 (suc n - 1))) (gives 64 𝓛 l.0 (suc n) (omega arith)) $ rewrite ! 0 (λ (k : ℕ). ‵ (rest 64 l.0 k)) e refl $ fjoin ! $ done !
+
+  pub pool_last : (l : Lease) → ⟦ pool l 1 ⟧ ∗ ⟦ stake l ⟧ ⊢ ⟦ flft (l.0 ∷ []) full_share ⟧ ∗ ⟦ ticket l.1 0 ⟧
+  pool_last l = qed 𝓛 (‵ (pool l 1) ∷ ‵ (stake l) ∷ []) ∵ fsplit ! $ move ! (0 ∷ 2 ∷ []) $ use2 𝓛 (‵ (flft (l.0 ∷ []) full_share)) (whole 64 𝓛 l.0) $ done !

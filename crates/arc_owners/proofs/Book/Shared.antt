@@ -1,0 +1,108 @@
+-- What a `&` to an owner's right or to a pass holds, and that all of it may go to another thread. Assumes `Logic`.
+use Rattle.std.proofs.Common.{ℕ, zero, suc, Bool, true, false, List, [], ◌∷◌}
+use seplogic.Ra.Ura.{Ura}
+use base.Share
+use base.Share.{quarter}
+use base.Logic.{SProp, ent, sep, wand, ex, emp, id⊢, snd∗}
+use base.Fml.{Lft, Share, Fml, Incl-refl, ftrue, fsep, fbor, fshr_bor, fnamed}
+use base.Growing.{latest, at_least}
+use base.Shift.{Keyless}
+use base.Before.{before}
+use ghost.Rules.{Halves}
+use types.Logic.{Logic, sem, lfts}
+use types.Growing.{at_least_dup}
+use types.Keyed.{entry_keyless, token}
+use types.Tokens.{bor_fracture}
+use types.Frac.{shr_bor-Acc_by}
+use types.Kit.{‵, raw, ◌⊛◌, ◌$◌, ◌∵◌, !, qed, by, move, drop, split, fsplit, fjoin, use1, updating, now, done}
+use denote.Sharing.{ShrLaws, said, one}
+use denote.SharingLaws.{beside_shr_laws, one_shr_laws, nothing_shr_laws}
+use denote.Struct.Lending.{Lends, Lends-first, Lends-both, Lends-nothing}
+use Rattle.logbook.proofs.Fields.{lends_twice}
+use Rattle.arc_owners.specs.Book.{Names, Line, Lease, lease_coded, no_lease, seat_coded, fresh_seat, halved, lines_order, reached, withheld, pool, right, contents, known, behind, right_owns, right_shares, trace_owns, trace_shares, spoils, stake}
+use Rattle.arc_owners.proofs.Book.Cells.{row_keyless, cell_cut, cell_joins}
+
+pool_keyless : (l : Lease) (n : ℕ) → Keyless (pool l n)
+pool_keyless l zero = tt
+pool_keyless l (suc n) = ((λ r f. tt), entry_keyless token l.1 0 tt)
+
+contents_keyless : (t : Names) → Keyless (contents t)
+unfolding latest
+contents_keyless t = λ a. (tt, ((λ x. (tt, λ _. tt)), (row_keyless lease_coded no_lease t.rights 0 a.roll, (row_keyless seat_coded fresh_seat t.passes 0 a.seats, ((entry_keyless (halved base.Stored.coded_ℕ) t.count 0 _, pool_keyless a.lease _), λ _. tt)))))
+
+pub known_keyless : (t : Names) (ls : List Line) → Keyless (known t ls)
+unfolding at_least
+known_keyless t ls = (contents_keyless t, tt)
+
+pub behind_keyless : (t : Names) (n : ℕ) → Keyless (behind t n)
+unfolding at_least
+behind_keyless t n = (entry_keyless (halved base.Stored.coded_ℕ) t.count 0 _, λ x. tt)
+
+pub right_keyless : (h : Bool) (t : Names) (o : ℕ) (l : Lease) (born : List Line) → Keyless (right_owns h t o l born)
+right_keyless true t o l born = (known_keyless t born, (entry_keyless (halved lease_coded) t.rights o _, λ e c. tt))
+right_keyless false t o l born = tt
+
+withheld_keyless : (t : Names) (w : Bool) (ls : List Line) → Keyless (withheld t w ls)
+unfolding latest
+withheld_keyless t true ls = tt
+withheld_keyless t false ls = tt
+
+pub trace_keyless : (b : Bool) (t : Names) (p : ℕ) (ready : Bool) (seen : List Line) → Keyless (trace_owns b t p ready seen)
+trace_keyless true t p ready seen = (known_keyless t seen, (withheld_keyless t t.whole seen, entry_keyless (halved seat_coded) t.passes p _))
+trace_keyless false t p ready seen = tt
+
+pub trace_shared_keyless : (b : Bool) (t : Names) (seen : List Line) → Keyless (trace_shares b t seen)
+trace_shared_keyless true t seen = known_keyless t seen
+trace_shared_keyless false t seen = tt
+
+pub spoils_keyless : (l : Lease) (b : Bool) → Keyless (spoils l b)
+spoils_keyless l true = (tt, entry_keyless token l.1 0 tt)
+spoils_keyless l false = tt
+
+module _ {M : Type 1} {𝓤 : Ura M} (𝓛 : Logic 𝓤) (t : Names) where
+  open 𝓛 use {H, A}
+
+  abbrev ⟦◌⟧ : Fml → SProp 𝓤
+  ⟦ P ⟧ = sem 𝓛 P
+
+  pub known_twice : (ls : List Line) → ent 𝓤 ⟦ known t ls ⟧ (sep 𝓤 ⟦ known t ls ⟧ ⟦ known t ls ⟧)
+  known_twice ls = let N : Fml = fnamed t.number (contents t) in qed 𝓛 (‵ (known t ls) ∷ []) ∵ fsplit ! $ use1 𝓛 (‵ N ⊛ ‵ N) (𝓛.invs.named_dup t.number (contents t)) $ split ! $ move ! (2 ∷ []) $
+      use1 𝓛 (‵ (reached t ls) ⊛ ‵ (reached t ls)) (at_least_dup lines_order 𝓛 t.history ls) $ split ! $ move ! (2 ∷ 0 ∷ []) $ fjoin ! $ move ! (2 ∷ 1 ∷ []) $ fjoin ! $ done !
+
+  module _ (o : ℕ) (l : Lease) where
+    abbrev R : Share → Fml
+    R q = right t o l q
+
+    pub right_halves : Halves 𝓤 H A R
+    right_halves = record { cut = λ q. cell_cut lease_coded 𝓛 t.rights o q (Share.left q) (Share.right q) l (Share.halves q); join = λ q. cell_joins lease_coded 𝓛 t.rights o q (Share.left q) (Share.right q) l (Share.halves q) }
+
+    fractured : (λ' : Lft) → Lends 𝓛 (R quarter) (one R) λ'
+    fractured λ' κ ts inc sp = qed 𝓛 (‵ (fbor κ (R quarter)) ∷ raw (lfts 𝓛 ts) ∷ []) {P = H.⇛ (sep 𝓤 ⟦ fshr_bor κ R ⟧ (lfts 𝓛 ts))} (updating ! $ bor_fracture ! tt R quarter $ now ! $ done !)
+
+    -- a `&` to an owner's right has its book, and shares of the right
+    pub right_lends : (h : Bool) (born : List Line) (λ' : Lft) → Lends 𝓛 (right_owns h t o l born) (right_shares h t o l born) λ'
+    right_lends true born λ' = Lends-both 𝓛 (known t born) (fsep (R quarter) (stake l)) (said (known t born)) (one R) λ' (lends_twice 𝓛 (known t born) (known_twice born) λ') (Lends-first 𝓛 (R quarter) (stake l) (one R) λ' (fractured λ'))
+    right_lends false born λ' = Lends-nothing 𝓛 ftrue λ'
+
+    pub right_read : (born : List Line) (κ : Lft) (q : Share) → ent 𝓤 (sep 𝓤 ⟦ right_shares true t o l born κ ⟧ (A.lft κ q)) (H.⇛ (ex 𝓤 (λ (s : Share). sep 𝓤 ⟦ R s ⟧ (wand 𝓤 ⟦ R s ⟧ (H.⇛ (A.lft κ q))))))
+    right_read born κ q = qed 𝓛 (‵ (right_shares true t o l born κ) ∷ ‵ (base.Fml.flft κ q) ∷ []) ∵ fsplit ! $ drop ! $ by ! (shr_bor-Acc_by 𝓛 R right_halves κ ((κ, q) ∷ []) (Incl-refl κ))
+
+  pub trace_lends : (b : Bool) (p : ℕ) (ready : Bool) (seen : List Line) (λ' : Lft) → Lends 𝓛 (trace_owns b t p ready seen) (said (trace_shares b t seen)) λ'
+  trace_lends true p ready seen λ' = Lends-first 𝓛 (known t seen) _ (said (known t seen)) λ' (lends_twice 𝓛 (known t seen) (known_twice seen) λ')
+  trace_lends false p ready seen λ' = Lends-nothing 𝓛 ftrue λ'
+
+  pub trace_twice : (b : Bool) (seen : List Line) → ent 𝓤 ⟦ trace_shares b t seen ⟧ (sep 𝓤 ⟦ trace_shares b t seen ⟧ ⟦ trace_shares b t seen ⟧)
+  trace_twice true seen = known_twice seen
+  trace_twice false seen = base.Logic.emp∗ 𝓤 (emp 𝓤)
+
+pub right_shr : (h : Bool) (t : Names) (o : ℕ) (l : Lease) (born : List Line) → ShrLaws (right_shares h t o l born)
+right_shr true t o l born = beside_shr_laws (said (known t born)) (one (λ q. right t o l q))
+    (record { contraction = λ M 𝓤 𝓛 κ. known_twice 𝓛 t born; mono = λ M 𝓤 𝓛 κ' κ. snd∗ 𝓤 (sem 𝓛 (before κ' κ)) (sem 𝓛 (known t born)) }) (one_shr_laws (λ q. right t o l q))
+right_shr false t o l born = nothing_shr_laws
+
+pub trace_shr : (b : Bool) (t : Names) (seen : List Line) → ShrLaws (said (trace_shares b t seen))
+trace_shr b t seen = record { contraction = λ M 𝓤 𝓛 κ. trace_twice 𝓛 t b seen; mono = λ M 𝓤 𝓛 κ' κ. snd∗ 𝓤 (sem 𝓛 (before κ' κ)) (sem 𝓛 (trace_shares b t seen)) }
+
+pub right_shared_keyless : (h : Bool) (t : Names) (o : ℕ) (l : Lease) (born : List Line) (κ : Lft) → Keyless (right_shares h t o l born κ)
+right_shared_keyless true t o l born κ = (known_keyless t born, λ q. entry_keyless (halved lease_coded) t.rights o _)
+right_shared_keyless false t o l born κ = tt

@@ -1,0 +1,319 @@
+-- What a block's word, its owners and their passes own: the ghost state behind a count.
+-- A book's invariant holds ghost state alone, and lasts for good. The word lies elsewhere, and its number and the book's agree.
+use Rattle.std.specs.Prelude.{◌≡◌, ℕ, zero, suc, ◌^◌, ◌<◌, ◌≤◌, ◌==◌, Bool, true, false, List, [], ◌∷◌, ◌++◌, length, slice_index_or, if◌then◌else◌}
+use mathlib.Core.List.{IsPrefix}
+use mathlib.Core.Option.{Option, none, some}
+use base.Fraction.{full_share}
+use base.Share.{quarter, three_quarters}
+use base.Stored.{Coded, coded×, coded_ℕ, coded_bool, coded_list, coded_via}
+use base.Algebra.{Algebra}
+use base.SetCodes.{coded}
+use base.Algebras.{both, shares, agreed}
+use base.Growing.{Order, prefixes, once, latest, at_least}
+use base.Before.{before}
+use base.Fml.{Lft, Share, Fml, ftrue, ffalse, fsep, fex, flft, fbor, fshr_bor, fnamed}
+use types.Keyed.{entry, entries_from, ticket}
+use types.RcWeak.{part, rest}
+use denote.RawPtr.{Ptr, block_ptr, null_ptr}
+use Rattle.core.specs.Sync.RawAtomic.{word}
+use Rattle.arc_owners.specs.declared.owners.entry.Entry.{Entry}
+use Rattle.arc_owners.specs.declared.owners.entry.Entry.TheVariants.{Up, Full, Down, Alone}
+use Rattle.arc_owners.specs.contracts.owners.entry.Entry as entry_type
+use Rattle.arc_owners.specs.Histories.{live_owners, owners_ever, is_counted, MayFollow, IsLegal}
+use Rattle.arc_owners.specs.Machine.{beginning}
+use Rattle.arc_owners.specs.Agreement.{IsOneEvent}
+
+-- which block it is: the number of its book, the ghost names in it, and what is fixed when it begins
+pub record Names : Type 0 where
+  pub number : ℕ
+  pub history : ℕ
+  pub rights : ℕ
+  pub passes : ℕ
+  pub count : ℕ
+  pub place : ℕ
+  pub most : ℕ
+  pub counted : Bool
+  pub whole : Bool
+
+abbrev pub names_coded : Coded Names
+names_coded = coded_via (coded× coded_ℕ (coded× coded_ℕ (coded× coded_ℕ (coded× coded_ℕ (coded× coded_ℕ (coded× coded_ℕ (coded× coded_ℕ (coded× coded_bool coded_bool))))))))
+    (λ (t : Names). (t.number, (t.history, (t.rights, (t.passes, (t.count, (t.place, (t.most, (t.counted, t.whole)))))))))
+    (λ x y e i. record { number = (e i).0; history = (e i).1.0; rights = (e i).1.1.0; passes = (e i).1.1.1.0; count = (e i).1.1.1.1.0; place = (e i).1.1.1.1.1.0; most = (e i).1.1.1.1.1.1.0; counted = (e i).1.1.1.1.1.1.1.0; whole = (e i).1.1.1.1.1.1.1.1 })
+
+-- an entry, with the number of the pass that made it
+abbrev pub Line : Type 0
+Line = ℕ × Entry
+
+abbrev pub line_coded : Coded Line
+line_coded = coded× coded_ℕ entry_type.the_row.coded
+
+abbrev pub entries_of : List Line → List Entry
+entries_of [] = []
+entries_of (l ∷ ls) = l.1 ∷ entries_of ls
+
+-- the entries that one pass made
+abbrev pub made_by : ℕ → List Line → List Entry
+made_by p [] = []
+made_by p (l ∷ ls) = if l.0 == p then l.1 ∷ made_by p ls else made_by p ls
+
+-- the lifetime for which the block is lent, and the name of the ticket for its end
+abbrev pub Lease : Type 0
+Lease = ℕ × ℕ
+
+abbrev pub lease_coded : Coded Lease
+lease_coded = coded× coded_ℕ coded_ℕ
+
+-- whether a pass is ready, and what it has made
+abbrev pub Seat : Type 0
+Seat = Bool × List Entry
+
+abbrev pub seat_coded : Coded Seat
+seat_coded = coded× coded_bool (coded_list entry_type.the_row.coded)
+
+abbrev pub told : Type 0 → Fml
+told φ = fex φ (λ _. ftrue)
+
+-- cells under one ghost name. Whoever has any share of a cell knows what it holds, and the whole share sets it
+abbrev pub halved : {X : Type 0} → Coded X → Algebra
+halved c = both shares (agreed (coded c))
+
+module _ {X : Type 0} (c : Coded X) where
+  abbrev pub cell : ℕ → ℕ → Share → X → Fml
+  cell δ k q x = entry (halved c) δ k (q, x)
+
+  -- what the book has of a cell: all but a quarter while that is out, or the whole
+  abbrev pub kept : ℕ → ℕ → Bool × X → Fml
+  kept δ k (true, x) = cell δ k three_quarters x
+  kept δ k (false, x) = cell δ k full_share x
+
+  abbrev pub row : X → ℕ → ℕ → List (Bool × X) → Fml
+  row first δ k [] = entries_from (halved c) δ k (λ _. (full_share, first))
+  row first δ k (x ∷ xs) = fsep (kept δ k x) (row first δ (suc k) xs)
+
+abbrev pub no_lease : Lease
+no_lease = (0, 0)
+
+abbrev pub fresh_seat : Seat
+fresh_seat = (false, [])
+
+abbrev pub counted_as : Names → Share → ℕ → Fml
+counted_as t q n = cell coded_ℕ t.count 0 q n
+
+-- the right of an owner
+abbrev pub right : Names → ℕ → Lease → Share → Fml
+right t o l q = cell lease_coded t.rights o q l
+
+abbrev pub lines_order : Order (List Line)
+lines_order = prefixes line_coded
+
+abbrev pub reached : Names → List Line → Fml
+reached t ls = at_least lines_order t.history ls
+
+-- under `Whole` the one pass of a block keeps a part of the right to write its history
+abbrev pub authority : Bool → Share
+authority true = three_quarters
+authority false = full_share
+
+abbrev pub withheld : Names → Bool → List Line → Fml
+withheld t true ls = latest lines_order quarter t.history ls
+withheld t false ls = ftrue
+
+abbrev pub places : Order (Option (ℕ × ℕ))
+places = once (coded (coded× coded_ℕ coded_ℕ))
+
+abbrev pub is_there : Option (ℕ × ℕ) → Bool
+is_there none = false
+is_there (some x) = true
+
+-- the word has a count, and so it stays
+abbrev pub has_place : Names → Fml
+has_place t = fex (ℕ × ℕ) (λ x. at_least places t.place (some x))
+
+-- the owners that live, in a roll of who does
+abbrev pub living : ℕ → List (Bool × Lease) → List ℕ
+living k [] = []
+living k (x ∷ xs) = if x.0 then k ∷ living (suc k) xs else living (suc k) xs
+
+abbrev pub upto : ℕ → ℕ → List ℕ
+upto k zero = []
+upto k (suc n) = k ∷ upto (suc k) n
+
+abbrev pub how_many : List (Bool × Lease) → ℕ
+how_many xs = length (living 0 xs)
+
+-- what a book says: its lines, who lives, its passes, and for which lifetime the block is lent
+pub record Account : Type 0 where
+  pub lines : List Line
+  pub roll : List (Bool × Lease)
+  pub seats : List (Bool × Seat)
+  pub lease : Lease
+
+pub record FitsFor (most : ℕ) (counted : Bool) (a : Account) : Type 0 where
+  pub legal : IsLegal most (beginning counted) (entries_of a.lines)
+  pub live : live_owners (entries_of a.lines) ≡ living 0 a.roll
+  pub ever : owners_ever (entries_of a.lines) ≡ upto 0 (length a.roll)
+  pub made : (p : ℕ) → (slice_index_or a.seats p (false, fresh_seat)).1.1 ≡ made_by p a.lines
+  pub leased : (o : ℕ) (l : Lease) → slice_index_or a.roll o (false, no_lease) ≡ (true, l) → l ≡ a.lease
+  pub within : how_many a.roll ≤ most
+  pub small : most < 2 ^ 64
+
+-- the account is true of the block
+abbrev pub Fits : Names → Account → Type 0
+Fits t a = FitsFor t.most t.counted a
+
+-- what the owners leave in the book of the lifetime, with the ticket for its end
+abbrev pub pool : Lease → ℕ → Fml
+pool l zero = ftrue
+pool l (suc n) = fsep (rest 64 l.0 (suc n)) (ticket l.1 0)
+
+-- what an owner has of the lifetime
+abbrev pub stake : Lease → Fml
+stake l = part 64 l.0
+
+abbrev pub located : Names → List Line → Fml
+located t ls = fex (Option (ℕ × ℕ)) (λ x. fsep (latest places three_quarters t.place x) (told (is_counted (beginning t.counted) (entries_of ls) ≡ is_there x)))
+
+abbrev pub funds : Names → Lease → ℕ → Fml
+funds t l n = fsep (counted_as t three_quarters n) (pool l n)
+
+abbrev pub standing : Names → Account → Fml
+standing t a =
+    fsep (latest lines_order (authority t.whole) t.history a.lines)
+    (fsep (located t a.lines)
+    (fsep (row lease_coded no_lease t.rights 0 a.roll)
+    (fsep (row seat_coded fresh_seat t.passes 0 a.seats)
+    (fsep (funds t a.lease (how_many a.roll)) (told (Fits t a))))))
+
+abbrev pub contents : Names → Fml
+contents t = fex Account (standing t)
+
+-- the word of a count, wherever it lies
+abbrev pub behind : Names → ℕ → Fml
+behind t n = fsep (counted_as t quarter n) (has_place t)
+
+abbrev pub lies : Names → ℕ → ℕ → ℕ → Fml
+lies t b o n = fsep (word b o n) (behind t n)
+
+abbrev pub counting : Names → ℕ → ℕ → Fml
+counting t b o = fex ℕ (lies t b o)
+
+-- the book, and a beginning of its history: what can be had twice
+abbrev pub known : Names → List Line → Fml
+known t ls = fsep (fnamed t.number (contents t)) (reached t ls)
+
+-- what an owner has: the book, the history in which it was made, its right, and its stake
+abbrev pub share_owns : Names → ℕ → Lease → List Line → Fml
+share_owns t o l born = fsep (known t born) (fsep (right t o l quarter) (stake l))
+
+-- what a pass of a block has: the book, what it has seen, and its seat, with what it has made of that
+abbrev pub pass_holds : Names → ℕ → Bool → List Line → Fml
+pass_holds t p ready seen = fsep (reached t seen) (fsep (withheld t t.whole seen) (cell seat_coded t.passes p quarter (ready, made_by p seen)))
+
+-- the pass p, which has seen these lines, adds an entry to the history before it
+pub record Adds (t : Names) (p : ℕ) (seen before : List Line) (e : Entry) : Type 0 where
+  pub after_seen : IsPrefix seen before
+  pub own : made_by p before ≡ made_by p seen
+  pub undisturbed : t.whole ≡ true → seen ≡ before
+  pub may : MayFollow t.most (beginning t.counted) (entries_of before) e
+  pub legal : IsLegal t.most (beginning t.counted) (entries_of before ++ e ∷ [])
+  pub event : IsOneEvent t.most (beginning t.counted) (entries_of before) e
+
+-- what a call leaves that added an entry to the history before it: the pass, with what it has seen since
+abbrev pub left_by : Names → ℕ → Bool → List Line → (List Line → Entry) → (List Line → Fml) → List Line → Fml
+left_by t p ready seen e gain before = fsep (told (Adds t p seen before (e before))) (fsep (pass_holds t p ready (before ++ (p, e before) ∷ [])) (gain before))
+
+abbrev pub added : Names → ℕ → Bool → List Line → (List Line → Entry) → (List Line → Fml) → Fml
+added t p ready seen e gain = fex (List Line) (left_by t p ready seen e gain)
+
+-- the number of the next owner of a running call: how many owners the history had
+abbrev pub next_owner : List Line → ℕ
+next_owner ls = length (owners_ever (entries_of ls))
+
+-- a look at the number of the word
+abbrev pub looked : Names → ℕ → Bool → List Line → ℕ → Lease → Share → ℕ → Fml
+looked t p ready seen o l q n = added t p ready seen (λ _. Alone o (n == 1)) (λ _. right t o l q)
+
+-- a look that adds an entry where the number is the greatest
+abbrev pub glanced_at : Names → ℕ → Bool → List Line → ℕ → Lease → Share → Bool → Fml
+glanced_at t p ready seen o l q true = added t p ready seen (λ _. Full o) (λ _. right t o l q)
+glanced_at t p ready seen o l q false = fsep (pass_holds t p ready seen) (right t o l q)
+
+abbrev pub glanced : Names → ℕ → Bool → List Line → ℕ → Lease → Share → ℕ → Fml
+glanced t p ready seen o l q n = glanced_at t p ready seen o l q (n == t.most)
+
+-- an exchange, which makes an owner where it wins
+abbrev pub raised_by : Names → ℕ → Bool → List Line → ℕ → Lease → Share → Bool → Fml
+raised_by t p ready seen o l q true = added t p ready seen (λ before. Up o (next_owner before)) (λ before. fsep (right t o l q) (fsep (right t (next_owner before) l quarter) (stake l)))
+raised_by t p ready seen o l q false = fsep (pass_holds t p ready seen) (right t o l q)
+
+-- what the last owner has from its end: the whole token of the lifetime, and the ticket
+abbrev pub spoils : Lease → Bool → Fml
+spoils l true = fsep (flft (l.0 ∷ []) full_share) (ticket l.1 0)
+spoils l false = ftrue
+
+-- how many owners live after these lines
+abbrev pub how_many_live : List Line → ℕ
+how_many_live ls = length (live_owners (entries_of ls))
+
+abbrev pub lowered_by : Names → ℕ → Bool → List Line → ℕ → Lease → ℕ → Fml
+lowered_by t p ready seen o l n = added t p ready seen (λ _. Down o) (λ before. fsep (told (n ≡ how_many_live before)) (spoils l (n == 1)))
+
+-- a `&` to the word: an invariant over a borrow of it, whose number is past the book's
+abbrev pub lent : Names → ℕ → ℕ → Lft → Lft × ℕ → Fml
+lent t b o κ z = fsep (before κ z.0) (fsep (told (t.number < z.1)) (fnamed z.1 (fbor z.0 (counting t b o))))
+
+abbrev pub word_shares : Names → Ptr → Lft → Fml
+word_shares t (block_ptr b o) κ = fex (Lft × ℕ) (lent t b o κ)
+word_shares t null_ptr κ = ffalse
+
+-- an owner's right that is held, or none
+abbrev pub right_owns : Bool → Names → ℕ → Lease → List Line → Fml
+right_owns true t o l born = share_owns t o l born
+right_owns false t o l born = ftrue
+
+abbrev pub right_shares : Bool → Names → ℕ → Lease → List Line → Lft → Fml
+right_shares true t o l born κ = fsep (known t born) (fshr_bor κ (λ q. right t o l q))
+right_shares false t o l born κ = ftrue
+
+-- a pass of a block, or of none
+abbrev pub trace_owns : Bool → Names → ℕ → Bool → List Line → Fml
+trace_owns true t p ready seen = fsep (known t seen) (fsep (withheld t t.whole seen) (cell seat_coded t.passes p quarter (ready, made_by p seen)))
+trace_owns false t p ready seen = ftrue
+
+abbrev pub trace_shares : Bool → Names → List Line → Fml
+trace_shares true t seen = known t seen
+trace_shares false t seen = ftrue
+
+-- these lines are those before, after all that the pass had seen, and then its own entry
+abbrev pub AddedTo : Names → ℕ → List Line → (List Line → Entry) → List Line → List Line → Type 0
+AddedTo t p seen e before ls = Adds t p seen before (e before) × (ls ≡ before ++ (p, e before) ∷ [])
+
+abbrev pub Written : Names → ℕ → List Line → Entry → List Line → Type 0
+Written t p seen e ls = (before : List Line) × AddedTo t p seen (λ _. e) before ls
+
+-- what a look leaves
+abbrev pub after_look : Names → ℕ → Bool → List Line → ℕ → Lease → Share → ℕ → List Line → Fml
+after_look t p ready seen o l q n ls = fsep (told (Written t p seen (Alone o (n == 1)) ls)) (fsep (trace_owns true t p ready ls) (right t o l q))
+
+-- the count was found at its greatest, which is an entry, or the pass is as it was
+abbrev pub Filled : Names → ℕ → List Line → ℕ → Bool → List Line → Type 0
+Filled t p seen o true ls = Written t p seen (Full o) ls
+Filled t p seen o false ls = ls ≡ seen
+
+abbrev pub after_glance : Names → ℕ → Bool → List Line → ℕ → Lease → Share → ℕ → List Line → Fml
+after_glance t p ready seen o l q n ls = fsep (told (Filled t p seen o (n == t.most) ls)) (fsep (trace_owns true t p ready ls) (right t o l q))
+
+-- a new owner, by its number and the history in which it was made, or none
+abbrev pub MadeOne : Names → ℕ → List Line → ℕ → Bool → List Line → Bool × ℕ → Type 0
+MadeOne t p seen o true ls new = (before : List Line) × AddedTo t p seen (λ h. Up o (next_owner h)) before ls × (new.0 ≡ true) × (new.1 ≡ next_owner before)
+MadeOne t p seen o false ls new = (ls ≡ seen) × (new.0 ≡ false)
+
+abbrev pub after_raise : Names → ℕ → Bool → List Line → ℕ → Lease → Share → ℕ → ℕ → List Line × (Bool × ℕ) → Fml
+after_raise t p ready seen o l q old n u = fsep (told (MadeOne t p seen o (n == old) u.0 u.1)) (fsep (trace_owns true t p ready u.0) (fsep (right t o l q) (right_owns u.1.0 t u.1.1 l u.0)))
+
+-- an owner ended, where the word counted so many
+abbrev pub Lowered : Names → ℕ → List Line → ℕ → ℕ → List Line → Type 0
+Lowered t p seen o n ls = (before : List Line) × AddedTo t p seen (λ _. Down o) before ls × (n ≡ how_many_live before)
+
+abbrev pub after_lower : Names → ℕ → Bool → List Line → ℕ → Lease → ℕ → List Line → Fml
+after_lower t p ready seen o l n ls = fsep (told (Lowered t p seen o n ls)) (fsep (trace_owns true t p ready ls) (spoils l (n == 1)))

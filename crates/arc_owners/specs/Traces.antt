@@ -1,0 +1,43 @@
+-- What a step says of an owner's right and of the pass that makes it.
+use Rattle.std.specs.Prelude.{◌≡◌, ℕ, ◌+◌, ◌-◌, ◌^◌, ◌<◌, Bool, true, List, IsTrue, ◌↔◌}
+use Rattle.arc_owners.specs.declared.owners.entry.Entry.{Entry}
+use Rattle.arc_owners.specs.declared.owners.entry.Entry.TheVariants.{Down}
+use Rattle.arc_owners.specs.Histories.{LivesAlone}
+use Rattle.arc_owners.specs.declared.owners.word.Right.{Right}
+use Rattle.arc_owners.specs.declared.owners.word.Trace.{Trace}
+use Rattle.arc_owners.specs.Book.{Names, Line, Written, Filled, MadeOne, Lowered, AddedTo, entries_of}
+
+-- the right is held, by an owner of this block
+abbrev pub IsHeld : Names → Right → Type 0
+IsHeld t r = (r.held ≡ true) × (r.names ≡ t)
+
+-- the pass is of this block
+abbrev pub IsOf : Names → Trace → Type 0
+IsOf t p = (p.bound ≡ true) × (p.names ≡ t)
+
+-- the same pass of this block, which may have seen more
+abbrev pub SamePass : Names → Trace → Trace → Type 0
+SamePass t p r = (r.bound ≡ true) × (r.names ≡ t) × (r.number ≡ p.number) × (r.ready ≡ p.ready)
+
+-- the pass added this entry to the history before it, which begins with all that it had seen
+abbrev pub Wrote : Names → Trace → Trace → Entry → Type 0
+Wrote t p r e = Written t p.number p.lines e r.lines
+
+-- the pass found the count at its greatest, or is as it was
+abbrev pub FullIf : Names → Trace → Trace → Right → Bool → Type 0
+FullIf t p r by b = Filled t p.number p.lines by.owner b r.lines
+
+-- a new owner was made through this one, or nothing was done
+abbrev pub RaisedIf : Names → Trace → Trace → Right → Right → Bool → Type 0
+RaisedIf t p r by new b = MadeOne t p.number p.lines by.owner b r.lines (new.held, new.owner) × (new.names ≡ t) × (new.lease ≡ by.lease) × (new.born ≡ r.lines)
+
+-- this owner ended, where the word counted so many
+abbrev pub Ended : Names → Trace → Trace → Right → ℕ → Type 0
+Ended t p r own n = Lowered t p.number p.lines own.owner n r.lines
+
+abbrev pub IsNext : ℕ → ℕ → Type 0
+IsNext old next = old < 2 ^ 64 - 1 → next ≡ old + 1
+
+-- this owner ended, and whether it was the last one
+abbrev pub Ends : Names → Trace → Trace → ℕ → Bool → Type 0
+Ends t p r o last = (before : List Line) × AddedTo t p.number p.lines (λ _. Down o) before r.lines × (IsTrue last ↔ LivesAlone o (entries_of before))

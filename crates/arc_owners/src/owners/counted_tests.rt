@@ -1,0 +1,77 @@
+//! Owners whose word began with a count: the replies at the greatest count, and two threads.
+ghost use Rattle.std.specs.Prelude.{◌≡◌, []};
+ghost use Rattle.arc_owners.specs.Traces.{IsOf};
+
+use super::{Owners, Pass, Release, Share};
+use crate::mark::Open;
+use std::sync::Wait;
+use std::test::Fail;
+use std::thread::{Threads, join};
+
+#[test]
+fn full_at_three(rt: HostRuntime) -> Result<(), Fail> {
+    let (owners, first, mut pass) = Owners::<3, Open>::new();
+    let second = owners.up_as(&rt, &first, &mut pass)?;
+    let _third = owners.up_as(&rt, &first, &mut pass)?;
+    assert!(rt; owners.up_as(&rt, &first, &mut pass).is_err());
+    assert!(rt; !owners.alone_as(&first, &mut pass));
+    assert!(rt; matches!(owners.down_as(second, &mut pass), Release::NotLast));
+    let _again = owners.up_as(&rt, &first, &mut pass)?;
+    Ok(())
+}
+
+#[test]
+fn last_of_two(rt: HostRuntime) -> Result<(), Fail> {
+    let (owners, first, mut pass) = Owners::<3, Open>::new();
+    let second = owners.up_as(&rt, &first, &mut pass)?;
+    let mut other = owners.pass(&second);
+    assert!(rt; matches!(owners.down_as(first, &mut pass), Release::NotLast));
+    owners.learn(&mut other, &pass);
+    assert!(rt; owners.alone_as(&second, &mut other));
+    assert!(rt; matches!(owners.down_as(second, &mut other), Release::Last(_)));
+    Ok(())
+}
+
+/// Raises and releases a thousand times through one owner. It answers the pass.
+fn thousand<R: Wait>(
+    rt: &R,
+    owners: &Owners<8, Open>,
+    first: &Share<Open>,
+    pass: Pass<Open>,
+) -> Pass<Open>
+    requires { (owners.now.word.most ≡ 8) × (first.now.right.names ≡ owners.now.word) × IsOf owners.now.word pass.trace }
+    ensures { IsOf owners.now.word result.trace }
+{
+    let mut pass = pass;
+    for _ in 0..1000u32 {
+        if let Ok(share) = owners.up_as(rt, first, &mut pass) {
+            owners.down_as(share, &mut pass);
+        }
+    }
+    pass
+}
+
+/// Two threads raise and release through one owner. It answers whether that is alone afterwards.
+fn alone_after_two<R: Threads + Wait + Sync>(rt: &R) -> bool {
+    let (owners, first, one) = Owners::<8, Open>::new();
+    let two = owners.pass(&first);
+    let (mut one, two) = join(
+        rt,
+        || -> Pass<Open>
+            requires { (owners.word.most ≡ 8) × (first.right.names ≡ owners.word) × IsOf owners.word one.trace }
+            ensures { IsOf owners.word result.trace }
+        { thousand(rt, &owners, &first, one) },
+        || -> Pass<Open>
+            requires { (owners.word.most ≡ 8) × (first.right.names ≡ owners.word) × IsOf owners.word two.trace }
+            ensures { IsOf owners.word result.trace }
+        { thousand(rt, &owners, &first, two) },
+    );
+    owners.learn(&mut one, &two);
+    owners.alone_as(&first, &mut one)
+}
+
+#[test]
+fn alone_after_threads(rt: HostRuntime) -> Result<(), Fail> {
+    assert!(rt; alone_after_two(&rt));
+    Ok(())
+}
