@@ -56,12 +56,14 @@ abbrev pub made_by : ℕ → List Line → List Entry
 made_by p [] = []
 made_by p (l ∷ ls) = if l.0 == p then l.1 ∷ made_by p ls else made_by p ls
 
--- the lifetime for which the block is lent, and the name of the ticket for its end
-abbrev pub Lease : Type 0
-Lease = ℕ × ℕ
+-- whether the block is lent to its owners, for which lifetime, and the name of the ticket for its end. A sole owner who took the block back whole has it unlent
+pub record Lease : Type 0 where
+  pub is_lent : Bool
+  pub lifetime : ℕ
+  pub key : ℕ
 
 abbrev pub lease_coded : Coded Lease
-lease_coded = coded× coded_ℕ coded_ℕ
+lease_coded = coded_via (coded× coded_bool (coded× coded_ℕ coded_ℕ)) (λ (l : Lease). (l.is_lent, (l.lifetime, l.key))) (λ x y e i. record { is_lent = (e i).0; lifetime = (e i).1.0; key = (e i).1.1 })
 
 -- whether a pass is ready, and what it has made
 abbrev pub Seat : Type 0
@@ -91,7 +93,7 @@ module _ {X : Type 0} (c : Coded X) where
   row first δ k (x ∷ xs) = fsep (kept δ k x) (row first δ (suc k) xs)
 
 abbrev pub no_lease : Lease
-no_lease = (0, 0)
+no_lease = record { is_lent = false; lifetime = 0; key = 0 }
 
 abbrev pub fresh_seat : Seat
 fresh_seat = (false, [])
@@ -161,14 +163,27 @@ pub record FitsFor (most : ℕ) (counted : Bool) (a : Account) : Type 0 where
 abbrev pub Fits : Names → Account → Type 0
 Fits t a = FitsFor t.most t.counted a
 
--- what the owners leave in the book of the lifetime, with the ticket for its end
+-- what the owners leave in the book of the lifetime, with the ticket for its end: nothing where a sole owner took the block back
+abbrev pub pooled : Bool → Lease → ℕ → Fml
+pooled true l n = fsep (rest 64 l.lifetime (suc n)) (ticket l.key 0)
+pooled false l n = told (n ≡ 0)
+
 abbrev pub pool : Lease → ℕ → Fml
 pool l zero = ftrue
-pool l (suc n) = fsep (rest 64 l.0 (suc n)) (ticket l.1 0)
+pool l (suc n) = pooled l.is_lent l n
 
 -- what an owner has of the lifetime
+abbrev pub staked : Bool → Lease → Fml
+staked true l = part 64 l.lifetime
+staked false l = ftrue
+
 abbrev pub stake : Lease → Fml
-stake l = part 64 l.0
+stake l = staked l.is_lent l
+
+-- what a `&` to an owner has of the lifetime
+abbrev pub tokens : Bool → Lease → Lft → Fml
+tokens true l κ = fshr_bor κ (λ q. flft (l.lifetime ∷ []) q)
+tokens false l κ = ftrue
 
 abbrev pub located : Names → List Line → Fml
 located t ls = fex (Option (ℕ × ℕ)) (λ x. fsep (latest places three_quarters t.place x) (told (is_counted (beginning t.counted) (entries_of ls) ≡ is_there x)))
@@ -248,7 +263,7 @@ raised_by t p ready seen o l q false = fsep (pass_holds t p ready seen) (right t
 
 -- what the last owner has from its end: the whole token of the lifetime, and the ticket
 abbrev pub spoils : Lease → Bool → Fml
-spoils l true = fsep (flft (l.0 ∷ []) full_share) (ticket l.1 0)
+spoils l true = fsep (flft (l.lifetime ∷ []) full_share) (ticket l.key 0)
 spoils l false = ftrue
 
 -- how many owners live after these lines
@@ -266,13 +281,21 @@ abbrev pub word_shares : Names → Ptr → Lft → Fml
 word_shares t (block_ptr b o) κ = fex (Lft × ℕ) (lent t b o κ)
 word_shares t null_ptr κ = ffalse
 
+-- the word lies at this place for as long as the block is lent, and a borrow of it stands behind an invariant whose number is past the book's
+abbrev pub lodged_for : Names → ℕ → ℕ → ℕ → ℕ → Fml
+lodged_for t b o a j = fsep (told (t.number < j)) (fnamed j (fbor (a ∷ []) (counting t b o)))
+
+abbrev pub lodged : Names → Ptr → ℕ → Fml
+lodged t (block_ptr b o) a = fex ℕ (lodged_for t b o a)
+lodged t null_ptr a = ffalse
+
 -- an owner's right that is held, or none
 abbrev pub right_owns : Bool → Names → ℕ → Lease → List Line → Fml
 right_owns true t o l born = share_owns t o l born
 right_owns false t o l born = ftrue
 
 abbrev pub right_shares : Bool → Names → ℕ → Lease → List Line → Lft → Fml
-right_shares true t o l born κ = fsep (known t born) (fshr_bor κ (λ q. right t o l q))
+right_shares true t o l born κ = fsep (known t born) (fsep (fshr_bor κ (λ q. right t o l q)) (tokens l.is_lent l κ))
 right_shares false t o l born κ = ftrue
 
 -- a pass of a block, or of none

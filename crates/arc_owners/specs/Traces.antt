@@ -1,5 +1,5 @@
 -- What a step says of an owner's right and of the pass that makes it.
-use Rattle.std.specs.Prelude.{◌≡◌, ℕ, ◌+◌, ◌-◌, ◌^◌, ◌<◌, Bool, true, List, IsTrue, ◌↔◌}
+use Rattle.std.specs.Prelude.{◌≡◌, ℕ, ◌+◌, ◌-◌, ◌^◌, ◌<◌, Bool, true, false, List, IsTrue, ◌↔◌}
 use Rattle.arc_owners.specs.declared.owners.entry.Entry.{Entry}
 use Rattle.arc_owners.specs.declared.owners.entry.Entry.TheVariants.{Down}
 use Rattle.arc_owners.specs.Histories.{LivesAlone}
@@ -7,9 +7,13 @@ use Rattle.arc_owners.specs.declared.owners.word.Right.{Right}
 use Rattle.arc_owners.specs.declared.owners.word.Trace.{Trace}
 use Rattle.arc_owners.specs.Book.{Names, Line, Written, Filled, MadeOne, Lowered, AddedTo, entries_of}
 
--- the right is held, by an owner of this block
+-- the right is held, by an owner of this block, to whom the block is lent
 abbrev pub IsHeld : Names → Right → Type 0
-IsHeld t r = (r.held ≡ true) × (r.names ≡ t)
+IsHeld t r = (r.held ≡ true) × (r.names ≡ t) × (r.lease.is_lent ≡ true)
+
+-- the right is held, by an owner of this block who took it back whole
+abbrev pub IsSole : Names → Right → Type 0
+IsSole t r = (r.held ≡ true) × (r.names ≡ t) × (r.lease.is_lent ≡ false)
 
 -- the pass is of this block
 abbrev pub IsOf : Names → Trace → Type 0

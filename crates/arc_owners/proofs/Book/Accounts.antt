@@ -12,7 +12,7 @@ use Rattle.arc_owners.proofs.Legality.{legal-append}
 use Rattle.arc_owners.proofs.Numbers.{length-without, times-in, times-one}
 use Rattle.arc_owners.proofs.Steps.{one_is}
 use Rattle.arc_owners.proofs.Told.{grown, legal-owned}
-use Rattle.arc_owners.proofs.Book.Rolls.{entries-append, made-own, made-other, living-made, living-ended, living-in, upto-fresh, upto-more, get-set, get-set_other, get-more, get-last}
+use Rattle.arc_owners.proofs.Book.Rolls.{entries-append, made-own, made-other, living-made, living-ended, living-in, living-relet, in_one, upto-fresh, upto-more, get-set, get-set_other, get-more, get-last}
 
 abbrev pub seat_of : List (Bool × Seat) → ℕ → Bool × Seat
 seat_of seats p = get_or seats p (false, fresh_seat)
@@ -20,9 +20,39 @@ seat_of seats p = get_or seats p (false, fresh_seat)
 abbrev pub seat_set : List (Bool × Seat) → ℕ → Bool → List Entry → List (Bool × Seat)
 seat_set seats p ready made = set seats p (true, (ready, made))
 
--- the account with one more line by the pass p, and this roll
+-- the account with one more line by the pass p, and this roll and lease
+abbrev pub wrote_for : Lease → Account → ℕ → Bool → Entry → List (Bool × Lease) → Account
+wrote_for l a p ready e roll = record { lines = a.lines ++ (p, e) ∷ []; roll = roll; seats = seat_set a.seats p ready (made_by p a.lines ++ e ∷ []); lease = l }
+
 abbrev pub wrote : Account → ℕ → Bool → Entry → List (Bool × Lease) → Account
-wrote a p ready e roll = record { lines = a.lines ++ (p, e) ∷ []; roll = roll; seats = seat_set a.seats p ready (made_by p a.lines ++ e ∷ []); lease = a.lease }
+wrote a = wrote_for a.lease a
+
+-- the account with the lease of the owner o, its only one, set anew
+abbrev pub relet : Account → ℕ → Lease → Account
+relet a o l = record { lines = a.lines; roll = set a.roll o (true, l); seats = a.seats; lease = l }
+
+-- whoever lives beside a sole owner is that one
+sole-is : (t : Names) (a : Account) → Fits t a → (o i : ℕ) (l m : Lease) → get_or a.roll o (false, no_lease) ≡ (true, l) → get_or a.roll i (false, no_lease) ≡ (true, m) → how_many a.roll ≡ 1 → o ≡ i
+sole-is t a f o i l m is there one = let alone : living 0 a.roll ≡ o ∷ [] = one_is (living 0 a.roll) o (living-in 0 o o a.roll l (omega arith) is) one in
+    in_one o i (subst (λ (ns : List ℕ). is_in i ns ≡ true) alone (living-in 0 i i a.roll m (omega arith) there))
+
+relet-leased : (t : Names) (a : Account) → Fits t a → (o : ℕ) (k l : Lease) → o < length a.roll → get_or a.roll o (false, no_lease) ≡ (true, k) → how_many a.roll ≡ 1 → (i : ℕ) (m : Lease) → get_or (set a.roll o (true, l)) i (false, no_lease) ≡ (true, m) → m ≡ l
+relet-leased t a f o k l low is one i m there = elim (cases_Bool (eqb o i)) [
+  | inl same ↦ ap (λ (x : Bool × Lease). x.1) (sym there ∙ (ap (λ (j : ℕ). get_or (set a.roll o (true, l)) j (false, no_lease)) (sym (eqb-true o i same)) ∙ get-set a.roll o (true, l) (false, no_lease) low))
+  | inr other ↦ absurd (eqb-false o i other (sole-is t a f o i k m is (sym (get-set_other a.roll o i (true, l) (false, no_lease) (eqb-false o i other)) ∙ there) one))
+]
+
+-- the block is lent anew to its sole owner, or taken back by it
+pub fits-relet : (t : Names) (a : Account) → Fits t a → (o : ℕ) (k l : Lease) → o < length a.roll → get_or a.roll o (false, no_lease) ≡ (true, k) → how_many a.roll ≡ 1 → Fits t (relet a o l)
+fits-relet t a f o k l low is one = let same : living 0 (set a.roll o (true, l)) ≡ living 0 a.roll = living-relet 0 o a.roll k l is in record {
+  legal = f.legal;
+  live = f.live ∙ sym same;
+  ever = f.ever ∙ ap (upto 0) (sym (length-set a.roll o (true, l)));
+  made = f.made;
+  leased = relet-leased t a f o k l low is one;
+  within = subst (λ (ns : List ℕ). length ns ≤ t.most) (sym same) f.within;
+  small = f.small;
+}
 
 module _ (t : Names) (a : Account) (f : Fits t a) (p : ℕ) (ready : Bool) (seated : p < length a.seats) where
   abbrev h : List Entry

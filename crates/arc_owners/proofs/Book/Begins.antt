@@ -71,13 +71,13 @@ module _ {M : Type 1} {𝓤 : Ura M} (𝓛 : Logic 𝓤) where
   authorized t false ls = qed 𝓛 (‵ (latest lines_order full_share t.history ls) ∷ []) ∵ nothing ! $ move ! (1 ∷ 0 ∷ []) $ done !
 
   abbrev pub Fresh : ℕ → Bool → Names × Lease → Pr
-  Fresh most w x = guard 𝓤 ((x.0.most ≡ most) × (x.0.counted ≡ true) × (x.0.whole ≡ w)) (⟦ behind x.0 1 ⟧ ∗ ⟦ right_owns true x.0 0 x.1 [] ⟧ ∗ ⟦ trace_owns true x.0 0 false [] ⟧)
+  Fresh most w x = guard 𝓤 ((x.0.most ≡ most) × (x.0.counted ≡ true) × (x.0.whole ≡ w) × (x.1.is_lent ≡ true)) (⟦ behind x.0 1 ⟧ ∗ ⟦ right_owns true x.0 0 x.1 [] ⟧ ∗ ⟦ trace_owns true x.0 0 false [] ⟧)
 
   pub begins : (most : ℕ) (w : Bool) → 1 ≤ most → most < 2 ^ 64 → emp 𝓤 ⊢ H.⇛ (ex 𝓤 (Fresh most w))
   begins most w one small = qed 𝓛 [] ∵ updating ! $ lft_new ! tt (λ a.
       use1 𝓛 (‵ (rest 64 a 1) ⊛ ‵ (part 64 a)) (cut 64 𝓛 a 0 full_share (omega arith) (subst (Counts 64 full_share) (omega arith) (Counts-all 64))) $ split ! $
       use0 𝓛 (later (any (λ (k : ℕ). ‵ (entries_from token k 0 (λ _. tt))))) (via 𝓤 _ (entries_new token 𝓛 0 (λ _. tt)) (basic 𝓛 _)) $ await ! tt $ pick ! (λ k.
-      use1 𝓛 (‵ (ticket k 0) ⊛ ‵ (entries_from token k 1 (λ _. tt))) (entries_take token 𝓛 k 0 (λ _. tt)) $ split ! $ move ! (1 ∷ []) $ drop ! $ let l : Lease = (a, k) in
+      use1 𝓛 (‵ (ticket k 0) ⊛ ‵ (entries_from token k 1 (λ _. tt))) (entries_take token 𝓛 k 0 (λ _. tt)) $ split ! $ move ! (1 ∷ []) $ drop ! $ let l : Lease = record { is_lent = true; lifetime = a; key = k } in
       -- [the ticket; the pool's rest; the stake]
       move ! (1 ∷ 0 ∷ []) $ fjoin ! $ use1 𝓛 (‵ (pool l 1)) (id⊢ 𝓤 _) $
       use0 𝓛 (later (any (λ (η : ℕ). ‵ (latest lines_order full_share η [])))) (via 𝓤 _ (latest_new lines_order 𝓛 []) (basic 𝓛 _)) $ await ! tt $ pick ! (λ η.
@@ -108,7 +108,7 @@ module _ {M : Type 1} {𝓤 : Ura M} (𝓛 : Logic 𝓤) where
       move ! (5 ∷ 6 ∷ []) $ fjoin ! $ move ! (2 ∷ 0 ∷ []) $ fjoin ! $ use1 𝓛 (‵ (right_owns true t 0 l [])) (id⊢ 𝓤 _) $
       -- [the right; the word's; known; withheld; the seat]
       move ! (3 ∷ 4 ∷ []) $ fjoin ! $ move ! (3 ∷ 0 ∷ []) $ fjoin ! $ use1 𝓛 (‵ (trace_owns true t 0 false [])) (id⊢ 𝓤 _) $
-      now ! $ show ! (Fresh most w) (t, l) $ check ! (refl, refl, refl) $ move ! (2 ∷ 1 ∷ 0 ∷ []) $ done !)))))))))
+      now ! $ show ! (Fresh most w) (t, l) $ check ! (refl, refl, refl, refl) $ move ! (2 ∷ 1 ∷ 0 ∷ []) $ done !)))))))))
 
   module _ (t : Names) where
     abbrev J : Fml

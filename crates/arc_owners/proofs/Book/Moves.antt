@@ -4,10 +4,10 @@ use Rattle.std.proofs.lemmas.Bool.{eqb-true, eqb-false, cases_Bool}
 use seplogic.Ra.Ura.{Ura}
 use base.Fraction.{full_share}
 use base.Share.{quarter}
-use base.Logic.{SProp, ent, sep, upd, emp, id⊢, upd_i}
+use base.Logic.{SProp, ent, sep, wand, upd, emp, id⊢, upd_i, apply∗}
 use base.Fml.{Share, Fml, ftrue, fsep, fex}
 use types.Logic.{Logic, sem}
-use types.Kit.{‵, raw, ◌⊛◌, given, ◌$◌, ◌∵◌, !, qed, by, move, keep, drop, split, split3, fsplit, fjoin, fpick, fpack, learn, check, done, frame, use1, use2, use3, rewrite, suffices, settle}
+use types.Kit.{‵, raw, ◌⊛◌, given, ◌$◌, ◌∵◌, !, qed, by, move, keep, drop, split, split3, join, assume, fsplit, fjoin, fpick, fpack, learn, check, done, frame, use1, use2, use3, rewrite, suffices, settle}
 use denote.Steps.{nothing}
 use Rattle.arc_owners.specs.declared.owners.entry.Entry.{Entry}
 use Rattle.arc_owners.specs.declared.owners.entry.Entry.TheVariants.{Up, Full, Down, Alone}
@@ -19,7 +19,7 @@ use Rattle.arc_owners.proofs.Book.Rolls.{length-upto}
 use Rattle.arc_owners.proofs.Book.Events.{IsStep}
 use Rattle.arc_owners.proofs.Book.Cells.{row_adds, row_ends}
 use Rattle.arc_owners.proofs.Book.Parts.{pool_more, pool_less, pool_last}
-use Rattle.arc_owners.proofs.Book.Opened.{latest_of, rolled, seated, seat, Shown, Open, opened, shut}
+use Rattle.arc_owners.proofs.Book.Opened.{latest_of, rolled, seated, seat, Shown, Open, opened, owes, shut}
 
 module _ {M : Type 1} {𝓤 : Ura M} (𝓛 : Logic 𝓤) (t : Names) (p : ℕ) (ready : Bool) (seen : List Line) (o : ℕ) (l : Lease) where
   abbrev Pr : Type 2
@@ -34,15 +34,19 @@ module _ {M : Type 1} {𝓤 : Ura M} (𝓛 : Logic 𝓤) (t : Names) (p : ℕ) (
   abbrev ⟦◌⟧ : Fml → Pr
   ⟦ P ⟧ = sem 𝓛 P
 
+  abbrev ◌-∗◌ : Pr → Pr → Pr
+  P -∗ Q = wand 𝓤 P Q
+
   infix 26 ◌⊢◌
   infixr 35 ◌∗◌
+  infixr 30 ◌-∗◌
   -- an entry that leaves the owners as they are
   aside : (q : Share) (n : ℕ) (entry : Entry) (a : Account) (so : Shown 𝓛 t n p ready seen o l q a) → IsStep entry → MayFollow t.most (beginning t.counted) (entries_of a.lines) entry → Fits t (wrote a p ready entry a.roll)
       → Open 𝓛 t n p ready seen o l q a (emp 𝓤) ⊢ upd 𝓤 (⟦ behind t n ⟧ ∗ ⟦ contents t ⟧ ∗ ⟦ added t p ready seen (λ _. entry) (λ _. right t o l q) ⟧)
   aside q n entry a so step may f = let G : List Line → Fml = λ _. right t o l q in
       subst (λ (m : ℕ). Open 𝓛 t n p ready seen o l q a (emp 𝓤) ⊢ upd 𝓤 (⟦ behind t m ⟧ ∗ ⟦ contents t ⟧ ∗ ⟦ added t p ready seen (λ _. entry) G ⟧)) (sym so.number)
       (qed 𝓛 (‵ (latest_of 𝓛 t a.lines) ∷ ‵ (withheld t t.whole seen) ∷ ‵ (rolled 𝓛 t a.roll) ∷ ‵ (right t o l q) ∷ ‵ (seated 𝓛 t a.seats) ∷ ‵ (seat 𝓛 t p ready (made_by p seen)) ∷ ‵ (located t a.lines) ∷ ‵ (has_place t) ∷ ‵ (counted_as t full_share (how_many a.roll)) ∷ ‵ (pool a.lease (how_many a.roll)) ∷ raw (emp 𝓤) ∷ []) ∵
-      keep ! (0 ∷ 1 ∷ 2 ∷ 4 ∷ 5 ∷ 6 ∷ 7 ∷ 8 ∷ 9 ∷ 3 ∷ []) $ by ! (shut 𝓛 t n p ready seen o l q a so (λ _. entry) a.roll G step may f))
+      keep ! (0 ∷ 1 ∷ 2 ∷ 4 ∷ 5 ∷ 6 ∷ 7 ∷ 8 ∷ 9 ∷ 3 ∷ []) $ by ! (shut 𝓛 t n p ready seen o l q a so (λ _. entry) a.roll a.lease G step may f))
 
   abbrev Before : Share → ℕ → Pr
   Before q n = ⟦ behind t n ⟧ ∗ ⟦ contents t ⟧ ∗ ⟦ pass_holds t p ready seen ⟧ ∗ ⟦ right t o l q ⟧
@@ -87,8 +91,8 @@ module _ {M : Type 1} {𝓤 : Ura M} (𝓛 : Logic 𝓤) (t : Names) (p : ℕ) (
   next_is a f = sym (ap length f.ever ∙ length-upto 0 (length a.roll))
 
   -- the count is raised from below the greatest
-  pub raises : (q : Share) (n m : ℕ) → ¬ (n ≡ t.most) → (n < 2 ^ 64 - 1 → m ≡ n + 1) → Before q n ⊢ ToPr (raised_by t p ready seen o l q true) m
-  raises q n m room next = opens q n (ToPr (raised_by t p ready seen o l q true) m) (λ a so.
+  pub raises : l.is_lent ≡ true → (q : Share) (n m : ℕ) → ¬ (n ≡ t.most) → (n < 2 ^ 64 - 1 → m ≡ n + 1) → Before q n ⊢ ToPr (raised_by t p ready seen o l q true) m
+  raises lent q n m room next = opens q n (ToPr (raised_by t p ready seen o l q true) m) (λ a so.
       let same : n ≡ how_many a.roll = so.number in let within : how_many a.roll ≤ t.most = so.fits.within in let small : t.most < 2 ^ 64 = so.fits.small in
       let below : how_many a.roll < t.most = omega (arith, room) in
       let on : m ≡ n + 1 = next (omega arith) in
@@ -107,32 +111,42 @@ module _ {M : Type 1} {𝓤 : Ura M} (𝓛 : Logic 𝓤) (t : Names) (p : ℕ) (
       keep ! (2 ∷ 9 ∷ 0 ∷ 1 ∷ 3 ∷ 4 ∷ 5 ∷ 6 ∷ 7 ∷ 8 ∷ []) $
       use1 𝓛 (raw (upd 𝓤 (⟦ rolled 𝓛 t roll' ⟧ ∗ ⟦ right t new a.lease quarter ⟧))) (row_adds lease_coded 𝓛 t.rights no_lease a.roll a.lease) $
       settle 𝓛 (⟦ behind t (how_many roll') ⟧ ∗ ⟦ contents t ⟧ ∗ ⟦ added t p ready seen up_entry (up_gain q) ⟧) (‵ (rolled 𝓛 t roll') ⊛ ‵ (right t new a.lease quarter)) $ split ! $ move ! (2 ∷ []) $
-      use1 𝓛 (‵ (pool a.lease (how_many roll')) ⊛ ‵ (stake a.lease)) (pool_more 𝓛 t a.lease (how_many a.roll) (how_many roll') live many (omega arith)) $ split ! $
+      use1 𝓛 (‵ (pool a.lease (how_many roll')) ⊛ ‵ (stake a.lease)) (pool_more 𝓛 t a.lease (how_many a.roll) (how_many roll') (ap (λ (k : Lease). k.is_lent) (sym leased) ∙ lent) live many (omega arith)) $ split ! $
       -- [pool; stake; roll; new right; latest; withheld; right; seats; seat; located; the key; count]
       rewrite ! 1 (λ (k : Lease). ‵ (stake k)) (sym leased) refl $ rewrite ! 3 (λ (k : ℕ × Lease). ‵ (right t k.0 k.1 quarter)) (λ i. (is i, sym leased i)) refl $
       move ! (3 ∷ 1 ∷ []) $ fjoin ! $ move ! (5 ∷ 0 ∷ []) $ fjoin ! $
       -- [gain; pool; roll; latest; withheld; seats; seat; located; the key; count]
-      move ! (3 ∷ 4 ∷ 2 ∷ 5 ∷ 6 ∷ 7 ∷ 8 ∷ 9 ∷ 1 ∷ 0 ∷ []) $ by ! (shut 𝓛 t n p ready seen o l q a so up_entry roll' (up_gain q) tt may' fits')))
+      move ! (3 ∷ 4 ∷ 2 ∷ 5 ∷ 6 ∷ 7 ∷ 8 ∷ 9 ∷ 1 ∷ 0 ∷ []) $ by ! (shut 𝓛 t n p ready seen o l q a so up_entry roll' a.lease (up_gain q) tt may' fits')))
 
-  pub tries : (q : Share) (n old m : ℕ) → ¬ (old ≡ t.most) → (old < 2 ^ 64 - 1 → m ≡ old + 1) → Before q n ⊢ ToPr (raised_by t p ready seen o l q (eqb n old)) (prog.Atomic.either (eqb n old) m n)
-  tries q n old m room next = elim (cases_Bool (eqb n old)) [
+  pub tries : l.is_lent ≡ true → (q : Share) (n old m : ℕ) → ¬ (old ≡ t.most) → (old < 2 ^ 64 - 1 → m ≡ old + 1) → Before q n ⊢ ToPr (raised_by t p ready seen o l q (eqb n old)) (prog.Atomic.either (eqb n old) m n)
+  tries lent q n old m room next = elim (cases_Bool (eqb n old)) [
     | Rattle.std.proofs.Common.inl h ↦ subst (λ (b : Bool). Before q n ⊢ ToPr (raised_by t p ready seen o l q b) (prog.Atomic.either b m n)) (sym h)
-        (let same : n ≡ old = eqb-true n old h in raises q n m (λ (e : n ≡ t.most). room (sym same ∙ e)) (subst (λ (k : ℕ). k < 2 ^ 64 - 1 → m ≡ k + 1) (sym same) next))
+        (let same : n ≡ old = eqb-true n old h in raises lent q n m (λ (e : n ≡ t.most). room (sym same ∙ e)) (subst (λ (k : ℕ). k < 2 ^ 64 - 1 → m ≡ k + 1) (sym same) next))
     | Rattle.std.proofs.Common.inr h ↦ subst (λ (b : Bool). Before q n ⊢ ToPr (raised_by t p ready seen o l q b) (prog.Atomic.either b m n)) (sym h) (nothing_done q n)
   ]
 
   -- the pool without one owner, and what the last one has
-  pool_ends : (n m : ℕ) → n ≡ m + 1 → (b : Bool) → eqb n 1 ≡ b → ⟦ pool l n ⟧ ∗ ⟦ stake l ⟧ ⊢ ⟦ pool l m ⟧ ∗ ⟦ spoils l b ⟧
-  pool_ends n m is true one = let e : n ≡ 1 = eqb-true n 1 one in let z : m ≡ 0 = omega arith in
+  pool_ends : l.is_lent ≡ true → (n m : ℕ) → n ≡ m + 1 → (b : Bool) → eqb n 1 ≡ b → ⟦ pool l n ⟧ ∗ ⟦ stake l ⟧ ⊢ ⟦ pool l m ⟧ ∗ ⟦ spoils l b ⟧
+  pool_ends lent n m is true one = let e : n ≡ 1 = eqb-true n 1 one in let z : m ≡ 0 = omega arith in
       subst (λ (k : ℕ × ℕ). ⟦ pool l k.0 ⟧ ∗ ⟦ stake l ⟧ ⊢ ⟦ pool l k.1 ⟧ ∗ ⟦ spoils l true ⟧) (λ i. (sym e i, sym z i))
-      (qed 𝓛 (‵ (pool l 1) ∷ ‵ (stake l) ∷ []) ∵ use2 𝓛 (‵ (base.Fml.flft (l.0 ∷ []) full_share) ⊛ ‵ (types.Keyed.ticket l.1 0)) (pool_last 𝓛 t l) $ split ! $ fjoin ! $ nothing ! $ done !)
-  pool_ends n m is false more = let e : ¬ (n ≡ 1) = eqb-false n 1 more in
-      qed 𝓛 (‵ (pool l n) ∷ ‵ (stake l) ∷ []) ∵ use2 𝓛 (‵ (pool l m)) (pool_less 𝓛 t l n m (omega (arith, e)) is) $ nothing ! $ move ! (1 ∷ 0 ∷ []) $ done !
+      (qed 𝓛 (‵ (pool l 1) ∷ ‵ (stake l) ∷ []) ∵ use2 𝓛 (‵ (base.Fml.flft (l.lifetime ∷ []) full_share) ⊛ ‵ (types.Keyed.ticket l.key 0)) (pool_last 𝓛 t l lent) $ split ! $ fjoin ! $ nothing ! $ done !)
+  pool_ends lent n m is false more = let e : ¬ (n ≡ 1) = eqb-false n 1 more in
+      qed 𝓛 (‵ (pool l n) ∷ ‵ (stake l) ∷ []) ∵ use2 𝓛 (‵ (pool l m)) (pool_less 𝓛 t l n m lent (omega (arith, e)) is) $ nothing ! $ move ! (1 ∷ 0 ∷ []) $ done !
+
+  -- the word's part of a step is done, and the book shuts once the caller's part of the lifetime is there
+  abbrev pub Owing : Fml → ℕ → Pr
+  Owing F n = upd 𝓤 (⟦ behind t n ⟧ ∗ (⟦ stake l ⟧ -∗ (⟦ contents t ⟧ ∗ ⟦ F ⟧)))
+
+  -- it is there at once
+  pub at_once : (F : Fml) (n m : ℕ) → Before quarter n ⊢ Owing F m → ⟦ behind t n ⟧ ∗ ⟦ contents t ⟧ ∗ ⟦ pass_holds t p ready seen ⟧ ∗ ⟦ right t o l quarter ⟧ ∗ ⟦ stake l ⟧ ⊢ ToPr F m
+  at_once F n m h = let W : Pr = ⟦ stake l ⟧ -∗ (⟦ contents t ⟧ ∗ ⟦ F ⟧) in let Z : Pr = ⟦ behind t m ⟧ ∗ ⟦ contents t ⟧ ∗ ⟦ F ⟧ in
+      qed 𝓛 (‵ (behind t n) ∷ ‵ (contents t) ∷ ‵ (pass_holds t p ready seen) ∷ ‵ (right t o l quarter) ∷ ‵ (stake l) ∷ []) ∵ types.Kit.group ! 4 $
+      use1 𝓛 (raw (upd 𝓤 (⟦ behind t m ⟧ ∗ W))) h $ settle 𝓛 Z (‵ (behind t m) ⊛ raw W) $ split ! $ suffices ! _ (upd_i 𝓤 Z) $ frame ! $ move ! (1 ∷ 0 ∷ []) $ by ! (apply∗ 𝓤 ⟦ stake l ⟧ (⟦ contents t ⟧ ∗ ⟦ F ⟧))
 
   -- the count is lowered by one, and the owner ends
-  pub lowers : (n m : ℕ) → (0 < n → n < 2 ^ 64 → m ≡ n - 1) → ⟦ behind t n ⟧ ∗ ⟦ contents t ⟧ ∗ ⟦ pass_holds t p ready seen ⟧ ∗ ⟦ right t o l quarter ⟧ ∗ ⟦ stake l ⟧ ⊢ ToPr (lowered_by t p ready seen o l n) m
-  lowers n m next = let q : Share = quarter in let Z : Pr = ToPr (lowered_by t p ready seen o l n) m in let G : List Line → Fml = λ before. fsep (told (n ≡ how_many_live before)) (spoils l (eqb n 1)) in
-      opened 𝓛 t n p ready seen o l q ⟦ stake l ⟧ Z (λ a so.
+  pub lowers : l.is_lent ≡ true → (n m : ℕ) → (0 < n → n < 2 ^ 64 → m ≡ n - 1) → Before quarter n ⊢ Owing (lowered_by t p ready seen o l n) m
+  lowers lent n m next = let q : Share = quarter in let Z : Pr = Owing (lowered_by t p ready seen o l n) m in let G : List Line → Fml = λ before. fsep (told (n ≡ how_many_live before)) (spoils l (eqb n 1)) in
+      opens q n Z (λ a so.
       let same : n ≡ how_many a.roll = so.number in let within : how_many a.roll ≤ t.most = so.fits.within in let small : t.most < 2 ^ 64 = so.fits.small in
       let live : 0 < how_many a.roll = some-live t a so.fits p ready so.seat_is.0 o l so.owner_is.1 in
       let on : m ≡ n - 1 = next (omega arith) (omega arith) in
@@ -142,14 +156,20 @@ module _ {M : Type 1} {𝓤 : Ura M} (𝓛 : Logic 𝓤) (t : Names) (p : ℕ) (
       let may : MayFollow t.most (beginning t.counted) (entries_of a.lines) (Down o) = lives t a so.fits p ready so.seat_is.0 o l so.owner_is.1 in
       let fits' : Fits t (wrote a p ready (Down o) roll') = fits-lowered t a so.fits p ready so.seat_is.0 o l so.owner_is.0 so.owner_is.1 may in
       let to : how_many roll' ≡ m = omega arith in
-      subst (λ (k : ℕ). Open 𝓛 t n p ready seen o l q a ⟦ stake l ⟧ ⊢ upd 𝓤 (⟦ behind t k ⟧ ∗ ⟦ contents t ⟧ ∗ ⟦ added t p ready seen (λ _. Down o) G ⟧)) to
-      (qed 𝓛 (‵ (latest_of 𝓛 t a.lines) ∷ ‵ (withheld t t.whole seen) ∷ ‵ (rolled 𝓛 t a.roll) ∷ ‵ (right t o l q) ∷ ‵ (seated 𝓛 t a.seats) ∷ ‵ (seat 𝓛 t p ready (made_by p seen)) ∷ ‵ (located t a.lines) ∷ ‵ (has_place t) ∷ ‵ (counted_as t full_share (how_many a.roll)) ∷ ‵ (pool a.lease (how_many a.roll)) ∷ ‵ (stake l) ∷ []) ∵
-      move ! (2 ∷ 3 ∷ []) $ use2 𝓛 (‵ (rolled 𝓛 t (set a.roll o (false, l)))) (row_ends lease_coded 𝓛 t.rights no_lease a.roll o l so.owner_is.0 so.owner_is.1) $
+      let F : Fml = added t p ready seen (λ _. Down o) G in let N : Pr = ⟦ contents t ⟧ ∗ ⟦ F ⟧ in
+      let W : Pr = (⟦ pool a.lease (how_many roll') ⟧ ∗ ⟦ G a.lines ⟧) -∗ N in let X : Pr = ⟦ behind t (how_many roll') ⟧ ∗ (⟦ stake l ⟧ -∗ N) in
+      subst (λ (k : ℕ). Open 𝓛 t n p ready seen o l q a (emp 𝓤) ⊢ Owing F k) to
+      (qed 𝓛 (‵ (latest_of 𝓛 t a.lines) ∷ ‵ (withheld t t.whole seen) ∷ ‵ (rolled 𝓛 t a.roll) ∷ ‵ (right t o l q) ∷ ‵ (seated 𝓛 t a.seats) ∷ ‵ (seat 𝓛 t p ready (made_by p seen)) ∷ ‵ (located t a.lines) ∷ ‵ (has_place t) ∷ ‵ (counted_as t full_share (how_many a.roll)) ∷ ‵ (pool a.lease (how_many a.roll)) ∷ raw (emp 𝓤) ∷ []) ∵
+      keep ! (2 ∷ 3 ∷ 0 ∷ 1 ∷ 4 ∷ 5 ∷ 6 ∷ 7 ∷ 8 ∷ 9 ∷ []) $
+      use2 𝓛 (‵ (rolled 𝓛 t (set a.roll o (false, l)))) (row_ends lease_coded 𝓛 t.rights no_lease a.roll o l so.owner_is.0 so.owner_is.1) $
       rewrite ! 0 (λ (k : Lease). ‵ (rolled 𝓛 t (set a.roll o (false, k)))) leased refl $
-      -- [roll; latest; withheld; seats; seat; located; the key; count; pool; stake]
-      move ! (8 ∷ 9 ∷ []) $ rewrite ! 0 (λ (k : Lease × ℕ). ‵ (pool k.0 k.1)) (λ i. (sym leased i, sym same i)) refl $
-      use2 𝓛 (‵ (pool l (how_many roll')) ⊛ ‵ (spoils l (eqb n 1))) (pool_ends n (how_many roll') (omega arith) (eqb n 1) refl) $ split ! $
+      -- [roll; latest; withheld; seats; seat; located; the key; count; pool]
+      move ! (1 ∷ 2 ∷ 0 ∷ 3 ∷ 4 ∷ 5 ∷ 6 ∷ 7 ∷ []) $ types.Kit.group ! 8 $
+      use1 𝓛 (raw (upd 𝓤 (⟦ behind t (how_many roll') ⟧ ∗ W))) (owes 𝓛 t n p ready seen o l q a so (λ _. Down o) roll' a.lease G tt may fits') $ settle 𝓛 X (‵ (behind t (how_many roll')) ⊛ raw W) $ split ! $
+      suffices ! _ (upd_i 𝓤 X) $ frame ! $ assume ! (‵ (stake l)) $
+      -- [stake; what is owed; pool]
+      move ! (2 ∷ 0 ∷ []) $ rewrite ! 0 (λ (k : Lease × ℕ). ‵ (pool k.0 k.1)) (λ i. (sym leased i, sym same i)) refl $
+      use2 𝓛 (‵ (pool l (how_many roll')) ⊛ ‵ (spoils l (eqb n 1))) (pool_ends lent n (how_many roll') (omega arith) (eqb n 1) refl) $ split ! $
       rewrite ! 0 (λ (k : Lease). ‵ (pool k (how_many roll'))) leased refl $
       move ! (1 ∷ []) $ nothing ! $ fpack ! (n ≡ how_many_live a.lines) (λ _. ftrue) (same ∙ sym (ap length so.fits.live)) $ fjoin ! $ move ! (1 ∷ 0 ∷ []) $
-      -- [pool; gain; roll; latest; withheld; seats; seat; located; the key; count]
-      move ! (3 ∷ 4 ∷ 2 ∷ 5 ∷ 6 ∷ 7 ∷ 8 ∷ 9 ∷ 0 ∷ 1 ∷ []) $ by ! (shut 𝓛 t n p ready seen o l q a so (λ _. Down o) roll' G tt may fits')))
+      join ! $ by ! (apply∗ 𝓤 (⟦ pool a.lease (how_many roll') ⟧ ∗ ⟦ G a.lines ⟧) N)))

@@ -5,10 +5,10 @@ use seplogic.Ra.Ura.{Ura}
 use base.Fraction.{full_share}
 use base.Share.{quarter, three_quarters}
 use base.Stored.{coded_ℕ}
-use base.Logic.{SProp, ent, sep, upd, upd_i}
+use base.Logic.{SProp, ent, sep, wand, upd, upd_i, apply∗}
 use base.Fml.{Share, Fml, ftrue}
 use types.Logic.{Logic, sem}
-use types.Kit.{‵, raw, ◌⊛◌, given, ◌$◌, ◌∵◌, !, qed, by, move, drop, split, split3, fsplit, fjoin, fpick, fpack, learn, check, done, frame, use1, use2, use3, rewrite, suffices, settle}
+use types.Kit.{‵, raw, ◌⊛◌, given, ◌$◌, ◌∵◌, !, qed, by, move, drop, split, split3, fsplit, fjoin, fpick, fpack, learn, check, done, frame, assume, use1, use2, use3, rewrite, suffices, settle}
 use denote.Steps.{nothing}
 use Rattle.arc_owners.specs.declared.owners.entry.Entry.{Entry}
 use Rattle.arc_owners.specs.Histories.{is_counted, MayFollow}
@@ -16,7 +16,7 @@ use Rattle.arc_owners.specs.Machine.{beginning}
 use Rattle.arc_owners.specs.Book.{Names, Line, entries_of, made_by, reached, withheld, has_place, located, Lease, lease_coded, no_lease, Seat, seat_coded, fresh_seat, cell, row, right, counted_as, pool, how_many, Account, Fits, standing, contents, behind, pass_holds, Adds, left_by, added}
 use Rattle.arc_owners.proofs.Book.Rolls.{entries-append, made-own}
 use Rattle.arc_owners.proofs.Book.Events.{IsStep, one_event}
-use Rattle.arc_owners.proofs.Book.Accounts.{seat_of, seat_set, wrote}
+use Rattle.arc_owners.proofs.Book.Accounts.{seat_of, seat_set, wrote_for}
 use Rattle.arc_owners.proofs.Book.Cells.{cell_whole, cell_parts, row_finds, row_writes}
 use Rattle.arc_owners.proofs.Book.Parts.{top, Seen, sees, writes, counts, keyed, stays}
 
@@ -33,8 +33,12 @@ module _ {M : Type 1} {𝓤 : Ura M} (𝓛 : Logic 𝓤) (t : Names) where
   abbrev ⟦◌⟧ : Fml → Pr
   ⟦ P ⟧ = sem 𝓛 P
 
+  abbrev ◌-∗◌ : Pr → Pr → Pr
+  P -∗ Q = wand 𝓤 P Q
+
   infix 26 ◌⊢◌
   infixr 35 ◌∗◌
+  infixr 30 ◌-∗◌
   abbrev pub latest_of : List Line → Fml
   latest_of ls = top 𝓛 t t.whole ls
 
@@ -84,12 +88,12 @@ module _ {M : Type 1} {𝓤 : Ura M} (𝓛 : Logic 𝓤) (t : Names) where
         move ! (8 ∷ 10 ∷ 9 ∷ []) $ use3 𝓛 (given (Seen 𝓛 t w seen a.lines) (‵ (latest_of a.lines) ⊛ ‵ (withheld t w seen))) (sees 𝓛 t w seen a.lines) $ learn ! (λ seen_is. split ! $
         by ! (k a (record { fits = f; number = number; counted = counted; seat_is = seat_is; owner_is = owner_is; seen_is = seen_is })))))))))
 
-    module _ (a : Account) (so : Shown a) (entry : List Line → Entry) (roll : List (Bool × Lease)) where
+    module _ (a : Account) (so : Shown a) (entry : List Line → Entry) (roll : List (Bool × Lease)) (lease : Lease) where
       abbrev e : Entry
       e = entry a.lines
 
       abbrev a' : Account
-      a' = wrote a p ready e roll
+      a' = wrote_for lease a p ready e roll
 
       abbrev n' : ℕ
       n' = how_many roll
@@ -100,29 +104,43 @@ module _ {M : Type 1} {𝓤 : Ura M} (𝓛 : Logic 𝓤) (t : Names) where
       pub made-kept : made_by p a.lines ≡ made_by p seen
       made-kept = sym (so.fits.made p) ∙ ap (λ (s : Bool × Seat). s.1.1) so.seat_is.1
 
-      pub shut : (gain : List Line → Fml) → IsStep e → MayFollow t.most (beginning t.counted) (entries_of a.lines) e → Fits t a'
-          → ⟦ latest_of a.lines ⟧ ∗ ⟦ withheld t t.whole seen ⟧ ∗ ⟦ rolled roll ⟧ ∗ ⟦ seated a.seats ⟧ ∗ ⟦ seat p ready (made_by p seen) ⟧ ∗ ⟦ located t a.lines ⟧ ∗ ⟦ has_place t ⟧ ∗ ⟦ counted_as t full_share (how_many a.roll) ⟧ ∗ ⟦ pool a.lease n' ⟧ ∗ ⟦ gain a.lines ⟧
-          ⊢ upd 𝓤 (Done gain)
-      shut gain step may f = let w : Bool = t.whole in let Z : Pr = Done gain in let ls : List Line = a'.lines in let made : List Entry = made_by p a.lines ++ e ∷ [] in
-          qed 𝓛 (‵ (latest_of a.lines) ∷ ‵ (withheld t w seen) ∷ ‵ (rolled roll) ∷ ‵ (seated a.seats) ∷ ‵ (seat p ready (made_by p seen)) ∷ ‵ (located t a.lines) ∷ ‵ (has_place t) ∷ ‵ (counted_as t full_share (how_many a.roll)) ∷ ‵ (pool a.lease n') ∷ ‵ (gain a.lines) ∷ []) ∵
+      -- what the book still lacks
+      abbrev pub Owed : (List Line → Fml) → Pr
+      Owed gain = (⟦ pool lease n' ⟧ ∗ ⟦ gain a.lines ⟧) -∗ (⟦ contents t ⟧ ∗ ⟦ added t p ready seen entry gain ⟧)
+
+      -- the line is written and the word's part is done: the book shuts once it has the pool, and the caller what it gains
+      pub owes : (gain : List Line → Fml) → IsStep e → MayFollow t.most (beginning t.counted) (entries_of a.lines) e → Fits t a'
+          → ⟦ latest_of a.lines ⟧ ∗ ⟦ withheld t t.whole seen ⟧ ∗ ⟦ rolled roll ⟧ ∗ ⟦ seated a.seats ⟧ ∗ ⟦ seat p ready (made_by p seen) ⟧ ∗ ⟦ located t a.lines ⟧ ∗ ⟦ has_place t ⟧ ∗ ⟦ counted_as t full_share (how_many a.roll) ⟧
+          ⊢ upd 𝓤 (⟦ behind t n' ⟧ ∗ Owed gain)
+      owes gain step may f = let w : Bool = t.whole in let Z : Pr = ⟦ behind t n' ⟧ ∗ Owed gain in let ls : List Line = a'.lines in let made : List Entry = made_by p a.lines ++ e ∷ [] in
+          qed 𝓛 (‵ (latest_of a.lines) ∷ ‵ (withheld t w seen) ∷ ‵ (rolled roll) ∷ ‵ (seated a.seats) ∷ ‵ (seat p ready (made_by p seen)) ∷ ‵ (located t a.lines) ∷ ‵ (has_place t) ∷ ‵ (counted_as t full_share (how_many a.roll)) ∷ []) ∵
           use2 𝓛 (raw (upd 𝓤 (⟦ latest_of ls ⟧ ∗ ⟦ reached t ls ⟧ ∗ ⟦ withheld t w ls ⟧))) (writes 𝓛 t w seen a.lines ((p, e) ∷ []) so.seen_is.1) $
           settle 𝓛 Z (‵ (latest_of ls) ⊛ ‵ (reached t ls) ⊛ ‵ (withheld t w ls)) $ split3 ! $
-          -- [latest; reached; withheld; roll; seats; seat; located; the key; count; pool; gain]
+          -- [latest; reached; withheld; roll; seats; seat; located; the key; count]
           move ! (4 ∷ 5 ∷ []) $ use2 𝓛 (raw (upd 𝓤 (⟦ seated (seat_set a.seats p ready made) ⟧ ∗ ⟦ seat p ready made ⟧)))
           (row_writes seat_coded 𝓛 t.passes fresh_seat a.seats p (ready, made_by p seen) (ready, made) so.seat_is.0 so.seat_is.1) $ settle 𝓛 Z (‵ (seated (seat_set a.seats p ready made)) ⊛ ‵ (seat p ready made)) $ split ! $
-          -- [seats; seat; latest; reached; withheld; roll; located; the key; count; pool; gain]
+          -- [seats; seat; latest; reached; withheld; roll; located; the key; count]
           move ! (8 ∷ []) $ use1 𝓛 (raw (upd 𝓤 (⟦ counted_as t quarter n' ⟧ ∗ ⟦ counted_as t three_quarters n' ⟧))) (cell_parts coded_ℕ 𝓛 t.count 0 (how_many a.roll) n') $
           settle 𝓛 Z (‵ (counted_as t quarter n') ⊛ ‵ (counted_as t three_quarters n')) $ split ! $
-          -- [quarter; three quarters; seats; seat; latest; reached; withheld; roll; located; the key; pool; gain]
+          -- [quarter; three quarters; seats; seat; latest; reached; withheld; roll; located; the key]
           move ! (8 ∷ []) $ use1 𝓛 (‵ (located t ls)) (stays 𝓛 t a.lines p e so.counted) $
-          -- [located; quarter; three quarters; seats; seat; latest; reached; withheld; roll; the key; pool; gain]
+          -- [located; quarter; three quarters; seats; seat; latest; reached; withheld; roll; the key]
           rewrite ! 4 (λ (m : List Entry). ‵ (seat p ready m)) (sym (made-own p a.lines e)) refl $
           suffices ! _ (upd_i 𝓤 Z) $ move ! (7 ∷ 4 ∷ []) $ fjoin ! $ move ! (6 ∷ 0 ∷ []) $ fjoin ! $
-          -- [pass; located; quarter; three quarters; seats; latest; roll; the key; pool; gain]
-          move ! (0 ∷ 9 ∷ []) $ fjoin ! $ nothing ! $ fpack ! (Adds t p seen a.lines e) (λ _. ftrue)
+          -- [pass; located; quarter; three quarters; seats; latest; roll; the key]
+          move ! (2 ∷ 7 ∷ []) $ fjoin ! $ frame ! $
+          -- [pass; located; three quarters; seats; latest; roll]
+          assume ! (‵ (pool lease n') ⊛ ‵ (gain a.lines)) $ split ! $ move ! (2 ∷ 1 ∷ []) $ fjoin ! $
+          nothing ! $ fpack ! (Adds t p seen a.lines e) (λ _. ftrue)
           (record { after_seen = so.seen_is.0; own = made-kept; undisturbed = so.seen_is.1; may = may; legal = subst (λ (es : List Entry). Rattle.arc_owners.specs.Histories.IsLegal t.most (beginning t.counted) es) (entries-append a.lines p e) f.legal; event = one_event t.most (beginning t.counted) (entries_of a.lines) so.fits.legal so.counted e step may }) $
           fjoin ! $ fpack ! (List Line) (left_by t p ready seen entry gain) a.lines $
-          -- [added; located; quarter; three quarters; seats; latest; roll; the key; pool]
-          move ! (2 ∷ 7 ∷ []) $ fjoin ! $ frame ! $
-          -- [added; located; three quarters; seats; latest; roll; pool]
-          move ! (4 ∷ 1 ∷ 5 ∷ 3 ∷ 2 ∷ 6 ∷ 0 ∷ []) $ types.Kit.group ! 6 $ use1 𝓛 (‵ (contents t)) (shuts a' f) $ done !
+          -- [added; pool; located; three quarters; seats; latest; roll]
+          move ! (5 ∷ 2 ∷ 6 ∷ 4 ∷ 3 ∷ 1 ∷ 0 ∷ []) $ types.Kit.group ! 6 $ use1 𝓛 (‵ (contents t)) (shuts a' f) $ done !
+
+      pub shut : (gain : List Line → Fml) → IsStep e → MayFollow t.most (beginning t.counted) (entries_of a.lines) e → Fits t a'
+          → ⟦ latest_of a.lines ⟧ ∗ ⟦ withheld t t.whole seen ⟧ ∗ ⟦ rolled roll ⟧ ∗ ⟦ seated a.seats ⟧ ∗ ⟦ seat p ready (made_by p seen) ⟧ ∗ ⟦ located t a.lines ⟧ ∗ ⟦ has_place t ⟧ ∗ ⟦ counted_as t full_share (how_many a.roll) ⟧ ∗ ⟦ pool lease n' ⟧ ∗ ⟦ gain a.lines ⟧
+          ⊢ upd 𝓤 (Done gain)
+      shut gain step may f = let Z : Pr = Done gain in let w : Bool = t.whole in
+          qed 𝓛 (‵ (latest_of a.lines) ∷ ‵ (withheld t w seen) ∷ ‵ (rolled roll) ∷ ‵ (seated a.seats) ∷ ‵ (seat p ready (made_by p seen)) ∷ ‵ (located t a.lines) ∷ ‵ (has_place t) ∷ ‵ (counted_as t full_share (how_many a.roll)) ∷ ‵ (pool lease n') ∷ ‵ (gain a.lines) ∷ []) ∵
+          types.Kit.group ! 8 $ use1 𝓛 (raw (upd 𝓤 (⟦ behind t n' ⟧ ∗ Owed gain))) (owes gain step may f) $ settle 𝓛 Z (‵ (behind t n') ⊛ raw (Owed gain)) $ split ! $
+          suffices ! _ (upd_i 𝓤 Z) $ frame ! $ move ! (1 ∷ 2 ∷ []) $ types.Kit.join ! $ move ! (0 ∷ 1 ∷ []) $ use2 𝓛 (‵ (contents t) ⊛ ‵ (added t p ready seen entry gain)) (apply∗ 𝓤 (⟦ pool lease n' ⟧ ∗ ⟦ gain a.lines ⟧) (⟦ contents t ⟧ ∗ ⟦ added t p ready seen entry gain ⟧)) $ split ! $ done !

@@ -7,19 +7,19 @@ use seplogic.Ra.Ura.{Ura}
 use base.Fraction.{full_share}
 use base.Share
 use base.Share.{quarter, three_quarters}
-use base.Logic.{SProp, ent, sep, guard, upd, upd_i}
+use base.Logic.{SProp, ent, sep, guard, upd, emp, id⊢, upd_i}
 use base.Fml.{Fml, ftrue, fsep, flft}
 use base.Growing.{latest, at_least, once}
 use types.Logic.{Logic, sem}
 use types.Growing.{latest_grows, latest_shows, latest_bounds, latest_agrees, latest_cut, latest_glue}
 use types.Keyed.{ticket}
-use types.RcWeak.{rest, takes, gives, whole}
+use types.RcWeak.{part, rest, takes, gives, whole}
 use types.Kit.{‵, raw, ◌⊛◌, given, ◌$◌, ◌∵◌, !, qed, move, drop, split, fsplit, fjoin, fpick, fpack, learn, check, done, use1, use2, rewrite, suffices, settle}
 use denote.Steps.{nothing}
 use Rattle.arc_owners.specs.declared.owners.entry.Entry.{Entry}
 use Rattle.arc_owners.specs.Histories.{is_counted}
 use Rattle.arc_owners.specs.Machine.{beginning}
-use Rattle.arc_owners.specs.Book.{Names, Line, entries_of, lines_order, authority, reached, withheld, places, is_there, has_place, located, told, Lease, pool, stake}
+use Rattle.arc_owners.specs.Book.{Names, Line, entries_of, lines_order, authority, reached, withheld, places, is_there, has_place, located, told, Lease, pooled, pool, staked, stake}
 use Rattle.arc_owners.proofs.Steps.{counted-more}
 use Rattle.arc_owners.proofs.Book.Rolls.{entries-append}
 
@@ -91,18 +91,27 @@ module _ {M : Type 1} {𝓤 : Ura M} (𝓛 : Logic 𝓤) (t : Names) where
       fpack ! (is_counted (beginning t.counted) (entries_of more) ≡ is_there x) (λ _. ftrue) (ap (is_counted (beginning t.counted)) (entries-append ls p e) ∙ (counted-more (beginning t.counted) (entries_of ls) e c ∙ (sym c ∙ is))) $
       move ! (1 ∷ 0 ∷ []) $ fjoin ! $ fpack ! (Option (ℕ × ℕ)) F x $ done !))
 
-  -- the pool of the lifetime, with one owner more, one less, and none
-  pub pool_more : (l : Lease) (n m : ℕ) → 0 < n → m ≡ n + 1 → m < 2 ^ 64 → ⟦ pool l n ⟧ ⊢ ⟦ pool l m ⟧ ∗ ⟦ stake l ⟧
-  pool_more l zero m live is fits = absurd (omega arith)
-  pool_more l (suc n) zero live is fits = absurd (omega arith)
-  pool_more l (suc n) (suc m) live is fits = let e : suc n + 1 ≡ suc m = omega arith in qed 𝓛 (‵ (pool l (suc n)) ∷ []) ∵ fsplit ! $
-      use1 𝓛 (‵ (rest 64 l.0 (suc n + 1)) ⊛ ‵ (stake l)) (takes 64 𝓛 l.0 (suc n) (omega arith)) $ split ! $ rewrite ! 0 (λ (k : ℕ). ‵ (rest 64 l.0 k)) e refl $ move ! (0 ∷ 2 ∷ []) $ fjoin ! $ done !
+  -- the pool of the lifetime for which the block is lent, with one owner more, one less, and none
+  pub pool_more : (l : Lease) (n m : ℕ) → l.is_lent ≡ true → 0 < n → m ≡ n + 1 → m < 2 ^ 64 → ⟦ pool l n ⟧ ⊢ ⟦ pool l m ⟧ ∗ ⟦ stake l ⟧
+  pool_more l zero m lent live is fits = absurd (omega arith)
+  pool_more l (suc n) zero lent live is fits = absurd (omega arith)
+  pool_more l (suc n) (suc m) lent live is fits = let e : suc n + 1 ≡ suc m = omega arith in qed 𝓛 (‵ (pooled l.is_lent l n) ∷ []) ∵ rewrite ! 0 (λ (y : Bool). ‵ (pooled y l n)) lent refl $ fsplit ! $
+      use1 𝓛 (‵ (rest 64 l.lifetime (suc n + 1)) ⊛ ‵ (part 64 l.lifetime)) (takes 64 𝓛 l.lifetime (suc n) (omega arith)) $ split ! $ rewrite ! 0 (λ (k : ℕ). ‵ (rest 64 l.lifetime k)) e refl $ move ! (0 ∷ 2 ∷ []) $ fjoin ! $
+      use1 𝓛 (‵ (pooled true l m)) (id⊢ 𝓤 _) $ rewrite ! 0 (λ (y : Bool). ‵ (pooled y l m)) (sym lent) refl $ move ! (1 ∷ []) $ use1 𝓛 (‵ (staked true l)) (id⊢ 𝓤 _) $ rewrite ! 0 (λ (y : Bool). ‵ (staked y l)) (sym lent) refl $ move ! (1 ∷ 0 ∷ []) $ done !
 
-  pub pool_less : (l : Lease) (n m : ℕ) → 0 < m → n ≡ m + 1 → ⟦ pool l n ⟧ ∗ ⟦ stake l ⟧ ⊢ ⟦ pool l m ⟧
-  pool_less l zero m live is = absurd (omega arith)
-  pool_less l (suc n) zero live is = absurd (omega arith)
-  pool_less l (suc n) (suc m) live is = let e : suc n - 1 ≡ suc m = omega arith in qed 𝓛 (‵ (pool l (suc n)) ∷ ‵ (stake l) ∷ []) ∵ fsplit ! $ move ! (0 ∷ 2 ∷ []) $
-      use2 𝓛 (‵ (rest 64 l.0 (suc n - 1))) (gives 64 𝓛 l.0 (suc n) (omega arith)) $ rewrite ! 0 (λ (k : ℕ). ‵ (rest 64 l.0 k)) e refl $ fjoin ! $ done !
+  pub pool_less : (l : Lease) (n m : ℕ) → l.is_lent ≡ true → 0 < m → n ≡ m + 1 → ⟦ pool l n ⟧ ∗ ⟦ stake l ⟧ ⊢ ⟦ pool l m ⟧
+  pool_less l zero m lent live is = absurd (omega arith)
+  pool_less l (suc n) zero lent live is = absurd (omega arith)
+  pool_less l (suc n) (suc m) lent live is = let e : suc n - 1 ≡ suc m = omega arith in qed 𝓛 (‵ (pooled l.is_lent l n) ∷ ‵ (staked l.is_lent l) ∷ []) ∵
+      rewrite ! 0 (λ (y : Bool). ‵ (pooled y l n)) lent refl $ rewrite ! 1 (λ (y : Bool). ‵ (staked y l)) lent refl $ fsplit ! $ move ! (0 ∷ 2 ∷ []) $
+      use2 𝓛 (‵ (rest 64 l.lifetime (suc n - 1))) (gives 64 𝓛 l.lifetime (suc n) (omega arith)) $ rewrite ! 0 (λ (k : ℕ). ‵ (rest 64 l.lifetime k)) e refl $ fjoin ! $
+      use1 𝓛 (‵ (pooled true l m)) (id⊢ 𝓤 _) $ rewrite ! 0 (λ (y : Bool). ‵ (pooled y l m)) (sym lent) refl $ done !
 
-  pub pool_last : (l : Lease) → ⟦ pool l 1 ⟧ ∗ ⟦ stake l ⟧ ⊢ ⟦ flft (l.0 ∷ []) full_share ⟧ ∗ ⟦ ticket l.1 0 ⟧
-  pool_last l = qed 𝓛 (‵ (pool l 1) ∷ ‵ (stake l) ∷ []) ∵ fsplit ! $ move ! (0 ∷ 2 ∷ []) $ use2 𝓛 (‵ (flft (l.0 ∷ []) full_share)) (whole 64 𝓛 l.0) $ done !
+  pub pool_last : (l : Lease) → l.is_lent ≡ true → ⟦ pool l 1 ⟧ ∗ ⟦ stake l ⟧ ⊢ ⟦ flft (l.lifetime ∷ []) full_share ⟧ ∗ ⟦ ticket l.key 0 ⟧
+  pool_last l lent = qed 𝓛 (‵ (pooled l.is_lent l 0) ∷ ‵ (staked l.is_lent l) ∷ []) ∵ rewrite ! 0 (λ (y : Bool). ‵ (pooled y l 0)) lent refl $ rewrite ! 1 (λ (y : Bool). ‵ (staked y l)) lent refl $
+      fsplit ! $ move ! (0 ∷ 2 ∷ []) $ use2 𝓛 (‵ (flft (l.lifetime ∷ []) full_share)) (whole 64 𝓛 l.lifetime) $ done !
+
+  -- where the block is not lent, there is one owner
+  pub pool_sole : (l : Lease) (n : ℕ) → l.is_lent ≡ false → 0 < n → ⟦ pool l n ⟧ ⊢ guard 𝓤 (n ≡ 1) (emp 𝓤)
+  pool_sole l zero unlent live = absurd (omega arith)
+  pool_sole l (suc n) unlent live = qed 𝓛 (‵ (pooled l.is_lent l n) ∷ []) ∵ rewrite ! 0 (λ (y : Bool). ‵ (pooled y l n)) unlent refl $ fpick ! (λ none. drop ! $ check ! (ap suc none) $ done !)

@@ -15,7 +15,7 @@ use Rattle.arc_owners.specs.declared.owners.entry.Entry.{Entry}
 use Rattle.arc_owners.specs.declared.owners.entry.Entry.TheVariants.{Up, Full, Down, Alone}
 use Rattle.arc_owners.specs.Book.{Names, Line, Lease, right, stake, contents, behind, lies, counting, known, pass_holds, trace_owns, right_owns, spoils, told, Adds, added, next_owner, looked, glanced, glanced_at, raised_by, lowered_by, Written, Filled, MadeOne, after_look, after_glance, after_raise, after_lower, AddedTo, Lowered, how_many_live}
 use Rattle.arc_owners.proofs.Book.Shared.{known_twice}
-use Rattle.arc_owners.proofs.Book.Moves.{looks, glances, tries, lowers}
+use Rattle.arc_owners.proofs.Book.Moves.{looks, glances, tries, at_once, lowers}
 
 module _ {M : Type 1} {𝓤 : Ura M} (𝓛 : Logic 𝓤) (t : Names) where
   open 𝓛 use {H, A as At}
@@ -114,10 +114,10 @@ module _ {M : Type 1} {𝓤 : Ura M} (𝓛 : Logic 𝓤) (t : Names) where
       raise_out s false = qed 𝓛 (‵ N ∷ ‵ (fsep (pass_holds t p ready seen) (right t own l s)) ∷ []) ∵ move ! (1 ∷ []) $ fsplit ! $ move ! (2 ∷ 0 ∷ []) $ use2 𝓛 (‵ (T seen)) (resumes seen) $ nothing ! $ move ! (2 ∷ 0 ∷ []) $ fjoin ! $ move ! (1 ∷ 0 ∷ []) $ fjoin ! $
           nothing ! $ fpack ! (MadeOne t p seen own false seen (false, 0)) (λ _. ftrue) (refl, refl) $ fjoin ! $ fpack ! (List Line × (Bool × ℕ)) (Made s false) (seen, (false, 0)) $ done !
 
-      pub at_raise : (s : Share) (old m : ℕ) → ¬ (old ≡ t.most) → (old < 2 ^ 64 - 1 → m ≡ old + 1)
+      pub at_raise : l.is_lent ≡ true → (s : Share) (old m : ℕ) → ¬ (old ≡ t.most) → (old < 2 ^ 64 - 1 → m ≡ old + 1)
           → At.named i (fbor κ I) ∗ At.lft κ q ∗ ⟦ T seen ⟧ ∗ ⟦ right t own l s ⟧ ⊢ asks 𝓛 (block_ptr b o) (λ n. either (eqb n old) m n) always (λ n. fsep (flft κ q) (fex (List Line × (Bool × ℕ)) (after_raise t p ready seen own l s old n)))
-      at_raise s old m room next = begun s (λ n. either (eqb n old) m n) ⟦ right t own l s ⟧ (λ n. fex (List Line × (Bool × ℕ)) (after_raise t p ready seen own l s old n))
-          (λ n. turned ⟦ right t own l s ⟧ ⟦ raised_by t p ready seen own l s (eqb n old) ⟧ ⟦ behind t n ⟧ ⟦ behind t (either (eqb n old) m n) ⟧ (tries 𝓛 t p ready seen own l s n old m room next) ⟦ fex (List Line × (Bool × ℕ)) (after_raise t p ready seen own l s old n) ⟧ (raise_out s (eqb n old)))
+      at_raise lent s old m room next = begun s (λ n. either (eqb n old) m n) ⟦ right t own l s ⟧ (λ n. fex (List Line × (Bool × ℕ)) (after_raise t p ready seen own l s old n))
+          (λ n. turned ⟦ right t own l s ⟧ ⟦ raised_by t p ready seen own l s (eqb n old) ⟧ ⟦ behind t n ⟧ ⟦ behind t (either (eqb n old) m n) ⟧ (tries 𝓛 t p ready seen own l lent s n old m room next) ⟦ fex (List Line × (Bool × ℕ)) (after_raise t p ready seen own l s old n) ⟧ (raise_out s (eqb n old)))
 
       lowered_in : (n : ℕ) (ls before : List Line) → AddedTo t p seen (λ _. Down own) before ls → ⟦ T ls ⟧ ∗ ⟦ fsep (told (n ≡ how_many_live before)) (spoils l (eqb n 1)) ⟧ ⊢ ⟦ fex (List Line) (after_lower t p ready seen own l n) ⟧
       lowered_in n ls before so = let S : Fml = spoils l (eqb n 1) in qed 𝓛 (‵ (T ls) ∷ ‵ (fsep (told (n ≡ how_many_live before)) S) ∷ []) ∵ move ! (1 ∷ []) $ fsplit ! $ fpick ! (λ number. drop ! $ move ! (1 ∷ 0 ∷ []) $ fjoin ! $ nothing ! $
@@ -130,7 +130,7 @@ module _ {M : Type 1} {𝓤 : Ura M} (𝓛 : Logic 𝓤) (t : Names) where
       abbrev pub less : ℕ → ℕ
       less n = (n + (2 ^ 64 - 1)) % 2 ^ 64
 
-      pub at_lower : At.named i (fbor κ I) ∗ At.lft κ q ∗ ⟦ T seen ⟧ ∗ ⟦ right t own l quarter ⟧ ∗ ⟦ stake l ⟧ ⊢ asks 𝓛 (block_ptr b o) less always (λ n. fsep (flft κ q) (fex (List Line) (after_lower t p ready seen own l n)))
-      at_lower = begun quarter less (⟦ right t own l quarter ⟧ ∗ ⟦ stake l ⟧) (λ n. fex (List Line) (after_lower t p ready seen own l n))
+      pub at_lower : l.is_lent ≡ true → At.named i (fbor κ I) ∗ At.lft κ q ∗ ⟦ T seen ⟧ ∗ ⟦ right t own l quarter ⟧ ∗ ⟦ stake l ⟧ ⊢ asks 𝓛 (block_ptr b o) less always (λ n. fsep (flft κ q) (fex (List Line) (after_lower t p ready seen own l n)))
+      at_lower lent = begun quarter less (⟦ right t own l quarter ⟧ ∗ ⟦ stake l ⟧) (λ n. fex (List Line) (after_lower t p ready seen own l n))
           (λ n. turned (⟦ right t own l quarter ⟧ ∗ ⟦ stake l ⟧) ⟦ lowered_by t p ready seen own l n ⟧ ⟦ behind t n ⟧ ⟦ behind t (less n) ⟧
-          (lowers 𝓛 t p ready seen own l n (less n) (λ (live : 0 < n) (fits : n < 2 ^ 64). (let e : (n + (2 ^ 64 - 1)) % 2 ^ 64 ≡ n - 1 = omega arith in e))) ⟦ fex (List Line) (after_lower t p ready seen own l n) ⟧ (lower_out n))
+          (at_once 𝓛 t p ready seen own l (lowered_by t p ready seen own l n) n (less n) (lowers 𝓛 t p ready seen own l lent n (less n) (λ (live : 0 < n) (fits : n < 2 ^ 64). (let e : (n + (2 ^ 64 - 1)) % 2 ^ 64 ≡ n - 1 = omega arith in e)))) ⟦ fex (List Line) (after_lower t p ready seen own l n) ⟧ (lower_out n))

@@ -1,6 +1,6 @@
 -- Lines and rolls as plain data: what one more line, owner or end does to them.
 use Rattle.std.proofs.Common.{inl, inr, ◌≡◌, ℕ, zero, suc, ◌+◌, ◌<◌, ◌≤◌, Bool, true, false, eqb, List, [], ◌∷◌, ◌++◌, length, get_or, set, refl, sym, ap, ◌∙◌, arith}
-use Rattle.std.proofs.lemmas.Bool.{eq-eqb, ne_eqb, cases_Bool, false≢true}
+use Rattle.std.proofs.lemmas.Bool.{eq-eqb, eqb-true, ne_eqb, cases_Bool, false≢true}
 use Rattle.arc_owners.specs.declared.owners.entry.Entry.{Entry}
 use Rattle.arc_owners.specs.Histories.{is_in}
 use Rattle.arc_owners.specs.Machine.{without_number}
@@ -47,6 +47,19 @@ living-in k zero j ((true, v) ∷ xs) l is here = let same : eqb k j ≡ true = 
 living-in k zero j ((false, v) ∷ xs) l is here = absurd (false≢true (ap (λ (x : Bool × Lease). x.0) here))
 living-in k (suc i) j ((true, v) ∷ xs) l is here = let no : eqb k j ≡ false = ne_eqb k j (λ (e : k ≡ j). omega arith) in rw no (living-in (suc k) i j xs l (omega arith) here)
 living-in k (suc i) j ((false, v) ∷ xs) l is here = living-in (suc k) i j xs l (omega arith) here
+
+pub living-relet : (k i : ℕ) (xs : List (Bool × Lease)) (l m : Lease) → get_or xs i (false, no_lease) ≡ (true, l) → living k (set xs i (true, m)) ≡ living k xs
+living-relet k i [] l m here = refl
+living-relet k zero ((true, v) ∷ xs) l m here = refl
+living-relet k zero ((false, v) ∷ xs) l m here = absurd (false≢true (ap (λ (x : Bool × Lease). x.0) here))
+living-relet k (suc i) ((true, v) ∷ xs) l m here = ap (λ (ns : List ℕ). k ∷ ns) (living-relet (suc k) i xs l m here)
+living-relet k (suc i) ((false, v) ∷ xs) l m here = living-relet (suc k) i xs l m here
+
+pub in_one : (o i : ℕ) → is_in i (o ∷ []) ≡ true → o ≡ i
+in_one o i there = elim (cases_Bool (eqb o i)) [
+  | inl same ↦ eqb-true o i same
+  | inr other ↦ absurd (false≢true (sym (rw other refl) ∙ there))
+]
 
 pub upto-fresh : (n k m : ℕ) → k + m ≤ n → is_in n (upto k m) ≡ false
 upto-fresh n k zero past = refl

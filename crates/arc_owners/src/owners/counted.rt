@@ -26,6 +26,7 @@ pub struct Share<H: Mark = Open> {
     right: Right,
     mark: PhantomData<H>,
     ghost held: { right.held ≡ true },
+    ghost lent: { right.lease.is_lent ≡ true },
 }
 
 /// What one caller has seen of a block's history, and made of it. It has no bytes.

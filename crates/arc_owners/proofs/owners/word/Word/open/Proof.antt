@@ -44,7 +44,7 @@ open_spec 𝓤 𝓛 𝓜 𝓡 wired =
     let y : (walk_of 𝓛 f.ended stayed c).Ghost = ((κs, qs, bounds, a, (vint w64 most ∷ [], (bool_vals w, tt))), gh) in let Post : Val → SProp 𝓤 = (walk_of 𝓛 f.ended stayed c).post y in
     qed 𝓛 ((‵ ftrue ⊛ ‵ (owns (types_at f.ended.signature.params κs) a y.0.4)) ∷ given _ (‵ ftrue) ∷ []) ∵ keep ! (1 ∷ 0 ∷ []) $ learn ! (λ asked. drop ! $ split ! $ keep ! (0 ∷ []) $
     enter ! 𝓣.C 𝓣.Λ fn (vint w64 most ∷ bool_vals w) Post $ alloc_all ! (λ l. pass_all ! refl ((tt, record { fits = are.0.1 }), ((tt, tt), tt)) $
-    use0 𝓛 (later (some (λ (x : Names × Lease). given ((x.0.most ≡ most) × (x.0.counted ≡ true) × (x.0.whole ≡ w)) (‵ (behind x.0 1) ⊛ ‵ (right_owns true x.0 0 x.1 []) ⊛ ‵ (trace_owns true x.0 0 false []))))) (begins.begins 𝓛 most w asked are.0.1) $
+    use0 𝓛 (later (some (λ (x : Names × Lease). given ((x.0.most ≡ most) × (x.0.counted ≡ true) × (x.0.whole ≡ w) × (x.1.is_lent ≡ true)) (‵ (behind x.0 1) ⊛ ‵ (right_owns true x.0 0 x.1 []) ⊛ ‵ (trace_owns true x.0 0 false []))))) (begins.begins 𝓛 most w asked are.0.1) $
     await ! tt $ pick ! (λ x. learn ! (λ so. types.Kit.split3 ! $ let t = x.0 in
     -- [the word's; the right's; the pass's; no token]
     sets ! (agg ! (and_then ! (get ! refl) (and_then ! (get ! refl) (no_more !)))) refl (tt, (record { fits = are.0.1 }, (tt, tt))) $ sets ! (agg ! (and_then ! (lit ! tt) (no_more !))) refl (tt, (record { fits = lit< tt }, tt)) $
@@ -59,4 +59,4 @@ open_spec 𝓤 𝓛 𝓜 𝓡 wired =
     feq_i ! (List Val) (v ∷ []) (v ∷ []) refl $ fjoin ! $ fpack ! (Valss Rs) (λ vss. fsep (feq (List Val) (v ∷ []) (vstruct (of_list (vss.0 ++ (vss.1.0 ++ (vss.1.1.0 ++ [])))) ∷ [])) (owns Rs (t, (right', (trace', tt))) vss)) (word_val 1 ∷ [], (token ∷ [], (token ∷ [], tt))) $
     nothing ! $ nothing ! $ fjoin ! $ nothing ! $ fjoin ! $
     returns ! (look_at ! 0 refl) $ free_all ! refl $ keep ! (2 ∷ 0 ∷ 1 ∷ []) $
-    by ! (ends 𝓛 f.ended stayed c y v (t, right', trace') (tt, (tt, tt)) (tt, (tt, tt)) (fact_i 𝓤 _ (emp 𝓤) (so.0, so.1, so.2, (refl, refl), (refl, refl), refl, refl, refl, refl, refl))))))))
+    by ! (ends 𝓛 f.ended stayed c y v (t, right', trace') (tt, (tt, tt)) (tt, (tt, tt)) (fact_i 𝓤 _ (emp 𝓤) (so.0, so.1, so.2, (refl, refl, so.3), (refl, refl), refl, refl, refl, refl, refl))))))))

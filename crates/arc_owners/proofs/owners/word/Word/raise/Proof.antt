@@ -71,7 +71,7 @@ raise_spec 𝓤 𝓛 𝓜 𝓡 wired =
     first ! $ blocks ! $ sets ! (addr ! (through ! refl (stop !))) refl (tt, tt) $ sets ! (of_opd ! (get ! refl)) refl (tt, tt) $
     move ! (0 ∷ 11 ∷ []) $ group ! 2 $ move ! (14 ∷ 12 ∷ 0 ∷ []) $
     use3 𝓛 (raw (𝓣.C _ (vptr b o ∷ vint w64 old ∷ vint w64 next ∷ []) (λ u. mean 𝓛 (found out u))))
-    (via 𝓤 _ (places.at_raise 𝓛 me z.0 s z.1 b o past seen.number seen.ready seen.lines own.owner own.lease r old next asked.2 asked.3) (exchanges 𝓛 𝓜 𝓡 (code.calls-atomic_table::exchange 𝓡.env wired) (block_ptr b o) old next are.1.1.1.1.0.1 are.1.1.1.1.1.0.1 out)) $
+    (via 𝓤 _ (places.at_raise 𝓛 me z.0 s z.1 b o past seen.number seen.ready seen.lines own.owner own.lease asked.0.2 r old next asked.2 asked.3) (exchanges 𝓛 𝓜 𝓡 (code.calls-atomic_table::exchange 𝓡.env wired) (block_ptr b o) old next are.1.1.1.1.0.1 are.1.1.1.1.1.0.1 out)) $
     Calls-last ! (fm 𝓛 𝓜 𝓡) (found out) (and_then ! (get ! refl) (and_then ! (get ! refl) (and_then ! (get ! refl) (no_more !)))) (λ u. finds ! out (λ n fits. lands_last ! refl (tt, record { fits = fits }) $
     exec ! 𝓣.C 𝓣.Λ Ev (tail fn.body) (at_ret Ev Post) $ sets ! (of_opd ! (get ! refl)) refl (tt, record { fits = fits }) $
     fsplit ! $ move ! (0 ∷ 13 ∷ []) $ use2 𝓛 (later (‵ (flft κs.0 qs.0))) (apply∗ 𝓤 (𝓛.A.lft z.0 s) (H.⇛ (𝓛.A.lft κs.0 qs.0))) $ await ! tt $
