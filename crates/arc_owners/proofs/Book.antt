@@ -11,3 +11,4 @@ pub mod Places
 pub mod Begins
 pub mod Fields
 pub mod Ends
+pub mod Stakes

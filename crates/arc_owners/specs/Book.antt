@@ -273,6 +273,25 @@ how_many_live ls = length (live_owners (entries_of ls))
 abbrev pub lowered_by : Names → ℕ → Bool → List Line → ℕ → Lease → ℕ → Fml
 lowered_by t p ready seen o l n = added t p ready seen (λ _. Down o) (λ before. fsep (told (n ≡ how_many_live before)) (spoils l (n == 1)))
 
+-- the lease of an owner who asked for the block back: taken where it was found alone
+abbrev pub taken : Lease → Lease
+taken l = record { is_lent = false; lifetime = l.lifetime; key = l.key }
+
+abbrev pub lease_after : Lease → Bool → Lease
+lease_after l true = taken l
+lease_after l false = l
+
+-- what such an owner has: its right, and the end of the lifetime or its part of it
+abbrev pub claim_gain : Names → ℕ → Lease → Bool → Fml
+claim_gain t o l y = fsep (right t o (lease_after l y) quarter) (fsep (stake (lease_after l y)) (spoils l y))
+
+abbrev pub claimed_by : Names → ℕ → Bool → List Line → ℕ → Lease → ℕ → Fml
+claimed_by t p ready seen o l n = added t p ready seen (λ _. Alone o (n == 1)) (λ _. claim_gain t o l (n == 1))
+
+-- a sole owner's end, without a step
+abbrev pub finished_by : Names → ℕ → Bool → List Line → ℕ → Fml
+finished_by t p ready seen o = added t p ready seen (λ _. Down o) (λ before. told (1 ≡ how_many_live before))
+
 -- a `&` to the word: an invariant over a borrow of it, whose number is past the book's
 abbrev pub lent : Names → ℕ → ℕ → Lft → Lft × ℕ → Fml
 lent t b o κ z = fsep (before κ z.0) (fsep (told (t.number < z.1)) (fnamed z.1 (fbor z.0 (counting t b o))))
@@ -337,6 +356,12 @@ after_raise t p ready seen o l q old n u = fsep (told (MadeOne t p seen o (n == 
 -- an owner ended, where the word counted so many
 abbrev pub Lowered : Names → ℕ → List Line → ℕ → ℕ → List Line → Type 0
 Lowered t p seen o n ls = (before : List Line) × AddedTo t p seen (λ _. Down o) before ls × (n ≡ how_many_live before)
+
+abbrev pub after_claim : Names → ℕ → Bool → List Line → ℕ → Lease → ℕ → List Line → Fml
+after_claim t p ready seen o l n ls = fsep (told (Written t p seen (Alone o (n == 1)) ls)) (fsep (trace_owns true t p ready ls) (claim_gain t o l (n == 1)))
+
+abbrev pub after_finish : Names → ℕ → Bool → List Line → ℕ → List Line → Fml
+after_finish t p ready seen o ls = fsep (told (Lowered t p seen o 1 ls)) (trace_owns true t p ready ls)
 
 abbrev pub after_lower : Names → ℕ → Bool → List Line → ℕ → Lease → ℕ → List Line → Fml
 after_lower t p ready seen o l n ls = fsep (told (Lowered t p seen o n ls)) (fsep (trace_owns true t p ready ls) (spoils l (n == 1)))

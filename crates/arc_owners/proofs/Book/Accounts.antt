@@ -31,6 +31,9 @@ wrote a = wrote_for a.lease a
 abbrev pub relet : Account → ℕ → Lease → Account
 relet a o l = record { lines = a.lines; roll = set a.roll o (true, l); seats = a.seats; lease = l }
 
+pub one-lives : (roll : List (Bool × Lease)) (o : ℕ) (l : Lease) → get_or roll o (false, no_lease) ≡ (true, l) → 0 < how_many roll
+one-lives roll o l is = omega (arith, length-without o (living 0 roll), times-in o (living 0 roll) (living-in 0 o o roll l (omega arith) is))
+
 -- whoever lives beside a sole owner is that one
 sole-is : (t : Names) (a : Account) → Fits t a → (o i : ℕ) (l m : Lease) → get_or a.roll o (false, no_lease) ≡ (true, l) → get_or a.roll i (false, no_lease) ≡ (true, m) → how_many a.roll ≡ 1 → o ≡ i
 sole-is t a f o i l m is there one = let alone : living 0 a.roll ≡ o ∷ [] = one_is (living 0 a.roll) o (living-in 0 o o a.roll l (omega arith) is) one in
@@ -161,4 +164,4 @@ module _ (t : Names) (a : Account) (f : Fits t a) (p : ℕ) (ready : Bool) (seat
   may-full o l is c full = (lives o l is, c, ap length f.live ∙ full)
 
   pub some-live : (o : ℕ) (l : Lease) → get_or a.roll o (false, no_lease) ≡ (true, l) → 0 < how_many a.roll
-  some-live o l is = omega (arith, length-without o (living 0 a.roll), times-in o (living 0 a.roll) (living-in 0 o o a.roll l (omega arith) is))
+  some-live o l is = one-lives a.roll o l is

@@ -1,5 +1,5 @@
 -- A new book, a pass that learns what another has seen, and a new pass. Assumes `Logic`.
-use Rattle.std.proofs.Common.{inl, inr, ◌≡◌, ℕ, zero, suc, ◌^◌, ◌<◌, ◌≤◌, Bool, true, false, eqb, List, [], ◌∷◌, ◌++◌, length, get_or, refl, sym, ap, ◌∙◌, subst, arith}
+use Rattle.std.proofs.Common.{inl, inr, ◌≡◌, ℕ, zero, suc, ◌^◌, ◌<◌, ◌≤◌, Bool, true, false, eqb, List, [], ◌∷◌, ◌++◌, length, get_or, set, refl, sym, ap, ◌∙◌, subst, arith}
 use Rattle.std.proofs.lemmas.Bool.{eqb-true, eqb-false, cases_Bool, false≢true}
 use mathlib.Core.Option.{Option, some}
 use mathlib.Core.List.{IsPrefix}
@@ -18,15 +18,16 @@ use types.Growing.{latest_new, latest_shows, latest_bounds, latest_cut}
 use types.Keyed.{entries_new, entries_take, entries_from, ticket, token}
 use types.RcWeak.{part, rest, cut}
 use types.Tokens.{lft_new}
-use types.Kit.{‵, raw, ◌⊛◌, some as any, given, later, ◌$◌, ◌∵◌, !, qed, move, drop, split, fsplit, fjoin, fpick, fpack, pick, learn, show, check, assume, frame, group, done, use0, use1, use2, use3, rewrite, suffices, settle, updating, await, now}
+use types.Kit.{‵, raw, ◌⊛◌, some as any, given, later, ◌$◌, ◌∵◌, !, qed, by, move, drop, split, fsplit, fjoin, fpick, fpack, pick, learn, show, check, assume, frame, group, done, use0, use1, use2, use3, rewrite, suffices, settle, updating, await, now}
 use denote.Steps.{nothing}
 use Rattle.arc_owners.specs.Histories.{is_counted, live_owners, owners_ever, owners_ended}
 use Rattle.arc_owners.specs.Machine.{beginning}
-use Rattle.arc_owners.specs.Book.{Names, Line, made_by, Lease, lease_coded, no_lease, Seat, seat_coded, fresh_seat, halved, cell, row, lines_order, reached, authority, withheld, places, is_there, told, pool, Account, Fits, contents, behind, known, right_owns, trace_owns}
-use Rattle.arc_owners.proofs.Book.Rolls.{get-more, get-last}
-use Rattle.arc_owners.proofs.Book.Cells.{row_new, row_adds, row_finds, cell_parts}
-use Rattle.arc_owners.proofs.Book.Parts.{top, sees}
-use Rattle.arc_owners.proofs.Book.Opened.{shuts, latest_of, seated, seat}
+use Rattle.arc_owners.specs.Book.{Names, Line, made_by, Lease, lease_coded, no_lease, Seat, seat_coded, fresh_seat, halved, cell, row, counted_as, right, lines_order, reached, authority, withheld, places, is_there, told, pool, stake, how_many, Account, Fits, contents, behind, known, right_owns, trace_owns}
+use Rattle.arc_owners.proofs.Book.Rolls.{get-more, get-last, living-relet}
+use Rattle.arc_owners.proofs.Book.Cells.{row_new, row_adds, row_finds, row_writes, cell_parts}
+use Rattle.arc_owners.proofs.Book.Parts.{top, sees, pool_sole}
+use Rattle.arc_owners.proofs.Book.Accounts.{relet, fits-relet, one-lives}
+use Rattle.arc_owners.proofs.Book.Opened.{shuts, latest_of, rolled, seated, seat}
 use Rattle.arc_owners.proofs.Book.Shared.{known_twice}
 
 abbrev first_account : Lease → Account
@@ -183,3 +184,39 @@ module _ {M : Type 1} {𝓤 : Ura M} (𝓛 : Logic 𝓤) where
         move ! (8 ∷ 2 ∷ []) $ fjoin ! $ move ! (0 ∷ 1 ∷ []) $ fjoin ! $
         let f' : Fits t a' = record { legal = f.legal; live = f.live; ever = f.ever; made = more-made a f; leased = f.leased; within = f.within; small = f.small } in
         move ! (1 ∷ 6 ∷ 5 ∷ 2 ∷ 3 ∷ 4 ∷ []) $ group ! 6 $ use1 𝓛 (‵ J) (shuts 𝓛 t a' f') $ frame ! $ show ! (Forked born) (p, a.lines) $ check ! (past, none_made) $ done !)))
+
+    abbrev pub Relet : ℕ → List Line → Lease → Pr
+    Relet o born l = guard 𝓤 (l.is_lent ≡ true) ⟦ right_owns true t o l born ⟧
+
+    resets : (o : ℕ) (l m : Lease) (born : List Line) → l.is_lent ≡ false → m.is_lent ≡ true → ⟦ N ⟧ ∗ ⟦ known t born ⟧ ∗ ⟦ right t o l quarter ⟧ ∗ ⟦ stake m ⟧ ∗ ⟦ pool m 1 ⟧ ⊢ H.⇛ (ex 𝓤 (Relet o born))
+    resets o l m born unlent lent = let Z : Pr = ex 𝓤 (Relet o born) in qed 𝓛 (‵ N ∷ ‵ (known t born) ∷ ‵ (right t o l quarter) ∷ ‵ (stake m) ∷ ‵ (pool m 1) ∷ []) ∵
+        use1 𝓛 (‵ (finv J)) (𝓛.invs.named_inv t.number J) $ suffices ! _ (𝓛.invs.inv_acc J Z) $ frame ! $ assume ! (‵ J) $
+        fpick ! (λ a. fsplit ! $ move ! (1 ∷ []) $ fsplit ! $ move ! (1 ∷ []) $ fsplit ! $ move ! (1 ∷ []) $ fsplit ! $ move ! (1 ∷ []) $ fsplit ! $ move ! (1 ∷ []) $ fpick ! (λ f. drop ! $ fsplit ! $
+        -- [three quarters; pool; seats; roll; located; latest; known; the right; the stake; the new pool]
+        move ! (3 ∷ 7 ∷ []) $ use2 𝓛 (given ((o < length a.roll) × (get_or a.roll o (false, no_lease) ≡ (true, l))) (‵ (rolled 𝓛 t a.roll) ⊛ ‵ (right t o l quarter)))
+        (row_finds lease_coded 𝓛 t.rights no_lease a.roll 0 o o quarter l (omega arith)) $ learn ! (λ owner_is. split ! $ let leased : l ≡ a.lease = f.leased o l owner_is.1 in
+        -- [roll; right; three quarters; pool; seats; located; latest; known; the stake; the new pool]
+        move ! (3 ∷ []) $ use1 𝓛 (given (how_many a.roll ≡ 1) (raw (emp 𝓤))) (pool_sole 𝓛 t a.lease (how_many a.roll) (ap (λ (k : Lease). k.is_lent) (sym leased) ∙ unlent) (one-lives a.roll o l owner_is.1)) $ learn ! (λ one. drop ! $
+        let roll' : List (Bool × Lease) = set a.roll o (true, m) in let still : how_many roll' ≡ how_many a.roll = ap length (living-relet 0 o a.roll l m owner_is.1) in
+        -- [roll; right; three quarters; seats; located; latest; known; the stake; the new pool]
+        use2 𝓛 (raw (upd 𝓤 (⟦ rolled 𝓛 t roll' ⟧ ∗ ⟦ right t o m quarter ⟧))) (row_writes lease_coded 𝓛 t.rights no_lease a.roll o l m owner_is.0 owner_is.1) $
+        settle 𝓛 (⟦ J ⟧ ∗ Z) (‵ (rolled 𝓛 t roll') ⊛ ‵ (right t o m quarter)) $ split ! $ suffices ! _ (upd_i 𝓤 (⟦ J ⟧ ∗ Z)) $
+        -- [roll; right; three quarters; seats; located; latest; known; the stake; the new pool]
+        move ! (1 ∷ 7 ∷ []) $ fjoin ! $ move ! (6 ∷ 0 ∷ []) $ fjoin ! $ use1 𝓛 (‵ (right_owns true t o m born)) (id⊢ 𝓤 _) $
+        -- [the owner; roll; three quarters; seats; located; latest; the new pool]
+        move ! (2 ∷ []) $ rewrite ! 0 (λ (k : ℕ). ‵ (counted_as t three_quarters k)) (sym still) refl $ move ! (6 ∷ []) $ rewrite ! 0 (λ (k : ℕ). ‵ (pool m k)) (sym (still ∙ one)) refl $
+        -- [the new pool; three quarters; the owner; roll; seats; located; latest]
+        move ! (6 ∷ 5 ∷ 3 ∷ 4 ∷ 1 ∷ 0 ∷ []) $ group ! 6 $ use1 𝓛 (‵ J) (shuts 𝓛 t (relet a o m) (fits-relet t a f o l m owner_is.0 owner_is.1 one)) $ frame ! $ show ! (Relet o born) m $ check ! lent $ done !))))
+
+    -- a sole owner lends the block anew, for a lifetime of its own
+    pub relets : (o : ℕ) (l : Lease) (born : List Line) → l.is_lent ≡ false → ⟦ right_owns true t o l born ⟧ ⊢ H.⇛ (ex 𝓤 (Relet o born))
+    relets o l born unlent = let Z : Pr = ex 𝓤 (Relet o born) in qed 𝓛 (‵ (right_owns true t o l born) ∷ []) ∵ updating ! $ lft_new ! tt (λ a.
+        use1 𝓛 (‵ (rest 64 a 1) ⊛ ‵ (part 64 a)) (cut 64 𝓛 a 0 full_share (omega arith) (subst (Counts 64 full_share) (omega arith) (Counts-all 64))) $ split ! $
+        use0 𝓛 (later (any (λ (k : ℕ). ‵ (entries_from token k 0 (λ _. tt))))) (via 𝓤 _ (entries_new token 𝓛 0 (λ _. tt)) (basic 𝓛 _)) $ await ! tt $ pick ! (λ k.
+        use1 𝓛 (‵ (ticket k 0) ⊛ ‵ (entries_from token k 1 (λ _. tt))) (entries_take token 𝓛 k 0 (λ _. tt)) $ split ! $ move ! (1 ∷ []) $ drop ! $ let m : Lease = record { is_lent = true; lifetime = a; key = k } in
+        -- [the ticket; the pool's rest; the stake; the right]
+        move ! (1 ∷ 0 ∷ []) $ fjoin ! $ use1 𝓛 (‵ (pool m 1)) (id⊢ 𝓤 _) $ move ! (1 ∷ []) $ use1 𝓛 (‵ (stake m)) (id⊢ 𝓤 _) $ move ! (2 ∷ []) $ fsplit ! $ move ! (1 ∷ []) $ fsplit ! $ move ! (1 ∷ []) $ drop ! $
+        -- [the right; the book; the stake; the pool]
+        move ! (1 ∷ []) $ use1 𝓛 (‵ (known t born) ⊛ ‵ (known t born)) (known_twice 𝓛 t born) $ split ! $ fsplit ! $ move ! (1 ∷ []) $ drop ! $
+        -- [the book; known; the right; the stake; the pool]
+        move ! (0 ∷ 1 ∷ 2 ∷ 3 ∷ 4 ∷ []) $ by ! (resets o l m born unlent refl)))

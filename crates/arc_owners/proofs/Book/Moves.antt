@@ -13,12 +13,12 @@ use Rattle.arc_owners.specs.declared.owners.entry.Entry.{Entry}
 use Rattle.arc_owners.specs.declared.owners.entry.Entry.TheVariants.{Up, Full, Down, Alone}
 use Rattle.arc_owners.specs.Histories.{MayFollow}
 use Rattle.arc_owners.specs.Machine.{beginning}
-use Rattle.arc_owners.specs.Book.{Names, Line, entries_of, made_by, withheld, has_place, located, Lease, lease_coded, no_lease, right, counted_as, pool, stake, how_many, Account, Fits, contents, behind, pass_holds, added, next_owner, looked, glanced, glanced_at, raised_by, spoils, lowered_by, told, how_many_live}
-use Rattle.arc_owners.proofs.Book.Accounts.{wrote, raised, lowered, fits-aside, fits-raised, fits-lowered, how_many-raised, how_many-lowered, lives, some-live, may-look, may-raise, may-full}
-use Rattle.arc_owners.proofs.Book.Rolls.{length-upto}
+use Rattle.arc_owners.specs.Book.{Names, Line, entries_of, made_by, withheld, has_place, located, Lease, lease_coded, no_lease, right, counted_as, pool, stake, how_many, Account, Fits, contents, behind, pass_holds, added, next_owner, looked, glanced, glanced_at, raised_by, spoils, lowered_by, told, how_many_live, taken, claim_gain, claimed_by, finished_by}
+use Rattle.arc_owners.proofs.Book.Accounts.{wrote, relet, fits-relet, raised, lowered, fits-aside, fits-raised, fits-lowered, how_many-raised, how_many-lowered, lives, some-live, may-look, may-raise, may-full}
+use Rattle.arc_owners.proofs.Book.Rolls.{length-upto, living-relet}
 use Rattle.arc_owners.proofs.Book.Events.{IsStep}
-use Rattle.arc_owners.proofs.Book.Cells.{row_adds, row_ends}
-use Rattle.arc_owners.proofs.Book.Parts.{pool_more, pool_less, pool_last}
+use Rattle.arc_owners.proofs.Book.Cells.{row_adds, row_ends, row_writes}
+use Rattle.arc_owners.proofs.Book.Parts.{pool_more, pool_less, pool_last, pool_sole}
 use Rattle.arc_owners.proofs.Book.Opened.{latest_of, rolled, seated, seat, Shown, Open, opened, owes, shut}
 
 module _ {M : Type 1} {𝓤 : Ura M} (𝓛 : Logic 𝓤) (t : Names) (p : ℕ) (ready : Bool) (seen : List Line) (o : ℕ) (l : Lease) where
@@ -173,3 +173,79 @@ module _ {M : Type 1} {𝓤 : Ura M} (𝓛 : Logic 𝓤) (t : Names) (p : ℕ) (
       rewrite ! 0 (λ (k : Lease). ‵ (pool k (how_many roll'))) leased refl $
       move ! (1 ∷ []) $ nothing ! $ fpack ! (n ≡ how_many_live a.lines) (λ _. ftrue) (same ∙ sym (ap length so.fits.live)) $ fjoin ! $ move ! (1 ∷ 0 ∷ []) $
       join ! $ by ! (apply∗ 𝓤 (⟦ pool a.lease (how_many roll') ⟧ ∗ ⟦ G a.lines ⟧) N)))
+
+  abbrev alone_entry : ℕ → List Line → Entry
+  alone_entry n before = Alone o (eqb n 1)
+
+  abbrev Claim : ℕ → Bool → Fml
+  Claim n y = added t p ready seen (alone_entry n) (λ _. claim_gain t o l y)
+
+  -- an owner that finds others takes its part of the lifetime again
+  claims_none : (n : ℕ) → Before quarter n ⊢ Owing (Claim n false) n
+  claims_none n = let q : Share = quarter in let G : List Line → Fml = λ _. claim_gain t o l false in opens q n (Owing (Claim n false) n) (λ a so. let e = Alone o (eqb n 1) in
+      let may : MayFollow t.most (beginning t.counted) (entries_of a.lines) e = subst (λ (m : ℕ). MayFollow t.most (beginning t.counted) (entries_of a.lines) (Alone o (eqb m 1))) (sym so.number)
+      (may-look t a so.fits p ready so.seat_is.0 o l so.owner_is.1 so.counted) in
+      let N : Pr = ⟦ contents t ⟧ ∗ ⟦ Claim n false ⟧ in let W : Pr = (⟦ pool a.lease (how_many a.roll) ⟧ ∗ ⟦ G a.lines ⟧) -∗ N in let X : Pr = ⟦ behind t (how_many a.roll) ⟧ ∗ (⟦ stake l ⟧ -∗ N) in
+      subst (λ (m : ℕ). Open 𝓛 t n p ready seen o l q a (emp 𝓤) ⊢ Owing (Claim n false) m) (sym so.number)
+      (qed 𝓛 (‵ (latest_of 𝓛 t a.lines) ∷ ‵ (withheld t t.whole seen) ∷ ‵ (rolled 𝓛 t a.roll) ∷ ‵ (right t o l q) ∷ ‵ (seated 𝓛 t a.seats) ∷ ‵ (seat 𝓛 t p ready (made_by p seen)) ∷ ‵ (located t a.lines) ∷ ‵ (has_place t) ∷ ‵ (counted_as t full_share (how_many a.roll)) ∷ ‵ (pool a.lease (how_many a.roll)) ∷ raw (emp 𝓤) ∷ []) ∵
+      keep ! (0 ∷ 1 ∷ 2 ∷ 4 ∷ 5 ∷ 6 ∷ 7 ∷ 8 ∷ 9 ∷ 3 ∷ []) $ types.Kit.group ! 8 $
+      use1 𝓛 (raw (upd 𝓤 (⟦ behind t (how_many a.roll) ⟧ ∗ W))) (owes 𝓛 t n p ready seen o l q a so (alone_entry n) a.roll a.lease G tt may (fits-aside t a so.fits p ready so.seat_is.0 e refl refl may)) $
+      settle 𝓛 X (‵ (behind t (how_many a.roll)) ⊛ raw W) $ split ! $ suffices ! _ (upd_i 𝓤 X) $ frame ! $ assume ! (‵ (stake l)) $
+      -- [stake; what is owed; pool; right]
+      nothing ! $ move ! (1 ∷ 0 ∷ []) $ fjoin ! $ move ! (3 ∷ 0 ∷ []) $ fjoin ! $ move ! (2 ∷ 0 ∷ []) $ join ! $ by ! (apply∗ 𝓤 (⟦ pool a.lease (how_many a.roll) ⟧ ∗ ⟦ G a.lines ⟧) N)))
+
+  -- a sole owner takes the block back: the lifetime whole, and the ticket for its end
+  claims_all : l.is_lent ≡ true → (n : ℕ) → n ≡ 1 → Before quarter n ⊢ Owing (Claim n true) n
+  claims_all lent n one = let q : Share = quarter in let k : Lease = taken l in let G : List Line → Fml = λ _. claim_gain t o l true in opens q n (Owing (Claim n true) n) (λ a so. let e = Alone o (eqb n 1) in
+      let may : MayFollow t.most (beginning t.counted) (entries_of a.lines) e = subst (λ (m : ℕ). MayFollow t.most (beginning t.counted) (entries_of a.lines) (Alone o (eqb m 1))) (sym so.number)
+      (may-look t a so.fits p ready so.seat_is.0 o l so.owner_is.1 so.counted) in
+      let single : how_many a.roll ≡ 1 = sym so.number ∙ one in let leased : l ≡ a.lease = so.fits.leased o l so.owner_is.1 in let roll' : List (Bool × Lease) = set a.roll o (true, k) in
+      let fits' : Fits t (relet (wrote a p ready e a.roll) o k) = fits-relet t (wrote a p ready e a.roll) (fits-aside t a so.fits p ready so.seat_is.0 e refl refl may) o l k so.owner_is.0 so.owner_is.1 single in
+      let to : how_many roll' ≡ n = ap length (living-relet 0 o a.roll l k so.owner_is.1) ∙ sym so.number in let alone : how_many roll' ≡ 1 = to ∙ one in
+      let N : Pr = ⟦ contents t ⟧ ∗ ⟦ Claim n true ⟧ in let W : Pr = (⟦ pool k (how_many roll') ⟧ ∗ ⟦ G a.lines ⟧) -∗ N in let X : Pr = ⟦ behind t (how_many roll') ⟧ ∗ (⟦ stake l ⟧ -∗ N) in
+      subst (λ (m : ℕ). Open 𝓛 t n p ready seen o l q a (emp 𝓤) ⊢ Owing (Claim n true) m) to
+      (qed 𝓛 (‵ (latest_of 𝓛 t a.lines) ∷ ‵ (withheld t t.whole seen) ∷ ‵ (rolled 𝓛 t a.roll) ∷ ‵ (right t o l q) ∷ ‵ (seated 𝓛 t a.seats) ∷ ‵ (seat 𝓛 t p ready (made_by p seen)) ∷ ‵ (located t a.lines) ∷ ‵ (has_place t) ∷ ‵ (counted_as t full_share (how_many a.roll)) ∷ ‵ (pool a.lease (how_many a.roll)) ∷ raw (emp 𝓤) ∷ []) ∵
+      keep ! (2 ∷ 3 ∷ 0 ∷ 1 ∷ 4 ∷ 5 ∷ 6 ∷ 7 ∷ 8 ∷ 9 ∷ []) $
+      use2 𝓛 (raw (upd 𝓤 (⟦ rolled 𝓛 t roll' ⟧ ∗ ⟦ right t o k quarter ⟧))) (row_writes lease_coded 𝓛 t.rights no_lease a.roll o l k so.owner_is.0 so.owner_is.1) $
+      settle 𝓛 X (‵ (rolled 𝓛 t roll') ⊛ ‵ (right t o k quarter)) $ split ! $
+      -- [roll; right; latest; withheld; seats; seat; located; the key; count; pool]
+      move ! (2 ∷ 3 ∷ 0 ∷ 4 ∷ 5 ∷ 6 ∷ 7 ∷ 8 ∷ []) $ types.Kit.group ! 8 $
+      use1 𝓛 (raw (upd 𝓤 (⟦ behind t (how_many roll') ⟧ ∗ W))) (owes 𝓛 t n p ready seen o l q a so (alone_entry n) roll' k G tt may fits') $ settle 𝓛 X (‵ (behind t (how_many roll')) ⊛ raw W) $ split ! $
+      suffices ! _ (upd_i 𝓤 X) $ frame ! $ assume ! (‵ (stake l)) $
+      -- [stake; what is owed; right; pool]
+      move ! (3 ∷ 0 ∷ []) $ rewrite ! 0 (λ (z : Lease × ℕ). ‵ (pool z.0 z.1)) (λ i. (sym leased i, single i)) refl $
+      use2 𝓛 (‵ (base.Fml.flft (l.lifetime ∷ []) full_share) ⊛ ‵ (types.Keyed.ticket l.key 0)) (pool_last 𝓛 t l lent) $ split ! $ fjoin ! $ nothing ! $ fjoin ! $
+      -- [the end; what is owed; right]
+      move ! (2 ∷ 0 ∷ []) $ fjoin ! $ nothing ! $ fpack ! (0 ≡ 0) (λ _. ftrue) refl $ use1 𝓛 (‵ (pool k 1)) (id⊢ 𝓤 _) $ rewrite ! 0 (λ (z : ℕ). ‵ (pool k z)) (sym alone) refl $
+      -- [pool; gain; what is owed]
+      join ! $ by ! (apply∗ 𝓤 (⟦ pool k (how_many roll') ⟧ ∗ ⟦ G a.lines ⟧) N)))
+
+  -- an owner asks for the block back
+  pub claims : l.is_lent ≡ true → (n : ℕ) → Before quarter n ⊢ Owing (claimed_by t p ready seen o l n) n
+  claims lent n = elim (cases_Bool (eqb n 1)) [
+    | Rattle.std.proofs.Common.inl h ↦ subst (λ (b : Bool). Before quarter n ⊢ Owing (Claim n b) n) (sym h) (claims_all lent n (eqb-true n 1 h))
+    | Rattle.std.proofs.Common.inr h ↦ subst (λ (b : Bool). Before quarter n ⊢ Owing (Claim n b) n) (sym h) (claims_none n)
+  ]
+
+  -- a sole owner who has the block back ends, and the word with it
+  pub finishes : l.is_lent ≡ false → (n : ℕ) → Before quarter n ⊢ upd 𝓤 (⟦ contents t ⟧ ∗ ⟦ finished_by t p ready seen o ⟧)
+  finishes unlent n = let q : Share = quarter in let F : Fml = finished_by t p ready seen o in let Z : Pr = ⟦ contents t ⟧ ∗ ⟦ F ⟧ in let G : List Line → Fml = λ before. told (1 ≡ how_many_live before) in
+      opens q n (upd 𝓤 Z) (λ a so.
+      let live : 0 < how_many a.roll = some-live t a so.fits p ready so.seat_is.0 o l so.owner_is.1 in let leased : l ≡ a.lease = so.fits.leased o l so.owner_is.1 in
+      let roll' : List (Bool × Lease) = lowered t a so.fits p ready so.seat_is.0 o in
+      let many : how_many a.roll ≡ how_many roll' + 1 = how_many-lowered t a so.fits p ready so.seat_is.0 o l so.owner_is.1 in
+      let may : MayFollow t.most (beginning t.counted) (entries_of a.lines) (Down o) = lives t a so.fits p ready so.seat_is.0 o l so.owner_is.1 in
+      let fits' : Fits t (wrote a p ready (Down o) roll') = fits-lowered t a so.fits p ready so.seat_is.0 o l so.owner_is.0 so.owner_is.1 may in
+      let D : Pr = ⟦ behind t (how_many roll') ⟧ ∗ Z in
+      qed 𝓛 (‵ (latest_of 𝓛 t a.lines) ∷ ‵ (withheld t t.whole seen) ∷ ‵ (rolled 𝓛 t a.roll) ∷ ‵ (right t o l q) ∷ ‵ (seated 𝓛 t a.seats) ∷ ‵ (seat 𝓛 t p ready (made_by p seen)) ∷ ‵ (located t a.lines) ∷ ‵ (has_place t) ∷ ‵ (counted_as t full_share (how_many a.roll)) ∷ ‵ (pool a.lease (how_many a.roll)) ∷ raw (emp 𝓤) ∷ []) ∵
+      keep ! (9 ∷ 2 ∷ 3 ∷ 0 ∷ 1 ∷ 4 ∷ 5 ∷ 6 ∷ 7 ∷ 8 ∷ []) $
+      use1 𝓛 (given (how_many a.roll ≡ 1) (raw (emp 𝓤))) (pool_sole 𝓛 t a.lease (how_many a.roll) (ap (λ (k : Lease). k.is_lent) (sym leased) ∙ unlent) live) $ learn ! (λ one. drop ! $
+      use2 𝓛 (‵ (rolled 𝓛 t (set a.roll o (false, l)))) (row_ends lease_coded 𝓛 t.rights no_lease a.roll o l so.owner_is.0 so.owner_is.1) $
+      rewrite ! 0 (λ (k : Lease). ‵ (rolled 𝓛 t (set a.roll o (false, k)))) leased refl $
+      -- [roll; latest; withheld; seats; seat; located; the key; count]
+      let none : 0 ≡ how_many roll' = omega arith in
+      nothing ! $ use1 𝓛 (‵ (pool a.lease 0)) (id⊢ 𝓤 _) $ rewrite ! 0 (λ (z : ℕ). ‵ (pool a.lease z)) none refl $
+      nothing ! $ fpack ! (1 ≡ how_many_live a.lines) (λ _. ftrue) (sym one ∙ sym (ap length so.fits.live)) $
+      -- [gain; pool; roll; latest; withheld; seats; seat; located; the key; count]
+      move ! (3 ∷ 4 ∷ 2 ∷ 5 ∷ 6 ∷ 7 ∷ 8 ∷ 9 ∷ 1 ∷ 0 ∷ []) $ types.Kit.group ! 10 $
+      use1 𝓛 (raw (upd 𝓤 D)) (shut 𝓛 t n p ready seen o l q a so (λ _. Down o) roll' a.lease G tt may fits') $ settle 𝓛 Z (‵ (behind t (how_many roll')) ⊛ ‵ (contents t) ⊛ ‵ F) $ split3 ! $ drop ! $ suffices ! _ (upd_i 𝓤 Z) $ done !))

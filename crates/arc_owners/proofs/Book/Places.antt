@@ -13,9 +13,13 @@ use Rattle.core.specs.Sync.RawAtomic.{word, asks, always}
 use Rattle.core.proofs.raw_atomic.Asked.{borrowed_with, LiesWith, AgainWith}
 use Rattle.arc_owners.specs.declared.owners.entry.Entry.{Entry}
 use Rattle.arc_owners.specs.declared.owners.entry.Entry.TheVariants.{Up, Full, Down, Alone}
-use Rattle.arc_owners.specs.Book.{Names, Line, Lease, right, stake, contents, behind, lies, counting, known, pass_holds, trace_owns, right_owns, spoils, told, Adds, added, next_owner, looked, glanced, glanced_at, raised_by, lowered_by, Written, Filled, MadeOne, after_look, after_glance, after_raise, after_lower, AddedTo, Lowered, how_many_live}
+use Rattle.arc_owners.specs.Book.{Names, Line, Lease, right, stake, contents, behind, lies, counting, known, pass_holds, trace_owns, right_owns, spoils, told, Adds, added, next_owner, looked, glanced, glanced_at, raised_by, lowered_by, Written, Filled, MadeOne, after_look, after_glance, after_raise, after_lower, AddedTo, Lowered, how_many_live, claimed_by, claim_gain, after_claim}
 use Rattle.arc_owners.proofs.Book.Shared.{known_twice}
-use Rattle.arc_owners.proofs.Book.Moves.{looks, glances, tries, at_once, lowers}
+use Rattle.arc_owners.proofs.Book.Moves.{looks, glances, tries, at_once, lowers, claims}
+
+-- what a subtraction of one makes of a word
+abbrev pub less : ℕ → ℕ
+less n = (n + (2 ^ 64 - 1)) % 2 ^ 64
 
 module _ {M : Type 1} {𝓤 : Ura M} (𝓛 : Logic 𝓤) (t : Names) where
   open 𝓛 use {H, A as At}
@@ -62,7 +66,7 @@ module _ {M : Type 1} {𝓤 : Ura M} (𝓛 : Logic 𝓤) (t : Names) where
       resumes : (ls : List Line) → ⟦ N ⟧ ∗ ⟦ pass_holds t p ready ls ⟧ ⊢ ⟦ T ls ⟧
       resumes ls = qed 𝓛 (‵ N ∷ ‵ (pass_holds t p ready ls) ∷ []) ∵ move ! (1 ∷ []) $ fsplit ! $ move ! (2 ∷ 0 ∷ []) $ fjoin ! $ fjoin ! $ done !
 
-      pauses : (ls : List Line) → ⟦ T ls ⟧ ⊢ ⟦ N ⟧ ∗ ⟦ N ⟧ ∗ ⟦ pass_holds t p ready ls ⟧
+      pub pauses : (ls : List Line) → ⟦ T ls ⟧ ⊢ ⟦ N ⟧ ∗ ⟦ N ⟧ ∗ ⟦ pass_holds t p ready ls ⟧
       pauses ls = qed 𝓛 (‵ (T ls) ∷ []) ∵ fsplit ! $ fsplit ! $ use1 𝓛 (‵ N ⊛ ‵ N) (𝓛.invs.named_dup t.number J) $ split ! $ move ! (2 ∷ 3 ∷ []) $ fjoin ! $ move ! (1 ∷ 2 ∷ 0 ∷ []) $ done !
 
       -- the pass as its owner has it, in and out of a step
@@ -123,12 +127,18 @@ module _ {M : Type 1} {𝓤 : Ura M} (𝓛 : Logic 𝓤) (t : Names) where
       lowered_in n ls before so = let S : Fml = spoils l (eqb n 1) in qed 𝓛 (‵ (T ls) ∷ ‵ (fsep (told (n ≡ how_many_live before)) S) ∷ []) ∵ move ! (1 ∷ []) $ fsplit ! $ fpick ! (λ number. drop ! $ move ! (1 ∷ 0 ∷ []) $ fjoin ! $ nothing ! $
           fpack ! (Lowered t p seen own n ls) (λ _. ftrue) (before, so, number) $ fjoin ! $ fpack ! (List Line) (after_lower t p ready seen own l n) ls $ done !)
 
-      lower_out : (n : ℕ) → ⟦ N ⟧ ∗ ⟦ lowered_by t p ready seen own l n ⟧ ⊢ ⟦ fex (List Line) (after_lower t p ready seen own l n) ⟧
+      pub lower_out : (n : ℕ) → ⟦ N ⟧ ∗ ⟦ lowered_by t p ready seen own l n ⟧ ⊢ ⟦ fex (List Line) (after_lower t p ready seen own l n) ⟧
       lower_out n = wrote_out (λ _. Down own) (λ before. fsep (told (n ≡ how_many_live before)) (spoils l (eqb n 1))) ⟦ fex (List Line) (after_lower t p ready seen own l n) ⟧
           (λ before so. lowered_in n (before ++ (p, Down own) ∷ []) before (so, refl))
 
-      abbrev pub less : ℕ → ℕ
-      less n = (n + (2 ^ 64 - 1)) % 2 ^ 64
+      pub claim_out : (n : ℕ) → ⟦ N ⟧ ∗ ⟦ claimed_by t p ready seen own l n ⟧ ⊢ ⟦ fex (List Line) (after_claim t p ready seen own l n) ⟧
+      claim_out n = let e : Entry = Alone own (eqb n 1) in let G : Fml = claim_gain t own l (eqb n 1) in wrote_out (λ _. e) (λ _. G) ⟦ fex (List Line) (after_claim t p ready seen own l n) ⟧ (λ before so. let ls : List Line = before ++ (p, e) ∷ [] in qed 𝓛 (‵ (T ls) ∷ ‵ G ∷ []) ∵ fjoin ! $ nothing ! $
+          fpack ! (Written t p seen e ls) (λ _. ftrue) (before, (so, refl)) $ fjoin ! $ fpack ! (List Line) (after_claim t p ready seen own l n) ls $ done !)
+
+      pub at_claim : l.is_lent ≡ true → At.named i (fbor κ I) ∗ At.lft κ q ∗ ⟦ T seen ⟧ ∗ ⟦ right t own l quarter ⟧ ∗ ⟦ stake l ⟧ ⊢ asks 𝓛 (block_ptr b o) (λ n. n) always (λ n. fsep (flft κ q) (fex (List Line) (after_claim t p ready seen own l n)))
+      at_claim lent = begun quarter (λ n. n) (⟦ right t own l quarter ⟧ ∗ ⟦ stake l ⟧) (λ n. fex (List Line) (after_claim t p ready seen own l n))
+          (λ n. turned (⟦ right t own l quarter ⟧ ∗ ⟦ stake l ⟧) ⟦ claimed_by t p ready seen own l n ⟧ ⟦ behind t n ⟧ ⟦ behind t n ⟧
+          (at_once 𝓛 t p ready seen own l (claimed_by t p ready seen own l n) n n (claims 𝓛 t p ready seen own l lent n)) ⟦ fex (List Line) (after_claim t p ready seen own l n) ⟧ (claim_out n))
 
       pub at_lower : l.is_lent ≡ true → At.named i (fbor κ I) ∗ At.lft κ q ∗ ⟦ T seen ⟧ ∗ ⟦ right t own l quarter ⟧ ∗ ⟦ stake l ⟧ ⊢ asks 𝓛 (block_ptr b o) less always (λ n. fsep (flft κ q) (fex (List Line) (after_lower t p ready seen own l n)))
       at_lower lent = begun quarter less (⟦ right t own l quarter ⟧ ∗ ⟦ stake l ⟧) (λ n. fex (List Line) (after_lower t p ready seen own l n))
