@@ -5,7 +5,9 @@ use Rattle.arc_owners.specs.declared.owners.entry.Entry.TheVariants.{Down}
 use Rattle.arc_owners.specs.Histories.{LivesAlone}
 use Rattle.arc_owners.specs.declared.owners.word.Right.{Right}
 use Rattle.arc_owners.specs.declared.owners.word.Trace.{Trace}
-use Rattle.arc_owners.specs.Book.{Names, Line, Written, Filled, MadeOne, Lowered, AddedTo, entries_of}
+use Rattle.arc_owners.specs.declared.owners.word.Lodging.{Lodging}
+use denote.RawPtr.{Ptr}
+use Rattle.arc_owners.specs.Book.{Names, Line, Written, Filled, MadeOne, Lowered, AddedTo, entries_of, Lease, lease_after}
 
 -- the right is held, by an owner of this block, to whom the block is lent
 abbrev pub IsHeld : Names → Right → Type 0
@@ -38,6 +40,14 @@ RaisedIf t p r by new b = MadeOne t p.number p.lines by.owner b r.lines (new.hel
 -- this owner ended, where the word counted so many
 abbrev pub Ended : Names → Trace → Trace → Right → ℕ → Type 0
 Ended t p r own n = Lowered t p.number p.lines own.owner n r.lines
+
+-- the word lies at this place for as long as this lease
+abbrev pub IsLodged : Lodging → Ptr → Lease → Type 0
+IsLodged g place l = (g.at ≡ place) × (g.lifetime ≡ l.lifetime)
+
+-- an owner asked for the block back: it is the same one, and where it was found alone the block is its own
+abbrev pub Claimed : Names → Right → Right → Bool → Type 0
+Claimed t own new found = (new.held ≡ true) × (new.names ≡ t) × (new.owner ≡ own.owner) × (new.born ≡ own.born) × (new.lease ≡ lease_after own.lease found)
 
 abbrev pub IsNext : ℕ → ℕ → Type 0
 IsNext old next = old < 2 ^ 64 - 1 → next ≡ old + 1

@@ -1,9 +1,9 @@
 -- What a `&` to an owner's right or to a pass holds, and that all of it may go to another thread. Assumes `Logic`.
-use Rattle.std.proofs.Common.{ℕ, zero, suc, Bool, true, false, List, [], ◌∷◌}
+use Rattle.std.proofs.Common.{ℕ, zero, suc, ◌<◌, Bool, true, false, List, [], ◌∷◌}
 use seplogic.Ra.Ura.{Ura}
 use base.Share
 use base.Share.{quarter}
-use base.Logic.{SProp, ent, sep, wand, ex, emp, id⊢, snd∗, upd_i}
+use base.Logic.{SProp, ent, sep, wand, ex, emp, id⊢, snd∗, never_e, upd_i}
 use base.FractionLaws.{Counts}
 use base.Fml.{Lft, Share, Fml, Incl-refl, ftrue, fsep, fseps, fwand, fupd, fdead, flft, fbor, fshr_bor, fnamed}
 use base.Growing.{latest, at_least}
@@ -16,14 +16,15 @@ use types.Keyed.{entry_keyless, token}
 use types.Tokens.{bor_open, obor_alter, bor_fracture}
 use types.RcWeak.{part, part_in}
 use types.Frac.{shr_bor-Acc_by}
-use types.Kit.{‵, raw, ◌⊛◌, ◌$◌, ◌∵◌, !, qed, by, move, keep, drop, split, fsplit, fsplit3, fjoin, fpick, use1, assume, suffices, updating, now, done}
+use types.Kit.{‵, raw, ◌⊛◌, ◌$◌, ◌∵◌, !, qed, by, move, keep, drop, split, fsplit, fsplit3, fjoin, fpick, fpack, use1, assume, suffices, updating, now, done}
+use denote.RawPtr.{Ptr, block_ptr, null_ptr}
 use denote.Steps.{nothing}
 use Rattle.core.proofs.cell.Borrows.{by_one}
 use denote.Sharing.{ShrLaws, said, one, beside}
 use denote.SharingLaws.{beside_shr_laws, one_shr_laws, nothing_shr_laws}
 use denote.Struct.Lending.{Lends, Lends-first, Lends-both, Lends-nothing}
 use Rattle.logbook.proofs.Fields.{lends_twice}
-use Rattle.arc_owners.specs.Book.{Names, Line, Lease, lease_coded, no_lease, seat_coded, fresh_seat, halved, lines_order, reached, withheld, pooled, pool, staked, tokens, right, contents, known, behind, right_owns, right_shares, trace_owns, trace_shares, spoils, stake}
+use Rattle.arc_owners.specs.Book.{Names, Line, Lease, lease_coded, no_lease, seat_coded, fresh_seat, halved, lines_order, reached, withheld, pooled, pool, staked, tokens, right, contents, known, behind, right_owns, right_shares, trace_owns, trace_shares, spoils, stake, counting, lodged_for, lodged}
 use Rattle.arc_owners.proofs.Book.Cells.{row_keyless, cell_cut, cell_joins}
 
 pooled_keyless : (y : Bool) (l : Lease) (n : ℕ) → Keyless (pooled y l n)
@@ -75,6 +76,10 @@ pub spoils_keyless : (l : Lease) (b : Bool) → Keyless (spoils l b)
 spoils_keyless l true = (tt, entry_keyless token l.key 0 tt)
 spoils_keyless l false = tt
 
+pub lodged_keyless : (t : Names) (p : Ptr) (a : ℕ) → Keyless (lodged t p a)
+lodged_keyless t (block_ptr b o) a = λ j. ((λ _. tt), λ n. (tt, behind_keyless t n))
+lodged_keyless t null_ptr a = tt
+
 module _ {M : Type 1} {𝓤 : Ura M} (𝓛 : Logic 𝓤) (t : Names) where
   open 𝓛 use {H, A}
 
@@ -84,6 +89,15 @@ module _ {M : Type 1} {𝓤 : Ura M} (𝓛 : Logic 𝓤) (t : Names) where
   pub known_twice : (ls : List Line) → ent 𝓤 ⟦ known t ls ⟧ (sep 𝓤 ⟦ known t ls ⟧ ⟦ known t ls ⟧)
   known_twice ls = let N : Fml = fnamed t.number (contents t) in qed 𝓛 (‵ (known t ls) ∷ []) ∵ fsplit ! $ use1 𝓛 (‵ N ⊛ ‵ N) (𝓛.invs.named_dup t.number (contents t)) $ split ! $ move ! (2 ∷ []) $
       use1 𝓛 (‵ (reached t ls) ⊛ ‵ (reached t ls)) (at_least_dup lines_order 𝓛 t.history ls) $ split ! $ move ! (2 ∷ 0 ∷ []) $ fjoin ! $ move ! (2 ∷ 1 ∷ []) $ fjoin ! $ done !
+
+  pub lodged_twice : (p : Ptr) (a : ℕ) → ent 𝓤 ⟦ lodged t p a ⟧ (sep 𝓤 ⟦ lodged t p a ⟧ ⟦ lodged t p a ⟧)
+  lodged_twice (block_ptr b o) a = let I : Fml = fbor (a ∷ []) (counting t b o) in qed 𝓛 (‵ (lodged t (block_ptr b o) a) ∷ []) ∵ fpick ! (λ j. fsplit ! $ fpick ! (λ past. drop ! $
+      use1 𝓛 (‵ (fnamed j I) ⊛ ‵ (fnamed j I)) (𝓛.invs.named_dup j I) $ split ! $ nothing ! $ fpack ! (t.number < j) (λ _. ftrue) past $ move ! (0 ∷ 1 ∷ []) $ fjoin ! $ fpack ! ℕ (lodged_for t b o a) j $
+      nothing ! $ fpack ! (t.number < j) (λ _. ftrue) past $ move ! (0 ∷ 2 ∷ []) $ fjoin ! $ fpack ! ℕ (lodged_for t b o a) j $ done !))
+  lodged_twice null_ptr a = never_e 𝓤 (sep 𝓤 ⟦ lodged t null_ptr a ⟧ ⟦ lodged t null_ptr a ⟧)
+
+  pub lodged_lends : (p : Ptr) (a : ℕ) (λ' : Lft) → Lends 𝓛 (lodged t p a) (said (lodged t p a)) λ'
+  lodged_lends p a λ' = lends_twice 𝓛 (lodged t p a) (lodged_twice p a) λ'
 
   module _ (o : ℕ) (l : Lease) where
     abbrev R : Share → Fml
@@ -142,3 +156,6 @@ trace_shr b t seen = record { contraction = λ M 𝓤 𝓛 κ. trace_twice 𝓛 
 pub right_shared_keyless : (h : Bool) (t : Names) (o : ℕ) (l : Lease) (born : List Line) (κ : Lft) → Keyless (right_shares h t o l born κ)
 right_shared_keyless true t o l born κ = (known_keyless t born, ((λ q. entry_keyless (halved lease_coded) t.rights o _), tokens_keyless l.is_lent l κ))
 right_shared_keyless false t o l born κ = tt
+
+pub lodged_shr : (t : Names) (p : Ptr) (a : ℕ) → ShrLaws (said (lodged t p a))
+lodged_shr t p a = record { contraction = λ M 𝓤 𝓛 κ. lodged_twice 𝓛 t p a; mono = λ M 𝓤 𝓛 κ' κ. snd∗ 𝓤 (sem 𝓛 (before κ' κ)) (sem 𝓛 (lodged t p a)) }

@@ -6,17 +6,17 @@ use mathlib.Core.Logic.Or
 use seplogic.Ra.Ura.{Ura}
 use base.FractionLaws.{Counts}
 use base.Share.{quarter}
-use base.Logic.{SProp, ent, sep, wand, ex, all, guard, upd, id⊢, upd_i, ex_i, apply∗}
+use base.Logic.{SProp, ent, sep, wand, ex, all, guard, upd, never, never_e, via, fst∗, id⊢, upd_i, ex_i, apply∗}
 use base.Fml.{Lft, Share, Fml, ftrue, fsep, fex, flft, fbor, fnamed}
 use types.Logic.{Logic, sem}
 use types.RcWeak.{part, part_in}
 use types.Kit.{‵, raw, ◌⊛◌, some, ◌$◌, ◌∵◌, !, qed, by, move, keep, drop, split, split3, join, group, fsplit, fjoin, fpick, fpack, pick, frame, each, assume, show, check, done, use1, use2, use3, rewrite, suffices, settle}
-use denote.RawPtr.{block_ptr}
+use denote.RawPtr.{Ptr, block_ptr, null_ptr}
 use denote.Steps.{nothing}
 use Rattle.core.specs.Sync.RawAtomic.{Shift, rests, opens, shuts, enters, leaves, word, along, shifted, back, found, if_none, asks, always}
 use Rattle.arc_owners.specs.declared.owners.entry.Entry.{Entry}
 use Rattle.arc_owners.specs.declared.owners.entry.Entry.TheVariants.{Down, Alone}
-use Rattle.arc_owners.specs.Book.{Names, Line, Lease, right, staked, stake, contents, behind, lies, counting, pass_holds, trace_owns, spoils, told, lowered_by, Written, AddedTo, Lowered, after_lower, claimed_by, claim_gain, after_claim}
+use Rattle.arc_owners.specs.Book.{Names, Line, Lease, right, staked, stake, contents, behind, lies, counting, lodged, pass_holds, trace_owns, spoils, told, lowered_by, Written, AddedTo, Lowered, after_lower, claimed_by, claim_gain, after_claim}
 use Rattle.arc_owners.proofs.Book.Moves.{lowers, claims}
 use Rattle.arc_owners.proofs.Book.Places as places
 
@@ -113,12 +113,33 @@ module _ {M : Type 1} {𝓤 : Ura M} (𝓛 : Logic 𝓤) (t : Names) where
         move ! (1 ∷ 0 ∷ []) $ by ! (out n)))))
 
     -- an owner ends
-    pub at_lower : At.named i (fbor κ (counting t b o)) ∗ ⟦ T seen ⟧ ∗ ⟦ R ⟧ ∗ ⟦ stake l ⟧ ⊢ asks 𝓛 (block_ptr b o) places.less always (λ n. fex (List Line) (after_lower t p ready seen own l n))
+    at_lower : At.named i (fbor κ (counting t b o)) ∗ ⟦ T seen ⟧ ∗ ⟦ R ⟧ ∗ ⟦ stake l ⟧ ⊢ asks 𝓛 (block_ptr b o) places.less always (λ n. fex (List Line) (after_lower t p ready seen own l n))
     at_lower = staking places.less (λ n. lowered_by t p ready seen own l n) (λ n. fex (List Line) (after_lower t p ready seen own l n))
         (λ n. lowers 𝓛 t p ready seen own l lent n (places.less n) (λ (live : 0 < n) (fits : n < 2 ^ 64). (let z : (n + (2 ^ 64 - 1)) % 2 ^ 64 ≡ n - 1 = omega arith in z)))
         (places.lower_out 𝓛 t κ quarter i b o past p ready seen own l)
 
     -- an owner asks for the block back
-    pub at_claim : At.named i (fbor κ (counting t b o)) ∗ ⟦ T seen ⟧ ∗ ⟦ R ⟧ ∗ ⟦ stake l ⟧ ⊢ asks 𝓛 (block_ptr b o) (λ n. n) always (λ n. fex (List Line) (after_claim t p ready seen own l n))
+    at_claim : At.named i (fbor κ (counting t b o)) ∗ ⟦ T seen ⟧ ∗ ⟦ R ⟧ ∗ ⟦ stake l ⟧ ⊢ asks 𝓛 (block_ptr b o) (λ n. n) always (λ n. fex (List Line) (after_claim t p ready seen own l n))
     at_claim = staking (λ n. n) (λ n. claimed_by t p ready seen own l n) (λ n. fex (List Line) (after_claim t p ready seen own l n)) (claims 𝓛 t p ready seen own l lent)
         (places.claim_out 𝓛 t κ quarter i b o past p ready seen own l)
+
+  module _ (p : ℕ) (ready : Bool) (seen : List Line) (own : ℕ) (l : Lease) (lent : l.is_lent ≡ true) where
+    abbrev Acts : Ptr → (ℕ → ℕ) → (ℕ → List Line → Fml) → Type 1
+    Acts place f after = ⟦ lodged t place l.lifetime ⟧ ∗ ⟦ trace_owns true t p ready seen ⟧ ∗ ⟦ right t own l quarter ⟧ ∗ ⟦ stake l ⟧ ⊢ asks 𝓛 place f always (λ n. fex (List Line) (after n))
+
+    nowhere : (f : ℕ → ℕ) (after : ℕ → List Line → Fml) → Acts null_ptr f after
+    nowhere f after = via 𝓤 (never 𝓤) (fst∗ 𝓤 (never 𝓤) (⟦ trace_owns true t p ready seen ⟧ ∗ ⟦ right t own l quarter ⟧ ∗ ⟦ stake l ⟧)) (never_e 𝓤 (asks 𝓛 null_ptr f always (λ n. fex (List Line) (after n))))
+
+    somewhere : (b o : ℕ) (Z : Pr) → ((i : ℕ) → t.number < i → At.named i (fbor (l.lifetime ∷ []) (counting t b o)) ∗ ⟦ trace_owns true t p ready seen ⟧ ∗ ⟦ right t own l quarter ⟧ ∗ ⟦ stake l ⟧ ⊢ Z)
+        → ⟦ lodged t (block_ptr b o) l.lifetime ⟧ ∗ ⟦ trace_owns true t p ready seen ⟧ ∗ ⟦ right t own l quarter ⟧ ∗ ⟦ stake l ⟧ ⊢ Z
+    somewhere b o Z k = qed 𝓛 (‵ (lodged t (block_ptr b o) l.lifetime) ∷ ‵ (trace_owns true t p ready seen) ∷ ‵ (right t own l quarter) ∷ ‵ (stake l) ∷ []) ∵ fpick ! (λ i. fsplit ! $ fpick ! (λ past. drop ! $ by ! (k i past)))
+
+    -- an owner ends, wherever its word lies
+    pub ends_at : (place : Ptr) → Acts place places.less (after_lower t p ready seen own l)
+    ends_at (block_ptr b o) = somewhere b o (asks 𝓛 (block_ptr b o) places.less always (λ n. fex (List Line) (after_lower t p ready seen own l n))) (λ i past. at_lower i b o past p ready seen own l lent)
+    ends_at null_ptr = nowhere places.less (after_lower t p ready seen own l)
+
+    -- an owner asks for its block back, wherever the word lies
+    pub claims_at : (place : Ptr) → Acts place (λ n. n) (after_claim t p ready seen own l)
+    claims_at (block_ptr b o) = somewhere b o (asks 𝓛 (block_ptr b o) (λ n. n) always (λ n. fex (List Line) (after_claim t p ready seen own l n))) (λ i past. at_claim i b o past p ready seen own l lent)
+    claims_at null_ptr = nowhere (λ n. n) (after_claim t p ready seen own l)

@@ -1,9 +1,11 @@
 //! The word of a count, and what stands behind it in the proofs. The walks stand here; `Owners` and its tokens are thin wrappers.
 ghost use Rattle.std.specs.Prelude.{◌≡◌, ℕ, Bool, true, false, List};
 ghost use base.Fml.{fsep, fex};
+ghost use types.Logic.{sem};
+ghost use denote.RawPtr.{Ptr, coded_ptr};
 ghost use base.Stored.{coded_list};
 ghost use Rattle.arc_owners.specs.declared.owners.entry.Entry.TheVariants.{Alone};
-ghost use Rattle.arc_owners.specs.Book.{Names, names_coded, Line, line_coded, Lease, lease_coded, behind, word_shares, right_owns, right_shares, trace_owns, trace_shares, spoils};
+ghost use Rattle.arc_owners.specs.Book.{Names, names_coded, Line, line_coded, Lease, lease_coded, behind, word_shares, right_owns, right_shares, trace_owns, trace_shares, spoils, lodged};
 
 use atomic_table::exchange;
 use std::marker::{Brand, Model, Move, Owns, PhantomData};
@@ -59,6 +61,20 @@ impl Model for Trace {
     ghost also_shares = { λ p _ κ. trace_shares p.bound p.names p.lines };
 }
 
+/// That a count's word lies at a place for as long as its block is lent. It has no bytes, and can be had again.
+pub(crate) struct Lodging {
+    marker: PhantomData<()>,
+    pub(crate) ghost names: { Names } by { names_coded },
+    pub(crate) ghost at: { Ptr } by { coded_ptr },
+    pub(crate) ghost lifetime: { ℕ },
+}
+
+impl Model for Lodging {
+    ghost also_owns = { λ l. lodged l.names l.at l.lifetime };
+
+    ghost also_shares = { λ l _ κ. lodged l.names l.at l.lifetime };
+}
+
 /// What an owner's end leaves: of the last owner, the right to end the lifetime for which the block is lent.
 pub(crate) struct Spoils {
     marker: PhantomData<()>,
@@ -72,7 +88,7 @@ impl Model for Spoils {
 
 impl Word {
     ghost use Rattle.std.specs.Prelude.{◌==◌};
-    ghost use Rattle.arc_owners.specs.Traces.{IsHeld, IsOf, IsNext, SamePass, Wrote, FullIf, RaisedIf, Ended};
+    ghost use Rattle.arc_owners.specs.Traces.{IsHeld, IsSole, IsOf, IsNext, SamePass, Wrote, FullIf, RaisedIf, Ended, Claimed, IsLodged};
     ghost use Rattle.std.specs.Prelude.{◌≢◌, ◌≤◌, []};
 
     /// The word of a new block with one owner, its right, and a pass.
@@ -130,6 +146,50 @@ impl Word {
     {
         unsafe { raw::fetch_sub::<Brand>(self as *const Self as *const u64, 1, SeqCst) }
     }
+
+    /// The same on the place of a word that lies there for as long as the block is lent, and that may be gone afterwards.
+    pub(crate) unsafe fn lower_raw(
+        place: *const u64,
+        lodging: &Lodging,
+        own: &mut Right,
+        pass: &mut Trace,
+        last: &mut Spoils,
+    ) -> u64
+        requires { IsHeld lodging.now.names own.old × IsOf lodging.now.names pass.old × IsLodged lodging.now place own.old.lease }
+        ensures { SamePass lodging.now.names pass.old pass.new × Ended lodging.now.names pass.old pass.new own.old result × (own.new.held ≡ false) × (last.new.last ≡ (result == 1)) × (last.new.lease ≡ own.old.lease) }
+    {
+        unsafe { raw::fetch_sub::<Brand>(place, 1, SeqCst) }
+    }
+
+    /// Reads the number. An owner that finds itself alone takes the block back whole.
+    pub(crate) fn claim(&self, own: &mut Right, pass: &mut Trace, last: &mut Spoils) -> u64
+        requires { IsHeld self.now own.old × IsOf self.now pass.old }
+        ensures { SamePass self.now pass.old pass.new × Wrote self.now pass.old pass.new (Alone own.old.owner (result == 1)) × Claimed self.now own.old own.new (result == 1) × (last.new.last ≡ (result == 1)) × (last.new.lease ≡ own.old.lease) }
+    {
+        unsafe { raw::load::<Brand>(self as *const Self as *const u64, SeqCst) }
+    }
+
+    /// The same on the place of a word that lies there for as long as the block is lent.
+    pub(crate) unsafe fn claim_raw(
+        place: *const u64,
+        lodging: &Lodging,
+        own: &mut Right,
+        pass: &mut Trace,
+        last: &mut Spoils,
+    ) -> u64
+        requires { IsHeld lodging.now.names own.old × IsOf lodging.now.names pass.old × IsLodged lodging.now place own.old.lease }
+        ensures { SamePass lodging.now.names pass.old pass.new × Wrote lodging.now.names pass.old pass.new (Alone own.old.owner (result == 1)) × Claimed lodging.now.names own.old own.new (result == 1) × (last.new.last ≡ (result == 1)) × (last.new.lease ≡ own.old.lease) }
+    {
+        unsafe { raw::load::<Brand>(place, SeqCst) }
+    }
+
+    /// A sole owner who has the block back ends, and the word with it, without a step.
+    pub(crate) fn finish(self, own: &mut Right, pass: &mut Trace)
+        requires { IsSole self own.old × IsOf self pass.old }
+        ensures { SamePass self pass.old pass.new × Ended self pass.old pass.new own.old 1 × (own.new.held ≡ false) }
+    {
+        let Word { bits: _ } = self;
+    }
 }
 
 impl Right {
@@ -145,6 +205,12 @@ impl Right {
             marker: PhantomData,
         }
     }
+
+    /// A sole owner who has the block back lends it anew.
+    pub(crate) fn lend(&mut self)
+        requires { (self.old.held ≡ true) × (self.old.lease.is_lent ≡ false) }
+        ensures { (self.new.held ≡ true) × (self.new.names ≡ self.old.names) × (self.new.owner ≡ self.old.owner) × (self.new.born ≡ self.old.born) × (self.new.lease.is_lent ≡ true) }
+    {}
 
     /// A new pass of this owner's block.
     pub(crate) fn fork(&self) -> Trace
@@ -178,6 +244,29 @@ impl Trace {
     {}
 }
 
+impl Lodging {
+    /// The word lies at this place.
+    pub(crate) unsafe fn new(place: *const u64) -> Lodging
+        ghost of: { Names × ℕ }
+        requires* { sem 𝓛 (lodged of.0 place of.1) }
+        ensures { (result.names ≡ of.0) × (result.at ≡ place) × (result.lifetime ≡ of.1) }
+    {
+        let _ = place;
+        Lodging {
+            marker: PhantomData,
+        }
+    }
+
+    /// The same again.
+    pub(crate) fn again(&self) -> Lodging
+        ensures { (result.names ≡ self.now.names) × (result.at ≡ self.now.at) × (result.lifetime ≡ self.now.lifetime) }
+    {
+        Lodging {
+            marker: PhantomData,
+        }
+    }
+}
+
 impl Spoils {
     /// Nothing.
     pub(crate) fn none() -> Spoils
@@ -207,6 +296,12 @@ impl Drop for Trace {
     }
 }
 
+impl Drop for Lodging {
+    fn drop(self) {
+        let Self { marker: _ } = self;
+    }
+}
+
 impl Drop for Spoils {
     fn drop(self) {
         let Self { marker: _ } = self;
@@ -224,5 +319,9 @@ unsafe impl Sync for Right {}
 unsafe impl Send for Trace {}
 
 unsafe impl Sync for Trace {}
+
+unsafe impl Send for Lodging {}
+
+unsafe impl Sync for Lodging {}
 
 unsafe impl Send for Spoils {}
