@@ -188,8 +188,15 @@ tokens false l κ = ftrue
 abbrev pub located : Names → List Line → Fml
 located t ls = fex (Option (ℕ × ℕ)) (λ x. fsep (latest places three_quarters t.place x) (told (is_counted (beginning t.counted) (entries_of ls) ≡ is_there x)))
 
+-- while an owner lives the word counts how many do. A sole owner may end without a step, and then the word stays as it was
+abbrev pub tally_of : Names → ℕ → ℕ → Fml
+tally_of t n m = fsep (told (0 < n → m ≡ n)) (counted_as t three_quarters m)
+
+abbrev pub tally : Names → ℕ → Fml
+tally t n = fex ℕ (tally_of t n)
+
 abbrev pub funds : Names → Lease → ℕ → Fml
-funds t l n = fsep (counted_as t three_quarters n) (pool l n)
+funds t l n = fsep (tally t n) (pool l n)
 
 abbrev pub standing : Names → Account → Fml
 standing t a =

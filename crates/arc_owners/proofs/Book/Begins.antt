@@ -22,10 +22,10 @@ use types.Kit.{‵, raw, ◌⊛◌, some as any, given, later, ◌$◌, ◌∵�
 use denote.Steps.{nothing}
 use Rattle.arc_owners.specs.Histories.{is_counted, live_owners, owners_ever, owners_ended}
 use Rattle.arc_owners.specs.Machine.{beginning}
-use Rattle.arc_owners.specs.Book.{Names, Line, made_by, Lease, lease_coded, no_lease, Seat, seat_coded, fresh_seat, halved, cell, row, counted_as, right, lines_order, reached, authority, withheld, places, is_there, told, pool, stake, how_many, Account, Fits, contents, behind, known, right_owns, trace_owns}
+use Rattle.arc_owners.specs.Book.{Names, Line, made_by, Lease, lease_coded, no_lease, Seat, seat_coded, fresh_seat, halved, cell, row, tally, right, lines_order, reached, authority, withheld, places, is_there, told, pool, stake, how_many, Account, Fits, contents, behind, known, right_owns, trace_owns}
 use Rattle.arc_owners.proofs.Book.Rolls.{get-more, get-last, living-relet}
 use Rattle.arc_owners.proofs.Book.Cells.{row_new, row_adds, row_finds, row_writes, cell_parts}
-use Rattle.arc_owners.proofs.Book.Parts.{top, sees, pool_sole}
+use Rattle.arc_owners.proofs.Book.Parts.{top, sees, pool_sole, tally_in}
 use Rattle.arc_owners.proofs.Book.Accounts.{relet, fits-relet, one-lives}
 use Rattle.arc_owners.proofs.Book.Opened.{shuts, latest_of, rolled, seated, seat}
 use Rattle.arc_owners.proofs.Book.Shared.{known_twice}
@@ -93,13 +93,15 @@ module _ {M : Type 1} {𝓤 : Ura M} (𝓛 : Logic 𝓤) where
       use1 𝓛 (‵ (latest places full_share θ (some (0, 0))) ⊛ ‵ (at_least places θ (some (0, 0)))) (latest_shows places 𝓛 full_share θ (some (0, 0)) (some (0, 0)) (places.same (some (0, 0)))) $ split ! $
       use1 𝓛 (‵ (latest places quarter θ (some (0, 0))) ⊛ ‵ (latest places three_quarters θ (some (0, 0)))) (latest_cut places 𝓛 full_share quarter three_quarters θ (some (0, 0)) Share.quarters) $ split ! $ drop ! $
       let t₀ : Names = record { number = 0; history = η; rights = δ; passes = π; count = γ; place = θ; most = most; counted = true; whole = w } in let acc : Account = first_account l in
-      -- [the place; that it stands; the count's quarter; three quarters; the seats; the seat; the roll; the right; the history; the pool; the stake]
+      -- [the place; that it stands; the count's quarter; tally; the seats; the seat; the roll; the right; the history; the pool; the stake]
       nothing ! $ fpack ! (is_counted (beginning true) [] ≡ is_there (some (0, 0))) (λ _. ftrue) counted-at-first $ move ! (1 ∷ 0 ∷ []) $ fjoin ! $
       fpack ! (Option (ℕ × ℕ)) (λ x. fsep (latest places three_quarters θ x) (told (is_counted (beginning true) [] ≡ is_there x))) (some (0, 0)) $
       move ! (8 ∷ []) $ use1 𝓛 (‵ (latest lines_order full_share η []) ⊛ ‵ (at_least lines_order η [])) (latest_shows lines_order 𝓛 full_share η [] [] (lines_order.same [])) $ split ! $
       use1 𝓛 (‵ (latest_of 𝓛 t₀ []) ⊛ ‵ (withheld t₀ w [])) (authorized t₀ w []) $ split ! $
-      -- [latest; withheld; reached; located; that it stands; the count's quarter; three quarters; the seats; the seat; the roll; the right; the pool; the stake]
-      move ! (0 ∷ 3 ∷ 9 ∷ 7 ∷ 6 ∷ 11 ∷ []) $ group ! 6 $ use1 𝓛 (‵ (contents t₀)) (shuts 𝓛 t₀ acc (first-fits t₀ l one small)) $
+      -- [latest; withheld; reached; located; that it stands; the count's quarter; tally; the seats; the seat; the roll; the right; the pool; the stake]
+      move ! (6 ∷ []) $ use1 𝓛 (‵ (tally t₀ 1)) (tally_in 𝓛 t₀ 1) $
+      -- [tally; latest; withheld; reached; located; that it stands; the count's quarter; the seats; the seat; the roll; the right; the pool; the stake]
+      move ! (1 ∷ 4 ∷ 9 ∷ 7 ∷ 0 ∷ 11 ∷ []) $ group ! 6 $ use1 𝓛 (‵ (contents t₀)) (shuts 𝓛 t₀ acc (first-fits t₀ l one small)) $
       use1 𝓛 (later (any (λ (j : ℕ). given (0 ≤ j) (‵ (fnamed j (contents t₀)))))) (named_past 𝓛 0 (contents t₀)) $ await ! tt $ pick ! (λ j. learn ! (λ _. let t : Names = record t₀ { number = j } in
       -- [the book; withheld; reached; that it stands; the count's quarter; the seat; the right; the stake]
       move ! (0 ∷ 2 ∷ []) $ fjoin ! $ use1 𝓛 (‵ (known t [])) (id⊢ 𝓤 _) $ use1 𝓛 (‵ (known t []) ⊛ ‵ (known t [])) (known_twice 𝓛 t []) $ split ! $
@@ -130,22 +132,22 @@ module _ {M : Type 1} {𝓤 : Ura M} (𝓛 : Logic 𝓤) where
     learns p ready seen other = let Z : Pr = ex 𝓤 (Learned p ready seen other) in let w : Bool = t.whole in qed 𝓛 (‵ (trace_owns true t p ready seen) ∷ ‵ (reached t other) ∷ []) ∵ fsplit ! $ fsplit ! $
         use1 𝓛 (‵ N ⊛ ‵ N) (𝓛.invs.named_dup t.number J) $ split ! $ use1 𝓛 (‵ (finv J)) (𝓛.invs.named_inv t.number J) $ suffices ! _ (𝓛.invs.inv_acc J Z) $ frame ! $ assume ! (‵ J) $ suffices ! _ (upd_i 𝓤 (⟦ J ⟧ ∗ Z)) $
         fpick ! (λ a. fsplit ! $ move ! (1 ∷ []) $ fsplit ! $ move ! (1 ∷ []) $ fsplit ! $ move ! (1 ∷ []) $ fsplit ! $ move ! (1 ∷ []) $ fsplit ! $ move ! (1 ∷ []) $ fpick ! (λ f. drop ! $ fsplit ! $
-        -- [three quarters; pool; seats; roll; located; latest; the book; reached; withheld and seat; other]
+        -- [tally; pool; seats; roll; located; latest; the book; reached; withheld and seat; other]
         move ! (8 ∷ []) $ fsplit ! $ move ! (1 ∷ []) $
-        -- [seat; withheld; three quarters; pool; seats; roll; located; latest; the book; reached; other]
+        -- [seat; withheld; tally; pool; seats; roll; located; latest; the book; reached; other]
         move ! (4 ∷ 0 ∷ []) $ use2 𝓛 (given ((p < length a.seats) × (get_or a.seats p (false, fresh_seat) ≡ (true, (ready, made_by p seen)))) (‵ (seated 𝓛 t a.seats) ⊛ ‵ (seat 𝓛 t p ready (made_by p seen))))
         (row_finds seat_coded 𝓛 t.passes fresh_seat a.seats 0 p p quarter (ready, made_by p seen) (omega arith)) $ learn ! (λ seat_is. split ! $
-        -- [seats; seat; withheld; three quarters; pool; roll; located; latest; the book; reached; other]
+        -- [seats; seat; withheld; tally; pool; roll; located; latest; the book; reached; other]
         move ! (7 ∷ 10 ∷ []) $ use2 𝓛 (given (IsPrefix other a.lines) (‵ (latest_of 𝓛 t a.lines) ⊛ ‵ (reached t other))) (latest_bounds lines_order 𝓛 (authority w) t.history a.lines other) $ learn ! (λ past. split ! $ move ! (1 ∷ []) $ drop ! $
-        -- [latest; seats; seat; withheld; three quarters; pool; roll; located; the book; reached]
+        -- [latest; seats; seat; withheld; tally; pool; roll; located; the book; reached]
         move ! (0 ∷ 9 ∷ 3 ∷ []) $ use3 𝓛 (given (IsPrefix seen a.lines × (w ≡ true → seen ≡ a.lines)) (‵ (latest_of 𝓛 t a.lines) ⊛ ‵ (withheld t w seen))) (sees 𝓛 t w seen a.lines) $ learn ! (λ so. split ! $
         use1 𝓛 (‵ (latest_of 𝓛 t a.lines) ⊛ ‵ (reached t a.lines)) (latest_shows lines_order 𝓛 (authority w) t.history a.lines a.lines (lines_order.same a.lines)) $ split ! $
-        -- [latest; reached; withheld; seats; seat; three quarters; pool; roll; located; the book]
+        -- [latest; reached; withheld; seats; seat; tally; pool; roll; located; the book]
         move ! (2 ∷ []) $ use1 𝓛 (‵ (withheld t w a.lines)) (still w seen a.lines so.1) $ let same : made_by p seen ≡ made_by p a.lines = sym (ap (λ (s : Bool × Seat). s.1.1) seat_is.1) ∙ f.made p in
         move ! (4 ∷ []) $ rewrite ! 0 (λ (m : List _). ‵ (seat 𝓛 t p ready m)) same refl $ move ! (1 ∷ 0 ∷ []) $ fjoin ! $
-        -- [withheld and seat; latest; reached; seats; three quarters; pool; roll; located; the book]
+        -- [withheld and seat; latest; reached; seats; tally; pool; roll; located; the book]
         move ! (8 ∷ 2 ∷ []) $ fjoin ! $ move ! (0 ∷ 1 ∷ []) $ fjoin ! $
-        -- [the pass; latest; seats; three quarters; pool; roll; located]
+        -- [the pass; latest; seats; tally; pool; roll; located]
         move ! (1 ∷ 6 ∷ 5 ∷ 2 ∷ 3 ∷ 4 ∷ []) $ group ! 6 $ use1 𝓛 (‵ J) (shuts 𝓛 t a f) $ frame ! $ show ! (Learned p ready seen other) a.lines $ check ! (so.0, past, sym same) $ done !)))))
 
     abbrev more_seats : Account → Account
@@ -170,17 +172,17 @@ module _ {M : Type 1} {𝓤 : Ura M} (𝓛 : Logic 𝓤) where
     forks born open_mark = let Z : Pr = ex 𝓤 (Forked born) in let w : Bool = t.whole in qed 𝓛 (‵ (known t born) ∷ []) ∵ fsplit ! $
         use1 𝓛 (‵ N ⊛ ‵ N) (𝓛.invs.named_dup t.number J) $ split ! $ use1 𝓛 (‵ (finv J)) (𝓛.invs.named_inv t.number J) $ suffices ! _ (𝓛.invs.inv_acc J Z) $ frame ! $ assume ! (‵ J) $
         fpick ! (λ a. fsplit ! $ move ! (1 ∷ []) $ fsplit ! $ move ! (1 ∷ []) $ fsplit ! $ move ! (1 ∷ []) $ fsplit ! $ move ! (1 ∷ []) $ fsplit ! $ move ! (1 ∷ []) $ fpick ! (λ f. drop ! $ fsplit ! $
-        -- [three quarters; pool; seats; roll; located; latest; the book; reached]
+        -- [tally; pool; seats; roll; located; latest; the book; reached]
         let p : ℕ = length a.seats in let a' : Account = more_seats a in
         move ! (2 ∷ []) $ use1 𝓛 (raw (upd 𝓤 (⟦ seated 𝓛 t a'.seats ⟧ ∗ ⟦ seat 𝓛 t p false [] ⟧))) (row_adds seat_coded 𝓛 t.passes fresh_seat a.seats fresh_seat) $
         settle 𝓛 (⟦ J ⟧ ∗ Z) (‵ (seated 𝓛 t a'.seats) ⊛ ‵ (seat 𝓛 t p false [])) $ split ! $ suffices ! _ (upd_i 𝓤 (⟦ J ⟧ ∗ Z)) $
-        -- [seats; seat; three quarters; pool; roll; located; latest; the book; reached]
+        -- [seats; seat; tally; pool; roll; located; latest; the book; reached]
         move ! (6 ∷ 8 ∷ []) $ use2 𝓛 (given (IsPrefix born a.lines) (‵ (latest_of 𝓛 t a.lines) ⊛ ‵ (reached t born))) (latest_bounds lines_order 𝓛 (authority w) t.history a.lines born) $ learn ! (λ past. split ! $ move ! (1 ∷ []) $ drop ! $
         use1 𝓛 (‵ (latest_of 𝓛 t a.lines) ⊛ ‵ (reached t a.lines)) (latest_shows lines_order 𝓛 (authority w) t.history a.lines a.lines (lines_order.same a.lines)) $ split ! $
-        -- [latest; reached; seats; seat; three quarters; pool; roll; located; the book]
+        -- [latest; reached; seats; seat; tally; pool; roll; located; the book]
         let none_made : made_by p a.lines ≡ [] = sym (f.made p) ∙ ap (λ (s : Bool × Seat). s.1.1) (Rattle.arc_owners.proofs.Book.Rolls.get-past a.seats (false, fresh_seat)) in
         use0 𝓛 (‵ (withheld t w a.lines)) (unwithheld w a.lines open_mark) $ move ! (4 ∷ []) $ rewrite ! 0 (λ (m : List _). ‵ (seat 𝓛 t p false m)) (sym none_made) refl $ move ! (1 ∷ 0 ∷ []) $ fjoin ! $
-        -- [withheld and seat; latest; reached; seats; three quarters; pool; roll; located; the book]
+        -- [withheld and seat; latest; reached; seats; tally; pool; roll; located; the book]
         move ! (8 ∷ 2 ∷ []) $ fjoin ! $ move ! (0 ∷ 1 ∷ []) $ fjoin ! $
         let f' : Fits t a' = record { legal = f.legal; live = f.live; ever = f.ever; made = more-made a f; leased = f.leased; within = f.within; small = f.small } in
         move ! (1 ∷ 6 ∷ 5 ∷ 2 ∷ 3 ∷ 4 ∷ []) $ group ! 6 $ use1 𝓛 (‵ J) (shuts 𝓛 t a' f') $ frame ! $ show ! (Forked born) (p, a.lines) $ check ! (past, none_made) $ done !)))
@@ -192,20 +194,20 @@ module _ {M : Type 1} {𝓤 : Ura M} (𝓛 : Logic 𝓤) where
     resets o l m born unlent lent = let Z : Pr = ex 𝓤 (Relet o born) in qed 𝓛 (‵ N ∷ ‵ (known t born) ∷ ‵ (right t o l quarter) ∷ ‵ (stake m) ∷ ‵ (pool m 1) ∷ []) ∵
         use1 𝓛 (‵ (finv J)) (𝓛.invs.named_inv t.number J) $ suffices ! _ (𝓛.invs.inv_acc J Z) $ frame ! $ assume ! (‵ J) $
         fpick ! (λ a. fsplit ! $ move ! (1 ∷ []) $ fsplit ! $ move ! (1 ∷ []) $ fsplit ! $ move ! (1 ∷ []) $ fsplit ! $ move ! (1 ∷ []) $ fsplit ! $ move ! (1 ∷ []) $ fpick ! (λ f. drop ! $ fsplit ! $
-        -- [three quarters; pool; seats; roll; located; latest; known; the right; the stake; the new pool]
+        -- [tally; pool; seats; roll; located; latest; known; the right; the stake; the new pool]
         move ! (3 ∷ 7 ∷ []) $ use2 𝓛 (given ((o < length a.roll) × (get_or a.roll o (false, no_lease) ≡ (true, l))) (‵ (rolled 𝓛 t a.roll) ⊛ ‵ (right t o l quarter)))
         (row_finds lease_coded 𝓛 t.rights no_lease a.roll 0 o o quarter l (omega arith)) $ learn ! (λ owner_is. split ! $ let leased : l ≡ a.lease = f.leased o l owner_is.1 in
-        -- [roll; right; three quarters; pool; seats; located; latest; known; the stake; the new pool]
+        -- [roll; right; tally; pool; seats; located; latest; known; the stake; the new pool]
         move ! (3 ∷ []) $ use1 𝓛 (given (how_many a.roll ≡ 1) (raw (emp 𝓤))) (pool_sole 𝓛 t a.lease (how_many a.roll) (ap (λ (k : Lease). k.is_lent) (sym leased) ∙ unlent) (one-lives a.roll o l owner_is.1)) $ learn ! (λ one. drop ! $
         let roll' : List (Bool × Lease) = set a.roll o (true, m) in let still : how_many roll' ≡ how_many a.roll = ap length (living-relet 0 o a.roll l m owner_is.1) in
-        -- [roll; right; three quarters; seats; located; latest; known; the stake; the new pool]
+        -- [roll; right; tally; seats; located; latest; known; the stake; the new pool]
         use2 𝓛 (raw (upd 𝓤 (⟦ rolled 𝓛 t roll' ⟧ ∗ ⟦ right t o m quarter ⟧))) (row_writes lease_coded 𝓛 t.rights no_lease a.roll o l m owner_is.0 owner_is.1) $
         settle 𝓛 (⟦ J ⟧ ∗ Z) (‵ (rolled 𝓛 t roll') ⊛ ‵ (right t o m quarter)) $ split ! $ suffices ! _ (upd_i 𝓤 (⟦ J ⟧ ∗ Z)) $
-        -- [roll; right; three quarters; seats; located; latest; known; the stake; the new pool]
+        -- [roll; right; tally; seats; located; latest; known; the stake; the new pool]
         move ! (1 ∷ 7 ∷ []) $ fjoin ! $ move ! (6 ∷ 0 ∷ []) $ fjoin ! $ use1 𝓛 (‵ (right_owns true t o m born)) (id⊢ 𝓤 _) $
-        -- [the owner; roll; three quarters; seats; located; latest; the new pool]
-        move ! (2 ∷ []) $ rewrite ! 0 (λ (k : ℕ). ‵ (counted_as t three_quarters k)) (sym still) refl $ move ! (6 ∷ []) $ rewrite ! 0 (λ (k : ℕ). ‵ (pool m k)) (sym (still ∙ one)) refl $
-        -- [the new pool; three quarters; the owner; roll; seats; located; latest]
+        -- [the owner; roll; tally; seats; located; latest; the new pool]
+        move ! (2 ∷ []) $ rewrite ! 0 (λ (k : ℕ). ‵ (tally t k)) (sym still) refl $ move ! (6 ∷ []) $ rewrite ! 0 (λ (k : ℕ). ‵ (pool m k)) (sym (still ∙ one)) refl $
+        -- [the new pool; tally; the owner; roll; seats; located; latest]
         move ! (6 ∷ 5 ∷ 3 ∷ 4 ∷ 1 ∷ 0 ∷ []) $ group ! 6 $ use1 𝓛 (‵ J) (shuts 𝓛 t (relet a o m) (fits-relet t a f o l m owner_is.0 owner_is.1 one)) $ frame ! $ show ! (Relet o born) m $ check ! lent $ done !))))
 
     -- a sole owner lends the block anew, for a lifetime of its own

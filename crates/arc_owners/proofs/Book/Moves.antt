@@ -11,15 +11,19 @@ use types.Kit.{‵, raw, ◌⊛◌, given, ◌$◌, ◌∵◌, !, qed, by, move,
 use denote.Steps.{nothing}
 use Rattle.arc_owners.specs.declared.owners.entry.Entry.{Entry}
 use Rattle.arc_owners.specs.declared.owners.entry.Entry.TheVariants.{Up, Full, Down, Alone}
-use Rattle.arc_owners.specs.Histories.{MayFollow}
+use Rattle.arc_owners.specs.Histories.{is_counted, MayFollow, IsLegal}
 use Rattle.arc_owners.specs.Machine.{beginning}
-use Rattle.arc_owners.specs.Book.{Names, Line, entries_of, made_by, withheld, has_place, located, Lease, lease_coded, no_lease, right, counted_as, pool, stake, how_many, Account, Fits, contents, behind, pass_holds, added, next_owner, looked, glanced, glanced_at, raised_by, spoils, lowered_by, told, how_many_live, taken, claim_gain, claimed_by, finished_by}
-use Rattle.arc_owners.proofs.Book.Accounts.{wrote, relet, fits-relet, raised, lowered, fits-aside, fits-raised, fits-lowered, how_many-raised, how_many-lowered, lives, some-live, may-look, may-raise, may-full}
-use Rattle.arc_owners.proofs.Book.Rolls.{length-upto, living-relet}
-use Rattle.arc_owners.proofs.Book.Events.{IsStep}
-use Rattle.arc_owners.proofs.Book.Cells.{row_adds, row_ends, row_writes}
-use Rattle.arc_owners.proofs.Book.Parts.{pool_more, pool_less, pool_last, pool_sole}
-use Rattle.arc_owners.proofs.Book.Opened.{latest_of, rolled, seated, seat, Shown, Open, opened, owes, shut}
+use Rattle.arc_owners.specs.Book.{Names, Line, entries_of, made_by, withheld, has_place, located, Lease, lease_coded, no_lease, Seat, seat_coded, fresh_seat, right, counted_as, tally, pool, stake, how_many, Account, Fits, contents, behind, pass_holds, Adds, left_by, added, next_owner, looked, glanced, glanced_at, raised_by, spoils, lowered_by, told, how_many_live, taken, claim_gain, claimed_by, finished_by}
+use Rattle.arc_owners.proofs.Book.Accounts.{wrote, relet, fits-relet, raised, lowered, fits-aside, fits-raised, fits-lowered, how_many-raised, how_many-lowered, lives, some-live, one-lives, may-look, may-raise, may-full}
+use Rattle.arc_owners.proofs.Book.Rolls.{length-upto, living-relet, entries-append}
+use Rattle.arc_owners.proofs.Book.Events.{IsStep, one_event}
+use Rattle.arc_owners.proofs.Book.Cells.{row_adds, row_ends, row_writes, row_finds}
+use Rattle.arc_owners.proofs.Book.Parts.{pool_more, pool_less, pool_last, pool_sole, counts, Seen, sees, tally_ends}
+use Rattle.arc_owners.proofs.Book.Opened.{latest_of, rolled, seated, seat, Shown, Open, opened, owes, shut, shuts, WrittenDown, writes_down}
+
+begins-counted : (h : List Entry) → is_counted (beginning true) h ≡ true
+unfolding is_counted
+begins-counted h = refl
 
 module _ {M : Type 1} {𝓤 : Ura M} (𝓛 : Logic 𝓤) (t : Names) (p : ℕ) (ready : Bool) (seen : List Line) (o : ℕ) (l : Lease) where
   abbrev Pr : Type 2
@@ -227,25 +231,39 @@ module _ {M : Type 1} {𝓤 : Ura M} (𝓛 : Logic 𝓤) (t : Names) (p : ℕ) (
     | Rattle.std.proofs.Common.inr h ↦ subst (λ (b : Bool). Before quarter n ⊢ Owing (Claim n b) n) (sym h) (claims_none n)
   ]
 
-  -- a sole owner who has the block back ends, and the word with it
-  pub finishes : l.is_lent ≡ false → (n : ℕ) → Before quarter n ⊢ upd 𝓤 (⟦ contents t ⟧ ∗ ⟦ finished_by t p ready seen o ⟧)
-  finishes unlent n = let q : Share = quarter in let F : Fml = finished_by t p ready seen o in let Z : Pr = ⟦ contents t ⟧ ∗ ⟦ F ⟧ in let G : List Line → Fml = λ before. told (1 ≡ how_many_live before) in
-      opens q n (upd 𝓤 Z) (λ a so.
-      let live : 0 < how_many a.roll = some-live t a so.fits p ready so.seat_is.0 o l so.owner_is.1 in let leased : l ≡ a.lease = so.fits.leased o l so.owner_is.1 in
-      let roll' : List (Bool × Lease) = lowered t a so.fits p ready so.seat_is.0 o in
-      let many : how_many a.roll ≡ how_many roll' + 1 = how_many-lowered t a so.fits p ready so.seat_is.0 o l so.owner_is.1 in
-      let may : MayFollow t.most (beginning t.counted) (entries_of a.lines) (Down o) = lives t a so.fits p ready so.seat_is.0 o l so.owner_is.1 in
-      let fits' : Fits t (wrote a p ready (Down o) roll') = fits-lowered t a so.fits p ready so.seat_is.0 o l so.owner_is.0 so.owner_is.1 may in
-      let D : Pr = ⟦ behind t (how_many roll') ⟧ ∗ Z in
-      qed 𝓛 (‵ (latest_of 𝓛 t a.lines) ∷ ‵ (withheld t t.whole seen) ∷ ‵ (rolled 𝓛 t a.roll) ∷ ‵ (right t o l q) ∷ ‵ (seated 𝓛 t a.seats) ∷ ‵ (seat 𝓛 t p ready (made_by p seen)) ∷ ‵ (located t a.lines) ∷ ‵ (has_place t) ∷ ‵ (counted_as t full_share (how_many a.roll)) ∷ ‵ (pool a.lease (how_many a.roll)) ∷ raw (emp 𝓤) ∷ []) ∵
-      keep ! (9 ∷ 2 ∷ 3 ∷ 0 ∷ 1 ∷ 4 ∷ 5 ∷ 6 ∷ 7 ∷ 8 ∷ []) $
-      use1 𝓛 (given (how_many a.roll ≡ 1) (raw (emp 𝓤))) (pool_sole 𝓛 t a.lease (how_many a.roll) (ap (λ (k : Lease). k.is_lent) (sym leased) ∙ unlent) live) $ learn ! (λ one. drop ! $
-      use2 𝓛 (‵ (rolled 𝓛 t (set a.roll o (false, l)))) (row_ends lease_coded 𝓛 t.rights no_lease a.roll o l so.owner_is.0 so.owner_is.1) $
-      rewrite ! 0 (λ (k : Lease). ‵ (rolled 𝓛 t (set a.roll o (false, k)))) leased refl $
-      -- [roll; latest; withheld; seats; seat; located; the key; count]
-      let none : 0 ≡ how_many roll' = omega arith in
-      nothing ! $ use1 𝓛 (‵ (pool a.lease 0)) (id⊢ 𝓤 _) $ rewrite ! 0 (λ (z : ℕ). ‵ (pool a.lease z)) none refl $
-      nothing ! $ fpack ! (1 ≡ how_many_live a.lines) (λ _. ftrue) (sym one ∙ sym (ap length so.fits.live)) $
-      -- [gain; pool; roll; latest; withheld; seats; seat; located; the key; count]
-      move ! (3 ∷ 4 ∷ 2 ∷ 5 ∷ 6 ∷ 7 ∷ 8 ∷ 9 ∷ 1 ∷ 0 ∷ []) $ types.Kit.group ! 10 $
-      use1 𝓛 (raw (upd 𝓤 D)) (shut 𝓛 t n p ready seen o l q a so (λ _. Down o) roll' a.lease G tt may fits') $ settle 𝓛 Z (‵ (behind t (how_many roll')) ⊛ ‵ (contents t) ⊛ ‵ F) $ split3 ! $ drop ! $ suffices ! _ (upd_i 𝓤 Z) $ done !))
+  -- a sole owner who has the block back ends: the word stays as it was
+  pub finishes : l.is_lent ≡ false → t.counted ≡ true → ⟦ contents t ⟧ ∗ ⟦ pass_holds t p ready seen ⟧ ∗ ⟦ right t o l quarter ⟧ ⊢ upd 𝓤 (⟦ contents t ⟧ ∗ ⟦ finished_by t p ready seen o ⟧)
+  finishes unlent began = let F : Fml = finished_by t p ready seen o in let Z : Pr = ⟦ contents t ⟧ ∗ ⟦ F ⟧ in let e : Entry = Down o in let G : List Line → Fml = λ before. told (1 ≡ how_many_live before) in
+      qed 𝓛 (‵ (contents t) ∷ ‵ (pass_holds t p ready seen) ∷ ‵ (right t o l quarter) ∷ []) ∵
+      fpick ! (λ a. fsplit ! $ move ! (1 ∷ []) $ fsplit ! $ move ! (1 ∷ []) $ fsplit ! $ move ! (1 ∷ []) $ fsplit ! $ move ! (1 ∷ []) $ fsplit ! $ move ! (1 ∷ []) $ fpick ! (λ f. drop ! $ fsplit ! $
+      -- [tally; pool; seats; roll; located; latest; the pass; right]
+      move ! (6 ∷ []) $ fsplit ! $ move ! (1 ∷ []) $ fsplit ! $
+      -- [withheld; seat; reached; tally; pool; seats; roll; located; latest; right]
+      move ! (5 ∷ 1 ∷ []) $ use2 𝓛 (given ((p < length a.seats) × (get_or a.seats p (false, fresh_seat) ≡ (true, (ready, made_by p seen)))) (‵ (seated 𝓛 t a.seats) ⊛ ‵ (seat 𝓛 t p ready (made_by p seen))))
+      (row_finds seat_coded 𝓛 t.passes fresh_seat a.seats 0 p p quarter (ready, made_by p seen) (omega arith)) $ learn ! (λ seat_is. split ! $
+      -- [seats; seat; withheld; reached; tally; pool; roll; located; latest; right]
+      move ! (6 ∷ 9 ∷ []) $ use2 𝓛 (given ((o < length a.roll) × (get_or a.roll o (false, no_lease) ≡ (true, l))) (‵ (rolled 𝓛 t a.roll) ⊛ ‵ (right t o l quarter)))
+      (row_finds lease_coded 𝓛 t.rights no_lease a.roll 0 o o quarter l (omega arith)) $ learn ! (λ owner_is. split ! $ let leased : l ≡ a.lease = f.leased o l owner_is.1 in
+      -- [roll; right; seats; seat; withheld; reached; tally; pool; located; latest]
+      move ! (7 ∷ []) $ use1 𝓛 (given (how_many a.roll ≡ 1) (raw (emp 𝓤))) (pool_sole 𝓛 t a.lease (how_many a.roll) (ap (λ (k : Lease). k.is_lent) (sym leased) ∙ unlent) (one-lives a.roll o l owner_is.1)) $ learn ! (λ one. drop ! $
+      -- [roll; right; seats; seat; withheld; reached; tally; located; latest]
+      move ! (8 ∷ 5 ∷ 4 ∷ []) $ use3 𝓛 (given (Seen 𝓛 t t.whole seen a.lines) (‵ (latest_of 𝓛 t a.lines) ⊛ ‵ (withheld t t.whole seen))) (sees 𝓛 t t.whole seen a.lines) $ learn ! (λ seen_is. split ! $
+      -- [latest; withheld; roll; right; seats; seat; tally; located]
+      let counted : counts 𝓛 t a.lines = subst (λ (y : Bool). is_counted (beginning y) (entries_of a.lines) ≡ true) (sym began) (begins-counted (entries_of a.lines)) in
+      let may : MayFollow t.most (beginning t.counted) (entries_of a.lines) e = lives t a f p ready seat_is.0 o l owner_is.1 in
+      let roll' : List (Bool × Lease) = lowered t a f p ready seat_is.0 o in let many : how_many a.roll ≡ how_many roll' + 1 = how_many-lowered t a f p ready seat_is.0 o l owner_is.1 in let none : 0 ≡ how_many roll' = omega arith in
+      let a' : Account = wrote a p ready e roll' in let f' : Fits t a' = fits-lowered t a f p ready seat_is.0 o l owner_is.0 owner_is.1 may in let ls : List Line = a'.lines in
+      move ! (2 ∷ 3 ∷ []) $ use2 𝓛 (‵ (rolled 𝓛 t (set a.roll o (false, l)))) (row_ends lease_coded 𝓛 t.rights no_lease a.roll o l owner_is.0 owner_is.1) $ rewrite ! 0 (λ (k : Lease). ‵ (rolled 𝓛 t (set a.roll o (false, k)))) leased refl $
+      -- [roll; latest; withheld; seats; seat; tally; located]
+      move ! (1 ∷ 2 ∷ 3 ∷ 4 ∷ 6 ∷ []) $ types.Kit.group ! 5 $ use1 𝓛 (raw (upd 𝓤 (WrittenDown 𝓛 t p ready seen a e))) (writes_down 𝓛 t p ready seen a e counted seat_is.0 seat_is.1 seen_is.1) $
+      settle 𝓛 Z (‵ (latest_of 𝓛 t ls) ⊛ ‵ (pass_holds t p ready ls) ⊛ ‵ (seated 𝓛 t a'.seats) ⊛ ‵ (located t ls)) $ split3 ! $ move ! (2 ∷ []) $ split ! $ suffices ! _ (upd_i 𝓤 Z) $
+      -- [seats; located; latest; pass; roll; tally]
+      move ! (5 ∷ []) $ use1 𝓛 (‵ (tally t 0)) (tally_ends 𝓛 t (how_many a.roll)) $ rewrite ! 0 (λ (k : ℕ). ‵ (tally t k)) none refl $
+      nothing ! $ use1 𝓛 (‵ (pool a.lease 0)) (id⊢ 𝓤 _) $ rewrite ! 0 (λ (k : ℕ). ‵ (pool a.lease k)) none refl $
+      -- [pool; tally; seats; located; latest; pass; roll]
+      move ! (4 ∷ 3 ∷ 6 ∷ 2 ∷ 1 ∷ 0 ∷ []) $ types.Kit.group ! 6 $ use1 𝓛 (‵ (contents t)) (shuts 𝓛 t a' f') $ frame ! $
+      -- [pass]
+      nothing ! $ fpack ! (1 ≡ how_many_live a.lines) (λ _. ftrue) (sym one ∙ sym (ap length f.live)) $ move ! (1 ∷ 0 ∷ []) $ fjoin ! $
+      nothing ! $ fpack ! (Adds t p seen a.lines e) (λ _. ftrue)
+      (record { after_seen = seen_is.0; own = sym (f.made p) ∙ ap (λ (s : Bool × Seat). s.1.1) seat_is.1; undisturbed = seen_is.1; may = may; legal = subst (λ (es : List Entry). IsLegal t.most (beginning t.counted) es) (entries-append a.lines p e) f'.legal; event = one_event t.most (beginning t.counted) (entries_of a.lines) f.legal counted e tt may }) $
+      fjoin ! $ fpack ! (List Line) (left_by t p ready seen (λ _. Down o) G) a.lines $ done !))))))

@@ -13,12 +13,12 @@ use denote.Steps.{nothing}
 use Rattle.arc_owners.specs.declared.owners.entry.Entry.{Entry}
 use Rattle.arc_owners.specs.Histories.{is_counted, MayFollow}
 use Rattle.arc_owners.specs.Machine.{beginning}
-use Rattle.arc_owners.specs.Book.{Names, Line, entries_of, made_by, reached, withheld, has_place, located, Lease, lease_coded, no_lease, Seat, seat_coded, fresh_seat, cell, row, right, counted_as, pool, how_many, Account, Fits, standing, contents, behind, pass_holds, Adds, left_by, added}
+use Rattle.arc_owners.specs.Book.{Names, Line, entries_of, made_by, reached, withheld, has_place, located, Lease, lease_coded, no_lease, Seat, seat_coded, fresh_seat, cell, row, right, counted_as, tally, pool, how_many, Account, Fits, standing, contents, behind, pass_holds, Adds, left_by, added}
 use Rattle.arc_owners.proofs.Book.Rolls.{entries-append, made-own}
 use Rattle.arc_owners.proofs.Book.Events.{IsStep, one_event}
-use Rattle.arc_owners.proofs.Book.Accounts.{seat_of, seat_set, wrote_for}
-use Rattle.arc_owners.proofs.Book.Cells.{cell_whole, cell_parts, row_finds, row_writes}
-use Rattle.arc_owners.proofs.Book.Parts.{top, Seen, sees, writes, counts, keyed, stays}
+use Rattle.arc_owners.proofs.Book.Accounts.{seat_of, seat_set, wrote_for, one-lives}
+use Rattle.arc_owners.proofs.Book.Cells.{cell_parts, row_finds, row_writes}
+use Rattle.arc_owners.proofs.Book.Parts.{top, Seen, sees, writes, counts, keyed, stays, tallies, tally_in}
 
 module _ {M : Type 1} {𝓤 : Ura M} (𝓛 : Logic 𝓤) (t : Names) where
   abbrev Pr : Type 2
@@ -51,10 +51,35 @@ module _ {M : Type 1} {𝓤 : Ura M} (𝓛 : Logic 𝓤) (t : Names) where
   abbrev pub seat : ℕ → Bool → List Entry → Fml
   seat p ready made = cell seat_coded t.passes p quarter (ready, made)
 
-  pub shuts : (a : Account) → Fits t a → ⟦ latest_of a.lines ⟧ ∗ ⟦ located t a.lines ⟧ ∗ ⟦ rolled a.roll ⟧ ∗ ⟦ seated a.seats ⟧ ∗ ⟦ counted_as t three_quarters (how_many a.roll) ⟧ ∗ ⟦ pool a.lease (how_many a.roll) ⟧ ⊢ ⟦ contents t ⟧
-  shuts a f = qed 𝓛 (‵ (latest_of a.lines) ∷ ‵ (located t a.lines) ∷ ‵ (rolled a.roll) ∷ ‵ (seated a.seats) ∷ ‵ (counted_as t three_quarters (how_many a.roll)) ∷ ‵ (pool a.lease (how_many a.roll)) ∷ []) ∵
+  pub shuts : (a : Account) → Fits t a → ⟦ latest_of a.lines ⟧ ∗ ⟦ located t a.lines ⟧ ∗ ⟦ rolled a.roll ⟧ ∗ ⟦ seated a.seats ⟧ ∗ ⟦ tally t (how_many a.roll) ⟧ ∗ ⟦ pool a.lease (how_many a.roll) ⟧ ⊢ ⟦ contents t ⟧
+  shuts a f = qed 𝓛 (‵ (latest_of a.lines) ∷ ‵ (located t a.lines) ∷ ‵ (rolled a.roll) ∷ ‵ (seated a.seats) ∷ ‵ (tally t (how_many a.roll)) ∷ ‵ (pool a.lease (how_many a.roll)) ∷ []) ∵
       nothing ! $ fpack ! (Fits t a) (λ _. ftrue) f $ move ! (5 ∷ 6 ∷ 0 ∷ []) $ fjoin ! $ fjoin ! $ move ! (4 ∷ 0 ∷ []) $ fjoin ! $ move ! (3 ∷ 0 ∷ []) $ fjoin ! $ move ! (2 ∷ 0 ∷ []) $ fjoin ! $ move ! (1 ∷ 0 ∷ []) $ fjoin ! $
       fpack ! Account (standing t) a $ done !
+
+  module _ (p : ℕ) (ready : Bool) (seen : List Line) (a : Account) (e : Entry) where
+    abbrev more : List Line
+    more = a.lines ++ (p, e) ∷ []
+
+    abbrev made : List Entry
+    made = made_by p a.lines ++ e ∷ []
+
+    abbrev pub WrittenDown : Pr
+    WrittenDown = ⟦ latest_of more ⟧ ∗ ⟦ pass_holds t p ready more ⟧ ∗ ⟦ seated (seat_set a.seats p ready made) ⟧ ∗ ⟦ located t more ⟧
+
+    -- one more line, by a pass that has seen what it must
+    pub writes_down : counts 𝓛 t a.lines → p < length a.seats → seat_of a.seats p ≡ (true, (ready, made_by p seen)) → (t.whole ≡ true → seen ≡ a.lines)
+        → ⟦ latest_of a.lines ⟧ ∗ ⟦ withheld t t.whole seen ⟧ ∗ ⟦ seated a.seats ⟧ ∗ ⟦ seat p ready (made_by p seen) ⟧ ∗ ⟦ located t a.lines ⟧ ⊢ upd 𝓤 WrittenDown
+    writes_down counted low is whole_seen = let w : Bool = t.whole in let Z : Pr = WrittenDown in
+        qed 𝓛 (‵ (latest_of a.lines) ∷ ‵ (withheld t w seen) ∷ ‵ (seated a.seats) ∷ ‵ (seat p ready (made_by p seen)) ∷ ‵ (located t a.lines) ∷ []) ∵
+        use2 𝓛 (raw (upd 𝓤 (⟦ latest_of more ⟧ ∗ ⟦ reached t more ⟧ ∗ ⟦ withheld t w more ⟧))) (writes 𝓛 t w seen a.lines ((p, e) ∷ []) whole_seen) $
+        settle 𝓛 Z (‵ (latest_of more) ⊛ ‵ (reached t more) ⊛ ‵ (withheld t w more)) $ split3 ! $
+        -- [latest; reached; withheld; seats; seat; located]
+        move ! (3 ∷ 4 ∷ []) $ use2 𝓛 (raw (upd 𝓤 (⟦ seated (seat_set a.seats p ready made) ⟧ ∗ ⟦ seat p ready made ⟧)))
+        (row_writes seat_coded 𝓛 t.passes fresh_seat a.seats p (ready, made_by p seen) (ready, made) low is) $ settle 𝓛 Z (‵ (seated (seat_set a.seats p ready made)) ⊛ ‵ (seat p ready made)) $ split ! $
+        -- [seats; seat; latest; reached; withheld; located]
+        move ! (5 ∷ []) $ use1 𝓛 (‵ (located t more)) (stays 𝓛 t a.lines p e counted) $ rewrite ! 2 (λ (m : List Entry). ‵ (seat p ready m)) (sym (made-own p a.lines e)) refl $
+        -- [located; seats; seat; latest; reached; withheld]
+        suffices ! _ (upd_i 𝓤 Z) $ move ! (5 ∷ 2 ∷ []) $ fjoin ! $ move ! (4 ∷ 0 ∷ []) $ fjoin ! $ move ! (3 ∷ 0 ∷ 2 ∷ 1 ∷ []) $ done !
 
   module _ (n p : ℕ) (ready : Bool) (seen : List Line) (o : ℕ) (l : Lease) (q : Share) where
     -- what the open book shows
@@ -74,17 +99,18 @@ module _ {M : Type 1} {𝓤 : Ura M} (𝓛 : Logic 𝓤) (t : Names) where
         move ! (2 ∷ []) $ fsplit ! $ move ! (1 ∷ []) $ fsplit ! $ move ! (3 ∷ []) $ fsplit ! $ move ! (5 ∷ []) $
         -- [contents; the count's quarter; the key; withheld; seat; reached; right; X]
         fpick ! (λ a. fsplit ! $ move ! (1 ∷ []) $ fsplit ! $ move ! (1 ∷ []) $ fsplit ! $ move ! (1 ∷ []) $ fsplit ! $ move ! (1 ∷ []) $ fsplit ! $ move ! (1 ∷ []) $ fpick ! (λ f. drop ! $ fsplit ! $
-        -- [three quarters; pool; seats; roll; located; latest; the count's quarter; the key; withheld; seat; reached; right; X]
-        move ! (6 ∷ 0 ∷ []) $ use2 𝓛 (given (n ≡ how_many a.roll) (‵ (counted_as t full_share (how_many a.roll)))) (cell_whole coded_ℕ 𝓛 t.count 0 n (how_many a.roll)) $ learn ! (λ number.
-        -- [count; pool; seats; roll; located; latest; the key; withheld; seat; reached; right; X]
-        move ! (4 ∷ 6 ∷ []) $ use2 𝓛 (given (counts 𝓛 t a.lines) (‵ (located t a.lines) ⊛ ‵ (has_place t))) (keyed 𝓛 t a.lines) $ learn ! (λ counted. split ! $
-        -- [located; the key; count; pool; seats; roll; latest; withheld; seat; reached; right; X]
-        move ! (4 ∷ 8 ∷ []) $ use2 𝓛 (given ((p < length a.seats) × (seat_of a.seats p ≡ (true, (ready, made_by p seen)))) (‵ (seated a.seats) ⊛ ‵ (seat p ready (made_by p seen))))
+        -- [tally; pool; seats; roll; located; latest; the count's quarter; the key; withheld; seat; reached; right; X]
+        move ! (4 ∷ 7 ∷ []) $ use2 𝓛 (given (counts 𝓛 t a.lines) (‵ (located t a.lines) ⊛ ‵ (has_place t))) (keyed 𝓛 t a.lines) $ learn ! (λ counted. split ! $
+        -- [located; the key; tally; pool; seats; roll; latest; the count's quarter; withheld; seat; reached; right; X]
+        move ! (4 ∷ 9 ∷ []) $ use2 𝓛 (given ((p < length a.seats) × (seat_of a.seats p ≡ (true, (ready, made_by p seen)))) (‵ (seated a.seats) ⊛ ‵ (seat p ready (made_by p seen))))
         (row_finds seat_coded 𝓛 t.passes fresh_seat a.seats 0 p p quarter (ready, made_by p seen) (omega arith)) $ learn ! (λ seat_is. split ! $
-        -- [seats; seat; located; the key; count; pool; roll; latest; withheld; reached; right; X]
-        move ! (6 ∷ 10 ∷ []) $ use2 𝓛 (given ((o < length a.roll) × (get_or a.roll o (false, no_lease) ≡ (true, l))) (‵ (rolled a.roll) ⊛ ‵ (right t o l q)))
+        -- [seats; seat; located; the key; tally; pool; roll; latest; the count's quarter; withheld; reached; right; X]
+        move ! (6 ∷ 11 ∷ []) $ use2 𝓛 (given ((o < length a.roll) × (get_or a.roll o (false, no_lease) ≡ (true, l))) (‵ (rolled a.roll) ⊛ ‵ (right t o l q)))
         (row_finds lease_coded 𝓛 t.rights no_lease a.roll 0 o o q l (omega arith)) $ learn ! (λ owner_is. split ! $
-        -- [roll; right; seats; seat; located; the key; count; pool; latest; withheld; reached; X]
+        -- [roll; right; seats; seat; located; the key; tally; pool; latest; the count's quarter; withheld; reached; X]
+        move ! (9 ∷ 6 ∷ []) $ use2 𝓛 (given (n ≡ how_many a.roll) (‵ (counted_as t full_share (how_many a.roll)))) (tallies 𝓛 t n (how_many a.roll) (one-lives a.roll o l owner_is.1)) $ learn ! (λ number.
+        -- [count; roll; right; seats; seat; located; the key; pool; latest; withheld; reached; X]
+        move ! (1 ∷ 2 ∷ 3 ∷ 4 ∷ 5 ∷ 6 ∷ 0 ∷ []) $
         move ! (8 ∷ 10 ∷ 9 ∷ []) $ use3 𝓛 (given (Seen 𝓛 t w seen a.lines) (‵ (latest_of a.lines) ⊛ ‵ (withheld t w seen))) (sees 𝓛 t w seen a.lines) $ learn ! (λ seen_is. split ! $
         by ! (k a (record { fits = f; number = number; counted = counted; seat_is = seat_is; owner_is = owner_is; seen_is = seen_is })))))))))
 
@@ -112,30 +138,22 @@ module _ {M : Type 1} {𝓤 : Ura M} (𝓛 : Logic 𝓤) (t : Names) where
       pub owes : (gain : List Line → Fml) → IsStep e → MayFollow t.most (beginning t.counted) (entries_of a.lines) e → Fits t a'
           → ⟦ latest_of a.lines ⟧ ∗ ⟦ withheld t t.whole seen ⟧ ∗ ⟦ rolled roll ⟧ ∗ ⟦ seated a.seats ⟧ ∗ ⟦ seat p ready (made_by p seen) ⟧ ∗ ⟦ located t a.lines ⟧ ∗ ⟦ has_place t ⟧ ∗ ⟦ counted_as t full_share (how_many a.roll) ⟧
           ⊢ upd 𝓤 (⟦ behind t n' ⟧ ∗ Owed gain)
-      owes gain step may f = let w : Bool = t.whole in let Z : Pr = ⟦ behind t n' ⟧ ∗ Owed gain in let ls : List Line = a'.lines in let made : List Entry = made_by p a.lines ++ e ∷ [] in
+      owes gain step may f = let w : Bool = t.whole in let Z : Pr = ⟦ behind t n' ⟧ ∗ Owed gain in let ls : List Line = a'.lines in
           qed 𝓛 (‵ (latest_of a.lines) ∷ ‵ (withheld t w seen) ∷ ‵ (rolled roll) ∷ ‵ (seated a.seats) ∷ ‵ (seat p ready (made_by p seen)) ∷ ‵ (located t a.lines) ∷ ‵ (has_place t) ∷ ‵ (counted_as t full_share (how_many a.roll)) ∷ []) ∵
-          use2 𝓛 (raw (upd 𝓤 (⟦ latest_of ls ⟧ ∗ ⟦ reached t ls ⟧ ∗ ⟦ withheld t w ls ⟧))) (writes 𝓛 t w seen a.lines ((p, e) ∷ []) so.seen_is.1) $
-          settle 𝓛 Z (‵ (latest_of ls) ⊛ ‵ (reached t ls) ⊛ ‵ (withheld t w ls)) $ split3 ! $
-          -- [latest; reached; withheld; roll; seats; seat; located; the key; count]
-          move ! (4 ∷ 5 ∷ []) $ use2 𝓛 (raw (upd 𝓤 (⟦ seated (seat_set a.seats p ready made) ⟧ ∗ ⟦ seat p ready made ⟧)))
-          (row_writes seat_coded 𝓛 t.passes fresh_seat a.seats p (ready, made_by p seen) (ready, made) so.seat_is.0 so.seat_is.1) $ settle 𝓛 Z (‵ (seated (seat_set a.seats p ready made)) ⊛ ‵ (seat p ready made)) $ split ! $
-          -- [seats; seat; latest; reached; withheld; roll; located; the key; count]
-          move ! (8 ∷ []) $ use1 𝓛 (raw (upd 𝓤 (⟦ counted_as t quarter n' ⟧ ∗ ⟦ counted_as t three_quarters n' ⟧))) (cell_parts coded_ℕ 𝓛 t.count 0 (how_many a.roll) n') $
-          settle 𝓛 Z (‵ (counted_as t quarter n') ⊛ ‵ (counted_as t three_quarters n')) $ split ! $
-          -- [quarter; three quarters; seats; seat; latest; reached; withheld; roll; located; the key]
-          move ! (8 ∷ []) $ use1 𝓛 (‵ (located t ls)) (stays 𝓛 t a.lines p e so.counted) $
-          -- [located; quarter; three quarters; seats; seat; latest; reached; withheld; roll; the key]
-          rewrite ! 4 (λ (m : List Entry). ‵ (seat p ready m)) (sym (made-own p a.lines e)) refl $
-          suffices ! _ (upd_i 𝓤 Z) $ move ! (7 ∷ 4 ∷ []) $ fjoin ! $ move ! (6 ∷ 0 ∷ []) $ fjoin ! $
-          -- [pass; located; quarter; three quarters; seats; latest; roll; the key]
-          move ! (2 ∷ 7 ∷ []) $ fjoin ! $ frame ! $
-          -- [pass; located; three quarters; seats; latest; roll]
-          assume ! (‵ (pool lease n') ⊛ ‵ (gain a.lines)) $ split ! $ move ! (2 ∷ 1 ∷ []) $ fjoin ! $
+          move ! (0 ∷ 1 ∷ 3 ∷ 4 ∷ 5 ∷ []) $ types.Kit.group ! 5 $ use1 𝓛 (raw (upd 𝓤 (WrittenDown p ready seen a e))) (writes_down p ready seen a e so.counted so.seat_is.0 so.seat_is.1 so.seen_is.1) $
+          settle 𝓛 Z (‵ (latest_of ls) ⊛ ‵ (pass_holds t p ready ls) ⊛ ‵ (seated a'.seats) ⊛ ‵ (located t ls)) $ split3 ! $ move ! (2 ∷ []) $ split ! $
+          -- [seats; located; latest; pass; roll; the key; count]
+          move ! (6 ∷ []) $ use1 𝓛 (raw (upd 𝓤 (⟦ counted_as t quarter n' ⟧ ∗ ⟦ counted_as t three_quarters n' ⟧))) (cell_parts coded_ℕ 𝓛 t.count 0 (how_many a.roll) n') $
+          settle 𝓛 Z (‵ (counted_as t quarter n') ⊛ ‵ (counted_as t three_quarters n')) $ split ! $ suffices ! _ (upd_i 𝓤 Z) $
+          -- [quarter; three quarters; seats; located; latest; pass; roll; the key]
+          move ! (0 ∷ 7 ∷ []) $ fjoin ! $ frame ! $ use1 𝓛 (‵ (tally t n')) (tally_in 𝓛 t n') $
+          -- [tally; seats; located; latest; pass; roll]
+          assume ! (‵ (pool lease n') ⊛ ‵ (gain a.lines)) $ split ! $ move ! (6 ∷ 1 ∷ []) $ fjoin ! $
           nothing ! $ fpack ! (Adds t p seen a.lines e) (λ _. ftrue)
           (record { after_seen = so.seen_is.0; own = made-kept; undisturbed = so.seen_is.1; may = may; legal = subst (λ (es : List Entry). Rattle.arc_owners.specs.Histories.IsLegal t.most (beginning t.counted) es) (entries-append a.lines p e) f.legal; event = one_event t.most (beginning t.counted) (entries_of a.lines) so.fits.legal so.counted e step may }) $
           fjoin ! $ fpack ! (List Line) (left_by t p ready seen entry gain) a.lines $
-          -- [added; pool; located; three quarters; seats; latest; roll]
-          move ! (5 ∷ 2 ∷ 6 ∷ 4 ∷ 3 ∷ 1 ∷ 0 ∷ []) $ types.Kit.group ! 6 $ use1 𝓛 (‵ (contents t)) (shuts a' f) $ done !
+          -- [added; pool; tally; seats; located; latest; roll]
+          move ! (5 ∷ 4 ∷ 6 ∷ 3 ∷ 2 ∷ 1 ∷ 0 ∷ []) $ types.Kit.group ! 6 $ use1 𝓛 (‵ (contents t)) (shuts a' f) $ done !
 
       pub shut : (gain : List Line → Fml) → IsStep e → MayFollow t.most (beginning t.counted) (entries_of a.lines) e → Fits t a'
           → ⟦ latest_of a.lines ⟧ ∗ ⟦ withheld t t.whole seen ⟧ ∗ ⟦ rolled roll ⟧ ∗ ⟦ seated a.seats ⟧ ∗ ⟦ seat p ready (made_by p seen) ⟧ ∗ ⟦ located t a.lines ⟧ ∗ ⟦ has_place t ⟧ ∗ ⟦ counted_as t full_share (how_many a.roll) ⟧ ∗ ⟦ pool lease n' ⟧ ∗ ⟦ gain a.lines ⟧

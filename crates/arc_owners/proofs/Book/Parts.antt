@@ -19,9 +19,11 @@ use denote.Steps.{nothing}
 use Rattle.arc_owners.specs.declared.owners.entry.Entry.{Entry}
 use Rattle.arc_owners.specs.Histories.{is_counted}
 use Rattle.arc_owners.specs.Machine.{beginning}
-use Rattle.arc_owners.specs.Book.{Names, Line, entries_of, lines_order, authority, reached, withheld, places, is_there, has_place, located, told, Lease, pooled, pool, staked, stake}
+use base.Stored.{coded_ℕ}
+use Rattle.arc_owners.specs.Book.{Names, counted_as, tally_of, tally, Line, entries_of, lines_order, authority, reached, withheld, places, is_there, has_place, located, told, Lease, pooled, pool, staked, stake}
 use Rattle.arc_owners.proofs.Steps.{counted-more}
 use Rattle.arc_owners.proofs.Book.Rolls.{entries-append}
+use Rattle.arc_owners.proofs.Book.Cells.{cell_whole}
 
 module _ {M : Type 1} {𝓤 : Ura M} (𝓛 : Logic 𝓤) (t : Names) where
   abbrev Pr : Type 2
@@ -115,3 +117,14 @@ module _ {M : Type 1} {𝓤 : Ura M} (𝓛 : Logic 𝓤) (t : Names) where
   pub pool_sole : (l : Lease) (n : ℕ) → l.is_lent ≡ false → 0 < n → ⟦ pool l n ⟧ ⊢ guard 𝓤 (n ≡ 1) (emp 𝓤)
   pool_sole l zero unlent live = absurd (omega arith)
   pool_sole l (suc n) unlent live = qed 𝓛 (‵ (pooled l.is_lent l n) ∷ []) ∵ rewrite ! 0 (λ (y : Bool). ‵ (pooled y l n)) unlent refl $ fpick ! (λ none. drop ! $ check ! (ap suc none) $ done !)
+
+  -- the word's number and the book's, while an owner lives, and after the last one ended without a step
+  pub tallies : (n m : ℕ) → 0 < m → ⟦ counted_as t quarter n ⟧ ∗ ⟦ tally t m ⟧ ⊢ guard 𝓤 (n ≡ m) ⟦ counted_as t full_share m ⟧
+  tallies n m live = qed 𝓛 (‵ (counted_as t quarter n) ∷ ‵ (tally t m) ∷ []) ∵ move ! (1 ∷ []) $ fpick ! (λ k. fsplit ! $ fpick ! (λ so. drop ! $ move ! (1 ∷ 0 ∷ []) $
+      use2 𝓛 (given (n ≡ k) (‵ (counted_as t full_share k))) (cell_whole coded_ℕ 𝓛 t.count 0 n k) $ learn ! (λ same. check ! (same ∙ so live) $ rewrite ! 0 (λ (x : ℕ). ‵ (counted_as t full_share x)) (so live) refl $ done !)))
+
+  pub tally_in : (n : ℕ) → ⟦ counted_as t three_quarters n ⟧ ⊢ ⟦ tally t n ⟧
+  tally_in n = qed 𝓛 (‵ (counted_as t three_quarters n) ∷ []) ∵ nothing ! $ fpack ! (0 < n → n ≡ n) (λ _. ftrue) (λ _. refl) $ fjoin ! $ fpack ! ℕ (tally_of t n) n $ done !
+
+  pub tally_ends : (n : ℕ) → ⟦ tally t n ⟧ ⊢ ⟦ tally t 0 ⟧
+  tally_ends n = qed 𝓛 (‵ (tally t n) ∷ []) ∵ fpick ! (λ k. fsplit ! $ drop ! $ nothing ! $ fpack ! (0 < 0 → k ≡ 0) (λ _. ftrue) (λ (l : 0 < 0). absurd (omega arith)) $ fjoin ! $ fpack ! ℕ (tally_of t 0) k $ done !)

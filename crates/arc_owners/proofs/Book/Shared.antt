@@ -45,7 +45,7 @@ pool_keyless l (suc n) = pooled_keyless l.is_lent l n
 
 contents_keyless : (t : Names) → Keyless (contents t)
 unfolding latest
-contents_keyless t = λ a. (tt, ((λ x. (tt, λ _. tt)), (row_keyless lease_coded no_lease t.rights 0 a.roll, (row_keyless seat_coded fresh_seat t.passes 0 a.seats, ((entry_keyless (halved base.Stored.coded_ℕ) t.count 0 _, pool_keyless a.lease _), λ _. tt)))))
+contents_keyless t = λ a. (tt, ((λ x. (tt, λ _. tt)), (row_keyless lease_coded no_lease t.rights 0 a.roll, (row_keyless seat_coded fresh_seat t.passes 0 a.seats, (((λ m. ((λ _. tt), entry_keyless (halved base.Stored.coded_ℕ) t.count 0 _)), pool_keyless a.lease _), λ _. tt)))))
 
 pub known_keyless : (t : Names) (ls : List Line) → Keyless (known t ls)
 unfolding at_least
