@@ -22,13 +22,15 @@ use types.Kit.{‵, raw, ◌⊛◌, some as any, given, later, ◌$◌, ◌∵�
 use denote.Steps.{nothing}
 use Rattle.arc_owners.specs.Histories.{is_counted, live_owners, owners_ever, owners_ended}
 use Rattle.arc_owners.specs.Machine.{beginning}
-use Rattle.arc_owners.specs.Book.{Names, Line, made_by, Lease, lease_coded, no_lease, Seat, seat_coded, fresh_seat, halved, cell, row, tally, right, lines_order, reached, authority, withheld, places, is_there, told, pool, stake, how_many, Account, Fits, contents, behind, known, right_owns, trace_owns}
+use Rattle.arc_owners.specs.Book.{Names, Line, made_by, Lease, lease_coded, no_lease, Seat, seat_coded, fresh_seat, halved, cell, row, tally, right, lines_order, reached, authority, withheld, places, is_there, told, pool, stake, how_many, Account, Fits, contents, behind, known, right_owns, trace_owns, pass_holds, finished_by, after_finish, Lowered}
 use Rattle.arc_owners.proofs.Book.Rolls.{get-more, get-last, living-relet}
 use Rattle.arc_owners.proofs.Book.Cells.{row_new, row_adds, row_finds, row_writes, cell_parts}
 use Rattle.arc_owners.proofs.Book.Parts.{top, sees, pool_sole, tally_in}
 use Rattle.arc_owners.proofs.Book.Accounts.{relet, fits-relet, one-lives}
 use Rattle.arc_owners.proofs.Book.Opened.{shuts, latest_of, rolled, seated, seat}
 use Rattle.arc_owners.proofs.Book.Shared.{known_twice}
+use Rattle.arc_owners.proofs.Book.Moves.{finishes}
+use Rattle.arc_owners.specs.declared.owners.entry.Entry.TheVariants.{Down}
 
 abbrev first_account : Lease → Account
 first_account l = record { lines = []; roll = (true, l) ∷ []; seats = (true, fresh_seat) ∷ []; lease = l }
@@ -222,3 +224,15 @@ module _ {M : Type 1} {𝓤 : Ura M} (𝓛 : Logic 𝓤) where
         move ! (1 ∷ []) $ use1 𝓛 (‵ (known t born) ⊛ ‵ (known t born)) (known_twice 𝓛 t born) $ split ! $ fsplit ! $ move ! (1 ∷ []) $ drop ! $
         -- [the book; known; the right; the stake; the pool]
         move ! (0 ∷ 1 ∷ 2 ∷ 3 ∷ 4 ∷ []) $ by ! (resets o l m born unlent refl)))
+
+    -- a sole owner who has the block back ends
+    pub finishes_by : (p : ℕ) (ready : Bool) (seen : List Line) (o : ℕ) (l : Lease) → l.is_lent ≡ false → t.counted ≡ true → ⟦ trace_owns true t p ready seen ⟧ ∗ ⟦ right t o l quarter ⟧ ⊢ H.⇛ (ex 𝓤 (λ (ls : List Line). ⟦ after_finish t p ready seen o ls ⟧))
+    finishes_by p ready seen o l unlent began = let Z : Pr = ex 𝓤 (λ (ls : List Line). ⟦ after_finish t p ready seen o ls ⟧) in let B : Fml = pass_holds t p ready seen in let F : Fml = finished_by t p ready seen o in
+        qed 𝓛 (‵ (trace_owns true t p ready seen) ∷ ‵ (right t o l quarter) ∷ []) ∵ fsplit ! $ fsplit ! $ use1 𝓛 (‵ N ⊛ ‵ N) (𝓛.invs.named_dup t.number J) $ split ! $ use1 𝓛 (‵ (finv J)) (𝓛.invs.named_inv t.number J) $
+        suffices ! _ (𝓛.invs.inv_acc J Z) $ frame ! $ assume ! (‵ J) $
+        -- [the contents; the book; reached; withheld and seat; right]
+        move ! (2 ∷ 3 ∷ []) $ fjoin ! $ use1 𝓛 (‵ B) (id⊢ 𝓤 _) $ move ! (1 ∷ 0 ∷ 3 ∷ []) $ group ! 3 $ use1 𝓛 (raw (upd 𝓤 (⟦ J ⟧ ∗ ⟦ F ⟧))) (finishes 𝓛 t p ready seen o l unlent began) $ settle 𝓛 (⟦ J ⟧ ∗ Z) (‵ J ⊛ ‵ F) $ split ! $
+        suffices ! _ (upd_i 𝓤 (⟦ J ⟧ ∗ Z)) $ frame ! $ fpick ! (λ before. fsplit ! $ fpick ! (λ so. drop ! $ fsplit ! $ move ! (1 ∷ []) $ fpick ! (λ single. drop ! $ let ls : List Line = before ++ (p, Down o) ∷ [] in
+        -- [the pass; the book]
+        fsplit ! $ move ! (2 ∷ 0 ∷ []) $ fjoin ! $ move ! (0 ∷ 1 ∷ []) $ fjoin ! $ use1 𝓛 (‵ (trace_owns true t p ready ls)) (id⊢ 𝓤 _) $
+        nothing ! $ fpack ! (Lowered t p seen o 1 ls) (λ _. ftrue) (before, (so, refl), single) $ show ! (λ (k : List Line). ⟦ after_finish t p ready seen o k ⟧) ls $ fjoin ! $ done !)))

@@ -88,7 +88,7 @@ impl Model for Spoils {
 
 impl Word {
     ghost use Rattle.std.specs.Prelude.{◌==◌};
-    ghost use Rattle.arc_owners.specs.Traces.{IsHeld, IsSole, IsOf, IsNext, SamePass, Wrote, FullIf, RaisedIf, Ended, Claimed, IsLodged};
+    ghost use Rattle.arc_owners.specs.Traces.{IsHeld, IsOf, IsNext, SamePass, Wrote, FullIf, RaisedIf, Ended, Claimed, IsLodged};
     ghost use Rattle.std.specs.Prelude.{◌≢◌, ◌≤◌, []};
 
     /// The word of a new block with one owner, its right, and a pass.
@@ -182,20 +182,13 @@ impl Word {
     {
         unsafe { raw::load::<Brand>(place, SeqCst) }
     }
-
-    /// A sole owner who has the block back ends, and the word with it, without a step.
-    pub(crate) fn finish(self, own: &mut Right, pass: &mut Trace)
-        requires { IsSole self own.old × IsOf self pass.old }
-        ensures { SamePass self pass.old pass.new × Ended self pass.old pass.new own.old 1 × (own.new.held ≡ false) }
-    {
-        let Word { bits: _ } = self;
-    }
 }
 
 impl Right {
     ghost use mathlib.Core.List.{IsPrefix};
     ghost use Rattle.std.specs.Prelude.{[]};
     ghost use Rattle.arc_owners.specs.Book.{made_by};
+    ghost use Rattle.arc_owners.specs.Traces.{IsSole, IsOf, SamePass, Ended};
 
     /// No right.
     pub(crate) fn none() -> Right
@@ -205,6 +198,12 @@ impl Right {
             marker: PhantomData,
         }
     }
+
+    /// A sole owner who has the block back ends, without a step.
+    pub(crate) fn finish(&mut self, pass: &mut Trace)
+        requires { IsSole self.old.names self.old × IsOf self.old.names pass.old × (self.old.names.counted ≡ true) }
+        ensures { SamePass self.old.names pass.old pass.new × Ended self.old.names pass.old pass.new self.old 1 × (self.new.held ≡ false) }
+    {}
 
     /// A sole owner who has the block back lends it anew.
     pub(crate) fn lend(&mut self)
