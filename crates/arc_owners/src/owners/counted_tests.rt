@@ -1,9 +1,12 @@
 //! Owners whose word began with a count: the replies at the greatest count, and two threads.
-ghost use Rattle.std.specs.Prelude.{◌≡◌, []};
+ghost use Rattle.std.specs.Prelude.{◌≡◌, [], ◌∷◌};
+ghost use Rattle.arc_owners.specs.declared.owners.entry.Entry.TheVariants.{Up, Full, Down};
+ghost use Rattle.arc_owners.specs.Book.{entries_of, made_by};
 ghost use Rattle.arc_owners.specs.Traces.{IsOf};
 
 use super::{Owners, Pass, Release, Share};
-use crate::mark::Open;
+use crate::error::CountFull;
+use crate::mark::{Open, Whole};
 use std::sync::Wait;
 use std::test::Fail;
 use std::thread::{Threads, join};
@@ -29,6 +32,37 @@ fn last_of_two(rt: HostRuntime) -> Result<(), Fail> {
     owners.learn(&mut other, &pass);
     assert!(rt; owners.alone_as(&second, &mut other));
     assert!(rt; matches!(owners.down_as(second, &mut other), Release::Last(_)));
+    Ok(())
+}
+
+/// The replies where the word counts three owners at most: two are made, a third is refused, the second one made is
+/// released, not as the last, and then there is room again. No other reply can come, and the history is exactly this.
+fn worked_run<R: Wait>(rt: &R) -> Pass<Whole>
+    ensures seen { entries_of result.trace.lines ≡ Up 0 1 ∷ Up 0 2 ∷ Full 0 ∷ Down 2 ∷ Up 0 3 ∷ [] }
+    ensures made { made_by result.trace.number result.trace.lines ≡ Up 0 1 ∷ Up 0 2 ∷ Full 0 ∷ Down 2 ∷ Up 0 3 ∷ [] }
+{
+    let (owners, first, mut pass) = Owners::<3, Whole>::new();
+    let Ok(_second) = owners.up_as(rt, &first, &mut pass) else {
+        unreachable!()
+    };
+    let Ok(third) = owners.up_as(rt, &first, &mut pass) else {
+        unreachable!()
+    };
+    let Err(CountFull) = owners.up_as(rt, &first, &mut pass) else {
+        unreachable!()
+    };
+    let Release::NotLast = owners.down_as(third, &mut pass) else {
+        unreachable!()
+    };
+    let Ok(_fourth) = owners.up_as(rt, &first, &mut pass) else {
+        unreachable!()
+    };
+    pass
+}
+
+#[test]
+fn replies_at_three(rt: HostRuntime) -> Result<(), Fail> {
+    let _pass = worked_run(&rt);
     Ok(())
 }
 
