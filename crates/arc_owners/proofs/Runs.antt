@@ -1,5 +1,7 @@
 -- Runs of one pass alone: under `Whole` nothing comes between two of its calls, so each reply follows from the history so far.
-use Rattle.std.proofs.Common.{◌≡◌, ℕ, ◌<◌, Bool, true, List, [], ◌∷◌, ◌++◌, length, refl, sym, ap, ◌∙◌, subst, arith}
+use Rattle.std.proofs.Common.{◌≡◌, ℕ, ◌<◌, Bool, true, List, [], ◌∷◌, ◌++◌, length, refl, sym, ap, ◌∙◌, subst, arith, lit<}
+use Rattle.std.specs.List.{Contains}
+use Rattle.std.proofs.lemmas.List.Elements.{Contains-append_right}
 use Rattle.arc_owners.specs.declared.owners.entry.Entry.{Entry}
 use Rattle.arc_owners.specs.declared.owners.entry.Entry.TheVariants.{Up, Full, Down}
 use Rattle.arc_owners.specs.declared.owners.word.Right.{Right}
@@ -72,3 +74,9 @@ module _ (t : Names) (whole : t.whole ≡ true) (p r : Trace) (h : List Entry) (
   -- an end is not that of the last owner where others live
   pub not-last : (o : ℕ) → 1 < length (live_owners h) → Ends t p r o true → ⊥
   not-last o others e = let alone : LivesAlone o h = subst (λ (es : List Entry). LivesAlone o es) (here e.0 e.1.0) (e.2.0 refl) in absurd (omega (arith, ap length alone))
+
+-- under either mark an end stands in what its pass has seen since
+pub ended-in : (t : Names) (p r : Trace) (o : ℕ) (last : Bool) → Ends t p r o last → Contains (entries_of r.lines) (Down o)
+ended-in t p r o last e =
+    subst (λ (es : List Entry). Contains es (Down o)) (sym (ap entries_of e.1.1 ∙ entries-append e.0 p.number (Down o)))
+    (Contains-append_right (entries_of e.0) (Down o ∷ []) (Down o) (0, lit< tt, refl))
