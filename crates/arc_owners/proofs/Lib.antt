@@ -5,3 +5,4 @@ pub mod Steps
 pub mod Told
 pub mod Rows
 pub mod Book
+pub mod Runs

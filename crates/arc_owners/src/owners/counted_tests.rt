@@ -1,9 +1,15 @@
 //! Owners whose word began with a count: the replies at the greatest count, and two threads.
-ghost use Rattle.std.specs.Prelude.{◌≡◌, []};
-ghost use Rattle.arc_owners.specs.Traces.{IsOf};
+ghost use Rattle.std.specs.Prelude.{◌≡◌, List, [], ◌∷◌, ◌++◌, IsTrue, ◌↔◌};
+ghost use Rattle.std.specs.List.{Contains};
+ghost use mathlib.Core.List.{IsPrefix};
+ghost use Rattle.arc_owners.specs.declared.owners.entry.Entry.TheVariants.{Up, Full, Down, Alone};
+ghost use Rattle.arc_owners.specs.Histories.{LivesAlone};
+ghost use Rattle.arc_owners.specs.Book.{Line, entries_of, made_by};
+ghost use Rattle.arc_owners.specs.Traces.{IsOf, SamePass};
 
 use super::{Owners, Pass, Release, Share};
-use crate::mark::Open;
+use crate::error::CountFull;
+use crate::mark::{Open, Whole};
 use std::sync::Wait;
 use std::test::Fail;
 use std::thread::{Threads, join};
@@ -29,6 +35,37 @@ fn last_of_two(rt: HostRuntime) -> Result<(), Fail> {
     owners.learn(&mut other, &pass);
     assert!(rt; owners.alone_as(&second, &mut other));
     assert!(rt; matches!(owners.down_as(second, &mut other), Release::Last(_)));
+    Ok(())
+}
+
+/// The replies where the word counts three owners at most: two are made, a third is refused, the second one made is
+/// released, not as the last, and then there is room again. No other reply can come, and the history is exactly this.
+fn worked_run<R: Wait>(rt: &R) -> Pass<Whole>
+    ensures seen { entries_of result.trace.lines ≡ Up 0 1 ∷ Up 0 2 ∷ Full 0 ∷ Down 2 ∷ Up 0 3 ∷ [] }
+    ensures made { made_by result.trace.number result.trace.lines ≡ Up 0 1 ∷ Up 0 2 ∷ Full 0 ∷ Down 2 ∷ Up 0 3 ∷ [] }
+{
+    let (owners, first, mut pass) = Owners::<3, Whole>::new();
+    let Ok(_second) = owners.up_as(rt, &first, &mut pass) else {
+        unreachable!()
+    };
+    let Ok(third) = owners.up_as(rt, &first, &mut pass) else {
+        unreachable!()
+    };
+    let Err(CountFull) = owners.up_as(rt, &first, &mut pass) else {
+        unreachable!()
+    };
+    let Release::NotLast = owners.down_as(third, &mut pass) else {
+        unreachable!()
+    };
+    let Ok(_fourth) = owners.up_as(rt, &first, &mut pass) else {
+        unreachable!()
+    };
+    pass
+}
+
+#[test]
+fn replies_at_three(rt: HostRuntime) -> Result<(), Fail> {
+    let _pass = worked_run(&rt);
     Ok(())
 }
 
@@ -73,5 +110,70 @@ fn alone_after_two<R: Threads + Wait + Sync>(rt: &R) -> bool {
 #[test]
 fn alone_after_threads(rt: HostRuntime) -> Result<(), Fail> {
     assert!(rt; alone_after_two(&rt));
+    Ok(())
+}
+
+/// Ends an owner, and hands the pass back.
+fn ended(owners: &Owners<8, Open>, share: Share<Open>, pass: Pass<Open>) -> Pass<Open>
+    requires share { share.right.names ≡ owners.now.word }
+    requires pass { IsOf owners.now.word pass.trace }
+    ensures same { SamePass owners.now.word pass.trace result.trace }
+    ensures ended { Contains (entries_of result.trace.lines) (Down share.right.owner) }
+{
+    let mut pass = pass;
+    owners.down_as(share, &mut pass);
+    pass
+}
+
+/// Reads whether an owner is alone, whatever that is now, and hands the pass back.
+fn looked(owners: &Owners<8, Open>, share: &Share<Open>, pass: Pass<Open>) -> Pass<Open>
+    requires share { share.now.right.names ≡ owners.now.word }
+    requires pass { IsOf owners.now.word pass.trace }
+    ensures { SamePass owners.now.word pass.trace result.trace }
+{
+    let mut pass = pass;
+    owners.alone_as(share, &mut pass);
+    pass
+}
+
+/// A second thread ends an owner with a pass of its own, while this one looks. After the join this one learns what that pass
+/// has seen, and asks whether the first owner is alone. It answers that, with its own pass and the other one.
+fn alone_after_end<R: Threads>(
+    rt: &R,
+    owners: &Owners<8, Open>,
+    first: &Share<Open>,
+    second: Share<Open>,
+    mine: Pass<Open>,
+    other: Pass<Open>,
+) -> (bool, Pass<Open>, Pass<Open>)
+    requires shares { (first.now.right.names ≡ owners.now.word) × (second.right.names ≡ owners.now.word) }
+    requires passes { IsOf owners.now.word mine.trace × IsOf owners.now.word other.trace }
+    ensures same { SamePass owners.now.word mine.trace result.1.trace × SamePass owners.now.word other.trace result.2.trace }
+    ensures ended { Contains (entries_of result.2.trace.lines) (Down second.right.owner) }
+    ensures asked { (before : List Line) × IsPrefix result.2.trace.lines before × (result.1.trace.lines ≡ before ++ (mine.trace.number, Alone first.now.right.owner result.0) ∷ []) × (IsTrue result.0 ↔ LivesAlone first.now.right.owner (entries_of before)) }
+{
+    let (other, mut mine) = join(
+        rt,
+        || -> Pass<Open>
+            requires { (second.right.names ≡ owners.now.word) × IsOf owners.now.word other.trace }
+            ensures { SamePass owners.entry.now.word other.trace result.trace × Contains (entries_of result.trace.lines) (Down second.right.owner) }
+        { ended(owners, second, other) },
+        || -> Pass<Open>
+            requires { (first.now.right.names ≡ owners.now.word) × IsOf owners.now.word mine.trace }
+            ensures { SamePass owners.entry.now.word mine.trace result.trace }
+        { looked(owners, first, mine) },
+    );
+    owners.learn(&mut mine, &other);
+    let alone = owners.alone_as(first, &mut mine);
+    (alone, mine, other)
+}
+
+#[test]
+fn alone_after_other_ended(rt: HostRuntime) -> Result<(), Fail> {
+    let (owners, first, mut pass) = Owners::<8, Open>::new();
+    let second = owners.up_as(&rt, &first, &mut pass)?;
+    let other = owners.pass(&second);
+    let (alone, _mine, _other) = alone_after_end(&rt, &owners, &first, second, pass, other);
+    assert!(rt; alone);
     Ok(())
 }
