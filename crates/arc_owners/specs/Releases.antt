@@ -1,8 +1,14 @@
 -- Whether an owner's end was that of the last one.
 use Rattle.std.specs.Prelude.{Bool, true, false}
-use Rattle.arc_owners.specs.declared.owners.counted.Release.{Release}
-use Rattle.arc_owners.specs.declared.owners.counted.Release.TheVariants.{Last, NotLast}
+use Rattle.arc_owners.specs.declared.owners.tokens.Release.{Release}
+use Rattle.arc_owners.specs.declared.owners.tokens.Term.{Term}
+use Rattle.arc_owners.specs.declared.owners.tokens.Release.TheVariants.{Last, NotLast}
 
 abbrev pub is_last : Release → Bool
-is_last (Last l) = true
+is_last (Last term) = true
 is_last NotLast = false
+
+-- what holds of the right to end the lifetime, where it was the last owner
+abbrev pub IfLast : Release → (Term → Type 0) → Type 0
+IfLast (Last term) φ = φ term
+IfLast NotLast φ = Unit {0}

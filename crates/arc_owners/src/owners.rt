@@ -5,14 +5,16 @@ mod entry;
 mod event;
 mod interleavings;
 mod replays;
+mod tokens;
 mod word;
 mod world;
 
-pub use counted::{Last, Owners, Pass, Release, Share};
 pub use entry::Entry;
 pub use event::Event;
 pub use interleavings::keeps;
 pub use replays::{replay, replay_lone};
+pub use tokens::{Owners, Pass, Release, Share, Sole, Term};
+pub use word::Lodging;
 pub use world::World;
 
 #[cfg(test)]

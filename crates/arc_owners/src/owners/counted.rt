@@ -1,56 +1,17 @@
 //! The owners of a block whose word began with a count.
-ghost use Rattle.std.specs.Prelude.{◌≡◌, ◌≤◌, true, false, [], IfSome, IfNone, IfOk, IfErr};
+ghost use Rattle.std.specs.Prelude.{◌≡◌, ◌≢◌, ◌≤◌, ◌==◌, true, false, [], IfSome, IfNone, IfOk, IfErr};
 ghost use mathlib.Core.List.{IsPrefix};
 ghost use Rattle.arc_owners.specs.declared.owners.entry.Entry.TheVariants.{Alone, Full};
 ghost use Rattle.arc_owners.specs.Book.{made_by};
+ghost use Rattle.arc_owners.specs.Releases.{is_last, IfLast};
 ghost use Rattle.arc_owners.specs.Traces.{IsOf, SamePass, Wrote};
 
-use super::word::{Right, Spoils, Trace, Word};
+use super::tokens::{Owners, Pass, Release, Share, Sole, Term};
+use super::word::{Lodging, Right, Spoils, Trace, Word};
 use crate::error::CountFull;
 use crate::mark::{Mark, Open};
 use std::marker::PhantomData;
 use std::sync::Wait;
-
-/// The count of a block's owners, in one word, which threads step on by reference. `MAX` is the greatest count.
-#[derive(Drop)]
-pub struct Owners<const MAX: u64, H: Mark = Open> {
-    word: Word,
-    mark: PhantomData<H>,
-    ghost marked: { word.whole ≡ H.whole },
-    ghost began: { word.counted ≡ true },
-}
-
-/// One owner of a block. Dropped, it is a forgotten one, which stays an owner for good.
-#[derive(Drop)]
-pub struct Share<H: Mark = Open> {
-    right: Right,
-    mark: PhantomData<H>,
-    ghost held: { right.held ≡ true },
-    ghost lent: { right.lease.is_lent ≡ true },
-}
-
-/// What one caller has seen of a block's history, and made of it. It has no bytes.
-#[derive(Drop)]
-pub struct Pass<H: Mark = Open> {
-    trace: Trace,
-    mark: PhantomData<H>,
-}
-
-/// The end of the last owner: the right to end the lifetime for which the block is lent.
-#[derive(Drop)]
-pub struct Last {
-    spoils: Spoils,
-    ghost last: { spoils.last ≡ true },
-}
-
-/// What an owner's end finds.
-#[derive(Drop)]
-pub enum Release {
-    /// It was the last owner.
-    Last(Last),
-    /// Other owners live.
-    NotLast,
-}
 
 impl<H: Mark> Pass<H> {
     /// A pass of no block.
@@ -64,9 +25,45 @@ impl<H: Mark> Pass<H> {
     }
 }
 
+/// What an owner's end leaves that found this number.
+fn released(found: u64, last: Spoils) -> Release
+    requires { last.last ≡ (found == 1) }
+    ensures last { is_last result ≡ (found == 1) }
+    ensures term { IfLast result (λ term. term.spoils ≡ last) }
+{
+    if found == 1 {
+        Release::Last(Term { spoils: last })
+    } else {
+        Release::NotLast
+    }
+}
+
+/// What an owner has that asked for the block back, and found this number.
+fn claimed<H: Mark>(found: u64, right: Right, last: Spoils) -> Result<(Sole<H>, Term), Share<H>>
+    requires right { (right.held ≡ true) × (right.names.counted ≡ true) }
+    requires alone { found ≡ 1 → (right.lease.is_lent ≡ false) × (last.last ≡ true) }
+    requires others { found ≢ 1 → right.lease.is_lent ≡ true }
+    ensures alone { IfOk result (λ r. (found ≡ 1) × (r.0.right ≡ right) × (r.1.spoils ≡ last)) }
+    ensures others { IfErr result (λ s. (found ≢ 1) × (s.right ≡ right)) }
+{
+    if found == 1 {
+        Ok((
+            Sole {
+                right,
+                mark: PhantomData,
+            },
+            Term { spoils: last },
+        ))
+    } else {
+        Err(Share {
+            right,
+            mark: PhantomData,
+        })
+    }
+}
+
 impl<const MAX: u64, H: Mark> Owners<MAX, H> {
-    ghost use Rattle.arc_owners.specs.Releases.{is_last};
-    ghost use Rattle.arc_owners.specs.Traces.{RaisedIf, Ends};
+    ghost use Rattle.arc_owners.specs.Traces.{RaisedIf, Ends, Claimed, IsLodged};
 
     /// The owners of a new block: one owner, and a pass that has seen nothing.
     pub fn new() -> (Owners<MAX, H>, Share<H>, Pass<H>)
@@ -158,15 +155,78 @@ impl<const MAX: u64, H: Mark> Owners<MAX, H> {
         requires pass { IsOf self.now.word pass.old.trace }
         ensures same { SamePass self.now.word pass.old.trace pass.new.trace }
         ensures entry { Ends self.now.word pass.old.trace pass.new.trace share.right.owner (is_last result) }
+        ensures term { IfLast result (λ term. term.spoils.lease ≡ share.right.lease) }
     {
         let mut last = Spoils::none();
         let mut right = share.right;
         let found = self.word.lower(&mut right, &mut pass.trace, &mut last);
-        if found == 1 {
-            Release::Last(Last { spoils: last })
-        } else {
-            Release::NotLast
-        }
+        released(found, last)
+    }
+
+    /// `down_as` on the place of the word, which may be gone before the call returns.
+    ///
+    /// # Safety
+    ///
+    /// The word lies at this place for as long as the block is lent: the lodging says so.
+    pub unsafe fn down_raw(
+        place: *const u64,
+        lodging: &Lodging,
+        share: Share<H>,
+        pass: &mut Pass<H>,
+    ) -> Release
+        requires share { share.right.names ≡ lodging.now.names }
+        requires pass { IsOf lodging.now.names pass.old.trace }
+        requires place { IsLodged lodging.now place share.right.lease }
+        ensures same { SamePass lodging.now.names pass.old.trace pass.new.trace }
+        ensures entry { Ends lodging.now.names pass.old.trace pass.new.trace share.right.owner (is_last result) }
+        ensures term { IfLast result (λ term. term.spoils.lease ≡ share.right.lease) }
+    {
+        let mut last = Spoils::none();
+        let mut right = share.right;
+        let found = unsafe {
+            Word::lower_raw(place, lodging, &mut right, &mut pass.trace, &mut last)
+        };
+        released(found, last)
+    }
+
+    /// Reads whether the owner is alone, as `alone_as` does, and takes the block back where it is. Otherwise the owner is handed back.
+    pub fn claim_as(&self, share: Share<H>, pass: &mut Pass<H>) -> Result<(Sole<H>, Term), Share<H>>
+        requires share { share.right.names ≡ self.now.word }
+        requires pass { IsOf self.now.word pass.old.trace }
+        ensures same { SamePass self.now.word pass.old.trace pass.new.trace }
+        ensures alone { IfOk result (λ r. Wrote self.now.word pass.old.trace pass.new.trace (Alone share.right.owner true) × Claimed self.now.word share.right r.0.right true × (r.1.spoils.lease ≡ share.right.lease)) }
+        ensures others { IfErr result (λ s. Wrote self.now.word pass.old.trace pass.new.trace (Alone share.right.owner false) × Claimed self.now.word share.right s.right false) }
+    {
+        let mut last = Spoils::none();
+        let mut right = share.right;
+        let found = self.word.claim(&mut right, &mut pass.trace, &mut last);
+        claimed(found, right, last)
+    }
+
+    /// `claim_as` on the place of the word.
+    ///
+    /// # Safety
+    ///
+    /// The word lies at this place for as long as the block is lent: the lodging says so.
+    pub unsafe fn claim_raw(
+        place: *const u64,
+        lodging: &Lodging,
+        share: Share<H>,
+        pass: &mut Pass<H>,
+    ) -> Result<(Sole<H>, Term), Share<H>>
+        requires share { share.right.names ≡ lodging.now.names }
+        requires pass { IsOf lodging.now.names pass.old.trace }
+        requires place { IsLodged lodging.now place share.right.lease }
+        ensures same { SamePass lodging.now.names pass.old.trace pass.new.trace }
+        ensures alone { IfOk result (λ r. Wrote lodging.now.names pass.old.trace pass.new.trace (Alone share.right.owner true) × Claimed lodging.now.names share.right r.0.right true × (r.1.spoils.lease ≡ share.right.lease)) }
+        ensures others { IfErr result (λ s. Wrote lodging.now.names pass.old.trace pass.new.trace (Alone share.right.owner false) × Claimed lodging.now.names share.right s.right false) }
+    {
+        let mut last = Spoils::none();
+        let mut right = share.right;
+        let found = unsafe {
+            Word::claim_raw(place, lodging, &mut right, &mut pass.trace, &mut last)
+        };
+        claimed(found, right, last)
     }
 
     /// Afterwards the first pass has seen at least what the other had. It adds no entry.
@@ -179,6 +239,32 @@ impl<const MAX: u64, H: Mark> Owners<MAX, H> {
         ensures mine { made_by pass.old.trace.number pass.new.trace.lines ≡ made_by pass.old.trace.number pass.old.trace.lines }
     {
         pass.trace.learn(&other.trace);
+    }
+}
+
+impl<H: Mark> Sole<H> {
+    ghost use Rattle.arc_owners.specs.Traces.{SamePass, Ends};
+
+    /// Lends the block anew, under the same history: the same owner, for a new lifetime. It adds no entry.
+    pub fn lend(self) -> Share<H>
+        ensures same { (result.right.names ≡ self.right.names) × (result.right.owner ≡ self.right.owner) × (result.right.born ≡ self.right.born) }
+    {
+        let mut right = self.right;
+        right.lend();
+        Share {
+            right,
+            mark: PhantomData,
+        }
+    }
+
+    /// Ends this owner, the last one, without an atomic step. The word stays as it was.
+    pub fn end_as(self, pass: &mut Pass<H>)
+        requires pass { IsOf self.right.names pass.old.trace }
+        ensures same { SamePass self.right.names pass.old.trace pass.new.trace }
+        ensures entry { Ends self.right.names pass.old.trace pass.new.trace self.right.owner true }
+    {
+        let mut right = self.right;
+        right.finish(&mut pass.trace);
     }
 }
 

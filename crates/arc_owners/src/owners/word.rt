@@ -62,11 +62,11 @@ impl Model for Trace {
 }
 
 /// That a count's word lies at a place for as long as its block is lent. It has no bytes, and can be had again.
-pub(crate) struct Lodging {
+pub struct Lodging {
     marker: PhantomData<()>,
-    pub(crate) ghost names: { Names } by { names_coded },
-    pub(crate) ghost at: { Ptr } by { coded_ptr },
-    pub(crate) ghost lifetime: { ℕ },
+    pub ghost names: { Names } by { names_coded },
+    pub ghost at: { Ptr } by { coded_ptr },
+    pub ghost lifetime: { ℕ },
 }
 
 impl Model for Lodging {
@@ -245,7 +245,11 @@ impl Trace {
 
 impl Lodging {
     /// The word lies at this place.
-    pub(crate) unsafe fn new(place: *const u64) -> Lodging
+    ///
+    /// # Safety
+    ///
+    /// The word is lodged there: a borrow of it, for the lifetime of the block's lease, stands behind an invariant.
+    pub unsafe fn new(place: *const u64) -> Lodging
         ghost of: { Names × ℕ }
         requires* { sem 𝓛 (lodged of.0 place of.1) }
         ensures { (result.names ≡ of.0) × (result.at ≡ place) × (result.lifetime ≡ of.1) }
@@ -257,7 +261,7 @@ impl Lodging {
     }
 
     /// The same again.
-    pub(crate) fn again(&self) -> Lodging
+    pub fn again(&self) -> Lodging
         ensures { (result.names ≡ self.now.names) × (result.at ≡ self.now.at) × (result.lifetime ≡ self.now.lifetime) }
     {
         Lodging {

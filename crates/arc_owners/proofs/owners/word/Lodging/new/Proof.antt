@@ -28,7 +28,6 @@ use Rattle.arc_owners.specs.contracts.owners.word.Lodging as Lodging
 use Rattle.arc_owners.specs.contracts.owners.word.Lodging.new as f
 use Rattle.arc_owners.proofs.owners.word.Lodging.new.Statement.{statement}
 use Rattle.arc_owners.proofs.owners.word.Lodging.new.Code as code
-
 use denote.RawPtr.{RawPtr, ptr_val, rawptr_vals, rawptr_Tells}
 use Rattle.core.proofs.atomic.Steps.{Ptr-Good}
 

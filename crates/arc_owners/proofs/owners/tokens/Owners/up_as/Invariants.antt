@@ -1,5 +1,5 @@
 use Rattle.std.proofs.Common.{◌≡◌}
-use Rattle.arc_owners.proofs.owners.counted.Owners.up_as.Given as goal
+use Rattle.arc_owners.proofs.owners.tokens.Owners.up_as.Given as goal
 
 abbrev pub invariant-loop : goal.invariant-loop
 invariant-loop g l =

@@ -1,0 +1,59 @@
+//! The types of a count: the count itself, one owner of it, what a caller has seen of it, and what ends leave.
+ghost use Rattle.std.specs.Prelude.{◌≡◌, true, false};
+
+use super::word::{Right, Spoils, Trace, Word};
+use crate::mark::{Mark, Open};
+use std::marker::PhantomData;
+
+/// The count of a block's owners, in one word, which threads step on by reference. `MAX` is the greatest count.
+#[derive(Drop)]
+pub struct Owners<const MAX: u64, H: Mark = Open> {
+    pub(super) word: Word,
+    pub(super) mark: PhantomData<H>,
+    ghost marked: { word.whole ≡ H.whole },
+    ghost began: { word.counted ≡ true },
+}
+
+/// One owner of a block. Dropped, it is a forgotten one, which stays an owner for good.
+#[derive(Drop)]
+pub struct Share<H: Mark = Open> {
+    pub(super) right: Right,
+    pub(super) mark: PhantomData<H>,
+    ghost held: { right.held ≡ true },
+    ghost lent: { right.lease.is_lent ≡ true },
+    ghost began: { right.names.counted ≡ true },
+}
+
+/// A sole owner who took the block back whole: no other owner lives, and the block isn't lent. It lends it anew, or ends.
+#[derive(Drop)]
+pub struct Sole<H: Mark = Open> {
+    pub(super) right: Right,
+    pub(super) mark: PhantomData<H>,
+    ghost held: { right.held ≡ true },
+    ghost taken: { right.lease.is_lent ≡ false },
+    ghost began: { right.names.counted ≡ true },
+}
+
+/// What one caller has seen of a block's history, and made of it. It has no bytes.
+#[derive(Drop)]
+pub struct Pass<H: Mark = Open> {
+    pub(super) trace: Trace,
+    pub(super) mark: PhantomData<H>,
+}
+
+/// The right to end the lifetime for which a block was lent. It is handed out once: to the last owner at its end, or to a sole owner
+/// who takes the block back.
+#[derive(Drop)]
+pub struct Term {
+    pub(super) spoils: Spoils,
+    ghost whole: { spoils.last ≡ true },
+}
+
+/// What an owner's end finds.
+#[derive(Drop)]
+pub enum Release {
+    /// It was the last owner.
+    Last(Term),
+    /// Other owners live.
+    NotLast,
+}
