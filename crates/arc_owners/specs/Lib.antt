@@ -6,3 +6,4 @@ pub mod Laws
 pub mod Book
 pub mod Traces
 pub mod Releases
+pub mod Passes

@@ -5,6 +5,7 @@ mod entry;
 mod event;
 mod interleavings;
 mod replays;
+mod sole;
 mod tokens;
 mod word;
 mod world;

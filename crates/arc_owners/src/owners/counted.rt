@@ -2,9 +2,9 @@
 ghost use Rattle.std.specs.Prelude.{◌≡◌, ◌≢◌, ◌≤◌, ◌==◌, true, false, [], IfSome, IfNone, IfOk, IfErr};
 ghost use mathlib.Core.List.{IsPrefix};
 ghost use Rattle.arc_owners.specs.declared.owners.entry.Entry.TheVariants.{Alone, Full};
-ghost use Rattle.arc_owners.specs.Book.{made_by};
+ghost use Rattle.arc_owners.specs.Passes.{block_of, number_of, birth_of, lease_of, IsOwnerOf, IsPassOf, IsPassOfNone, IsSamePass, AddsEntry, MakesOwner, EndsOwner, IsTermOf, history_of, mine};
 ghost use Rattle.arc_owners.specs.Releases.{is_last, IfLast};
-ghost use Rattle.arc_owners.specs.Traces.{IsOf, SamePass, Wrote};
+ghost use Rattle.arc_owners.specs.Traces.{IsLodged};
 
 use super::tokens::{Owners, Pass, Release, Share, Sole, Term};
 use super::word::{Lodging, Right, Spoils, Trace, Word};
@@ -16,7 +16,7 @@ use std::sync::Wait;
 impl<H: Mark> Pass<H> {
     /// A pass of no block.
     pub fn none() -> Pass<H>
-        ensures { result.trace.bound ≡ false }
+        ensures { IsPassOfNone result }
     {
         Pass {
             trace: Trace::none(),
@@ -38,39 +38,13 @@ fn released(found: u64, last: Spoils) -> Release
     }
 }
 
-/// What an owner has that asked for the block back, and found this number.
-fn claimed<H: Mark>(found: u64, right: Right, last: Spoils) -> Result<(Sole<H>, Term), Share<H>>
-    requires right { (right.held ≡ true) × (right.names.counted ≡ true) }
-    requires alone { found ≡ 1 → (right.lease.is_lent ≡ false) × (last.last ≡ true) }
-    requires others { found ≢ 1 → right.lease.is_lent ≡ true }
-    ensures alone { IfOk result (λ r. (found ≡ 1) × (r.0.right ≡ right) × (r.1.spoils ≡ last)) }
-    ensures others { IfErr result (λ s. (found ≢ 1) × (s.right ≡ right)) }
-{
-    if found == 1 {
-        Ok((
-            Sole {
-                right,
-                mark: PhantomData,
-            },
-            Term { spoils: last },
-        ))
-    } else {
-        Err(Share {
-            right,
-            mark: PhantomData,
-        })
-    }
-}
-
 impl<const MAX: u64, H: Mark> Owners<MAX, H> {
-    ghost use Rattle.arc_owners.specs.Traces.{RaisedIf, Ends, Claimed, IsLodged};
-
     /// The owners of a new block: one owner, and a pass that has seen nothing.
     pub fn new() -> (Owners<MAX, H>, Share<H>, Pass<H>)
         requires { 2 ≤ MAX }
-        ensures most { result.0.word.most ≡ MAX }
-        ensures share { (result.1.right.names ≡ result.0.word) × (result.1.right.owner ≡ 0) × (result.1.right.born ≡ []) }
-        ensures pass { IsOf result.0.word result.2.trace × (result.2.trace.lines ≡ []) }
+        ensures most { (block_of result.0).most ≡ MAX }
+        ensures share { IsOwnerOf (block_of result.0) result.1 × (number_of result.1 ≡ 0) × (birth_of result.1 ≡ []) }
+        ensures pass { IsPassOf (block_of result.0) result.2 × (history_of result.2 ≡ []) }
     {
         let (word, right, trace) = Word::open(MAX, H::is_whole());
         (
@@ -91,23 +65,23 @@ impl<const MAX: u64, H: Mark> Owners<MAX, H> {
 
     /// Reads whether the owner is alone. One load, and one entry, which says what is answered.
     pub fn alone_as(&self, by: &Share<H>, pass: &mut Pass<H>) -> bool
-        requires share { by.now.right.names ≡ self.now.word }
-        requires pass { IsOf self.now.word pass.old.trace }
-        ensures same { SamePass self.now.word pass.old.trace pass.new.trace }
-        ensures entry { Wrote self.now.word pass.old.trace pass.new.trace (Alone by.now.right.owner result) }
+        requires share { IsOwnerOf (block_of self.now) by.now }
+        requires pass { IsPassOf (block_of self.now) pass.old }
+        ensures same { IsSamePass (block_of self.now) pass.old pass.new }
+        ensures entry { AddsEntry (block_of self.now) pass.old pass.new (Alone (number_of by.now) result) }
     {
         self.word.look(&by.right, &mut pass.trace) == 1
     }
 
     /// One try to raise the count: nothing where the number changed between its two steps.
     fn try_up(&self, by: &Share<H>, pass: &mut Pass<H>) -> Option<Result<Share<H>, CountFull>>
-        requires most { self.now.word.most ≡ MAX }
-        requires share { by.now.right.names ≡ self.now.word }
-        requires pass { IsOf self.now.word pass.old.trace }
-        ensures same { SamePass self.now.word pass.old.trace pass.new.trace }
-        ensures made { IfSome result (λ r. IfOk r (λ s. RaisedIf self.now.word pass.old.trace pass.new.trace by.now.right s.right true)) }
-        ensures full { IfSome result (λ r. IfErr r (λ _. Wrote self.now.word pass.old.trace pass.new.trace (Full by.now.right.owner))) }
-        ensures again { IfNone result (pass.new.trace.lines ≡ pass.old.trace.lines) }
+        requires most { (block_of self.now).most ≡ MAX }
+        requires share { IsOwnerOf (block_of self.now) by.now }
+        requires pass { IsPassOf (block_of self.now) pass.old }
+        ensures same { IsSamePass (block_of self.now) pass.old pass.new }
+        ensures made { IfSome result (λ r. IfOk r (λ s. MakesOwner (block_of self.now) pass.old pass.new by.now s)) }
+        ensures full { IfSome result (λ r. IfErr r (λ _. AddsEntry (block_of self.now) pass.old pass.new (Full (number_of by.now)))) }
+        ensures again { IfNone result (history_of pass.new ≡ history_of pass.old) }
     {
         let old = self.word.glance(&by.right, &mut pass.trace);
         if old == MAX {
@@ -134,12 +108,12 @@ impl<const MAX: u64, H: Mark> Owners<MAX, H> {
         by: &Share<H>,
         pass: &mut Pass<H>,
     ) -> Result<Share<H>, CountFull>
-        requires most { self.now.word.most ≡ MAX }
-        requires share { by.now.right.names ≡ self.now.word }
-        requires pass { IsOf self.now.word pass.old.trace }
-        ensures same { SamePass self.now.word pass.old.trace pass.new.trace }
-        ensures made { IfOk result (λ s. RaisedIf self.now.word pass.old.trace pass.new.trace by.now.right s.right true) }
-        ensures full { IfErr result (λ _. Wrote self.now.word pass.old.trace pass.new.trace (Full by.now.right.owner)) }
+        requires most { (block_of self.now).most ≡ MAX }
+        requires share { IsOwnerOf (block_of self.now) by.now }
+        requires pass { IsPassOf (block_of self.now) pass.old }
+        ensures same { IsSamePass (block_of self.now) pass.old pass.new }
+        ensures made { IfOk result (λ s. MakesOwner (block_of self.now) pass.old pass.new by.now s) }
+        ensures full { IfErr result (λ _. AddsEntry (block_of self.now) pass.old pass.new (Full (number_of by.now))) }
     {
         for _ in rt.forever() {
             if let Some(made) = self.try_up(by, pass) {
@@ -151,11 +125,11 @@ impl<const MAX: u64, H: Mark> Owners<MAX, H> {
 
     /// Ends an owner by one subtraction. It says whether that was the last one.
     pub fn down_as(&self, share: Share<H>, pass: &mut Pass<H>) -> Release
-        requires share { share.right.names ≡ self.now.word }
-        requires pass { IsOf self.now.word pass.old.trace }
-        ensures same { SamePass self.now.word pass.old.trace pass.new.trace }
-        ensures entry { Ends self.now.word pass.old.trace pass.new.trace share.right.owner (is_last result) }
-        ensures term { IfLast result (λ term. term.spoils.lease ≡ share.right.lease) }
+        requires share { IsOwnerOf (block_of self.now) share }
+        requires pass { IsPassOf (block_of self.now) pass.old }
+        ensures same { IsSamePass (block_of self.now) pass.old pass.new }
+        ensures entry { EndsOwner (block_of self.now) pass.old pass.new (number_of share) (is_last result) }
+        ensures term { IfLast result (λ term. IsTermOf share term) }
     {
         let mut last = Spoils::none();
         let mut right = share.right;
@@ -174,12 +148,12 @@ impl<const MAX: u64, H: Mark> Owners<MAX, H> {
         share: Share<H>,
         pass: &mut Pass<H>,
     ) -> Release
-        requires share { share.right.names ≡ lodging.now.names }
-        requires pass { IsOf lodging.now.names pass.old.trace }
-        requires place { IsLodged lodging.now place share.right.lease }
-        ensures same { SamePass lodging.now.names pass.old.trace pass.new.trace }
-        ensures entry { Ends lodging.now.names pass.old.trace pass.new.trace share.right.owner (is_last result) }
-        ensures term { IfLast result (λ term. term.spoils.lease ≡ share.right.lease) }
+        requires share { IsOwnerOf lodging.now.names share }
+        requires pass { IsPassOf lodging.now.names pass.old }
+        requires place { IsLodged lodging.now place (lease_of share) }
+        ensures same { IsSamePass lodging.now.names pass.old pass.new }
+        ensures entry { EndsOwner lodging.now.names pass.old pass.new (number_of share) (is_last result) }
+        ensures term { IfLast result (λ term. IsTermOf share term) }
     {
         let mut last = Spoils::none();
         let mut right = share.right;
@@ -189,92 +163,26 @@ impl<const MAX: u64, H: Mark> Owners<MAX, H> {
         released(found, last)
     }
 
-    /// Reads whether the owner is alone, as `alone_as` does, and takes the block back where it is. Otherwise the owner is handed back.
-    pub fn claim_as(&self, share: Share<H>, pass: &mut Pass<H>) -> Result<(Sole<H>, Term), Share<H>>
-        requires share { share.right.names ≡ self.now.word }
-        requires pass { IsOf self.now.word pass.old.trace }
-        ensures same { SamePass self.now.word pass.old.trace pass.new.trace }
-        ensures alone { IfOk result (λ r. Wrote self.now.word pass.old.trace pass.new.trace (Alone share.right.owner true) × Claimed self.now.word share.right r.0.right true × (r.1.spoils.lease ≡ share.right.lease)) }
-        ensures others { IfErr result (λ s. Wrote self.now.word pass.old.trace pass.new.trace (Alone share.right.owner false) × Claimed self.now.word share.right s.right false) }
-    {
-        let mut last = Spoils::none();
-        let mut right = share.right;
-        let found = self.word.claim(&mut right, &mut pass.trace, &mut last);
-        claimed(found, right, last)
-    }
-
-    /// `claim_as` on the place of the word.
-    ///
-    /// # Safety
-    ///
-    /// The word lies at this place for as long as the block is lent: the lodging says so.
-    pub unsafe fn claim_raw(
-        place: *const u64,
-        lodging: &Lodging,
-        share: Share<H>,
-        pass: &mut Pass<H>,
-    ) -> Result<(Sole<H>, Term), Share<H>>
-        requires share { share.right.names ≡ lodging.now.names }
-        requires pass { IsOf lodging.now.names pass.old.trace }
-        requires place { IsLodged lodging.now place share.right.lease }
-        ensures same { SamePass lodging.now.names pass.old.trace pass.new.trace }
-        ensures alone { IfOk result (λ r. Wrote lodging.now.names pass.old.trace pass.new.trace (Alone share.right.owner true) × Claimed lodging.now.names share.right r.0.right true × (r.1.spoils.lease ≡ share.right.lease)) }
-        ensures others { IfErr result (λ s. Wrote lodging.now.names pass.old.trace pass.new.trace (Alone share.right.owner false) × Claimed lodging.now.names share.right s.right false) }
-    {
-        let mut last = Spoils::none();
-        let mut right = share.right;
-        let found = unsafe {
-            Word::claim_raw(place, lodging, &mut right, &mut pass.trace, &mut last)
-        };
-        claimed(found, right, last)
-    }
-
     /// Afterwards the first pass has seen at least what the other had. It adds no entry.
     pub fn learn(&self, pass: &mut Pass<H>, other: &Pass<H>)
-        requires pass { IsOf self.now.word pass.old.trace }
-        requires other { IsOf self.now.word other.now.trace }
-        ensures same { SamePass self.now.word pass.old.trace pass.new.trace }
-        ensures kept { IsPrefix pass.old.trace.lines pass.new.trace.lines }
-        ensures learnt { IsPrefix other.now.trace.lines pass.new.trace.lines }
-        ensures mine { made_by pass.old.trace.number pass.new.trace.lines ≡ made_by pass.old.trace.number pass.old.trace.lines }
+        requires pass { IsPassOf (block_of self.now) pass.old }
+        requires other { IsPassOf (block_of self.now) other.now }
+        ensures same { IsSamePass (block_of self.now) pass.old pass.new }
+        ensures kept { IsPrefix (history_of pass.old) (history_of pass.new) }
+        ensures learnt { IsPrefix (history_of other.now) (history_of pass.new) }
+        ensures mine { mine pass.new ≡ mine pass.old }
     {
         pass.trace.learn(&other.trace);
-    }
-}
-
-impl<H: Mark> Sole<H> {
-    ghost use Rattle.arc_owners.specs.Traces.{SamePass, Ends};
-
-    /// Lends the block anew, under the same history: the same owner, for a new lifetime. It adds no entry.
-    pub fn lend(self) -> Share<H>
-        ensures same { (result.right.names ≡ self.right.names) × (result.right.owner ≡ self.right.owner) × (result.right.born ≡ self.right.born) }
-    {
-        let mut right = self.right;
-        right.lend();
-        Share {
-            right,
-            mark: PhantomData,
-        }
-    }
-
-    /// Ends this owner, the last one, without an atomic step. The word stays as it was.
-    pub fn end_as(self, pass: &mut Pass<H>)
-        requires pass { IsOf self.right.names pass.old.trace }
-        ensures same { SamePass self.right.names pass.old.trace pass.new.trace }
-        ensures entry { Ends self.right.names pass.old.trace pass.new.trace self.right.owner true }
-    {
-        let mut right = self.right;
-        right.finish(&mut pass.trace);
     }
 }
 
 impl<const MAX: u64> Owners<MAX, Open> {
     /// A new pass, which has seen at least the entry that made this owner, and made nothing.
     pub fn pass(&self, by: &Share<Open>) -> Pass<Open>
-        requires share { by.now.right.names ≡ self.now.word }
-        ensures of { IsOf self.now.word result.trace }
-        ensures seen { IsPrefix by.now.right.born result.trace.lines }
-        ensures mine { made_by result.trace.number result.trace.lines ≡ [] }
+        requires share { IsOwnerOf (block_of self.now) by.now }
+        ensures of { IsPassOf (block_of self.now) result }
+        ensures seen { IsPrefix (birth_of by.now) (history_of result) }
+        ensures mine { mine result ≡ [] }
     {
         Pass {
             trace: by.right.fork(),

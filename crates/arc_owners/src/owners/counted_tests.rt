@@ -1,11 +1,11 @@
 //! Owners whose word began with a count: the replies at the greatest count, and two threads.
-ghost use Rattle.std.specs.Prelude.{◌≡◌, List, [], ◌∷◌, ◌++◌, IsTrue, ◌↔◌};
+ghost use Rattle.std.specs.Prelude.{◌≡◌, List, [], ◌∷◌, IsTrue, ◌↔◌};
 ghost use Rattle.std.specs.List.{Contains};
 ghost use mathlib.Core.List.{IsPrefix};
 ghost use Rattle.arc_owners.specs.declared.owners.entry.Entry.TheVariants.{Up, Full, Down, Alone};
 ghost use Rattle.arc_owners.specs.Histories.{LivesAlone};
-ghost use Rattle.arc_owners.specs.Book.{Line, entries_of, made_by};
-ghost use Rattle.arc_owners.specs.Traces.{IsOf, SamePass};
+ghost use Rattle.arc_owners.specs.Book.{Line, entries_of};
+ghost use Rattle.arc_owners.specs.Passes.{block_of, number_of, seen, mine, history_of, IsOwnerOf, IsPassOf, IsSamePass, AddsAfter};
 
 use super::{Owners, Pass, Release, Share};
 use crate::error::CountFull;
@@ -41,8 +41,8 @@ fn last_of_two(rt: HostRuntime) -> Result<(), Fail> {
 /// The replies where the word counts three owners at most: two are made, a third is refused, the second one made is
 /// released, not as the last, and then there is room again. No other reply can come, and the history is exactly this.
 fn worked_run<R: Wait>(rt: &R) -> Pass<Whole>
-    ensures seen { entries_of result.trace.lines ≡ Up 0 1 ∷ Up 0 2 ∷ Full 0 ∷ Down 2 ∷ Up 0 3 ∷ [] }
-    ensures made { made_by result.trace.number result.trace.lines ≡ Up 0 1 ∷ Up 0 2 ∷ Full 0 ∷ Down 2 ∷ Up 0 3 ∷ [] }
+    ensures seen { seen result ≡ Up 0 1 ∷ Up 0 2 ∷ Full 0 ∷ Down 2 ∷ Up 0 3 ∷ [] }
+    ensures made { mine result ≡ Up 0 1 ∷ Up 0 2 ∷ Full 0 ∷ Down 2 ∷ Up 0 3 ∷ [] }
 {
     let (owners, first, mut pass) = Owners::<3, Whole>::new();
     let Ok(_second) = owners.up_as(rt, &first, &mut pass) else {
@@ -76,8 +76,8 @@ fn thousand<R: Wait>(
     first: &Share<Open>,
     pass: Pass<Open>,
 ) -> Pass<Open>
-    requires { (owners.now.word.most ≡ 8) × (first.now.right.names ≡ owners.now.word) × IsOf owners.now.word pass.trace }
-    ensures { IsOf owners.now.word result.trace }
+    requires { ((block_of owners.now).most ≡ 8) × IsOwnerOf (block_of owners.now) first.now × IsPassOf (block_of owners.now) pass }
+    ensures { IsPassOf (block_of owners.now) result }
 {
     let mut pass = pass;
     for _ in 0..1000u32 {
@@ -95,12 +95,12 @@ fn alone_after_two<R: Threads + Wait + Sync>(rt: &R) -> bool {
     let (mut one, two) = join(
         rt,
         || -> Pass<Open>
-            requires { (owners.word.most ≡ 8) × (first.right.names ≡ owners.word) × IsOf owners.word one.trace }
-            ensures { IsOf owners.word result.trace }
+            requires { ((block_of owners).most ≡ 8) × IsOwnerOf (block_of owners) first × IsPassOf (block_of owners) one }
+            ensures { IsPassOf (block_of owners) result }
         { thousand(rt, &owners, &first, one) },
         || -> Pass<Open>
-            requires { (owners.word.most ≡ 8) × (first.right.names ≡ owners.word) × IsOf owners.word two.trace }
-            ensures { IsOf owners.word result.trace }
+            requires { ((block_of owners).most ≡ 8) × IsOwnerOf (block_of owners) first × IsPassOf (block_of owners) two }
+            ensures { IsPassOf (block_of owners) result }
         { thousand(rt, &owners, &first, two) },
     );
     owners.learn(&mut one, &two);
@@ -115,10 +115,10 @@ fn alone_after_threads(rt: HostRuntime) -> Result<(), Fail> {
 
 /// Ends an owner, and hands the pass back.
 fn ended(owners: &Owners<8, Open>, share: Share<Open>, pass: Pass<Open>) -> Pass<Open>
-    requires share { share.right.names ≡ owners.now.word }
-    requires pass { IsOf owners.now.word pass.trace }
-    ensures same { SamePass owners.now.word pass.trace result.trace }
-    ensures ended { Contains (entries_of result.trace.lines) (Down share.right.owner) }
+    requires share { IsOwnerOf (block_of owners.now) share }
+    requires pass { IsPassOf (block_of owners.now) pass }
+    ensures same { IsSamePass (block_of owners.now) pass result }
+    ensures ended { Contains (seen result) (Down (number_of share)) }
 {
     let mut pass = pass;
     owners.down_as(share, &mut pass);
@@ -127,9 +127,9 @@ fn ended(owners: &Owners<8, Open>, share: Share<Open>, pass: Pass<Open>) -> Pass
 
 /// Reads whether an owner is alone, whatever that is now, and hands the pass back.
 fn looked(owners: &Owners<8, Open>, share: &Share<Open>, pass: Pass<Open>) -> Pass<Open>
-    requires share { share.now.right.names ≡ owners.now.word }
-    requires pass { IsOf owners.now.word pass.trace }
-    ensures { SamePass owners.now.word pass.trace result.trace }
+    requires share { IsOwnerOf (block_of owners.now) share.now }
+    requires pass { IsPassOf (block_of owners.now) pass }
+    ensures { IsSamePass (block_of owners.now) pass result }
 {
     let mut pass = pass;
     owners.alone_as(share, &mut pass);
@@ -143,29 +143,53 @@ fn alone_after_end<R: Threads>(
     owners: &Owners<8, Open>,
     first: &Share<Open>,
     second: Share<Open>,
-    mine: Pass<Open>,
+    own: Pass<Open>,
     other: Pass<Open>,
 ) -> (bool, Pass<Open>, Pass<Open>)
-    requires shares { (first.now.right.names ≡ owners.now.word) × (second.right.names ≡ owners.now.word) }
-    requires passes { IsOf owners.now.word mine.trace × IsOf owners.now.word other.trace }
-    ensures same { SamePass owners.now.word mine.trace result.1.trace × SamePass owners.now.word other.trace result.2.trace }
-    ensures ended { Contains (entries_of result.2.trace.lines) (Down second.right.owner) }
-    ensures asked { (before : List Line) × IsPrefix result.2.trace.lines before × (result.1.trace.lines ≡ before ++ (mine.trace.number, Alone first.now.right.owner result.0) ∷ []) × (IsTrue result.0 ↔ LivesAlone first.now.right.owner (entries_of before)) }
+    requires shares { IsOwnerOf (block_of owners.now) first.now × IsOwnerOf (block_of owners.now) second }
+    requires passes { IsPassOf (block_of owners.now) own × IsPassOf (block_of owners.now) other }
+    ensures same { IsSamePass (block_of owners.now) own result.1 × IsSamePass (block_of owners.now) other result.2 }
+    ensures ended { Contains (seen result.2) (Down (number_of second)) }
+    ensures asked { (before : List Line) × IsPrefix (history_of result.2) before × AddsAfter own result.1 before (Alone (number_of first.now) result.0) × (IsTrue result.0 ↔ LivesAlone (number_of first.now) (entries_of before)) }
 {
-    let (other, mut mine) = join(
+    let (other, mut own) = join(
         rt,
         || -> Pass<Open>
-            requires { (second.right.names ≡ owners.now.word) × IsOf owners.now.word other.trace }
-            ensures { SamePass owners.entry.now.word other.trace result.trace × Contains (entries_of result.trace.lines) (Down second.right.owner) }
+            requires { IsOwnerOf (block_of owners.now) second × IsPassOf (block_of owners.now) other }
+            ensures { IsSamePass (block_of owners.entry.now) other result × Contains (seen result) (Down (number_of second)) }
         { ended(owners, second, other) },
         || -> Pass<Open>
-            requires { (first.now.right.names ≡ owners.now.word) × IsOf owners.now.word mine.trace }
-            ensures { SamePass owners.entry.now.word mine.trace result.trace }
-        { looked(owners, first, mine) },
+            requires { IsOwnerOf (block_of owners.now) first.now × IsPassOf (block_of owners.now) own }
+            ensures { IsSamePass (block_of owners.entry.now) own result }
+        { looked(owners, first, own) },
     );
-    owners.learn(&mut mine, &other);
-    let alone = owners.alone_as(first, &mut mine);
-    (alone, mine, other)
+    owners.learn(&mut own, &other);
+    let alone = owners.alone_as(first, &mut own);
+    (alone, own, other)
+}
+
+#[test]
+fn sole_owner_takes_back(rt: HostRuntime) -> Result<(), Fail> {
+    let (owners, first, mut pass) = Owners::<3, Open>::new();
+    let second = owners.up_as(&rt, &first, &mut pass)?;
+    let Err(first) = owners.claim_as(first, &mut pass) else {
+        assert!(rt; false);
+        return Ok(());
+    };
+    assert!(rt; matches!(owners.down_as(second, &mut pass), Release::NotLast));
+    let Ok((sole, _term)) = owners.claim_as(first, &mut pass) else {
+        assert!(rt; false);
+        return Ok(());
+    };
+    let first = sole.lend();
+    let third = owners.up_as(&rt, &first, &mut pass)?;
+    assert!(rt; matches!(owners.down_as(third, &mut pass), Release::NotLast));
+    let Ok((sole, _term)) = owners.claim_as(first, &mut pass) else {
+        assert!(rt; false);
+        return Ok(());
+    };
+    sole.end_as(&mut pass);
+    Ok(())
 }
 
 #[test]
@@ -173,7 +197,7 @@ fn alone_after_other_ended(rt: HostRuntime) -> Result<(), Fail> {
     let (owners, first, mut pass) = Owners::<8, Open>::new();
     let second = owners.up_as(&rt, &first, &mut pass)?;
     let other = owners.pass(&second);
-    let (alone, _mine, _other) = alone_after_end(&rt, &owners, &first, second, pass, other);
+    let (alone, _own, _other) = alone_after_end(&rt, &owners, &first, second, pass, other);
     assert!(rt; alone);
     Ok(())
 }

@@ -1,0 +1,100 @@
+//! Sole owners: a block taken back whole, lent anew, or ended without a step.
+ghost use Rattle.std.specs.Prelude.{◌≡◌, ◌≢◌, true, false, IfOk, IfErr};
+ghost use Rattle.arc_owners.specs.declared.owners.entry.Entry.TheVariants.{Alone};
+ghost use Rattle.arc_owners.specs.Passes.{block_of, number_of, lease_of, IsOwnerOf, IsPassOf, IsSamePass, AddsEntry, EndsOwner, TakesBack, HandsBack, IsTermOf, IsLentTo, sole_block, sole_number};
+ghost use Rattle.arc_owners.specs.Traces.{IsLodged};
+
+use super::tokens::{Owners, Pass, Share, Sole, Term};
+use super::word::{Lodging, Right, Spoils, Word};
+use crate::mark::Mark;
+use std::marker::PhantomData;
+
+/// What an owner has that asked for the block back, and found this number.
+fn claimed<H: Mark>(found: u64, right: Right, last: Spoils) -> Result<(Sole<H>, Term), Share<H>>
+    requires right { (right.held ≡ true) × (right.names.counted ≡ true) }
+    requires alone { found ≡ 1 → (right.lease.is_lent ≡ false) × (last.last ≡ true) }
+    requires others { found ≢ 1 → right.lease.is_lent ≡ true }
+    ensures alone { IfOk result (λ r. (found ≡ 1) × (r.0.right ≡ right) × (r.1.spoils ≡ last)) }
+    ensures others { IfErr result (λ s. (found ≢ 1) × (s.right ≡ right)) }
+{
+    if found == 1 {
+        Ok((
+            Sole {
+                right,
+                mark: PhantomData,
+            },
+            Term { spoils: last },
+        ))
+    } else {
+        Err(Share {
+            right,
+            mark: PhantomData,
+        })
+    }
+}
+
+impl<const MAX: u64, H: Mark> Owners<MAX, H> {
+    /// Reads whether the owner is alone, as `alone_as` does, and takes the block back where it is. Otherwise the owner is handed back.
+    pub fn claim_as(&self, share: Share<H>, pass: &mut Pass<H>) -> Result<(Sole<H>, Term), Share<H>>
+        requires share { IsOwnerOf (block_of self.now) share }
+        requires pass { IsPassOf (block_of self.now) pass.old }
+        ensures same { IsSamePass (block_of self.now) pass.old pass.new }
+        ensures alone { IfOk result (λ r. AddsEntry (block_of self.now) pass.old pass.new (Alone (number_of share) true) × TakesBack share r.0 × IsTermOf share r.1) }
+        ensures others { IfErr result (λ s. AddsEntry (block_of self.now) pass.old pass.new (Alone (number_of share) false) × HandsBack share s) }
+    {
+        let mut last = Spoils::none();
+        let mut right = share.right;
+        let found = self.word.claim(&mut right, &mut pass.trace, &mut last);
+        claimed(found, right, last)
+    }
+
+    /// `claim_as` on the place of the word.
+    ///
+    /// # Safety
+    ///
+    /// The word lies at this place for as long as the block is lent: the lodging says so.
+    pub unsafe fn claim_raw(
+        place: *const u64,
+        lodging: &Lodging,
+        share: Share<H>,
+        pass: &mut Pass<H>,
+    ) -> Result<(Sole<H>, Term), Share<H>>
+        requires share { IsOwnerOf lodging.now.names share }
+        requires pass { IsPassOf lodging.now.names pass.old }
+        requires place { IsLodged lodging.now place (lease_of share) }
+        ensures same { IsSamePass lodging.now.names pass.old pass.new }
+        ensures alone { IfOk result (λ r. AddsEntry lodging.now.names pass.old pass.new (Alone (number_of share) true) × TakesBack share r.0 × IsTermOf share r.1) }
+        ensures others { IfErr result (λ s. AddsEntry lodging.now.names pass.old pass.new (Alone (number_of share) false) × HandsBack share s) }
+    {
+        let mut last = Spoils::none();
+        let mut right = share.right;
+        let found = unsafe {
+            Word::claim_raw(place, lodging, &mut right, &mut pass.trace, &mut last)
+        };
+        claimed(found, right, last)
+    }
+}
+
+impl<H: Mark> Sole<H> {
+    /// Lends the block anew, under the same history: the same owner, for a new lifetime. It adds no entry.
+    pub fn lend(self) -> Share<H>
+        ensures same { IsLentTo self result }
+    {
+        let mut right = self.right;
+        right.lend();
+        Share {
+            right,
+            mark: PhantomData,
+        }
+    }
+
+    /// Ends this owner, the last one, without an atomic step. The word stays as it was.
+    pub fn end_as(self, pass: &mut Pass<H>)
+        requires pass { IsPassOf (sole_block self) pass.old }
+        ensures same { IsSamePass (sole_block self) pass.old pass.new }
+        ensures entry { EndsOwner (sole_block self) pass.old pass.new (sole_number self) true }
+    {
+        let mut right = self.right;
+        right.finish(&mut pass.trace);
+    }
+}
