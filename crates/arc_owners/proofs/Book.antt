@@ -12,3 +12,5 @@ pub mod Begins
 pub mod Fields
 pub mod Ends
 pub mod Stakes
+pub mod Lodged
+pub mod Returns

@@ -11,7 +11,7 @@ use base.SetCodes.{coded}
 use base.Algebras.{both, shares, agreed}
 use base.Growing.{Order, prefixes, once, latest, at_least}
 use base.Before.{before}
-use base.Fml.{Lft, Share, Fml, ftrue, ffalse, fsep, fex, flft, fbor, fshr_bor, fnamed}
+use base.Fml.{Lft, Share, Fml, ftrue, ffalse, fsep, fex, flft, flent, fbor, fshr_bor, fnamed}
 use types.Keyed.{entry, entries_from, ticket}
 use types.RcWeak.{part, rest}
 use denote.RawPtr.{Ptr, block_ptr, null_ptr}
@@ -273,6 +273,14 @@ abbrev pub spoils : Lease → Bool → Fml
 spoils l true = fsep (flft (l.lifetime ∷ []) full_share) (ticket l.key 0)
 spoils l false = ftrue
 
+-- what is lent for the lifetime of a lease comes back for its ticket, once
+abbrev pub kept_if : Fml → Lease → Bool → Fml
+kept_if P l true = flent (l.lifetime ∷ []) P
+kept_if P l false = ticket l.key 0
+
+abbrev pub kept_for : Fml → Lease → Fml
+kept_for P l = fex Bool (kept_if P l)
+
 -- how many owners live after these lines
 abbrev pub how_many_live : List Line → ℕ
 how_many_live ls = length (live_owners (entries_of ls))
@@ -307,12 +315,16 @@ abbrev pub word_shares : Names → Ptr → Lft → Fml
 word_shares t (block_ptr b o) κ = fex (Lft × ℕ) (lent t b o κ)
 word_shares t null_ptr κ = ffalse
 
--- the word lies at this place for as long as the block is lent, and a borrow of it stands behind an invariant whose number is past the book's
-abbrev pub lodged_for : Names → ℕ → ℕ → ℕ → ℕ → Fml
-lodged_for t b o a j = fsep (told (t.number < j)) (fnamed j (fbor (a ∷ []) (counting t b o)))
+-- a borrow of the word stands behind an invariant whose number is past the book's
+abbrev pub lodged_as : Names → ℕ → ℕ → Lft → ℕ → Fml
+lodged_as t b o κ j = fsep (told (t.number < j)) (fnamed j (fbor κ (counting t b o)))
 
+abbrev pub lodged_for : Names → ℕ → ℕ → Lft → Fml
+lodged_for t b o κ = fex ℕ (lodged_as t b o κ)
+
+-- the word lies at this place for as long as the block is lent
 abbrev pub lodged : Names → Ptr → ℕ → Fml
-lodged t (block_ptr b o) a = fex ℕ (lodged_for t b o a)
+lodged t (block_ptr b o) a = lodged_for t b o (a ∷ [])
 lodged t null_ptr a = ffalse
 
 -- an owner's right that is held, or none

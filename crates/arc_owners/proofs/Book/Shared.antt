@@ -24,7 +24,7 @@ use denote.Sharing.{ShrLaws, said, one, beside}
 use denote.SharingLaws.{beside_shr_laws, one_shr_laws, nothing_shr_laws}
 use denote.Struct.Lending.{Lends, Lends-first, Lends-both, Lends-nothing}
 use Rattle.logbook.proofs.Fields.{lends_twice}
-use Rattle.arc_owners.specs.Book.{Names, Line, Lease, lease_coded, no_lease, seat_coded, fresh_seat, halved, lines_order, reached, withheld, pooled, pool, staked, tokens, right, contents, known, behind, right_owns, right_shares, trace_owns, trace_shares, spoils, stake, counting, lodged_for, lodged}
+use Rattle.arc_owners.specs.Book.{Names, Line, Lease, lease_coded, no_lease, seat_coded, fresh_seat, halved, lines_order, reached, withheld, pooled, pool, staked, tokens, right, contents, known, behind, right_owns, right_shares, trace_owns, trace_shares, spoils, stake, counting, lodged_as, lodged}
 use Rattle.arc_owners.proofs.Book.Cells.{row_keyless, cell_cut, cell_joins}
 
 pooled_keyless : (y : Bool) (l : Lease) (n : ℕ) → Keyless (pooled y l n)
@@ -92,8 +92,8 @@ module _ {M : Type 1} {𝓤 : Ura M} (𝓛 : Logic 𝓤) (t : Names) where
 
   pub lodged_twice : (p : Ptr) (a : ℕ) → ent 𝓤 ⟦ lodged t p a ⟧ (sep 𝓤 ⟦ lodged t p a ⟧ ⟦ lodged t p a ⟧)
   lodged_twice (block_ptr b o) a = let I : Fml = fbor (a ∷ []) (counting t b o) in qed 𝓛 (‵ (lodged t (block_ptr b o) a) ∷ []) ∵ fpick ! (λ j. fsplit ! $ fpick ! (λ past. drop ! $
-      use1 𝓛 (‵ (fnamed j I) ⊛ ‵ (fnamed j I)) (𝓛.invs.named_dup j I) $ split ! $ nothing ! $ fpack ! (t.number < j) (λ _. ftrue) past $ move ! (0 ∷ 1 ∷ []) $ fjoin ! $ fpack ! ℕ (lodged_for t b o a) j $
-      nothing ! $ fpack ! (t.number < j) (λ _. ftrue) past $ move ! (0 ∷ 2 ∷ []) $ fjoin ! $ fpack ! ℕ (lodged_for t b o a) j $ done !))
+      use1 𝓛 (‵ (fnamed j I) ⊛ ‵ (fnamed j I)) (𝓛.invs.named_dup j I) $ split ! $ nothing ! $ fpack ! (t.number < j) (λ _. ftrue) past $ move ! (0 ∷ 1 ∷ []) $ fjoin ! $ fpack ! ℕ (lodged_as t b o (a ∷ [])) j $
+      nothing ! $ fpack ! (t.number < j) (λ _. ftrue) past $ move ! (0 ∷ 2 ∷ []) $ fjoin ! $ fpack ! ℕ (lodged_as t b o (a ∷ [])) j $ done !))
   lodged_twice null_ptr a = never_e 𝓤 (sep 𝓤 ⟦ lodged t null_ptr a ⟧ ⟦ lodged t null_ptr a ⟧)
 
   pub lodged_lends : (p : Ptr) (a : ℕ) (λ' : Lft) → Lends 𝓛 (lodged t p a) (said (lodged t p a)) λ'
