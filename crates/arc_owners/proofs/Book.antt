@@ -14,3 +14,4 @@ pub mod Ends
 pub mod Stakes
 pub mod Lodged
 pub mod Returns
+pub mod Loans

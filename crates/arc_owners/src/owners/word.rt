@@ -30,7 +30,7 @@ impl Move for Word {
 }
 
 /// The right of one owner, where it is held. It has no bytes.
-pub(crate) struct Right {
+pub struct Right {
     marker: PhantomData<()>,
     pub(crate) ghost held: { Bool },
     pub(crate) ghost names: { Names } by { names_coded },

@@ -1,0 +1,35 @@
+-- What a `&` has for the lifetime of a lease can be had again, and is had for any lifetime that ends no later. Assumes `Logic`.
+use Rattle.std.proofs.Common.{ℕ, List, [], ◌∷◌, ◌++◌}
+use seplogic.Ra.Ura.{Ura}
+use base.Logic.{SProp, ent, sep, snd∗}
+use base.Fml.{Lft, Fml, flft, fshr_bor}
+use contract.BorrowLft.{meet_⊑_left}
+use types.Na.{before-Incl, before_lent}
+use types.Kit.{‵, ◌$◌, ◌∵◌, !, qed, by, move, use0, use2}
+use base.Before.{before}
+use types.Logic.{Logic, sem}
+use denote.RattleType.{RattleType}
+use denote.RawPtr.{Ptr}
+use denote.Sharing.{ShrLaws, said}
+use denote.SharingLaws.{contraction}
+use denote.Param.Laws.{Laws}
+use denote.Struct.Lending.{Lends, lent_at, lent_at_shr_laws}
+use Rattle.logbook.proofs.Fields.{lends_twice}
+
+module _ (T : RattleType) (L : Laws T) (p : Ptr) (x : T.Denot) (a : ℕ) where
+  abbrev pub loan : Fml
+  loan = lent_at T p x (a ∷ [])
+
+  pub loan_twice : {M : Type 1} {𝓤 : Ura M} (𝓛 : Logic 𝓤) → ent 𝓤 (sem 𝓛 loan) (sep 𝓤 (sem 𝓛 loan) (sem 𝓛 loan))
+  loan_twice 𝓛 = contraction 𝓛 (lent_at T p x) (lent_at_shr_laws T L.shr_laws p x) (a ∷ [])
+
+  pub loan_lends : {M : Type 1} {𝓤 : Ura M} (𝓛 : Logic 𝓤) (λ' : Lft) → Lends 𝓛 loan (said loan) λ'
+  loan_lends 𝓛 λ' = lends_twice 𝓛 loan (loan_twice 𝓛) λ'
+
+  pub loan_shr : ShrLaws (said loan)
+  loan_shr = record { contraction = λ M 𝓤 𝓛 κ. loan_twice 𝓛; mono = λ M 𝓤 𝓛 κ' κ. snd∗ 𝓤 (sem 𝓛 (before κ' κ)) (sem 𝓛 loan) }
+
+  -- whoever has shares of the lifetime for as long as κ has it for κ
+  pub loan_seen : {M : Type 1} {𝓤 : Ura M} (𝓛 : Logic 𝓤) (κ : Lft) → ent 𝓤 (sep 𝓤 (sem 𝓛 loan) (sem 𝓛 (fshr_bor κ (λ q. flft (a ∷ []) q)))) (sem 𝓛 (lent_at T p x κ))
+  loan_seen {M} {𝓤} 𝓛 κ = let α : Lft = a ∷ [] in qed 𝓛 (‵ loan ∷ ‵ (fshr_bor κ (λ q. flft α q)) ∷ []) ∵ use0 𝓛 (‵ (before (α ++ κ) α)) (before-Incl 𝓛 (α ++ κ) α (meet_⊑_left α κ)) $
+      move ! (2 ∷ 0 ∷ []) $ use2 𝓛 (‵ (before κ α)) (before_lent 𝓛 κ α α) $ by ! ((lent_at_shr_laws T L.shr_laws p x).mono M 𝓤 𝓛 κ α)
