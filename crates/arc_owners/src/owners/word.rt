@@ -260,6 +260,18 @@ impl Lodging {
         }
     }
 
+    /// The word, for as long as an owner is borrowed to whom the block is lent.
+    ///
+    /// # Safety
+    ///
+    /// The word lies at this place: the lodging says so.
+    pub(crate) unsafe fn word<'a>(&'a self, place: *const u64, by: &'a Right) -> &'a Word
+        requires { (self.now.at ≡ place) × (by.now.held ≡ true) × (by.now.lease.is_lent ≡ true) × (by.now.lease.lifetime ≡ self.now.lifetime) }
+        ensures { result.now ≡ self.now.names }
+    {
+        unsafe { &*(place as *const Word) }
+    }
+
     /// The same again.
     pub fn again(&self) -> Lodging
         ensures { (result.names ≡ self.now.names) × (result.at ≡ self.now.at) × (result.lifetime ≡ self.now.lifetime) }
