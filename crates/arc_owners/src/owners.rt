@@ -5,6 +5,7 @@ mod entry;
 mod event;
 mod interleavings;
 mod loan;
+mod raw;
 mod replays;
 mod sole;
 mod tokens;

@@ -2,12 +2,11 @@
 ghost use Rattle.std.specs.Prelude.{◌≡◌, ◌≢◌, ◌≤◌, ◌==◌, true, false, [], IfSome, IfNone, IfOk, IfErr};
 ghost use mathlib.Core.List.{IsPrefix};
 ghost use Rattle.arc_owners.specs.declared.owners.entry.Entry.TheVariants.{Alone, Full};
-ghost use Rattle.arc_owners.specs.Passes.{block_of, number_of, birth_of, lease_of, IsOwnerOf, IsPassOf, IsPassOfNone, IsSamePass, AddsEntry, MakesOwner, EndsOwner, IsTermOf, history_of, mine};
+ghost use Rattle.arc_owners.specs.Passes.{block_of, number_of, birth_of, IsOwnerOf, IsPassOf, IsPassOfNone, IsSamePass, AddsEntry, MakesOwner, EndsOwner, IsTermOf, history_of, mine};
 ghost use Rattle.arc_owners.specs.Releases.{is_last, IfLast};
-ghost use Rattle.arc_owners.specs.Traces.{IsLodged};
 
 use super::tokens::{Owners, Pass, Release, Share, Sole, Term};
-use super::word::{Lodging, Right, Spoils, Trace, Word};
+use super::word::{Right, Spoils, Trace, Word};
 use crate::error::CountFull;
 use crate::mark::{Mark, Open};
 use std::marker::PhantomData;
@@ -25,8 +24,62 @@ impl<H: Mark> Pass<H> {
     }
 }
 
+/// One try to raise a count: nothing where the number changed between its two steps.
+fn try_up<H: Mark>(
+    word: &Word,
+    most: u64,
+    by: &Share<H>,
+    pass: &mut Pass<H>,
+) -> Option<Result<Share<H>, CountFull>>
+    requires most { word.now.most ≡ most }
+    requires share { IsOwnerOf word.now by.now }
+    requires pass { IsPassOf word.now pass.old }
+    ensures same { IsSamePass word.now pass.old pass.new }
+    ensures made { IfSome result (λ r. IfOk r (λ s. MakesOwner word.now pass.old pass.new by.now s)) }
+    ensures full { IfSome result (λ r. IfErr r (λ _. AddsEntry word.now pass.old pass.new (Full (number_of by.now)))) }
+    ensures again { IfNone result (history_of pass.new ≡ history_of pass.old) }
+{
+    let old = word.glance(&by.right, &mut pass.trace);
+    if old == most {
+        return Some(Err(CountFull));
+    }
+    let mut new = Right::none();
+    let next = old.wrapping_add(1);
+    let found = word.raise(&by.right, &mut pass.trace, &mut new, old, next);
+    if found != old {
+        return None;
+    }
+    Some(Ok(Share {
+        right: new,
+        mark: PhantomData,
+    }))
+}
+
+/// Makes a new owner, tried again until the exchange wins or finds the count at its greatest, which is refused.
+pub(super) fn up<H: Mark>(
+    word: &Word,
+    rt: &impl Wait,
+    most: u64,
+    by: &Share<H>,
+    pass: &mut Pass<H>,
+) -> Result<Share<H>, CountFull>
+    requires most { word.now.most ≡ most }
+    requires share { IsOwnerOf word.now by.now }
+    requires pass { IsPassOf word.now pass.old }
+    ensures same { IsSamePass word.now pass.old pass.new }
+    ensures made { IfOk result (λ s. MakesOwner word.now pass.old pass.new by.now s) }
+    ensures full { IfErr result (λ _. AddsEntry word.now pass.old pass.new (Full (number_of by.now))) }
+{
+    for _ in rt.forever() {
+        if let Some(made) = try_up(word, most, by, pass) {
+            return made;
+        }
+    }
+    unreachable!()
+}
+
 /// What an owner's end leaves that found this number.
-fn released(found: u64, last: Spoils) -> Release
+pub(super) fn released(found: u64, last: Spoils) -> Release
     requires { last.last ≡ (found == 1) }
     ensures last { is_last result ≡ (found == 1) }
     ensures term { IfLast result (λ term. term.spoils ≡ last) }
@@ -73,34 +126,6 @@ impl<const MAX: u64, H: Mark> Owners<MAX, H> {
         self.word.look(&by.right, &mut pass.trace) == 1
     }
 
-    /// One try to raise the count: nothing where the number changed between its two steps.
-    fn try_up(&self, by: &Share<H>, pass: &mut Pass<H>) -> Option<Result<Share<H>, CountFull>>
-        requires most { (block_of self.now).most ≡ MAX }
-        requires share { IsOwnerOf (block_of self.now) by.now }
-        requires pass { IsPassOf (block_of self.now) pass.old }
-        ensures same { IsSamePass (block_of self.now) pass.old pass.new }
-        ensures made { IfSome result (λ r. IfOk r (λ s. MakesOwner (block_of self.now) pass.old pass.new by.now s)) }
-        ensures full { IfSome result (λ r. IfErr r (λ _. AddsEntry (block_of self.now) pass.old pass.new (Full (number_of by.now)))) }
-        ensures again { IfNone result (history_of pass.new ≡ history_of pass.old) }
-    {
-        let old = self.word.glance(&by.right, &mut pass.trace);
-        if old == MAX {
-            return Some(Err(CountFull));
-        }
-        let mut new = Right::none();
-        let next = old.wrapping_add(1);
-        let found = self
-            .word
-            .raise(&by.right, &mut pass.trace, &mut new, old, next);
-        if found != old {
-            return None;
-        }
-        Some(Ok(Share {
-            right: new,
-            mark: PhantomData,
-        }))
-    }
-
     /// Makes a new owner, tried again until the exchange wins or finds the count at its greatest, which is refused.
     pub fn up_as(
         &self,
@@ -115,12 +140,7 @@ impl<const MAX: u64, H: Mark> Owners<MAX, H> {
         ensures made { IfOk result (λ s. MakesOwner (block_of self.now) pass.old pass.new by.now s) }
         ensures full { IfErr result (λ _. AddsEntry (block_of self.now) pass.old pass.new (Full (number_of by.now))) }
     {
-        for _ in rt.forever() {
-            if let Some(made) = self.try_up(by, pass) {
-                return made;
-            }
-        }
-        unreachable!()
+        up(&self.word, rt, MAX, by, pass)
     }
 
     /// Ends an owner by one subtraction. It says whether that was the last one.
@@ -134,32 +154,6 @@ impl<const MAX: u64, H: Mark> Owners<MAX, H> {
         let mut last = Spoils::none();
         let mut right = share.right;
         let found = self.word.lower(&mut right, &mut pass.trace, &mut last);
-        released(found, last)
-    }
-
-    /// `down_as` on the place of the word, which may be gone before the call returns.
-    ///
-    /// # Safety
-    ///
-    /// The word lies at this place for as long as the block is lent: the lodging says so.
-    pub unsafe fn down_raw(
-        place: *const u64,
-        lodging: &Lodging,
-        share: Share<H>,
-        pass: &mut Pass<H>,
-    ) -> Release
-        requires share { IsOwnerOf lodging.now.names share }
-        requires pass { IsPassOf lodging.now.names pass.old }
-        requires place { IsLodged lodging.now place (lease_of share) }
-        ensures same { IsSamePass lodging.now.names pass.old pass.new }
-        ensures entry { EndsOwner lodging.now.names pass.old pass.new (number_of share) (is_last result) }
-        ensures term { IfLast result (λ term. IsTermOf share term) }
-    {
-        let mut last = Spoils::none();
-        let mut right = share.right;
-        let found = unsafe {
-            Word::lower_raw(place, lodging, &mut right, &mut pass.trace, &mut last)
-        };
         released(found, last)
     }
 

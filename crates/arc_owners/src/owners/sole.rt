@@ -1,16 +1,19 @@
 //! Sole owners: a block taken back whole, lent anew, or ended without a step.
 ghost use Rattle.std.specs.Prelude.{◌≡◌, ◌≢◌, true, false, IfOk, IfErr};
 ghost use Rattle.arc_owners.specs.declared.owners.entry.Entry.TheVariants.{Alone};
-ghost use Rattle.arc_owners.specs.Passes.{block_of, number_of, lease_of, IsOwnerOf, IsPassOf, IsSamePass, AddsEntry, EndsOwner, TakesBack, HandsBack, IsTermOf, IsLentTo, sole_block, sole_number};
-ghost use Rattle.arc_owners.specs.Traces.{IsLodged};
+ghost use Rattle.arc_owners.specs.Passes.{block_of, number_of, IsOwnerOf, IsPassOf, IsSamePass, AddsEntry, EndsOwner, TakesBack, HandsBack, IsTermOf, IsLentTo, sole_block, sole_number};
 
 use super::tokens::{Owners, Pass, Share, Sole, Term};
-use super::word::{Lodging, Right, Spoils, Word};
+use super::word::{Right, Spoils};
 use crate::mark::Mark;
 use std::marker::PhantomData;
 
 /// What an owner has that asked for the block back, and found this number.
-fn claimed<H: Mark>(found: u64, right: Right, last: Spoils) -> Result<(Sole<H>, Term), Share<H>>
+pub(super) fn claimed<H: Mark>(
+    found: u64,
+    right: Right,
+    last: Spoils,
+) -> Result<(Sole<H>, Term), Share<H>>
     requires right { (right.held ≡ true) × (right.names.counted ≡ true) }
     requires alone { found ≡ 1 → (right.lease.is_lent ≡ false) × (last.last ≡ true) }
     requires others { found ≢ 1 → right.lease.is_lent ≡ true }
@@ -45,32 +48,6 @@ impl<const MAX: u64, H: Mark> Owners<MAX, H> {
         let mut last = Spoils::none();
         let mut right = share.right;
         let found = self.word.claim(&mut right, &mut pass.trace, &mut last);
-        claimed(found, right, last)
-    }
-
-    /// `claim_as` on the place of the word.
-    ///
-    /// # Safety
-    ///
-    /// The word lies at this place for as long as the block is lent: the lodging says so.
-    pub unsafe fn claim_raw(
-        place: *const u64,
-        lodging: &Lodging,
-        share: Share<H>,
-        pass: &mut Pass<H>,
-    ) -> Result<(Sole<H>, Term), Share<H>>
-        requires share { IsOwnerOf lodging.now.names share }
-        requires pass { IsPassOf lodging.now.names pass.old }
-        requires place { IsLodged lodging.now place (lease_of share) }
-        ensures same { IsSamePass lodging.now.names pass.old pass.new }
-        ensures alone { IfOk result (λ r. AddsEntry lodging.now.names pass.old pass.new (Alone (number_of share) true) × TakesBack share r.0 × IsTermOf share r.1) }
-        ensures others { IfErr result (λ s. AddsEntry lodging.now.names pass.old pass.new (Alone (number_of share) false) × HandsBack share s) }
-    {
-        let mut last = Spoils::none();
-        let mut right = share.right;
-        let found = unsafe {
-            Word::claim_raw(place, lodging, &mut right, &mut pass.trace, &mut last)
-        };
         claimed(found, right, last)
     }
 }
