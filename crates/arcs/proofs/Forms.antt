@@ -8,10 +8,10 @@ use Rattle.std.proofs.lemmas.List.Splits.{join_with_byte-slice_split}
 use Rattle.std.proofs.lemmas.Option.{none-some, same_Some}
 use Rattle.std.proofs.lemmas.Slice.Eq.{bytes_eq-Decides}
 use Rattle.arcs.specs.declared.command.Command.{Command}
-use Rattle.arcs.specs.declared.command.Command.TheVariants.{Slice, Sub, Show, Drop}
+use Rattle.arcs.specs.declared.command.Command.TheVariants.{Slice, Clone, Sub, Show, Drop}
 use Rattle.arcs.specs.Text.{space, longest_line, items_word, words_of, IsWritable, IsShort, Says}
 use Rattle.arcs.specs.Script.{IsBad}
-use Rattle.arcs.specs.Reading.{◌>>=◌, words_of_line, number_of, items_of, first_by, only, slice_of, sub_of, show_of, drop_of, command_of}
+use Rattle.arcs.specs.Reading.{◌>>=◌, words_of_line, number_of, items_of, first_by, only, slice_of, clone_of, sub_of, show_of, drop_of, command_of}
 use Rattle.arcs.proofs.Words.{is_item, number_is, number_again, items_is, items_again, items_fit, items_are_bytes, no_space_text, no_space_number, no_space_items, words-join}
 
 -- ---- steps of a reader
@@ -57,6 +57,13 @@ slice_said words c e =
     let end = took_all items.rest (Slice items.value) c items.goes in
     subst (SaidBy (codes "slice" ∷ words)) end.1 (record { writable = items_are_bytes items.value items.fits; are = cc })
 
+clone_said : (words : List (List ℕ)) (c : Command (List ℕ)) → clone_of words ≡ Some c → SaidBy (codes "clone" ∷ words) c
+unfolding clone_of
+clone_said words c e =
+    let i = took_number words (λ x. only x.1 (Clone x.0)) c e in
+    let all = took_all i.rest (Clone i.value) c i.goes in
+    subst (SaidBy (codes "clone" ∷ words)) all.1 (record { writable = i.fits; are = cc })
+
 sub_said : (words : List (List ℕ)) (c : Command (List ℕ)) → sub_of words ≡ Some c → SaidBy (codes "sub" ∷ words) c
 unfolding sub_of
 sub_said words c e =
@@ -95,15 +102,17 @@ unfolding command_of
 command_said [] c e = absurd (none-some c e)
 command_said (verb ∷ words) c e =
     form_or (codes "slice") verb words _ _ c (slice_said words c)
+    (form_or (codes "clone") verb words _ _ c (clone_said words c)
     (form_or (codes "sub") verb words _ _ c (sub_said words c)
     (form_or (codes "show") verb words _ _ c (show_said words c)
     (form_or (codes "drop") verb words _ _ c (drop_said words c)
-    (λ none. absurd (none-some c none))))) e
+    (λ none. absurd (none-some c none)))))) e
 
 -- a command that can be written is read from its words again
 pub command_again : (c : Command (List ℕ)) → IsWritable c → command_of (words_of c) ≡ Some c
-unfolding command_of slice_of sub_of show_of drop_of
+unfolding command_of slice_of clone_of sub_of show_of drop_of
 command_again (Slice items) writable = rw (items_again items (items_fit items writable)) refl
+command_again (Clone i) writable = rw (number_again i writable) refl
 command_again (Sub i start end) writable = rw (number_again i writable.0, number_again start writable.1, number_again end writable.2) refl
 command_again (Show i) writable = rw (number_again i writable) refl
 command_again (Drop i) writable = rw (number_again i writable) refl
@@ -113,6 +122,7 @@ command_again (Drop i) writable = rw (number_again i writable) refl
 -- the words of a command part at the spaces
 words_apart : (c : Command (List ℕ)) → IsWritable c → words_of_line (join_with_byte space (words_of c)) ≡ words_of c
 words_apart (Slice items) writable = words-join _ _ (no_space_text (codes "slice") refl, (no_space_items items (items_fit items writable), tt))
+words_apart (Clone i) writable = words-join _ _ (no_space_text (codes "clone") refl, (no_space_number i writable, tt))
 words_apart (Sub i start end) writable = words-join _ _ (no_space_text (codes "sub") refl, (no_space_number i writable.0, (no_space_number start writable.1, (no_space_number end writable.2, tt))))
 words_apart (Show i) writable = words-join _ _ (no_space_text (codes "show") refl, (no_space_number i writable, tt))
 words_apart (Drop i) writable = words-join _ _ (no_space_text (codes "drop") refl, (no_space_number i writable, tt))

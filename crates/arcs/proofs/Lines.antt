@@ -10,7 +10,7 @@ use Rattle.std.proofs.lemmas.List.Elements.{All-contains, recursion_from_All}
 use Rattle.arc_owners.specs.declared.error.RangeError.{RangeError}
 use Rattle.arc_block.specs.Table.{Row, Table, empty_table, row_at}
 use Rattle.arcs.specs.declared.command.Command.{Command}
-use Rattle.arcs.specs.declared.command.Command.TheVariants.{Slice, Sub, Show, Drop}
+use Rattle.arcs.specs.declared.command.Command.TheVariants.{Slice, Clone, Sub, Show, Drop}
 use Rattle.arcs.specs.declared.command.Reply.{Reply}
 use Rattle.arcs.specs.declared.command.Reply.TheVariants as reply
 use Rattle.arcs.specs.RunOf.{RunOf}
@@ -41,6 +41,7 @@ in_range_plain t (Err e) then plain = tt
 
 answer_plain : {T M : Type 0} (setting : Setting T) (t : Table T M) (c : Command (List T)) → IsPlain (answer setting t c).0
 answer_plain setting t (Slice items) = tt
+answer_plain setting t (Clone i) = on_row_plain t _ (row_at t i) (λ row. tt)
 answer_plain setting t (Sub i start end) = on_row_plain t _ (row_at t i) (λ row. in_range_plain t (range_answer setting.boundary row.items start end) (cut setting t row start end) tt)
 answer_plain setting t (Show i) = on_row_plain t _ (row_at t i) (λ row. tt)
 answer_plain setting t (Drop i) = on_row_plain t _ (row_at t i) (λ row. tt)
@@ -105,6 +106,7 @@ no_feeds lines pass = recursion_from_All HasNoFeed lines (all_by is_line HasNoFe
 
 pub items_want : {M : Type 0} (setting : Setting ℕ) (old : Table ℕ M) (c : Command (List ℕ)) → BringsItems c → MayWant setting old c
 items_want setting old (Slice items) brings = tt
+items_want setting old (Clone i) brings = absurd brings
 items_want setting old (Sub i start end) brings = absurd brings
 items_want setting old (Show i) brings = absurd brings
 items_want setting old (Drop i) brings = absurd brings

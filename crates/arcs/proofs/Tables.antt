@@ -1,6 +1,6 @@
 -- Steps of the windows, as steps of their table.
 use Rattle.std.proofs.Common.{◌≡◌, ℕ, zero, suc, Bool, true, false, ◌&&◌, ◌==◌, if◌then◌else◌, List, [], ◌∷◌, length, map, Option, Some, None, MatchOption, is_some, slice_set, refl, sym, ap, ◌∙◌, subst}
-use Rattle.std.specs.Option.{option_map_or}
+use Rattle.std.specs.Option.{option_map, option_map_or}
 use Rattle.arc_owners.specs.declared.error.OwnerError.{OwnerError}
 use Rattle.arc_owners.specs.declared.error.OwnerError.TheVariants.{CountFull}
 use Rattle.arc_buffer.specs.Slice.{IsRange, sub}
@@ -27,6 +27,24 @@ dropped t i view (Some x) there some rows after =
     ap (λ r. option_map_or (λ row. (reply.Ok, record { rows = slice_set t.rows i None; blocks = t.blocks })) r (reply.NoWindow, t)) there
     ∙ ap (λ rs. (reply.Ok, record { rows = rs; blocks = t.blocks })) (sym after)
 dropped t i view None there some rows after = cc
+
+-- the number of a block doesn't change whether a place is on one
+on_numbered : {M : Type 0} (n : ℕ) (p : Place (Unit {0}) M) → IsOnBlock p → IsOnBlock (numbered n p)
+on_numbered n nowhere h = h
+on_numbered n static_data h = h
+on_numbered n (on_block it offset facts) h = h
+
+-- the table of these entries
+abbrev table_with : {A : Type 0} → ℕ → List (Option (Entry A)) → ByteTable
+table_with blocks entries = record { rows = map (option_map row_of) entries; blocks = blocks }
+
+-- a clone is refused where the block can have no owner more
+pub clone_refused : {A : Type 0} (old new : List (Option (Entry A))) (blocks i : ℕ) (source : Entry A) (e : OwnerError) → new ≡ old → e ≡ CountFull → row_at (table_with blocks new) i ≡ Some (row_of source) → IsOnBlock source.window.place
+    → Step byte_setting (table_with blocks old) (command.Clone i) (reply.Owner e) (table_with blocks new)
+clone_refused old new blocks i source e same full is owner =
+    let P : OwnerError → Type 0 = λ x. Step byte_setting (table_with blocks old) (command.Clone i) (reply.Owner x) (table_with blocks new) in
+    let table_same = ap (table_with blocks) same in
+    subst P (sym full) ((row_of source, ap (λ t. row_at t i) (sym table_same) ∙ is, on_numbered source.block source.window.place owner), table_same)
 
 -- the number of a block doesn't change whether a part stands on one
 numbered_unless : {M : Type 0} (nothing : Bool) (start n : ℕ) (p : Place (Unit {0}) M) → IsOnBlock (if nothing then nowhere else moved start p) → IsOnBlock (if nothing then nowhere else moved start (numbered n p))

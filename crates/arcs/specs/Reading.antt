@@ -8,7 +8,7 @@ use Rattle.std.specs.Str.{bytes_eq}
 use Rattle.std.specs.Str.Parse.{digits_value}
 use Rattle.arcs.specs.Text.{space, items_word}
 use Rattle.arcs.specs.declared.command.Command.{Command}
-use Rattle.arcs.specs.declared.command.Command.TheVariants.{Slice, Sub, Show, Drop}
+use Rattle.arcs.specs.declared.command.Command.TheVariants.{Slice, Clone, Sub, Show, Drop}
 use Rattle.arcs.specs.declared.parse.Unread.{Unread}
 use Rattle.arcs.specs.declared.parse.Unread.TheVariants as unread
 
@@ -63,6 +63,11 @@ slice_of words = do
   items ← first_by items_of words
   only items.1 (Slice items.0)
 
+unfoldable pub clone_of : List (List ℕ) → Option (Command (List ℕ))
+clone_of words = do
+  i ← first_by number_of words
+  only i.1 (Clone i.0)
+
 unfoldable pub sub_of : List (List ℕ) → Option (Command (List ℕ))
 sub_of words = do
   i ← first_by number_of words
@@ -85,6 +90,7 @@ unfoldable pub command_of : List (List ℕ) → Option (Command (List ℕ))
 command_of [] = None
 command_of (verb ∷ words) =
     if bytes_eq verb (codes "slice") then slice_of words else
+    if bytes_eq verb (codes "clone") then clone_of words else
     if bytes_eq verb (codes "sub") then sub_of words else
     if bytes_eq verb (codes "show") then show_of words else
     if bytes_eq verb (codes "drop") then drop_of words else None

@@ -5,13 +5,14 @@ use Rattle.std.specs.Vec.{vec_items}
 use Rattle.arcs.specs.Text.{Says}
 use Rattle.arcs.specs.Script.{IsBad}
 use Rattle.arcs.specs.declared.command.Command.{Command}
-use Rattle.arcs.specs.declared.command.Command.TheVariants.{Slice, Sub, Show, Drop}
+use Rattle.arcs.specs.declared.command.Command.TheVariants.{Slice, Clone, Sub, Show, Drop}
 use Rattle.arcs.specs.declared.command.Reply.{Reply}
 use Rattle.arcs.specs.declared.command.Reply.TheVariants as reply
 
 -- each item list of a command, or of a reply, under f
 abbrev pub map_command : {X Y : Type 0} → (X → Y) → Command X → Command Y
 map_command f (Slice items) = Slice (f items)
+map_command f (Clone i) = Clone i
 map_command f (Sub i start end) = Sub i start end
 map_command f (Show i) = Show i
 map_command f (Drop i) = Drop i

@@ -9,7 +9,7 @@ use Rattle.arc_block.specs.Place.{Place, nowhere, static_data, on_block, IsOnBlo
 use Rattle.arc_block.specs.Table.{Row, Table, reader, row_at}
 use Rattle.arcs.specs.RunOf.{RunOf}
 use Rattle.arcs.specs.declared.command.Command.{Command}
-use Rattle.arcs.specs.declared.command.Command.TheVariants.{Slice, Sub, Show, Drop}
+use Rattle.arcs.specs.declared.command.Command.TheVariants.{Slice, Clone, Sub, Show, Drop}
 use Rattle.arcs.specs.declared.command.Reply.{Reply}
 use Rattle.arcs.specs.declared.command.Reply.TheVariants as reply
 
@@ -22,10 +22,13 @@ pub record Setting (T : Type 0) : Type 0 where
 abbrev pub Outcome : Type 0 → Type 0 → Type 0
 Outcome T M = Reply (List T) × Table T M
 
--- a window more, under the next number; the table has had this many blocks then
+-- a row more, under the next number; the table has had this many blocks then
+abbrev pub with_row : {T M : Type 0} → Table T M → Row T M → ℕ → Outcome T M
+with_row t row blocks = (reply.New (length t.rows), record { rows = t.rows ++ Some row ∷ []; blocks = blocks })
+
+-- a window more that is read
 abbrev pub with_window : {T M : Type 0} → Table T M → List T → Place ℕ M → ℕ → Outcome T M
-with_window t items place blocks =
-    (reply.New (length t.rows), record { rows = t.rows ++ Some (record { items = items; place = place; role = reader }) ∷ []; blocks = blocks })
+with_window t items place blocks = with_row t (record { items = items; place = place; role = reader }) blocks
 
 -- how many blocks there have been, with a window made at this place
 abbrev pub blocks_after : {M : Type 0} → ℕ → Place ℕ M → ℕ
@@ -36,6 +39,10 @@ blocks_after blocks (on_block block offset facts) = blocks + 1
 -- a window over a copy of the items
 abbrev pub made : {T M : Type 0} → Setting T → Table T M → List T → Outcome T M
 made setting t items = let place = made_place setting.has_static t.blocks (native_facts (length items)) items in with_window t items place (blocks_after t.blocks place)
+
+-- a window more with the items, the place and the role of a row
+abbrev pub cloned : {T M : Type 0} → Table T M → Row T M → Outcome T M
+cloned t row = with_row t row t.blocks
 
 -- a window over a part of a row
 abbrev pub cut : {T M : Type 0} → Setting T → Table T M → Row T M → ℕ → ℕ → Outcome T M
@@ -53,6 +60,7 @@ in_range (Err e) t then = (reply.Range e, t)
 -- what a command is answered, and the table after it, where neither memory nor a count is short
 abbrev pub answer : {T M : Type 0} → Setting T → Table T M → Command (List T) → Outcome T M
 answer setting t (Slice items) = made setting t items
+answer setting t (Clone i) = on_row t i (cloned t)
 answer setting t (Sub i start end) = on_row t i (λ row. in_range (range_answer setting.boundary row.items start end) t (cut setting t row start end))
 answer setting t (Show i) = on_row t i (λ row. (reply.Items row.items, t))
 answer setting t (Drop i) = on_row t i (λ row. (reply.Ok, record t { rows = slice_set t.rows i None }))
@@ -69,6 +77,7 @@ MayWant setting t c = WantsMemory (answer setting t c).0
 
 -- the commands by which a block would have one owner more
 abbrev pub MayBeFull : {T M : Type 0} → Setting T → Table T M → Command (List T) → Type 0
+MayBeFull {T} {M} setting t (Clone i) = (row : Row T M) × (row_at t i ≡ Some row) × IsOnBlock row.place
 MayBeFull {T} {M} setting t (Sub i start end) =
     (row : Row T M) × (row_at t i ≡ Some row) × IsRange setting.boundary row.items start end
     × IsOnBlock (part_place setting.has_static (sub row.items start end) start row.place)

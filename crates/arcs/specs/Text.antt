@@ -6,7 +6,7 @@ use Rattle.arc_owners.specs.declared.error.RangeError.TheVariants.{OutOfRange, I
 use Rattle.arc_owners.specs.declared.error.OwnerError.{OwnerError}
 use Rattle.arc_owners.specs.declared.error.OwnerError.TheVariants as owner
 use Rattle.arcs.specs.declared.command.Command.{Command}
-use Rattle.arcs.specs.declared.command.Command.TheVariants.{Slice, Sub, Show, Drop}
+use Rattle.arcs.specs.declared.command.Command.TheVariants.{Slice, Clone, Sub, Show, Drop}
 use Rattle.arcs.specs.declared.command.Reply.{Reply}
 use Rattle.arcs.specs.declared.command.Reply.TheVariants as reply
 
@@ -37,6 +37,7 @@ items_word (item ∷ items) = hex (item ∷ items)
 -- a command as words
 abbrev pub words_of : Command (List ℕ) → List (List ℕ)
 words_of (Slice items) = codes "slice" ∷ items_word items ∷ []
+words_of (Clone i) = codes "clone" ∷ decimal i ∷ []
 words_of (Sub i start end) = codes "sub" ∷ decimal i ∷ decimal start ∷ decimal end ∷ []
 words_of (Show i) = codes "show" ∷ decimal i ∷ []
 words_of (Drop i) = codes "drop" ∷ decimal i ∷ []
@@ -50,6 +51,7 @@ IsShort number = number < 10 ^ 18
 
 abbrev pub IsWritable : Command (List ℕ) → Type 0
 IsWritable (Slice items) = AllByRecursion IsByte items
+IsWritable (Clone i) = IsShort i
 IsWritable (Sub i start end) = IsShort i × IsShort start × IsShort end
 IsWritable (Show i) = IsShort i
 IsWritable (Drop i) = IsShort i

@@ -6,6 +6,10 @@ use arc_owners::error::{OwnerError, RangeError};
 pub enum Command<X> {
     /// A window over a copy of these items.
     Slice(X),
+    /// Another window with the same items at the same place.
+    Clone {
+        window: usize,
+    },
     /// A window over the part from `start` to `end` of another.
     Sub {
         window: usize,

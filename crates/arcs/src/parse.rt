@@ -9,7 +9,7 @@ ghost use Rattle.arcs.specs.Script.{IsBad};
 ghost use Rattle.arcs.specs.Seen.{seen_command};
 ghost use Rattle.arcs.specs.declared.command.Command.{Command};
 ghost use Rattle.arcs.specs.declared.parse.Unread.TheVariants as unread;
-ghost use Rattle.arcs.specs.Reading.{Never, is_hex_digit, is_space, BringsItems, Reads, command_of, drop_of, first_by, items_of, only, number_of, pairs, show_of, slice_of, sub_of, words_in, words_of_line};
+ghost use Rattle.arcs.specs.Reading.{Never, is_hex_digit, is_space, BringsItems, Reads, clone_of, command_of, drop_of, first_by, items_of, only, number_of, pairs, show_of, slice_of, sub_of, words_in, words_of_line};
 
 use crate::command::Command;
 use arc_owners::error::AllocError;
@@ -181,6 +181,16 @@ fn slice<A: Allocator>(alloc: A, rest: Rest) -> Result<Command<Vec<u8, A>>, Unre
     Ok(Command::Slice(decoded(alloc, hex)?))
 }
 
+/// `clone I`
+#[tactic(auto, unfolding(crate::specs::Reading::clone_of))]
+fn clone<A: Allocator>(rest: Rest) -> Result<Command<Vec<u8, A>>, Unread>
+    ensures { Reads seen_command BringsItems result (clone_of (words_in rest.entry)) }
+{
+    let (window, rest) = number(rest)?;
+    nothing_left(rest)?;
+    Ok(Command::Clone { window })
+}
+
 /// `sub I S E`
 #[tactic(auto, unfolding(crate::specs::Reading::sub_of))]
 fn sub<A: Allocator>(rest: Rest) -> Result<Command<Vec<u8, A>>, Unread>
@@ -221,6 +231,7 @@ fn command<A: Allocator>(alloc: A, line: &[u8]) -> Result<Command<Vec<u8, A>>, U
     let (verb, rest) = word(Some(line))?;
     match verb {
         b"slice" => slice(alloc, rest),
+        b"clone" => clone(rest),
         b"sub" => sub(rest),
         b"show" => show(rest),
         b"drop" => drop(rest),

@@ -22,8 +22,18 @@ const REPLIES_IN_NEED: [&[u8]; 4] = [
     b"allocation error\nno window\nno window\n",
 ];
 
+/// A script whose fifth window may have no room in the list of windows, and its replies where it has room and where it
+/// has none.
+const CLONES: &[u8] =
+    b"slice 41\nclone 0\nclone 1\nclone 2\nclone 3\nshow 3\nshow 4\ndrop 0\nclone 1\nshow 4\n";
+
+const CLONES_REPLIES: &[u8] = b"h0\nh1\nh2\nh3\nh4\n41\n41\nok\nh5\n41\n";
+
+const CLONES_IN_NEED: &[u8] =
+    b"h0\nh1\nh2\nh3\nallocation error\n41\nno window\nok\nallocation error\nno window\n";
+
 /// Scripts, each with its replies.
-const SCRIPTS: [(&[u8], &[u8]); 15] = [
+const SCRIPTS: [(&[u8], &[u8]); 18] = [
     (HELLO, HELLO_REPLIES),
     (
         b"sub 0 0 1\nslice 0A\nslice -\nshow 0",
@@ -33,6 +43,15 @@ const SCRIPTS: [(&[u8], &[u8]); 15] = [
         b"slice 0102\nsub 0 0 3\nsub 0 2 1\nsub 0 1 1\nshow 1\ndrop 0\nshow 0\n",
         b"h0\nout of range\ninvalid range\nh1\n-\nok\nno window\n",
     ),
+    (
+        b"slice 41\nclone 0\nshow 1\ndrop 0\nshow 1\nclone 0\n",
+        b"h0\nh1\n41\nok\n41\nno window\n",
+    ),
+    (
+        b"clone 0\nslice -\nclone 0\nshow 1\nclone 2\n",
+        b"no window\nh0\nh1\n-\nno window\n",
+    ),
+    (CLONES, CLONES_REPLIES),
     (b"", b""),
     (b"\n", b"bad line\n"),
     (b"show  0\n", b"bad line\n"),
@@ -415,6 +434,34 @@ fn memory_refused(rt: HostRuntime) -> Result<(), Fail> {
         }
     }
     assert!(rt; 32 < cut && 0 < whole, "{cut} were cut, and {whole} whole");
+    Ok(())
+}
+
+/// A heap of its own, larger each time: where the list of windows can't grow, only a clone is refused, and it uses no
+/// number.
+#[test]
+fn clone_refused(rt: HostRuntime) -> Result<(), Fail> {
+    let mut refused = 0u64;
+    let mut whole = 0u64;
+    for blocks in 4096..4352usize {
+        let heap = LocalHeap::new(rt.alloc(), blocks * 16)?;
+        let mut reader = Pieces::new(CLONES, usize::MAX);
+        let mut writer = Taken::new(rt.alloc(), usize::MAX);
+        let mut faults = Taken::new(rt.alloc(), usize::MAX);
+        program(&rt, &heap, &["arc"], &mut reader, &mut writer, &mut faults)?;
+        let text = writer.bytes.as_slice();
+        assert_eq!(rt; heap.used(), 0, "in {blocks} blocks");
+        if text == CLONES_IN_NEED {
+            refused = refused.saturating_add(1);
+        }
+        if text == CLONES_REPLIES {
+            whole = whole.saturating_add(1);
+        }
+    }
+    assert!(rt;
+        0 < refused && 0 < whole,
+        "{refused} were refused, and {whole} whole"
+    );
     Ok(())
 }
 

@@ -4,6 +4,7 @@ ghost use Rattle.std.specs.Prelude.{◌≤◌, vec_len};
 use crate::command::{Command, Reply};
 use arc_block::layout::DefaultLayout;
 use arc_buffer::kinds::Plain;
+use arc_owners::error::OwnerError;
 use arc_read::slice::ArcSlice;
 use std::alloc::Allocator;
 use std::sync::Wait;
@@ -13,6 +14,26 @@ use std::sync::Wait;
 pub struct Entry<A: Allocator> {
     window: ArcSlice<Plain<u8>, DefaultLayout, A>,
     block: usize,
+}
+
+impl<A: Allocator + Copy> Entry<A> {
+    ghost use Rattle.std.specs.Prelude.{◌≡◌, IfOk, IfErr, OnErr};
+    ghost use Rattle.arc_block.specs.Place.{IsOnBlock};
+    ghost use Rattle.arcs.specs.Rows.{row_of};
+
+    /// Another window with the same items at the same place, on the block with the same number. Takes no memory;
+    /// `CountFull` where the block can have no owner more.
+    fn try_clone(&self, rt: &impl Wait) -> Result<Self, OwnerError>
+        ensures ok { IfOk result (λ entry. row_of entry ≡ row_of self.now) }
+        ensures refused { IfErr result (λ e. e ≡ OwnerError.CountFull) }
+        ensures owner { OnErr result (IsOnBlock self.now.window.place) }
+    {
+        let window = self.window.try_clone(rt)?;
+        Ok(Entry {
+            window,
+            block: self.block,
+        })
+    }
 }
 
 /// The windows of a script under their numbers, `None` where one has gone, and how many blocks they have stood on.
@@ -54,6 +75,7 @@ impl<A: Allocator + Copy> Windows<A> {
     {
         match command {
             Command::Slice(items) => self.slice(items),
+            Command::Clone { window } => self.clone_window(rt, window),
             Command::Sub { window, start, end } => self.sub(rt, window, start, end),
             Command::Show { window } => self.show(window),
             Command::Drop { window } => self.release(window),
@@ -98,6 +120,30 @@ impl<A: Allocator + Copy> Windows<A> {
             self.blocks += 1;
         }
         Reply::New(number)
+    }
+
+    /// Another window with the same items at the same place. `NoWindow` where the window isn't there, `Owner` where its
+    /// block can have no owner more. Takes memory for the new entry; refused, the answer is `Alloc`.
+    fn clone_window(&mut self, rt: &impl Wait, i: usize) -> Reply<Vec<u8, A>>
+        ensures { Step byte_setting (table_of self.old) (command.Clone i) (seen_reply result) (table_of self.new) }
+    {
+        let Some(_) = self.entry(i) else {
+            return Reply::NoWindow;
+        };
+        if self.entries.reserve(1).is_err() {
+            return Reply::Alloc;
+        }
+        let Some(entry) = self.entry(i) else {
+            unreachable!()
+        };
+        match entry.try_clone(rt) {
+            Ok(entry) => {
+                let number = self.entries.len();
+                self.entries.push_reserved(Some(entry));
+                Reply::New(number)
+            }
+            Err(e) => Reply::Owner(e),
+        }
     }
 
     /// A window over the part from `start` to `end` of another.

@@ -18,6 +18,12 @@ fn commands(rt: HostRuntime) {
     assert!(rt; slices(&rt, b"slice 48656c6c6f20776f726c64", b"Hello world"));
     assert!(rt;
         matches!(
+            parse(rt.alloc(), b"clone 3"),
+            Ok(Some(Command::Clone { window: 3 }))
+        )
+    );
+    assert!(rt;
+        matches!(
             parse(rt.alloc(), b"sub 1 2 3"),
             Ok(Some(Command::Sub {
                 window: 1,
@@ -64,6 +70,8 @@ fn numbers(rt: HostRuntime) {
     assert!(rt; is_bad(&rt, b"show 00"));
     assert!(rt; is_bad(&rt, b"show +1"));
     assert!(rt; is_bad(&rt, b"show 1000000000000000000"));
+    assert!(rt; is_bad(&rt, b"clone"));
+    assert!(rt; is_bad(&rt, b"clone 1 2"));
     assert!(rt; is_bad(&rt, b"sub 1 2"));
     assert!(rt; is_bad(&rt, b"sub 1 2 3 4"));
 }
