@@ -4,6 +4,7 @@ use Rattle.arc_owners.specs.Histories.{Beginning, live_owners, is_counted}
 use Rattle.arc_owners.specs.Machine.{Machine, may_happen, changed, after_events}
 use Rattle.arc_owners.specs.declared.owners.entry.Entry.{Entry}
 use Rattle.arc_owners.specs.declared.owners.event.Event.{Event}
+use Rattle.arc_owners.specs.declared.owners.event.Event.TheVariants.{Load, ExchangeWon, ExchangeLost, CountUp, FullFound, CountDown, UniquenessLoad}
 use Rattle.arc_owners.specs.declared.owners.entry.Entry.TheVariants.{Down}
 
 -- the machine tells the history: its entries in order, its live owners, and their number; a lone word has one owner
@@ -28,6 +29,16 @@ Agrees began m history =
 abbrev pub RunAgrees : ℕ → Beginning → List Event → List Entry → Type 0
 RunAgrees most began events history = Agrees began (after_events most began events) history
 
+-- the thread that makes an event
+abbrev pub thread_of : Event → ℕ
+thread_of (Load thread by) = thread
+thread_of (ExchangeWon thread by new) = thread
+thread_of (ExchangeLost thread by) = thread
+thread_of (CountUp thread by seen new) = thread
+thread_of (FullFound thread by) = thread
+thread_of (CountDown thread by seen) = thread
+thread_of (UniquenessLoad thread by seen) = thread
+
 -- the entry is what one event of the word machine writes, whatever state tells the history before it and whichever thread makes it
 abbrev pub IsOneEvent : ℕ → Beginning → List Entry → Entry → Type 0
-IsOneEvent most began history entry = (m : Machine) (thread : ℕ) → Tells began m history → (event : Event) × (may_happen most m event ≡ true) × Tells began (changed m event) (history ++ entry ∷ [])
+IsOneEvent most began history entry = (m : Machine) (thread : ℕ) → Tells began m history → (event : Event) × (thread_of event ≡ thread) × (may_happen most m event ≡ true) × Tells began (changed m event) (history ++ entry ∷ [])

@@ -235,6 +235,7 @@ pass_holds t p ready seen = fsep (reached t seen) (fsep (withheld t t.whole seen
 pub record Adds (t : Names) (p : ℕ) (seen before : List Line) (e : Entry) : Type 0 where
   pub after_seen : IsPrefix seen before
   pub own : made_by p before ≡ made_by p seen
+  pub grown : made_by p (before ++ (p, e) ∷ []) ≡ made_by p seen ++ e ∷ []
   pub undisturbed : t.whole ≡ true → seen ≡ before
   pub may : MayFollow t.most (beginning t.counted) (entries_of before) e
   pub legal : IsLegal t.most (beginning t.counted) (entries_of before ++ e ∷ [])

@@ -7,7 +7,7 @@ use Rattle.arc_owners.specs.declared.owners.word.Right.{Right}
 use Rattle.arc_owners.specs.declared.owners.word.Trace.{Trace}
 use Rattle.arc_owners.specs.declared.owners.word.Lodging.{Lodging}
 use denote.RawPtr.{Ptr}
-use Rattle.arc_owners.specs.Book.{Names, Line, Written, Filled, MadeOne, Lowered, AddedTo, entries_of, Lease, lease_after}
+use Rattle.arc_owners.specs.Book.{Names, Line, Written, Filled, MadeOne, AddedTo, entries_of, Lease, lease_after}
 
 -- the right is held, by an owner of this block, to whom the block is lent
 abbrev pub IsHeld : Names → Right → Type 0
@@ -36,10 +36,6 @@ FullIf t p r by b = Filled t p.number p.lines by.owner b r.lines
 -- a new owner was made through this one, or nothing was done
 abbrev pub RaisedIf : Names → Trace → Trace → Right → Right → Bool → Type 0
 RaisedIf t p r by new b = MadeOne t p.number p.lines by.owner b r.lines (new.held, new.owner) × (new.names ≡ t) × (new.lease ≡ by.lease) × (new.born ≡ r.lines)
-
--- this owner ended, where the word counted so many
-abbrev pub Ended : Names → Trace → Trace → Right → ℕ → Type 0
-Ended t p r own n = Lowered t p.number p.lines own.owner n r.lines
 
 -- the word lies at this place for as long as this lease
 abbrev pub IsLodged : Lodging → Ptr → Lease → Type 0

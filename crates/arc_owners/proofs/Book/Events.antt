@@ -31,7 +31,7 @@ module _ (most : ℕ) (began : Beginning) (h : List Entry) (legal : IsLegal most
   pub one-full : (by : ℕ) → MayFollow most began h (Full by) → IsOneEvent most began h (Full by)
   one-full by may m thread t = let e = Full by in let same : live_owners (h ++ e ∷ []) ≡ live_owners h = live-same h e refl refl in
       let at : is_in by m.live ≡ true = ap (is_in by) t.live ∙ may.0 in let counted : m.counted ≡ true = t.counted ∙ c in let full : eqb m.count most ≡ true = eq-eqb m.count most (t.count ∙ may.2) in
-      (FullFound thread by, rw (at, counted, full) refl, tells-more (changed m (FullFound thread by)) e counted (ap (λ (es : List Entry). es ++ e ∷ []) t.entries) (t.live ∙ sym same) (t.count ∙ ap length (sym same)))
+      (FullFound thread by, refl, rw (at, counted, full) refl, tells-more (changed m (FullFound thread by)) e counted (ap (λ (es : List Entry). es ++ e ∷ []) t.entries) (t.live ∙ sym same) (t.count ∙ ap length (sym same)))
 
   found-is : (by n : ℕ) (found : Bool) → MayFollow most began h (Alone by found) → n ≡ length (live_owners h) → eqb n 1 ≡ found
   found-is by n true may is = eq-eqb n 1 (is ∙ ap length (may.2.0 refl))
@@ -44,6 +44,7 @@ module _ (most : ℕ) (began : Beginning) (h : List Entry) (legal : IsLegal most
   one-look by found may m thread t = let e = Alone by found in let same : live_owners (h ++ e ∷ []) ≡ live_owners h = live-same h e refl refl in
       let at : is_in by m.live ≡ true = ap (is_in by) t.live ∙ may.0 in let counted : m.counted ≡ true = t.counted ∙ c in let here : eqb m.count m.count ≡ true = eq-eqb m.count m.count refl in (
         UniquenessLoad thread by m.count,
+        refl,
         rw (at, counted, here) refl,
         tells-more (changed m (UniquenessLoad thread by m.count)) e counted
             (ap (λ (es : List Entry). es ++ Alone by (eqb m.count 1) ∷ []) t.entries ∙ ap (λ (b : Bool). h ++ Alone by b ∷ []) (found-is by m.count found may t.count)) (t.live ∙ sym same) (t.count ∙ ap length (sym same)),
@@ -54,6 +55,7 @@ module _ (most : ℕ) (began : Beginning) (h : List Entry) (legal : IsLegal most
       let at : is_in owner m.live ≡ true = ap (is_in owner) t.live ∙ may in let counted : m.counted ≡ true = t.counted ∙ c in let here : eqb m.count m.count ≡ true = eq-eqb m.count m.count refl in
       let less : m.count - 1 ≡ length (without_number owner (live_owners h)) = omega (arith, t.count, length-without owner (live_owners h), times-in owner (live_owners h) may, owned.once owner) in (
         CountDown thread owner m.count,
+        refl,
         rw (at, counted, here) refl,
         tells-more (changed m (CountDown thread owner m.count)) e counted
             (ap (λ (es : List Entry). es ++ e ∷ []) t.entries) (ap (without_number owner) t.live ∙ sym gone) (less ∙ ap length (sym gone)),
@@ -76,6 +78,7 @@ module _ (most : ℕ) (began : Beginning) (h : List Entry) (legal : IsLegal most
       let at : is_in by m.live ≡ true = ap (is_in by) t.live ∙ may.0 in let counted : m.counted ≡ true = t.counted ∙ c in let here : eqb m.count m.count ≡ true = eq-eqb m.count m.count refl in
       let room : length (live_owners h) < most = may.3 in let below : ltb m.count most ≡ true = lt-ltb m.count most (omega (arith, t.count)) in (
         CountUp thread by m.count new,
+        refl,
         rw (at, counted, here, below, fresh m new t may.1) refl,
         tells-more (changed m (CountUp thread by m.count new)) e counted
             (ap (λ (es : List Entry). es ++ e ∷ []) t.entries) (ap (λ (xs : List ℕ). xs ++ new ∷ []) t.live ∙ sym more) (omega (arith, t.count, ap length more, length-append (live_owners h) (new ∷ []))),

@@ -15,7 +15,7 @@ use Rattle.arc_owners.specs.Histories.{is_counted, MayFollow, IsLegal}
 use Rattle.arc_owners.specs.Machine.{beginning}
 use Rattle.arc_owners.specs.Book.{Names, Line, entries_of, made_by, withheld, has_place, located, Lease, lease_coded, no_lease, Seat, seat_coded, fresh_seat, right, counted_as, tally, pool, stake, how_many, Account, Fits, contents, behind, pass_holds, Adds, left_by, added, next_owner, looked, glanced, glanced_at, raised_by, spoils, lowered_by, told, how_many_live, taken, claim_gain, claimed_by, finished_by}
 use Rattle.arc_owners.proofs.Book.Accounts.{wrote, relet, fits-relet, raised, lowered, fits-aside, fits-raised, fits-lowered, how_many-raised, how_many-lowered, lives, some-live, one-lives, may-look, may-raise, may-full}
-use Rattle.arc_owners.proofs.Book.Rolls.{length-upto, living-relet, entries-append}
+use Rattle.arc_owners.proofs.Book.Rolls.{length-upto, living-relet, entries-append, made-own}
 use Rattle.arc_owners.proofs.Book.Events.{IsStep, one_event}
 use Rattle.arc_owners.proofs.Book.Cells.{row_adds, row_ends, row_writes, row_finds}
 use Rattle.arc_owners.proofs.Book.Parts.{pool_more, pool_less, pool_last, pool_sole, counts, Seen, sees, tally_ends}
@@ -249,6 +249,7 @@ module _ {M : Type 1} {𝓤 : Ura M} (𝓛 : Logic 𝓤) (t : Names) (p : ℕ) (
       -- [roll; right; seats; seat; withheld; reached; tally; located; latest]
       move ! (8 ∷ 5 ∷ 4 ∷ []) $ use3 𝓛 (given (Seen 𝓛 t t.whole seen a.lines) (‵ (latest_of 𝓛 t a.lines) ⊛ ‵ (withheld t t.whole seen))) (sees 𝓛 t t.whole seen a.lines) $ learn ! (λ seen_is. split ! $
       -- [latest; withheld; roll; right; seats; seat; tally; located]
+      let kept : made_by p a.lines ≡ made_by p seen = sym (f.made p) ∙ ap (λ (s : Bool × Seat). s.1.1) seat_is.1 in
       let counted : counts 𝓛 t a.lines = subst (λ (y : Bool). is_counted (beginning y) (entries_of a.lines) ≡ true) (sym began) (begins-counted (entries_of a.lines)) in
       let may : MayFollow t.most (beginning t.counted) (entries_of a.lines) e = lives t a f p ready seat_is.0 o l owner_is.1 in
       let roll' : List (Bool × Lease) = lowered t a f p ready seat_is.0 o in let many : how_many a.roll ≡ how_many roll' + 1 = how_many-lowered t a f p ready seat_is.0 o l owner_is.1 in let none : 0 ≡ how_many roll' = omega arith in
@@ -265,5 +266,5 @@ module _ {M : Type 1} {𝓤 : Ura M} (𝓛 : Logic 𝓤) (t : Names) (p : ℕ) (
       -- [pass]
       nothing ! $ fpack ! (1 ≡ how_many_live a.lines) (λ _. ftrue) (sym one ∙ sym (ap length f.live)) $ move ! (1 ∷ 0 ∷ []) $ fjoin ! $
       nothing ! $ fpack ! (Adds t p seen a.lines e) (λ _. ftrue)
-      (record { after_seen = seen_is.0; own = sym (f.made p) ∙ ap (λ (s : Bool × Seat). s.1.1) seat_is.1; undisturbed = seen_is.1; may = may; legal = subst (λ (es : List Entry). IsLegal t.most (beginning t.counted) es) (entries-append a.lines p e) f'.legal; event = one_event t.most (beginning t.counted) (entries_of a.lines) f.legal counted e tt may }) $
+      (record { after_seen = seen_is.0; own = kept; grown = made-own p a.lines e ∙ ap (λ (es : List Entry). es ++ e ∷ []) kept; undisturbed = seen_is.1; may = may; legal = subst (λ (es : List Entry). IsLegal t.most (beginning t.counted) es) (entries-append a.lines p e) f'.legal; event = one_event t.most (beginning t.counted) (entries_of a.lines) f.legal counted e tt may }) $
       fjoin ! $ fpack ! (List Line) (left_by t p ready seen (λ _. Down o) G) a.lines $ done !))))))

@@ -150,7 +150,7 @@ module _ {M : Type 1} {𝓤 : Ura M} (𝓛 : Logic 𝓤) (t : Names) where
           -- [tally; seats; located; latest; pass; roll]
           assume ! (‵ (pool lease n') ⊛ ‵ (gain a.lines)) $ split ! $ move ! (6 ∷ 1 ∷ []) $ fjoin ! $
           nothing ! $ fpack ! (Adds t p seen a.lines e) (λ _. ftrue)
-          (record { after_seen = so.seen_is.0; own = made-kept; undisturbed = so.seen_is.1; may = may; legal = subst (λ (es : List Entry). Rattle.arc_owners.specs.Histories.IsLegal t.most (beginning t.counted) es) (entries-append a.lines p e) f.legal; event = one_event t.most (beginning t.counted) (entries_of a.lines) so.fits.legal so.counted e step may }) $
+          (record { after_seen = so.seen_is.0; own = made-kept; grown = made-own p a.lines e ∙ ap (λ (es : List Entry). es ++ e ∷ []) made-kept; undisturbed = so.seen_is.1; may = may; legal = subst (λ (es : List Entry). Rattle.arc_owners.specs.Histories.IsLegal t.most (beginning t.counted) es) (entries-append a.lines p e) f.legal; event = one_event t.most (beginning t.counted) (entries_of a.lines) so.fits.legal so.counted e step may }) $
           fjoin ! $ fpack ! (List Line) (left_by t p ready seen entry gain) a.lines $
           -- [added; pool; tally; seats; located; latest; roll]
           move ! (5 ∷ 4 ∷ 6 ∷ 3 ∷ 2 ∷ 1 ∷ 0 ∷ []) $ types.Kit.group ! 6 $ use1 𝓛 (‵ (contents t)) (shuts a' f) $ done !

@@ -133,7 +133,6 @@ impl<const MAX: u64, H: Mark> Owners<MAX, H> {
         by: &Share<H>,
         pass: &mut Pass<H>,
     ) -> Result<Share<H>, CountFull>
-        requires most { (block_of self.now).most ≡ MAX }
         requires share { IsOwnerOf (block_of self.now) by.now }
         requires pass { IsPassOf (block_of self.now) pass.old }
         ensures same { IsSamePass (block_of self.now) pass.old pass.new }

@@ -76,7 +76,7 @@ fn thousand<R: Wait>(
     first: &Share<Open>,
     pass: Pass<Open>,
 ) -> Pass<Open>
-    requires { ((block_of owners.now).most ≡ 8) × IsOwnerOf (block_of owners.now) first.now × IsPassOf (block_of owners.now) pass }
+    requires { IsOwnerOf (block_of owners.now) first.now × IsPassOf (block_of owners.now) pass }
     ensures { IsPassOf (block_of owners.now) result }
 {
     let mut pass = pass;
@@ -95,11 +95,11 @@ fn alone_after_two<R: Threads + Wait + Sync>(rt: &R) -> bool {
     let (mut one, two) = join(
         rt,
         || -> Pass<Open>
-            requires { ((block_of owners).most ≡ 8) × IsOwnerOf (block_of owners) first × IsPassOf (block_of owners) one }
+            requires { IsOwnerOf (block_of owners) first × IsPassOf (block_of owners) one }
             ensures { IsPassOf (block_of owners) result }
         { thousand(rt, &owners, &first, one) },
         || -> Pass<Open>
-            requires { ((block_of owners).most ≡ 8) × IsOwnerOf (block_of owners) first × IsPassOf (block_of owners) two }
+            requires { IsOwnerOf (block_of owners) first × IsPassOf (block_of owners) two }
             ensures { IsPassOf (block_of owners) result }
         { thousand(rt, &owners, &first, two) },
     );

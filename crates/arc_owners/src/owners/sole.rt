@@ -14,7 +14,7 @@ pub(super) fn claimed<H: Mark>(
     right: Right,
     last: Spoils,
 ) -> Result<(Sole<H>, Term), Share<H>>
-    requires right { (right.held ≡ true) × (right.names.counted ≡ true) }
+    requires right { (right.held ≡ true) × (right.names.whole ≡ H.whole) × (right.names.counted ≡ true) }
     requires alone { found ≡ 1 → (right.lease.is_lent ≡ false) × (last.last ≡ true) }
     requires others { found ≢ 1 → right.lease.is_lent ≡ true }
     ensures alone { IfOk result (λ r. (found ≡ 1) × (r.0.right ≡ right) × (r.1.spoils ≡ last)) }

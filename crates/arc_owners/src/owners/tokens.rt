@@ -10,6 +10,7 @@ use std::marker::PhantomData;
 pub struct Owners<const MAX: u64, H: Mark = Open> {
     pub(super) word: Word,
     pub(super) mark: PhantomData<H>,
+    ghost greatest: { word.most ≡ MAX },
     ghost marked: { word.whole ≡ H.whole },
     ghost began: { word.counted ≡ true },
 }
@@ -21,6 +22,7 @@ pub struct Share<H: Mark = Open> {
     pub(super) mark: PhantomData<H>,
     ghost held: { right.held ≡ true },
     ghost lent: { right.lease.is_lent ≡ true },
+    ghost marked: { right.names.whole ≡ H.whole },
     ghost began: { right.names.counted ≡ true },
 }
 
@@ -31,6 +33,7 @@ pub struct Sole<H: Mark = Open> {
     pub(super) mark: PhantomData<H>,
     ghost held: { right.held ≡ true },
     ghost taken: { right.lease.is_lent ≡ false },
+    ghost marked: { right.names.whole ≡ H.whole },
     ghost began: { right.names.counted ≡ true },
 }
 

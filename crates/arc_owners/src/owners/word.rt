@@ -88,7 +88,7 @@ impl Model for Spoils {
 
 impl Word {
     ghost use Rattle.std.specs.Prelude.{◌==◌};
-    ghost use Rattle.arc_owners.specs.Traces.{IsHeld, IsOf, IsNext, SamePass, Wrote, FullIf, RaisedIf, Ended, Claimed, IsLodged};
+    ghost use Rattle.arc_owners.specs.Traces.{IsHeld, IsOf, IsNext, SamePass, Wrote, FullIf, RaisedIf, Ends, Claimed, IsLodged};
     ghost use Rattle.std.specs.Prelude.{◌≢◌, ◌≤◌, []};
 
     /// The word of a new block with one owner, its right, and a pass.
@@ -142,7 +142,7 @@ impl Word {
     /// The number found, which is one less now, and this owner has ended.
     pub(crate) fn lower(&self, own: &mut Right, pass: &mut Trace, last: &mut Spoils) -> u64
         requires { IsHeld self.now own.old × IsOf self.now pass.old }
-        ensures { SamePass self.now pass.old pass.new × Ended self.now pass.old pass.new own.old result × (own.new.held ≡ false) × (last.new.last ≡ (result == 1)) × (last.new.lease ≡ own.old.lease) }
+        ensures { SamePass self.now pass.old pass.new × Ends self.now pass.old pass.new own.old.owner (result == 1) × (own.new.held ≡ false) × (last.new.last ≡ (result == 1)) × (last.new.lease ≡ own.old.lease) }
     {
         unsafe { raw::fetch_sub::<Brand>(self as *const Self as *const u64, 1, SeqCst) }
     }
@@ -156,7 +156,7 @@ impl Word {
         last: &mut Spoils,
     ) -> u64
         requires { IsHeld lodging.now.names own.old × IsOf lodging.now.names pass.old × IsLodged lodging.now place own.old.lease }
-        ensures { SamePass lodging.now.names pass.old pass.new × Ended lodging.now.names pass.old pass.new own.old result × (own.new.held ≡ false) × (last.new.last ≡ (result == 1)) × (last.new.lease ≡ own.old.lease) }
+        ensures { SamePass lodging.now.names pass.old pass.new × Ends lodging.now.names pass.old pass.new own.old.owner (result == 1) × (own.new.held ≡ false) × (last.new.last ≡ (result == 1)) × (last.new.lease ≡ own.old.lease) }
     {
         unsafe { raw::fetch_sub::<Brand>(place, 1, SeqCst) }
     }
@@ -188,7 +188,7 @@ impl Right {
     ghost use mathlib.Core.List.{IsPrefix};
     ghost use Rattle.std.specs.Prelude.{[]};
     ghost use Rattle.arc_owners.specs.Book.{made_by};
-    ghost use Rattle.arc_owners.specs.Traces.{IsSole, IsOf, SamePass, Ended};
+    ghost use Rattle.arc_owners.specs.Traces.{IsSole, IsOf, SamePass, Ends};
 
     /// No right.
     pub(crate) fn none() -> Right
@@ -202,7 +202,7 @@ impl Right {
     /// A sole owner who has the block back ends, without a step.
     pub(crate) fn finish(&mut self, pass: &mut Trace)
         requires { IsSole self.old.names self.old × IsOf self.old.names pass.old × (self.old.names.counted ≡ true) }
-        ensures { SamePass self.old.names pass.old pass.new × Ended self.old.names pass.old pass.new self.old 1 × (self.new.held ≡ false) }
+        ensures { SamePass self.old.names pass.old pass.new × Ends self.old.names pass.old pass.new self.old.owner true × (self.new.held ≡ false) }
     {}
 
     /// A sole owner who has the block back lends it anew.

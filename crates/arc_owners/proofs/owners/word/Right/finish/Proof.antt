@@ -21,6 +21,7 @@ use denote.Struct.Lending.{lent_out}
 use denote.Triple.Walked.{Stays, stay_dropped, stay_ref, walk_of, Goes-dropped, Goes-ref}
 use Rattle.core.specs.contracts.marker.PhantomData as marker
 use Rattle.std.proofs.raw_atomic.Walks.{proved}
+use Rattle.arc_owners.proofs.Book.Ends.{ends_when}
 use Rattle.logbook.proofs.Fields.{Token, ends}
 use Rattle.arc_owners.specs.Book.{Names, Line, right_owns, trace_owns, after_finish}
 use Rattle.arc_owners.specs.contracts.owners.word.Right as Right
@@ -61,4 +62,4 @@ finish_spec 𝓤 𝓛 𝓜 𝓡 wired =
     nothing ! $ move ! (7 ∷ 0 ∷ []) $ fjoin ! $ move ! (4 ∷ 0 ∷ []) $ fjoin ! $
     nothing ! $ feq_i ! (List Val) (vptr b₂ o₂ ∷ []) (vptr b₂ o₂ ∷ []) refl $ move ! (0 ∷ 6 ∷ 7 ∷ []) $ fjoin3 ! $ fjoin ! $ feq_i ! (List Val) (vptr b₁ o₁ ∷ []) (vptr b₁ o₁ ∷ []) refl $ move ! (0 ∷ 4 ∷ 5 ∷ []) $ fjoin3 ! $ fjoin ! $
     returns ! (look_at ! 0 refl) $ free_all ! refl $ keep ! (1 ∷ 0 ∷ 2 ∷ []) $
-    by ! (ends 𝓛 f.ended stayed c y vunit tt (gone, (after, tt)) (tt, (tt, tt)) (fact_i 𝓤 _ (emp 𝓤) ((refl, refl, refl, refl), so, refl))))))))))
+    by ! (ends 𝓛 f.ended stayed c y vunit tt (gone, (after, tt)) (tt, (tt, tt)) (fact_i 𝓤 _ (emp 𝓤) ((refl, refl, refl, refl), ends_when me seen.number seen.lines own.owner 1 ls true refl so, refl))))))))))

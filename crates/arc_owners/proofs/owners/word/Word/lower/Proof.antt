@@ -23,6 +23,7 @@ use denote.Triple.Walked.{Stays, stay_dropped, stay_ref, walk_of, Goes-dropped, 
 use Rattle.core.proofs.atomic.Steps.{tail}
 use Rattle.std.proofs.raw_atomic.Walks.{proved}
 use Rattle.std.proofs.raw_atomic.Calls.{fm, found, finds, subs, seq_cst}
+use Rattle.arc_owners.proofs.Book.Ends.{ends_when}
 use Rattle.logbook.proofs.Fields.{ends}
 use Rattle.arc_owners.specs.Book.{Names, Line, right_owns, trace_owns, after_lower}
 use Rattle.arc_owners.specs.contracts.owners.word.Word as Word
@@ -81,4 +82,4 @@ lower_spec 𝓤 𝓛 𝓜 𝓡 wired =
     nothing ! $ feq_i ! (List Val) (vptr b₃ o₃ ∷ []) (vptr b₃ o₃ ∷ []) refl $ move ! (0 ∷ 6 ∷ 7 ∷ []) $ fjoin3 ! $ fjoin ! $ feq_i ! (List Val) (vptr b₂ o₂ ∷ []) (vptr b₂ o₂ ∷ []) refl $ move ! (0 ∷ 6 ∷ 7 ∷ []) $ fjoin3 ! $ fjoin ! $
     feq_i ! (List Val) (vptr b₁ o₁ ∷ []) (vptr b₁ o₁ ∷ []) refl $ move ! (0 ∷ 4 ∷ 5 ∷ []) $ fjoin3 ! $ fjoin ! $ nothing ! $ fjoin ! $
     returns ! (look_at ! 0 refl) $ free_all ! refl $ keep ! (1 ∷ 0 ∷ 2 ∷ []) $
-    by ! (ends 𝓛 f.ended stayed c y (vint w64 n) n (tt, (gone, (after, (left, tt)))) (tt, (tt, (tt, (tt, tt)))) (fact_i 𝓤 _ (emp 𝓤) ((refl, refl, refl, refl), so, refl, refl, refl))))))))))))))))
+    by ! (ends 𝓛 f.ended stayed c y (vint w64 n) n (tt, (gone, (after, (left, tt)))) (tt, (tt, (tt, (tt, tt)))) (fact_i 𝓤 _ (emp 𝓤) ((refl, refl, refl, refl), ends_when me seen.number seen.lines own.owner n ls (eqb n 1) refl so, refl, refl, refl))))))))))))))))
