@@ -69,47 +69,61 @@ fn replies_at_three(rt: HostRuntime) -> Result<(), Fail> {
     Ok(())
 }
 
-/// Raises and releases a thousand times through one owner. It answers the pass.
+/// Raises and releases a thousand times through one owner. It answers how many owners were made, and the pass.
 fn thousand<R: Wait>(
     rt: &R,
     owners: &Owners<8, Open>,
     first: &Share<Open>,
     pass: Pass<Open>,
-) -> Pass<Open>
+) -> (u32, Pass<Open>)
     requires { IsOwnerOf (block_of owners.now) first.now × IsPassOf (block_of owners.now) pass }
-    ensures { IsPassOf (block_of owners.now) result }
+    ensures { IsPassOf (block_of owners.now) result.1 }
 {
     let mut pass = pass;
+    let mut made = 0u32;
     for _ in 0..1000u32 {
         if let Ok(share) = owners.up_as(rt, first, &mut pass) {
             owners.down_as(share, &mut pass);
+            made = made.wrapping_add(1);
         }
     }
-    pass
+    (made, pass)
 }
 
-/// Two threads raise and release through one owner. It answers whether that is alone afterwards.
-fn alone_after_two<R: Threads + Wait + Sync>(rt: &R) -> bool {
+/// Two threads raise and release through one owner. It answers how many owners each made, and whether that one is alone afterwards.
+fn alone_after_two<R: Threads + Wait + Sync>(rt: &R) -> (u32, u32, bool) {
     let (owners, first, one) = Owners::<8, Open>::new();
     let two = owners.pass(&first);
-    let (mut one, two) = join(
+    let ((ones, mut one), (twos, two)) = join(
         rt,
-        || -> Pass<Open>
+        || -> (u32, Pass<Open>)
             requires { IsOwnerOf (block_of owners) first × IsPassOf (block_of owners) one }
-            ensures { IsPassOf (block_of owners) result }
+            ensures { IsPassOf (block_of owners) result.1 }
         { thousand(rt, &owners, &first, one) },
-        || -> Pass<Open>
+        || -> (u32, Pass<Open>)
             requires { IsOwnerOf (block_of owners) first × IsPassOf (block_of owners) two }
-            ensures { IsPassOf (block_of owners) result }
+            ensures { IsPassOf (block_of owners) result.1 }
         { thousand(rt, &owners, &first, two) },
     );
     owners.learn(&mut one, &two);
-    owners.alone_as(&first, &mut one)
+    (ones, twos, owners.alone_as(&first, &mut one))
 }
 
 #[test]
 fn alone_after_threads(rt: HostRuntime) -> Result<(), Fail> {
-    assert!(rt; alone_after_two(&rt));
+    let (ones, twos, alone) = alone_after_two(&rt);
+    assert!(rt; ones == 1000 && twos == 1000 && alone);
+    Ok(())
+}
+
+#[test]
+fn forgotten_owner_stays(rt: HostRuntime) -> Result<(), Fail> {
+    let (owners, first, mut pass) = Owners::<3, Open>::new();
+    let second = owners.up_as(&rt, &first, &mut pass)?;
+    drop(second);
+    assert!(rt; !owners.alone_as(&first, &mut pass));
+    assert!(rt; matches!(owners.down_as(first, &mut pass), Release::NotLast));
+    assert!(rt; size_of::<Pass<Open>>() == 0);
     Ok(())
 }
 
