@@ -86,6 +86,10 @@ module _ {H : Type 0} {G : Ghosts H} where
   abbrev pub IsTermOf : Share H G → Term → Type 0
   IsTermOf s term = term.spoils.lease ≡ s.right.lease
 
+  -- the history in which a sole owner was made
+  abbrev pub sole_birth : Sole H G → List Line
+  sole_birth s = s.right.born
+
   -- the block, and the number, of a sole owner
   abbrev pub sole_block : Sole H G → Names
   sole_block s = s.right.names

@@ -18,7 +18,7 @@ pub use interleavings::keeps;
 pub use loan::Loan;
 pub use replays::{replay, replay_lone};
 pub use tokens::{Owners, Pass, Release, Share, Sole, Term};
-pub use word::Lodging;
+pub use word::{Lodging, Right};
 pub use world::World;
 
 #[cfg(test)]

@@ -13,7 +13,7 @@ use std::marker::PhantomData;
 use std::sync::Wait;
 
 impl<H: Mark> Pass<H> {
-    /// A pass of no block.
+    /// A pass of no block. Takes no memory.
     pub fn none() -> Pass<H>
         ensures { IsPassOfNone result }
     {
@@ -92,7 +92,9 @@ pub(super) fn released(found: u64, last: Spoils) -> Release
 }
 
 impl<const MAX: u64, H: Mark> Owners<MAX, H> {
-    /// The owners of a new block: one owner, and a pass that has seen nothing.
+    /// The count of a new block, which is 1: one owner, number 0, and a pass that has seen nothing.
+    ///
+    /// `MAX`, at least 2, is how many owners may live at once. Takes no memory.
     pub fn new() -> (Owners<MAX, H>, Share<H>, Pass<H>)
         requires { 2 ≤ MAX }
         ensures most { (block_of result.0).most ≡ MAX }
@@ -116,7 +118,9 @@ impl<const MAX: u64, H: Mark> Owners<MAX, H> {
         )
     }
 
-    /// Reads whether the owner is alone. One load, and one entry, which says what is answered.
+    /// Whether the owner is alone, at the point of the one load that this takes. It adds one entry, Alone with the answer.
+    ///
+    /// Takes no memory. Another thread may raise the count through the same owner right after: `claim_as` is for who wants the block back.
     pub fn alone_as(&self, by: &Share<H>, pass: &mut Pass<H>) -> bool
         requires share { IsOwnerOf (block_of self.now) by.now }
         requires pass { IsPassOf (block_of self.now) pass.old }
@@ -126,7 +130,10 @@ impl<const MAX: u64, H: Mark> Owners<MAX, H> {
         self.word.look(&by.right, &mut pass.trace) == 1
     }
 
-    /// Makes a new owner, tried again until the exchange wins or finds the count at its greatest, which is refused.
+    /// A new owner of the same block. It adds one entry, Up.
+    ///
+    /// `CountFull` exactly where `MAX` owners live, which adds one entry, Full. Takes no memory. It takes `rt` since a raise that
+    /// another thread disturbs is tried again.
     pub fn up_as(
         &self,
         rt: &impl Wait,
@@ -142,7 +149,9 @@ impl<const MAX: u64, H: Mark> Owners<MAX, H> {
         up(&self.word, rt, MAX, by, pass)
     }
 
-    /// Ends an owner by one subtraction. It says whether that was the last one.
+    /// Ends an owner by one subtraction, which is not tried again. It adds one entry, Down, and says whether that was the last owner.
+    ///
+    /// Takes no memory. The last one gets the right to end the lifetime for which the block was lent to the owners.
     pub fn down_as(&self, share: Share<H>, pass: &mut Pass<H>) -> Release
         requires share { IsOwnerOf (block_of self.now) share }
         requires pass { IsPassOf (block_of self.now) pass.old }
@@ -156,7 +165,7 @@ impl<const MAX: u64, H: Mark> Owners<MAX, H> {
         released(found, last)
     }
 
-    /// Afterwards the first pass has seen at least what the other had. It adds no entry.
+    /// Afterwards the first pass has seen at least what the other had. It adds no entry and takes no memory.
     pub fn learn(&self, pass: &mut Pass<H>, other: &Pass<H>)
         requires pass { IsPassOf (block_of self.now) pass.old }
         requires other { IsPassOf (block_of self.now) other.now }
@@ -170,7 +179,7 @@ impl<const MAX: u64, H: Mark> Owners<MAX, H> {
 }
 
 impl<const MAX: u64> Owners<MAX, Open> {
-    /// A new pass, which has seen at least the entry that made this owner, and made nothing.
+    /// A new pass, which has seen at least the entry that made this owner, and made nothing. It adds no entry and takes no memory.
     pub fn pass(&self, by: &Share<Open>) -> Pass<Open>
         requires share { IsOwnerOf (block_of self.now) by.now }
         ensures of { IsPassOf (block_of self.now) result }
@@ -181,5 +190,14 @@ impl<const MAX: u64> Owners<MAX, Open> {
             trace: by.right.fork(),
             mark: PhantomData,
         }
+    }
+}
+
+impl<H: Mark> Share<H> {
+    /// What stands behind the owner: for what is lent to owners, as a `Loan`.
+    pub fn right(&self) -> &Right
+        ensures { result.now ≡ self.now.right }
+    {
+        &self.right
     }
 }

@@ -1,11 +1,12 @@
 //! Sole owners: a block taken back whole, lent anew, or ended without a step.
-ghost use Rattle.std.specs.Prelude.{◌≡◌, ◌≢◌, true, false, IfOk, IfErr};
+ghost use Rattle.std.specs.Prelude.{◌≡◌, ◌≢◌, true, false, [], IfOk, IfErr};
+ghost use mathlib.Core.List.{IsPrefix};
 ghost use Rattle.arc_owners.specs.declared.owners.entry.Entry.TheVariants.{Alone};
-ghost use Rattle.arc_owners.specs.Passes.{block_of, number_of, IsOwnerOf, IsPassOf, IsSamePass, AddsEntry, EndsOwner, TakesBack, HandsBack, IsTermOf, IsLentTo, sole_block, sole_number};
+ghost use Rattle.arc_owners.specs.Passes.{block_of, number_of, IsOwnerOf, IsPassOf, IsSamePass, AddsEntry, EndsOwner, TakesBack, HandsBack, IsTermOf, IsLentTo, sole_block, sole_number, sole_birth, history_of, mine};
 
 use super::tokens::{Owners, Pass, Share, Sole, Term};
 use super::word::{Right, Spoils};
-use crate::mark::Mark;
+use crate::mark::{Mark, Open};
 use std::marker::PhantomData;
 
 /// What an owner has that asked for the block back, and found this number.
@@ -37,7 +38,10 @@ pub(super) fn claimed<H: Mark>(
 }
 
 impl<const MAX: u64, H: Mark> Owners<MAX, H> {
-    /// Reads whether the owner is alone, as `alone_as` does, and takes the block back where it is. Otherwise the owner is handed back.
+    /// Takes the block back where the owner is alone, at the point of the one load that this takes, as `Arc::try_unwrap` does. It adds
+    /// one entry, Alone with the answer.
+    ///
+    /// Where other owners live, this one is handed back as it was. Takes no memory.
     pub fn claim_as(&self, share: Share<H>, pass: &mut Pass<H>) -> Result<(Sole<H>, Term), Share<H>>
         requires share { IsOwnerOf (block_of self.now) share }
         requires pass { IsPassOf (block_of self.now) pass.old }
@@ -53,7 +57,7 @@ impl<const MAX: u64, H: Mark> Owners<MAX, H> {
 }
 
 impl<H: Mark> Sole<H> {
-    /// Lends the block anew, under the same history: the same owner, for a new lifetime. It adds no entry.
+    /// Lends the block anew, under the same history: the same owner, for a new lifetime. It adds no entry and takes no memory.
     pub fn lend(self) -> Share<H>
         ensures same { IsLentTo self result }
     {
@@ -65,7 +69,7 @@ impl<H: Mark> Sole<H> {
         }
     }
 
-    /// Ends this owner, the last one, without an atomic step. The word stays as it was.
+    /// Ends this owner, the last one, without an atomic step: the word stays as it was. It adds one entry, Down, and takes no memory.
     pub fn end_as(self, pass: &mut Pass<H>)
         requires pass { IsPassOf (sole_block self) pass.old }
         ensures same { IsSamePass (sole_block self) pass.old pass.new }
@@ -73,5 +77,19 @@ impl<H: Mark> Sole<H> {
     {
         let mut right = self.right;
         right.finish(&mut pass.trace);
+    }
+}
+
+impl Sole<Open> {
+    /// A new pass, which has seen at least the entry that made this owner, and made nothing. It adds no entry and takes no memory.
+    pub fn pass(&self) -> Pass<Open>
+        ensures of { IsPassOf (sole_block self.now) result }
+        ensures seen { IsPrefix (sole_birth self.now) (history_of result) }
+        ensures mine { mine result ≡ [] }
+    {
+        Pass {
+            trace: self.right.fork(),
+            mark: PhantomData,
+        }
     }
 }

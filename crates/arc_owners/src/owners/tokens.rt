@@ -5,7 +5,7 @@ use super::word::{Right, Spoils, Trace, Word};
 use crate::mark::{Mark, Open};
 use std::marker::PhantomData;
 
-/// The count of a block's owners, in one word, which threads step on by reference. `MAX` is the greatest count.
+/// The count of a block's owners, in one word of 8 bytes, which threads step on by reference. `MAX` is the greatest count.
 #[derive(Drop)]
 pub struct Owners<const MAX: u64, H: Mark = Open> {
     pub(super) word: Word,
@@ -15,7 +15,7 @@ pub struct Owners<const MAX: u64, H: Mark = Open> {
     ghost began: { word.counted ≡ true },
 }
 
-/// One owner of a block. Dropped, it is a forgotten one, which stays an owner for good.
+/// One owner of a block. It has no bytes. Dropped, it is a forgotten one, which stays an owner for good.
 #[derive(Drop)]
 pub struct Share<H: Mark = Open> {
     pub(super) right: Right,
@@ -26,7 +26,8 @@ pub struct Share<H: Mark = Open> {
     ghost began: { right.names.counted ≡ true },
 }
 
-/// A sole owner who took the block back whole: no other owner lives, and the block isn't lent. It lends it anew, or ends.
+/// A sole owner who took the block back whole: no other owner lives, and the block isn't lent. It lends it anew, or ends. It has no
+/// bytes. Dropped, it stays the owner for good.
 #[derive(Drop)]
 pub struct Sole<H: Mark = Open> {
     pub(super) right: Right,
@@ -37,7 +38,7 @@ pub struct Sole<H: Mark = Open> {
     ghost began: { right.names.counted ≡ true },
 }
 
-/// What one caller has seen of a block's history, and made of it. It has no bytes.
+/// What one caller has seen of a block's history, and made of it. It has no bytes, and is for contracts alone.
 #[derive(Drop)]
 pub struct Pass<H: Mark = Open> {
     pub(super) trace: Trace,
@@ -45,7 +46,7 @@ pub struct Pass<H: Mark = Open> {
 }
 
 /// The right to end the lifetime for which a block was lent. It is handed out once: to the last owner at its end, or to a sole owner
-/// who takes the block back.
+/// who takes the block back. It has no bytes. Dropped, the lifetime never ends, and what was lent for it never comes back.
 #[derive(Drop)]
 pub struct Term {
     pub(super) spoils: Spoils,
