@@ -3,6 +3,7 @@
 mod counted;
 mod entry;
 mod event;
+mod home;
 mod interleavings;
 mod loan;
 mod raw;
