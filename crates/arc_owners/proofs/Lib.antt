@@ -6,3 +6,4 @@ pub mod Told
 pub mod Rows
 pub mod Book
 pub mod Runs
+pub mod Realized

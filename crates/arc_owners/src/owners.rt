@@ -15,7 +15,7 @@ mod world;
 
 pub use entry::Entry;
 pub use event::Event;
-pub use interleavings::keeps;
+pub use interleavings::{is_run, keeps};
 pub use loan::Loan;
 pub use replays::{replay, replay_lone};
 pub use tokens::{Owners, Pass, Release, Share, Sole, Term};

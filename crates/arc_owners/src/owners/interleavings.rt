@@ -1,13 +1,14 @@
 //! The law of every interleaving.
 ghost use Rattle.std.specs.Prelude.{◌≡◌, ℕ, ◌≤◌, IsTrue, List, [], ◌∷◌, ◌++◌, length};
-ghost use Rattle.arc_owners.specs.declared.owners.entry.Entry.{Entry};
+ghost use Rattle.arc_owners.specs.declared.owners.entry.Entry.{Entry as AnyEntry};
 ghost use Rattle.arc_owners.specs.declared.owners.entry.Entry.TheVariants.{Down};
 ghost use Rattle.arc_owners.specs.declared.owners.event.Event.{Event as AnyEvent};
-ghost use Rattle.arc_owners.specs.Histories.{Beginning, live_owners, IsLegal};
+ghost use Rattle.arc_owners.specs.Histories.{Beginning, Counted, live_owners, IsLegal};
 ghost use Rattle.arc_owners.specs.Machine.{after_events, run};
 ghost use Rattle.arc_owners.specs.Agreement.{RunAgrees, ended_by};
 ghost use Rattle.arc_owners.specs.Laws.{PromotedOnce, LosersAfterWinner, NothingAfterLast, ReleasedByLast, AloneIsExact};
 
+use super::entry::Entry;
 use super::event::Event;
 
 /// The law of every interleaving. Whatever these events are and whichever threads make them, the run of the word
@@ -20,21 +21,21 @@ pub fn keeps<const MAX: u64>(events: &[Event])
     ensures agrees { (began : Beginning) →
         RunAgrees MAX began events.now (after_events MAX began events.now).entries }
     // Each history with which the run agrees is legal.
-    ensures legal { (began : Beginning) (history : List Entry) →
+    ensures legal { (began : Beginning) (history : List AnyEntry) →
         RunAgrees MAX began events.now history → IsLegal MAX began history }
     // The count is the number of live owners, on a word that has one.
     ensures counts_owners { (began : Beginning) → let m = after_events MAX began events.now in
         IsTrue m.counted → m.count ≡ length (live_owners m.entries) }
     ensures within { (began : Beginning) → (after_events MAX began events.now).count ≤ MAX }
-    ensures promoted_once { (began : Beginning) (history : List Entry) →
+    ensures promoted_once { (began : Beginning) (history : List AnyEntry) →
         RunAgrees MAX began events.now history → PromotedOnce history }
-    ensures losers_after_winner { (began : Beginning) (history : List Entry) →
+    ensures losers_after_winner { (began : Beginning) (history : List AnyEntry) →
         RunAgrees MAX began events.now history → LosersAfterWinner history }
-    ensures nothing_after_last { (began : Beginning) (history : List Entry) →
+    ensures nothing_after_last { (began : Beginning) (history : List AnyEntry) →
         RunAgrees MAX began events.now history → NothingAfterLast history }
-    ensures released_by_last { (began : Beginning) (history : List Entry) →
+    ensures released_by_last { (began : Beginning) (history : List AnyEntry) →
         RunAgrees MAX began events.now history → ReleasedByLast history }
-    ensures alone_is_exact { (began : Beginning) (history : List Entry) →
+    ensures alone_is_exact { (began : Beginning) (history : List AnyEntry) →
         RunAgrees MAX began events.now history → AloneIsExact history }
     // Once nobody lives no event does anything.
     ensures no_event_after_last { (began : Beginning) (later : List AnyEvent) →
@@ -49,4 +50,11 @@ pub fn keeps<const MAX: u64>(events: &[Event])
     ensures no_event_after_end { (began : Beginning) (owner : ℕ) (later : List AnyEvent) →
         let m = after_events MAX began events.now in
         m.live ≡ owner ∷ [] → run MAX (ended_by owner m) later ≡ ended_by owner m }
+{}
+
+/// The converse for a word that begins with a count: each legal history is that of a run, so what a count writes with its
+/// steps is what some events write. There is nothing to run, and no memory to take.
+pub fn is_run<const MAX: u64>(history: &[Entry])
+    requires { IsLegal MAX Counted history.now }
+    ensures { (events : List AnyEvent) × RunAgrees MAX Counted events history.now }
 {}
