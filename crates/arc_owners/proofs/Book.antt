@@ -15,3 +15,4 @@ pub mod Stakes
 pub mod Lodged
 pub mod Returns
 pub mod Loans
+pub mod Bares

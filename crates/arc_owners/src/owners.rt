@@ -1,5 +1,6 @@
 //! Who owns a block: the events that threads make on its word, the history that they write, and the plain program that replays them.
 
+mod bare;
 mod counted;
 mod entry;
 mod event;
