@@ -16,3 +16,4 @@ pub mod Lodged
 pub mod Returns
 pub mod Loans
 pub mod Bares
+pub mod Keeps
