@@ -16,3 +16,5 @@ pub mod Lodged
 pub mod Returns
 pub mod Loans
 pub mod Homes
+pub mod Bares
+pub mod Keeps

@@ -1,10 +1,12 @@
 //! Who owns a block: the events that threads make on its word, the history that they write, and the plain program that replays them.
 
+mod bare;
 mod counted;
 mod entry;
 mod event;
 mod home;
 mod interleavings;
+mod kept;
 mod loan;
 mod raw;
 mod replays;
@@ -16,6 +18,7 @@ mod world;
 pub use entry::Entry;
 pub use event::Event;
 pub use interleavings::{is_run, keeps};
+pub use kept::Kept;
 pub use loan::Loan;
 pub use replays::{replay, replay_lone};
 pub use tokens::{Owners, Pass, Release, Share, Sole, Term};
