@@ -79,6 +79,11 @@ fn counted_run(rt: HostRuntime) -> Result<(), Fail> {
 }
 
 #[test]
+fn history_of_no_entries() {
+    is_run::<3>(&[]);
+}
+
+#[test]
 fn lone_runs(rt: HostRuntime) -> Result<(), Fail> {
     keeps::<3>(&PROMOTION);
     let world = replay_lone::<3, _>(rt.alloc(), &PROMOTION)?;
