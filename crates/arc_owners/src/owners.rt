@@ -7,6 +7,7 @@ mod event;
 mod home;
 mod interleavings;
 mod kept;
+mod lent;
 mod loan;
 mod raw;
 mod replays;

@@ -13,7 +13,7 @@ use std::marker::{Model, PhantomData};
 
 /// That what a box owns comes back at this place to whoever has the term of a lease. It has no bytes, and can be had again.
 pub struct Kept<T, A: Allocator> {
-    marker: PhantomData<(T, A)>,
+    pub(super) marker: PhantomData<(T, A)>,
     pub ghost value: { T },
     pub ghost alloc: { A },
     pub ghost at: { Ptr } by { coded_ptr },
