@@ -12,7 +12,7 @@ use std::marker::{Model, PhantomData};
 
 /// A borrow of what a box owns, for the lifetime of a lease. It has no bytes, and is there once: it is cut into what the owners read.
 pub(crate) struct Lent<T, A: Allocator> {
-    marker: PhantomData<(T, A)>,
+    pub(super) marker: PhantomData<(T, A)>,
     pub(crate) ghost value: { T },
     pub(crate) ghost alloc: { A },
     pub(crate) ghost at: { Ptr } by { coded_ptr },

@@ -63,7 +63,7 @@ impl Model for Trace {
 
 /// That a count's word lies at a place for as long as its block is lent. It has no bytes, and can be had again.
 pub struct Lodging {
-    marker: PhantomData<()>,
+    pub(super) marker: PhantomData<()>,
     pub ghost names: { Names } by { names_coded },
     pub ghost at: { Ptr } by { coded_ptr },
     pub ghost lifetime: { ℕ },
