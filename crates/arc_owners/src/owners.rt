@@ -9,6 +9,7 @@ mod interleavings;
 mod kept;
 mod lent;
 mod loan;
+mod piece;
 mod raw;
 mod replays;
 mod sole;

@@ -9,6 +9,7 @@ use std::alloc::Allocator;
 use std::marker::PhantomData;
 
 /// A block's memory.
+#[derive(Drop)]
 pub(crate) struct Room<V> {
     pub(crate) word: Word,
     pub(crate) value: V,
