@@ -1,7 +1,7 @@
 //! A value in memory of its own, with a count of its owners.
-ghost use Rattle.std.specs.Prelude.{◌≡◌, ◌≤◌, IfOk, IfErr, IfSome, is_some};
-ghost use Rattle.arc_owners.specs.declared.owners.entry.Entry.TheVariants.{Full};
-ghost use Rattle.arc_owners.specs.Passes.{number_of, IsOwnerOf, IsPassOf, IsSamePass, AddsEntry, MakesOwner, EndsOwner};
+ghost use Rattle.std.specs.Prelude.{◌≡◌, ◌≤◌, IfOk, IfErr, IfSome, is_some, true, false};
+ghost use Rattle.arc_owners.specs.declared.owners.entry.Entry.TheVariants.{Alone, Full};
+ghost use Rattle.arc_owners.specs.Passes.{number_of, IsOwnerOf, IsPassOf, IsSamePass, AddsEntry, MakesOwner, EndsOwner, HandsBack};
 
 use super::bare::Bare;
 use super::home::Room;
@@ -16,6 +16,8 @@ use std::alloc::Allocator;
 use std::sync::Wait;
 
 /// One owner of a value that lies in memory of its own, next to the word that counts the owners. `MAX` is the greatest count.
+/// Dropped, it is a forgotten owner: the memory stays for good.
+#[derive(Drop)]
 pub(crate) struct Piece<V, A: Allocator, const MAX: u64, H: Mark = Open> {
     at: *mut Room<V>,
     alloc: A,
@@ -80,6 +82,37 @@ impl<V: Drop, A: Allocator + Copy, const MAX: u64, H: Mark> Piece<V, A, MAX, H> 
             kept: self.kept.again(),
             share,
         })
+    }
+
+    /// Whether no other owner lives. Takes no memory.
+    pub(crate) fn is_unique_as(&self, pass: &mut Pass<H>) -> bool
+        requires pass { IsPassOf self.now.lodging.names pass.old }
+        ensures same { IsSamePass self.now.lodging.names pass.old pass.new }
+        ensures entry { AddsEntry self.now.lodging.names pass.old pass.new (Alone (number_of self.now.share) result) }
+    {
+        unsafe { Owners::<MAX, H>::alone_raw(self.word, &self.lodging, &self.share, pass) }
+    }
+
+    /// The value and the memory back, where no other owner lives: then this one ends. Else it is handed back. Takes no memory.
+    pub(crate) fn try_into_value_as(self, pass: &mut Pass<H>) -> Result<V, Self>
+        requires pass { IsPassOf self.lodging.names pass.old }
+        ensures same { IsSamePass self.lodging.names pass.old pass.new }
+        ensures alone { IfOk result (λ _. (middle : Pass H) × AddsEntry self.lodging.names pass.old middle (Alone (number_of self.share) true)
+            × EndsOwner self.lodging.names middle pass.new (number_of self.share) true) }
+        ensures value { IfOk result (λ value. value ≡ self.loan.value) }
+        ensures others { IfErr result (λ piece. AddsEntry self.lodging.names pass.old pass.new (Alone (number_of self.share) false)
+            × HandsBack self.share piece.share × (piece.lodging.names ≡ self.lodging.names) × (piece.loan.value ≡ self.loan.value)) }
+    {
+        let Piece { at, alloc, word, value, lodging, loan, kept, share } = self;
+        match unsafe { Owners::<MAX, H>::claim_raw(word, &lodging, share, pass) } {
+            Ok((sole, term)) => {
+                let memory = unsafe { kept.take(at, alloc, term) };
+                let Room { word: _, value } = Box::into_inner(memory.into_box());
+                sole.end_as(pass);
+                Ok(value)
+            }
+            Err(share) => Err(Piece { at, alloc, word, value, lodging, loan, kept, share }),
+        }
     }
 
     /// Ends this owner. The last one gives the memory back, and gets the value.
