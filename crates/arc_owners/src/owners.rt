@@ -30,4 +30,6 @@ pub use world::World;
 #[cfg(test)]
 mod counted_tests;
 #[cfg(test)]
+mod piece_tests;
+#[cfg(test)]
 mod tests;

@@ -1,7 +1,7 @@
 //! A value in memory of its own, with a count of its owners.
-ghost use Rattle.std.specs.Prelude.{◌≡◌, ◌≤◌, IfOk, IfErr, IfSome, is_some, true, false};
+ghost use Rattle.std.specs.Prelude.{◌≡◌, ◌≤◌, IfOk, IfErr, IfSome, is_some, true, false, []};
 ghost use Rattle.arc_owners.specs.declared.owners.entry.Entry.TheVariants.{Alone, Full};
-ghost use Rattle.arc_owners.specs.Passes.{number_of, IsOwnerOf, IsPassOf, IsSamePass, AddsEntry, MakesOwner, EndsOwner, HandsBack};
+ghost use Rattle.arc_owners.specs.Passes.{number_of, birth_of, history_of, IsPassOf, IsSamePass, AddsEntry, MakesOwner, EndsOwner, HandsBack};
 
 use super::bare::Bare;
 use super::home::Room;
@@ -13,6 +13,7 @@ use super::word::Lodging;
 use crate::error::{AllocError, CountFull};
 use crate::mark::{Mark, Open};
 use std::alloc::Allocator;
+use std::marker::PhantomData;
 use std::sync::Wait;
 
 /// One owner of a value that lies in memory of its own, next to the word that counts the owners. `MAX` is the greatest count.
@@ -38,7 +39,8 @@ impl<V: Drop, A: Allocator + Copy, const MAX: u64, H: Mark> Piece<V, A, MAX, H> 
     /// The first owner of a value, with a pass of its block. Takes memory; refused, the value comes back.
     pub(crate) fn new(alloc: A, value: V) -> Result<(Self, Pass<H>), V>
         requires { 2 ≤ MAX }
-        ensures made { IfOk result (λ r. r.0.loan.value ≡ value) }
+        ensures made { IfOk result (λ r. (r.0.loan.value ≡ value) × (number_of r.0.share ≡ 0) × (birth_of r.0.share ≡ [])) }
+        ensures pass { IfOk result (λ r. IsPassOf r.0.lodging.names r.1 × (history_of r.1 ≡ [])) }
         ensures refused { IfErr result (λ back. back ≡ value) }
     {
         let (owners, share, pass) = Owners::<MAX, H>::new();
@@ -53,8 +55,23 @@ impl<V: Drop, A: Allocator + Copy, const MAX: u64, H: Mark> Piece<V, A, MAX, H> 
         let mut right = share.right;
         let (at, alloc, lent, kept) = Lent::of(Bare::of(memory), &right);
         let (word, lodging, value, loan) = unsafe { Room::settle(lent, at, &mut right) };
-        let share = Share { right, mark: std::marker::PhantomData };
-        Ok((Piece { at, alloc, word, value, lodging, loan, kept, share }, pass))
+        let share = Share {
+            right,
+            mark: PhantomData,
+        };
+        Ok((
+            Piece {
+                at,
+                alloc,
+                word,
+                value,
+                lodging,
+                loan,
+                kept,
+                share,
+            },
+            pass,
+        ))
     }
 
     /// The value.
@@ -71,7 +88,9 @@ impl<V: Drop, A: Allocator + Copy, const MAX: u64, H: Mark> Piece<V, A, MAX, H> 
         ensures made { IfOk result (λ piece. MakesOwner self.now.lodging.names pass.old pass.new self.now.share piece.share × (piece.loan.value ≡ self.now.loan.value)) }
         ensures full { IfErr result (λ _. AddsEntry self.now.lodging.names pass.old pass.new (Full (number_of self.now.share))) }
     {
-        let share = unsafe { Owners::<MAX, H>::up_raw(self.word, rt, &self.lodging, &self.share, pass)? };
+        let share = unsafe {
+            Owners::<MAX, H>::up_raw(self.word, rt, &self.lodging, &self.share, pass)?
+        };
         Ok(Piece {
             at: self.at,
             alloc: self.alloc,
@@ -103,7 +122,16 @@ impl<V: Drop, A: Allocator + Copy, const MAX: u64, H: Mark> Piece<V, A, MAX, H> 
         ensures others { IfErr result (λ piece. AddsEntry self.lodging.names pass.old pass.new (Alone (number_of self.share) false)
             × HandsBack self.share piece.share × (piece.lodging.names ≡ self.lodging.names) × (piece.loan.value ≡ self.loan.value)) }
     {
-        let Piece { at, alloc, word, value, lodging, loan, kept, share } = self;
+        let Piece {
+            at,
+            alloc,
+            word,
+            value,
+            lodging,
+            loan,
+            kept,
+            share,
+        } = self;
         match unsafe { Owners::<MAX, H>::claim_raw(word, &lodging, share, pass) } {
             Ok((sole, term)) => {
                 let memory = unsafe { kept.take(at, alloc, term) };
@@ -111,7 +139,16 @@ impl<V: Drop, A: Allocator + Copy, const MAX: u64, H: Mark> Piece<V, A, MAX, H> 
                 sole.end_as(pass);
                 Ok(value)
             }
-            Err(share) => Err(Piece { at, alloc, word, value, lodging, loan, kept, share }),
+            Err(share) => Err(Piece {
+                at,
+                alloc,
+                word,
+                value,
+                lodging,
+                loan,
+                kept,
+                share,
+            }),
         }
     }
 
@@ -122,7 +159,16 @@ impl<V: Drop, A: Allocator + Copy, const MAX: u64, H: Mark> Piece<V, A, MAX, H> 
         ensures entry { EndsOwner self.lodging.names pass.old pass.new (number_of self.share) (is_some result) }
         ensures value { IfSome result (λ value. value ≡ self.loan.value) }
     {
-        let Piece { at, alloc, word, value: _, lodging, loan: _, kept, share } = self;
+        let Piece {
+            at,
+            alloc,
+            word,
+            value: _,
+            lodging,
+            loan: _,
+            kept,
+            share,
+        } = self;
         match unsafe { Owners::<MAX, H>::down_raw(word, &lodging, share, pass) } {
             Release::Last(term) => {
                 let memory = unsafe { kept.take(at, alloc, term) };

@@ -1,0 +1,96 @@
+//! A value in memory of its own: who gets it back, and that its memory is given back once.
+use super::piece::Piece;
+use crate::error::AllocError;
+use crate::mark::{Open, Whole};
+use linked_list_allocator::LocalHeap;
+use std::test::Fail;
+
+#[test]
+fn last_owner_gets_the_value(rt: HostRuntime) -> Result<(), Fail> {
+    let Ok((first, mut pass)) = Piece::<u64, _, 3, Open>::new(rt.alloc(), 7) else {
+        return Err(AllocError.into());
+    };
+    assert_eq!(rt; *first.get(), 7);
+    assert!(rt; first.is_unique_as(&mut pass));
+    let second = first.try_clone_as(&rt, &mut pass)?;
+    assert_eq!(rt; *second.get(), 7);
+    assert!(rt; !second.is_unique_as(&mut pass));
+    assert!(rt; first.release_as(&mut pass).is_none());
+    assert!(rt; second.is_unique_as(&mut pass));
+    assert_eq!(rt; *second.get(), 7);
+    assert_eq!(rt; second.release_as(&mut pass), Some(7));
+    Ok(())
+}
+
+#[test]
+fn taken_back_where_alone(rt: HostRuntime) -> Result<(), Fail> {
+    let Ok((first, mut pass)) = Piece::<u64, _, 3, Whole>::new(rt.alloc(), 7) else {
+        return Err(AllocError.into());
+    };
+    let second = first.try_clone_as(&rt, &mut pass)?;
+    let Err(first) = first.try_into_value_as(&mut pass) else {
+        return Err("beside another owner".into());
+    };
+    assert!(rt; second.release_as(&mut pass).is_none());
+    let Ok(value) = first.try_into_value_as(&mut pass) else {
+        return Err("alone".into());
+    };
+    assert_eq!(rt; value, 7);
+    Ok(())
+}
+
+#[test]
+fn fourth_owner_refused(rt: HostRuntime) -> Result<(), Fail> {
+    let Ok((first, mut pass)) = Piece::<u64, _, 3, Open>::new(rt.alloc(), 7) else {
+        return Err(AllocError.into());
+    };
+    let second = first.try_clone_as(&rt, &mut pass)?;
+    let third = second.try_clone_as(&rt, &mut pass)?;
+    assert!(rt; third.try_clone_as(&rt, &mut pass).is_err());
+    assert!(rt; first.release_as(&mut pass).is_none());
+    let fourth = third.try_clone_as(&rt, &mut pass)?;
+    assert_eq!(rt; *fourth.get(), 7);
+    Ok(())
+}
+
+/// The memory is taken once, stays while an owner lives, and is given back with the last one, in either order of ends.
+#[test]
+fn memory_given_back_once(rt: HostRuntime) -> Result<(), Fail> {
+    let heap = LocalHeap::new(rt.alloc(), 256)?;
+    let before = heap.used();
+    for order in 0..2u32 {
+        let Ok((first, mut pass)) = Piece::<u64, _, 3, Open>::new(&heap, 7) else {
+            return Err(AllocError.into());
+        };
+        let taken = heap.used();
+        assert!(rt; before < taken);
+        let second = first.try_clone_as(&rt, &mut pass)?;
+        assert_eq!(rt; heap.used(), taken);
+        let (early, late) = if order == 0 {
+            (first, second)
+        } else {
+            (second, first)
+        };
+        assert!(rt; early.release_as(&mut pass).is_none());
+        assert_eq!(rt; heap.used(), taken);
+        assert_eq!(rt; late.release_as(&mut pass), Some(7));
+        assert_eq!(rt; heap.used(), before);
+    }
+    Ok(())
+}
+
+#[test]
+fn value_handed_back_without_memory(rt: HostRuntime) -> Result<(), Fail> {
+    let heap = LocalHeap::new(rt.alloc(), 32)?;
+    let Ok((first, mut pass)) = Piece::<[u64; 3], _, 3, Open>::new(&heap, [1, 2, 3]) else {
+        return Err(AllocError.into());
+    };
+    let used = heap.used();
+    let Err(back) = Piece::<[u64; 3], _, 3, Open>::new(&heap, [4, 5, 6]) else {
+        return Err("two pieces in the room of one".into());
+    };
+    assert_eq!(rt; back, [4, 5, 6]);
+    assert_eq!(rt; heap.used(), used);
+    assert_eq!(rt; first.release_as(&mut pass), Some([1, 2, 3]));
+    Ok(())
+}
