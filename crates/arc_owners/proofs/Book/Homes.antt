@@ -1,5 +1,5 @@
 -- A block's memory that is lent for the lifetime of a lease: its word is lodged, and its value is there for the owners to read. Assumes `Logic`.
-use Rattle.std.proofs.Common.{ℕ, zero, ◌+◌, List, [], ◌∷◌, ◌++◌, subst}
+use Rattle.std.proofs.Common.{ℕ, zero, ◌+◌, List, [], ◌∷◌, subst}
 use seplogic.Ra.Ura.{Ura}
 use mir.Syntax.{Ty}
 use mir.Val.{Val}

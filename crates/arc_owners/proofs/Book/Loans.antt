@@ -1,7 +1,7 @@
 -- What a `&` has for the lifetime of a lease can be had again, and is had for any lifetime that ends no later. Assumes `Logic`.
-use Rattle.std.proofs.Common.{ℕ, List, [], ◌∷◌, ◌++◌}
+use Rattle.std.proofs.Common.{ℕ, [], ◌∷◌, ◌++◌}
 use seplogic.Ra.Ura.{Ura}
-use base.Logic.{SProp, ent, sep, snd∗}
+use base.Logic.{ent, sep, snd∗}
 use base.Fml.{Lft, Fml, flft, fshr_bor}
 use contract.BorrowLft.{meet_⊑_left}
 use types.Na.{before-Incl, before_lent}

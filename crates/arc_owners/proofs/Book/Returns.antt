@@ -1,13 +1,12 @@
 -- What is lent for the lifetime of a lease comes back to whoever ends it: the last owner, or a sole one. Assumes `Logic`.
-use Rattle.std.proofs.Common.{Bool, true, false, List, [], ◌∷◌}
+use Rattle.std.proofs.Common.{Bool, true, false, [], ◌∷◌}
 use seplogic.Ra.Ura.{Ura}
-use base.Fraction.{full_share}
 use base.Logic.{SProp, ent, sep, upd, via, never_e, upd_i, id⊢}
-use base.Fml.{Fml, ftrue, fsep, flft, flent, finv, fdead}
+use base.Fml.{Fml, flent, finv}
 use types.Logic.{Logic, sem}
 use types.Keyed.{ticket, ticket_once}
 use types.Tokens.{lft_end, lent_back}
-use types.Kit.{‵, raw, ◌⊛◌, later, ◌$◌, ◌∵◌, !, qed, by, move, keep, fsplit, fpick, fpack, frame, assume, suffices, updating, await, now, done, use1, use2}
+use types.Kit.{‵, later, ◌$◌, ◌∵◌, !, qed, by, move, fsplit, fpick, fpack, frame, assume, suffices, updating, await, now, done, use2}
 use Rattle.arc_owners.specs.Book.{Lease, kept_if, kept_for, spoils}
 
 module _ {M : Type 1} {𝓤 : Ura M} (𝓛 : Logic 𝓤) (P : Fml) (l : Lease) where

@@ -1,22 +1,19 @@
 -- A step by an owner who opens the word with its own part of the lifetime, and who may have given that up once the step is done: the word may then be gone. Assumes `Logic`.
-use Rattle.std.proofs.Common.{◌≡◌, ℕ, ◌+◌, ◌-◌, ◌%◌, ◌^◌, ◌<◌, Bool, true, eqb, List, [], ◌∷◌, ◌++◌, refl, sym, ap, subst, arith}
+use Rattle.std.proofs.Common.{◌≡◌, ℕ, ◌+◌, ◌-◌, ◌%◌, ◌^◌, ◌<◌, Bool, true, List, [], ◌∷◌, refl, sym, arith}
 use mathlib.Core.List.{Mem, mem-cons, not-mem-nil}
 use mathlib.Core.HLevel.{⊥_prop}
 use mathlib.Core.Logic.Or
 use seplogic.Ra.Ura.{Ura}
 use base.FractionLaws.{Counts}
 use base.Share.{quarter}
-use base.Logic.{SProp, ent, sep, wand, ex, all, guard, upd, never, never_e, via, fst∗, id⊢, upd_i, ex_i, apply∗}
-use base.Fml.{Lft, Share, Fml, ftrue, fsep, fex, flft, fbor, fnamed}
+use base.Logic.{SProp, ent, sep, wand, ex, guard, upd, never, never_e, via, fst∗, upd_i, ex_i, apply∗}
+use base.Fml.{Lft, Share, Fml, fex, flft, fbor, fnamed}
 use types.Logic.{Logic, sem}
-use types.RcWeak.{part, part_in}
-use types.Kit.{‵, raw, ◌⊛◌, some, ◌$◌, ◌∵◌, !, qed, by, move, keep, drop, split, split3, join, group, fsplit, fjoin, fpick, fpack, pick, frame, each, assume, show, check, done, use1, use2, use3, rewrite, suffices, settle}
+use types.RcWeak.{part_in}
+use types.Kit.{‵, raw, ◌⊛◌, ◌$◌, ◌∵◌, !, qed, by, move, drop, split, split3, join, group, fsplit, fjoin, fpick, fpack, frame, each, assume, show, check, done, use1, use2, use3, rewrite, suffices, settle}
 use denote.RawPtr.{Ptr, block_ptr, null_ptr}
-use denote.Steps.{nothing}
 use Rattle.core.specs.Sync.RawAtomic.{Shift, rests, opens, shuts, enters, leaves, word, along, shifted, back, found, if_none, asks, always}
-use Rattle.arc_owners.specs.declared.owners.entry.Entry.{Entry}
-use Rattle.arc_owners.specs.declared.owners.entry.Entry.TheVariants.{Down, Alone}
-use Rattle.arc_owners.specs.Book.{Names, Line, Lease, right, staked, stake, contents, behind, lies, counting, lodged, pass_holds, trace_owns, spoils, told, lowered_by, Written, AddedTo, Lowered, after_lower, claimed_by, claim_gain, after_claim}
+use Rattle.arc_owners.specs.Book.{Names, Line, Lease, right, staked, stake, contents, behind, lies, counting, lodged, pass_holds, trace_owns, lowered_by, after_lower, claimed_by, after_claim}
 use Rattle.arc_owners.proofs.Book.Moves.{lowers, claims}
 use Rattle.arc_owners.proofs.Book.Places as places
 

@@ -1,16 +1,14 @@
 -- `settle` cuts what is lent of a block's memory: its word is lodged, and its value is there for the owners to read. It touches no memory.
-use Rattle.std.proofs.Common.{◌≡◌, ℕ, ◌+◌, Bool, true, false, List, [], ◌∷◌, ◌++◌, refl, sym, ap, ◌∙◌, subst}
+use Rattle.std.proofs.Common.{◌≡◌, ℕ, ◌+◌, Bool, true, List, [], ◌∷◌, ◌++◌, refl, sym, ap, ◌∙◌, subst}
 use mir.Syntax.{a_type, dcons, dnil}
 use mir.Raw.{raw as bare}
 use mir.Val.{Val, vptr, vstruct, vcons, vnil, of_list}
 use mir.MapTy.{inst_fn}
-use base.Fraction.{full_share}
 use base.Logic.{SProp, ent, emp, id⊢}
 use base.Fml.{Fml, Lft, Share, ftrue, fsep, fex, feq, flft, fbor}
 use prog.Wp.{WpFn}
-use types.Logic.{sem}
 use base.FractionLaws.{Counts}
-use types.Kit.{‵, raw, ◌⊛◌, later, at_ret, ◌$◌, ◌∵◌, !, qed, by, move, keep, drop, split, split3, fsplit, fsplit3, fjoin, fjoin3, fpick, fpack, suffices, use0, use1, use3, await, rewrite, feq_i, feq_l}
+use types.Kit.{‵, raw, ◌⊛◌, later, at_ret, ◌$◌, ◌∵◌, !, qed, by, move, keep, drop, split, split3, fsplit, fsplit3, fjoin, fjoin3, fpick, fpack, suffices, use0, use3, await, rewrite, feq_i, feq_l}
 use types.Run.{stop, fld, addr, of_opd, no_more, and_then, first, blocks, exec, returns, enter}
 use types.ByLocal.{alloc_all, pass_all, free_all, look_at, get, through, sets, sets_last, env}
 use types.Part.{agg}
@@ -27,13 +25,12 @@ use denote.Steps.{nothing, heard, opens, closes}
 use denote.Param.{param, bounded}
 use denote.Struct.Tuple.{Tuple}
 use denote.Triple.Walked.{Stays, stay_dropped, stay_ref, walk_of, Goes-dropped, Goes-ref}
-use Rattle.core.specs.contracts.marker.PhantomData as marker
 use Rattle.core.proofs.alloc.Shapes.{after}
 use Rattle.core.proofs.alloc.Calls.{Al, Goes-blank, token as frees}
 use Rattle.std.proofs.raw_atomic.Walks.{proved_at}
 use Rattle.std_alloc.specs.Box.Ownership.{box_owns}
 use Rattle.logbook.proofs.Fields.{token, token_told, Token, token_made, ends}
-use Rattle.arc_owners.specs.Book.{Lease, lodged_for, right_owns, staked}
+use Rattle.arc_owners.specs.Book.{lodged_for, right_owns, staked}
 use Rattle.arc_owners.proofs.Book.Homes.{word_at, value_at, settles}
 use Rattle.arc_owners.specs.contracts.owners.word.Right as Right
 use Rattle.arc_owners.specs.contracts.owners.word.Lodging as Lodging

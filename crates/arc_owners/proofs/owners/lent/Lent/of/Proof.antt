@@ -1,20 +1,17 @@
 -- `of` borrows what a box owns, and what comes back for it is laid behind the ticket of the lease.
-use Rattle.std.proofs.Common.{◌≡◌, Bool, true, false, List, [], ◌∷◌, ◌++◌, refl, sym, subst}
+use Rattle.std.proofs.Common.{◌≡◌, List, [], ◌∷◌, ◌++◌, refl, sym, subst}
 use mir.Syntax.{a_type, dcons, dnil}
-use mir.Raw.{raw as bare}
 use mir.Val.{Val, vptr, vstruct, vcons, vnil, of_list}
 use mir.MapTy.{inst_fn}
 use base.Logic.{SProp, ent, emp, id⊢}
-use base.Fml.{Fml, Lft, ftrue, fsep, feq, flft, fbor, finv}
+use base.Fml.{Fml, Lft, ftrue, fsep, feq, flft, finv}
 use prog.Wp.{WpFn}
-use types.Logic.{sem}
 use types.Tokens.{bor_new}
 use types.Kit.{‵, raw, ◌⊛◌, later, ◌$◌, ◌∵◌, !, qed, by, move, keep, drop, split, fsplit, fjoin, fpack, suffices, use0, use1, await, feq_i, feq_l}
 use types.Run.{stop, fld, of_opd, no_more, and_then, returns, enter}
 use types.ByLocal.{alloc_all, pass_all, free_all, look_at, get, get_in, sets}
 use types.Part.{agg, sub, whole}
 use contract.Monad.{fact, fact_i}
-use contract.BorrowLft.{◌⊑◌}
 use contract.Running.{tables}
 use denote.Exit.{yes, no}
 use denote.RattleType.{RattleType, Valss, owns}
@@ -28,7 +25,7 @@ use denote.Triple.Walked.{Stays, stay_dropped, walk_of, Goes-dropped}
 use Rattle.core.proofs.alloc.Calls.{Goes-blank, token as frees}
 use Rattle.std.proofs.raw_atomic.Walks.{proved_at, leaves}
 use Rattle.std_alloc.specs.Box.Ownership.{box_owns}
-use Rattle.std_alloc.proofs.BoxSteps.Form.{Bx, R, P, B, word, handle, box_typed}
+use Rattle.std_alloc.proofs.BoxSteps.Form.{Bx, R, P, B, word, box_typed}
 use Rattle.std_alloc.proofs.BoxSteps.Steps.{box_out}
 use Rattle.logbook.proofs.Fields.{token, Token, token_made}
 use Rattle.arc_owners.specs.Book.{Lease, kept_for}

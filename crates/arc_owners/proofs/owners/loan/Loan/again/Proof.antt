@@ -1,5 +1,5 @@
 -- What a loan says can be had again.
-use Rattle.std.proofs.Common.{List, [], ◌∷◌, refl}
+use Rattle.std.proofs.Common.{[], ◌∷◌, refl}
 use mir.Syntax.{a_type, named}
 use mir.Val.{Val, vptr}
 use mir.MapTy.{inst_fn}
@@ -20,7 +20,6 @@ use denote.Memory.{hidden_shr}
 use denote.Opens.{unhide}
 use denote.Steps.{nothing}
 use denote.Param.{param, layouts}
-use denote.Param.Laws.{param_laws}
 use denote.Struct.Lending.{lent_at, lent_out}
 use denote.Triple.Walked.{Stays, stay_dropped, walk_of, Goes-dropped}
 use Rattle.core.specs.contracts.marker.PhantomData as marker

@@ -6,7 +6,7 @@ use mir.MapTy.{inst_fn}
 use base.Logic.{SProp, ent, emp, id⊢}
 use base.Fml.{Fml, Lft, ftrue, fsep, flft, fhide, fshr_bor}
 use prog.Wp.{WpFn}
-use types.Kit.{‵, raw, ◌⊛◌, given, at_ret, ◌$◌, ◌∵◌, !, qed, by, move, keep, drop, split, fsplit, fjoin, learn, suffices, use0, use1, use2, rewrite, feq_i}
+use types.Kit.{‵, raw, ◌⊛◌, at_ret, ◌$◌, ◌∵◌, !, qed, by, move, keep, drop, split, fsplit, fjoin, suffices, use1, use2, rewrite, feq_i}
 use types.Run.{stop, addr, of_opd, first, blocks, exec, returns, enter}
 use types.ByLocal.{alloc_all, pass_all, free_all, look_at, get, through, sets, sets_last, env}
 use contract.Monad.{fact, fact_i}
@@ -29,7 +29,7 @@ use Rattle.core.specs.contracts.marker.PhantomData as marker
 use Rattle.core.proofs.alloc.Shapes.{after}
 use Rattle.std.proofs.raw_atomic.Walks.{proved}
 use Rattle.logbook.proofs.Fields.{Token, ends}
-use Rattle.arc_owners.specs.Book.{Lease, right_shares, tokens}
+use Rattle.arc_owners.specs.Book.{right_shares, tokens}
 use Rattle.arc_owners.proofs.Book.Loans.{loan_seen}
 use Rattle.arc_owners.specs.contracts.owners.word.Right as Right
 use Rattle.arc_owners.specs.contracts.owners.loan.Loan as Loan

@@ -1,10 +1,9 @@
 -- `new` keeps what says where a word lies.
-use Rattle.std.proofs.Common.{◌≡◌, ℕ, Bool, true, false, List, [], ◌∷◌, refl}
-use mir.Syntax.{named}
-use mir.Val.{Val, vptr}
-use base.Logic.{SProp, emp, id⊢}
-use base.Fml.{ftrue, fsep, flft, fhide}
-use types.Kit.{‵, raw, ◌⊛◌, some, given, later, ◌$◌, ◌∵◌, !, qed, by, move, keep, drop, split, fsplit, fjoin, pick, learn, use0, use1, await, rewrite}
+use Rattle.std.proofs.Common.{[], ◌∷◌, refl}
+use mir.Val.{Val}
+use base.Logic.{SProp, emp}
+use base.Fml.{ftrue}
+use types.Kit.{‵, ◌⊛◌, ◌$◌, ◌∵◌, !, qed, by, keep, split, fjoin, use0}
 use types.Run.{no_more, and_then, returns, enter}
 use types.ByLocal.{alloc_all, pass_all, free_all, look_at, get, sets}
 use types.Part.{agg}
@@ -13,18 +12,12 @@ use contract.Running.{tables}
 use denote.Exit.{yes}
 use denote.RattleType.{owns}
 use denote.Signature.{types_at, plain}
-use denote.Builtin.{RefOf, unit}
-use denote.Ref.{shr_vals, shr_Tells}
-use denote.Memory.{hidden_shr}
-use denote.Opens.{unhide}
+use denote.Builtin.{unit}
 use denote.Steps.{nothing}
-use denote.Struct.Lending.{lent_out}
 use denote.Triple.Walked.{Stays, stay_dropped, walk_of, Goes-dropped}
-use Rattle.core.specs.contracts.marker.PhantomData as marker
 use Rattle.std.proofs.raw_atomic.Walks.{proved}
 use Rattle.logbook.proofs.Fields.{token, Token, token_made, ends}
 use Rattle.arc_owners.specs.Book.{lodged}
-use Rattle.arc_owners.specs.contracts.owners.word.Lodging as Lodging
 use Rattle.arc_owners.specs.contracts.owners.word.Lodging.new as f
 use Rattle.arc_owners.proofs.owners.word.Lodging.new.Statement.{statement}
 use Rattle.arc_owners.proofs.owners.word.Lodging.new.Code as code

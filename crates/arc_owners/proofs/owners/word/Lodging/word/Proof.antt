@@ -1,36 +1,35 @@
 -- `word` shows the word that is lodged, for as long as an owner is borrowed.
-use Rattle.std.proofs.Common.{◌≡◌, Bool, true, ℕ, List, [], ◌∷◌, ◌++◌, refl, sym, ap, ◌∙◌, subst}
+use Rattle.std.proofs.Common.{◌≡◌, Bool, ℕ, List, [], ◌∷◌, ◌++◌, refl, sym, ap, ◌∙◌, subst}
 use mir.Syntax.{named}
 use mir.Val.{Val, vptr}
 use base.Logic.{SProp, ent, emp, never, id⊢}
-use base.Fml.{Fml, Lft, ftrue, fsep, flft, fhide, fshr_bor}
+use base.Fml.{Lft, ftrue, fsep, flft, fhide, fshr_bor}
 use prog.Wp.{WpFn}
-use types.Kit.{‵, raw, ◌⊛◌, given, at_ret, ◌$◌, ◌∵◌, !, qed, by, move, keep, drop, split, fsplit, fjoin, fpick, fpack, learn, suffices, use0, use1, use2, rewrite, feq_i}
+use types.Kit.{‵, ◌⊛◌, given, at_ret, ◌$◌, ◌∵◌, !, qed, by, move, keep, drop, split, fsplit, fjoin, fpick, fpack, learn, suffices, use0, use1, use2, rewrite, feq_i}
 use types.Run.{stop, addr, of_opd, first, blocks, exec, returns, enter}
 use types.ByLocal.{alloc_all, pass_all, free_all, look_at, get, through, sets, sets_last, env}
-use contract.Monad.{fact, fact_i}
+use contract.Monad.{fact_i}
 use contract.BorrowLft.{meet_⊑_left}
 use base.Before.{before}
 use types.Na.{before-Incl, before_lent}
 use contract.Running.{tables}
 use denote.Exit.{yes}
-use denote.RattleType.{RattleType, owns}
+use denote.RattleType.{owns}
 use denote.Signature.{types_at, plain}
 use denote.Builtin.{RefOf, unit}
 use denote.Ref.{shr_vals, shr_Tells}
 use denote.Memory.{hidden_shr}
 use denote.Opens.{unhide, hide}
-use denote.RawPtr.{Ptr, RawPtr, block_ptr, ptr_val, null_ptr, in_a_block, rawptr_vals, rawptr_Tells}
-use denote.Steps.{nothing, heard}
+use denote.RawPtr.{Ptr, RawPtr, block_ptr, ptr_val, in_a_block, rawptr_vals, rawptr_Tells}
+use denote.Steps.{nothing}
 use denote.Struct.Lending.{lent_out}
 use denote.Triple.Walked.{Stays, stay_dropped, walk_of, Goes-dropped}
 use Rattle.core.specs.contracts.marker.PhantomData as marker
 use Rattle.core.proofs.alloc.Shapes.{after}
 use Rattle.std.proofs.raw_atomic.Walks.{proved}
 use Rattle.logbook.proofs.Fields.{Token, ends}
-use Rattle.arc_owners.specs.Book.{Lease, right_shares, tokens, lodged, lodged_as, lent}
+use Rattle.arc_owners.specs.Book.{right_shares, tokens, lodged, lent}
 use Rattle.arc_owners.specs.contracts.owners.word.Right as Right
-use Rattle.arc_owners.specs.contracts.owners.word.Word as Word
 use Rattle.arc_owners.specs.contracts.owners.word.Lodging as Lodging
 use Rattle.arc_owners.specs.contracts.owners.word.Lodging.word as f
 use Rattle.arc_owners.proofs.owners.word.Lodging.word.Statement.{statement}

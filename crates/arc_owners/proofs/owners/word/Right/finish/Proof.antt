@@ -1,28 +1,22 @@
 -- `finish` writes a sole owner's end into the book, without a step.
-use Rattle.std.proofs.Common.{◌≡◌, Bool, true, false, List, [], ◌∷◌, refl}
+use Rattle.std.proofs.Common.{Bool, true, false, List, [], ◌∷◌, refl}
 use mir.Syntax.{named}
 use mir.Val.{Val, vunit, vptr}
 use base.Logic.{SProp, emp}
-use base.Fml.{Fml, ftrue, fsep, flft, fhide}
-use types.Kit.{‵, ◌⊛◌, some, given, later, ◌$◌, ◌∵◌, !, qed, by, move, keep, drop, split, fsplit, fsplit3, fjoin, fjoin3, fpick, pick, learn, use1, use2, await, rewrite, feq_i}
+use base.Fml.{ftrue, fsep, flft}
+use types.Kit.{‵, ◌⊛◌, some, given, later, ◌$◌, ◌∵◌, !, qed, by, move, keep, drop, split, fsplit, fsplit3, fjoin, fjoin3, fpick, pick, learn, use2, await, rewrite, feq_i}
 use types.Run.{unit_lit, of_opd, returns, enter}
 use types.ByLocal.{alloc_all, pass_all, free_all, look_at, sets}
 use contract.Monad.{fact_i}
 use contract.Running.{tables}
-use denote.Exit.{yes}
 use denote.RattleType.{owns}
 use denote.Signature.{types_at, plain}
-use denote.Builtin.{RefOf, unit}
-use denote.Ref.{mut_vals, mut_Tells, shr_vals, shr_Tells}
-use denote.Memory.{hidden_shr}
-use denote.Opens.{unhide}
+use denote.Ref.{mut_vals, mut_Tells}
 use denote.Steps.{nothing, opens, closes}
-use denote.Struct.Lending.{lent_out}
-use denote.Triple.Walked.{Stays, stay_dropped, stay_ref, walk_of, Goes-dropped, Goes-ref}
-use Rattle.core.specs.contracts.marker.PhantomData as marker
+use denote.Triple.Walked.{Stays, stay_ref, walk_of, Goes-ref}
 use Rattle.std.proofs.raw_atomic.Walks.{proved}
 use Rattle.arc_owners.proofs.Book.Ends.{ends_when}
-use Rattle.logbook.proofs.Fields.{Token, ends}
+use Rattle.logbook.proofs.Fields.{ends}
 use Rattle.arc_owners.specs.Book.{Names, Line, right_owns, trace_owns, after_finish}
 use Rattle.arc_owners.specs.contracts.owners.word.Right as Right
 use Rattle.arc_owners.specs.contracts.owners.word.Trace as Trace

@@ -1,27 +1,17 @@
 -- A `&` to the word of a count is an invariant over a borrow of it, whose number is past the book's. Assumes `Logic`.
-use Rattle.std.proofs.Common.{ℕ, zero, ◌+◌, ◌<◌, ◌≤◌, List, [], ◌∷◌, sym, refl, arith, add-zero, subst}
+use Rattle.std.proofs.Common.{ℕ, ◌<◌, [], ◌∷◌}
 use seplogic.Ra.Ura.{Ura}
-use mir.Syntax.{ty_struct}
-use mir.Val.{Val}
 use base.Fraction.{full_share}
-use base.Logic.{SProp, ent, sep, upd_i, id⊢}
-use base.Fml.{Lft, Share, Fml, ftrue, fsep, fseps, fex, fwand, fupd, fdead, fbor, flft, fnamed, Incl-refl}
+use base.Logic.{SProp, ent, sep}
+use base.Fml.{Lft, Share, Fml, ftrue, fex, fbor, flft, fnamed, Incl-refl}
 use base.Before.{before}
 use types.Logic.{Logic, sem}
-use types.Owned.{named_past}
-use types.Kit.{mean, ‵, raw, ◌⊛◌, some, given, later, ◌$◌, ◌∵◌, !, qed, by, move, keep, drop, use0, use1, use2, split, fsplit, fsplit3, fjoin, fjoin3, fpick, fpack, pick, learn, show, assume, suffices, await, updating, now, rewrite, done}
-use types.Tokens.{bor_open, obor_alter}
+use types.Kit.{‵, ◌⊛◌, later, ◌$◌, ◌∵◌, !, qed, move, drop, use0, use1, use2, split, fsplit, fsplit3, fjoin, fjoin3, fpick, fpack, await, updating, now, done}
 use types.Na.{before-Incl, before_dup}
-use denote.RattleType.{RattleType}
-use denote.Memory.{part_of, part_at, cell_at}
+use denote.Memory.{part_at}
 use denote.Steps.{nothing}
 use denote.SharingLaws.{ends_shr_laws}
-use denote.Struct.Struct.{Struct}
-use denote.Struct.Members.{Member, Lone, row_of, raw_tys, parts_at}
-use denote.Struct.Parts.{shape_of, Struct-left, left_Struct}
-use Rattle.core.specs.Sync.RawAtomic.{word}
-use Rattle.core.proofs.cell.Borrows.{flag, by_one}
-use Rattle.core.proofs.tally.Steps.{word_in, word_out}
+use Rattle.core.proofs.cell.Borrows.{by_one}
 use Rattle.arc_owners.specs.Book.{Names, counting, lent, lodged_for}
 use Rattle.arc_owners.proofs.Book.Lodged.{lodges}
 use Rattle.arc_owners.specs.contracts.owners.word.Word as C

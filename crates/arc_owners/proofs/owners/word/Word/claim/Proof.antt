@@ -1,5 +1,5 @@
 -- `claim` is one load, after which an owner that was found alone has the block back.
-use Rattle.std.proofs.Common.{ℕ, ◌^◌, Bool, true, false, eqb, List, [], ◌∷◌, refl, lit<, w64}
+use Rattle.std.proofs.Common.{ℕ, ◌^◌, Bool, true, eqb, List, [], ◌∷◌, refl, lit<, w64}
 use mir.Syntax.{named}
 use mir.Val.{Val, vint, vptr}
 use base.Logic.{SProp, wand, emp, via, id⊢, apply∗}

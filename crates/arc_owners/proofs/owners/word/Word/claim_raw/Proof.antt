@@ -1,12 +1,12 @@
 -- `claim_raw` is `claim` on a word's place, opened with the owner's own part of the lifetime.
-use Rattle.std.proofs.Common.{ℕ, ◌^◌, Bool, true, false, eqb, List, [], ◌∷◌, refl, lit<, w64}
+use Rattle.std.proofs.Common.{ℕ, ◌^◌, Bool, true, eqb, List, [], ◌∷◌, refl, lit<, w64}
 use mir.Syntax.{named}
 use mir.Val.{Val, vint, vptr}
-use base.Logic.{SProp, wand, emp, via, id⊢, apply∗}
-use base.Fml.{Share, Fml, ftrue, fsep, fex, flft, fhide}
-use types.Kit.{‵, raw, ◌⊛◌, some, given, later, mean, at_ret, ◌$◌, ◌∵◌, !, qed, by, move, keep, drop, split, group, fsplit, fsplit3, fjoin, fjoin3, fpick, pick, learn, use1, use2, use3, await, rewrite, feq_i, flt_i}
-use types.Run.{stop, addr, lit, of_opd, no_more, and_then, first, blocks, exec, Calls-last, returns, enter}
-use types.ByLocal.{alloc_all, pass_all, free_all, look_at, get, through, sets, lands_last, env}
+use base.Logic.{SProp, emp, via, id⊢}
+use base.Fml.{Fml, ftrue, fsep, fex, flft, fhide}
+use types.Kit.{‵, raw, ◌⊛◌, given, mean, at_ret, ◌$◌, ◌∵◌, !, qed, by, move, keep, drop, split, group, fsplit, fsplit3, fjoin, fjoin3, fpick, learn, use1, use2, rewrite, feq_i, flt_i}
+use types.Run.{lit, of_opd, no_more, and_then, first, blocks, exec, Calls-last, returns, enter}
+use types.ByLocal.{alloc_all, pass_all, free_all, look_at, get, sets, lands_last, env}
 use types.Part.{agg}
 use contract.Monad.{fact_i}
 use contract.Running.{tables}
