@@ -1,5 +1,8 @@
 -- Blocks: what a window may stand on, and what is known of it.
 use Rattle.std.specs.Prelude.{ℕ, Bool, Option, None, List, length}
+use Rattle.std.specs.declared.vec.Vec.{Vec}
+use Rattle.std.specs.Vec.{vec_capacity}
+use Rattle.arc_owners.specs.Pieces.{Owner}
 
 -- how a block keeps its items
 pub data Sort : Type 0 where
@@ -23,11 +26,16 @@ pub record Facts (M : Type 0) : Type 0 where
 abbrev pub native_facts : {M : Type 0} → ℕ → Facts M
 native_facts size = record { sort = native; size = size; full = None; metadata = None }
 
--- what is seen of a block: its items, and what is known of it
+-- what is seen of a block through one of its owners: who that is, the items, and what is known of the block
 pub record Held (T M : Type 0) : Type 0 where
+  pub owner : Owner
   pub items : List T
   pub facts : Facts M
 
 -- a native block of these items, with a place for each
-abbrev pub native_block : {T M : Type 0} → List T → Held T M
-native_block items = record { items = items; facts = native_facts (length items) }
+abbrev pub native_block : {T M : Type 0} → Owner → List T → Held T M
+native_block owner items = record { owner = owner; items = items; facts = native_facts (length items) }
+
+-- a native block whose items lie in this vector
+abbrev pub held_in : {T M A : Type 0} → Owner → Vec T A → Held T M
+held_in owner v = record { owner = owner; items = v.items; facts = native_facts (vec_capacity v) }

@@ -1,65 +1,154 @@
 //! Blocks: memory that stays where it is while a window stands on it.
-ghost use Rattle.std.specs.Prelude.{◌≡◌, IfOk};
+ghost use Rattle.std.specs.Prelude.{◌≡◌, ◌≤◌, length, false, IfOk, IfErr};
+ghost use Rattle.std.specs.Vec.{vec_capacity};
+ghost use Rattle.arc_owners.specs.Pieces.{IsFirst, IsPassFor, IsFreshPass, IsNewPass, Learns, Asks, FindsFull, MakesAnother, Leaves, TakesBlock};
 ghost use Rattle.arc_block.specs.Block.{native_block};
 
 use arc_buffer::kinds::Slice;
 use arc_owners::error::{AllocError, CountFull};
-use std::alloc::{Allocator, Global};
+use arc_owners::mark::{Mark, Open};
+use arc_owners::owners::{Pass, Piece};
+use std::alloc::Allocator;
 use std::marker::Model;
-use std::sync::Arc;
+use std::sync::Wait;
 
-/// An owner of a block. The block is given back with its last owner.
-pub struct Block<S: Slice, A: Allocator = Global> {
-    items: Arc<Vec<S::Item, A>, A>,
+/// How many owners a window's block may have at once: 9,223,372,036,854,775,807.
+pub const MAX_OWNERS: u64 = 9223372036854775807;
+
+/// An owner of a block, which at most `MAX` owners share. The block is given back with its last owner.
+///
+/// Dropped, it ends with a new pass under the mark `Open`. Under `Whole` it is a forgotten owner: the block stays for good.
+pub struct Block<S: Slice, A: Allocator, const MAX: u64, H: Mark = Open> {
+    piece: Piece<Vec<S::Item, A>, A, MAX, H>,
 }
 
-impl<S: Slice, A: Allocator> Model for Block<S, A> {
-    ghost use Rattle.arc_block.specs.Block.{Held, native_block};
+impl<S: Slice, A: Allocator, const MAX: u64, H: Mark> Model for Block<S, A, MAX, H> {
+    ghost use Rattle.arc_owners.specs.Pieces.{owner_of, value_of};
+    ghost use Rattle.arc_block.specs.Block.{Held, held_in};
 
     ghost Value = { Held S.Item (Unit {0}) };
 
-    ghost view = { λ b. native_block b.items.value.items };
+    ghost view = { λ b. held_in (owner_of b.piece) (value_of b.piece) };
 }
 
-impl<S: Slice, A: Allocator> Drop for Block<S, A> {
+impl<S: Slice, A: Allocator, const MAX: u64, H: Mark> Drop for Block<S, A, MAX, H> {
     fn drop(self) {
-        let Block { items } = self;
-        drop(items);
+        let Block { piece } = self;
+        drop(piece);
     }
 }
 
-impl<S: Slice, A: Allocator + Copy> Block<S, A> {
-    /// The first owner of a new native block with a copy of the items, and a place for each.
+/// A vector with a copy of the items, and a place for each. Takes memory; refused, the answer is `AllocError`.
+fn copied<T: Copy, A: Allocator>(alloc: A, items: &[T]) -> Result<Vec<T, A>, AllocError>
+    ensures { IfOk result (λ v. (v.items ≡ items.now) × (vec_capacity v ≡ length items.now)) }
+{
+    let mut copy = Vec::with_capacity(alloc, items.len())?;
+    for item in items {
+        copy.push_reserved(*item);
+    }
+    Ok(copy)
+}
+
+impl<S: Slice, A: Allocator + Copy, const MAX: u64, H: Mark> Block<S, A, MAX, H> {
+    /// The first owner of a new native block with a copy of the items, and exactly a place for each, with a pass of the block.
     ///
-    /// Takes memory; refused, the answer is `AllocError`.
-    pub fn try_from_slice(alloc: A, items: &[S::Item]) -> Result<Self, AllocError>
+    /// Takes memory; refused, the answer is `AllocError`. `MAX` is at least 2.
+    pub fn try_from_slice(alloc: A, items: &[S::Item]) -> Result<(Self, Pass<H>), AllocError>
     where
         S::Item: Copy,
-        ensures { IfOk result (λ block. block ≡ native_block items.now) }
+        requires { 2 ≤ MAX }
+        ensures made { IfOk result (λ r. (r.0 ≡ native_block r.0.owner items.now) × IsFirst MAX H.whole r.0.owner) }
+        ensures pass { IfOk result (λ r. IsFreshPass r.0.owner r.1) }
     {
-        let items = Vec::from_slice(alloc, items)?;
+        match Piece::new(alloc, copied(alloc, items)?) {
+            Ok((piece, pass)) => Ok((Block { piece }, pass)),
+            Err(_) => Err(AllocError),
+        }
+    }
+
+    /// One owner more of the same block, through this one. Adds Up. Takes no memory and copies no item.
+    ///
+    /// `CountFull` exactly where `MAX` owners live, which adds Full.
+    pub fn try_share_as(&self, rt: &impl Wait, pass: &mut Pass<H>) -> Result<Self, CountFull>
+        requires pass { IsPassFor self.now.owner pass.old }
+        ensures made { IfOk result (λ other. MakesAnother self.now.owner pass.old pass.new other.owner) }
+        ensures alike { IfOk result (λ other. (other.items ≡ self.now.items) × (other.facts ≡ self.now.facts)) }
+        ensures full { IfErr result (λ _. FindsFull self.now.owner pass.old pass.new) }
+    {
         Ok(Block {
-            items: Arc::new(alloc, items)?,
+            piece: self.piece.try_clone_as(rt, pass)?,
         })
     }
 }
 
-impl<S: Slice, A: Allocator> Block<S, A> {
-    /// One owner more of the same block. Takes no memory and copies no item. `CountFull` where the count can't be
-    /// raised; no clause says yet how many owners that takes.
-    pub fn try_share(&self) -> Result<Self, CountFull>
-        ensures { IfOk result (λ owner. owner ≡ self.now) }
-    {
-        match Arc::try_clone(&self.items) {
-            Ok(items) => Ok(Block { items }),
-            Err(_) => Err(CountFull),
-        }
-    }
-
+impl<S: Slice, A: Allocator, const MAX: u64, H: Mark> Block<S, A, MAX, H> {
     /// The items.
     pub fn as_slice(&self) -> &[S::Item]
         ensures { result.now ≡ self.now.items }
     {
-        self.items.as_slice()
+        self.piece.get().as_slice()
+    }
+
+    /// How many places the block has.
+    pub fn size(&self) -> usize
+        ensures { result ≡ self.now.facts.size }
+    {
+        self.piece.get().capacity()
+    }
+
+    /// Whether no other owner lives, by one load. Adds Alone with the answer. Takes no memory.
+    pub fn is_unique_as(&self, pass: &mut Pass<H>) -> bool
+        requires pass { IsPassFor self.now.owner pass.old }
+        ensures entry { Asks self.now.owner pass.old pass.new result }
+    {
+        self.piece.is_unique_as(pass)
+    }
+
+    /// The items, taken out of the block, where no other owner lives: adds Alone, then the Down of this one. Else it is handed back,
+    /// and Alone was added with no. Takes no memory.
+    pub fn try_into_items_as(self, pass: &mut Pass<H>) -> Result<Vec<S::Item, A>, Self>
+        requires pass { IsPassFor self.owner pass.old }
+        ensures alone { IfOk result (λ items. (items.items ≡ self.items) × TakesBlock self.owner pass.old pass.new) }
+        ensures others { IfErr result (λ back. (back ≡ self) × Asks self.owner pass.old pass.new false) }
+    {
+        let Block { piece } = self;
+        match piece.try_into_value_as(pass) {
+            Ok(items) => Ok(items),
+            Err(piece) => Err(Block { piece }),
+        }
+    }
+
+    /// Ends this owner by one subtraction, and answers whether it was the last one: then the block is given back. Adds its Down. Takes
+    /// no memory.
+    pub fn release_as(self, pass: &mut Pass<H>) -> bool
+        requires pass { IsPassFor self.owner pass.old }
+        ensures entry { Leaves self.owner pass.old pass.new result }
+    {
+        let Block { piece } = self;
+        match piece.release_as(pass) {
+            Some(items) => {
+                drop(items);
+                true
+            }
+            None => false,
+        }
+    }
+
+    /// Afterwards the first pass has seen at least what the other had. It adds no entry and takes no memory.
+    pub fn learn(&self, pass: &mut Pass<H>, other: &Pass<H>)
+        requires pass { IsPassFor self.now.owner pass.old }
+        requires other { IsPassFor self.now.owner other.now }
+        ensures { Learns self.now.owner pass.old other.now pass.new }
+    {
+        self.piece.learn(pass, other);
+    }
+}
+
+impl<S: Slice, A: Allocator, const MAX: u64> Block<S, A, MAX, Open> {
+    /// A new pass, which has seen at least the entry that made this owner, and made nothing. It adds no entry and takes no memory.
+    pub fn pass(&self) -> Pass<Open>
+        ensures { IsNewPass self.now.owner result }
+    {
+        self.piece.pass()
     }
 }

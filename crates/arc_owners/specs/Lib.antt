@@ -7,3 +7,4 @@ pub mod Book
 pub mod Traces
 pub mod Releases
 pub mod Passes
+pub mod Pieces

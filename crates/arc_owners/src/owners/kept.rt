@@ -63,3 +63,7 @@ impl<T, A: Allocator> Drop for Kept<T, A> {
         let Self { marker: _ } = self;
     }
 }
+
+unsafe impl<T: Send, A: Allocator + Send> Send for Kept<T, A> {}
+
+unsafe impl<T: Send, A: Allocator + Send> Sync for Kept<T, A> {}

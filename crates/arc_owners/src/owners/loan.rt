@@ -48,3 +48,7 @@ impl<T> Drop for Loan<T> {
         let Self { marker: _ } = self;
     }
 }
+
+unsafe impl<T: Sync> Send for Loan<T> {}
+
+unsafe impl<T: Sync> Sync for Loan<T> {}

@@ -1,46 +1,49 @@
 //! A value in memory of its own, with a count of its owners.
-ghost use Rattle.std.specs.Prelude.{◌≡◌, ◌≤◌, IfOk, IfErr, IfSome, is_some, true, false, []};
-ghost use Rattle.arc_owners.specs.declared.owners.entry.Entry.TheVariants.{Alone, Full};
-ghost use Rattle.arc_owners.specs.Passes.{number_of, birth_of, history_of, IsPassOf, IsSamePass, AddsEntry, MakesOwner, EndsOwner, HandsBack};
+ghost use Rattle.std.specs.Prelude.{◌≡◌};
 
 use super::bare::Bare;
 use super::home::Room;
 use super::kept::Kept;
 use super::lent::Lent;
 use super::loan::Loan;
+use super::spot::Spot;
 use super::tokens::{Owners, Pass, Release, Share};
 use super::word::Lodging;
-use crate::error::{AllocError, CountFull};
+use crate::error::CountFull;
 use crate::mark::{Mark, Open};
 use std::alloc::Allocator;
 use std::marker::PhantomData;
 use std::sync::Wait;
 
 /// One owner of a value that lies in memory of its own, next to the word that counts the owners. `MAX` is the greatest count.
-/// Dropped, it is a forgotten owner: the memory stays for good.
-#[derive(Drop)]
-pub(crate) struct Piece<V, A: Allocator, const MAX: u64, H: Mark = Open> {
-    at: *mut Room<V>,
-    alloc: A,
-    word: *const u64,
-    value: *const V,
-    lodging: Lodging,
-    loan: Loan<V>,
-    kept: Kept<Room<V>, A>,
-    pub(crate) share: Share<H>,
+///
+/// Dropped, it ends with a new pass under the mark `Open`. Under `Whole` it is a forgotten owner: the memory stays for good.
+pub struct Piece<V: Drop, A: Allocator, const MAX: u64, H: Mark = Open> {
+    pub(super) at: Spot<Room<V>>,
+    pub(super) alloc: A,
+    pub(super) word: Spot<u64>,
+    pub(super) value: Spot<V>,
+    pub(super) lodging: Lodging,
+    pub(super) loan: Loan<V>,
+    pub(super) kept: Kept<Room<V>, A>,
+    pub(super) share: Share<H>,
     ghost greatest: { lodging.names.most ≡ MAX },
     ghost counted: { share.right.names ≡ lodging.names },
-    ghost lodged: { (lodging.at ≡ word) × (lodging.lifetime ≡ share.right.lease.lifetime) },
-    ghost shown: { (loan.at ≡ value) × (loan.lifetime ≡ share.right.lease.lifetime) },
-    ghost comes_back: { (kept.at ≡ at) × (kept.alloc ≡ alloc) × (kept.lease ≡ share.right.lease) × (kept.value.value ≡ loan.value) },
+    ghost lodged: { (lodging.at ≡ word.place) × (lodging.lifetime ≡ share.right.lease.lifetime) },
+    ghost shown: { (loan.at ≡ value.place) × (loan.lifetime ≡ share.right.lease.lifetime) },
+    ghost comes_back: { (kept.at ≡ at.place) × (kept.alloc ≡ alloc) × (kept.lease ≡ share.right.lease) × (kept.value.value ≡ loan.value) },
 }
 
-impl<V: Drop, A: Allocator + Copy, const MAX: u64, H: Mark> Piece<V, A, MAX, H> {
-    /// The first owner of a value, with a pass of its block. Takes memory; refused, the value comes back.
-    pub(crate) fn new(alloc: A, value: V) -> Result<(Self, Pass<H>), V>
+impl<V: Drop, A: Allocator, const MAX: u64, H: Mark> Piece<V, A, MAX, H> {
+    ghost use Rattle.std.specs.Prelude.{◌≡◌, ◌≤◌, IfOk, IfErr, IfSome, is_some, true, false, None};
+    ghost use Rattle.arc_owners.specs.Pieces.{owner_of, value_of, IsFirst, IsPassFor, IsFreshPass, IsNewPass, Learns, Asks, FindsFull, MakesAnother, Leaves, TakesBlock};
+
+    /// The first owner of a value, with a pass of its block. Takes memory, for the value and the count together; refused, the value
+    /// comes back. `MAX`, at least 2, is how many owners may live at once.
+    pub fn new(alloc: A, value: V) -> Result<(Self, Pass<H>), V>
         requires { 2 ≤ MAX }
-        ensures made { IfOk result (λ r. (r.0.loan.value ≡ value) × (number_of r.0.share ≡ 0) × (birth_of r.0.share ≡ [])) }
-        ensures pass { IfOk result (λ r. IsPassOf r.0.lodging.names r.1 × (history_of r.1 ≡ [])) }
+        ensures made { IfOk result (λ r. IsFirst MAX H.whole (owner_of r.0) × (value_of r.0 ≡ value)) }
+        ensures pass { IfOk result (λ r. IsFreshPass (owner_of r.0) r.1) }
         ensures refused { IfErr result (λ back. back ≡ value) }
     {
         let (owners, share, pass) = Owners::<MAX, H>::new();
@@ -61,10 +64,10 @@ impl<V: Drop, A: Allocator + Copy, const MAX: u64, H: Mark> Piece<V, A, MAX, H> 
         };
         Ok((
             Piece {
-                at,
+                at: Spot { place: at },
                 alloc,
-                word,
-                value,
+                word: Spot { place: word },
+                value: Spot { place: value },
                 lodging,
                 loan,
                 kept,
@@ -75,52 +78,28 @@ impl<V: Drop, A: Allocator + Copy, const MAX: u64, H: Mark> Piece<V, A, MAX, H> 
     }
 
     /// The value.
-    pub(crate) fn get(&self) -> &V
-        ensures { result.now ≡ self.now.loan.value }
+    pub fn get(&self) -> &V
+        ensures { result.now ≡ value_of self.now }
     {
-        unsafe { self.loan.get(self.value, &self.share.right) }
+        unsafe { self.loan.get(self.value.place, &self.share.right) }
     }
 
-    /// One owner more of the same value, through this one. `CountFull` where the greatest count of owners live. Takes no memory.
-    pub(crate) fn try_clone_as(&self, rt: &impl Wait, pass: &mut Pass<H>) -> Result<Self, CountFull>
-        requires pass { IsPassOf self.now.lodging.names pass.old }
-        ensures same { IsSamePass self.now.lodging.names pass.old pass.new }
-        ensures made { IfOk result (λ piece. MakesOwner self.now.lodging.names pass.old pass.new self.now.share piece.share × (piece.loan.value ≡ self.now.loan.value)) }
-        ensures full { IfErr result (λ _. AddsEntry self.now.lodging.names pass.old pass.new (Full (number_of self.now.share))) }
+    /// Whether no other owner lives, by one load. Adds Alone with the answer. Takes no memory.
+    pub fn is_unique_as(&self, pass: &mut Pass<H>) -> bool
+        requires pass { IsPassFor (owner_of self.now) pass.old }
+        ensures entry { Asks (owner_of self.now) pass.old pass.new result }
     {
-        let share = unsafe {
-            Owners::<MAX, H>::up_raw(self.word, rt, &self.lodging, &self.share, pass)?
-        };
-        Ok(Piece {
-            at: self.at,
-            alloc: self.alloc,
-            word: self.word,
-            value: self.value,
-            lodging: self.lodging.again(),
-            loan: self.loan.again(),
-            kept: self.kept.again(),
-            share,
-        })
+        unsafe { Owners::<MAX, H>::alone_raw(self.word.place, &self.lodging, &self.share, pass) }
     }
 
-    /// Whether no other owner lives. Takes no memory.
-    pub(crate) fn is_unique_as(&self, pass: &mut Pass<H>) -> bool
-        requires pass { IsPassOf self.now.lodging.names pass.old }
-        ensures same { IsSamePass self.now.lodging.names pass.old pass.new }
-        ensures entry { AddsEntry self.now.lodging.names pass.old pass.new (Alone (number_of self.now.share) result) }
-    {
-        unsafe { Owners::<MAX, H>::alone_raw(self.word, &self.lodging, &self.share, pass) }
-    }
-
-    /// The value and the memory back, where no other owner lives: then this one ends. Else it is handed back. Takes no memory.
-    pub(crate) fn try_into_value_as(self, pass: &mut Pass<H>) -> Result<V, Self>
-        requires pass { IsPassOf self.lodging.names pass.old }
-        ensures same { IsSamePass self.lodging.names pass.old pass.new }
-        ensures alone { IfOk result (λ _. (middle : Pass H) × AddsEntry self.lodging.names pass.old middle (Alone (number_of self.share) true)
-            × EndsOwner self.lodging.names middle pass.new (number_of self.share) true) }
-        ensures value { IfOk result (λ value. value ≡ self.loan.value) }
-        ensures others { IfErr result (λ piece. AddsEntry self.lodging.names pass.old pass.new (Alone (number_of self.share) false)
-            × HandsBack self.share piece.share × (piece.lodging.names ≡ self.lodging.names) × (piece.loan.value ≡ self.loan.value)) }
+    /// The value back, and the memory to its allocator, where no other owner lives: adds Alone, then the Down of this one. Else it is
+    /// handed back, and Alone was added with no. Takes no memory.
+    pub fn try_into_value_as(self, pass: &mut Pass<H>) -> Result<V, Self>
+        requires pass { IsPassFor (owner_of self) pass.old }
+        ensures alone { IfOk result (λ _. TakesBlock (owner_of self) pass.old pass.new) }
+        ensures value { IfOk result (λ value. value ≡ value_of self) }
+        ensures others { IfErr result (λ _. Asks (owner_of self) pass.old pass.new false) }
+        ensures back { IfErr result (λ piece. (owner_of piece ≡ owner_of self) × (value_of piece ≡ value_of self)) }
     {
         let Piece {
             at,
@@ -132,9 +111,9 @@ impl<V: Drop, A: Allocator + Copy, const MAX: u64, H: Mark> Piece<V, A, MAX, H> 
             kept,
             share,
         } = self;
-        match unsafe { Owners::<MAX, H>::claim_raw(word, &lodging, share, pass) } {
+        match unsafe { Owners::<MAX, H>::claim_raw(word.place, &lodging, share, pass) } {
             Ok((sole, term)) => {
-                let memory = unsafe { kept.take(at, alloc, term) };
+                let memory = unsafe { kept.take(at.place.cast_mut(), alloc, term) };
                 let Room { word: _, value } = Box::into_inner(memory.into_box());
                 sole.end_as(pass);
                 Ok(value)
@@ -152,12 +131,11 @@ impl<V: Drop, A: Allocator + Copy, const MAX: u64, H: Mark> Piece<V, A, MAX, H> 
         }
     }
 
-    /// Ends this owner. The last one gives the memory back, and gets the value.
-    pub(crate) fn release_as(self, pass: &mut Pass<H>) -> Option<V>
-        requires pass { IsPassOf self.lodging.names pass.old }
-        ensures same { IsSamePass self.lodging.names pass.old pass.new }
-        ensures entry { EndsOwner self.lodging.names pass.old pass.new (number_of self.share) (is_some result) }
-        ensures value { IfSome result (λ value. value ≡ self.loan.value) }
+    /// Ends this owner by one subtraction. Adds its Down. The last one gives the memory back, and gets the value. Takes no memory.
+    pub fn release_as(self, pass: &mut Pass<H>) -> Option<V>
+        requires pass { IsPassFor (owner_of self) pass.old }
+        ensures entry { Leaves (owner_of self) pass.old pass.new (is_some result) }
+        ensures value { IfSome result (λ value. value ≡ value_of self) }
     {
         let Piece {
             at,
@@ -169,13 +147,98 @@ impl<V: Drop, A: Allocator + Copy, const MAX: u64, H: Mark> Piece<V, A, MAX, H> 
             kept,
             share,
         } = self;
-        match unsafe { Owners::<MAX, H>::down_raw(word, &lodging, share, pass) } {
+        match unsafe { Owners::<MAX, H>::down_raw(word.place, &lodging, share, pass) } {
             Release::Last(term) => {
-                let memory = unsafe { kept.take(at, alloc, term) };
+                let memory = unsafe { kept.take(at.place.cast_mut(), alloc, term) };
                 let Room { word: _, value } = Box::into_inner(memory.into_box());
                 Some(value)
             }
             Release::NotLast => None,
         }
+    }
+
+    /// What a drop does: under `Open` this owner ends with a new pass, and the last one gets the value; under `Whole` it is forgotten,
+    /// without a step. Takes no memory.
+    pub fn let_go(self) -> Option<V>
+        ensures value { IfSome result (λ value. value ≡ value_of self) }
+        ensures forgotten { H.whole ≡ true → result ≡ None }
+    {
+        if H::is_whole() {
+            let Piece {
+                at: _,
+                alloc: _,
+                word: _,
+                value: _,
+                lodging: _,
+                loan: _,
+                kept: _,
+                share: _,
+            } = self;
+            return None;
+        }
+        let mut pass = Pass {
+            trace: self.share.right.fork(),
+            mark: PhantomData,
+        };
+        self.release_as(&mut pass)
+    }
+
+    /// Afterwards the first pass has seen at least what the other had. It adds no entry and takes no memory.
+    pub fn learn(&self, pass: &mut Pass<H>, other: &Pass<H>)
+        requires pass { IsPassFor (owner_of self.now) pass.old }
+        requires other { IsPassFor (owner_of self.now) other.now }
+        ensures { Learns (owner_of self.now) pass.old other.now pass.new }
+    {
+        pass.trace.learn(&other.trace);
+    }
+}
+
+impl<V: Drop, A: Allocator + Copy, const MAX: u64, H: Mark> Piece<V, A, MAX, H> {
+    ghost use Rattle.std.specs.Prelude.{◌≡◌, ◌≤◌, IfOk, IfErr, IfSome, is_some, true, false, None};
+    ghost use Rattle.arc_owners.specs.Pieces.{owner_of, value_of, IsFirst, IsPassFor, IsFreshPass, IsNewPass, Learns, Asks, FindsFull, MakesAnother, Leaves, TakesBlock};
+
+    /// One owner more of the same value, through this one. Adds Up. Takes no memory, and copies nothing.
+    ///
+    /// `CountFull` exactly where `MAX` owners live, which adds Full. It takes `rt` since a raise that another thread disturbs is tried
+    /// again.
+    pub fn try_clone_as(&self, rt: &impl Wait, pass: &mut Pass<H>) -> Result<Self, CountFull>
+        requires pass { IsPassFor (owner_of self.now) pass.old }
+        ensures made { IfOk result (λ piece. MakesAnother (owner_of self.now) pass.old pass.new (owner_of piece) × (value_of piece ≡ value_of self.now)) }
+        ensures full { IfErr result (λ _. FindsFull (owner_of self.now) pass.old pass.new) }
+    {
+        let share = unsafe {
+            Owners::<MAX, H>::up_raw(self.word.place, rt, &self.lodging, &self.share, pass)?
+        };
+        Ok(Piece {
+            at: self.at.again(),
+            alloc: self.alloc,
+            word: self.word.again(),
+            value: self.value.again(),
+            lodging: self.lodging.again(),
+            loan: self.loan.again(),
+            kept: self.kept.again(),
+            share,
+        })
+    }
+}
+
+impl<V: Drop, A: Allocator, const MAX: u64> Piece<V, A, MAX, Open> {
+    ghost use Rattle.std.specs.Prelude.{◌≡◌, ◌≤◌, IfOk, IfErr, IfSome, is_some, true, false, None};
+    ghost use Rattle.arc_owners.specs.Pieces.{owner_of, value_of, IsFirst, IsPassFor, IsFreshPass, IsNewPass, Learns, Asks, FindsFull, MakesAnother, Leaves, TakesBlock};
+
+    /// A new pass, which has seen at least the entry that made this owner, and made nothing. It adds no entry and takes no memory.
+    pub fn pass(&self) -> Pass<Open>
+        ensures { IsNewPass (owner_of self.now) result }
+    {
+        Pass {
+            trace: self.share.right.fork(),
+            mark: PhantomData,
+        }
+    }
+}
+
+impl<V: Drop, A: Allocator, const MAX: u64, H: Mark> Drop for Piece<V, A, MAX, H> {
+    fn drop(self) {
+        drop(self.let_go());
     }
 }
