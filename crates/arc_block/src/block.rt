@@ -18,11 +18,11 @@ pub const MAX_OWNERS: u64 = 9223372036854775807;
 /// An owner of a block, which at most `MAX` owners share. The block is given back with its last owner.
 ///
 /// Dropped, it ends with a new pass under the mark `Open`. Under `Whole` it is a forgotten owner: the block stays for good.
-pub struct Block<S: Slice, A: Allocator, const MAX: u64, H: Mark = Open> {
+pub struct Block<S: Slice, A: Allocator + Copy, const MAX: u64, H: Mark = Open> {
     piece: Piece<Vec<S::Item, A>, A, MAX, H>,
 }
 
-impl<S: Slice, A: Allocator, const MAX: u64, H: Mark> Model for Block<S, A, MAX, H> {
+impl<S: Slice, A: Allocator + Copy, const MAX: u64, H: Mark> Model for Block<S, A, MAX, H> {
     ghost use Rattle.arc_owners.specs.Pieces.{owner_of, value_of};
     ghost use Rattle.arc_block.specs.Block.{Held, held_in};
 
@@ -31,7 +31,7 @@ impl<S: Slice, A: Allocator, const MAX: u64, H: Mark> Model for Block<S, A, MAX,
     ghost view = { λ b. held_in (owner_of b.piece) (value_of b.piece) };
 }
 
-impl<S: Slice, A: Allocator, const MAX: u64, H: Mark> Drop for Block<S, A, MAX, H> {
+impl<S: Slice, A: Allocator + Copy, const MAX: u64, H: Mark> Drop for Block<S, A, MAX, H> {
     fn drop(self) {
         let Block { piece } = self;
         drop(piece);
@@ -81,7 +81,7 @@ impl<S: Slice, A: Allocator + Copy, const MAX: u64, H: Mark> Block<S, A, MAX, H>
     }
 }
 
-impl<S: Slice, A: Allocator, const MAX: u64, H: Mark> Block<S, A, MAX, H> {
+impl<S: Slice, A: Allocator + Copy, const MAX: u64, H: Mark> Block<S, A, MAX, H> {
     /// The items.
     pub fn as_slice(&self) -> &[S::Item]
         ensures { result.now ≡ self.now.items }
@@ -89,9 +89,10 @@ impl<S: Slice, A: Allocator, const MAX: u64, H: Mark> Block<S, A, MAX, H> {
         self.piece.get().as_slice()
     }
 
-    /// How many places the block has.
+    /// How many places the block has, at least one for each item.
     pub fn size(&self) -> usize
-        ensures { result ≡ self.now.facts.size }
+        ensures size { result ≡ self.now.facts.size }
+        ensures room { length self.now.items ≤ result }
     {
         self.piece.get().capacity()
     }
@@ -144,7 +145,7 @@ impl<S: Slice, A: Allocator, const MAX: u64, H: Mark> Block<S, A, MAX, H> {
     }
 }
 
-impl<S: Slice, A: Allocator, const MAX: u64> Block<S, A, MAX, Open> {
+impl<S: Slice, A: Allocator + Copy, const MAX: u64> Block<S, A, MAX, Open> {
     /// A new pass, which has seen at least the entry that made this owner, and made nothing. It adds no entry and takes no memory.
     pub fn pass(&self) -> Pass<Open>
         ensures { IsNewPass self.now.owner result }

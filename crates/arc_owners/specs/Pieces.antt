@@ -79,4 +79,4 @@ module _ {V A H : Type 0} {MAX : ℕ} {G : Ghosts H} where
   owner_of p = record { block = p.lodging.names; number = p.share.right.owner; born = p.share.right.born }
 
   abbrev pub value_of : Piece V A MAX H G → V
-  value_of p = p.loan.value
+  value_of p = p.loan.value.value

@@ -1,6 +1,7 @@
 -- What a window over a block and its parts are seen as.
 use Rattle.std.proofs.Common.{◌≡◌, ℕ, ◌+◌, ◌-◌, ◌≤◌, ◌==◌, ◌&&◌, Bool, false, if◌then◌else◌, List, length, take, drop, Option, Some, sym, ap, ◌∙◌, subst, arith}
 use Rattle.std.proofs.Math.Logic.{∥∥₁_map}
+use Rattle.arc_owners.specs.Pieces.{Owner}
 use Rattle.arc_buffer.specs.Slice.{sub, IsRange}
 use Rattle.arc_buffer.proofs.Sub.{sub-slice_range, sub-sub, length-sub}
 use Rattle.arc_block.specs.Block.{Held}
@@ -39,7 +40,7 @@ part_seen {T} boundary has_static inner from to start end w b view is within ran
     let parts : sub b.items (from + start) (from + end) ≡ sub (sub b.items from to) start end = sym (sub-sub b.items from to start end inside.1) in
     let whole : length (sub b.items from to) ≡ to - from = length-sub b.items from to (omega (arith, inside.0, inside.1)) inside.2 in
     let long : length (sub (sub b.items from to) start end) ≡ end - start = length-sub (sub b.items from to) start end inside.0 (omega (arith, inside.1, whole)) in
-    let there : Place (Unit {0}) (Unit {0}) = on_block tt (from + start) b.facts in
+    let there : Place Owner (Unit {0}) = on_block b.owner (from + start) b.facts in
     let P : Window T → Type 0 = λ v. window_seen (Some b) (from + start) (from + end) ≡ record { items = sub v.items start end; place = part_place has_static (sub v.items start end) start v.place } in
     subst P (sym (on_block_seen inner from to w b view is))
     (ap (λ xs. record { items = xs; place = there }) parts

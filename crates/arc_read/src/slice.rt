@@ -1,28 +1,41 @@
 //! `ArcSlice`, a window that is read.
-ghost use Rattle.std.specs.Prelude.{◌≡◌, ◌==◌, ◌↔◌, [], length, IsOk, IfOk, IfErr, OnErr};
+ghost use Rattle.std.specs.Prelude.{◌≡◌, ◌==◌, ◌↔◌, true, false, [], length, IsOk, IsTrue, IfOk, IfErr, OnErr};
 ghost use Rattle.arc_buffer.specs.Slice.{IsRange, range_answer};
-ghost use Rattle.arc_block.specs.Place.{nowhere, IsOnBlock};
-ghost use Rattle.arc_read.specs.Window.{made_window, part_window};
+ghost use Rattle.arc_block.specs.Place.{nowhere};
+ghost use Rattle.arc_owners.specs.Passes.{IsPassOfNone};
+ghost use Rattle.arc_read.specs.Window.{NeedsBlock, IsWholeOf, part_window};
+ghost use Rattle.arc_read.specs.Steps.{IsPassAt, IsNewPassAt, Makes, SharesAt, IsFullAt, AsksAt, LeavesAt, AsksAndLeavesAt, TakesAt, LearnsAt, RefusesArray, WithNewPass, WithPassOfNone};
 
-use arc_block::block::Block;
+use arc_block::block::{Block, MAX_OWNERS};
 use arc_block::layout::{DefaultLayout, Layout, StaticLayout, stands_on_nothing};
 use arc_buffer::kinds::{CopySlice, Emptyable, Slice, Subsliceable};
 use arc_owners::error::{AllocError, OwnerError, RangeError};
 use arc_owners::mark::{Mark, Open};
+use arc_owners::owners::Pass;
 use std::alloc::{Allocator, Global};
 use std::marker::{Model, PhantomData};
 use std::sync::Wait;
 
 /// A part of a block that may have other owners, or of nothing. Clones and cuts share the block and copy no item.
-pub struct ArcSlice<S: Slice, L: Layout = DefaultLayout, A: Allocator = Global, H: Mark = Open> {
-    block: Option<Block<S, A>>,
+///
+/// Each call that makes, steps on or leaves a block has a form that ends in `_as` and takes a pass of the block, in which contracts
+/// read what was added to the block's history; a window that stands on nothing has a pass of no block. The plain form is that form
+/// with a new pass. Dropped, a window under the mark `Open` ends with a new pass. Under `Whole` only the `_as` forms are there, and a
+/// dropped window is a forgotten owner of its block.
+pub struct ArcSlice<
+    S: Slice,
+    L: Layout = DefaultLayout,
+    A: Allocator + Copy = Global,
+    H: Mark = Open,
+> {
+    block: Option<Block<S, A, MAX_OWNERS, H>>,
     start: usize,
     end: usize,
     alloc: A,
     of: PhantomData<(L, H)>,
 }
 
-impl<S: Slice, L: Layout, A: Allocator, H: Mark> Model for ArcSlice<S, L, A, H> {
+impl<S: Slice, L: Layout, A: Allocator + Copy, H: Mark> Model for ArcSlice<S, L, A, H> {
     ghost use Rattle.std.specs.Prelude.{◌≡◌};
     ghost use Rattle.arc_read.specs.Window.{Window, window_seen, IsWithin};
 
@@ -33,7 +46,7 @@ impl<S: Slice, L: Layout, A: Allocator, H: Mark> Model for ArcSlice<S, L, A, H> 
     ghost invariant = { λ w. IsWithin w.block w.start w.end × ∥ S.is_legal (window_seen w.block w.start w.end).items ∥₁ };
 }
 
-impl<S: Slice, L: Layout, A: Allocator, H: Mark> Drop for ArcSlice<S, L, A, H> {
+impl<S: Slice, L: Layout, A: Allocator + Copy, H: Mark> Drop for ArcSlice<S, L, A, H> {
     fn drop(self) {
         let ArcSlice {
             block,
@@ -64,21 +77,28 @@ impl<S: Slice, L: Layout, A: Allocator + Copy, H: Mark> ArcSlice<S, L, A, H> {
         }
     }
 
-    /// A window over a copy of the items: no items stand on nothing where the layout has static data, else they stand
-    /// on a new native block with a place for each.
+    /// A window over a copy of the items: no items stand on nothing where the layout has static data, else they stand on a new native
+    /// block with exactly a place for each. The pass, which is of no block, becomes the block's; the window is owner 0.
     ///
-    /// Takes memory for a block; refused, the answer is `AllocError`.
-    pub fn try_from_slice(alloc: A, items: &[S::Item]) -> Result<Self, AllocError>
+    /// Takes memory for a block; refused, the answer is `AllocError`, and the pass is as before.
+    pub fn try_from_slice_as(
+        alloc: A,
+        items: &[S::Item],
+        pass: &mut Pass<H>,
+    ) -> Result<Self, AllocError>
     where
         S: CopySlice,
         S::Item: Copy,
-        ensures ok { IfOk result (λ window. window ≡ made_window L.STATIC items.now) }
-        ensures refused { OnErr result (IsOnBlock (made_window L.STATIC items.now).place) }
+        requires pass { IsPassOfNone pass.old }
+        ensures ok { IfOk result (λ window. Makes L.STATIC H.whole items.now pass.old pass.new window) }
+        ensures refused { OnErr result (NeedsBlock L.STATIC items.now × (pass.new ≡ pass.old)) }
     {
         let block = if stands_on_nothing::<L>(items.len()) {
             None
         } else {
-            Some(Block::try_from_slice(alloc, items)?)
+            let (block, new) = Block::try_from_slice(alloc, items)?;
+            *pass = new;
+            Some(block)
         };
         Ok(ArcSlice {
             block,
@@ -88,9 +108,57 @@ impl<S: Slice, L: Layout, A: Allocator + Copy, H: Mark> ArcSlice<S, L, A, H> {
             of: PhantomData,
         })
     }
+
+    /// `try_from_slice_as` of an array's items. Refused memory, the array comes back.
+    pub fn try_from_array_as<const N: usize>(
+        alloc: A,
+        array: [S::Item; N],
+        pass: &mut Pass<H>,
+    ) -> Result<Self, [S::Item; N]>
+    where
+        S: CopySlice,
+        S::Item: Copy,
+        requires pass { IsPassOfNone pass.old }
+        ensures ok { IfOk result (λ window. Makes L.STATIC H.whole array pass.old pass.new window) }
+        ensures refused { IfErr result (λ back. (back ≡ array) × NeedsBlock L.STATIC array × (pass.new ≡ pass.old)) }
+    {
+        match Self::try_from_slice_as(alloc, &array, pass) {
+            Ok(window) => Ok(window),
+            Err(AllocError) => Err(array),
+        }
+    }
 }
 
-impl<S: Slice, L: Layout, A: Allocator, H: Mark> ArcSlice<S, L, A, H> {
+impl<S: Slice, L: Layout, A: Allocator + Copy> ArcSlice<S, L, A, Open> {
+    /// A window over a copy of the items: `try_from_slice_as` with a new pass.
+    ///
+    /// Takes memory for a block; refused, the answer is `AllocError`.
+    pub fn try_from_slice(alloc: A, items: &[S::Item]) -> Result<Self, AllocError>
+    where
+        S: CopySlice,
+        S::Item: Copy,
+        ensures ok { IfOk result (λ window. WithPassOfNone (λ first last. Makes L.STATIC false items.now first last window)) }
+        ensures refused { OnErr result (NeedsBlock L.STATIC items.now) }
+    {
+        Self::try_from_slice_as(alloc, items, &mut Pass::none())
+    }
+
+    /// A window over an array's items: `try_from_array_as` with a new pass. Refused memory, the array comes back.
+    pub fn try_from_array<const N: usize>(
+        alloc: A,
+        array: [S::Item; N],
+    ) -> Result<Self, [S::Item; N]>
+    where
+        S: CopySlice,
+        S::Item: Copy,
+        ensures ok { IfOk result (λ window. WithPassOfNone (λ first last. Makes L.STATIC false array first last window)) }
+        ensures refused { IfErr result (λ back. (back ≡ array) × NeedsBlock L.STATIC array) }
+    {
+        Self::try_from_array_as(alloc, array, &mut Pass::none())
+    }
+}
+
+impl<S: Slice, L: Layout, A: Allocator + Copy, H: Mark> ArcSlice<S, L, A, H> {
     /// How many items the window has.
     pub fn len(&self) -> usize
         ensures { result ≡ length self.now.items }
@@ -116,7 +184,7 @@ impl<S: Slice, L: Layout, A: Allocator, H: Mark> ArcSlice<S, L, A, H> {
     }
 }
 
-impl<S: Subsliceable, L: Layout, A: Allocator, H: Mark> ArcSlice<S, L, A, H> {
+impl<S: Subsliceable, L: Layout, A: Allocator + Copy, H: Mark> ArcSlice<S, L, A, H> {
     /// Whether `start` to `end` is a range of the window. `OutOfRange` where the end is past the length, else
     /// `InvalidRange` where the start is past the end, else `NotBoundary` where the kind may not be cut at one of them.
     pub fn check_range(&self, start: usize, end: usize) -> Result<(), RangeError>
@@ -139,17 +207,16 @@ impl<S: Subsliceable, L: Layout, A: Allocator, H: Mark> ArcSlice<S, L, A, H> {
 }
 
 impl<S: Slice, L: Layout, A: Allocator + Copy, H: Mark> ArcSlice<S, L, A, H> {
-    /// Another window with the same items at the same place, an owner more of the block.
+    /// Another window with the same items at the same place, an owner more of the block. On a block it adds Up, or Full where refused.
     ///
-    /// Takes no memory and copies no item. `CountFull` where the block can have no owner more.
-    pub fn try_clone(&self, rt: &impl Wait) -> Result<Self, OwnerError>
-        ensures ok { IfOk result (λ window. window ≡ self.now) }
-        ensures refused { IfErr result (λ e. e ≡ OwnerError.CountFull) }
-        ensures owner { OnErr result (IsOnBlock self.now.place) }
+    /// Takes no memory and copies no item. `CountFull` where as many owners live as the count can tell.
+    pub fn try_clone_as(&self, rt: &impl Wait, pass: &mut Pass<H>) -> Result<Self, OwnerError>
+        requires pass { IsPassAt self.now.place pass.old }
+        ensures ok { IfOk result (λ window. (window.items ≡ self.now.items) × SharesAt self.now.place pass.old pass.new window.place) }
+        ensures refused { IfErr result (λ e. (e ≡ OwnerError.CountFull) × IsFullAt self.now.place pass.old pass.new) }
     {
-        let _ = rt;
         let block = match &self.block {
-            Some(block) => Some(block.try_share()?),
+            Some(block) => Some(block.try_share_as(rt, pass)?),
             None => None,
         };
         Ok(ArcSlice {
@@ -161,22 +228,28 @@ impl<S: Slice, L: Layout, A: Allocator + Copy, H: Mark> ArcSlice<S, L, A, H> {
         })
     }
 
-    /// A window over the items from `start` to `end`, an owner more of the block. With no items it stands on nothing
-    /// where the layout has static data.
+    /// A window over the items from `start` to `end`, an owner more of the block: it adds Up, or Full where refused. With no items it
+    /// stands on nothing where the layout has static data, and nothing is added.
     ///
-    /// Takes no memory and copies no item. `CountFull` where the block can have no owner more.
-    pub fn try_subslice(&self, rt: &impl Wait, start: usize, end: usize) -> Result<Self, OwnerError>
+    /// Takes no memory and copies no item. `CountFull` where as many owners live as the count can tell.
+    pub fn try_subslice_as(
+        &self,
+        rt: &impl Wait,
+        start: usize,
+        end: usize,
+        pass: &mut Pass<H>,
+    ) -> Result<Self, OwnerError>
     where
         S: Subsliceable,
-        requires { IsRange S.boundary self.now.items start end }
-        ensures ok { IfOk result (λ window. window ≡ part_window L.STATIC self.now start end) }
-        ensures refused { IfErr result (λ e. e ≡ OwnerError.CountFull) }
-        ensures owner { OnErr result (IsOnBlock (part_window L.STATIC self.now start end).place) }
+        requires range { IsRange S.boundary self.now.items start end }
+        requires pass { IsPassAt self.now.place pass.old }
+        ensures ok { IfOk result (λ window. (window.items ≡ (part_window L.STATIC self.now start end).items)
+            × SharesAt (part_window L.STATIC self.now start end).place pass.old pass.new window.place) }
+        ensures refused { IfErr result (λ e. (e ≡ OwnerError.CountFull) × IsFullAt (part_window L.STATIC self.now start end).place pass.old pass.new) }
     {
-        let _ = rt;
         match &self.block {
             Some(block) if !stands_on_nothing::<L>(end - start) => Ok(ArcSlice {
-                block: Some(block.try_share()?),
+                block: Some(block.try_share_as(rt, pass)?),
                 start: self.start + start,
                 end: self.start + end,
                 alloc: self.alloc,
@@ -190,6 +263,181 @@ impl<S: Slice, L: Layout, A: Allocator + Copy, H: Mark> ArcSlice<S, L, A, H> {
                 of: PhantomData,
             }),
         }
+    }
+}
+
+impl<S: Slice, L: Layout, A: Allocator + Copy, H: Mark> ArcSlice<S, L, A, H> {
+    /// Whether no other owner of the block lives, by one load: on a block it adds Alone with the answer. `false` on no block. Takes no
+    /// memory.
+    pub fn is_unique_as(&self, pass: &mut Pass<H>) -> bool
+        requires pass { IsPassAt self.now.place pass.old }
+        ensures { AsksAt self.now.place pass.old pass.new result }
+    {
+        match &self.block {
+            Some(block) => block.is_unique_as(pass),
+            None => false,
+        }
+    }
+
+    /// Whether the window has `n` items, which are all places of a native block.
+    fn is_whole(&self, n: usize) -> bool
+        ensures { IsTrue result ↔ IsWholeOf n self.now }
+    {
+        match &self.block {
+            Some(block) => self.len() == n && block.size() == n,
+            None => false,
+        }
+    }
+
+    /// The items as an array, where the window has `N` of them, which are all places of a native block, and no other owner lives. On
+    /// success it adds Alone and Down. Else the window comes back, and Alone was added with no where only the count could decide; on
+    /// no block it always comes back.
+    ///
+    /// Takes no memory.
+    pub fn try_into_array_as<const N: usize>(self, pass: &mut Pass<H>) -> Result<[S::Item; N], Self>
+        requires pass { IsPassAt self.place pass.old }
+        ensures taken { IfOk result (λ array. IsWholeOf N self × (array ≡ self.items) × TakesAt self.place pass.old pass.new) }
+        ensures refused { IfErr result (λ window. (window ≡ self) × RefusesArray N self pass.old pass.new) }
+    {
+        if !self.is_whole(N) {
+            return Err(self);
+        }
+        let ArcSlice {
+            block,
+            start,
+            end,
+            alloc,
+            of,
+        } = self;
+        let Some(block) = block else { unreachable!() };
+        match block.try_into_items_as(pass) {
+            Ok(items) => match <[S::Item; N]>::try_from(items) {
+                Ok(array) => Ok(array),
+                Err(_) => unreachable!(),
+            },
+            Err(block) => Err(ArcSlice {
+                block: Some(block),
+                start,
+                end,
+                alloc,
+                of,
+            }),
+        }
+    }
+
+    /// Ends the window. On a block it adds Down, and the last owner gives the block back. Takes no memory.
+    pub fn release_as(self, pass: &mut Pass<H>)
+        requires pass { IsPassAt self.place pass.old }
+        ensures { LeavesAt self.place pass.old pass.new }
+    {
+        let ArcSlice {
+            block,
+            start: _,
+            end: _,
+            alloc: _,
+            of: _,
+        } = self;
+        if let Some(block) = block {
+            let _ = block.release_as(pass);
+        }
+    }
+
+    /// Ends the window: it reads the count first, and gives the block back without a further step where no other owner lives, else it
+    /// counts down. On a block it adds Alone with what was found, then Down. Takes no memory.
+    pub fn drop_with_unique_hint_as(self, pass: &mut Pass<H>)
+        requires pass { IsPassAt self.place pass.old }
+        ensures { AsksAndLeavesAt self.place pass.old pass.new }
+    {
+        let ArcSlice {
+            block,
+            start: _,
+            end: _,
+            alloc: _,
+            of: _,
+        } = self;
+        if let Some(block) = block {
+            match block.try_into_items_as(pass) {
+                Ok(items) => drop(items),
+                Err(block) => {
+                    let _ = block.release_as(pass);
+                }
+            }
+        }
+    }
+
+    /// Afterwards the first pass has seen at least what the other had. It adds nothing and takes no memory.
+    pub fn learn(&self, pass: &mut Pass<H>, other: &Pass<H>)
+        requires pass { IsPassAt self.now.place pass.old }
+        requires other { IsPassAt self.now.place other.now }
+        ensures { LearnsAt self.now.place pass.old other.now pass.new }
+    {
+        if let Some(block) = &self.block {
+            block.learn(pass, other);
+        }
+    }
+}
+
+impl<S: Slice, L: Layout, A: Allocator + Copy> ArcSlice<S, L, A, Open> {
+    /// A new pass of the window's block, which has seen at least how the window became an owner, and made nothing; on no block a pass
+    /// of none. It adds nothing and takes no memory.
+    pub fn pass(&self) -> Pass<Open>
+        ensures { IsNewPassAt self.now.place result }
+    {
+        match &self.block {
+            Some(block) => block.pass(),
+            None => Pass::none(),
+        }
+    }
+
+    /// Whether no other owner of the block lives: `is_unique_as` with a new pass. `false` on no block.
+    pub fn is_unique(&self) -> bool
+        ensures { WithNewPass self.now.place (λ first last. AsksAt self.now.place first last result) }
+    {
+        self.is_unique_as(&mut self.pass())
+    }
+
+    /// The items as an array: `try_into_array_as` with a new pass.
+    pub fn try_into_array<const N: usize>(self) -> Result<[S::Item; N], Self>
+        ensures taken { IfOk result (λ array. IsWholeOf N self × (array ≡ self.items) × WithNewPass self.place (λ first last. TakesAt self.place first last)) }
+        ensures refused { IfErr result (λ window. (window ≡ self) × WithNewPass self.place (λ first last. RefusesArray N self first last)) }
+    {
+        let mut pass = self.pass();
+        self.try_into_array_as(&mut pass)
+    }
+
+    /// Ends the window: `drop_with_unique_hint_as` with a new pass.
+    pub fn drop_with_unique_hint(self)
+        ensures { WithNewPass self.place (λ first last. AsksAndLeavesAt self.place first last) }
+    {
+        let mut pass = self.pass();
+        self.drop_with_unique_hint_as(&mut pass);
+    }
+}
+
+impl<S: Slice, L: Layout, A: Allocator + Copy> ArcSlice<S, L, A, Open> {
+    /// Another window with the same items at the same place: `try_clone_as` with a new pass.
+    ///
+    /// Takes no memory and copies no item. `CountFull` where as many owners live as the count can tell.
+    pub fn try_clone(&self, rt: &impl Wait) -> Result<Self, OwnerError>
+        ensures ok { IfOk result (λ window. (window.items ≡ self.now.items) × WithNewPass self.now.place (λ first last. SharesAt self.now.place first last window.place)) }
+        ensures refused { IfErr result (λ e. (e ≡ OwnerError.CountFull) × WithNewPass self.now.place (λ first last. IsFullAt self.now.place first last)) }
+    {
+        self.try_clone_as(rt, &mut self.pass())
+    }
+
+    /// A window over the items from `start` to `end`: `try_subslice_as` with a new pass, of the block on which the part stands.
+    ///
+    /// Takes no memory and copies no item. `CountFull` where as many owners live as the count can tell.
+    pub fn try_subslice(&self, rt: &impl Wait, start: usize, end: usize) -> Result<Self, OwnerError>
+    where
+        S: Subsliceable,
+        requires { IsRange S.boundary self.now.items start end }
+        ensures ok { IfOk result (λ window. (window.items ≡ (part_window L.STATIC self.now start end).items)
+            × WithNewPass self.now.place (λ first last. SharesAt (part_window L.STATIC self.now start end).place first last window.place)) }
+        ensures refused { IfErr result (λ e. (e ≡ OwnerError.CountFull)
+            × WithNewPass self.now.place (λ first last. IsFullAt (part_window L.STATIC self.now start end).place first last)) }
+    {
+        self.try_subslice_as(rt, start, end, &mut self.pass())
     }
 }
 

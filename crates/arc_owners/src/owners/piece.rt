@@ -15,26 +15,32 @@ use std::alloc::Allocator;
 use std::marker::PhantomData;
 use std::sync::Wait;
 
+/// A value, and the allocator that its memory came from.
+#[derive(Drop)]
+pub struct Housed<V: Drop, A: Allocator + Copy> {
+    pub(super) value: V,
+    pub(super) alloc: A,
+}
+
 /// One owner of a value that lies in memory of its own, next to the word that counts the owners. `MAX` is the greatest count.
 ///
 /// Dropped, it ends with a new pass under the mark `Open`. Under `Whole` it is a forgotten owner: the memory stays for good.
-pub struct Piece<V: Drop, A: Allocator, const MAX: u64, H: Mark = Open> {
-    pub(super) at: Spot<Room<V>>,
-    pub(super) alloc: A,
+pub struct Piece<V: Drop, A: Allocator + Copy, const MAX: u64, H: Mark = Open> {
+    pub(super) at: Spot<Room<Housed<V, A>>>,
     pub(super) word: Spot<u64>,
-    pub(super) value: Spot<V>,
+    pub(super) value: Spot<Housed<V, A>>,
     pub(super) lodging: Lodging,
-    pub(super) loan: Loan<V>,
-    pub(super) kept: Kept<Room<V>, A>,
+    pub(super) loan: Loan<Housed<V, A>>,
+    pub(super) kept: Kept<Room<Housed<V, A>>, A>,
     pub(super) share: Share<H>,
     ghost greatest: { lodging.names.most ≡ MAX },
     ghost counted: { share.right.names ≡ lodging.names },
     ghost lodged: { (lodging.at ≡ word.place) × (lodging.lifetime ≡ share.right.lease.lifetime) },
     ghost shown: { (loan.at ≡ value.place) × (loan.lifetime ≡ share.right.lease.lifetime) },
-    ghost comes_back: { (kept.at ≡ at.place) × (kept.alloc ≡ alloc) × (kept.lease ≡ share.right.lease) × (kept.value.value ≡ loan.value) },
+    ghost comes_back: { (kept.at ≡ at.place) × (kept.alloc ≡ loan.value.alloc) × (kept.lease ≡ share.right.lease) × (kept.value.value ≡ loan.value) },
 }
 
-impl<V: Drop, A: Allocator, const MAX: u64, H: Mark> Piece<V, A, MAX, H> {
+impl<V: Drop, A: Allocator + Copy, const MAX: u64, H: Mark> Piece<V, A, MAX, H> {
     ghost use Rattle.std.specs.Prelude.{◌≡◌, ◌≤◌, IfOk, IfErr, IfSome, is_some, true, false, None};
     ghost use Rattle.arc_owners.specs.Pieces.{owner_of, value_of, IsFirst, IsPassFor, IsFreshPass, IsNewPass, Learns, Asks, FindsFull, MakesAnother, Leaves, TakesBlock};
 
@@ -48,15 +54,16 @@ impl<V: Drop, A: Allocator, const MAX: u64, H: Mark> Piece<V, A, MAX, H> {
     {
         let (owners, share, pass) = Owners::<MAX, H>::new();
         let Owners { word, mark: _ } = owners;
+        let value = Housed { value, alloc };
         let memory = match Box::new(alloc, Room { word, value }) {
             Ok(memory) => memory,
             Err(refused) => {
                 let Room { word: _, value } = refused.value;
-                return Err(value);
+                return Err(value.value);
             }
         };
         let mut right = share.right;
-        let (at, alloc, lent, kept) = Lent::of(Bare::of(memory), &right);
+        let (at, _, lent, kept) = Lent::of(Bare::of(memory), &right);
         let (word, lodging, value, loan) = unsafe { Room::settle(lent, at, &mut right) };
         let share = Share {
             right,
@@ -65,7 +72,6 @@ impl<V: Drop, A: Allocator, const MAX: u64, H: Mark> Piece<V, A, MAX, H> {
         Ok((
             Piece {
                 at: Spot { place: at },
-                alloc,
                 word: Spot { place: word },
                 value: Spot { place: value },
                 lodging,
@@ -80,6 +86,13 @@ impl<V: Drop, A: Allocator, const MAX: u64, H: Mark> Piece<V, A, MAX, H> {
     /// The value.
     pub fn get(&self) -> &V
         ensures { result.now ≡ value_of self.now }
+    {
+        &self.housed().value
+    }
+
+    /// The value, with the allocator that its memory came from.
+    fn housed(&self) -> &Housed<V, A>
+        ensures { result.now ≡ self.now.loan.value }
     {
         unsafe { self.loan.get(self.value.place, &self.share.right) }
     }
@@ -101,9 +114,9 @@ impl<V: Drop, A: Allocator, const MAX: u64, H: Mark> Piece<V, A, MAX, H> {
         ensures others { IfErr result (λ _. Asks (owner_of self) pass.old pass.new false) }
         ensures back { IfErr result (λ piece. (owner_of piece ≡ owner_of self) × (value_of piece ≡ value_of self)) }
     {
+        let alloc = self.housed().alloc;
         let Piece {
             at,
-            alloc,
             word,
             value,
             lodging,
@@ -116,11 +129,10 @@ impl<V: Drop, A: Allocator, const MAX: u64, H: Mark> Piece<V, A, MAX, H> {
                 let memory = unsafe { kept.take(at.place.cast_mut(), alloc, term) };
                 let Room { word: _, value } = Box::into_inner(memory.into_box());
                 sole.end_as(pass);
-                Ok(value)
+                Ok(value.value)
             }
             Err(share) => Err(Piece {
                 at,
-                alloc,
                 word,
                 value,
                 lodging,
@@ -137,9 +149,9 @@ impl<V: Drop, A: Allocator, const MAX: u64, H: Mark> Piece<V, A, MAX, H> {
         ensures entry { Leaves (owner_of self) pass.old pass.new (is_some result) }
         ensures value { IfSome result (λ value. value ≡ value_of self) }
     {
+        let alloc = self.housed().alloc;
         let Piece {
             at,
-            alloc,
             word,
             value: _,
             lodging,
@@ -151,7 +163,7 @@ impl<V: Drop, A: Allocator, const MAX: u64, H: Mark> Piece<V, A, MAX, H> {
             Release::Last(term) => {
                 let memory = unsafe { kept.take(at.place.cast_mut(), alloc, term) };
                 let Room { word: _, value } = Box::into_inner(memory.into_box());
-                Some(value)
+                Some(value.value)
             }
             Release::NotLast => None,
         }
@@ -166,7 +178,6 @@ impl<V: Drop, A: Allocator, const MAX: u64, H: Mark> Piece<V, A, MAX, H> {
         if H::is_whole() {
             let Piece {
                 at: _,
-                alloc: _,
                 word: _,
                 value: _,
                 lodging: _,
@@ -211,7 +222,6 @@ impl<V: Drop, A: Allocator + Copy, const MAX: u64, H: Mark> Piece<V, A, MAX, H> 
         };
         Ok(Piece {
             at: self.at.again(),
-            alloc: self.alloc,
             word: self.word.again(),
             value: self.value.again(),
             lodging: self.lodging.again(),
@@ -222,7 +232,7 @@ impl<V: Drop, A: Allocator + Copy, const MAX: u64, H: Mark> Piece<V, A, MAX, H> 
     }
 }
 
-impl<V: Drop, A: Allocator, const MAX: u64> Piece<V, A, MAX, Open> {
+impl<V: Drop, A: Allocator + Copy, const MAX: u64> Piece<V, A, MAX, Open> {
     ghost use Rattle.std.specs.Prelude.{◌≡◌, ◌≤◌, IfOk, IfErr, IfSome, is_some, true, false, None};
     ghost use Rattle.arc_owners.specs.Pieces.{owner_of, value_of, IsFirst, IsPassFor, IsFreshPass, IsNewPass, Learns, Asks, FindsFull, MakesAnother, Leaves, TakesBlock};
 
@@ -237,7 +247,7 @@ impl<V: Drop, A: Allocator, const MAX: u64> Piece<V, A, MAX, Open> {
     }
 }
 
-impl<V: Drop, A: Allocator, const MAX: u64, H: Mark> Drop for Piece<V, A, MAX, H> {
+impl<V: Drop, A: Allocator + Copy, const MAX: u64, H: Mark> Drop for Piece<V, A, MAX, H> {
     fn drop(self) {
         drop(self.let_go());
     }
