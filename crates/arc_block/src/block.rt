@@ -1,8 +1,8 @@
 //! Blocks: memory that stays where it is while a window stands on it.
-ghost use Rattle.std.specs.Prelude.{◌≡◌, ◌≤◌, length, false, IfOk, IfErr};
+ghost use Rattle.std.specs.Prelude.{◌≡◌, ◌≤◌, ◌↔◌, length, false, IsTrue, IfOk, IfErr};
 ghost use Rattle.std.specs.Vec.{vec_capacity};
 ghost use Rattle.arc_owners.specs.Pieces.{IsFirst, IsPassFor, IsFreshPass, IsNewPass, Learns, Asks, FindsFull, MakesAnother, Leaves, TakesBlock};
-ghost use Rattle.arc_block.specs.Block.{native_block};
+ghost use Rattle.arc_block.specs.Block.{native, native_block};
 
 use arc_buffer::kinds::Slice;
 use arc_owners::error::{AllocError, CountFull};
@@ -89,10 +89,18 @@ impl<S: Slice, A: Allocator + Copy, const MAX: u64, H: Mark> Block<S, A, MAX, H>
         self.piece.get().as_slice()
     }
 
-    /// How many places the block has, at least one for each item.
+    /// Whether items and count are of our own making.
+    pub fn is_native(&self) -> bool
+        ensures { IsTrue result ↔ (self.now.facts.sort ≡ native) }
+    {
+        // All blocks are so far.
+        let _ = &self.piece;
+        true
+    }
+
+    /// How many places the block has.
     pub fn size(&self) -> usize
-        ensures size { result ≡ self.now.facts.size }
-        ensures room { length self.now.items ≤ result }
+        ensures { result ≡ self.now.facts.size }
     {
         self.piece.get().capacity()
     }

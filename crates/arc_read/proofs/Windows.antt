@@ -1,20 +1,21 @@
 -- What a window over a block and its parts are seen as.
-use Rattle.std.proofs.Common.{◌≡◌, ℕ, ◌+◌, ◌-◌, ◌≤◌, ◌==◌, ◌&&◌, Bool, false, if◌then◌else◌, List, length, take, drop, Option, Some, sym, ap, ◌∙◌, subst, arith}
+use Rattle.std.proofs.Common.{◌≡◌, ℕ, ◌+◌, ◌-◌, ◌≤◌, ◌==◌, ◌&&◌, Bool, true, false, if◌then◌else◌, List, [], length, take, drop, Option, Some, None, refl, sym, ap, ◌∙◌, subst, arith}
+use Rattle.std.proofs.lemmas.Bool.{eqb-true, false≢true}
+use Rattle.std.proofs.lemmas.List.{nil_from_length}
 use Rattle.std.proofs.Math.Logic.{∥∥₁_map}
-use Rattle.arc_owners.specs.Pieces.{Owner}
+use Rattle.arc_owners.specs.declared.owners.tokens.Pass.{Pass}
+use Rattle.arc_owners.specs.Pieces.{Owner, IsFirst, IsFreshPass, MakesAnother, FindsFull}
 use Rattle.arc_buffer.specs.Slice.{sub, IsRange}
-use Rattle.arc_buffer.proofs.Sub.{sub-slice_range, sub-sub, length-sub}
-use Rattle.arc_block.specs.Block.{Held}
+use Rattle.arc_buffer.proofs.Sub.{sub-slice_range, sub-sub, sub-whole, length-sub}
+use Rattle.arc_block.specs.Block.{Facts, Held, native, native_facts, native_block}
+use Rattle.arc_block.specs.declared.block.TheConstants.{MAX_OWNERS}
 use Rattle.arc_block.specs.Place.{Place, nowhere, on_block, part_place}
-use Rattle.arc_read.specs.Window.{Window, window_seen, IsWithin}
+use Rattle.arc_read.specs.Window.{Window, made_window, part_window, window_seen, IsWithin, IsNativeOf, IsWholeOf}
+use Rattle.arc_read.specs.Steps.{SharesAt, IsFullAt, Makes}
 
 -- a window that stands on a block is seen as a part of it
 pub on_block_seen : {T : Type 0} (inner : Option (Held T (Unit {0}))) (from to : ℕ) (w : Window T) (b : Held T (Unit {0})) → window_seen inner from to ≡ w → inner ≡ Some b → w ≡ window_seen (Some b) from to
 on_block_seen inner from to w b view is = sym view ∙ ap (λ x. window_seen x from to) is
-
--- a new owner of the block stands on it too
-pub shared : {T : Type 0} (inner : Option (Held T (Unit {0}))) (a b : Held T (Unit {0})) → inner ≡ Some a → b ≡ a → inner ≡ Some b
-shared inner a b is same = is ∙ ap (λ x. Some x) (sym same)
 
 -- its items are those of the block between its ends
 pub items_on_block : {T : Type 0} (inner : Option (Held T (Unit {0}))) (from to : ℕ) (w : Window T) (b : Held T (Unit {0})) (items : List T) → window_seen inner from to ≡ w → inner ≡ Some b → IsWithin inner from to → items ≡ b.items → take (to - from) (drop from items) ≡ w.items
@@ -60,7 +61,84 @@ pub part_kept : {T : Type 0} (legal : List T → Type 0) (boundary : List T → 
     → IsWithin (Some b) (from + start) (from + end) × ∥ legal (window_seen (Some b) (from + start) (from + end)).items ∥₁
 part_kept legal boundary law has_static inner from to start end w b view is holds range kept =
     let inside = part_within boundary inner from to start end w b view is holds.0 range in (
-      (omega (arith, inside.0), omega (arith, inside.1, inside.2)),
+      (omega (arith, inside.0), omega (arith, inside.1, inside.2), (subst (λ x. IsWithin x from to) is holds.0).2),
       subst (λ v. ∥ legal v.items ∥₁) (sym (part_seen boundary has_static inner from to start end w b view is holds.0 range kept))
           (part_legal legal boundary law (window_seen inner from to) w start end view holds.1 range),
     )
+
+-- the block that another owner stands on: its items and what is known of it are the same
+abbrev reowned : {T : Type 0} → Held T (Unit {0}) → Owner → Held T (Unit {0})
+reowned b other = record { owner = other; items = b.items; facts = b.facts }
+
+as_reowned : {T : Type 0} (b b' : Held T (Unit {0})) → b'.items ≡ b.items → b'.facts ≡ b.facts → reowned b b'.owner ≡ b'
+as_reowned {T} b b' items facts =
+    let f : List T → Held T (Unit {0}) = λ xs. record { owner = b'.owner; items = xs; facts = b.facts } in
+    let g : Facts (Unit {0}) → Held T (Unit {0}) = λ x. record { owner = b'.owner; items = b'.items; facts = x } in
+    ap f (sym items) ∙ ap g (sym facts)
+
+-- the part keeps what holds of every window, also as a window of another owner
+pub part_kept_by : {T : Type 0} (legal : List T → Type 0) (boundary : List T → ℕ → Bool) → ((xs : List T) (s e : ℕ) → legal xs → IsRange boundary xs s e → legal (sub xs s e))
+    → (has_static : Bool) (inner : Option (Held T (Unit {0}))) (from to start end : ℕ) (w : Window T) (b b' : Held T (Unit {0})) → window_seen inner from to ≡ w → inner ≡ Some b → IsWithin inner from to × ∥ legal (window_seen inner from to).items ∥₁ → IsRange boundary w.items start end
+    → (has_static && ((end - start) == 0)) ≡ false → b'.items ≡ b.items → b'.facts ≡ b.facts
+    → IsWithin (Some b') (from + start) (from + end) × ∥ legal (window_seen (Some b') (from + start) (from + end)).items ∥₁
+part_kept_by {T} legal boundary law has_static inner from to start end w b b' view is holds range kept items facts =
+    let P : Held T (Unit {0}) → Type 0 = λ x. IsWithin (Some x) (from + start) (from + end) × ∥ legal (window_seen (Some x) (from + start) (from + end)).items ∥₁ in
+    subst P (as_reowned b b' items facts) (part_kept legal boundary law has_static inner from to start end w b view is holds range kept)
+
+-- it has the part's items, and stands where its source does, that much further in, as the new owner
+pub part_shared : {T H : Type 0} (boundary : List T → ℕ → Bool) (has_static : Bool) (inner : Option (Held T (Unit {0}))) (from to start end : ℕ) (w : Window T) (b b' : Held T (Unit {0})) (old new : Pass H) → window_seen inner from to ≡ w → inner ≡ Some b → IsWithin inner from to → IsRange boundary w.items start end
+    → (has_static && ((end - start) == 0)) ≡ false → b'.items ≡ b.items → b'.facts ≡ b.facts → MakesAnother b.owner old new b'.owner
+    → let seen = window_seen (Some b') (from + start) (from + end) in let part = part_window has_static w start end in (seen.items ≡ part.items) × SharesAt part.place old new seen.place
+part_shared {T} boundary has_static inner from to start end w b b' old new view is within range kept items facts makes =
+    let part = part_seen boundary has_static inner from to start end w b view is within range kept in
+    let P : Place Owner (Unit {0}) → Type 0 = λ place. SharesAt place old new (on_block b'.owner (from + start) b'.facts) in (
+      ap (λ xs. sub xs (from + start) (from + end)) items ∙ ap (λ v. v.items) part,
+      subst P (ap (λ v. v.place) part) (b'.owner, makes, ap (λ x. on_block b'.owner (from + start) x) facts),
+    )
+
+-- it is refused where its source's block is full
+pub part_full : {T H : Type 0} (boundary : List T → ℕ → Bool) (has_static : Bool) (inner : Option (Held T (Unit {0}))) (from to start end : ℕ) (w : Window T) (b : Held T (Unit {0})) (old new : Pass H) → window_seen inner from to ≡ w → inner ≡ Some b → IsWithin inner from to → IsRange boundary w.items start end
+    → (has_static && ((end - start) == 0)) ≡ false → FindsFull b.owner old new
+    → IsFullAt (part_window has_static w start end).place old new
+part_full boundary has_static inner from to start end w b old new view is within range kept full =
+    let P : Place Owner (Unit {0}) → Type 0 = λ place. IsFullAt place old new in
+    subst P (ap (λ v. v.place) (part_seen boundary has_static inner from to start end w b view is within range kept)) full
+
+-- a window with as many items as its block has places is all of the block
+pub whole_is_all : {T : Type 0} (inner : Option (Held T (Unit {0}))) (from to size : ℕ) (w : Window T) (b : Held T (Unit {0})) → window_seen inner from to ≡ w → inner ≡ Some b → IsWithin inner from to → IsWholeOf size w → (length b.items ≡ size) × (b.items ≡ w.items)
+whole_is_all inner from to size w b view is within whole =
+    let inside = subst (λ x. IsWithin x from to) is within in
+    let seen = on_block_seen inner from to w b view is in
+    let places : b.facts.size ≡ size = (subst (λ v. IsNativeOf size v.place) seen whole.block).1 in
+    let long : to - from ≡ size = sym (length-sub b.items from to inside.0 inside.1) ∙ ap (λ v. length v.items) (sym seen) ∙ whole.items in
+    let start : from ≡ 0 = omega (arith, inside.1, inside.2, places, long) in
+    let last : to ≡ length b.items = omega (arith, inside.1, inside.2, places, long) in
+    (omega (arith, inside.1, inside.2, places, long), sym (ap (λ v. v.items) seen ∙ ap (λ n. sub b.items n to) start ∙ ap (λ n. sub b.items 0 n) last ∙ sub-whole b.items))
+
+-- a window is all of a native block where the numbers say so
+pub whole_told : {T : Type 0} (inner : Option (Held T (Unit {0}))) (from to n : ℕ) (w : Window T) (b : Held T (Unit {0})) → window_seen inner from to ≡ w → inner ≡ Some b → b.facts.sort ≡ native → (length w.items ≡ n) × (b.facts.size ≡ n) → IsWholeOf n w
+whole_told inner from to n w b view is sort told = record { items = told.0; block = subst (λ v. IsNativeOf n v.place) (sym (on_block_seen inner from to w b view is)) (sort, told.1) }
+
+both_true : (b : Bool) (n : ℕ) → (b && (n == 0)) ≡ true → n ≡ 0
+both_true true n both = eqb-true n 0 both
+both_true false n both = absurd (false≢true both)
+
+-- a window that is made of a list on a new block, and one that is made on nothing
+pub made_on_block : {T H : Type 0} (has_static one_pass : Bool) (items : List T) (b : Held T (Unit {0})) (old new : Pass H) → b ≡ native_block b.owner items → IsFirst MAX_OWNERS one_pass b.owner → IsFreshPass b.owner new → (has_static && (length items == 0)) ≡ false
+    → Makes has_static one_pass items old new (window_seen (Some b) 0 (length items))
+made_on_block {T} {H} has_static one_pass items b old new is first fresh kept =
+    let there : Bool → Place Owner (Unit {0}) = λ nothing. if nothing then nowhere else on_block b.owner 0 (native_facts (length items)) in
+    let P : Held T (Unit {0}) → Type 0 = λ x. window_seen (Some x) 0 (length items) ≡ made_window has_static b.owner items in
+    (b.owner, subst P (sym is) (ap (λ xs. record { items = xs; place = there false }) (sub-whole items) ∙ ap (λ nothing. record { items = items; place = there nothing }) (sym kept)), (first, fresh))
+
+pub made_on_nothing : {T H : Type 0} (has_static one_pass : Bool) (items : List T) (old : Pass H) → (has_static && (length items == 0)) ≡ true
+    → Makes has_static one_pass items old old (window_seen {T = T} None 0 0)
+made_on_nothing {T} {H} has_static one_pass items old nothing =
+    let owner : Owner = record { block = old.trace.names; number = 0; born = [] } in
+    let empty : items ≡ [] = nil_from_length items (both_true has_static (length items) nothing) in
+    let there : Bool → Place Owner (Unit {0}) = λ b. if b then nowhere else on_block owner 0 (native_facts (length items)) in
+    (owner, ap (λ xs. record { items = xs; place = nowhere }) (sym empty) ∙ ap (λ b. record { items = items; place = there b }) (sym nothing), refl)
+
+-- the window made on a new block lies within it, and is legal where each list is
+pub made_kept : {T : Type 0} (legal : List T → Type 0) → ((xs : List T) → legal xs) → (items : List T) (b : Held T (Unit {0})) (owner : Owner) → b ≡ native_block owner items → IsWithin (Some b) 0 (length items) × ∥ legal (window_seen (Some b) 0 (length items)).items ∥₁
+made_kept {T} legal all items b owner is = (subst (λ x. IsWithin (Some x) 0 (length items)) (sym is) (omega arith, omega arith, omega arith), ∣ all _ ∣₁)

@@ -1,6 +1,6 @@
 -- What a call does to the pass of its window's block. A window that stands on no block has a pass of no block, and its calls add
 -- nothing.
-use Rattle.std.specs.Prelude.{◌≡◌, ℕ, Bool, true, false, List, [], length}
+use Rattle.std.specs.Prelude.{◌≡◌, ℕ, Bool, false, List}
 use Rattle.arc_owners.specs.declared.owners.tokens.Pass.{Pass}
 use Rattle.arc_owners.specs.declared.mark.Open.{Open}
 use Rattle.arc_owners.specs.Passes.{IsPassOfNone}

@@ -2,7 +2,7 @@
 use Rattle.std.specs.Prelude.{◌≡◌, ℕ, ◌≤◌, Bool, List, [], length, Option, Some, None}
 use Rattle.arc_owners.specs.Pieces.{Owner}
 use Rattle.arc_buffer.specs.Slice.{sub}
-use Rattle.arc_block.specs.Block.{Sort, native, Facts, Held, native_facts}
+use Rattle.arc_block.specs.Block.{native, Facts, Held, native_facts}
 use Rattle.arc_block.specs.Place.{Place, Sight, nowhere, static_data, on_block, IsOnBlock, made_place, part_place}
 
 -- a window on a block says which of its owners it is
@@ -26,10 +26,10 @@ abbrev pub window_seen : {T : Type 0} → Option (Held T (Unit {0})) → ℕ →
 window_seen None start end = record { items = []; place = nowhere }
 window_seen (Some block) start end = record { items = sub block.items start end; place = on_block block.owner start block.facts }
 
--- start to end lies within the block; a window on none has no items
+-- start to end lies within the block, which has a place for each item; a window on none has no items
 abbrev pub IsWithin : {T : Type 0} → Option (Held T (Unit {0})) → ℕ → ℕ → Type 0
 IsWithin None start end = (start ≡ 0) × (end ≡ 0)
-IsWithin (Some block) start end = (start ≤ end) × (end ≤ length block.items)
+IsWithin (Some block) start end = (start ≤ end) × (end ≤ length block.items) × (length block.items ≤ block.facts.size)
 
 -- a native block of this size
 abbrev pub IsNativeOf : {N M : Type 0} → ℕ → Place N M → Type 0

@@ -68,6 +68,14 @@ impl<S: Slice, L: Layout, A: Allocator + Copy, H: Mark> ArcSlice<S, L, A, H> {
         L: StaticLayout,
         ensures { result ≡ record { items = []; place = nowhere } }
     {
+        Self::on_nothing(alloc)
+    }
+
+    /// A window with no items, which stands on nothing.
+    fn on_nothing(alloc: A) -> Self
+        requires { ∥ S.is_legal [] ∥₁ }
+        ensures { result ≡ record { items = []; place = nowhere } }
+    {
         ArcSlice {
             block: None,
             start: 0,
@@ -93,15 +101,13 @@ impl<S: Slice, L: Layout, A: Allocator + Copy, H: Mark> ArcSlice<S, L, A, H> {
         ensures ok { IfOk result (λ window. Makes L.STATIC H.whole items.now pass.old pass.new window) }
         ensures refused { OnErr result (NeedsBlock L.STATIC items.now × (pass.new ≡ pass.old)) }
     {
-        let block = if stands_on_nothing::<L>(items.len()) {
-            None
-        } else {
-            let (block, new) = Block::try_from_slice(alloc, items)?;
-            *pass = new;
-            Some(block)
-        };
+        if stands_on_nothing::<L>(items.len()) {
+            return Ok(Self::on_nothing(alloc));
+        }
+        let (block, new) = Block::try_from_slice(alloc, items)?;
+        *pass = new;
         Ok(ArcSlice {
-            block,
+            block: Some(block),
             start: 0,
             end: items.len(),
             alloc,
@@ -284,7 +290,7 @@ impl<S: Slice, L: Layout, A: Allocator + Copy, H: Mark> ArcSlice<S, L, A, H> {
         ensures { IsTrue result ↔ IsWholeOf n self.now }
     {
         match &self.block {
-            Some(block) => self.len() == n && block.size() == n,
+            Some(block) => block.is_native() && block.size() == n && self.len() == n,
             None => false,
         }
     }
