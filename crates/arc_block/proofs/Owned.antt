@@ -1,13 +1,13 @@
 -- What each call does to the windows and the passes of their blocks, which keep belonging together.
-use Rattle.std.proofs.Common.{inl, inr, ◌≡◌, ℕ, ◌≤◌, ◌==◌, Bool, true, false, eqb, List, [], ◌∷◌, ◌++◌, length, map, filter, filter_map, Option, Some, None, is_some, slice_get, slice_set, refl, sym, ◌∙◌, ap, subst, arith, append-nil}
+use Rattle.std.proofs.Common.{inl, inr, ◌≡◌, ℕ, ◌≤◌, ◌==◌, Bool, true, List, [], ◌∷◌, ◌++◌, length, Some, None, slice_get, slice_set, refl, sym, ◌∙◌, ap, subst, arith, append-nil}
 use Rattle.std.specs.List.{cons_option}
-use Rattle.std.proofs.lemmas.Bool.{cases_Bool, cases_eq, eq-eqb, eqb-true, ne_eqb, false≢true, true_from_ne_false}
+use Rattle.std.proofs.lemmas.Bool.{cases_Bool, cases_eq, eq-eqb, ne_eqb, false≢true}
 use Rattle.std.proofs.lemmas.Option.{none-some, same_Some, slice_get_within}
 use Rattle.std.proofs.lemmas.List.Elements.{filter_map-append}
 use Rattle.arc_owners.specs.declared.owners.entry.Entry.{Entry}
 use Rattle.arc_owners.specs.declared.owners.entry.Entry.TheVariants.{Up, Full, Down, Alone}
 use Rattle.arc_owners.specs.declared.owners.tokens.Pass.{Pass}
-use Rattle.arc_owners.specs.Book.{Line, Names, Adds, AddedTo, entries_of, next_owner}
+use Rattle.arc_owners.specs.Book.{Line, Names, Adds, entries_of, next_owner}
 use Rattle.arc_owners.specs.Histories.{owner_made, owner_ended, live_owners, owners_ever, owners_ended}
 use Rattle.arc_owners.specs.Machine.{beginning, without_number}
 use Rattle.arc_owners.specs.Passes.{IsSamePass, history_of, seen}
@@ -18,9 +18,8 @@ use Rattle.arc_owners.proofs.Legality.{legal-front}
 use Rattle.arc_owners.proofs.Steps.{one_is}
 use Rattle.arc_owners.proofs.Told.{Owned, grown, legal-owned}
 use Rattle.arc_owners.proofs.Book.Rolls.{entries-append}
-use Rattle.arc_block.specs.Table.{Row, stands_on}
 use Rattle.arc_block.specs.Owned.{Stand, number_on, owners_on, IsBlockPass, HasPass, IsKept}
-use Rattle.arc_block.proofs.Lists.{get-push, get-front, push-cases, get-set, get-set_other, set-cases, filter_map-none, filter_map-set, filter_map-gone, counts-more}
+use Rattle.arc_block.proofs.Lists.{get-push, get-front, push-cases, get-set, get-set_other, set-cases, filter_map-none, filter_map-set, filter_map-gone}
 
 -- whose number is counted on a block: the owners there, and no others
 number_here : (n : ℕ) (o : Owner) → number_on n (Some (n, o)) ≡ Some o.number
