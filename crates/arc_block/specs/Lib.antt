@@ -1,3 +1,4 @@
 pub mod Block
 pub mod Place
 pub mod Table
+pub mod Owned

@@ -1,6 +1,6 @@
 -- The table of lists: every window has a number and a list of its own.
-use Rattle.std.specs.Prelude.{◌≡◌, ℕ, List, [], Option, Some, None, slice_get}
-use Rattle.std.specs.Option.{option_flatten}
+use Rattle.std.specs.Prelude.{◌≡◌, ℕ, ◌==◌, Bool, false, List, [], length, Option, Some, None, filter, slice_get}
+use Rattle.std.specs.Option.{option_flatten, option_map_or}
 use Rattle.arc_block.specs.Place.{Place, nowhere, static_data, on_block}
 
 -- what a window may do
@@ -47,3 +47,18 @@ pub record IsAlone {T M : Type 0} (t : Table T M) (i : ℕ) : Type 0 where
   pub block : ℕ
   pub owner : StandsOn t i block
   pub only : (j : ℕ) → StandsOn t j block → j ≡ i
+
+-- whether a row stands on the block with this number
+abbrev pub stands_on : {T M : Type 0} → ℕ → Option (Row T M) → Bool
+stands_on block None = false
+stands_on block (Some row) = option_map_or (λ b. b == block) (block_of row.place) false
+
+-- how many rows stand on the block with this number
+abbrev pub owners : {T M : Type 0} → Table T M → ℕ → ℕ
+owners t block = length (filter (stands_on block) t.rows)
+
+-- whether no other row stands on the block of this place. On no block the answer is no
+abbrev pub is_alone : {T M : Type 0} → Table T M → Place ℕ M → Bool
+is_alone t nowhere = false
+is_alone t static_data = false
+is_alone t (on_block block offset facts) = owners t block == 1

@@ -1,0 +1,209 @@
+-- What each call does to the windows and the passes of their blocks, which keep belonging together.
+use Rattle.std.proofs.Common.{inl, inr, ◌≡◌, ℕ, ◌≤◌, ◌==◌, Bool, true, List, [], ◌∷◌, ◌++◌, length, Some, None, slice_get, slice_set, refl, sym, ◌∙◌, ap, subst, arith, append-nil}
+use Rattle.std.specs.List.{cons_option}
+use Rattle.std.proofs.lemmas.Bool.{cases_Bool, cases_eq, eq-eqb, ne_eqb, false≢true}
+use Rattle.std.proofs.lemmas.Option.{none-some, same_Some, slice_get_within}
+use Rattle.std.proofs.lemmas.List.Elements.{filter_map-append}
+use Rattle.arc_owners.specs.declared.owners.entry.Entry.{Entry}
+use Rattle.arc_owners.specs.declared.owners.entry.Entry.TheVariants.{Up, Full, Down, Alone}
+use Rattle.arc_owners.specs.declared.owners.tokens.Pass.{Pass}
+use Rattle.arc_owners.specs.Book.{Line, Names, Adds, entries_of, next_owner}
+use Rattle.arc_owners.specs.Histories.{owner_made, owner_ended, live_owners, owners_ever, owners_ended}
+use Rattle.arc_owners.specs.Machine.{beginning, without_number}
+use Rattle.arc_owners.specs.Passes.{IsSamePass, history_of, seen}
+use Rattle.arc_owners.specs.Pieces.{Owner, IsFirst, IsPassFor, IsFreshPass, Enters, Asks, FindsFull, MakesAnother, Leaves}
+use Rattle.arc_owners.proofs.Numbers.{times}
+use Rattle.arc_owners.proofs.Owned.{live-same, live-ended}
+use Rattle.arc_owners.proofs.Legality.{legal-front}
+use Rattle.arc_owners.proofs.Steps.{one_is}
+use Rattle.arc_owners.proofs.Told.{Owned, grown, legal-owned}
+use Rattle.arc_owners.proofs.Book.Rolls.{entries-append}
+use Rattle.arc_block.specs.Owned.{Stand, number_on, owners_on, IsBlockPass, HasPass, IsKept}
+use Rattle.arc_block.proofs.Lists.{get-push, get-front, push-cases, get-set, get-set_other, set-cases, filter_map-none, filter_map-set, filter_map-gone}
+
+-- whose number is counted on a block: the owners there, and no others
+number_here : (n : ℕ) (o : Owner) → number_on n (Some (n, o)) ≡ Some o.number
+number_here n o = rw (eq-eqb n n refl) refl
+
+number_other : (m n : ℕ) (o : Owner) → ¬ (n ≡ m) → number_on m (Some (n, o)) ≡ None
+number_other m n o apart = rw (ne_eqb n m apart) refl
+
+no-number : (m : ℕ) (s : Stand) → ((n : ℕ) (o : Owner) → s ≡ Some (n, o) → ¬ (n ≡ m)) → number_on m s ≡ None
+no-number m None apart = refl
+no-number m (Some (n, o)) apart = number_other m n o (apart n o refl)
+
+-- no owner is on a block on which no window stands
+no-owners : (m : ℕ) (stands : List Stand) → ((i n : ℕ) (o : Owner) → slice_get stands i ≡ Some (Some (n, o)) → ¬ (n ≡ m)) → owners_on m stands ≡ []
+no-owners m stands apart = filter_map-none (number_on m) stands (λ i s here. no-number m s (λ n o is. apart i n o (here ∙ ap Some is)))
+
+-- one window more
+owners-push : (m : ℕ) (stands : List Stand) (s : Stand) → owners_on m (stands ++ s ∷ []) ≡ owners_on m stands ++ cons_option (number_on m s) []
+owners-push m stands s = filter_map-append (number_on m) stands (s ∷ [])
+
+owners-pushed : (n : ℕ) (stands : List Stand) (o : Owner) → owners_on n (stands ++ Some (n, o) ∷ []) ≡ owners_on n stands ++ o.number ∷ []
+owners-pushed n stands o = owners-push n stands (Some (n, o)) ∙ ap (λ x. owners_on n stands ++ cons_option x []) (number_here n o)
+
+owners-pushed_other : (m : ℕ) (stands : List Stand) (s : Stand) → number_on m s ≡ None → owners_on m (stands ++ s ∷ []) ≡ owners_on m stands
+owners-pushed_other m stands s none = owners-push m stands s ∙ ap (λ x. owners_on m stands ++ cons_option x []) none ∙ append-nil (owners_on m stands)
+
+-- who lives after one entry more, and at the beginning
+live-more : (before : List Line) (p : ℕ) (e : Entry) (lines : List Line) → lines ≡ before ++ (p, e) ∷ [] → live_owners (entries_of lines) ≡ live_owners (entries_of before ++ e ∷ [])
+live-more before p e lines is = ap (λ (ls : List Line). live_owners (entries_of ls)) is ∙ ap live_owners (entries-append before p e)
+
+live-none : live_owners [] ≡ 0 ∷ []
+unfolding live_owners owners_ever owners_ended
+live-none = refl
+
+module _ {H : Type 0} where
+  -- each of these windows' blocks has its pass
+  abbrev AllKnown : List Stand → List (Pass H) → Type 0
+  AllKnown stands passes = (i n : ℕ) (o : Owner) → slice_get stands i ≡ Some (Some (n, o)) → HasPass passes n o
+
+  known-push : (stands : List Stand) (passes : List (Pass H)) (s : Stand) → AllKnown stands passes → ((n : ℕ) (o : Owner) → s ≡ Some (n, o) → HasPass passes n o) → AllKnown (stands ++ s ∷ []) passes
+  known-push stands passes s known last i n o here = elim (push-cases stands i (Some (n, o)) s here) [ inl front ↦ known i n o front | inr end ↦ last n o end.1 ]
+
+  known-pushed : (stands : List Stand) (passes : List (Pass H)) (n : ℕ) (o : Owner) → AllKnown stands passes → HasPass passes n o → AllKnown (stands ++ Some (n, o) ∷ []) passes
+  known-pushed stands passes n o known has =
+      known-push stands passes (Some (n, o)) known (λ m q is. subst (λ (x : ℕ × Owner). HasPass passes x.0 x.1) (same_Some (n, o) (m, q) is) has)
+
+  known-gone : (stands : List Stand) (passes : List (Pass H)) (i : ℕ) → AllKnown stands passes → AllKnown (slice_set stands i None) passes
+  known-gone stands passes i known j n o here = elim (set-cases stands i j (Some (n, o)) None here) [ inl other ↦ known j n o other.1 | inr gone ↦ absurd (none-some (n, o) gone.1) ]
+
+  -- a pass of a block that so many owners may have at most, under `Whole`
+  block-pass : (g : ℕ) (o : Owner) (p : Pass H) → o.block.whole ≡ true → o.block.most ≡ g → IsPassFor o p → IsBlockPass g p
+  block-pass g o p whole most for = record { bound = for.0; whole = ap (λ (t : Names). t.whole) for.1 ∙ whole; most = ap (λ (t : Names). t.most) for.1 ∙ most }
+
+  pub kept-none : {g : ℕ} → IsKept {H = H} g [] []
+  kept-none = record { known = λ i n o here. absurd (none-some _ here); passes_fit = λ n p here. absurd (none-some p here); live = λ n p here. absurd (none-some p here) }
+
+  pub kept-nowhere : {g : ℕ} {stands : List Stand} {passes : List (Pass H)} → IsKept g stands passes → IsKept g (stands ++ None ∷ []) passes
+  kept-nowhere {stands = stands} {passes = passes} k = record {
+    known = known-push stands passes None k.known (λ n o is. absurd (none-some (n, o) is));
+    passes_fit = k.passes_fit;
+    live = λ n p here. k.live n p here ∙ sym (owners-pushed_other n stands None refl);
+  }
+
+  pub kept-gone-nowhere : {g : ℕ} {stands : List Stand} {passes : List (Pass H)} (i : ℕ) → IsKept g stands passes → slice_get stands i ≡ Some None → IsKept g (slice_set stands i None) passes
+  kept-gone-nowhere {stands = stands} {passes = passes} i k there = record {
+    known = known-gone stands passes i k.known;
+    passes_fit = k.passes_fit;
+    live = λ n p here. k.live n p here ∙ sym (filter_map-set (number_on n) stands i None None there refl);
+  }
+
+  pub kept-new : {g : ℕ} {stands : List Stand} {passes : List (Pass H)} {o : Owner} (p : Pass H) → IsKept g stands passes → IsFirst g true o → IsFreshPass o p → IsKept g (stands ++ Some (length passes, o) ∷ []) (passes ++ p ∷ [])
+  kept-new {g = g} {stands = stands} {passes = passes} {o = o} p k first fresh =
+      let n = length passes in
+      let none : owners_on n stands ≡ [] = no-owners n stands (λ i m q here e. let found = k.known i m q here in omega (arith, e, slice_get_within passes m found.0 found.1)) in
+      let begun : live_owners (seen p) ≡ owners_on n (stands ++ Some (n, o) ∷ []) =
+      ap (λ (ls : List Line). live_owners (entries_of ls)) fresh.1 ∙ live-none
+      ∙ sym (owners-pushed n stands o ∙ ap (λ ns. ns ++ o.number ∷ []) none ∙ ap (λ j. j ∷ []) first.number) in
+      record {
+        known = known-pushed stands (passes ++ p ∷ []) n o
+            (λ i m q here. let found = k.known i m q here in (found.0, get-front passes m found.0 p found.1, found.2))
+            (p, get-push passes p, fresh.0);
+        passes_fit = λ m q here. elim (push-cases passes m q p here) [ inl front ↦ k.passes_fit m q front | inr end ↦ subst (IsBlockPass g) end.1 (block-pass g o p first.whole first.most fresh.0) ];
+        live = λ m q here. elim (push-cases passes m q p here) [
+          | inl front ↦ k.live m q front ∙ sym (owners-pushed_other m stands (Some (n, o)) (number_other m n o (λ e. omega (arith, e, slice_get_within passes m q front))))
+          | inr end ↦ ap (λ (r : Pass H). live_owners (seen r)) (sym end.1) ∙ begun ∙ ap (λ j. owners_on j (stands ++ Some (n, o) ∷ [])) (sym end.0)
+        ];
+      }
+
+  -- where no window is left, no block has a live owner
+  pub all-ended : {g : ℕ} {stands : List Stand} {passes : List (Pass H)} (n : ℕ) (p : Pass H) → IsKept g stands passes → ((i : ℕ) (s : ℕ × Owner) → ¬ (slice_get stands i ≡ Some (Some s))) → slice_get passes n ≡ Some p → live_owners (seen p) ≡ []
+  all-ended {stands = stands} n p k none here = k.live n p here ∙ no-owners n stands (λ i m o there _. none i (m, o) there)
+
+module _ {H : Type 0} {g : ℕ} {stands : List Stand} {passes : List (Pass H)} {o : Owner} {old : Pass H} (i n : ℕ) (k : IsKept g stands passes) (there : slice_get stands i ≡ Some (Some (n, o))) (was : slice_get passes n ≡ Some old) where
+  -- the pass is that of the window's block, under `Whole`
+  is-for : IsPassFor o old
+  is-for = let found = k.known i n o there in subst (IsPassFor o) (same_Some found.0 old (sym found.1 ∙ was)) found.2
+
+  is-whole : o.block.whole ≡ true
+  is-whole = ap (λ (t : Names). t.whole) (sym is-for.1) ∙ (k.passes_fit n old was).whole
+
+  is-most : o.block.most ≡ g
+  is-most = ap (λ (t : Names). t.most) (sym is-for.1) ∙ (k.passes_fit n old was).most
+
+  -- so before the call's entry the block's windows are the owners that live
+  live-before : (before : List Line) (e : Entry) → Adds o.block old.trace.number (history_of old) before e → live_owners (entries_of before) ≡ owners_on n stands
+  live-before before e a = ap (λ (ls : List Line). live_owners (entries_of ls)) (sym (a.undisturbed is-whole)) ∙ k.live n old was
+
+  owned-before : (before : List Line) (e : Entry) → Adds o.block old.trace.number (history_of old) before e → Owned (entries_of before)
+  owned-before before e a =
+      let t = o.block in
+      legal-owned t.most (beginning t.counted) (entries_of before) (legal-front t.most (beginning t.counted) (entries_of before ++ e ∷ []) (entries_of before) (e ∷ []) a.legal refl)
+
+  -- the other passes, and the windows on the other blocks, are as they were
+  kept-after : (new : Pass H) (after : List Stand) → IsSamePass o.block old new → AllKnown after passes → live_owners (seen new) ≡ owners_on n after
+      → ((m : ℕ) → ¬ (n ≡ m) → owners_on m after ≡ owners_on m stands) → IsKept g after (slice_set passes n new)
+  kept-after new after same known here others = record {
+    known = λ j m q at.
+        let found = known j m q at in
+        elim (cases_eq n m) [
+          | inl e ↦
+              (let one : found.0 ≡ old = same_Some found.0 old (sym found.1 ∙ ap (slice_get passes) (sym e) ∙ was) in
+              subst (λ (x : ℕ). HasPass (slice_set passes n new) x q) e
+              (new, get-set passes n old new was, (same.0, same.1 ∙ sym is-for.1 ∙ ap (λ (p : Pass H). p.trace.names) (sym one) ∙ found.2.1)))
+          | inr apart ↦ (found.0, get-set_other passes n m new apart ∙ found.1, found.2)
+        ];
+    passes_fit = λ m p at. elim (set-cases passes n m p new at) [
+      | inl other ↦ k.passes_fit m p other.1
+      | inr is ↦ subst (IsBlockPass g) is.1 (block-pass g o new is-whole is-most (same.0, same.1))
+    ];
+    live = λ m p at. elim (set-cases passes n m p new at) [
+      | inl other ↦ k.live m p other.1 ∙ sym (others m other.0)
+      | inr is ↦ ap (λ (r : Pass H). live_owners (seen r)) (sym is.1) ∙ here ∙ ap (λ j. owners_on j after) is.0
+    ];
+  }
+
+  -- a call whose entry neither makes nor ends an owner
+  kept-entered : (new : Pass H) (e : Entry) → owner_made e ≡ None → owner_ended e ≡ None → Enters o old new e → IsKept g stands (slice_set passes n new)
+  kept-entered new e made ends c =
+      let before = c.added.0 in
+      let a = c.added.1 in
+      kept-after new stands c.same k.known
+      (live-more before old.trace.number e (history_of new) a.1 ∙ live-same (entries_of before) e made ends ∙ live-before before e a.0)
+      (λ m apart. refl)
+
+  pub kept-asked : {new : Pass H} {found : Bool} → Asks o old new found → IsKept g stands (slice_set passes n new)
+  kept-asked {new = new} {found = found} c = kept-entered new (Alone o.number found) refl refl c
+
+  pub kept-full : {new : Pass H} → FindsFull o old new → IsKept g stands (slice_set passes n new)
+  kept-full {new = new} c = kept-entered new (Full o.number) refl refl c
+
+  pub kept-shared : {new : Pass H} {other : Owner} → MakesAnother o old new other → IsKept g (stands ++ Some (n, other) ∷ []) (slice_set passes n new)
+  kept-shared {new = new} {other = other} c =
+      let number = next_owner c.before in
+      let e = Up o.number number in
+      let h = entries_of c.before in
+      kept-after new (stands ++ Some (n, other) ∷ []) c.same
+      (known-pushed stands passes n other k.known (old, was, (is-for.0, is-for.1 ∙ sym (ap (λ (q : Owner). q.block) c.made))))
+      (live-more c.before old.trace.number e (history_of new) c.added.1 ∙ grown h e number refl refl c.added.0.may.1 (owned-before c.before e c.added.0)
+      ∙ ap (λ ns. ns ++ number ∷ []) (live-before c.before e c.added.0)
+      ∙ sym (owners-pushed n stands other ∙ ap (λ (q : Owner). owners_on n stands ++ q.number ∷ []) c.made))
+      (λ m apart. owners-pushed_other m stands (Some (n, other)) (number_other m n other apart))
+
+  pub kept-gone : {new : Pass H} {last : Bool} → Leaves o old new last → IsKept g (slice_set stands i None) (slice_set passes n new)
+  kept-gone {new = new} c =
+      let before = c.ended.0 in
+      let a = c.ended.1 in
+      let lived = live-before before (Down o.number) a.0 in
+      kept-after new (slice_set stands i None) c.same (known-gone stands passes i k.known)
+      (live-more before old.trace.number (Down o.number) (history_of new) a.1 ∙ live-ended (entries_of before) o.number ∙ ap (without_number o.number) lived
+      ∙ sym (filter_map-gone (number_on n) stands i (Some (n, o)) None o.number there (number_here n o) refl
+      (subst (λ (ns : List ℕ). times o.number ns ≤ 1) lived ((owned-before before (Down o.number) a.0).once o.number))))
+      (λ m apart. filter_map-set (number_on m) stands i (Some (n, o)) None there (sym (number_other m n o apart)))
+
+  -- uniqueness is found exactly where one window stands on the block
+  pub alone-exact : {new : Pass H} {found : Bool} → Asks o old new found → found ≡ (length (owners_on n stands) == 1)
+  alone-exact {found = found} c =
+      let before = c.added.0 in
+      let a = c.added.1.0 in
+      let lived = live-before before (Alone o.number found) a in
+      elim (cases_Bool found) [
+        | inl sole ↦ sole ∙ sym (eq-eqb (length (owners_on n stands)) 1 (ap length (sym lived ∙ a.may.2.0 sole)))
+        | inr shared ↦ shared ∙ sym (ne_eqb (length (owners_on n stands)) 1 (λ one. false≢true (sym shared ∙ a.may.2.1 (one_is (live_owners (entries_of before)) o.number a.may.0 (ap length lived ∙ one)))))
+      ]
+
+  -- the count is found full exactly where so many windows stand on the block
+  pub full-exact : {new : Pass H} → FindsFull o old new → length (owners_on n stands) ≡ g
+  full-exact c = let a = c.added.1.0 in ap length (sym (live-before c.added.0 (Full o.number) a)) ∙ a.may.2 ∙ is-most
