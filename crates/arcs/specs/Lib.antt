@@ -5,6 +5,8 @@ pub mod Reading
 pub mod Script
 pub mod Seen
 pub mod Writing
+pub mod Stands
+pub mod Entries
 pub mod Rows
 pub mod Traffic
 pub mod Underway

@@ -3,8 +3,10 @@
 
 mod command;
 mod device;
+mod entry;
 mod log;
 mod parse;
+mod passes;
 mod program;
 mod script;
 mod text;

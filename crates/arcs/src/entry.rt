@@ -1,0 +1,72 @@
+//! One window of a script.
+ghost use Rattle.arcs.specs.Stands.{IsNumbered};
+
+use arc_block::layout::DefaultLayout;
+use arc_buffer::kinds::Plain;
+use arc_owners::error::OwnerError;
+use arc_owners::mark::Whole;
+use arc_owners::owners::Pass;
+use arc_read::slice::ArcSlice;
+use std::alloc::Allocator;
+use std::sync::Wait;
+
+/// The windows of a script: over bytes, on blocks each of which has one pass.
+pub type ByteWindow<A> = ArcSlice<Plain<u8>, DefaultLayout, A, Whole>;
+
+/// A window, and the number of the block that it stands on, if it stands on one. Each ends by `release`: one that is dropped would
+/// stay an owner of its block for good.
+#[derive(Drop)]
+pub struct Entry<A: Allocator + Copy> {
+    pub window: ByteWindow<A>,
+    pub block: Option<usize>,
+    ghost numbered: { IsNumbered block window.place },
+}
+
+impl<A: Allocator + Copy> Entry<A> {
+    ghost use Rattle.std.specs.Prelude.{◌≡◌, true, Some, IfOk, IfErr};
+    ghost use Rattle.arc_buffer.specs.Slice.{IsRange, sub};
+    ghost use Rattle.arc_block.specs.Place.{IsOnBlock, part_place};
+    ghost use Rattle.arc_block.specs.Table.{reader};
+    ghost use Rattle.arcs.specs.Script.{byte_setting};
+    ghost use Rattle.arcs.specs.Stands.{IsPassOfStand, Joins, IsFullStand};
+    ghost use Rattle.arcs.specs.Entries.{row_of, stand_of};
+
+    /// Another window with the same items at the same place, an owner more of the same block. Takes no memory; `CountFull` where the
+    /// block has as many owners as it can have.
+    pub fn try_clone(&self, rt: &impl Wait, pass: &mut Pass<Whole>) -> Result<Self, OwnerError>
+        requires pass { IsPassOfStand (stand_of (Some self.now)) pass.old }
+        ensures ok { IfOk result (λ entry. (row_of entry ≡ row_of self.now) × Joins (stand_of (Some self.now)) pass.old pass.new (stand_of (Some entry))) }
+        ensures refused { IfErr result (λ e. (e ≡ OwnerError.CountFull) × IsFullStand (stand_of (Some self.now)) pass.old pass.new) }
+    {
+        let window = self.window.try_clone_as(rt, pass)?;
+        Ok(Entry {
+            window,
+            block: self.block,
+        })
+    }
+
+    /// A window over the items from `start` to `end`, an owner more of the same block, or with no items on nothing. Takes no memory;
+    /// `CountFull` where the block has as many owners as it can have.
+    pub fn try_subslice(
+        &self,
+        rt: &impl Wait,
+        start: usize,
+        end: usize,
+        pass: &mut Pass<Whole>,
+    ) -> Result<Self, OwnerError>
+        requires range { IsRange byte_setting.boundary self.now.window.items start end }
+        requires pass { IsPassOfStand (stand_of (Some self.now)) pass.old }
+        ensures row { IfOk result (λ entry. row_of entry ≡ record { items = sub self.now.window.items start end; place = part_place true (sub self.now.window.items start end) start (row_of self.now).place; role = reader }) }
+        ensures stand { IfOk result (λ entry. Joins (stand_of (Some self.now)) pass.old pass.new (stand_of (Some entry))) }
+        ensures refused { IfErr result (λ e. (e ≡ OwnerError.CountFull) × IsFullStand (stand_of (Some self.now)) pass.old pass.new) }
+        ensures place { IfErr result (λ _. IsOnBlock (part_place true (sub self.now.window.items start end) start (row_of self.now).place)) }
+    {
+        let window = self.window.try_subslice_as(rt, start, end, pass)?;
+        let block = if start == end {
+            None
+        } else {
+            self.block
+        };
+        Ok(Entry { window, block })
+    }
+}
