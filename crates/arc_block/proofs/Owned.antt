@@ -204,6 +204,6 @@ module _ {H : Type 0} {g : ℕ} {stands : List Stand} {passes : List (Pass H)} {
         | inr shared ↦ shared ∙ sym (ne_eqb (length (owners_on n stands)) 1 (λ one. false≢true (sym shared ∙ a.may.2.1 (one_is (live_owners (entries_of before)) o.number a.may.0 (ap length lived ∙ one)))))
       ]
 
-  -- the count is found full exactly where so many windows stand on the block
+  -- where the count is found full, as many windows stand on the block as it may have owners
   pub full-exact : {new : Pass H} → FindsFull o old new → length (owners_on n stands) ≡ g
   full-exact c = let a = c.added.1.0 in ap length (sym (live-before c.added.0 (Full o.number) a)) ∙ a.may.2 ∙ is-most
