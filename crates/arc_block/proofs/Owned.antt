@@ -2,7 +2,7 @@
 use Rattle.std.proofs.Common.{inl, inr, ◌≡◌, ℕ, ◌≤◌, ◌==◌, Bool, true, List, [], ◌∷◌, ◌++◌, length, Some, None, slice_get, slice_set, refl, sym, ◌∙◌, ap, subst, arith, append-nil}
 use Rattle.std.specs.List.{cons_option}
 use Rattle.std.proofs.lemmas.Bool.{cases_Bool, cases_eq, eq-eqb, ne_eqb, false≢true}
-use Rattle.std.proofs.lemmas.Option.{none-some, same_Some, slice_get_within}
+use Rattle.std.proofs.lemmas.Option.{none-some, same_Some, slice_get_cases, slice_get_within}
 use Rattle.std.proofs.lemmas.List.Elements.{filter_map-append}
 use Rattle.arc_owners.specs.declared.owners.entry.Entry.{Entry}
 use Rattle.arc_owners.specs.declared.owners.entry.Entry.TheVariants.{Up, Full, Down, Alone}
@@ -55,6 +55,13 @@ unfolding live_owners owners_ever owners_ended
 live-none = refl
 
 module _ {H : Type 0} where
+  -- the pass of a block, where it has one
+  found-pass : (passes : List (Pass H)) (n : ℕ) (o : Owner) → HasPass passes n o → (p : Pass H) × (slice_get passes n ≡ Some p) × IsPassFor o p
+  found-pass passes n o has = elim (slice_get_cases passes n).1 [ inl at ↦ (at.0, at.2, has.1 at.0 at.2) | inr past ↦ absurd (omega (arith, has.0, past.0)) ]
+
+  has-pass : (passes : List (Pass H)) (n : ℕ) (o : Owner) (p : Pass H) → slice_get passes n ≡ Some p → IsPassFor o p → HasPass passes n o
+  has-pass passes n o p at for = (slice_get_within passes n p at, λ q here. subst (IsPassFor o) (same_Some p q (sym at ∙ here)) for)
+
   -- each of these windows' blocks has its pass
   abbrev AllKnown : List Stand → List (Pass H) → Type 0
   AllKnown stands passes = (i n : ℕ) (o : Owner) → slice_get stands i ≡ Some (Some (n, o)) → HasPass passes n o
@@ -93,14 +100,14 @@ module _ {H : Type 0} where
   pub kept-new : {g : ℕ} {stands : List Stand} {passes : List (Pass H)} {o : Owner} (p : Pass H) → IsKept g stands passes → IsFirst g true o → IsFreshPass o p → IsKept g (stands ++ Some (length passes, o) ∷ []) (passes ++ p ∷ [])
   kept-new {g = g} {stands = stands} {passes = passes} {o = o} p k first fresh =
       let n = length passes in
-      let none : owners_on n stands ≡ [] = no-owners n stands (λ i m q here e. let found = k.known i m q here in omega (arith, e, slice_get_within passes m found.0 found.1)) in
+      let none : owners_on n stands ≡ [] = no-owners n stands (λ i m q here e. omega (arith, e, (k.known i m q here).0)) in
       let begun : live_owners (seen p) ≡ owners_on n (stands ++ Some (n, o) ∷ []) =
       ap (λ (ls : List Line). live_owners (entries_of ls)) fresh.1 ∙ live-none
       ∙ sym (owners-pushed n stands o ∙ ap (λ ns. ns ++ o.number ∷ []) none ∙ ap (λ j. j ∷ []) first.number) in
       record {
         known = known-pushed stands (passes ++ p ∷ []) n o
-            (λ i m q here. let found = k.known i m q here in (found.0, get-front passes m found.0 p found.1, found.2))
-            (p, get-push passes p, fresh.0);
+            (λ i m q here. let found = found-pass passes m q (k.known i m q here) in has-pass (passes ++ p ∷ []) m q found.0 (get-front passes m found.0 p found.1) found.2)
+            (has-pass (passes ++ p ∷ []) n o p (get-push passes p) fresh.0);
         passes_fit = λ m q here. elim (push-cases passes m q p here) [ inl front ↦ k.passes_fit m q front | inr end ↦ subst (IsBlockPass g) end.1 (block-pass g o p first.whole first.most fresh.0) ];
         live = λ m q here. elim (push-cases passes m q p here) [
           | inl front ↦ k.live m q front ∙ sym (owners-pushed_other m stands (Some (n, o)) (number_other m n o (λ e. omega (arith, e, slice_get_within passes m q front))))
@@ -115,7 +122,7 @@ module _ {H : Type 0} where
 module _ {H : Type 0} {g : ℕ} {stands : List Stand} {passes : List (Pass H)} {o : Owner} {old : Pass H} (i n : ℕ) (k : IsKept g stands passes) (there : slice_get stands i ≡ Some (Some (n, o))) (was : slice_get passes n ≡ Some old) where
   -- the pass is that of the window's block, under `Whole`
   is-for : IsPassFor o old
-  is-for = let found = k.known i n o there in subst (IsPassFor o) (same_Some found.0 old (sym found.1 ∙ was)) found.2
+  is-for = (k.known i n o there).1 old was
 
   is-whole : o.block.whole ≡ true
   is-whole = ap (λ (t : Names). t.whole) (sym is-for.1) ∙ (k.passes_fit n old was).whole
@@ -137,13 +144,13 @@ module _ {H : Type 0} {g : ℕ} {stands : List Stand} {passes : List (Pass H)} {
       → ((m : ℕ) → ¬ (n ≡ m) → owners_on m after ≡ owners_on m stands) → IsKept g after (slice_set passes n new)
   kept-after new after same known here others = record {
     known = λ j m q at.
-        let found = known j m q at in
+        let found = found-pass passes m q (known j m q at) in
         elim (cases_eq n m) [
           | inl e ↦
               (let one : found.0 ≡ old = same_Some found.0 old (sym found.1 ∙ ap (slice_get passes) (sym e) ∙ was) in
               subst (λ (x : ℕ). HasPass (slice_set passes n new) x q) e
-              (new, get-set passes n old new was, (same.0, same.1 ∙ sym is-for.1 ∙ ap (λ (p : Pass H). p.trace.names) (sym one) ∙ found.2.1)))
-          | inr apart ↦ (found.0, get-set_other passes n m new apart ∙ found.1, found.2)
+              (has-pass (slice_set passes n new) n q new (get-set passes n old new was) (same.0, same.1 ∙ sym is-for.1 ∙ ap (λ (p : Pass H). p.trace.names) (sym one) ∙ found.2.1)))
+          | inr apart ↦ has-pass (slice_set passes n new) m q found.0 (get-set_other passes n m new apart ∙ found.1) found.2
         ];
     passes_fit = λ m p at. elim (set-cases passes n m p new at) [
       | inl other ↦ k.passes_fit m p other.1
@@ -176,7 +183,7 @@ module _ {H : Type 0} {g : ℕ} {stands : List Stand} {passes : List (Pass H)} {
       let e = Up o.number number in
       let h = entries_of c.before in
       kept-after new (stands ++ Some (n, other) ∷ []) c.same
-      (known-pushed stands passes n other k.known (old, was, (is-for.0, is-for.1 ∙ sym (ap (λ (q : Owner). q.block) c.made))))
+      (known-pushed stands passes n other k.known (has-pass passes n other old was (is-for.0, is-for.1 ∙ sym (ap (λ (q : Owner). q.block) c.made))))
       (live-more c.before old.trace.number e (history_of new) c.added.1 ∙ grown h e number refl refl c.added.0.may.1 (owned-before c.before e c.added.0)
       ∙ ap (λ ns. ns ++ number ∷ []) (live-before c.before e c.added.0)
       ∙ sym (owners-pushed n stands other ∙ ap (λ (q : Owner). owners_on n stands ++ q.number ∷ []) c.made))

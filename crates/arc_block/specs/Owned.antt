@@ -1,5 +1,5 @@
 -- Windows and the histories of their blocks, under the mark `Whole`, where each block has one pass: how they belong together.
-use Rattle.std.specs.Prelude.{◌≡◌, ℕ, ◌==◌, true, List, Option, Some, None, filter_map, slice_get, if◌then◌else◌}
+use Rattle.std.specs.Prelude.{◌≡◌, ℕ, ◌<◌, ◌==◌, true, List, length, Option, Some, None, filter_map, slice_get, if◌then◌else◌}
 use Rattle.arc_owners.specs.declared.owners.tokens.Pass.{Pass}
 use Rattle.arc_owners.specs.Histories.{live_owners}
 use Rattle.arc_owners.specs.Passes.{seen}
@@ -27,7 +27,7 @@ module _ {H : Type 0} where
 
   -- the block with this number has its pass, and it is the block of this owner
   abbrev pub HasPass : List (Pass H) → ℕ → Owner → Type 0
-  HasPass passes n o = (p : Pass H) × (slice_get passes n ≡ Some p) × IsPassFor o p
+  HasPass passes n o = (n < length passes) × ((p : Pass H) → slice_get passes n ≡ Some p → IsPassFor o p)
 
   -- the stands of the windows, and the passes of the blocks by their numbers, belong together
   pub record IsKept (greatest : ℕ) (stands : List Stand) (passes : List (Pass H)) : Type 0 where

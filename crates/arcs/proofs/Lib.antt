@@ -9,3 +9,4 @@ pub mod Splits
 pub mod Underway
 pub mod Going
 pub mod Rows
+mod Kept

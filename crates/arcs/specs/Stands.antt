@@ -1,10 +1,10 @@
 -- Where the windows of a script stand: the numbers of their blocks, and the passes of these.
-use Rattle.std.specs.Prelude.{◌≡◌, ℕ, ◌<◌, List, Option, Some, None, length, slice_get, slice_set}
+use Rattle.std.specs.Prelude.{◌≡◌, ℕ, ◌<◌, Bool, true, false, List, Option, Some, None, length, slice_get, slice_set}
 use Rattle.arc_owners.specs.declared.owners.tokens.Pass.{Pass}
 use Rattle.arc_owners.specs.Passes.{IsPassOfNone}
 use Rattle.arc_owners.specs.Pieces.{Owner, IsPassFor, MakesAnother, FindsFull, Asks, Leaves}
 use Rattle.arc_block.specs.Owned.{Stand}
-use Rattle.arc_block.specs.Place.{Place, nowhere, static_data, on_block, IsOnBlock}
+use Rattle.arc_block.specs.Place.{Place, nowhere, static_data, on_block}
 
 module _ {M : Type 0} where
   -- a place, on the block with this number
@@ -14,10 +14,11 @@ module _ {M : Type 0} where
   numbered None (on_block owner offset facts) = nowhere
   numbered (Some number) (on_block owner offset facts) = on_block number offset facts
 
-  -- there is a number exactly where the place is on a block
-  abbrev pub IsNumbered : Option ℕ → Place Owner M → Type 0
-  IsNumbered None place = ¬ IsOnBlock place
-  IsNumbered (Some number) place = IsOnBlock place
+  -- whether a place is on a block
+  abbrev pub is_on_block : Place Owner M → Bool
+  is_on_block nowhere = false
+  is_on_block static_data = false
+  is_on_block (on_block owner offset facts) = true
 
   -- where a window stands
   abbrev pub stand_at : Option ℕ → Place Owner M → Stand

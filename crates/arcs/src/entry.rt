@@ -1,5 +1,6 @@
 //! One window of a script.
-ghost use Rattle.arcs.specs.Stands.{IsNumbered};
+ghost use Rattle.std.specs.Prelude.{◌≡◌, is_some};
+ghost use Rattle.arcs.specs.Stands.{is_on_block};
 
 use arc_block::layout::DefaultLayout;
 use arc_buffer::kinds::Plain;
@@ -19,7 +20,7 @@ pub type ByteWindow<A> = ArcSlice<Plain<u8>, DefaultLayout, A, Whole>;
 pub struct Entry<A: Allocator + Copy> {
     pub window: ByteWindow<A>,
     pub block: Option<usize>,
-    ghost numbered: { IsNumbered block window.place },
+    ghost numbered: { is_some block ≡ is_on_block window.place },
 }
 
 impl<A: Allocator + Copy> Entry<A> {
@@ -62,11 +63,7 @@ impl<A: Allocator + Copy> Entry<A> {
         ensures place { IfErr result (λ _. IsOnBlock (part_place true (sub self.now.window.items start end) start (row_of self.now).place)) }
     {
         let window = self.window.try_subslice_as(rt, start, end, pass)?;
-        let block = if start == end {
-            None
-        } else {
-            self.block
-        };
+        let block = if start == end { None } else { self.block };
         Ok(Entry { window, block })
     }
 }

@@ -69,7 +69,7 @@ pub fn write_out<W: Sink>(writer: &mut W, bytes: &[u8]) -> Result<(), ScriptErro
 
 /// A script that is being run: its windows, what has come of a line, and the replies that have not gone out.
 #[derive(Drop)]
-struct Engine<A: Allocator> {
+struct Engine<A: Allocator + Copy> {
     windows: Windows<A>,
     line: Vec<u8, A>,
     too_long: bool,
@@ -244,6 +244,31 @@ impl<A: Allocator + Copy> Engine<A> {
         self.flush(writer)?;
         Ok(())
     }
+
+    /// Runs a script to its end, or to the first fault. The windows that are left then stay as they are.
+    fn run<R: Source, W: Sink>(
+        &mut self,
+        rt: &impl Wait,
+        reader: &mut R,
+        writer: &mut W,
+    ) -> Result<(), ScriptError>
+        requires windows { table_of self.old.windows ≡ empty_table }
+        requires line { (self.old.line.items ≡ []) × (self.old.too_long ≡ false) }
+        requires out { self.old.out.items ≡ [] }
+        ensures ok { OnOk result (Exchanges IsReplyText (R.traffic reader.old) (R.traffic reader.new) (W.traffic writer.old) (W.traffic writer.new)) }
+        ensures end { OnOk result ((R.traffic reader.old).empties < (R.traffic reader.new).empties) }
+        ensures clean { OnOk result (((R.traffic reader.new).failures ≡ (R.traffic reader.old).failures) × NoFault (W.traffic writer.old) (W.traffic writer.new)) }
+        ensures begun { OnErr result (Exchanges BeginsReplyText (R.traffic reader.old) (R.traffic reader.new) (W.traffic writer.old) (W.traffic writer.new)) }
+        ensures fault { IfErr result (IsCause (R.traffic reader.old) (R.traffic reader.new) (W.traffic writer.old) (W.traffic writer.new)) }
+    {
+        let mut piece = room(self.alloc)?;
+        'pieces: for _ in rt.forever() {
+            if !self.take_piece(rt, reader, writer, &mut piece)? {
+                return self.finish(rt, writer);
+            }
+        }
+        unreachable!()
+    }
 }
 
 /// The bytes before the first line feed, and those behind it.
@@ -282,14 +307,10 @@ pub fn run_script<R: Source, W: Sink, A: Allocator + Copy>(
     ensures fault { IfErr result (IsCause (R.traffic reader.old) (R.traffic reader.new) (W.traffic writer.old) (W.traffic writer.new)) }
 {
     let ScriptLayout::Arc = layout;
-    let mut piece = room(alloc)?;
     let mut engine = Engine::new(alloc);
-    'pieces: for _ in rt.forever() {
-        if !engine.take_piece(rt, reader, writer, &mut piece)? {
-            return engine.finish(rt, writer);
-        }
-    }
-    unreachable!()
+    let result = engine.run(rt, reader, writer);
+    engine.windows.end();
+    result
 }
 
 /// Each input has replies, and is cut into lines in one way.

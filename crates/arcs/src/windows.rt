@@ -1,58 +1,46 @@
 //! The windows of a script, by number.
-ghost use Rattle.std.specs.Prelude.{◌≤◌, vec_len};
+ghost use Rattle.std.specs.Prelude.{◌≡◌, Some, None, MatchOption, slice_get};
+ghost use Rattle.std.specs.Option.{option_flatten};
+ghost use Rattle.arc_block.specs.declared.block.TheConstants.{MAX_OWNERS};
+ghost use Rattle.arc_block.specs.Owned.{IsKept};
+ghost use Rattle.arcs.specs.Entries.{stands_of};
 
 use crate::command::{Command, Reply};
-use arc_block::layout::DefaultLayout;
-use arc_buffer::kinds::Plain;
-use arc_owners::error::OwnerError;
+use crate::entry::{ByteWindow, Entry};
+use crate::passes::Passes;
+use arc_owners::owners::Pass;
 use arc_read::slice::ArcSlice;
 use std::alloc::Allocator;
+use std::mem;
 use std::sync::Wait;
 
-/// A window, and the number of the block that it stands on, if it stands on one.
+/// The windows of a script under their numbers, `None` where one has gone, and the passes of the blocks on which they have stood.
+///
+/// At every moment the live owners of each block's history are the windows that stand on it, so being alone is what the table says.
+/// `end` releases what is left: windows that are dropped would stay owners for good.
 #[derive(Drop)]
-pub struct Entry<A: Allocator> {
-    window: ArcSlice<Plain<u8>, DefaultLayout, A>,
-    block: usize,
-}
-
-impl<A: Allocator + Copy> Entry<A> {
-    ghost use Rattle.std.specs.Prelude.{◌≡◌, IfOk, IfErr, OnErr};
-    ghost use Rattle.arc_block.specs.Place.{IsOnBlock};
-    ghost use Rattle.arcs.specs.Rows.{row_of};
-
-    /// Another window with the same items at the same place, on the block with the same number. Takes no memory;
-    /// `CountFull` where the block can have no owner more.
-    fn try_clone(&self, rt: &impl Wait) -> Result<Self, OwnerError>
-        ensures ok { IfOk result (λ entry. row_of entry ≡ row_of self.now) }
-        ensures refused { IfErr result (λ e. e ≡ OwnerError.CountFull) }
-        ensures owner { OnErr result (IsOnBlock self.now.window.place) }
-    {
-        let window = self.window.try_clone(rt)?;
-        Ok(Entry {
-            window,
-            block: self.block,
-        })
-    }
-}
-
-/// The windows of a script under their numbers, `None` where one has gone, and how many blocks they have stood on.
-#[derive(Drop)]
-pub struct Windows<A: Allocator> {
+pub struct Windows<A: Allocator + Copy> {
     entries: Vec<Option<Entry<A>>, A>,
-    blocks: usize,
+    passes: Passes<A>,
     alloc: A,
-    ghost counted: { blocks ≤ vec_len entries },
+    ghost kept: { IsKept MAX_OWNERS (stands_of entries.items) passes.of_blocks.items },
+}
+
+/// The window with this number, if it was made and hasn't gone.
+fn entry_at<A: Allocator + Copy>(entries: &[Option<Entry<A>>], i: usize) -> Option<&Entry<A>>
+    ensures { MatchOption result (option_flatten (slice_get entries.now i) ≡ None) (λ entry. slice_get entries.now i ≡ Some (Some entry.now)) }
+{
+    entries.get(i)?.as_ref()
 }
 
 impl<A: Allocator + Copy> Windows<A> {
-    ghost use Rattle.std.specs.Prelude.{◌≡◌, ℕ, List, Some, None, MatchOption};
-    ghost use Rattle.std.specs.Option.{option_map};
+    ghost use Rattle.std.specs.Prelude.{◌≡◌, ℕ, List, Some, None, MatchOption, slice_get};
+    ghost use Rattle.std.specs.Option.{option_map, option_flatten};
     ghost use Rattle.arc_block.specs.Table.{empty_table, row_at};
     ghost use Rattle.arcs.specs.Step.{Step};
-    ghost use Rattle.arcs.specs.Script.{Answers, byte_setting};
+    ghost use Rattle.arcs.specs.Script.{Answers, ByteTable, byte_setting};
     ghost use Rattle.arcs.specs.Seen.{IsReadAs, seen_command, seen_reply};
-    ghost use Rattle.arcs.specs.Rows.{row_of, table_of};
+    ghost use Rattle.arcs.specs.Rows.{table_of};
     ghost use Rattle.arcs.specs.declared.command.Command.TheVariants as command;
 
     /// No window yet. Takes no memory.
@@ -61,7 +49,9 @@ impl<A: Allocator + Copy> Windows<A> {
     {
         Windows {
             entries: Vec::new(alloc),
-            blocks: 0,
+            passes: Passes {
+                of_blocks: Vec::new(alloc),
+            },
             alloc,
         }
     }
@@ -77,6 +67,7 @@ impl<A: Allocator + Copy> Windows<A> {
             Command::Slice(items) => self.slice(items),
             Command::Clone { window } => self.clone_window(rt, window),
             Command::Sub { window, start, end } => self.sub(rt, window, start, end),
+            Command::Uniq { window } => self.uniq(window),
             Command::Show { window } => self.show(window),
             Command::Drop { window } => self.release(window),
         }
@@ -96,47 +87,59 @@ impl<A: Allocator + Copy> Windows<A> {
         }
     }
 
-    /// The window with this number, if it was made and hasn't gone.
-    fn entry(&self, i: usize) -> Option<&Entry<A>>
-        ensures { MatchOption result (row_at (table_of self.now) i ≡ None) (λ entry. row_at (table_of self.now) i ≡ Some (row_of entry.now)) }
+    /// Releases every window that is left, so that each block is given back.
+    pub fn end(&mut self)
+        ensures { (i : ℕ) → row_at (table_of self.new) i ≡ None }
     {
-        self.entries.get(i)?.as_ref()
+        for i in 0..self.entries.len() {
+            let _ = self.release(i);
+        }
     }
 
     /// A window over a copy of the items.
     fn slice(&mut self, items: Vec<u8, A>) -> Reply<Vec<u8, A>>
         ensures { Step byte_setting (table_of self.old) (command.Slice items.items) (seen_reply result) (table_of self.new) }
     {
-        if self.entries.reserve(1).is_err() {
+        if self.entries.reserve(1).is_err() || self.passes.of_blocks.reserve(1).is_err() {
             return Reply::Alloc;
         }
-        let Ok(window) = ArcSlice::try_from_slice(self.alloc, &items) else {
+        let mut pass = Pass::none();
+        let Ok(window) = ArcSlice::try_from_slice_as(self.alloc, &items, &mut pass) else {
             return Reply::Alloc;
         };
         let number = self.entries.len();
-        let block = self.blocks;
-        self.entries.push_reserved(Some(Entry { window, block }));
-        if !items.is_empty() {
-            self.blocks += 1;
+        if items.is_empty() {
+            self.entries.push_reserved(Some(Entry {
+                window,
+                block: None,
+            }));
+        } else {
+            let block = Some(self.passes.of_blocks.len());
+            self.passes.of_blocks.push_reserved(pass);
+            self.entries.push_reserved(Some(Entry { window, block }));
         }
         Reply::New(number)
     }
 
     /// Another window with the same items at the same place. `NoWindow` where the window isn't there, `Owner` where its
-    /// block can have no owner more. Takes memory for the new entry; refused, the answer is `Alloc`.
+    /// block has as many owners as it can have. Takes memory for the new entry; refused, the answer is `Alloc`.
     fn clone_window(&mut self, rt: &impl Wait, i: usize) -> Reply<Vec<u8, A>>
         ensures { Step byte_setting (table_of self.old) (command.Clone i) (seen_reply result) (table_of self.new) }
     {
-        let Some(_) = self.entry(i) else {
+        if entry_at(&self.entries, i).is_none() {
             return Reply::NoWindow;
-        };
+        }
         if self.entries.reserve(1).is_err() {
             return Reply::Alloc;
         }
-        let Some(entry) = self.entry(i) else {
+        let Some(entry) = entry_at(&self.entries, i) else {
             unreachable!()
         };
-        match entry.try_clone(rt) {
+        let block = entry.block;
+        let mut pass = self.passes.lend(block);
+        let made = entry.try_clone(rt, &mut pass);
+        self.passes.give_back(block, pass);
+        match made {
             Ok(entry) => {
                 let number = self.entries.len();
                 self.entries.push_reserved(Some(entry));
@@ -150,7 +153,7 @@ impl<A: Allocator + Copy> Windows<A> {
     fn sub(&mut self, rt: &impl Wait, i: usize, start: usize, end: usize) -> Reply<Vec<u8, A>>
         ensures { Step byte_setting (table_of self.old) (command.Sub i start end) (seen_reply result) (table_of self.new) }
     {
-        let Some(entry) = self.entry(i) else {
+        let Some(entry) = entry_at(&self.entries, i) else {
             return Reply::NoWindow;
         };
         if let Err(e) = entry.window.check_range(start, end) {
@@ -159,25 +162,42 @@ impl<A: Allocator + Copy> Windows<A> {
         if self.entries.reserve(1).is_err() {
             return Reply::Alloc;
         }
-        let Some(entry) = self.entry(i) else {
+        let Some(entry) = entry_at(&self.entries, i) else {
             unreachable!()
         };
         let block = entry.block;
-        match entry.window.try_subslice(rt, start, end) {
-            Ok(window) => {
+        let mut pass = self.passes.lend(block);
+        let made = entry.try_subslice(rt, start, end, &mut pass);
+        self.passes.give_back(block, pass);
+        match made {
+            Ok(entry) => {
                 let number = self.entries.len();
-                self.entries.push_reserved(Some(Entry { window, block }));
+                self.entries.push_reserved(Some(entry));
                 Reply::New(number)
             }
             Err(e) => Reply::Owner(e),
         }
     }
 
+    /// Whether a window is the only owner of its block. `No` where it stands on no block.
+    fn uniq(&mut self, i: usize) -> Reply<Vec<u8, A>>
+        ensures { Step byte_setting (table_of self.old) (command.Uniq i) (seen_reply result) (table_of self.new) }
+    {
+        let Some(entry) = entry_at(&self.entries, i) else {
+            return Reply::NoWindow;
+        };
+        let block = entry.block;
+        let mut pass = self.passes.lend(block);
+        let alone = entry.window.is_unique_as(&mut pass);
+        self.passes.give_back(block, pass);
+        if alone { Reply::Yes } else { Reply::No }
+    }
+
     /// The items of a window.
     fn show(&self, i: usize) -> Reply<Vec<u8, A>>
         ensures { Step byte_setting (table_of self.now) (command.Show i) (seen_reply result) (table_of self.now) }
     {
-        let Some(entry) = self.entry(i) else {
+        let Some(entry) = entry_at(&self.entries, i) else {
             return Reply::NoWindow;
         };
         match Vec::from_slice(self.alloc, entry.window.as_slice()) {
@@ -190,10 +210,16 @@ impl<A: Allocator + Copy> Windows<A> {
     fn release(&mut self, i: usize) -> Reply<Vec<u8, A>>
         ensures { Step byte_setting (table_of self.old) (command.Drop i) (seen_reply result) (table_of self.new) }
     {
-        if self.entry(i).is_none() {
+        if entry_at(&self.entries, i).is_none() {
             return Reply::NoWindow;
         }
-        self.entries[i] = None;
+        let Some(entry) = mem::replace(&mut self.entries[i], None) else {
+            unreachable!()
+        };
+        let Entry { window, block } = entry;
+        let mut pass = self.passes.lend(block);
+        window.release_as(&mut pass);
+        self.passes.give_back(block, pass);
         Reply::Ok
     }
 }

@@ -1,14 +1,14 @@
 -- Pieces are taken one after another; at the end of the input the engine finishes.
 use Rattle.std.proofs.Common.{◌∙◌, arith}
 use Rattle.arcs.proofs.Going.{on_err, on_ok_then, on_err_then, if_err_then, run_begins, nothing_exchanged, exchange_answered, exchange_begun, why_is_cause}
-use Rattle.arcs.proofs.script.run_script.Goals as goal
+use Rattle.arcs.proofs.script.Engine.run.Goals as goal
 
 pub returns-in_err-piece-clause-begun : goal.returns-in_err-piece-clause-begun
 returns-in_err-piece-clause-begun g c = on_err c.from_residual.result (nothing_exchanged _ _)
 
 pub pieces-init : goal.pieces-init
 pieces-init g c = record {
-  running = run_begins _ _ c.new-engine.result c.new-engine.ensures.windows c.new-engine.ensures.line c.new-engine.ensures.out;
+  running = run_begins _ _ c.args.self.now c.requires.windows c.requires.line c.requires.out;
   empties = omega arith;
   room = c.in_ok-piece.ensures;
 }
