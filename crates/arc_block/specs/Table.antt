@@ -1,6 +1,7 @@
 -- The table of lists: every window has a number and a list of its own.
-use Rattle.std.specs.Prelude.{◌≡◌, ℕ, List, [], Option, Some, None, slice_get}
-use Rattle.std.specs.Option.{option_flatten}
+use Rattle.std.specs.Prelude.{◌≡◌, ◌==◌, ℕ, Bool, false, List, [], length, Option, Some, None, slice_get}
+use Rattle.std.specs.List.{filter}
+use Rattle.std.specs.Option.{option_flatten, option_map_or}
 use Rattle.arc_block.specs.Place.{Place, nowhere, static_data, on_block}
 
 -- what a window may do
@@ -35,6 +36,21 @@ abbrev pub block_of : {M : Type 0} → Place ℕ M → Option ℕ
 block_of nowhere = None
 block_of static_data = None
 block_of (on_block block offset facts) = Some block
+
+-- whether a row stands on the block with this number
+abbrev pub stands_on : {T M : Type 0} → ℕ → Option (Row T M) → Bool
+stands_on block None = false
+stands_on block (Some row) = option_map_or (λ other. other == block) (block_of row.place) false
+
+-- how many rows stand on the block with this number
+abbrev pub owners : {T M : Type 0} → Table T M → ℕ → ℕ
+owners t block = length (filter (stands_on block) t.rows)
+
+-- whether no other row stands on the block of this place; on no block the answer is no
+abbrev pub is_alone : {T M : Type 0} → Table T M → Place ℕ M → Bool
+is_alone t nowhere = false
+is_alone t static_data = false
+is_alone t (on_block block offset facts) = owners t block == 1
 
 -- row i stands on the block with this number
 pub record StandsOn {T M : Type 0} (t : Table T M) (i block : ℕ) : Type 0 where

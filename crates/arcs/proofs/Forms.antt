@@ -8,10 +8,10 @@ use Rattle.std.proofs.lemmas.List.Splits.{join_with_byte-slice_split}
 use Rattle.std.proofs.lemmas.Option.{none-some, same_Some}
 use Rattle.std.proofs.lemmas.Slice.Eq.{bytes_eq-Decides}
 use Rattle.arcs.specs.declared.command.Command.{Command}
-use Rattle.arcs.specs.declared.command.Command.TheVariants.{Slice, Clone, Sub, Show, Drop}
+use Rattle.arcs.specs.declared.command.Command.TheVariants.{Slice, Clone, Sub, Uniq, Show, Drop}
 use Rattle.arcs.specs.Text.{space, longest_line, items_word, words_of, IsWritable, IsShort, Says}
 use Rattle.arcs.specs.Script.{IsBad}
-use Rattle.arcs.specs.Reading.{◌>>=◌, words_of_line, number_of, items_of, first_by, only, slice_of, clone_of, sub_of, show_of, drop_of, command_of}
+use Rattle.arcs.specs.Reading.{◌>>=◌, words_of_line, number_of, items_of, first_by, only, slice_of, clone_of, sub_of, uniq_of, show_of, drop_of, command_of}
 use Rattle.arcs.proofs.Words.{is_item, number_is, number_again, items_is, items_again, items_fit, items_are_bytes, no_space_text, no_space_number, no_space_items, words-join}
 
 -- ---- steps of a reader
@@ -73,6 +73,13 @@ sub_said words c e =
     let all = took_all end.rest (Sub i.value start.value end.value) c end.goes in
     subst (SaidBy (codes "sub" ∷ words)) {x = Sub i.value start.value end.value} all.1 (record { writable = (i.fits, start.fits, end.fits); are = cc })
 
+uniq_said : (words : List (List ℕ)) (c : Command (List ℕ)) → uniq_of words ≡ Some c → SaidBy (codes "uniq" ∷ words) c
+unfolding uniq_of
+uniq_said words c e =
+    let i = took_number words (λ x. only x.1 (Uniq x.0)) c e in
+    let all = took_all i.rest (Uniq i.value) c i.goes in
+    subst (SaidBy (codes "uniq" ∷ words)) all.1 (record { writable = i.fits; are = cc })
+
 show_said : (words : List (List ℕ)) (c : Command (List ℕ)) → show_of words ≡ Some c → SaidBy (codes "show" ∷ words) c
 unfolding show_of
 show_said words c e =
@@ -104,16 +111,18 @@ command_said (verb ∷ words) c e =
     form_or (codes "slice") verb words _ _ c (slice_said words c)
     (form_or (codes "clone") verb words _ _ c (clone_said words c)
     (form_or (codes "sub") verb words _ _ c (sub_said words c)
+    (form_or (codes "uniq") verb words _ _ c (uniq_said words c)
     (form_or (codes "show") verb words _ _ c (show_said words c)
     (form_or (codes "drop") verb words _ _ c (drop_said words c)
-    (λ none. absurd (none-some c none)))))) e
+    (λ none. absurd (none-some c none))))))) e
 
 -- a command that can be written is read from its words again
 pub command_again : (c : Command (List ℕ)) → IsWritable c → command_of (words_of c) ≡ Some c
-unfolding command_of slice_of clone_of sub_of show_of drop_of
+unfolding command_of slice_of clone_of sub_of uniq_of show_of drop_of
 command_again (Slice items) writable = rw (items_again items (items_fit items writable)) refl
 command_again (Clone i) writable = rw (number_again i writable) refl
 command_again (Sub i start end) writable = rw (number_again i writable.0, number_again start writable.1, number_again end writable.2) refl
+command_again (Uniq i) writable = rw (number_again i writable) refl
 command_again (Show i) writable = rw (number_again i writable) refl
 command_again (Drop i) writable = rw (number_again i writable) refl
 
@@ -124,6 +133,7 @@ words_apart : (c : Command (List ℕ)) → IsWritable c → words_of_line (join_
 words_apart (Slice items) writable = words-join _ _ (no_space_text (codes "slice") refl, (no_space_items items (items_fit items writable), tt))
 words_apart (Clone i) writable = words-join _ _ (no_space_text (codes "clone") refl, (no_space_number i writable, tt))
 words_apart (Sub i start end) writable = words-join _ _ (no_space_text (codes "sub") refl, (no_space_number i writable.0, (no_space_number start writable.1, (no_space_number end writable.2, tt))))
+words_apart (Uniq i) writable = words-join _ _ (no_space_text (codes "uniq") refl, (no_space_number i writable, tt))
 words_apart (Show i) writable = words-join _ _ (no_space_text (codes "show") refl, (no_space_number i writable, tt))
 words_apart (Drop i) writable = words-join _ _ (no_space_text (codes "drop") refl, (no_space_number i writable, tt))
 

@@ -1,5 +1,5 @@
 -- Each line has an answer, and each list of lines a run.
-use Rattle.std.proofs.Common.{◌≡◌, ◌≢◌, ℕ, Bool, not, eqb, true, List, [], ◌∷◌, ◌++◌, Option, Some, None, Result, Ok, Err, refl, sym, ap, ◌∙◌, append_assoc}
+use Rattle.std.proofs.Common.{◌≡◌, ◌≢◌, ℕ, Bool, not, eqb, true, false, if◌then◌else◌, List, [], ◌∷◌, ◌++◌, Option, Some, None, Result, Ok, Err, refl, sym, ap, ◌∙◌, append_assoc}
 use Rattle.std.specs.Prelude.{map}
 use Rattle.std.specs.List.{list_all, AllByRecursion}
 use Rattle.std.specs.Option.{option_map_or}
@@ -8,9 +8,9 @@ use Rattle.std.proofs.lemmas.List.{map-append}
 use Rattle.std.proofs.lemmas.List.Concat.{flat_map-append}
 use Rattle.std.proofs.lemmas.List.Elements.{All-contains, recursion_from_All}
 use Rattle.arc_owners.specs.declared.error.RangeError.{RangeError}
-use Rattle.arc_block.specs.Table.{Row, Table, empty_table, row_at}
+use Rattle.arc_block.specs.Table.{Row, Table, empty_table, row_at, is_alone}
 use Rattle.arcs.specs.declared.command.Command.{Command}
-use Rattle.arcs.specs.declared.command.Command.TheVariants.{Slice, Clone, Sub, Show, Drop}
+use Rattle.arcs.specs.declared.command.Command.TheVariants.{Slice, Clone, Sub, Uniq, Show, Drop}
 use Rattle.arcs.specs.declared.command.Reply.{Reply}
 use Rattle.arcs.specs.declared.command.Reply.TheVariants as reply
 use Rattle.arcs.specs.RunOf.{RunOf}
@@ -31,24 +31,31 @@ IsPlain reply.Alloc = ⊥
 IsPlain (reply.Owner e) = ⊥
 IsPlain other = Unit {0}
 
-on_row_plain : {T M : Type 0} (t : Table T M) (then : Row T M → Outcome T M) (row : Option (Row T M)) → ((r : Row T M) → IsPlain (then r).0) → IsPlain (option_map_or then row (reply.NoWindow, t)).0
-on_row_plain t then None plain = tt
-on_row_plain t then (Some row) plain = plain row
+on_row_plain : {T M : Type 0} (t : Table T M) (found : Row T M → Outcome T M) (row : Option (Row T M)) → ((r : Row T M) → IsPlain (found r).0) → IsPlain (option_map_or found row (reply.NoWindow, t)).0
+on_row_plain t found None plain = tt
+on_row_plain t found (Some row) plain = plain row
 
-in_range_plain : {T M : Type 0} (t : Table T M) (r : Result (Unit {0}) RangeError) (then : Outcome T M) → IsPlain then.0 → IsPlain (in_range r t then).0
-in_range_plain t (Ok done) then plain = plain
-in_range_plain t (Err e) then plain = tt
+in_range_plain : {T M : Type 0} (t : Table T M) (r : Result (Unit {0}) RangeError) (outcome : Outcome T M) → IsPlain outcome.0 → IsPlain (in_range r t outcome).0
+in_range_plain t (Ok done) outcome plain = plain
+in_range_plain t (Err e) outcome plain = tt
+
+yes_or_no_plain : (X : Type 0) (yes : Bool) → IsPlain {X = X} (if yes then reply.Yes else reply.No)
+yes_or_no_plain X true = tt
+yes_or_no_plain X false = tt
 
 answer_plain : {T M : Type 0} (setting : Setting T) (t : Table T M) (c : Command (List T)) → IsPlain (answer setting t c).0
 answer_plain setting t (Slice items) = tt
 answer_plain setting t (Clone i) = on_row_plain t _ (row_at t i) (λ row. tt)
 answer_plain setting t (Sub i start end) = on_row_plain t _ (row_at t i) (λ row. in_range_plain t (range_answer setting.boundary row.items start end) (cut setting t row start end) tt)
+answer_plain setting t (Uniq i) = on_row_plain t _ (row_at t i) (λ row. yes_or_no_plain _ (is_alone t row.place))
 answer_plain setting t (Show i) = on_row_plain t _ (row_at t i) (λ row. tt)
 answer_plain setting t (Drop i) = on_row_plain t _ (row_at t i) (λ row. tt)
 
 plain_step : {T M : Type 0} (setting : Setting T) (old : Table T M) (c : Command (List T)) (r : Reply (List T)) (new : Table T M) → IsPlain r → answer setting old c ≡ (r, new) → Step setting old c r new
 plain_step setting old c (reply.New number) new plain e = e
 plain_step setting old c reply.Ok new plain e = e
+plain_step setting old c reply.Yes new plain e = e
+plain_step setting old c reply.No new plain e = e
 plain_step setting old c (reply.Items items) new plain e = e
 plain_step setting old c reply.NoWindow new plain e = e
 plain_step setting old c (reply.Range f) new plain e = e
@@ -108,6 +115,7 @@ pub items_want : {M : Type 0} (setting : Setting ℕ) (old : Table ℕ M) (c : C
 items_want setting old (Slice items) brings = tt
 items_want setting old (Clone i) brings = absurd brings
 items_want setting old (Sub i start end) brings = absurd brings
+items_want setting old (Uniq i) brings = absurd brings
 items_want setting old (Show i) brings = absurd brings
 items_want setting old (Drop i) brings = absurd brings
 

@@ -5,9 +5,8 @@ use Rattle.arc_owners.specs.declared.error.OwnerError.{OwnerError}
 use Rattle.arc_owners.specs.declared.error.OwnerError.TheVariants.{CountFull}
 use Rattle.arc_buffer.specs.Slice.{IsRange, sub}
 use Rattle.arc_block.specs.Place.{Place, nowhere, static_data, on_block, IsOnBlock, moved, part_place}
-use Rattle.arc_block.specs.Table.{Row, row_at}
-use Rattle.arc_read.specs.Window.{part_window}
-use Rattle.arcs.specs.Step.{Step, answer}
+use Rattle.arc_block.specs.Table.{Row, Table, row_at, owners}
+use Rattle.arcs.specs.Step.{Step, answer, greatest_count, IsFullPlace, MayBeFull}
 use Rattle.arcs.specs.Script.{ByteTable, byte_setting}
 use Rattle.arcs.specs.Rows.{numbered, row_of}
 use Rattle.arcs.specs.declared.windows.Entry.{Entry}
@@ -28,41 +27,42 @@ dropped t i view (Some x) there some rows after =
     ∙ ap (λ rs. (reply.Ok, record { rows = rs; blocks = t.blocks })) (sym after)
 dropped t i view None there some rows after = cc
 
--- the number of a block doesn't change whether a place is on one
-on_numbered : {M : Type 0} (n : ℕ) (p : Place (Unit {0}) M) → IsOnBlock p → IsOnBlock (numbered n p)
-on_numbered n nowhere h = h
-on_numbered n static_data h = h
-on_numbered n (on_block it offset facts) h = h
+-- a place on a block that has as many owners as it may have, under the number of that block
+pub on_numbered : {T M : Type 0} (t : Table T M) (n : ℕ) (p : Place (Unit {0}) M) → owners t n ≡ greatest_count → IsOnBlock p → IsFullPlace t (numbered n p)
+on_numbered t n nowhere greatest h = h
+on_numbered t n static_data greatest h = h
+on_numbered t n (on_block it offset facts) greatest h = greatest
 
 -- the table of these entries
-abbrev table_with : {A : Type 0} → ℕ → List (Option (Entry A)) → ByteTable
+abbrev pub table_with : {A : Type 0} → ℕ → List (Option (Entry A)) → ByteTable
 table_with blocks entries = record { rows = map (option_map row_of) entries; blocks = blocks }
 
--- a clone is refused where the block can have no owner more
-pub clone_refused : {A : Type 0} (old new : List (Option (Entry A))) (blocks i : ℕ) (source : Entry A) (e : OwnerError) → new ≡ old → e ≡ CountFull → row_at (table_with blocks new) i ≡ Some (row_of source) → IsOnBlock source.window.place
-    → Step byte_setting (table_with blocks old) (command.Clone i) (reply.Owner e) (table_with blocks new)
-clone_refused old new blocks i source e same full is owner =
+-- a clone is refused where the block has as many owners as it may have
+pub clone_refused : {A : Type 0} (old new : List (Option (Entry A))) (blocks i : ℕ) (source : Entry A) (e : OwnerError) → new ≡ old → e ≡ CountFull → row_at (table_with blocks new) i ≡ Some (row_of source)
+    → IsFullPlace (table_with blocks new) (row_of source).place → Step byte_setting (table_with blocks old) (command.Clone i) (reply.Owner e) (table_with blocks new)
+clone_refused old new blocks i source e same full is greatest =
     let P : OwnerError → Type 0 = λ x. Step byte_setting (table_with blocks old) (command.Clone i) (reply.Owner x) (table_with blocks new) in
     let table_same = ap (table_with blocks) same in
-    subst P (sym full) ((row_of source, ap (λ t. row_at t i) (sym table_same) ∙ is, on_numbered source.block source.window.place owner), table_same)
+    subst P (sym full) (subst (λ t. MayBeFull byte_setting t (command.Clone i)) table_same (row_of source, is, greatest), table_same)
 
--- the number of a block doesn't change whether a part stands on one
-numbered_unless : {M : Type 0} (nothing : Bool) (start n : ℕ) (p : Place (Unit {0}) M) → IsOnBlock (if nothing then nowhere else moved start p) → IsOnBlock (if nothing then nowhere else moved start (numbered n p))
-numbered_unless true start n p h = h
-numbered_unless false start n nowhere h = h
-numbered_unless false start n static_data h = h
-numbered_unless false start n (on_block it offset facts) h = h
+-- the same for the place of a part
+numbered_unless : {T M : Type 0} (t : Table T M) (nothing : Bool) (start n : ℕ) (p : Place (Unit {0}) M) → owners t n ≡ greatest_count → IsOnBlock (if nothing then nowhere else moved start p)
+    → IsFullPlace t (if nothing then nowhere else moved start (numbered n p))
+numbered_unless t true start n p greatest h = h
+numbered_unless t false start n nowhere greatest h = h
+numbered_unless t false start n static_data greatest h = h
+numbered_unless t false start n (on_block it offset facts) greatest h = greatest
 
-pub part-numbered : {T M : Type 0} (has_static : Bool) (items : List T) (start n : ℕ) (p : Place (Unit {0}) M) → IsOnBlock (part_place has_static items start p) → IsOnBlock (part_place has_static items start (numbered n p))
-part-numbered has_static items start n p h = numbered_unless (has_static && (length items == 0)) start n p h
+pub part-numbered : {T M : Type 0} (t : Table T M) (has_static : Bool) (items : List T) (start n : ℕ) (p : Place (Unit {0}) M) → owners t n ≡ greatest_count → IsOnBlock (part_place has_static items start p)
+    → IsFullPlace t (part_place has_static items start (numbered n p))
+part-numbered t has_static items start n p greatest h = numbered_unless t (has_static && (length items == 0)) start n p greatest h
 
--- a part is refused where the block can have no owner more
+-- a part is refused where the block has as many owners as it may have
 pub refused : {A : Type 0} (old new : ByteTable) (i start end : ℕ) (there again : Entry A) (e : OwnerError) → new ≡ old → e ≡ CountFull → row_at old i ≡ Some (row_of there) → row_at new i ≡ Some (row_of again)
-    → IsRange byte_setting.boundary there.window.items start end → IsOnBlock (part_window true again.window start end).place
+    → IsRange byte_setting.boundary there.window.items start end → IsFullPlace new (part_place true (sub again.window.items start end) start (row_of again).place)
     → Step byte_setting old (command.Sub i start end) (reply.Owner e) new
-refused old new i start end there again e same full is still range owner =
+refused old new i start end there again e same full is still range greatest =
     let P : OwnerError → Type 0 = λ x. Step byte_setting old (command.Sub i start end) (reply.Owner x) new in
     let one : row_of again ≡ row_of there = cc (ap (λ t. row_at t i) (sym same) ∙ still) in
-    let Q : Row ℕ (Unit {0}) → Type 0 = λ row. IsOnBlock (part_place true (sub row.items start end) start row.place) in
-    let numbered_owner : Q (row_of again) = part-numbered true (sub again.window.items start end) start again.block again.window.place owner in
-    subst P (sym full) ((row_of there, is, range, subst Q one numbered_owner), same)
+    let Q : ByteTable → Row ℕ (Unit {0}) → Type 0 = λ t row. IsFullPlace t (part_place true (sub row.items start end) start row.place) in
+    subst P (sym full) ((row_of there, is, range, subst (λ t. Q t (row_of there)) same (subst (Q new) one greatest)), same)

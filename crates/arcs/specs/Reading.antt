@@ -8,7 +8,7 @@ use Rattle.std.specs.Str.{bytes_eq}
 use Rattle.std.specs.Str.Parse.{digits_value}
 use Rattle.arcs.specs.Text.{space, items_word}
 use Rattle.arcs.specs.declared.command.Command.{Command}
-use Rattle.arcs.specs.declared.command.Command.TheVariants.{Slice, Clone, Sub, Show, Drop}
+use Rattle.arcs.specs.declared.command.Command.TheVariants.{Slice, Clone, Sub, Uniq, Show, Drop}
 use Rattle.arcs.specs.declared.parse.Unread.{Unread}
 use Rattle.arcs.specs.declared.parse.Unread.TheVariants as unread
 
@@ -75,6 +75,11 @@ sub_of words = do
   end ← first_by number_of start.1
   only end.1 (Sub i.0 start.0 end.0)
 
+unfoldable pub uniq_of : List (List ℕ) → Option (Command (List ℕ))
+uniq_of words = do
+  i ← first_by number_of words
+  only i.1 (Uniq i.0)
+
 unfoldable pub show_of : List (List ℕ) → Option (Command (List ℕ))
 show_of words = do
   i ← first_by number_of words
@@ -92,6 +97,7 @@ command_of (verb ∷ words) =
     if bytes_eq verb (codes "slice") then slice_of words else
     if bytes_eq verb (codes "clone") then clone_of words else
     if bytes_eq verb (codes "sub") then sub_of words else
+    if bytes_eq verb (codes "uniq") then uniq_of words else
     if bytes_eq verb (codes "show") then show_of words else
     if bytes_eq verb (codes "drop") then drop_of words else None
 

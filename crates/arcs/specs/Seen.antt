@@ -5,7 +5,7 @@ use Rattle.std.specs.Vec.{vec_items}
 use Rattle.arcs.specs.Text.{Says}
 use Rattle.arcs.specs.Script.{IsBad}
 use Rattle.arcs.specs.declared.command.Command.{Command}
-use Rattle.arcs.specs.declared.command.Command.TheVariants.{Slice, Clone, Sub, Show, Drop}
+use Rattle.arcs.specs.declared.command.Command.TheVariants.{Slice, Clone, Sub, Uniq, Show, Drop}
 use Rattle.arcs.specs.declared.command.Reply.{Reply}
 use Rattle.arcs.specs.declared.command.Reply.TheVariants as reply
 
@@ -14,12 +14,15 @@ abbrev pub map_command : {X Y : Type 0} → (X → Y) → Command X → Command 
 map_command f (Slice items) = Slice (f items)
 map_command f (Clone i) = Clone i
 map_command f (Sub i start end) = Sub i start end
+map_command f (Uniq i) = Uniq i
 map_command f (Show i) = Show i
 map_command f (Drop i) = Drop i
 
 abbrev pub map_reply : {X Y : Type 0} → (X → Y) → Reply X → Reply Y
 map_reply f (reply.New number) = reply.New number
 map_reply f reply.Ok = reply.Ok
+map_reply f reply.Yes = reply.Yes
+map_reply f reply.No = reply.No
 map_reply f (reply.Items items) = reply.Items (f items)
 map_reply f reply.NoWindow = reply.NoWindow
 map_reply f (reply.Range e) = reply.Range e

@@ -1,15 +1,15 @@
 -- One step of a table of lists: what each command is answered, and the table after it.
-use Rattle.std.specs.Prelude.{◌≡◌, ℕ, ◌+◌, Bool, List, [], ◌∷◌, ◌++◌, length, Some, None, slice_set, Result, Ok, Err}
+use Rattle.std.specs.Prelude.{◌≡◌, ℕ, ◌+◌, Bool, if◌then◌else◌, List, [], ◌∷◌, ◌++◌, length, Some, None, slice_set, Result, Ok, Err}
 use Rattle.std.specs.Option.{option_map_or}
 use Rattle.arc_owners.specs.declared.error.RangeError.{RangeError}
 use Rattle.arc_owners.specs.declared.error.OwnerError.TheVariants.{CountFull}
 use Rattle.arc_buffer.specs.Slice.{IsRange, sub, range_answer}
 use Rattle.arc_block.specs.Block.{native_facts}
-use Rattle.arc_block.specs.Place.{Place, nowhere, static_data, on_block, IsOnBlock, made_place, part_place}
-use Rattle.arc_block.specs.Table.{Row, Table, reader, row_at}
+use Rattle.arc_block.specs.Place.{Place, nowhere, static_data, on_block, made_place, part_place}
+use Rattle.arc_block.specs.Table.{Row, Table, reader, row_at, owners, is_alone}
 use Rattle.arcs.specs.RunOf.{RunOf}
 use Rattle.arcs.specs.declared.command.Command.{Command}
-use Rattle.arcs.specs.declared.command.Command.TheVariants.{Slice, Clone, Sub, Show, Drop}
+use Rattle.arcs.specs.declared.command.Command.TheVariants.{Slice, Clone, Sub, Uniq, Show, Drop}
 use Rattle.arcs.specs.declared.command.Reply.{Reply}
 use Rattle.arcs.specs.declared.command.Reply.TheVariants as reply
 
@@ -50,18 +50,19 @@ cut setting t row start end = let items = sub row.items start end in with_window
 
 -- the row with this number, if there is one
 abbrev pub on_row : {T M : Type 0} → Table T M → ℕ → (Row T M → Outcome T M) → Outcome T M
-on_row t i then = option_map_or then (row_at t i) (reply.NoWindow, t)
+on_row t i found = option_map_or found (row_at t i) (reply.NoWindow, t)
 
 -- only in range
 abbrev pub in_range : {T M : Type 0} → Result (Unit {0}) RangeError → Table T M → Outcome T M → Outcome T M
-in_range (Ok done) t then = then
-in_range (Err e) t then = (reply.Range e, t)
+in_range (Ok done) t outcome = outcome
+in_range (Err e) t outcome = (reply.Range e, t)
 
 -- what a command is answered, and the table after it, where neither memory nor a count is short
 abbrev pub answer : {T M : Type 0} → Setting T → Table T M → Command (List T) → Outcome T M
 answer setting t (Slice items) = made setting t items
 answer setting t (Clone i) = on_row t i (cloned t)
 answer setting t (Sub i start end) = on_row t i (λ row. in_range (range_answer setting.boundary row.items start end) t (cut setting t row start end))
+answer setting t (Uniq i) = on_row t i (λ row. (if is_alone t row.place then reply.Yes else reply.No, t))
 answer setting t (Show i) = on_row t i (λ row. (reply.Items row.items, t))
 answer setting t (Drop i) = on_row t i (λ row. (reply.Ok, record t { rows = slice_set t.rows i None }))
 
@@ -75,12 +76,22 @@ WantsMemory other = ⊥
 abbrev pub MayWant : {T M : Type 0} → Setting T → Table T M → Command (List T) → Type 0
 MayWant setting t c = WantsMemory (answer setting t c).0
 
--- the commands by which a block would have one owner more
+-- the most owners that a block may have
+abbrev pub greatest_count : ℕ
+greatest_count = 9223372036854775807
+
+-- the block on which the place lies has as many owners as it may have
+abbrev pub IsFullPlace : {T M : Type 0} → Table T M → Place ℕ M → Type 0
+IsFullPlace t nowhere = ⊥
+IsFullPlace t static_data = ⊥
+IsFullPlace t (on_block block offset facts) = owners t block ≡ greatest_count
+
+-- the commands by which a block that has as many owners as it may have would have one more
 abbrev pub MayBeFull : {T M : Type 0} → Setting T → Table T M → Command (List T) → Type 0
-MayBeFull {T} {M} setting t (Clone i) = (row : Row T M) × (row_at t i ≡ Some row) × IsOnBlock row.place
+MayBeFull {T} {M} setting t (Clone i) = (row : Row T M) × (row_at t i ≡ Some row) × IsFullPlace t row.place
 MayBeFull {T} {M} setting t (Sub i start end) =
     (row : Row T M) × (row_at t i ≡ Some row) × IsRange setting.boundary row.items start end
-    × IsOnBlock (part_place setting.has_static (sub row.items start end) start row.place)
+    × IsFullPlace t (part_place setting.has_static (sub row.items start end) start row.place)
 MayBeFull setting t other = ⊥
 
 -- From old, the table may give this reply to the command and go on to new. A refusal changes nothing.

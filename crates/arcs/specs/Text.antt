@@ -6,7 +6,7 @@ use Rattle.arc_owners.specs.declared.error.RangeError.TheVariants.{OutOfRange, I
 use Rattle.arc_owners.specs.declared.error.OwnerError.{OwnerError}
 use Rattle.arc_owners.specs.declared.error.OwnerError.TheVariants as owner
 use Rattle.arcs.specs.declared.command.Command.{Command}
-use Rattle.arcs.specs.declared.command.Command.TheVariants.{Slice, Clone, Sub, Show, Drop}
+use Rattle.arcs.specs.declared.command.Command.TheVariants.{Slice, Clone, Sub, Uniq, Show, Drop}
 use Rattle.arcs.specs.declared.command.Reply.{Reply}
 use Rattle.arcs.specs.declared.command.Reply.TheVariants as reply
 
@@ -39,6 +39,7 @@ abbrev pub words_of : Command (List ℕ) → List (List ℕ)
 words_of (Slice items) = codes "slice" ∷ items_word items ∷ []
 words_of (Clone i) = codes "clone" ∷ decimal i ∷ []
 words_of (Sub i start end) = codes "sub" ∷ decimal i ∷ decimal start ∷ decimal end ∷ []
+words_of (Uniq i) = codes "uniq" ∷ decimal i ∷ []
 words_of (Show i) = codes "show" ∷ decimal i ∷ []
 words_of (Drop i) = codes "drop" ∷ decimal i ∷ []
 
@@ -53,6 +54,7 @@ abbrev pub IsWritable : Command (List ℕ) → Type 0
 IsWritable (Slice items) = AllByRecursion IsByte items
 IsWritable (Clone i) = IsShort i
 IsWritable (Sub i start end) = IsShort i × IsShort start × IsShort end
+IsWritable (Uniq i) = IsShort i
 IsWritable (Show i) = IsShort i
 IsWritable (Drop i) = IsShort i
 
@@ -75,6 +77,8 @@ owner_text owner.CountFull = codes "count full"
 abbrev pub reply_text : Reply (List ℕ) → List ℕ
 reply_text (reply.New number) = codes "h" ++ decimal number
 reply_text reply.Ok = codes "ok"
+reply_text reply.Yes = codes "yes"
+reply_text reply.No = codes "no"
 reply_text (reply.Items items) = items_word items
 reply_text reply.NoWindow = codes "no window"
 reply_text (reply.Range e) = range_text e

@@ -16,6 +16,10 @@ pub enum Command<X> {
         start: usize,
         end: usize,
     },
+    /// Whether a window is the only owner of its block.
+    Uniq {
+        window: usize,
+    },
     /// The items of a window.
     Show {
         window: usize,
@@ -33,6 +37,10 @@ pub enum Reply<X> {
     New(usize),
     /// It is done.
     Ok,
+    /// The window is the only owner of its block.
+    Yes,
+    /// It isn't: the block has another owner, or the window stands on none.
+    No,
     /// The items of the window.
     Items(X),
     /// No window has this number, or none has it any more.

@@ -9,7 +9,7 @@ ghost use Rattle.arcs.specs.Script.{IsBad};
 ghost use Rattle.arcs.specs.Seen.{seen_command};
 ghost use Rattle.arcs.specs.declared.command.Command.{Command};
 ghost use Rattle.arcs.specs.declared.parse.Unread.TheVariants as unread;
-ghost use Rattle.arcs.specs.Reading.{Never, is_hex_digit, is_space, BringsItems, Reads, clone_of, command_of, drop_of, first_by, items_of, only, number_of, pairs, show_of, slice_of, sub_of, words_in, words_of_line};
+ghost use Rattle.arcs.specs.Reading.{Never, is_hex_digit, is_space, BringsItems, Reads, clone_of, command_of, drop_of, first_by, items_of, only, number_of, pairs, show_of, slice_of, sub_of, uniq_of, words_in, words_of_line};
 
 use crate::command::Command;
 use arc_owners::error::AllocError;
@@ -203,6 +203,16 @@ fn sub<A: Allocator>(rest: Rest) -> Result<Command<Vec<u8, A>>, Unread>
     Ok(Command::Sub { window, start, end })
 }
 
+/// `uniq I`
+#[tactic(auto, unfolding(crate::specs::Reading::uniq_of))]
+fn uniq<A: Allocator>(rest: Rest) -> Result<Command<Vec<u8, A>>, Unread>
+    ensures { Reads seen_command BringsItems result (uniq_of (words_in rest.entry)) }
+{
+    let (window, rest) = number(rest)?;
+    nothing_left(rest)?;
+    Ok(Command::Uniq { window })
+}
+
 /// `show I`
 #[tactic(auto, unfolding(crate::specs::Reading::show_of))]
 fn show<A: Allocator>(rest: Rest) -> Result<Command<Vec<u8, A>>, Unread>
@@ -233,6 +243,7 @@ fn command<A: Allocator>(alloc: A, line: &[u8]) -> Result<Command<Vec<u8, A>>, U
         b"slice" => slice(alloc, rest),
         b"clone" => clone(rest),
         b"sub" => sub(rest),
+        b"uniq" => uniq(rest),
         b"show" => show(rest),
         b"drop" => drop(rest),
         _ => Err(Unread::Bad),

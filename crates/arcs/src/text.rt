@@ -90,6 +90,8 @@ fn push_reply<A: Allocator>(
             push_number(out, *number)?;
         }
         Reply::Ok => out.extend_from_slice(b"ok")?,
+        Reply::Yes => out.extend_from_slice(b"yes")?,
+        Reply::No => out.extend_from_slice(b"no")?,
         Reply::Items(items) => push_items(out, items)?,
         Reply::NoWindow => out.extend_from_slice(b"no window")?,
         Reply::Range(error) => out.extend_from_slice(range_words(*error))?,

@@ -77,6 +77,7 @@ impl<A: Allocator + Copy> Windows<A> {
             Command::Slice(items) => self.slice(items),
             Command::Clone { window } => self.clone_window(rt, window),
             Command::Sub { window, start, end } => self.sub(rt, window, start, end),
+            Command::Uniq { window } => self.uniq(window),
             Command::Show { window } => self.show(window),
             Command::Drop { window } => self.release(window),
         }
@@ -171,6 +172,16 @@ impl<A: Allocator + Copy> Windows<A> {
             }
             Err(e) => Reply::Owner(e),
         }
+    }
+
+    /// Whether a window is the only owner of its block.
+    fn uniq(&self, i: usize) -> Reply<Vec<u8, A>>
+        ensures { Step byte_setting (table_of self.now) (command.Uniq i) (seen_reply result) (table_of self.now) }
+    {
+        if self.entry(i).is_none() {
+            return Reply::NoWindow;
+        }
+        Reply::No
     }
 
     /// The items of a window.
