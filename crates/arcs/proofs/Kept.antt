@@ -1,28 +1,27 @@
 -- What each command does to the windows and the passes of their blocks, and what it finds of owners.
-use Rattle.std.proofs.Common.{◌≡◌, ℕ, zero, suc, ◌==◌, if◌then◌else◌, Bool, true, false, List, [], ◌∷◌, ◌++◌, length, map, Option, Some, None, is_some, slice_get, slice_set, refl, sym, ap, ◌∙◌, subst, arith}
-use Rattle.std.specs.Option.{option_map, option_map_or}
-use Rattle.std.proofs.lemmas.Bool.{false≢true}
-use Rattle.std.proofs.lemmas.Option.{same_Some, slice_get-map}
+use Rattle.std.proofs.Common.{inl, inr, ◌≡◌, ℕ, ◌+◌, ◌<◌, ◌≤◌, zero, suc, ◌==◌, if◌then◌else◌, Bool, true, false, List, [], ◌∷◌, ◌++◌, length, Option, Some, None, is_some, slice_get, slice_set, slice_index_or, refl, sym, ap, ◌∙◌, subst, arith}
+use Rattle.std.specs.Option.{option_map, option_map_or, option_flatten}
+use Rattle.std.proofs.lemmas.Bool.{cases_eq, false≢true}
+use Rattle.std.proofs.lemmas.Option.{same_Some, slice_get-map, slice_get_cases, slice_get_read, slice_get_within}
 use Rattle.std.proofs.lemmas.List.{map-append, length-set}
 use Rattle.arc_owners.specs.declared.owners.tokens.Pass.{Pass}
 use Rattle.arc_owners.specs.Pieces.{Owner}
 use Rattle.arc_block.specs.declared.block.TheConstants.{MAX_OWNERS}
+use Rattle.arc_block.specs.Block.{native_facts}
 use Rattle.arc_block.specs.Owned.{Stand, number_on, owners_on, IsKept}
 use Rattle.arc_block.specs.Place.{Place, nowhere, static_data, on_block}
 use Rattle.arc_block.specs.Table.{block_of, stands_on, owners, is_alone}
-use Rattle.arc_block.proofs.Owned.{kept-nowhere, kept-gone-nowhere, kept-shared, kept-asked, kept-full, kept-gone, alone-exact, full-exact}
+use Rattle.arc_block.proofs.Owned.{kept-new, kept-nowhere, kept-gone-nowhere, kept-shared, kept-asked, kept-full, kept-gone, alone-exact, full-exact}
 use Rattle.arc_block.proofs.Alone.{same_owners}
-use Rattle.arc_read.specs.Steps.{IsPassAt, AsksAt, LeavesAt}
+use Rattle.arc_block.proofs.Lists.{get-set_other}
+use Rattle.arc_read.specs.Steps.{IsPassAt, Makes, BeginsAt, AsksAt, LeavesAt}
+use Rattle.arc_read.specs.Window.{Window}
 use Rattle.arcs.specs.Step.{IsFullPlace}
 use Rattle.arcs.specs.Script.{ByteTable}
 use Rattle.arcs.specs.Stands.{numbered, is_on_block, stand_at, IsPassOfStand, Joins, IsFullStand, TakenOut, put_back, HasNumber}
 use Rattle.arcs.specs.Entries.{row_of, stand_of, stands_of}
 use Rattle.arcs.specs.declared.entry.Entry.{Entry}
-use Rattle.arcs.proofs.Tables.{map-slice_set}
-
--- the table of these entries
-abbrev pub table_with : {A : Type 0} → List (Option (Entry A)) → ℕ → ByteTable
-table_with entries blocks = record { rows = map (option_map row_of) entries; blocks = blocks }
+use Rattle.arcs.proofs.Tables.{table_with, map-slice_set}
 
 number-if : (b : Bool) (n : ℕ) → b ≡ is_some (if b then Some n else None)
 number-if true n = refl
@@ -48,25 +47,87 @@ set-back [] n x at = refl
 set-back (y ∷ ys) zero x at = ap (λ z. z ∷ ys) (sym (same_Some y x at))
 set-back (y ∷ ys) (suc n) x at = ap (λ zs. y ∷ zs) (set-back ys n x at)
 
+set-twice : {X : Type 0} (xs : List X) (n : ℕ) (x y : X) → slice_set (slice_set xs n x) n y ≡ slice_set xs n y
+set-twice [] n x y = refl
+set-twice (z ∷ zs) zero x y = refl
+set-twice (z ∷ zs) (suc n) x y = ap (λ ws. z ∷ ws) (set-twice zs n x y)
+
+-- a list that is the same as one that is the same as another has the same elements
+pub slice_in : {X : Type 0} (read kept xs : List X) (i : ℕ) (x : X) → read ≡ kept → kept ≡ xs → slice_get read i ≡ Some x → slice_get xs i ≡ Some x
+slice_in read kept xs i x one two here = ap (λ ys. slice_get ys i) (sym (one ∙ two)) ∙ here
+
+-- what is read at a place that is there stands there
+pub read-there : {X : Type 0} (xs : List X) (i : ℕ) (x y : X) → slice_get xs i ≡ Some y → x ≡ slice_index_or xs i x → slice_get xs i ≡ Some x
+read-there xs i x y here read = slice_get_read xs (length xs) i x refl (slice_get_within xs i y here) read
+
+read-within : {X : Type 0} (xs : List X) (i : ℕ) (x y : X) → i < length xs → y ≡ slice_index_or xs i y → x ≡ y → slice_get xs i ≡ Some x
+read-within xs i x y within read same = slice_get_read xs (length xs) i y refl within read ∙ ap Some (sym same)
+
+-- a pass that is set back stands where it was taken out
+pub taken : {H : Type 0} (passes : List (Pass H)) (n : ℕ) (p q : Pass H) → slice_get passes n ≡ Some p → TakenOut passes (Some n) p (slice_set passes n q)
+taken passes n p q here = (here, λ r. set-twice passes n q r)
+
+pub lent : {H : Type 0} (passes : List (Pass H)) (b : Option ℕ) (n : ℕ) (p q r : Pass H) → HasNumber passes b → b ≡ Some n → r ≡ slice_index_or passes n r → p ≡ r → TakenOut passes b p (slice_set passes n q)
+lent passes b n p q r has is read same =
+    subst (λ x. TakenOut passes x p (slice_set passes n q)) (sym is) (taken passes n p q (read-within passes n p r (subst (HasNumber passes) is has) read same))
+
+-- the same place shows one window
+pub same_entry : {X : Type 0} (xs : List (Option X)) (i : ℕ) (x y : X) → slice_get xs i ≡ Some (Some x) → slice_get xs i ≡ Some (Some y) → x ≡ y
+same_entry xs i x y one two = same_Some x y (same_Some (Some x) (Some y) (sym one ∙ two))
+
+-- one element more, behind the same ones
+pub behind : {X : Type 0} {after read : List X} (xs : List X) (x : X) → after ≡ read ++ x ∷ [] → read ≡ xs → after ≡ xs ++ x ∷ []
+behind xs x one same = one ∙ ap (λ ys. ys ++ x ∷ []) same
+
+-- where nothing stands, nothing goes
+pub set-none : {X : Type 0} (xs : List (Option X)) (i : ℕ) → option_flatten (slice_get xs i) ≡ None → slice_set xs i None ≡ xs
+set-none [] i none = refl
+set-none (x ∷ xs) zero none = ap (λ y. y ∷ xs) (sym none)
+set-none (x ∷ xs) (suc i) none = ap (λ ys. x ∷ ys) (set-none xs i none)
+
+cleared : {X : Type 0} (xs : List (Option X)) (i : ℕ) → option_flatten (slice_get (slice_set xs i None) i) ≡ None
+cleared [] i = refl
+cleared (x ∷ xs) zero = refl
+cleared (x ∷ xs) (suc i) = cleared xs i
+
+-- one row more is gone
+pub gone-below : {X : Type 0} (xs ys : List (Option X)) (i : ℕ) → ys ≡ slice_set xs i None → ((j : ℕ) → j < i → option_flatten (slice_get xs j) ≡ None) → (j : ℕ) → j < i + 1 → option_flatten (slice_get ys j) ≡ None
+gone-below xs ys i set below j within =
+    ap (λ zs. option_flatten (slice_get zs j)) set
+    ∙ elim (cases_eq i j) [
+      | inl e ↦ subst (λ k. option_flatten (slice_get (slice_set xs i None) k) ≡ None) e (cleared xs i)
+      | inr apart ↦ ap option_flatten (get-set_other xs i j None apart) ∙ below j (omega (arith, within, λ (e : j ≡ i). apart (sym e)))
+    ]
+
+-- all are gone
+pub all-gone : {X : Type 0} (xs : List (Option X)) (n : ℕ) → length xs ≤ n → ((j : ℕ) → j < n → option_flatten (slice_get xs j) ≡ None) → (j : ℕ) → option_flatten (slice_get xs j) ≡ None
+all-gone xs n long below j =
+    elim (slice_get_cases xs j).1 [
+      | inl there ↦ below j (omega (arith, long, there.1))
+      | inr past ↦ ap option_flatten past.1
+    ]
+
 -- what was taken out comes back to its place
-pub back-to : {H : Type 0} {passes left : List (Pass H)} {p : Pass H} (b : Option ℕ) → TakenOut passes b p left → (q : Pass H) → put_back left b q ≡ put_back passes b q
-back-to None took q = took.1
-back-to (Some n) took q = took.1 q
+module _ {H : Type 0} (passes left : List (Pass H)) (p : Pass H) where
+  back-to : (b : Option ℕ) → TakenOut passes b p left → (q : Pass H) → put_back left b q ≡ put_back passes b q
+  back-to None took q = took.1
+  back-to (Some n) took q = took.1 q
 
-pub back-same : {H : Type 0} {passes left : List (Pass H)} {p : Pass H} (b : Option ℕ) → TakenOut passes b p left → put_back left b p ≡ passes
-back-same None took = took.1
-back-same {passes = passes} {p = p} (Some n) took = took.1 p ∙ set-back passes n p took.0
+  -- nothing was added to it
+  back-same : (b : Option ℕ) → TakenOut passes b p left → (new : Pass H) → new ≡ p → put_back left b new ≡ passes
+  back-same None took new same = took.1
+  back-same (Some n) took new same = took.1 new ∙ ap (slice_set passes n) same ∙ set-back passes n p took.0
 
-put-length : {H : Type 0} (passes : List (Pass H)) (b : Option ℕ) (q : Pass H) → length (put_back passes b q) ≡ length passes
-put-length passes None q = refl
-put-length passes (Some n) q = length-set passes n q
+  put-length : (b : Option ℕ) (q : Pass H) → length (put_back passes b q) ≡ length passes
+  put-length None q = refl
+  put-length (Some n) q = length-set passes n q
 
-pub back-length : {H : Type 0} {passes left : List (Pass H)} {p : Pass H} (b : Option ℕ) → TakenOut passes b p left → (q : Pass H) → length (put_back left b q) ≡ length passes
-back-length {passes = passes} b took q = ap length (back-to b took q) ∙ put-length passes b q
+  back-length : (b : Option ℕ) → TakenOut passes b p left → (q : Pass H) → length (put_back left b q) ≡ length passes
+  back-length b took q = ap length (back-to b took q) ∙ put-length b q
 
-left-number : {H : Type 0} {passes left : List (Pass H)} {p : Pass H} (b : Option ℕ) → TakenOut passes b p left → HasNumber passes b → HasNumber left b
-left-number None took has = tt
-left-number {passes = passes} {left = left} {p = p} (Some n) took has = omega (arith, has, sym (length-set left n p) ∙ ap length (took.1 p) ∙ length-set passes n p)
+  left-number : (b : Option ℕ) → TakenOut passes b p left → HasNumber passes b → HasNumber left b
+  left-number None took has = tt
+  left-number (Some n) took has = omega (arith, has, sym (length-set left n p) ∙ ap length (took.1 p) ∙ length-set passes n p)
 
 -- a window that is there, and what it and its block's pass are asked for
 module _ {H : Type 0} {stands : List Stand} {passes : List (Pass H)} (i : ℕ) (k : IsKept MAX_OWNERS stands passes) where
@@ -76,107 +137,135 @@ module _ {H : Type 0} {stands : List Stand} {passes : List (Pass H)} (i : ℕ) (
   number-at (Some n) static_data fits at = absurd (false≢true (sym fits))
   number-at (Some n) (on_block owner offset facts) fits at = (k.known i n owner at).0
 
-  stand-pass-at : {left : List (Pass H)} {p : Pass H} (b : Option ℕ) (place : Place Owner (Unit {0})) → is_some b ≡ is_on_block place → slice_get stands i ≡ Some (stand_at b place) → TakenOut passes b p left → IsPassOfStand (stand_at b place) p
-  stand-pass-at None nowhere fits at took = took.0
-  stand-pass-at None static_data fits at took = took.0
-  stand-pass-at None (on_block owner offset facts) fits at took = absurd (false≢true fits)
-  stand-pass-at (Some n) nowhere fits at took = absurd (false≢true (sym fits))
-  stand-pass-at (Some n) static_data fits at took = absurd (false≢true (sym fits))
-  stand-pass-at {p = p} (Some n) (on_block owner offset facts) fits at took = (k.known i n owner at).1 p took.0
+  module _ (left : List (Pass H)) (p : Pass H) where
+    stand-pass-at : (b : Option ℕ) (place : Place Owner (Unit {0})) → is_some b ≡ is_on_block place → slice_get stands i ≡ Some (stand_at b place) → TakenOut passes b p left → IsPassOfStand (stand_at b place) p
+    stand-pass-at None nowhere fits at took = took.0
+    stand-pass-at None static_data fits at took = took.0
+    stand-pass-at None (on_block owner offset facts) fits at took = absurd (false≢true fits)
+    stand-pass-at (Some n) nowhere fits at took = absurd (false≢true (sym fits))
+    stand-pass-at (Some n) static_data fits at took = absurd (false≢true (sym fits))
+    stand-pass-at (Some n) (on_block owner offset facts) fits at took = (k.known i n owner at).1 p took.0
 
-  pass-at : {p : Pass H} (b : Option ℕ) (place : Place Owner (Unit {0})) → is_some b ≡ is_on_block place → IsPassOfStand (stand_at b place) p → IsPassAt place p
-  pass-at None nowhere fits of = of
-  pass-at None static_data fits of = of
-  pass-at None (on_block owner offset facts) fits of = absurd (false≢true fits)
-  pass-at (Some n) nowhere fits of = absurd (false≢true (sym fits))
-  pass-at (Some n) static_data fits of = absurd (false≢true (sym fits))
-  pass-at (Some n) (on_block owner offset facts) fits of = of
+    module _ (new : Pass H) where
+      joined-at : (b : Option ℕ) (place : Place Owner (Unit {0})) (s : Stand) → slice_get stands i ≡ Some (stand_at b place) → TakenOut passes b p left → Joins (stand_at b place) p new s → IsKept MAX_OWNERS (stands ++ s ∷ []) (put_back left b new)
+      joined-at b place None at took same = subst (λ ps. IsKept MAX_OWNERS (stands ++ None ∷ []) ps) (sym (back-same passes left p b took new same)) (kept-nowhere k)
+      joined-at b nowhere (Some made) at took joins = absurd joins
+      joined-at b static_data (Some made) at took joins = absurd joins
+      joined-at None (on_block owner offset facts) (Some made) at took joins = absurd joins
+      joined-at (Some n) (on_block owner offset facts) (Some made) at took joins =
+          subst (λ (m : ℕ). IsKept MAX_OWNERS (stands ++ Some (m, made.1) ∷ []) (slice_set left n new)) (sym joins.0)
+          (subst (λ ps. IsKept MAX_OWNERS (stands ++ Some (n, made.1) ∷ []) ps) (sym (took.1 new)) (kept-shared i n k at took.0 joins.1))
 
-  -- nothing was added
-  unchanged : {left : List (Pass H)} {p new : Pass H} (b : Option ℕ) → TakenOut passes b p left → new ≡ p → put_back left b new ≡ passes
-  unchanged {left = left} b took same = ap (put_back left b) same ∙ back-same b took
+      full-at : (b : Option ℕ) (place : Place Owner (Unit {0})) → slice_get stands i ≡ Some (stand_at b place) → TakenOut passes b p left → IsFullStand (stand_at b place) p new → IsKept MAX_OWNERS stands (put_back left b new)
+      full-at b nowhere at took full = absurd full
+      full-at b static_data at took full = absurd full
+      full-at None (on_block owner offset facts) at took full = absurd full
+      full-at (Some n) (on_block owner offset facts) at took full = subst (λ ps. IsKept MAX_OWNERS stands ps) (sym (took.1 new)) (kept-full i n k at took.0 full)
 
-  joined-at : {left : List (Pass H)} {p new : Pass H} (b : Option ℕ) (place : Place Owner (Unit {0})) (s : Stand) → slice_get stands i ≡ Some (stand_at b place) → TakenOut passes b p left → Joins (stand_at b place) p new s → IsKept MAX_OWNERS (stands ++ s ∷ []) (put_back left b new)
-  joined-at b place None at took same = subst (λ ps. IsKept MAX_OWNERS (stands ++ None ∷ []) ps) (sym (unchanged b took same)) (kept-nowhere k)
-  joined-at b nowhere (Some made) at took joins = absurd joins
-  joined-at b static_data (Some made) at took joins = absurd joins
-  joined-at None (on_block owner offset facts) (Some made) at took joins = absurd joins
-  joined-at {left = left} {new = new} (Some n) (on_block owner offset facts) (Some made) at took joins =
-      subst (λ (m : ℕ). IsKept MAX_OWNERS (stands ++ Some (m, made.1) ∷ []) (put_back left (Some n) new)) (sym joins.0)
-      (subst (λ ps. IsKept MAX_OWNERS (stands ++ Some (n, made.1) ∷ []) ps) (sym (took.1 new)) (kept-shared i n k at took.0 joins.1))
+      full-count : (t : ByteTable) (b : Option ℕ) (place : Place Owner (Unit {0})) → ((n : ℕ) → owners t n ≡ length (owners_on n stands)) → slice_get stands i ≡ Some (stand_at b place) → TakenOut passes b p left → IsFullStand (stand_at b place) p new → IsFullPlace t (numbered b place)
+      full-count t b nowhere counted at took full = absurd full
+      full-count t b static_data counted at took full = absurd full
+      full-count t None (on_block owner offset facts) counted at took full = absurd full
+      full-count t (Some n) (on_block owner offset facts) counted at took full = counted n ∙ full-exact i n k at took.0 full
 
-  full-at : {left : List (Pass H)} {p new : Pass H} (b : Option ℕ) (place : Place Owner (Unit {0})) → slice_get stands i ≡ Some (stand_at b place) → TakenOut passes b p left → IsFullStand (stand_at b place) p new → IsKept MAX_OWNERS stands (put_back left b new)
-  full-at b nowhere at took full = absurd full
-  full-at b static_data at took full = absurd full
-  full-at None (on_block owner offset facts) at took full = absurd full
-  full-at {new = new} (Some n) (on_block owner offset facts) at took full = subst (λ ps. IsKept MAX_OWNERS stands ps) (sym (took.1 new)) (kept-full i n k at took.0 full)
+      asked-at : (found : Bool) (b : Option ℕ) (place : Place Owner (Unit {0})) → is_some b ≡ is_on_block place → slice_get stands i ≡ Some (stand_at b place) → TakenOut passes b p left → AsksAt place p new found → IsKept MAX_OWNERS stands (put_back left b new)
+      asked-at found b nowhere fits at took asks = subst (λ ps. IsKept MAX_OWNERS stands ps) (sym (back-same passes left p b took new asks.1)) k
+      asked-at found b static_data fits at took asks = subst (λ ps. IsKept MAX_OWNERS stands ps) (sym (back-same passes left p b took new asks.1)) k
+      asked-at found None (on_block owner offset facts) fits at took asks = absurd (false≢true fits)
+      asked-at found (Some n) (on_block owner offset facts) fits at took asks = subst (λ ps. IsKept MAX_OWNERS stands ps) (sym (took.1 new)) (kept-asked i n k at took.0 asks)
 
-  full-count : {left : List (Pass H)} {p new : Pass H} (t : ByteTable) (b : Option ℕ) (place : Place Owner (Unit {0})) → ((n : ℕ) → owners t n ≡ length (owners_on n stands)) → slice_get stands i ≡ Some (stand_at b place) → TakenOut passes b p left → IsFullStand (stand_at b place) p new → IsFullPlace t (numbered b place)
-  full-count t b nowhere counted at took full = absurd full
-  full-count t b static_data counted at took full = absurd full
-  full-count t None (on_block owner offset facts) counted at took full = absurd full
-  full-count t (Some n) (on_block owner offset facts) counted at took full = counted n ∙ full-exact i n k at took.0 full
+      alone-at : (found : Bool) (t : ByteTable) (b : Option ℕ) (place : Place Owner (Unit {0})) → ((n : ℕ) → owners t n ≡ length (owners_on n stands)) → is_some b ≡ is_on_block place → slice_get stands i ≡ Some (stand_at b place) → TakenOut passes b p left → AsksAt place p new found → is_alone t (numbered b place) ≡ found
+      alone-at found t b nowhere counted fits at took asks = sym asks.0
+      alone-at found t b static_data counted fits at took asks = sym asks.0
+      alone-at found t None (on_block owner offset facts) counted fits at took asks = absurd (false≢true fits)
+      alone-at found t (Some n) (on_block owner offset facts) counted fits at took asks = ap (λ m. m == 1) (counted n) ∙ sym (alone-exact i n k at took.0 asks)
 
-  asked-at : {left : List (Pass H)} {p new : Pass H} {found : Bool} (b : Option ℕ) (place : Place Owner (Unit {0})) → is_some b ≡ is_on_block place → slice_get stands i ≡ Some (stand_at b place) → TakenOut passes b p left → AsksAt place p new found → IsKept MAX_OWNERS stands (put_back left b new)
-  asked-at b nowhere fits at took asks = subst (λ ps. IsKept MAX_OWNERS stands ps) (sym (unchanged b took asks.1)) k
-  asked-at b static_data fits at took asks = subst (λ ps. IsKept MAX_OWNERS stands ps) (sym (unchanged b took asks.1)) k
-  asked-at None (on_block owner offset facts) fits at took asks = absurd (false≢true fits)
-  asked-at {new = new} (Some n) (on_block owner offset facts) fits at took asks = subst (λ ps. IsKept MAX_OWNERS stands ps) (sym (took.1 new)) (kept-asked i n k at took.0 asks)
+      gone-at : (b : Option ℕ) (place : Place Owner (Unit {0})) → is_some b ≡ is_on_block place → slice_get stands i ≡ Some (stand_at b place) → TakenOut passes b p left → LeavesAt place p new → IsKept MAX_OWNERS (slice_set stands i None) (put_back left b new)
+      gone-at b nowhere fits at took leaves = subst (λ ps. IsKept MAX_OWNERS (slice_set stands i None) ps) (sym (back-same passes left p b took new leaves)) (kept-gone-nowhere i k at)
+      gone-at b static_data fits at took leaves = subst (λ ps. IsKept MAX_OWNERS (slice_set stands i None) ps) (sym (back-same passes left p b took new leaves)) (kept-gone-nowhere i k at)
+      gone-at None (on_block owner offset facts) fits at took leaves = absurd (false≢true fits)
+      gone-at (Some n) (on_block owner offset facts) fits at took leaves = subst (λ ps. IsKept MAX_OWNERS (slice_set stands i None) ps) (sym (took.1 new)) (kept-gone i n k at took.0 leaves.1)
 
-  alone-at : {left : List (Pass H)} {p new : Pass H} {found : Bool} (t : ByteTable) (b : Option ℕ) (place : Place Owner (Unit {0})) → ((n : ℕ) → owners t n ≡ length (owners_on n stands)) → is_some b ≡ is_on_block place → slice_get stands i ≡ Some (stand_at b place) → TakenOut passes b p left → AsksAt place p new found → is_alone t (numbered b place) ≡ found
-  alone-at t b nowhere counted fits at took asks = sym asks.0
-  alone-at t b static_data counted fits at took asks = sym asks.0
-  alone-at t None (on_block owner offset facts) counted fits at took asks = absurd (false≢true fits)
-  alone-at t (Some n) (on_block owner offset facts) counted fits at took asks = ap (λ m. m == 1) (counted n) ∙ sym (alone-exact i n k at took.0 asks)
-
-  gone-at : {left : List (Pass H)} {p new : Pass H} (b : Option ℕ) (place : Place Owner (Unit {0})) → is_some b ≡ is_on_block place → slice_get stands i ≡ Some (stand_at b place) → TakenOut passes b p left → LeavesAt place p new → IsKept MAX_OWNERS (slice_set stands i None) (put_back left b new)
-  gone-at b nowhere fits at took leaves = subst (λ ps. IsKept MAX_OWNERS (slice_set stands i None) ps) (sym (unchanged b took leaves)) (kept-gone-nowhere i k at)
-  gone-at b static_data fits at took leaves = subst (λ ps. IsKept MAX_OWNERS (slice_set stands i None) ps) (sym (unchanged b took leaves)) (kept-gone-nowhere i k at)
-  gone-at None (on_block owner offset facts) fits at took leaves = absurd (false≢true fits)
-  gone-at {new = new} (Some n) (on_block owner offset facts) fits at took leaves = subst (λ ps. IsKept MAX_OWNERS (slice_set stands i None) ps) (sym (took.1 new)) (kept-gone i n k at took.0 leaves.1)
+pass-at : {H : Type 0} (p : Pass H) (b : Option ℕ) (place : Place Owner (Unit {0})) → is_some b ≡ is_on_block place → IsPassOfStand (stand_at b place) p → IsPassAt place p
+pass-at p None nowhere fits of = of
+pass-at p None static_data fits of = of
+pass-at p None (on_block owner offset facts) fits of = absurd (false≢true fits)
+pass-at p (Some n) nowhere fits of = absurd (false≢true (sym fits))
+pass-at p (Some n) static_data fits of = absurd (false≢true (sym fits))
+pass-at p (Some n) (on_block owner offset facts) fits of = of
 
 -- the same for the window of an entry
-module _ {A H : Type 0} (entries : List (Option (Entry A))) {passes : List (Pass H)} (i : ℕ) (e : Entry A) (k : IsKept MAX_OWNERS (stands_of entries) passes) (there : slice_get entries i ≡ Some (Some e)) where
+module _ {A H : Type 0} (entries : List (Option (Entry A))) (passes : List (Pass H)) (i : ℕ) (e : Entry A) (k : IsKept MAX_OWNERS (stands_of entries) passes) (there : slice_get entries i ≡ Some (Some e)) where
   stand-there : slice_get (stands_of entries) i ≡ Some (stand_of (Some e))
   stand-there = slice_get-map stand_of entries i ∙ ap (option_map stand_of) there
 
   pub has-number : HasNumber passes e.block
   has-number = number-at i k e.block e.window.place e.numbered stand-there
 
-  module _ {left : List (Pass H)} {p : Pass H} (took : TakenOut passes e.block p left) where
+  module _ (left : List (Pass H)) (p : Pass H) (took : TakenOut passes e.block p left) where
     pub still-number : HasNumber left e.block
-    still-number = left-number e.block took has-number
+    still-number = left-number passes left p e.block took has-number
 
     pub stand-pass : IsPassOfStand (stand_of (Some e)) p
-    stand-pass = stand-pass-at i k e.block e.window.place e.numbered stand-there took
+    stand-pass = stand-pass-at i k left p e.block e.window.place e.numbered stand-there took
 
     pub window-pass : IsPassAt e.window.place p
-    window-pass = pass-at i k e.block e.window.place e.numbered stand-pass
+    window-pass = pass-at p e.block e.window.place e.numbered stand-pass
 
-    module _ {new : Pass H} {entries' : List (Option (Entry A))} {after : List (Pass H)} (back : after ≡ put_back left e.block new) where
-      pub joined : (e' : Entry A) → entries' ≡ entries ++ Some e' ∷ [] → Joins (stand_of (Some e)) p new (stand_of (Some e')) → IsKept MAX_OWNERS (stands_of entries') after
-      joined e' one_more joins =
+    module _ (new : Pass H) (after : List (Pass H)) (back : after ≡ put_back left e.block new) where
+      pub joined : (e' : Entry A) (entries' : List (Option (Entry A))) → entries' ≡ entries ++ Some e' ∷ [] → Joins (stand_of (Some e)) p new (stand_of (Some e')) → IsKept MAX_OWNERS (stands_of entries') after
+      joined e' entries' one_more joins =
           subst (λ es. IsKept MAX_OWNERS (stands_of es) after) (sym one_more)
           (subst (λ ss. IsKept MAX_OWNERS ss after) (sym (map-append stand_of entries (Some e' ∷ [])))
-          (subst (λ ps. IsKept MAX_OWNERS (stands_of entries ++ stand_of (Some e') ∷ []) ps) (sym back) (joined-at i k e.block e.window.place (stand_of (Some e')) stand-there took joins)))
+          (subst (λ ps. IsKept MAX_OWNERS (stands_of entries ++ stand_of (Some e') ∷ []) ps) (sym back) (joined-at i k left p new e.block e.window.place (stand_of (Some e')) stand-there took joins)))
 
-      pub stays-full : entries' ≡ entries → IsFullStand (stand_of (Some e)) p new → IsKept MAX_OWNERS (stands_of entries') after
-      stays-full same full = subst (λ es. IsKept MAX_OWNERS (stands_of es) after) (sym same) (subst (λ ps. IsKept MAX_OWNERS (stands_of entries) ps) (sym back) (full-at i k e.block e.window.place stand-there took full))
+      pub stays-full : (entries' : List (Option (Entry A))) → entries' ≡ entries → IsFullStand (stand_of (Some e)) p new → IsKept MAX_OWNERS (stands_of entries') after
+      stays-full entries' same full = subst (λ es. IsKept MAX_OWNERS (stands_of es) after) (sym same) (subst (λ ps. IsKept MAX_OWNERS (stands_of entries) ps) (sym back) (full-at i k left p new e.block e.window.place stand-there took full))
 
-      pub stays-asked : {found : Bool} → AsksAt e.window.place p new found → IsKept MAX_OWNERS (stands_of entries) after
-      stays-asked asks = subst (λ ps. IsKept MAX_OWNERS (stands_of entries) ps) (sym back) (asked-at i k e.block e.window.place e.numbered stand-there took asks)
+      pub stays-asked : (found : Bool) → AsksAt e.window.place p new found → IsKept MAX_OWNERS (stands_of entries) after
+      stays-asked found asks = subst (λ ps. IsKept MAX_OWNERS (stands_of entries) ps) (sym back) (asked-at i k left p new found e.block e.window.place e.numbered stand-there took asks)
 
-      pub gone : entries' ≡ slice_set entries i None → LeavesAt e.window.place p new → IsKept MAX_OWNERS (stands_of entries') after
-      gone set leaves =
+      pub gone : (entries' : List (Option (Entry A))) → entries' ≡ slice_set entries i None → LeavesAt e.window.place p new → IsKept MAX_OWNERS (stands_of entries') after
+      gone entries' set leaves =
           subst (λ es. IsKept MAX_OWNERS (stands_of es) after) (sym set)
           (subst (λ ss. IsKept MAX_OWNERS ss after) (sym (map-slice_set stand_of entries i None))
-          (subst (λ ps. IsKept MAX_OWNERS (slice_set (stands_of entries) i None) ps) (sym back) (gone-at i k e.block e.window.place e.numbered stand-there took leaves)))
+          (subst (λ ps. IsKept MAX_OWNERS (slice_set (stands_of entries) i None) ps) (sym back) (gone-at i k left p new e.block e.window.place e.numbered stand-there took leaves)))
 
       pub as-many : length after ≡ length passes
-      as-many = ap length back ∙ back-length e.block took new
+      as-many = ap length back ∙ back-length passes left p e.block took new
 
-    pub full-place : {new : Pass H} (blocks : ℕ) → IsFullStand (stand_of (Some e)) p new → IsFullPlace (table_with entries blocks) (row_of e).place
-    full-place blocks full = full-count i k (table_with entries blocks) e.block e.window.place (rows-counted entries blocks) stand-there took full
+    pub full-place : (new : Pass H) (blocks : ℕ) → IsFullStand (stand_of (Some e)) p new → IsFullPlace (table_with entries blocks) (row_of e).place
+    full-place new blocks full = full-count i k left p new (table_with entries blocks) e.block e.window.place (rows-counted entries blocks) stand-there took full
 
-    pub alone-told : {new : Pass H} {found : Bool} (blocks : ℕ) → AsksAt e.window.place p new found → is_alone (table_with entries blocks) (row_of e).place ≡ found
-    alone-told blocks asks = alone-at i k (table_with entries blocks) e.block e.window.place (rows-counted entries blocks) e.numbered stand-there took asks
+    pub alone-told : (new : Pass H) (found : Bool) (blocks : ℕ) → AsksAt e.window.place p new found → is_alone (table_with entries blocks) (row_of e).place ≡ found
+    alone-told new found blocks asks = alone-at i k left p new found (table_with entries blocks) e.block e.window.place (rows-counted entries blocks) e.numbered stand-there took asks
+
+stand-none : (place : Place Owner (Unit {0})) → stand_at None place ≡ None
+stand-none nowhere = refl
+stand-none static_data = refl
+stand-none (on_block owner offset facts) = refl
+
+-- a window was made on nothing, or on a new block
+module _ {A : Type 0} (entries entries' : List (Option (Entry A))) (e : Entry A) (one_more : entries' ≡ entries ++ Some e ∷ []) where
+  stands-more : stands_of entries' ≡ stands_of entries ++ stand_of (Some e) ∷ []
+  stands-more = ap stands_of one_more ∙ map-append stand_of entries (Some e ∷ [])
+
+  pub made-nowhere : {H : Type 0} {passes : List (Pass H)} → IsKept MAX_OWNERS (stands_of entries) passes → e.block ≡ None → IsKept MAX_OWNERS (stands_of entries') passes
+  made-nowhere {passes = passes} k none =
+      subst (λ ss. IsKept MAX_OWNERS ss passes) (sym (stands-more ∙ ap (λ b. stands_of entries ++ stand_at b e.window.place ∷ []) none ∙ ap (λ s. stands_of entries ++ s ∷ []) (stand-none e.window.place)))
+      (kept-nowhere k)
+
+  pub made-on_block : {H : Type 0} {passes passes' : List (Pass H)} (items : List ℕ) (old new : Pass H) → IsKept MAX_OWNERS (stands_of entries) passes → Makes true true items old new e.window → (length items == 0) ≡ false → e.block ≡ Some (length passes) → passes' ≡ passes ++ new ∷ [] → IsKept MAX_OWNERS (stands_of entries') passes'
+  made-on_block {passes = passes} {passes' = passes'} items old new k makes some block one_pass =
+      let n = length passes in
+      let owner = makes.0 in
+      let there : Place Owner (Unit {0}) = on_block owner 0 (native_facts (length items)) in
+      let place : e.window.place ≡ there = ap (λ (w : Window ℕ). w.place) makes.1 ∙ ap (λ b. if b then nowhere else there) some in
+      let begins : BeginsAt true there old new = subst (λ p. BeginsAt true p old new) place makes.2 in
+      let stands : stands_of entries' ≡ stands_of entries ++ Some (n, owner) ∷ [] = stands-more ∙ ap (λ b. stands_of entries ++ stand_at b e.window.place ∷ []) block ∙ ap (λ p. stands_of entries ++ stand_at (Some n) p ∷ []) place in
+      subst (λ ps. IsKept MAX_OWNERS (stands_of entries') ps) (sym one_pass)
+      (subst (λ ss. IsKept MAX_OWNERS ss (passes ++ new ∷ [])) (sym stands) (kept-new new k begins.0 begins.1))
+
+-- the same passes
+pub kept-in : {H : Type 0} (stands : List Stand) {passes passes' : List (Pass H)} (e : passes ≡ passes') → IsKept MAX_OWNERS stands passes → IsKept MAX_OWNERS stands passes'
+kept-in stands e k = subst (λ ps. IsKept MAX_OWNERS stands ps) e k

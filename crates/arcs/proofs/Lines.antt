@@ -39,15 +39,15 @@ in_range_plain : {T M : Type 0} (t : Table T M) (r : Result (Unit {0}) RangeErro
 in_range_plain t (Ok done) outcome plain = plain
 in_range_plain t (Err e) outcome plain = tt
 
-yes_or_no_plain : {X : Type 0} (yes : Bool) → IsPlain {X = X} (if yes then reply.Yes else reply.No)
-yes_or_no_plain true = tt
-yes_or_no_plain false = tt
+yes_or_no_plain : (X : Type 0) (yes : Bool) → IsPlain {X = X} (if yes then reply.Yes else reply.No)
+yes_or_no_plain X true = tt
+yes_or_no_plain X false = tt
 
 answer_plain : {T M : Type 0} (setting : Setting T) (t : Table T M) (c : Command (List T)) → IsPlain (answer setting t c).0
 answer_plain setting t (Slice items) = tt
 answer_plain setting t (Clone i) = on_row_plain t _ (row_at t i) (λ row. tt)
 answer_plain setting t (Sub i start end) = on_row_plain t _ (row_at t i) (λ row. in_range_plain t (range_answer setting.boundary row.items start end) (cut setting t row start end) tt)
-answer_plain setting t (Uniq i) = on_row_plain t _ (row_at t i) (λ row. yes_or_no_plain (is_alone t row.place))
+answer_plain setting t (Uniq i) = on_row_plain t _ (row_at t i) (λ row. yes_or_no_plain _ (is_alone t row.place))
 answer_plain setting t (Show i) = on_row_plain t _ (row_at t i) (λ row. tt)
 answer_plain setting t (Drop i) = on_row_plain t _ (row_at t i) (λ row. tt)
 

@@ -1,16 +1,17 @@
 -- Steps of the windows, as steps of their table.
-use Rattle.std.proofs.Common.{◌≡◌, ℕ, zero, suc, Bool, true, false, ◌&&◌, ◌==◌, if◌then◌else◌, List, [], ◌∷◌, length, map, Option, Some, None, MatchOption, is_some, slice_set, refl, sym, ap, ◌∙◌, subst}
-use Rattle.std.specs.Option.{option_map, option_map_or}
+use Rattle.std.proofs.Common.{◌≡◌, ℕ, zero, suc, Bool, true, false, ◌&&◌, ◌==◌, if◌then◌else◌, List, [], ◌∷◌, ◌++◌, length, map, Option, Some, None, slice_get, slice_set, refl, sym, ap, ◌∙◌, subst}
+use Rattle.std.specs.Option.{option_map, option_map_or, option_flatten}
+use Rattle.std.proofs.lemmas.Option.{slice_get-map}
+use Rattle.std.proofs.lemmas.List.{map-append, length-map}
 use Rattle.arc_owners.specs.declared.error.OwnerError.{OwnerError}
 use Rattle.arc_owners.specs.declared.error.OwnerError.TheVariants.{CountFull}
 use Rattle.arc_buffer.specs.Slice.{IsRange, sub}
 use Rattle.arc_block.specs.Place.{Place, nowhere, static_data, on_block, IsOnBlock, moved, part_place}
-use Rattle.arc_block.specs.Table.{Row, row_at}
-use Rattle.arc_read.specs.Window.{part_window}
-use Rattle.arcs.specs.Step.{Step, answer}
+use Rattle.arc_block.specs.Table.{Row, Table, row_at, is_alone}
+use Rattle.arcs.specs.Step.{Outcome, Step, with_row, on_row, IsFullPlace, MayBeFull}
 use Rattle.arcs.specs.Script.{ByteTable, byte_setting}
-use Rattle.arcs.specs.Rows.{numbered, row_of}
-use Rattle.arcs.specs.declared.windows.Entry.{Entry}
+use Rattle.arcs.specs.Entries.{row_of}
+use Rattle.arcs.specs.declared.entry.Entry.{Entry}
 use Rattle.arcs.specs.declared.command.Command.TheVariants as command
 use Rattle.arcs.specs.declared.command.Reply.TheVariants as reply
 
@@ -20,49 +21,72 @@ map-slice_set f [] i x = refl
 map-slice_set f (y ∷ ys) zero x = refl
 map-slice_set f (y ∷ ys) (suc i) x = ap (λ zs. f y ∷ zs) (map-slice_set f ys i x)
 
--- dropping a window that is there
-pub dropped : {X : Type 0} (t : ByteTable) (i : ℕ) (view : X → Row ℕ (Unit {0})) (found : Option X) → MatchOption found (row_at t i ≡ None) (λ x. row_at t i ≡ Some (view x)) → is_some found ≡ true
-    → (rows : List (Option (Row ℕ (Unit {0})))) → rows ≡ slice_set t.rows i None → answer byte_setting t (command.Drop i) ≡ (reply.Ok, record { rows = rows; blocks = t.blocks })
-dropped t i view (Some x) there some rows after =
-    ap (λ r. option_map_or (λ row. (reply.Ok, record { rows = slice_set t.rows i None; blocks = t.blocks })) r (reply.NoWindow, t)) there
-    ∙ ap (λ rs. (reply.Ok, record { rows = rs; blocks = t.blocks })) (sym after)
-dropped t i view None there some rows after = cc
-
--- the number of a block doesn't change whether a place is on one
-on_numbered : {M : Type 0} (n : ℕ) (p : Place (Unit {0}) M) → IsOnBlock p → IsOnBlock (numbered n p)
-on_numbered n nowhere h = h
-on_numbered n static_data h = h
-on_numbered n (on_block it offset facts) h = h
-
 -- the table of these entries
-abbrev table_with : {A : Type 0} → ℕ → List (Option (Entry A)) → ByteTable
-table_with blocks entries = record { rows = map (option_map row_of) entries; blocks = blocks }
+abbrev pub table_with : {A : Type 0} → List (Option (Entry A)) → ℕ → ByteTable
+table_with entries blocks = record { rows = map (option_map row_of) entries; blocks = blocks }
 
--- a clone is refused where the block can have no owner more
-pub clone_refused : {A : Type 0} (old new : List (Option (Entry A))) (blocks i : ℕ) (source : Entry A) (e : OwnerError) → new ≡ old → e ≡ CountFull → row_at (table_with blocks new) i ≡ Some (row_of source) → IsOnBlock source.window.place
-    → Step byte_setting (table_with blocks old) (command.Clone i) (reply.Owner e) (table_with blocks new)
-clone_refused old new blocks i source e same full is owner =
-    let P : OwnerError → Type 0 = λ x. Step byte_setting (table_with blocks old) (command.Clone i) (reply.Owner x) (table_with blocks new) in
-    let table_same = ap (table_with blocks) same in
-    subst P (sym full) ((row_of source, ap (λ t. row_at t i) (sym table_same) ∙ is, on_numbered source.block source.window.place owner), table_same)
+-- where no window stands, no row goes
+pub none-there : {A : Type 0} (entries : List (Option (Entry A))) (i : ℕ) → option_flatten (slice_get entries i) ≡ None → map (option_map row_of) entries ≡ slice_set (map (option_map row_of) entries) i None
+none-there [] i none = refl
+none-there (x ∷ xs) zero none = ap (λ y. option_map row_of y ∷ map (option_map row_of) xs) none
+none-there (x ∷ xs) (suc i) none = ap (λ ys. option_map row_of x ∷ ys) (none-there xs i none)
 
--- the number of a block doesn't change whether a part stands on one
-numbered_unless : {M : Type 0} (nothing : Bool) (start n : ℕ) (p : Place (Unit {0}) M) → IsOnBlock (if nothing then nowhere else moved start p) → IsOnBlock (if nothing then nowhere else moved start (numbered n p))
-numbered_unless true start n p h = h
-numbered_unless false start n nowhere h = h
-numbered_unless false start n static_data h = h
-numbered_unless false start n (on_block it offset facts) h = h
+-- the part of a place on a full block is on that block, or on nothing
+part-full : {M : Type 0} (t : Table ℕ M) (nothing : Bool) (start : ℕ) (p : Place ℕ M) → IsFullPlace t p → IsOnBlock (if nothing then nowhere else moved start p) → IsFullPlace t (if nothing then nowhere else moved start p)
+part-full t true start p full on = on
+part-full t false start nowhere full on = full
+part-full t false start static_data full on = full
+part-full t false start (on_block n offset facts) full on = full
 
-pub part-numbered : {T M : Type 0} (has_static : Bool) (items : List T) (start n : ℕ) (p : Place (Unit {0}) M) → IsOnBlock (part_place has_static items start p) → IsOnBlock (part_place has_static items start (numbered n p))
-part-numbered has_static items start n p h = numbered_unless (has_static && (length items == 0)) start n p h
+module _ {A : Type 0} (entries : List (Option (Entry A))) (blocks i : ℕ) (e : Entry A) (there : slice_get entries i ≡ Some (Some e)) where
+  abbrev t : ByteTable
+  t = table_with entries blocks
 
--- a part is refused where the block can have no owner more
-pub refused : {A : Type 0} (old new : ByteTable) (i start end : ℕ) (there again : Entry A) (e : OwnerError) → new ≡ old → e ≡ CountFull → row_at old i ≡ Some (row_of there) → row_at new i ≡ Some (row_of again)
-    → IsRange byte_setting.boundary there.window.items start end → IsOnBlock (part_window true again.window start end).place
-    → Step byte_setting old (command.Sub i start end) (reply.Owner e) new
-refused old new i start end there again e same full is still range owner =
-    let P : OwnerError → Type 0 = λ x. Step byte_setting old (command.Sub i start end) (reply.Owner x) new in
-    let one : row_of again ≡ row_of there = cc (ap (λ t. row_at t i) (sym same) ∙ still) in
-    let Q : Row ℕ (Unit {0}) → Type 0 = λ row. IsOnBlock (part_place true (sub row.items start end) start row.place) in
-    let numbered_owner : Q (row_of again) = part-numbered true (sub again.window.items start end) start again.block again.window.place owner in
-    subst P (sym full) ((row_of there, is, range, subst Q one numbered_owner), same)
+  abbrev with_rows : List (Option (Row ℕ (Unit {0}))) → ByteTable
+  with_rows rows = record { rows = rows; blocks = blocks }
+
+  pub row-there : row_at t i ≡ Some (row_of e)
+  row-there = ap option_flatten (slice_get-map (option_map row_of) entries i ∙ ap (option_map (option_map row_of)) there)
+
+  -- what is answered for a row is what is answered for this one
+  pub answered : (found : Row ℕ (Unit {0}) → Outcome ℕ (Unit {0})) → on_row t i found ≡ found (row_of e)
+  answered found = ap (λ r. option_map_or found r (reply.NoWindow, t)) row-there
+
+  module _ (entries' : List (Option (Entry A))) (blocks' : ℕ) (same_blocks : blocks' ≡ blocks) where
+    -- a window more
+    pub added : (e' : Entry A) (number : ℕ) (found : Row ℕ (Unit {0}) → Outcome ℕ (Unit {0})) → entries' ≡ entries ++ Some e' ∷ [] → number ≡ length entries → found (row_of e) ≡ with_row t (row_of e') blocks → on_row t i found ≡ (reply.New number, table_with entries' blocks')
+    added e' number found one_more long same =
+        answered found ∙ same
+        ∙ ap (λ (n : ℕ). (reply.New n, with_rows (t.rows ++ Some (row_of e') ∷ []))) (length-map entries (option_map row_of) ∙ sym long)
+        ∙ ap (λ rows. (reply.New number, with_rows rows)) (sym (ap (map (option_map row_of)) one_more ∙ map-append (option_map row_of) entries (Some e' ∷ [])))
+        ∙ ap (λ b. (reply.New number, table_with entries' b)) (sym same_blocks)
+
+    -- whether a window is alone
+    pub asked : (found : Bool) → is_alone t (row_of e).place ≡ found → on_row t i (λ row. (if is_alone t row.place then reply.Yes else reply.No, t)) ≡ (if found then reply.Yes else reply.No, table_with entries blocks')
+    asked found alone =
+        answered (λ row. (if is_alone t row.place then reply.Yes else reply.No, t))
+        ∙ ap (λ b. (if b then reply.Yes else reply.No, t)) alone ∙ ap (λ n. (if found then reply.Yes else reply.No, table_with entries n)) (sym same_blocks)
+
+    -- a window less
+    pub dropped : entries' ≡ slice_set entries i None → on_row t i (λ row. (reply.Ok, record t { rows = slice_set t.rows i None })) ≡ (reply.Ok, table_with entries' blocks')
+    dropped set =
+        answered (λ row. (reply.Ok, record t { rows = slice_set t.rows i None }))
+        ∙ ap (λ rows. (reply.Ok, with_rows rows)) (sym (ap (map (option_map row_of)) set ∙ map-slice_set (option_map row_of) entries i None))
+        ∙ ap (λ b. (reply.Ok, table_with entries' b)) (sym same_blocks)
+
+    same_table : entries' ≡ entries → table_with entries' blocks' ≡ t
+    same_table same = ap (λ es. table_with es blocks') same ∙ ap (λ b. table_with entries b) same_blocks
+
+    -- a clone, or a part, is refused where the block has as many owners as it may have
+    refusal : (c : command.the_data (List ℕ)) (x : OwnerError) → entries' ≡ entries → x ≡ CountFull → MayBeFull byte_setting t c → Step byte_setting t c (reply.Owner x) (table_with entries' blocks')
+    refusal c x same full may =
+        let P : OwnerError → Type 0 = λ y. Step byte_setting t c (reply.Owner y) (table_with entries' blocks') in
+        subst P (sym full) (may, same_table same)
+
+    pub clone_refused : (x : OwnerError) → entries' ≡ entries → x ≡ CountFull → IsFullPlace t (row_of e).place → Step byte_setting t (command.Clone i) (reply.Owner x) (table_with entries' blocks')
+    clone_refused x same full place = refusal (command.Clone i) x same full (row_of e, row-there, place)
+
+    pub part_refused : (start end : ℕ) (x : OwnerError) → entries' ≡ entries → x ≡ CountFull → IsRange byte_setting.boundary e.window.items start end → IsFullPlace t (row_of e).place → IsOnBlock (part_place true (sub e.window.items start end) start (row_of e).place)
+        → Step byte_setting t (command.Sub i start end) (reply.Owner x) (table_with entries' blocks')
+    part_refused start end x same full range place on =
+        refusal (command.Sub i start end) x same full (row_of e, row-there, range, part-full t (true && (length (sub e.window.items start end) == 0)) start (row_of e).place place on)

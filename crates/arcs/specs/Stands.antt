@@ -2,7 +2,7 @@
 use Rattle.std.specs.Prelude.{◌≡◌, ℕ, ◌<◌, Bool, true, false, List, Option, Some, None, length, slice_get, slice_set}
 use Rattle.arc_owners.specs.declared.owners.tokens.Pass.{Pass}
 use Rattle.arc_owners.specs.Passes.{IsPassOfNone}
-use Rattle.arc_owners.specs.Pieces.{Owner, IsPassFor, MakesAnother, FindsFull, Asks, Leaves}
+use Rattle.arc_owners.specs.Pieces.{Owner, IsPassFor, MakesAnother, FindsFull}
 use Rattle.arc_block.specs.Owned.{Stand}
 use Rattle.arc_block.specs.Place.{Place, nowhere, static_data, on_block}
 

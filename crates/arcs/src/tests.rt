@@ -32,8 +32,13 @@ const CLONES_REPLIES: &[u8] = b"h0\nh1\nh2\nh3\nh4\n41\n41\nok\nh5\n41\n";
 const CLONES_IN_NEED: &[u8] =
     b"h0\nh1\nh2\nh3\nallocation error\n41\nno window\nok\nallocation error\nno window\n";
 
+/// A script that asks for a window alone on its block, with another owner beside it, and alone again, and its replies.
+const UNIQUE: &[u8] = b"slice 41\nuniq 0\nclone 0\nuniq 0\ndrop 1\nuniq 0\n";
+
+const UNIQUE_REPLIES: &[u8] = b"h0\nyes\nh1\nno\nok\nyes\n";
+
 /// Scripts, each with its replies.
-const SCRIPTS: [(&[u8], &[u8]); 18] = [
+const SCRIPTS: [(&[u8], &[u8]); 20] = [
     (HELLO, HELLO_REPLIES),
     (
         b"sub 0 0 1\nslice 0A\nslice -\nshow 0",
@@ -52,6 +57,11 @@ const SCRIPTS: [(&[u8], &[u8]); 18] = [
         b"no window\nh0\nh1\n-\nno window\n",
     ),
     (CLONES, CLONES_REPLIES),
+    (b"slice -\nuniq 0\n", b"h0\nno\n"),
+    (
+        b"uniq\nuniq x\nuniq 0 1\nuniq 5\n",
+        b"bad line\nbad line\nbad line\nno window\n",
+    ),
     (b"", b""),
     (b"\n", b"bad line\n"),
     (b"show  0\n", b"bad line\n"),
@@ -217,6 +227,11 @@ fn scripts(rt: HostRuntime) {
             "at {script:?}"
         );
     }
+}
+
+#[test]
+fn unique_or_not(rt: HostRuntime) {
+    assert!(rt; has_replies(&rt, rt.alloc(), UNIQUE, UNIQUE_REPLIES));
 }
 
 /// The longest line that is one, and the shortest lines that are too long.

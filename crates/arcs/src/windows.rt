@@ -6,7 +6,7 @@ ghost use Rattle.arc_block.specs.Owned.{IsKept};
 ghost use Rattle.arcs.specs.Entries.{stands_of};
 
 use crate::command::{Command, Reply};
-use crate::entry::{ByteWindow, Entry};
+use crate::entry::Entry;
 use crate::passes::Passes;
 use arc_owners::owners::Pass;
 use arc_read::slice::ArcSlice;
@@ -34,7 +34,7 @@ fn entry_at<A: Allocator + Copy>(entries: &[Option<Entry<A>>], i: usize) -> Opti
 }
 
 impl<A: Allocator + Copy> Windows<A> {
-    ghost use Rattle.std.specs.Prelude.{◌≡◌, ℕ, List, Some, None, MatchOption, slice_get};
+    ghost use Rattle.std.specs.Prelude.{◌≡◌, ℕ, List, Some, None, MatchOption, slice_get, slice_set};
     ghost use Rattle.std.specs.Option.{option_map, option_flatten};
     ghost use Rattle.arc_block.specs.Table.{empty_table, row_at};
     ghost use Rattle.arcs.specs.Step.{Step};
@@ -113,11 +113,11 @@ impl<A: Allocator + Copy> Windows<A> {
                 window,
                 block: None,
             }));
-        } else {
-            let block = Some(self.passes.of_blocks.len());
-            self.passes.of_blocks.push_reserved(pass);
-            self.entries.push_reserved(Some(Entry { window, block }));
+            return Reply::New(number);
         }
+        let block = Some(self.passes.of_blocks.len());
+        self.passes.of_blocks.push_reserved(pass);
+        self.entries.push_reserved(Some(Entry { window, block }));
         Reply::New(number)
     }
 
@@ -208,11 +208,12 @@ impl<A: Allocator + Copy> Windows<A> {
 
     /// The end of a window.
     fn release(&mut self, i: usize) -> Reply<Vec<u8, A>>
-        ensures { Step byte_setting (table_of self.old) (command.Drop i) (seen_reply result) (table_of self.new) }
+        ensures step { Step byte_setting (table_of self.old) (command.Drop i) (seen_reply result) (table_of self.new) }
+        ensures gone { (table_of self.new).rows ≡ slice_set (table_of self.old).rows i None }
     {
-        if entry_at(&self.entries, i).is_none() {
+        let Some(_) = entry_at(&self.entries, i) else {
             return Reply::NoWindow;
-        }
+        };
         let Some(entry) = mem::replace(&mut self.entries[i], None) else {
             unreachable!()
         };

@@ -34,6 +34,12 @@ fn commands(rt: HostRuntime) {
     );
     assert!(rt;
         matches!(
+            parse(rt.alloc(), b"uniq 7"),
+            Ok(Some(Command::Uniq { window: 7 }))
+        )
+    );
+    assert!(rt;
+        matches!(
             parse(rt.alloc(), b"show 999999999999999999"),
             Ok(Some(Command::Show {
                 window: 999_999_999_999_999_999
@@ -72,6 +78,9 @@ fn numbers(rt: HostRuntime) {
     assert!(rt; is_bad(&rt, b"show 1000000000000000000"));
     assert!(rt; is_bad(&rt, b"clone"));
     assert!(rt; is_bad(&rt, b"clone 1 2"));
+    assert!(rt; is_bad(&rt, b"uniq"));
+    assert!(rt; is_bad(&rt, b"uniq x"));
+    assert!(rt; is_bad(&rt, b"uniq 0 1"));
     assert!(rt; is_bad(&rt, b"sub 1 2"));
     assert!(rt; is_bad(&rt, b"sub 1 2 3 4"));
 }

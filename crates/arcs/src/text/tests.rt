@@ -24,6 +24,8 @@ fn each_reply(rt: HostRuntime) -> Result<(), AllocError> {
         )?
     );
     assert!(rt; writes(&rt, Some(Reply::Ok), b"ok\n")?);
+    assert!(rt; writes(&rt, Some(Reply::Yes), b"yes\n")?);
+    assert!(rt; writes(&rt, Some(Reply::No), b"no\n")?);
     assert!(rt; writes(&rt, Some(Reply::NoWindow), b"no window\n")?);
     assert!(rt;
         writes(

@@ -1,32 +1,49 @@
-use Rattle.std.proofs.Common.{rules, ◌≡◌, Some, None, MatchOption, slice_get, ℕ, List, ◌+◌, ◌-◌, ◌*◌, ◌<◌, ◌≤◌, length, ◌/◌, ◌%◌, Bool, true, false, nat_eq, nat_lt, [], ◌∷◌, ◌++◌, slice_index_or, slice_set, bit_and, bit_or, Fits, w8, w32, w64, Bor, MutBor}
-use Rattle.std.specs.Option.{option_flatten, option_map}
-use Rattle.arc_block.specs.declared.block.TheConstants.{MAX_OWNERS}
-use Rattle.arc_block.specs.Owned.{IsKept}
-use Rattle.arcs.specs.Entries.{stands_of}
-use Rattle.arc_block.specs.Table.{empty_table, row_at}
-use Rattle.arcs.specs.Step.{Step}
-use Rattle.arcs.specs.Script.{Answers, ByteTable, byte_setting}
-use Rattle.arcs.specs.Seen.{IsReadAs, seen_command, seen_reply}
-use Rattle.arcs.specs.Rows.{table_of}
-use Rattle.arcs.specs.declared.command.Command.TheVariants as command
+-- The row of the window is gone, and its owner has ended.
+use Rattle.std.proofs.Common.{None, Some, length, slice_get, slice_set, map, ap, sym, ◌∙◌}
+use Rattle.std.specs.Option.{option_map, option_flatten}
+use Rattle.arcs.specs.Entries.{row_of}
+use Rattle.arcs.proofs.Kept.{read-there, has-number, still-number, window-pass, gone, as-many}
+use Rattle.arcs.proofs.Tables.{dropped, map-slice_set, none-there}
 use Rattle.arcs.proofs.windows.Windows.release.Goals as goal
 
--- src/windows.rt:220:24
 pub lend-pass-requires : goal.lend-pass-requires
-lend-pass-requires g c = ?
+lend-pass-requires g c =
+    let got = ap (λ es. slice_get es c.args.i) (sym c.deref.ensures.value) ∙ c.in-Some.ensures in
+    let there = read-there c.args.self.now.entries.items c.args.i c.index_mut.result.now _ got c.index_mut.ensures.value ∙ ap Some (sym c.replace.ensures.value ∙ c.in-Some-replace.is) in
+    has-number c.args.self.now.entries.items c.args.self.now.passes.of_blocks.items c.args.i c.in-Some-replace.entry c.args.self.now.kept there
 
--- src/windows.rt:221:9
 pub release_as-requires-clause-pass : goal.release_as-requires-clause-pass
-release_as-requires-clause-pass g c κs within = ?
+release_as-requires-clause-pass g c κs within =
+    let got = ap (λ es. slice_get es c.args.i) (sym c.deref.ensures.value) ∙ c.in-Some.ensures in
+    let there = read-there c.args.self.now.entries.items c.args.i c.index_mut.result.now _ got c.index_mut.ensures.value ∙ ap Some (sym c.replace.ensures.value ∙ c.in-Some-replace.is) in
+    window-pass c.args.self.now.entries.items c.args.self.now.passes.of_blocks.items c.args.i c.in-Some-replace.entry c.args.self.now.kept there c.lend-pass.new.self.of_blocks.items c.lend-pass.result c.lend-pass.ensures
 
--- src/windows.rt:222:9
 pub give_back-requires : goal.give_back-requires
-give_back-requires g c = ?
+give_back-requires g c =
+    let got = ap (λ es. slice_get es c.args.i) (sym c.deref.ensures.value) ∙ c.in-Some.ensures in
+    let there = read-there c.args.self.now.entries.items c.args.i c.index_mut.result.now _ got c.index_mut.ensures.value ∙ ap Some (sym c.replace.ensures.value ∙ c.in-Some-replace.is) in
+    still-number c.args.self.now.entries.items c.args.self.now.passes.of_blocks.items c.args.i c.in-Some-replace.entry c.args.self.now.kept there c.lend-pass.new.self.of_blocks.items c.lend-pass.result c.lend-pass.ensures
 
--- src/windows.rt:222:9
 pub invariant_of-self : goal.invariant_of-self
-invariant_of-self g c = ?
+invariant_of-self g c =
+    let got = ap (λ es. slice_get es c.args.i) (sym c.deref.ensures.value) ∙ c.in-Some.ensures in
+    let there = read-there c.args.self.now.entries.items c.args.i c.index_mut.result.now _ got c.index_mut.ensures.value ∙ ap Some (sym c.replace.ensures.value ∙ c.in-Some-replace.is) in
+    record {
+      kept = gone c.args.self.now.entries.items c.args.self.now.passes.of_blocks.items c.args.i c.in-Some-replace.entry c.args.self.now.kept there c.lend-pass.new.self.of_blocks.items c.lend-pass.result c.lend-pass.ensures
+          c.release_as.new.pass c.give_back.new.self.of_blocks.items c.give_back.ensures (slice_set c.args.self.now.entries.items c.args.i c.replace.new.dest) (ap (slice_set c.args.self.now.entries.items c.args.i) c.replace.ensures.after) c.release_as.ensures;
+    }
 
--- src/windows.rt:210:5
-pub returns : goal.returns
-returns g c = ?
+pub returns-clause-step : goal.returns-clause-step
+returns-clause-step g c =
+    let got = ap (λ es. slice_get es c.args.i) (sym c.deref.ensures.value) ∙ c.in-Some.ensures in
+    let there = read-there c.args.self.now.entries.items c.args.i c.index_mut.result.now _ got c.index_mut.ensures.value ∙ ap Some (sym c.replace.ensures.value ∙ c.in-Some-replace.is) in
+    let many = as-many c.args.self.now.entries.items c.args.self.now.passes.of_blocks.items c.args.i c.in-Some-replace.entry c.args.self.now.kept there c.lend-pass.new.self.of_blocks.items c.lend-pass.result c.lend-pass.ensures c.release_as.new.pass c.give_back.new.self.of_blocks.items c.give_back.ensures in
+    dropped c.args.self.now.entries.items (length c.args.self.now.passes.of_blocks.items) c.args.i c.in-Some-replace.entry there (slice_set c.args.self.now.entries.items c.args.i c.replace.new.dest) (length c.give_back.new.self.of_blocks.items) many
+    (ap (slice_set c.args.self.now.entries.items c.args.i) c.replace.ensures.after)
+
+pub returns-clause-gone : goal.returns-clause-gone
+returns-clause-gone g c =
+    ap (map (option_map row_of)) (ap (slice_set c.args.self.now.entries.items c.args.i) c.replace.ensures.after) ∙ map-slice_set (option_map row_of) c.args.self.now.entries.items c.args.i None
+
+pub returns-in_default-clause-gone : goal.returns-in_default-clause-gone
+returns-in_default-clause-gone g c = none-there c.args.self.now.entries.items c.args.i (ap (λ es. option_flatten (slice_get es c.args.i)) (sym c.deref.ensures.value) ∙ c.in_default.ensures)

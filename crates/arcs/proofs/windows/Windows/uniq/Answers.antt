@@ -1,0 +1,41 @@
+-- Being alone, as the count says, is what the table says.
+use Rattle.std.proofs.Common.{true, false, length, slice_get, ap, sym, ◌∙◌}
+use Rattle.arcs.proofs.Kept.{has-number, still-number, window-pass, stays-asked, as-many, alone-told}
+use Rattle.arcs.proofs.Tables.{asked}
+use Rattle.arcs.proofs.windows.Windows.uniq.Goals as goal
+
+pub lend-pass-requires : goal.lend-pass-requires
+lend-pass-requires g c = has-number c.args.self.now.entries.items c.args.self.now.passes.of_blocks.items c.args.i c.in-Some.entry.now c.args.self.now.kept (ap (λ es. slice_get es c.args.i) (sym c.deref.ensures.value) ∙ c.in-Some.ensures)
+
+pub is_unique_as-alone-requires-clause-pass : goal.is_unique_as-alone-requires-clause-pass
+is_unique_as-alone-requires-clause-pass g c κs within =
+    window-pass c.args.self.now.entries.items c.args.self.now.passes.of_blocks.items c.args.i c.in-Some.entry.now c.args.self.now.kept (ap (λ es. slice_get es c.args.i) (sym c.deref.ensures.value) ∙ c.in-Some.ensures) c.lend-pass.new.self.of_blocks.items c.lend-pass.result c.lend-pass.ensures
+
+pub give_back-requires : goal.give_back-requires
+give_back-requires g c =
+    still-number c.args.self.now.entries.items c.args.self.now.passes.of_blocks.items c.args.i c.in-Some.entry.now c.args.self.now.kept (ap (λ es. slice_get es c.args.i) (sym c.deref.ensures.value) ∙ c.in-Some.ensures) c.lend-pass.new.self.of_blocks.items c.lend-pass.result c.lend-pass.ensures
+
+pub invariant_of-self-2 : goal.invariant_of-self-2
+invariant_of-self-2 g c =
+    record {
+      kept = stays-asked c.args.self.now.entries.items c.args.self.now.passes.of_blocks.items c.args.i c.in-Some.entry.now c.args.self.now.kept (ap (λ es. slice_get es c.args.i) (sym c.deref.ensures.value) ∙ c.in-Some.ensures) c.lend-pass.new.self.of_blocks.items c.lend-pass.result c.lend-pass.ensures
+          c.is_unique_as-alone.new.pass c.give_back.new.self.of_blocks.items c.give_back.ensures c.is_unique_as-alone.result c.is_unique_as-alone.ensures;
+    }
+
+pub returns-then-alone : goal.returns-then-alone
+returns-then-alone g c =
+    let there = ap (λ es. slice_get es c.args.i) (sym c.deref.ensures.value) ∙ c.in-Some.ensures in
+    let entries = c.args.self.now.entries.items in
+    let passes = c.args.self.now.passes.of_blocks.items in
+    let many = as-many entries passes c.args.i c.in-Some.entry.now c.args.self.now.kept there c.lend-pass.new.self.of_blocks.items c.lend-pass.result c.lend-pass.ensures c.is_unique_as-alone.new.pass c.give_back.new.self.of_blocks.items c.give_back.ensures in
+    let alone = alone-told entries passes c.args.i c.in-Some.entry.now c.args.self.now.kept there c.lend-pass.new.self.of_blocks.items c.lend-pass.result c.lend-pass.ensures c.is_unique_as-alone.new.pass c.is_unique_as-alone.result (length passes) c.is_unique_as-alone.ensures in
+    asked entries (length passes) c.args.i c.in-Some.entry.now there entries (length c.give_back.new.self.of_blocks.items) many true (alone ∙ c.if-alone.true)
+
+pub returns-else-alone : goal.returns-else-alone
+returns-else-alone g c =
+    let there = ap (λ es. slice_get es c.args.i) (sym c.deref.ensures.value) ∙ c.in-Some.ensures in
+    let entries = c.args.self.now.entries.items in
+    let passes = c.args.self.now.passes.of_blocks.items in
+    let many = as-many entries passes c.args.i c.in-Some.entry.now c.args.self.now.kept there c.lend-pass.new.self.of_blocks.items c.lend-pass.result c.lend-pass.ensures c.is_unique_as-alone.new.pass c.give_back.new.self.of_blocks.items c.give_back.ensures in
+    let alone = alone-told entries passes c.args.i c.in-Some.entry.now c.args.self.now.kept there c.lend-pass.new.self.of_blocks.items c.lend-pass.result c.lend-pass.ensures c.is_unique_as-alone.new.pass c.is_unique_as-alone.result (length passes) c.is_unique_as-alone.ensures in
+    asked entries (length passes) c.args.i c.in-Some.entry.now there entries (length c.give_back.new.self.of_blocks.items) many false (alone ∙ c.if-alone.false)
