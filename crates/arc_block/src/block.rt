@@ -152,3 +152,6 @@ impl<S: Slice, A: Allocator, const MAX: u64> Block<S, A, MAX, Open> {
         self.piece.pass()
     }
 }
+
+#[cfg(test)]
+mod tests;
