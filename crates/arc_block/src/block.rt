@@ -161,3 +161,6 @@ impl<S: Slice, A: Allocator + Copy, const MAX: u64> Block<S, A, MAX, Open> {
         self.piece.pass()
     }
 }
+
+#[cfg(test)]
+mod tests;

@@ -1,0 +1,82 @@
+use super::*;
+use arc_buffer::kinds::Plain;
+use linked_list_allocator::LocalHeap;
+use std::test::Fail;
+
+#[test]
+fn shared_up_to_three(rt: HostRuntime) -> Result<(), Fail> {
+    let (first, mut pass) = Block::<Plain<u8>, _, 3, Open>::try_from_slice(rt.alloc(), b"Hello")?;
+    assert_eq!(rt; first.as_slice(), b"Hello".as_slice());
+    assert_eq!(rt; first.size(), 5);
+    assert!(rt; first.is_unique_as(&mut pass));
+    let second = first.try_share_as(&rt, &mut pass)?;
+    let third = second.try_share_as(&rt, &mut pass)?;
+    assert!(rt; matches!(third.try_share_as(&rt, &mut pass), Err(CountFull)));
+    assert!(rt; !first.is_unique_as(&mut pass));
+    assert!(rt; !first.release_as(&mut pass));
+    let fourth = third.try_share_as(&rt, &mut pass)?;
+    assert!(rt; !second.release_as(&mut pass));
+    assert!(rt; !third.release_as(&mut pass));
+    assert!(rt; fourth.is_unique_as(&mut pass));
+    assert_eq!(rt; fourth.as_slice(), b"Hello".as_slice());
+    assert_eq!(rt; fourth.size(), 5);
+    assert!(rt; fourth.release_as(&mut pass));
+    Ok(())
+}
+
+#[test]
+fn items_taken_back_where_alone(rt: HostRuntime) -> Result<(), Fail> {
+    let (first, mut pass) = Block::<Plain<u8>, _, 3, Open>::try_from_slice(rt.alloc(), b"Hello")?;
+    let second = first.try_share_as(&rt, &mut pass)?;
+    let Err(first) = first.try_into_items_as(&mut pass) else {
+        return Err("beside another owner".into());
+    };
+    let mut other = second.pass();
+    assert!(rt; !second.release_as(&mut other));
+    first.learn(&mut pass, &other);
+    let Ok(items) = first.try_into_items_as(&mut pass) else {
+        return Err("alone".into());
+    };
+    assert_eq!(rt; items.as_slice(), b"Hello".as_slice());
+    assert_eq!(rt; items.capacity(), 5);
+    Ok(())
+}
+
+/// A heap of its own, larger each time: at first it has no room for the items, then none for the count beside them, and then it has.
+/// All memory is given back each time.
+#[test]
+fn memory_refused(rt: HostRuntime) -> Result<(), Fail> {
+    let items = [7u8; 40];
+    let mut refused_items = 0u64;
+    let mut refused_count = 0u64;
+    let mut made = 0u64;
+    for blocks in 2..16usize {
+        let heap = LocalHeap::new(rt.alloc(), blocks * 16)?;
+        let has_room = Vec::from_slice(&heap, &items).is_ok();
+        match Block::<Plain<u8>, _, 3, Open>::try_from_slice(&heap, &items) {
+            Ok((block, mut pass)) => {
+                let other = block.try_share_as(&rt, &mut pass)?;
+                let taken = heap.used();
+                drop(block);
+                assert_eq!(rt; heap.used(), taken, "in {blocks} blocks");
+                assert_eq!(rt; other.as_slice(), items.as_slice(), "in {blocks} blocks");
+                drop(other);
+                made = made.saturating_add(1);
+            }
+            Err(error) => {
+                assert_eq!(rt; error, AllocError);
+                if has_room {
+                    refused_count = refused_count.saturating_add(1);
+                } else {
+                    refused_items = refused_items.saturating_add(1);
+                }
+            }
+        }
+        assert_eq!(rt; heap.used(), 0, "in {blocks} blocks");
+    }
+    assert!(rt;
+        0 < refused_items && 0 < refused_count && 0 < made,
+        "{refused_items} and {refused_count} were refused, and {made} made"
+    );
+    Ok(())
+}
