@@ -117,7 +117,7 @@ impl<S: Slice, A: Allocator + Copy, const MAX: u64, H: Mark> Block<S, A, MAX, H>
     /// and Alone was added with no. Takes no memory.
     pub fn try_into_items_as(self, pass: &mut Pass<H>) -> Result<Vec<S::Item, A>, Self>
         requires pass { IsPassFor self.owner pass.old }
-        ensures alone { IfOk result (λ items. (items.items ≡ self.items) × TakesBlock self.owner pass.old pass.new) }
+        ensures alone { IfOk result (λ items. (items.items ≡ self.items) × (vec_capacity items ≡ self.facts.size) × TakesBlock self.owner pass.old pass.new) }
         ensures others { IfErr result (λ back. (back ≡ self) × Asks self.owner pass.old pass.new false) }
     {
         let Block { piece } = self;

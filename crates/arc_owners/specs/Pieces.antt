@@ -73,6 +73,12 @@ module _ {H : Type 0} where
     pub asked : Asks o old middle true
     pub left : Leaves o middle new true
 
+  -- this owner ended with a new pass, which this one is afterwards, and whether it was the last one
+  pub record EndsWithNew (o : Owner) (after : Pass H) (last : Bool) : Type 0 where
+    pub new : Pass H
+    pub made : IsNewPass o new
+    pub left : Leaves o new after last
+
 module _ {V A H : Type 0} {MAX : ℕ} {G : Ghosts H} where
   -- the owner that a piece is, and its value
   abbrev pub owner_of : Piece V A MAX H G → Owner

@@ -42,7 +42,7 @@ pub struct Piece<V: Drop, A: Allocator + Copy, const MAX: u64, H: Mark = Open> {
 
 impl<V: Drop, A: Allocator + Copy, const MAX: u64, H: Mark> Piece<V, A, MAX, H> {
     ghost use Rattle.std.specs.Prelude.{◌≡◌, ◌≤◌, IfOk, IfErr, IfSome, is_some, true, false, None};
-    ghost use Rattle.arc_owners.specs.Pieces.{owner_of, value_of, IsFirst, IsPassFor, IsFreshPass, IsNewPass, Learns, Asks, FindsFull, MakesAnother, Leaves, TakesBlock};
+    ghost use Rattle.arc_owners.specs.Pieces.{owner_of, value_of, IsFirst, IsPassFor, IsFreshPass, IsNewPass, Learns, Asks, FindsFull, MakesAnother, Leaves, TakesBlock, EndsWithNew};
 
     /// The first owner of a value, with a pass of its block. Takes memory, for the value and the count together; refused, the value
     /// comes back. `MAX`, at least 2, is how many owners may live at once.
@@ -171,9 +171,11 @@ impl<V: Drop, A: Allocator + Copy, const MAX: u64, H: Mark> Piece<V, A, MAX, H> 
 
     /// What a drop does: under `Open` this owner ends with a new pass, and the last one gets the value; under `Whole` it is forgotten,
     /// without a step. Takes no memory.
-    pub fn let_go(self) -> Option<V>
-        ensures value { IfSome result (λ value. value ≡ value_of self) }
-        ensures forgotten { H.whole ≡ true → result ≡ None }
+    /// The pass is the one that the owner ended with; under `Whole` it is of no block.
+    pub fn let_go(self) -> (Option<V>, Pass<H>)
+        ensures value { IfSome result.0 (λ value. value ≡ value_of self) }
+        ensures forgotten { H.whole ≡ true → result.0 ≡ None }
+        ensures ended { H.whole ≡ false → EndsWithNew (owner_of self) result.1 (is_some result.0) }
     {
         if H::is_whole() {
             let Piece {
@@ -185,13 +187,14 @@ impl<V: Drop, A: Allocator + Copy, const MAX: u64, H: Mark> Piece<V, A, MAX, H> 
                 kept: _,
                 share: _,
             } = self;
-            return None;
+            return (None, Pass::none());
         }
         let mut pass = Pass {
             trace: self.share.right.fork(),
             mark: PhantomData,
         };
-        self.release_as(&mut pass)
+        let value = self.release_as(&mut pass);
+        (value, pass)
     }
 
     /// Afterwards the first pass has seen at least what the other had. It adds no entry and takes no memory.
