@@ -13,7 +13,6 @@ mod piece;
 mod raw;
 mod replays;
 mod sole;
-mod spot;
 mod tokens;
 mod word;
 mod world;

@@ -6,7 +6,6 @@ use super::home::Room;
 use super::kept::Kept;
 use super::lent::Lent;
 use super::loan::Loan;
-use super::spot::Spot;
 use super::tokens::{Owners, Pass, Release, Share};
 use super::word::Lodging;
 use crate::error::CountFull;
@@ -26,18 +25,18 @@ pub struct Housed<V: Drop, A: Allocator + Copy> {
 ///
 /// Dropped, it ends with a new pass under the mark `Open`. Under `Whole` it is a forgotten owner: the memory stays for good.
 pub struct Piece<V: Drop, A: Allocator + Copy, const MAX: u64, H: Mark = Open> {
-    pub(super) at: Spot<Room<Housed<V, A>>>,
-    pub(super) word: Spot<u64>,
-    pub(super) value: Spot<Housed<V, A>>,
+    pub(super) at: *const Room<Housed<V, A>>,
+    pub(super) word: *const u64,
+    pub(super) value: *const Housed<V, A>,
     pub(super) lodging: Lodging,
     pub(super) loan: Loan<Housed<V, A>>,
     pub(super) kept: Kept<Room<Housed<V, A>>, A>,
     pub(super) share: Share<H>,
     ghost greatest: { lodging.names.most ≡ MAX },
     ghost counted: { share.right.names ≡ lodging.names },
-    ghost lodged: { (lodging.at ≡ word.place) × (lodging.lifetime ≡ share.right.lease.lifetime) },
-    ghost shown: { (loan.at ≡ value.place) × (loan.lifetime ≡ share.right.lease.lifetime) },
-    ghost comes_back: { (kept.at ≡ at.place) × (kept.alloc ≡ loan.value.alloc) × (kept.lease ≡ share.right.lease) × (kept.value.value ≡ loan.value) },
+    ghost lodged: { (lodging.at ≡ word) × (lodging.lifetime ≡ share.right.lease.lifetime) },
+    ghost shown: { (loan.at ≡ value) × (loan.lifetime ≡ share.right.lease.lifetime) },
+    ghost comes_back: { (kept.at ≡ at) × (kept.alloc ≡ loan.value.alloc) × (kept.lease ≡ share.right.lease) × (kept.value.value ≡ loan.value) },
 }
 
 impl<V: Drop, A: Allocator + Copy, const MAX: u64, H: Mark> Piece<V, A, MAX, H> {
@@ -71,9 +70,9 @@ impl<V: Drop, A: Allocator + Copy, const MAX: u64, H: Mark> Piece<V, A, MAX, H> 
         };
         Ok((
             Piece {
-                at: Spot { place: at },
-                word: Spot { place: word },
-                value: Spot { place: value },
+                at,
+                word,
+                value,
                 lodging,
                 loan,
                 kept,
@@ -94,7 +93,7 @@ impl<V: Drop, A: Allocator + Copy, const MAX: u64, H: Mark> Piece<V, A, MAX, H> 
     fn housed(&self) -> &Housed<V, A>
         ensures { result.now ≡ self.now.loan.value }
     {
-        unsafe { self.loan.get(self.value.place, &self.share.right) }
+        unsafe { self.loan.get(self.value, &self.share.right) }
     }
 
     /// Whether no other owner lives, by one load. Adds Alone with the answer. Takes no memory.
@@ -102,7 +101,7 @@ impl<V: Drop, A: Allocator + Copy, const MAX: u64, H: Mark> Piece<V, A, MAX, H> 
         requires pass { IsPassFor (owner_of self.now) pass.old }
         ensures entry { Asks (owner_of self.now) pass.old pass.new result }
     {
-        unsafe { Owners::<MAX, H>::alone_raw(self.word.place, &self.lodging, &self.share, pass) }
+        unsafe { Owners::<MAX, H>::alone_raw(self.word, &self.lodging, &self.share, pass) }
     }
 
     /// The value back, and the memory to its allocator, where no other owner lives: adds Alone, then the Down of this one. Else it is
@@ -124,9 +123,9 @@ impl<V: Drop, A: Allocator + Copy, const MAX: u64, H: Mark> Piece<V, A, MAX, H> 
             kept,
             share,
         } = self;
-        match unsafe { Owners::<MAX, H>::claim_raw(word.place, &lodging, share, pass) } {
+        match unsafe { Owners::<MAX, H>::claim_raw(word, &lodging, share, pass) } {
             Ok((sole, term)) => {
-                let memory = unsafe { kept.take(at.place.cast_mut(), alloc, term) };
+                let memory = unsafe { kept.take(at.cast_mut(), alloc, term) };
                 let Room { word: _, value } = Box::into_inner(memory.into_box());
                 sole.end_as(pass);
                 Ok(value.value)
@@ -159,9 +158,9 @@ impl<V: Drop, A: Allocator + Copy, const MAX: u64, H: Mark> Piece<V, A, MAX, H> 
             kept,
             share,
         } = self;
-        match unsafe { Owners::<MAX, H>::down_raw(word.place, &lodging, share, pass) } {
+        match unsafe { Owners::<MAX, H>::down_raw(word, &lodging, share, pass) } {
             Release::Last(term) => {
-                let memory = unsafe { kept.take(at.place.cast_mut(), alloc, term) };
+                let memory = unsafe { kept.take(at.cast_mut(), alloc, term) };
                 let Room { word: _, value } = Box::into_inner(memory.into_box());
                 Some(value.value)
             }
@@ -221,12 +220,12 @@ impl<V: Drop, A: Allocator + Copy, const MAX: u64, H: Mark> Piece<V, A, MAX, H> 
         ensures full { IfErr result (λ _. FindsFull (owner_of self.now) pass.old pass.new) }
     {
         let share = unsafe {
-            Owners::<MAX, H>::up_raw(self.word.place, rt, &self.lodging, &self.share, pass)?
+            Owners::<MAX, H>::up_raw(self.word, rt, &self.lodging, &self.share, pass)?
         };
         Ok(Piece {
-            at: self.at.again(),
-            word: self.word.again(),
-            value: self.value.again(),
+            at: self.at,
+            word: self.word,
+            value: self.value,
             lodging: self.lodging.again(),
             loan: self.loan.again(),
             kept: self.kept.again(),
@@ -255,3 +254,9 @@ impl<V: Drop, A: Allocator + Copy, const MAX: u64, H: Mark> Drop for Piece<V, A,
         drop(self.let_go());
     }
 }
+
+unsafe impl<V: Drop + Send + Sync, A: Allocator + Copy + Send, const MAX: u64, H: Mark> Send
+    for Piece<V, A, MAX, H> {}
+
+unsafe impl<V: Drop + Send + Sync, A: Allocator + Copy + Send, const MAX: u64, H: Mark> Sync
+    for Piece<V, A, MAX, H> {}
