@@ -87,7 +87,7 @@ fn memory_given_back_once(rt: HostRuntime) -> Result<(), Fail> {
 
 #[test]
 fn value_handed_back_without_memory(rt: HostRuntime) -> Result<(), Fail> {
-    let heap = LocalHeap::new(rt.alloc(), 32)?;
+    let heap = LocalHeap::new(rt.alloc(), 48)?;
     let Ok((first, mut pass)) = Piece::<[u64; 3], _, 3, Open>::new(&heap, [1, 2, 3]) else {
         return Err(AllocError.into());
     };
