@@ -37,6 +37,12 @@ const UNIQUE: &[u8] = b"slice 41\nuniq 0\nclone 0\nuniq 0\ndrop 1\nuniq 0\n";
 
 const UNIQUE_REPLIES: &[u8] = b"h0\nyes\nh1\nno\nok\nyes\n";
 
+/// A script that makes windows, clones and cuts on two blocks and on none and drops only some, and its replies.
+const LEFT: &[u8] = b"slice 4142434445\nslice 6162\nclone 0\nsub 0 1 4\nsub 3 0 2\nclone 1\nslice -\nuniq 0\ndrop 0\ndrop 1\nsub 3 1 1\nuniq 5\nuniq 3\nshow 4\n";
+
+const LEFT_REPLIES: &[u8] =
+    b"h0\nh1\nh2\nh3\nh4\nh5\nh6\nno\nok\nok\nh7\nyes\nno\n4243\n";
+
 /// Scripts, each with its replies.
 const SCRIPTS: [(&[u8], &[u8]); 20] = [
     (HELLO, HELLO_REPLIES),
@@ -178,9 +184,9 @@ impl Write for Taken {
 }
 
 /// Runs a script over memory.
-fn run(
+fn run<A: Allocator + Copy>(
     rt: &impl Wait,
-    alloc: Global,
+    alloc: A,
     reader: &mut Pieces,
     writer: &mut Taken,
 ) -> Result<(), ScriptError> {
@@ -507,6 +513,36 @@ fn line_refused(rt: HostRuntime) -> Result<(), Fail> {
         assert_eq!(rt; writer.bytes.as_slice(), text, "in {size} bytes");
         assert_eq!(rt; faults.bytes.as_slice(), told, "in {size} bytes");
         assert_eq!(rt; heap.used(), 0, "in {size} bytes");
+    }
+    Ok(())
+}
+
+/// Every piece of memory is given back at the end of a run, whatever windows are left: after the last line, and where a read or a
+/// write fails in mid-stream.
+#[test]
+fn given_back(rt: HostRuntime) -> Result<(), Fail> {
+    let heap = LocalHeap::new(rt.alloc(), 200_000)?;
+    assert_eq!(rt; heap.used(), 0);
+    let mut reader = Pieces::new(LEFT, 5);
+    let mut writer = Taken::new(rt.alloc(), 2);
+    assert_eq!(rt; run(&rt, &heap, &mut reader, &mut writer), Ok(()));
+    assert_eq!(rt; writer.bytes.as_slice(), LEFT_REPLIES);
+    assert_eq!(rt; heap.used(), 0, "at the end");
+    for call in 1..=reader.calls {
+        let mut reader = Pieces::failing(LEFT, 5, call);
+        let mut writer = Taken::new(rt.alloc(), 2);
+        let ran = run(&rt, &heap, &mut reader, &mut writer);
+        assert_eq!(rt; ran, Err(ScriptError::Read), "at read {call}");
+        assert!(rt; LEFT_REPLIES.starts_with(&writer.bytes), "at read {call}");
+        assert_eq!(rt; heap.used(), 0, "at read {call}");
+    }
+    for call in 1..=writer.calls {
+        let mut reader = Pieces::new(LEFT, 5);
+        let mut writer = Taken::failing(rt.alloc(), 2, call);
+        let ran = run(&rt, &heap, &mut reader, &mut writer);
+        assert_eq!(rt; ran, Err(ScriptError::Write), "at write {call}");
+        assert!(rt; LEFT_REPLIES.starts_with(&writer.bytes), "at write {call}");
+        assert_eq!(rt; heap.used(), 0, "at write {call}");
     }
     Ok(())
 }
