@@ -38,10 +38,10 @@ const UNIQUE: &[u8] = b"slice 41\nuniq 0\nclone 0\nuniq 0\ndrop 1\nuniq 0\n";
 const UNIQUE_REPLIES: &[u8] = b"h0\nyes\nh1\nno\nok\nyes\n";
 
 /// A script that makes windows, clones and cuts on two blocks and on none and drops only some, and its replies.
-const LEFT: &[u8] = b"slice 4142434445\nslice 6162\nclone 0\nsub 0 1 4\nsub 3 0 2\nclone 1\nslice -\nuniq 0\ndrop 0\ndrop 1\nsub 3 1 1\nuniq 5\nuniq 3\nshow 4\n";
+const LEFT: &[u8] =
+    b"slice 4142434445\nslice 6162\nclone 0\nsub 0 1 4\nsub 3 0 2\nclone 1\nslice -\nuniq 0\ndrop 0\ndrop 1\nsub 3 1 1\nuniq 5\nuniq 3\nshow 4\n";
 
-const LEFT_REPLIES: &[u8] =
-    b"h0\nh1\nh2\nh3\nh4\nh5\nh6\nno\nok\nok\nh7\nyes\nno\n4243\n";
+const LEFT_REPLIES: &[u8] = b"h0\nh1\nh2\nh3\nh4\nh5\nh6\nno\nok\nok\nh7\nyes\nno\n4243\n";
 
 /// Scripts, each with its replies.
 const SCRIPTS: [(&[u8], &[u8]); 20] = [

@@ -1,6 +1,10 @@
+ghost use Rattle.std.specs.Prelude.{IfOk};
+ghost use Rattle.arc_read.specs.Steps.{IsPassAt};
+
 use super::*;
 use arc_block::layout::ArcLayout;
 use arc_buffer::kinds::Plain;
+use linked_list_allocator::LocalHeap;
 use std::test::Fail;
 use std::thread;
 
@@ -50,5 +54,167 @@ fn read_and_cloned_by_two_threads(rt: HostRuntime) -> Result<(), Fail> {
         move || other.as_slice().len(),
     );
     assert_eq!(rt; (one, two), (3, 3));
+    Ok(())
+}
+
+#[test]
+fn array_taken_back(rt: HostRuntime) -> Result<(), Fail> {
+    let Ok(window) = ArcSlice::<Plain<u32>>::try_from_array(rt.alloc(), [1, 2, 3]) else {
+        return Err("no memory".into());
+    };
+    let Err(window) = window.try_into_array::<2>() else {
+        return Err("two of three items".into());
+    };
+    let clone = window.try_clone(&rt)?;
+    let Err(window) = window.try_into_array::<3>() else {
+        return Err("beside a clone".into());
+    };
+    assert_eq!(rt; window.as_slice(), [1, 2, 3].as_slice());
+    drop(clone);
+    let Ok(array) = window.try_into_array::<3>() else {
+        return Err("alone".into());
+    };
+    assert_eq!(rt; array, [1, 2, 3]);
+    let none: ArcSlice<Plain<u32>> = ArcSlice::new(rt.alloc());
+    assert!(rt; none.try_into_array::<0>().is_err());
+    Ok(())
+}
+
+#[test]
+fn alone_or_not(rt: HostRuntime) -> Result<(), Fail> {
+    let none: ArcSlice<Plain<u32>> = ArcSlice::new(rt.alloc());
+    assert!(rt; !none.is_unique());
+    let window: ArcSlice<Plain<u32>> = ArcSlice::try_from_slice(rt.alloc(), &[1, 2, 3])?;
+    assert!(rt; window.is_unique());
+    let clone = window.try_clone(&rt)?;
+    assert!(rt; !window.is_unique());
+    assert!(rt; !clone.is_unique());
+    window.drop_with_unique_hint();
+    assert!(rt; clone.is_unique());
+    clone.drop_with_unique_hint();
+    Ok(())
+}
+
+#[test]
+fn calls_on_no_block(rt: HostRuntime) -> Result<(), Fail> {
+    let none: ArcSlice<Plain<u32>> = ArcSlice::new(rt.alloc());
+    let mut pass = Pass::none();
+    let clone = none.try_clone_as(&rt, &mut pass)?;
+    assert!(rt; clone.is_empty());
+    assert!(rt; !none.is_unique_as(&mut pass));
+    none.learn(&mut pass, &none.pass());
+    none.release_as(&mut pass);
+    let other: ArcSlice<Plain<u32>> = ArcSlice::new(rt.alloc());
+    other.drop_with_unique_hint_as(&mut pass);
+    let last: ArcSlice<Plain<u32>> = ArcSlice::new(rt.alloc());
+    assert!(rt; last.try_into_array_as::<0>(&mut pass).is_err());
+    Ok(())
+}
+
+/// A window, a clone and a cut end in each order, and the block is given back with the last.
+#[test]
+fn memory_given_back_once(rt: HostRuntime) -> Result<(), Fail> {
+    let heap = LocalHeap::new(rt.alloc(), 1024)?;
+    let before = heap.used();
+    for order in 0..6u32 {
+        let window: ArcSlice<Plain<u32>, DefaultLayout, &LocalHeap> = ArcSlice::try_from_slice(
+            &heap,
+            &[1, 2, 3],
+        )?;
+        let taken = heap.used();
+        assert!(rt; before < taken);
+        let clone = window.try_clone(&rt)?;
+        assert_eq!(rt; window.check_range(1, 3), Ok(()));
+        let cut = window.try_subslice(&rt, 1, 3)?;
+        assert_eq!(rt; heap.used(), taken);
+        let (first, second, third) = match order {
+            0 => (window, clone, cut),
+            1 => (window, cut, clone),
+            2 => (clone, window, cut),
+            3 => (clone, cut, window),
+            4 => (cut, window, clone),
+            _ => (cut, clone, window),
+        };
+        drop(first);
+        assert_eq!(rt; heap.used(), taken);
+        second.drop_with_unique_hint();
+        assert_eq!(rt; heap.used(), taken);
+        if order < 3 {
+            drop(third);
+        } else {
+            third.drop_with_unique_hint();
+        }
+        assert_eq!(rt; heap.used(), before);
+    }
+    Ok(())
+}
+
+/// With more and more memory filled beforehand each request is refused in turn, and what was taken is given back.
+#[test]
+fn memory_refused(rt: HostRuntime) -> Result<(), Fail> {
+    let mut refused = 0u32;
+    for units in 1..17usize {
+        let heap = LocalHeap::new(rt.alloc(), units * 16)?;
+        let before = heap.used();
+        let made = ArcSlice::<Plain<u64>, DefaultLayout, &LocalHeap>::try_from_slice(
+            &heap,
+            &[1, 2, 3],
+        );
+        if made.is_err() {
+            refused = refused.wrapping_add(1);
+            assert_eq!(rt; heap.used(), before);
+        }
+        drop(made);
+        assert_eq!(rt; heap.used(), before);
+        match ArcSlice::<Plain<u64>, DefaultLayout, &LocalHeap>::try_from_array(&heap, [1, 2, 3]) {
+            Ok(window) => drop(window),
+            Err(back) => assert_eq!(rt; back, [1, 2, 3]),
+        }
+        assert_eq!(rt; heap.used(), before);
+    }
+    assert!(rt; 2 <= refused && refused < 16);
+    Ok(())
+}
+
+/// A clone of the window, with a pass of its own.
+fn cloned<R: Wait>(
+    rt: &R,
+    window: &ArcSlice<Plain<u32>>,
+) -> Result<(ArcSlice<Plain<u32>>, Pass<Open>), OwnerError>
+    ensures { IfOk result (λ r. IsPassAt r.0.place r.1 × IsPassAt window.now.place r.1) }
+{
+    let clone = window.try_clone(rt)?;
+    let pass = clone.pass();
+    Ok((clone, pass))
+}
+
+/// Ends a window that stands where the first one does, and hands the pass back.
+fn ended(first: &ArcSlice<Plain<u32>>, window: ArcSlice<Plain<u32>>, pass: Pass<Open>) -> Pass<Open>
+    requires { IsPassAt first.now.place pass × IsPassAt window.place pass }
+    ensures { IsPassAt first.now.place result }
+{
+    let _ = first;
+    let mut pass = pass;
+    window.release_as(&mut pass);
+    pass
+}
+
+/// A second thread ends a clone with a pass of its own, from which this one learns at the join that it is alone.
+#[test]
+fn ended_by_another_thread(rt: HostRuntime) -> Result<(), Fail> {
+    let window: ArcSlice<Plain<u32>> = ArcSlice::try_from_slice(rt.alloc(), &[1, 2, 3])?;
+    let (clone, other) = cloned(&rt, &window)?;
+    let mut own = window.pass();
+    let (other, len) = thread::join(
+        &rt,
+        || -> Pass<Open>
+            requires { IsPassAt window.place other × IsPassAt clone.place other }
+            ensures { IsPassAt window.place result }
+        { ended(&window, clone, other) },
+        || window.as_slice().len(),
+    );
+    assert_eq!(rt; len, 3);
+    window.learn(&mut own, &other);
+    assert!(rt; window.is_unique_as(&mut own));
     Ok(())
 }
