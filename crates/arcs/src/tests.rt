@@ -528,7 +528,8 @@ fn given_back(rt: HostRuntime) -> Result<(), Fail> {
     assert_eq!(rt; run(&rt, &heap, &mut reader, &mut writer), Ok(()));
     assert_eq!(rt; writer.bytes.as_slice(), LEFT_REPLIES);
     assert_eq!(rt; heap.used(), 0, "at the end");
-    for call in 1..=reader.calls {
+    for before in 0..reader.calls {
+        let call = before + 1;
         let mut reader = Pieces::failing(LEFT, 5, call);
         let mut writer = Taken::new(rt.alloc(), 2);
         let ran = run(&rt, &heap, &mut reader, &mut writer);
@@ -536,7 +537,8 @@ fn given_back(rt: HostRuntime) -> Result<(), Fail> {
         assert!(rt; LEFT_REPLIES.starts_with(&writer.bytes), "at read {call}");
         assert_eq!(rt; heap.used(), 0, "at read {call}");
     }
-    for call in 1..=writer.calls {
+    for before in 0..writer.calls {
+        let call = before + 1;
         let mut reader = Pieces::new(LEFT, 5);
         let mut writer = Taken::failing(rt.alloc(), 2, call);
         let ran = run(&rt, &heap, &mut reader, &mut writer);
