@@ -1,6 +1,6 @@
 -- What a call does to the pass of its window's block. A window that stands on no block has a pass of no block, and its calls add
 -- nothing.
-use Rattle.std.specs.Prelude.{◌≡◌, ℕ, Bool, false, List}
+use Rattle.std.specs.Prelude.{◌⊎◌, ◌≡◌, ℕ, Bool, false, List}
 use Rattle.arc_owners.specs.declared.owners.tokens.Pass.{Pass}
 use Rattle.arc_owners.specs.declared.mark.Open.{Open}
 use Rattle.arc_owners.specs.Passes.{IsPassOfNone}
@@ -52,11 +52,11 @@ module _ {M H : Type 0} where
   LeavesAt static_data old new = new ≡ old
   LeavesAt (on_block owner offset facts) old new = (last : Bool) × Leaves owner old new last
 
-  -- the window asked whether it is alone, and ended
+  -- the window asked whether it is alone, and ended: as the last owner, without a further step, where it was, else by counting down
   abbrev pub AsksAndLeavesAt : Place Owner M → Pass H → Pass H → Type 0
   AsksAndLeavesAt nowhere old new = new ≡ old
   AsksAndLeavesAt static_data old new = new ≡ old
-  AsksAndLeavesAt (on_block owner offset facts) old new = (middle : Pass H) × (found : Bool) × Asks owner old middle found × (last : Bool) × Leaves owner middle new last
+  AsksAndLeavesAt (on_block owner offset facts) old new = TakesBlock owner old new ⊎ ((middle : Pass H) × Asks owner old middle false × (last : Bool) × Leaves owner middle new last)
 
   -- the window was found alone, and its block was taken back
   abbrev pub TakesAt : Place Owner M → Pass H → Pass H → Type 0

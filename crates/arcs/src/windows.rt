@@ -87,9 +87,11 @@ impl<A: Allocator + Copy> Windows<A> {
         }
     }
 
-    /// Releases every window that is left, so that each block is given back.
+    /// Releases every window that is left, so that each block is given back. The passes stay: with no row left, none of their blocks has a
+    /// live owner.
     pub fn end(&mut self)
-        ensures { (i : ℕ) → row_at (table_of self.new) i ≡ None }
+        ensures gone { (i : ℕ) → row_at (table_of self.new) i ≡ None }
+        ensures blocks { (table_of self.new).blocks ≡ (table_of self.old).blocks }
     {
         for i in 0..self.entries.len() {
             let _ = self.release(i);
@@ -210,6 +212,7 @@ impl<A: Allocator + Copy> Windows<A> {
     fn release(&mut self, i: usize) -> Reply<Vec<u8, A>>
         ensures step { Step byte_setting (table_of self.old) (command.Drop i) (seen_reply result) (table_of self.new) }
         ensures gone { (table_of self.new).rows ≡ slice_set (table_of self.old).rows i None }
+        ensures blocks { (table_of self.new).blocks ≡ (table_of self.old).blocks }
     {
         let Some(_) = entry_at(&self.entries, i) else {
             return Reply::NoWindow;

@@ -41,6 +41,7 @@ pub struct Piece<V: Drop, A: Allocator + Copy, const MAX: u64, H: Mark = Open> {
 
 impl<V: Drop, A: Allocator + Copy, const MAX: u64, H: Mark> Piece<V, A, MAX, H> {
     ghost use Rattle.std.specs.Prelude.{◌≡◌, ◌≤◌, IfOk, IfErr, IfSome, is_some, true, false, None};
+    ghost use Rattle.arc_owners.specs.Passes.{IsPassOfNone};
     ghost use Rattle.arc_owners.specs.Pieces.{owner_of, value_of, IsFirst, IsPassFor, IsFreshPass, IsNewPass, Learns, Asks, FindsFull, MakesAnother, Leaves, TakesBlock, EndsWithNew};
 
     /// The first owner of a value, with a pass of its block. Takes memory, for the value and the count together; refused, the value
@@ -173,7 +174,7 @@ impl<V: Drop, A: Allocator + Copy, const MAX: u64, H: Mark> Piece<V, A, MAX, H> 
     /// The pass is the one that the owner ended with; under `Whole` it is of no block.
     pub fn let_go(self) -> (Option<V>, Pass<H>)
         ensures value { IfSome result.0 (λ value. value ≡ value_of self) }
-        ensures forgotten { H.whole ≡ true → result.0 ≡ None }
+        ensures forgotten { H.whole ≡ true → (result.0 ≡ None) × IsPassOfNone result.1 }
         ensures ended { H.whole ≡ false → EndsWithNew (owner_of self) result.1 (is_some result.0) }
     {
         if H::is_whole() {

@@ -41,6 +41,12 @@ returns-clause-step g c =
     dropped c.args.self.now.entries.items (length c.args.self.now.passes.of_blocks.items) c.args.i c.in-Some-replace.entry there (slice_set c.args.self.now.entries.items c.args.i c.replace.new.dest) (length c.give_back.new.self.of_blocks.items) many
     (ap (slice_set c.args.self.now.entries.items c.args.i) c.replace.ensures.after)
 
+pub returns-clause-blocks : goal.returns-clause-blocks
+returns-clause-blocks g c =
+    let got = ap (λ es. slice_get es c.args.i) (sym c.deref.ensures.value) ∙ c.in-Some.ensures in
+    let there = read-there c.args.self.now.entries.items c.args.i c.index_mut.result.now _ got c.index_mut.ensures.value ∙ ap Some (sym c.replace.ensures.value ∙ c.in-Some-replace.is) in
+    as-many c.args.self.now.entries.items c.args.self.now.passes.of_blocks.items c.args.i c.in-Some-replace.entry c.args.self.now.kept there c.lend-pass.new.self.of_blocks.items c.lend-pass.result c.lend-pass.ensures c.release_as.new.pass c.give_back.new.self.of_blocks.items c.give_back.ensures
+
 pub returns-clause-gone : goal.returns-clause-gone
 returns-clause-gone g c =
     ap (map (option_map row_of)) (ap (slice_set c.args.self.now.entries.items c.args.i) c.replace.ensures.after) ∙ map-slice_set (option_map row_of) c.args.self.now.entries.items c.args.i None
