@@ -215,7 +215,7 @@ impl<S: Subsliceable, L: Layout, A: Allocator + Copy, H: Mark> ArcSlice<S, L, A,
 impl<S: Slice, L: Layout, A: Allocator + Copy, H: Mark> ArcSlice<S, L, A, H> {
     /// Another window with the same items at the same place, an owner more of the block. On a block it adds Up, or Full where refused.
     ///
-    /// Takes no memory and copies no item. `CountFull` where as many owners live as the count can tell.
+    /// Takes no memory and copies no item. `CountFull` exactly where `MAX_OWNERS` owners live.
     pub fn try_clone_as(&self, rt: &impl Wait, pass: &mut Pass<H>) -> Result<Self, OwnerError>
         requires pass { IsPassAt self.now.place pass.old }
         ensures ok { IfOk result (λ window. (window.items ≡ self.now.items) × SharesAt self.now.place pass.old pass.new window.place) }
@@ -237,7 +237,7 @@ impl<S: Slice, L: Layout, A: Allocator + Copy, H: Mark> ArcSlice<S, L, A, H> {
     /// A window over the items from `start` to `end`, an owner more of the block: it adds Up, or Full where refused. With no items it
     /// stands on nothing where the layout has static data, and nothing is added.
     ///
-    /// Takes no memory and copies no item. `CountFull` where as many owners live as the count can tell.
+    /// Takes no memory and copies no item. `CountFull` exactly where `MAX_OWNERS` owners live.
     pub fn try_subslice_as(
         &self,
         rt: &impl Wait,
@@ -423,7 +423,7 @@ impl<S: Slice, L: Layout, A: Allocator + Copy> ArcSlice<S, L, A, Open> {
 impl<S: Slice, L: Layout, A: Allocator + Copy> ArcSlice<S, L, A, Open> {
     /// Another window with the same items at the same place: `try_clone_as` with a new pass.
     ///
-    /// Takes no memory and copies no item. `CountFull` where as many owners live as the count can tell.
+    /// Takes no memory and copies no item. `CountFull` exactly where `MAX_OWNERS` owners live.
     pub fn try_clone(&self, rt: &impl Wait) -> Result<Self, OwnerError>
         ensures ok { IfOk result (λ window. (window.items ≡ self.now.items) × WithNewPass self.now.place (λ first last. SharesAt self.now.place first last window.place)) }
         ensures refused { IfErr result (λ e. (e ≡ OwnerError.CountFull) × WithNewPass self.now.place (λ first last. IsFullAt self.now.place first last)) }
@@ -431,9 +431,9 @@ impl<S: Slice, L: Layout, A: Allocator + Copy> ArcSlice<S, L, A, Open> {
         self.try_clone_as(rt, &mut self.pass())
     }
 
-    /// A window over the items from `start` to `end`: `try_subslice_as` with a new pass, of the block on which the part stands.
+    /// A window over the items from `start` to `end`: `try_subslice_as` with a new pass of this window's block.
     ///
-    /// Takes no memory and copies no item. `CountFull` where as many owners live as the count can tell.
+    /// Takes no memory and copies no item. `CountFull` exactly where `MAX_OWNERS` owners live.
     pub fn try_subslice(&self, rt: &impl Wait, start: usize, end: usize) -> Result<Self, OwnerError>
     where
         S: Subsliceable,

@@ -14,7 +14,7 @@ use std::sync::Wait;
 /// The windows of a script: over bytes, on blocks each of which has one pass.
 pub type ByteWindow<A> = ArcSlice<Plain<u8>, DefaultLayout, A, Whole>;
 
-/// A window, and the number of the block that it stands on, if it stands on one. Each ends by `release`: one that is dropped would
+/// A window, and the number of the block that it stands on, if it stands on one. Each ends by its window's `release_as`: one that is dropped would
 /// stay an owner of its block for good.
 #[derive(Drop)]
 pub struct Entry<A: Allocator + Copy> {
