@@ -108,7 +108,7 @@ module _ {H : Type 0} where
         known = known-pushed stands (passes ++ p ∷ []) n o
             (λ i m q here. let found = found-pass passes m q (k.known i m q here) in has-pass (passes ++ p ∷ []) m q found.0 (get-front passes m found.0 p found.1) found.2)
             (has-pass (passes ++ p ∷ []) n o p (get-push passes p) fresh.0);
-        passes_fit = λ m q here. elim (push-cases passes m q p here) [ inl front ↦ k.passes_fit m q front | inr end ↦ subst (IsBlockPass g) end.1 (block-pass g o p first.whole first.most fresh.0) ];
+        passes_fit = λ m q here. elim (push-cases passes m q p here) [ inl front ↦ k.passes_fit m q front | inr end ↦ subst (IsBlockPass g) end.1 (block-pass g o p first.under.whole first.under.most fresh.0) ];
         live = λ m q here. elim (push-cases passes m q p here) [
           | inl front ↦ k.live m q front ∙ sym (owners-pushed_other m stands (Some (n, o)) (number_other m n o (λ e. omega (arith, e, slice_get_within passes m q front))))
           | inr end ↦ ap (λ (r : Pass H). live_owners (seen r)) (sym end.1) ∙ begun ∙ ap (λ j. owners_on j (stands ++ Some (n, o) ∷ [])) (sym end.0)

@@ -1,7 +1,7 @@
 //! Blocks: memory that stays where it is while a window stands on it.
 ghost use Rattle.std.specs.Prelude.{◌≡◌, ◌≤◌, ◌↔◌, length, false, IsTrue, IfOk, IfErr};
 ghost use Rattle.std.specs.Vec.{vec_capacity};
-ghost use Rattle.arc_owners.specs.Pieces.{IsFirst, IsPassFor, IsFreshPass, IsNewPass, Learns, Asks, FindsFull, MakesAnother, Leaves, TakesBlock};
+ghost use Rattle.arc_owners.specs.Pieces.{IsFirst, IsUnder, IsPassFor, IsFreshPass, IsNewPass, Learns, Asks, FindsFull, MakesAnother, Leaves, TakesBlock};
 ghost use Rattle.arc_block.specs.Block.{native, native_block};
 
 use arc_buffer::kinds::Slice;
@@ -23,12 +23,14 @@ pub struct Block<S: Slice, A: Allocator + Copy, const MAX: u64, H: Mark = Open> 
 }
 
 impl<S: Slice, A: Allocator + Copy, const MAX: u64, H: Mark> Model for Block<S, A, MAX, H> {
-    ghost use Rattle.arc_owners.specs.Pieces.{owner_of, value_of};
+    ghost use Rattle.arc_owners.specs.Pieces.{owner_of, value_of, IsUnder};
     ghost use Rattle.arc_block.specs.Block.{Held, held_in};
 
     ghost Value = { Held S.Item (Unit {0}) };
 
     ghost view = { λ b. held_in (owner_of b.piece) (value_of b.piece) };
+
+    ghost invariant = { λ b. IsUnder MAX H.whole (owner_of b.piece) };
 }
 
 impl<S: Slice, A: Allocator + Copy, const MAX: u64, H: Mark> Drop for Block<S, A, MAX, H> {
@@ -71,6 +73,7 @@ impl<S: Slice, A: Allocator + Copy, const MAX: u64, H: Mark> Block<S, A, MAX, H>
     /// `CountFull` exactly where `MAX` owners live, which adds Full.
     pub fn try_share_as(&self, rt: &impl Wait, pass: &mut Pass<H>) -> Result<Self, CountFull>
         requires pass { IsPassFor self.now.owner pass.old }
+        ensures block { IsUnder MAX H.whole self.now.owner }
         ensures made { IfOk result (λ other. MakesAnother self.now.owner pass.old pass.new other.owner) }
         ensures alike { IfOk result (λ other. (other.items ≡ self.now.items) × (other.facts ≡ self.now.facts)) }
         ensures full { IfErr result (λ _. FindsFull self.now.owner pass.old pass.new) }
@@ -108,6 +111,7 @@ impl<S: Slice, A: Allocator + Copy, const MAX: u64, H: Mark> Block<S, A, MAX, H>
     /// Whether no other owner lives, by one load. Adds Alone with the answer. Takes no memory.
     pub fn is_unique_as(&self, pass: &mut Pass<H>) -> bool
         requires pass { IsPassFor self.now.owner pass.old }
+        ensures block { IsUnder MAX H.whole self.now.owner }
         ensures entry { Asks self.now.owner pass.old pass.new result }
     {
         self.piece.is_unique_as(pass)
@@ -117,6 +121,7 @@ impl<S: Slice, A: Allocator + Copy, const MAX: u64, H: Mark> Block<S, A, MAX, H>
     /// and Alone was added with no. Takes no memory.
     pub fn try_into_items_as(self, pass: &mut Pass<H>) -> Result<Vec<S::Item, A>, Self>
         requires pass { IsPassFor self.owner pass.old }
+        ensures block { IsUnder MAX H.whole self.owner }
         ensures alone { IfOk result (λ items. (items.items ≡ self.items) × (vec_capacity items ≡ self.facts.size) × TakesBlock self.owner pass.old pass.new) }
         ensures others { IfErr result (λ back. (back ≡ self) × Asks self.owner pass.old pass.new false) }
     {
@@ -131,6 +136,7 @@ impl<S: Slice, A: Allocator + Copy, const MAX: u64, H: Mark> Block<S, A, MAX, H>
     /// no memory.
     pub fn release_as(self, pass: &mut Pass<H>) -> bool
         requires pass { IsPassFor self.owner pass.old }
+        ensures block { IsUnder MAX H.whole self.owner }
         ensures entry { Leaves self.owner pass.old pass.new result }
     {
         let Block { piece } = self;
@@ -156,7 +162,8 @@ impl<S: Slice, A: Allocator + Copy, const MAX: u64, H: Mark> Block<S, A, MAX, H>
 impl<S: Slice, A: Allocator + Copy, const MAX: u64> Block<S, A, MAX, Open> {
     /// A new pass, which has seen at least the entry that made this owner, and made nothing. It adds no entry and takes no memory.
     pub fn pass(&self) -> Pass<Open>
-        ensures { IsNewPass self.now.owner result }
+        ensures block { IsUnder MAX false self.now.owner }
+        ensures new { IsNewPass self.now.owner result }
     {
         self.piece.pass()
     }

@@ -15,13 +15,17 @@ pub record Owner : Type 0 where
   pub number : ℕ
   pub born : List Line
 
--- the first owner of a new block that begins with a count, and that so many owners may have at most, under a mark
-pub record IsFirst (greatest : ℕ) (one_pass : Bool) (o : Owner) : Type 0 where
-  pub number : o.number ≡ 0
-  pub born : o.born ≡ []
+-- an owner of a block that began with a count, and that so many owners may have at most, under a mark
+pub record IsUnder (greatest : ℕ) (one_pass : Bool) (o : Owner) : Type 0 where
   pub most : o.block.most ≡ greatest
   pub whole : o.block.whole ≡ one_pass
   pub counted : o.block.counted ≡ true
+
+-- the first owner of such a block, in which nothing has happened yet
+pub record IsFirst (greatest : ℕ) (one_pass : Bool) (o : Owner) : Type 0 where
+  pub number : o.number ≡ 0
+  pub born : o.born ≡ []
+  pub under : IsUnder greatest one_pass o
 
 module _ {H : Type 0} where
   -- a pass of this owner's block

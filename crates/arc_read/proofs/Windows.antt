@@ -4,7 +4,8 @@ use Rattle.std.proofs.lemmas.Bool.{eqb-true, false≢true}
 use Rattle.std.proofs.lemmas.List.{nil_from_length}
 use Rattle.std.proofs.Math.Logic.{∥∥₁_map}
 use Rattle.arc_owners.specs.declared.owners.tokens.Pass.{Pass}
-use Rattle.arc_owners.specs.Pieces.{Owner, IsFirst, IsFreshPass, MakesAnother, FindsFull}
+use Rattle.arc_owners.specs.Book.{Names}
+use Rattle.arc_owners.specs.Pieces.{Owner, IsFirst, IsUnder, IsFreshPass, MakesAnother, FindsFull}
 use Rattle.arc_buffer.specs.Slice.{sub, IsRange}
 use Rattle.arc_buffer.proofs.Sub.{sub-slice_range, sub-sub, sub-whole, length-sub}
 use Rattle.arc_block.specs.Block.{Facts, Held, native, native_facts, native_block}
@@ -84,6 +85,12 @@ pub part_kept_by : {T : Type 0} (legal : List T → Type 0) (boundary : List T �
 part_kept_by {T} legal boundary law has_static inner from to start end w b b' view is holds range kept items facts =
     let P : Held T (Unit {0}) → Type 0 = λ x. IsWithin (Some x) (from + start) (from + end) × ∥ legal (window_seen (Some x) (from + start) (from + end)).items ∥₁ in
     subst P (as_reowned b b' items facts) (part_kept legal boundary law has_static inner from to start end w b view is holds range kept)
+
+-- another owner of a block is under the same mark, with the same greatest count
+pub another_under : {H : Type 0} {greatest : ℕ} {one_pass : Bool} {o : Owner} {old new : Pass H} {other : Owner} → IsUnder greatest one_pass o → MakesAnother o old new other → IsUnder greatest one_pass other
+another_under {o = o} {other = other} under made =
+    let same : other.block ≡ o.block = ap (λ (x : Owner). x.block) made.made in
+    record { most = ap (λ (t : Names). t.most) same ∙ under.most; whole = ap (λ (t : Names). t.whole) same ∙ under.whole; counted = ap (λ (t : Names). t.counted) same ∙ under.counted }
 
 -- it has the part's items, and stands where its source does, that much further in, as the new owner
 pub part_shared : {T H : Type 0} (boundary : List T → ℕ → Bool) (has_static : Bool) (inner : Option (Held T (Unit {0}))) (from to start end : ℕ) (w : Window T) (b b' : Held T (Unit {0})) (old new : Pass H) → window_seen inner from to ≡ w → inner ≡ Some b → IsWithin inner from to → IsRange boundary w.items start end

@@ -4,10 +4,16 @@ use Rattle.std.specs.Prelude.{◌⊎◌, ◌≡◌, ℕ, Bool, false, List}
 use Rattle.arc_owners.specs.declared.owners.tokens.Pass.{Pass}
 use Rattle.arc_owners.specs.declared.mark.Open.{Open}
 use Rattle.arc_owners.specs.Passes.{IsPassOfNone}
-use Rattle.arc_owners.specs.Pieces.{Owner, IsFirst, IsPassFor, IsFreshPass, IsNewPass, Learns, FindsFull, Asks, MakesAnother, Leaves, TakesBlock}
+use Rattle.arc_owners.specs.Pieces.{Owner, IsFirst, IsUnder, IsPassFor, IsFreshPass, IsNewPass, Learns, FindsFull, Asks, MakesAnother, Leaves, TakesBlock}
 use Rattle.arc_block.specs.Place.{Place, nowhere, static_data, on_block}
 use Rattle.arc_block.specs.declared.block.TheConstants.{MAX_OWNERS}
 use Rattle.arc_read.specs.Window.{Window, made_window, IsWholeOf}
+
+-- the window's block began with a count, and `MAX_OWNERS` owners may live of it at most, under a mark
+abbrev pub IsUnderAt : {M : Type 0} → Bool → Place Owner M → Type 0
+IsUnderAt one_pass nowhere = Unit {0}
+IsUnderAt one_pass static_data = Unit {0}
+IsUnderAt one_pass (on_block owner offset facts) = IsUnder MAX_OWNERS one_pass owner
 
 module _ {M H : Type 0} where
   -- a pass of the window's block

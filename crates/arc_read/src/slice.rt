@@ -4,7 +4,7 @@ ghost use Rattle.arc_buffer.specs.Slice.{IsRange, range_answer};
 ghost use Rattle.arc_block.specs.Place.{nowhere};
 ghost use Rattle.arc_owners.specs.Passes.{IsPassOfNone};
 ghost use Rattle.arc_read.specs.Window.{NeedsBlock, IsWholeOf, part_window};
-ghost use Rattle.arc_read.specs.Steps.{IsPassAt, IsNewPassAt, Makes, SharesAt, IsFullAt, AsksAt, LeavesAt, AsksAndLeavesAt, TakesAt, LearnsAt, RefusesArray, WithNewPass, WithPassOfNone};
+ghost use Rattle.arc_read.specs.Steps.{IsUnderAt, IsPassAt, IsNewPassAt, Makes, SharesAt, IsFullAt, AsksAt, LeavesAt, AsksAndLeavesAt, TakesAt, LearnsAt, RefusesArray, WithNewPass, WithPassOfNone};
 
 use arc_block::block::{Block, MAX_OWNERS};
 use arc_block::layout::{DefaultLayout, Layout, StaticLayout, stands_on_nothing};
@@ -38,12 +38,13 @@ pub struct ArcSlice<
 impl<S: Slice, L: Layout, A: Allocator + Copy, H: Mark> Model for ArcSlice<S, L, A, H> {
     ghost use Rattle.std.specs.Prelude.{◌≡◌};
     ghost use Rattle.arc_read.specs.Window.{Window, window_seen, IsWithin};
+    ghost use Rattle.arc_read.specs.Steps.{IsUnderAt};
 
     ghost Value = { Window S.Item };
 
     ghost view = { λ w. window_seen w.block w.start w.end };
 
-    ghost invariant = { λ w. IsWithin w.block w.start w.end × ∥ S.is_legal (window_seen w.block w.start w.end).items ∥₁ };
+    ghost invariant = { λ w. IsWithin w.block w.start w.end × ∥ S.is_legal (window_seen w.block w.start w.end).items ∥₁ × IsUnderAt H.whole (window_seen w.block w.start w.end).place };
 }
 
 impl<S: Slice, L: Layout, A: Allocator + Copy, H: Mark> Drop for ArcSlice<S, L, A, H> {
@@ -218,6 +219,7 @@ impl<S: Slice, L: Layout, A: Allocator + Copy, H: Mark> ArcSlice<S, L, A, H> {
     /// Takes no memory and copies no item. `CountFull` exactly where `MAX_OWNERS` owners live.
     pub fn try_clone_as(&self, rt: &impl Wait, pass: &mut Pass<H>) -> Result<Self, OwnerError>
         requires pass { IsPassAt self.now.place pass.old }
+        ensures block { IsUnderAt H.whole self.now.place }
         ensures ok { IfOk result (λ window. (window.items ≡ self.now.items) × SharesAt self.now.place pass.old pass.new window.place) }
         ensures refused { IfErr result (λ e. (e ≡ OwnerError.CountFull) × IsFullAt self.now.place pass.old pass.new) }
     {
@@ -249,6 +251,7 @@ impl<S: Slice, L: Layout, A: Allocator + Copy, H: Mark> ArcSlice<S, L, A, H> {
         S: Subsliceable,
         requires range { IsRange S.boundary self.now.items start end }
         requires pass { IsPassAt self.now.place pass.old }
+        ensures block { IsUnderAt H.whole self.now.place }
         ensures ok { IfOk result (λ window. (window.items ≡ (part_window L.STATIC self.now start end).items)
             × SharesAt (part_window L.STATIC self.now start end).place pass.old pass.new window.place) }
         ensures refused { IfErr result (λ e. (e ≡ OwnerError.CountFull) × IsFullAt (part_window L.STATIC self.now start end).place pass.old pass.new) }
@@ -277,7 +280,8 @@ impl<S: Slice, L: Layout, A: Allocator + Copy, H: Mark> ArcSlice<S, L, A, H> {
     /// memory.
     pub fn is_unique_as(&self, pass: &mut Pass<H>) -> bool
         requires pass { IsPassAt self.now.place pass.old }
-        ensures { AsksAt self.now.place pass.old pass.new result }
+        ensures block { IsUnderAt H.whole self.now.place }
+        ensures entry { AsksAt self.now.place pass.old pass.new result }
     {
         match &self.block {
             Some(block) => block.is_unique_as(pass),
@@ -302,6 +306,7 @@ impl<S: Slice, L: Layout, A: Allocator + Copy, H: Mark> ArcSlice<S, L, A, H> {
     /// Takes no memory.
     pub fn try_into_array_as<const N: usize>(self, pass: &mut Pass<H>) -> Result<[S::Item; N], Self>
         requires pass { IsPassAt self.place pass.old }
+        ensures block { IsUnderAt H.whole self.place }
         ensures taken { IfOk result (λ array. IsWholeOf N self × (array ≡ self.items) × TakesAt self.place pass.old pass.new) }
         ensures refused { IfErr result (λ window. (window ≡ self) × RefusesArray N self pass.old pass.new) }
     {
@@ -334,7 +339,8 @@ impl<S: Slice, L: Layout, A: Allocator + Copy, H: Mark> ArcSlice<S, L, A, H> {
     /// Ends the window. On a block it adds Down, and the last owner gives the block back. Takes no memory.
     pub fn release_as(self, pass: &mut Pass<H>)
         requires pass { IsPassAt self.place pass.old }
-        ensures { LeavesAt self.place pass.old pass.new }
+        ensures block { IsUnderAt H.whole self.place }
+        ensures entry { LeavesAt self.place pass.old pass.new }
     {
         let ArcSlice {
             block,
@@ -352,7 +358,8 @@ impl<S: Slice, L: Layout, A: Allocator + Copy, H: Mark> ArcSlice<S, L, A, H> {
     /// counts down. On a block it adds Alone with what was found, then Down. Takes no memory.
     pub fn drop_with_unique_hint_as(self, pass: &mut Pass<H>)
         requires pass { IsPassAt self.place pass.old }
-        ensures { AsksAndLeavesAt self.place pass.old pass.new }
+        ensures block { IsUnderAt H.whole self.place }
+        ensures entries { AsksAndLeavesAt self.place pass.old pass.new }
     {
         let ArcSlice {
             block,
@@ -387,7 +394,8 @@ impl<S: Slice, L: Layout, A: Allocator + Copy> ArcSlice<S, L, A, Open> {
     /// A new pass of the window's block, which has seen at least how the window became an owner, and made nothing; on no block a pass
     /// of none. It adds nothing and takes no memory.
     pub fn pass(&self) -> Pass<Open>
-        ensures { IsNewPassAt self.now.place result }
+        ensures block { IsUnderAt false self.now.place }
+        ensures new { IsNewPassAt self.now.place result }
     {
         match &self.block {
             Some(block) => block.pass(),

@@ -2,6 +2,7 @@ use super::*;
 use arc_buffer::kinds::Plain;
 use linked_list_allocator::LocalHeap;
 use std::test::Fail;
+use std::thread;
 
 #[test]
 fn shared_up_to_three(rt: HostRuntime) -> Result<(), Fail> {
@@ -39,6 +40,21 @@ fn items_taken_back_where_alone(rt: HostRuntime) -> Result<(), Fail> {
     };
     assert_eq!(rt; items.as_slice(), b"Hello".as_slice());
     assert_eq!(rt; items.capacity(), 5);
+    Ok(())
+}
+
+/// An owner that another thread ends is read by both threads before.
+#[test]
+fn shared_by_two_threads(rt: HostRuntime) -> Result<(), Fail> {
+    let (first, mut pass) = Block::<Plain<u8>, _, 3, Open>::try_from_slice(rt.alloc(), b"Hello")?;
+    let second = first.try_share_as(&rt, &mut pass)?;
+    let (one, two) = thread::join(
+        &rt,
+        || first.as_slice().len(),
+        move || second.as_slice().len(),
+    );
+    assert_eq!(rt; (one, two), (5, 5));
+    assert!(rt; first.is_unique_as(&mut pass));
     Ok(())
 }
 

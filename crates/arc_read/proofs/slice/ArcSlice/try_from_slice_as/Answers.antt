@@ -10,7 +10,10 @@ returns-then-stands_on_nothing-clause-ok g c =
     (made_on_nothing g.L.Layout.STATIC g.H.Mark.whole c.args.items.now c.args.pass.now (sym c.if-stands_on_nothing.ensures))
 
 pub invariant_of-result : goal.invariant_of-result
-invariant_of-result g c = made_kept g.S.Slice.is_legal g.met.S.CopySlice.all_are_legal c.args.items.now c.in_ok-block.block _ c.in_ok-block.ensures.made.0
+invariant_of-result g c =
+    let new = c.in_ok-block.ensures.made in
+    let kept = made_kept g.S.Slice.is_legal g.met.S.CopySlice.all_are_legal c.args.items.now c.in_ok-block.block _ new.0 in
+    (kept.0, kept.1, new.1.under)
 
 pub returns-clause-ok : goal.returns-clause-ok
 returns-clause-ok g c =

@@ -30,7 +30,7 @@ invariant_of-self g c =
     let there = read-there c.args.self.now.entries.items c.args.i c.index_mut.result.now _ got c.index_mut.ensures.value ∙ ap Some (sym c.replace.ensures.value ∙ c.in-Some-replace.is) in
     record {
       kept = gone c.args.self.now.entries.items c.args.self.now.passes.of_blocks.items c.args.i c.in-Some-replace.entry c.args.self.now.kept there c.lend-pass.new.self.of_blocks.items c.lend-pass.result c.lend-pass.ensures
-          c.release_as.new.pass c.give_back.new.self.of_blocks.items c.give_back.ensures (slice_set c.args.self.now.entries.items c.args.i c.replace.new.dest) (ap (slice_set c.args.self.now.entries.items c.args.i) c.replace.ensures.after) c.release_as.ensures;
+          c.release_as.new.pass c.give_back.new.self.of_blocks.items c.give_back.ensures (slice_set c.args.self.now.entries.items c.args.i c.replace.new.dest) (ap (slice_set c.args.self.now.entries.items c.args.i) c.replace.ensures.after) c.release_as.ensures.entry;
     }
 
 pub returns-clause-step : goal.returns-clause-step

@@ -19,7 +19,7 @@ pub invariant_of-self-2 : goal.invariant_of-self-2
 invariant_of-self-2 g c =
     record {
       kept = stays-asked c.args.self.now.entries.items c.args.self.now.passes.of_blocks.items c.args.i c.in-Some.entry.now c.args.self.now.kept (ap (λ es. slice_get es c.args.i) (sym c.deref.ensures.value) ∙ c.in-Some.ensures) c.lend-pass.new.self.of_blocks.items c.lend-pass.result c.lend-pass.ensures
-          c.is_unique_as-alone.new.pass c.give_back.new.self.of_blocks.items c.give_back.ensures c.is_unique_as-alone.result c.is_unique_as-alone.ensures;
+          c.is_unique_as-alone.new.pass c.give_back.new.self.of_blocks.items c.give_back.ensures c.is_unique_as-alone.result c.is_unique_as-alone.ensures.entry;
     }
 
 pub returns-then-alone : goal.returns-then-alone
@@ -28,7 +28,7 @@ returns-then-alone g c =
     let entries = c.args.self.now.entries.items in
     let passes = c.args.self.now.passes.of_blocks.items in
     let many = as-many entries passes c.args.i c.in-Some.entry.now c.args.self.now.kept there c.lend-pass.new.self.of_blocks.items c.lend-pass.result c.lend-pass.ensures c.is_unique_as-alone.new.pass c.give_back.new.self.of_blocks.items c.give_back.ensures in
-    let alone = alone-told entries passes c.args.i c.in-Some.entry.now c.args.self.now.kept there c.lend-pass.new.self.of_blocks.items c.lend-pass.result c.lend-pass.ensures c.is_unique_as-alone.new.pass c.is_unique_as-alone.result (length passes) c.is_unique_as-alone.ensures in
+    let alone = alone-told entries passes c.args.i c.in-Some.entry.now c.args.self.now.kept there c.lend-pass.new.self.of_blocks.items c.lend-pass.result c.lend-pass.ensures c.is_unique_as-alone.new.pass c.is_unique_as-alone.result (length passes) c.is_unique_as-alone.ensures.entry in
     asked entries (length passes) c.args.i c.in-Some.entry.now there entries (length c.give_back.new.self.of_blocks.items) many true (alone ∙ c.if-alone.true)
 
 pub returns-else-alone : goal.returns-else-alone
@@ -37,5 +37,5 @@ returns-else-alone g c =
     let entries = c.args.self.now.entries.items in
     let passes = c.args.self.now.passes.of_blocks.items in
     let many = as-many entries passes c.args.i c.in-Some.entry.now c.args.self.now.kept there c.lend-pass.new.self.of_blocks.items c.lend-pass.result c.lend-pass.ensures c.is_unique_as-alone.new.pass c.give_back.new.self.of_blocks.items c.give_back.ensures in
-    let alone = alone-told entries passes c.args.i c.in-Some.entry.now c.args.self.now.kept there c.lend-pass.new.self.of_blocks.items c.lend-pass.result c.lend-pass.ensures c.is_unique_as-alone.new.pass c.is_unique_as-alone.result (length passes) c.is_unique_as-alone.ensures in
+    let alone = alone-told entries passes c.args.i c.in-Some.entry.now c.args.self.now.kept there c.lend-pass.new.self.of_blocks.items c.lend-pass.result c.lend-pass.ensures c.is_unique_as-alone.new.pass c.is_unique_as-alone.result (length passes) c.is_unique_as-alone.ensures.entry in
     asked entries (length passes) c.args.i c.in-Some.entry.now there entries (length c.give_back.new.self.of_blocks.items) many false (alone ∙ c.if-alone.false)
