@@ -14,8 +14,8 @@ use std::sync::Wait;
 /// The windows of a script: over bytes, on blocks each of which has one pass.
 pub type ByteWindow<A> = ArcSlice<Plain<u8>, DefaultLayout, A, Whole>;
 
-/// A window, and the number of the block that it stands on, if it stands on one. Each ends by its window's `release_as`: one that is dropped would
-/// stay an owner of its block for good.
+/// A window, and the number of the block that it stands on, if it stands on one. Each ends by `release`: one that is dropped would stay
+/// an owner of its block for good.
 #[derive(Drop)]
 pub struct Entry<A: Allocator + Copy> {
     pub window: ByteWindow<A>,
@@ -28,6 +28,7 @@ impl<A: Allocator + Copy> Entry<A> {
     ghost use Rattle.arc_buffer.specs.Slice.{IsRange, sub};
     ghost use Rattle.arc_block.specs.Place.{IsOnBlock, part_place};
     ghost use Rattle.arc_block.specs.Table.{reader};
+    ghost use Rattle.arc_read.specs.Steps.{IsPassAt, AsksAt, LeavesAt};
     ghost use Rattle.arcs.specs.Script.{byte_setting};
     ghost use Rattle.arcs.specs.Stands.{IsPassOfStand, Joins, IsFullStand};
     ghost use Rattle.arcs.specs.Entries.{row_of, stand_of};
@@ -65,5 +66,21 @@ impl<A: Allocator + Copy> Entry<A> {
         let window = self.window.try_subslice_as(rt, start, end, pass)?;
         let block = if start == end { None } else { self.block };
         Ok(Entry { window, block })
+    }
+
+    /// Whether no other owner of the window's block lives. `false` on no block. Takes no memory.
+    pub fn is_unique(&self, pass: &mut Pass<Whole>) -> bool
+        requires { IsPassAt self.now.window.place pass.old }
+        ensures { AsksAt self.now.window.place pass.old pass.new result }
+    {
+        self.window.is_unique_as(pass)
+    }
+
+    /// Ends the window: the last owner gives its block back. Takes no memory.
+    pub fn release(self, pass: &mut Pass<Whole>)
+        requires { IsPassAt self.window.place pass.old }
+        ensures { LeavesAt self.window.place pass.old pass.new }
+    {
+        self.window.release_as(pass);
     }
 }

@@ -190,7 +190,7 @@ impl<A: Allocator + Copy> Windows<A> {
         };
         let block = entry.block;
         let mut pass = self.passes.lend(block);
-        let alone = entry.window.is_unique_as(&mut pass);
+        let alone = entry.is_unique(&mut pass);
         self.passes.give_back(block, pass);
         if alone { Reply::Yes } else { Reply::No }
     }
@@ -220,9 +220,9 @@ impl<A: Allocator + Copy> Windows<A> {
         let Some(entry) = mem::replace(&mut self.entries[i], None) else {
             unreachable!()
         };
-        let Entry { window, block } = entry;
+        let block = entry.block;
         let mut pass = self.passes.lend(block);
-        window.release_as(&mut pass);
+        entry.release(&mut pass);
         self.passes.give_back(block, pass);
         Reply::Ok
     }

@@ -12,8 +12,8 @@ lend-pass-requires g c =
     let there = read-there c.args.self.now.entries.items c.args.i c.index_mut.result.now _ got c.index_mut.ensures.value ∙ ap Some (sym c.replace.ensures.value ∙ c.in-Some-replace.is) in
     has-number c.args.self.now.entries.items c.args.self.now.passes.of_blocks.items c.args.i c.in-Some-replace.entry c.args.self.now.kept there
 
-pub release_as-requires-clause-pass : goal.release_as-requires-clause-pass
-release_as-requires-clause-pass g c κs within =
+pub release-requires : goal.release-requires
+release-requires g c =
     let got = ap (λ es. slice_get es c.args.i) (sym c.deref.ensures.value) ∙ c.in-Some.ensures in
     let there = read-there c.args.self.now.entries.items c.args.i c.index_mut.result.now _ got c.index_mut.ensures.value ∙ ap Some (sym c.replace.ensures.value ∙ c.in-Some-replace.is) in
     window-pass c.args.self.now.entries.items c.args.self.now.passes.of_blocks.items c.args.i c.in-Some-replace.entry c.args.self.now.kept there c.lend-pass.new.self.of_blocks.items c.lend-pass.result c.lend-pass.ensures
@@ -30,14 +30,14 @@ invariant_of-self g c =
     let there = read-there c.args.self.now.entries.items c.args.i c.index_mut.result.now _ got c.index_mut.ensures.value ∙ ap Some (sym c.replace.ensures.value ∙ c.in-Some-replace.is) in
     record {
       kept = gone c.args.self.now.entries.items c.args.self.now.passes.of_blocks.items c.args.i c.in-Some-replace.entry c.args.self.now.kept there c.lend-pass.new.self.of_blocks.items c.lend-pass.result c.lend-pass.ensures
-          c.release_as.new.pass c.give_back.new.self.of_blocks.items c.give_back.ensures (slice_set c.args.self.now.entries.items c.args.i c.replace.new.dest) (ap (slice_set c.args.self.now.entries.items c.args.i) c.replace.ensures.after) c.release_as.ensures.entry;
+          c.release.new.pass c.give_back.new.self.of_blocks.items c.give_back.ensures (slice_set c.args.self.now.entries.items c.args.i c.replace.new.dest) (ap (slice_set c.args.self.now.entries.items c.args.i) c.replace.ensures.after) c.release.ensures;
     }
 
 pub returns-clause-step : goal.returns-clause-step
 returns-clause-step g c =
     let got = ap (λ es. slice_get es c.args.i) (sym c.deref.ensures.value) ∙ c.in-Some.ensures in
     let there = read-there c.args.self.now.entries.items c.args.i c.index_mut.result.now _ got c.index_mut.ensures.value ∙ ap Some (sym c.replace.ensures.value ∙ c.in-Some-replace.is) in
-    let many = as-many c.args.self.now.entries.items c.args.self.now.passes.of_blocks.items c.args.i c.in-Some-replace.entry c.args.self.now.kept there c.lend-pass.new.self.of_blocks.items c.lend-pass.result c.lend-pass.ensures c.release_as.new.pass c.give_back.new.self.of_blocks.items c.give_back.ensures in
+    let many = as-many c.args.self.now.entries.items c.args.self.now.passes.of_blocks.items c.args.i c.in-Some-replace.entry c.args.self.now.kept there c.lend-pass.new.self.of_blocks.items c.lend-pass.result c.lend-pass.ensures c.release.new.pass c.give_back.new.self.of_blocks.items c.give_back.ensures in
     dropped c.args.self.now.entries.items (length c.args.self.now.passes.of_blocks.items) c.args.i c.in-Some-replace.entry there (slice_set c.args.self.now.entries.items c.args.i c.replace.new.dest) (length c.give_back.new.self.of_blocks.items) many
     (ap (slice_set c.args.self.now.entries.items c.args.i) c.replace.ensures.after)
 
@@ -45,7 +45,7 @@ pub returns-clause-blocks : goal.returns-clause-blocks
 returns-clause-blocks g c =
     let got = ap (λ es. slice_get es c.args.i) (sym c.deref.ensures.value) ∙ c.in-Some.ensures in
     let there = read-there c.args.self.now.entries.items c.args.i c.index_mut.result.now _ got c.index_mut.ensures.value ∙ ap Some (sym c.replace.ensures.value ∙ c.in-Some-replace.is) in
-    as-many c.args.self.now.entries.items c.args.self.now.passes.of_blocks.items c.args.i c.in-Some-replace.entry c.args.self.now.kept there c.lend-pass.new.self.of_blocks.items c.lend-pass.result c.lend-pass.ensures c.release_as.new.pass c.give_back.new.self.of_blocks.items c.give_back.ensures
+    as-many c.args.self.now.entries.items c.args.self.now.passes.of_blocks.items c.args.i c.in-Some-replace.entry c.args.self.now.kept there c.lend-pass.new.self.of_blocks.items c.lend-pass.result c.lend-pass.ensures c.release.new.pass c.give_back.new.self.of_blocks.items c.give_back.ensures
 
 pub returns-clause-gone : goal.returns-clause-gone
 returns-clause-gone g c =

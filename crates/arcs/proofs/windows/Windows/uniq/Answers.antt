@@ -7,8 +7,8 @@ use Rattle.arcs.proofs.windows.Windows.uniq.Goals as goal
 pub lend-pass-requires : goal.lend-pass-requires
 lend-pass-requires g c = has-number c.args.self.now.entries.items c.args.self.now.passes.of_blocks.items c.args.i c.in-Some.entry.now c.args.self.now.kept (ap (λ es. slice_get es c.args.i) (sym c.deref.ensures.value) ∙ c.in-Some.ensures)
 
-pub is_unique_as-alone-requires-clause-pass : goal.is_unique_as-alone-requires-clause-pass
-is_unique_as-alone-requires-clause-pass g c κs within =
+pub is_unique-alone-requires : goal.is_unique-alone-requires
+is_unique-alone-requires g c =
     window-pass c.args.self.now.entries.items c.args.self.now.passes.of_blocks.items c.args.i c.in-Some.entry.now c.args.self.now.kept (ap (λ es. slice_get es c.args.i) (sym c.deref.ensures.value) ∙ c.in-Some.ensures) c.lend-pass.new.self.of_blocks.items c.lend-pass.result c.lend-pass.ensures
 
 pub give_back-requires : goal.give_back-requires
@@ -19,7 +19,7 @@ pub invariant_of-self-2 : goal.invariant_of-self-2
 invariant_of-self-2 g c =
     record {
       kept = stays-asked c.args.self.now.entries.items c.args.self.now.passes.of_blocks.items c.args.i c.in-Some.entry.now c.args.self.now.kept (ap (λ es. slice_get es c.args.i) (sym c.deref.ensures.value) ∙ c.in-Some.ensures) c.lend-pass.new.self.of_blocks.items c.lend-pass.result c.lend-pass.ensures
-          c.is_unique_as-alone.new.pass c.give_back.new.self.of_blocks.items c.give_back.ensures c.is_unique_as-alone.result c.is_unique_as-alone.ensures.entry;
+          c.is_unique-alone.new.pass c.give_back.new.self.of_blocks.items c.give_back.ensures c.is_unique-alone.result c.is_unique-alone.ensures;
     }
 
 pub returns-then-alone : goal.returns-then-alone
@@ -27,8 +27,8 @@ returns-then-alone g c =
     let there = ap (λ es. slice_get es c.args.i) (sym c.deref.ensures.value) ∙ c.in-Some.ensures in
     let entries = c.args.self.now.entries.items in
     let passes = c.args.self.now.passes.of_blocks.items in
-    let many = as-many entries passes c.args.i c.in-Some.entry.now c.args.self.now.kept there c.lend-pass.new.self.of_blocks.items c.lend-pass.result c.lend-pass.ensures c.is_unique_as-alone.new.pass c.give_back.new.self.of_blocks.items c.give_back.ensures in
-    let alone = alone-told entries passes c.args.i c.in-Some.entry.now c.args.self.now.kept there c.lend-pass.new.self.of_blocks.items c.lend-pass.result c.lend-pass.ensures c.is_unique_as-alone.new.pass c.is_unique_as-alone.result (length passes) c.is_unique_as-alone.ensures.entry in
+    let many = as-many entries passes c.args.i c.in-Some.entry.now c.args.self.now.kept there c.lend-pass.new.self.of_blocks.items c.lend-pass.result c.lend-pass.ensures c.is_unique-alone.new.pass c.give_back.new.self.of_blocks.items c.give_back.ensures in
+    let alone = alone-told entries passes c.args.i c.in-Some.entry.now c.args.self.now.kept there c.lend-pass.new.self.of_blocks.items c.lend-pass.result c.lend-pass.ensures c.is_unique-alone.new.pass c.is_unique-alone.result (length passes) c.is_unique-alone.ensures in
     asked entries (length passes) c.args.i c.in-Some.entry.now there entries (length c.give_back.new.self.of_blocks.items) many true (alone ∙ c.if-alone.true)
 
 pub returns-else-alone : goal.returns-else-alone
@@ -36,6 +36,6 @@ returns-else-alone g c =
     let there = ap (λ es. slice_get es c.args.i) (sym c.deref.ensures.value) ∙ c.in-Some.ensures in
     let entries = c.args.self.now.entries.items in
     let passes = c.args.self.now.passes.of_blocks.items in
-    let many = as-many entries passes c.args.i c.in-Some.entry.now c.args.self.now.kept there c.lend-pass.new.self.of_blocks.items c.lend-pass.result c.lend-pass.ensures c.is_unique_as-alone.new.pass c.give_back.new.self.of_blocks.items c.give_back.ensures in
-    let alone = alone-told entries passes c.args.i c.in-Some.entry.now c.args.self.now.kept there c.lend-pass.new.self.of_blocks.items c.lend-pass.result c.lend-pass.ensures c.is_unique_as-alone.new.pass c.is_unique_as-alone.result (length passes) c.is_unique_as-alone.ensures.entry in
+    let many = as-many entries passes c.args.i c.in-Some.entry.now c.args.self.now.kept there c.lend-pass.new.self.of_blocks.items c.lend-pass.result c.lend-pass.ensures c.is_unique-alone.new.pass c.give_back.new.self.of_blocks.items c.give_back.ensures in
+    let alone = alone-told entries passes c.args.i c.in-Some.entry.now c.args.self.now.kept there c.lend-pass.new.self.of_blocks.items c.lend-pass.result c.lend-pass.ensures c.is_unique-alone.new.pass c.is_unique-alone.result (length passes) c.is_unique-alone.ensures in
     asked entries (length passes) c.args.i c.in-Some.entry.now there entries (length c.give_back.new.self.of_blocks.items) many false (alone ∙ c.if-alone.false)
