@@ -3,12 +3,7 @@ use Rattle.std.proofs.Common.{◌≡◌, ℕ, ◌+◌, ◌-◌, ◌≤◌, List,
 use Rattle.std.proofs.lemmas.List.{drop-take, drop-drop, take-take, length-take-le}
 use Rattle.std.proofs.Math.Seq.{take-length}
 use Rattle.arc_buffer.specs.Slice.{sub}
-
--- a part is what `&xs[start..end]` is
-pub sub-slice_range : {T : Type 0} (xs : List T) (start end : ℕ) → start ≤ end → sub xs start end ≡ take (end - start) (drop start xs)
-sub-slice_range xs start end ordered =
-    let h : end ≡ start + (end - start) = omega arith in
-    ap (λ n. drop start (take n xs)) h ∙ drop-take start (end - start) xs
+use Rattle.arc_buffer.specs.Laws.{sub-slice_range}
 
 -- a part of a part is a part
 pub sub-sub : {T : Type 0} (xs : List T) (from to start end : ℕ) → from + end ≤ to → sub (sub xs from to) start end ≡ sub xs (from + start) (from + end)

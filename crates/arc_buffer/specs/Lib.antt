@@ -1,1 +1,3 @@
 pub mod Slice
+pub mod Text
+pub mod Laws

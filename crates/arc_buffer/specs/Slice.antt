@@ -1,11 +1,15 @@
 -- The lists of a slice kind: where one may be cut, and what a test of a range answers.
-use Rattle.std.specs.Prelude.{ℕ, ◌≤◌, Bool, IsTrue, nat_lt, ◌&&◌, if◌then◌else◌, List, length, take, drop, Result, Ok, Err}
+use Rattle.std.specs.Prelude.{ℕ, ◌≤◌, Bool, true, IsTrue, nat_lt, ◌&&◌, if◌then◌else◌, List, length, take, drop, Result, Ok, Err}
 use Rattle.arc_owners.specs.declared.error.RangeError.{RangeError}
 use Rattle.arc_owners.specs.declared.error.RangeError.TheVariants.{OutOfRange, InvalidRange, NotBoundary}
 
 -- the part from start to end
 abbrev pub sub : {T : Type 0} → List T → ℕ → ℕ → List T
 sub xs start end = drop start (take end xs)
+
+-- any place will do
+abbrev pub anywhere : {T : Type 0} → List T → ℕ → Bool
+anywhere xs at = true
 
 -- an edge is a place, the end included, at which the kind may cut the list
 pub record IsEdge {T : Type 0} (boundary : List T → ℕ → Bool) (xs : List T) (at : ℕ) : Type 0 where

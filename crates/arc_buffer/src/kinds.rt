@@ -1,10 +1,20 @@
 //! Slice kinds: markers that say what a window's items are, and which lists of them are legal.
-ghost use Rattle.std.specs.Prelude.{◌≡◌, ℕ, ◌+◌, ◌≤◌, ◌↔◌, Bool, true, IsTrue, IsOk, List, [], length, refl};
-ghost use Rattle.std.proofs.Common.{arith};
+ghost use Rattle.std.specs.Prelude.{◌≡◌, ℕ, ◌+◌, ◌≤◌, ◌↔◌, ◌==◌, if◌then◌else◌, Bool, IsOk, IfErr, List, [], ◌∷◌, ◌++◌, replicate, length};
+ghost use Rattle.std.specs.Mem.{FitsInMemory, type_size};
 ghost use Rattle.arc_buffer.specs.Slice.{IsEdge, IsRange, sub};
 
-use std::convert::Infallible;
-use std::marker::PhantomData;
+pub use byte_text::ByteText;
+pub use owned::Owned;
+pub use plain::Plain;
+use std::alloc::Layout;
+pub use text::{Text, cuts_into_texts};
+pub use zero_item::ZeroItem;
+
+mod byte_text;
+mod owned;
+mod plain;
+mod text;
+mod zero_item;
 
 /// A kind of slice: the type of the items, and which lists of them a window of the kind may have.
 pub trait Slice {
@@ -14,12 +24,34 @@ pub trait Slice {
     /// Why a list isn't legal.
     type TryFromSliceError: Drop;
 
+    /// Whether items have to be dropped one by one, so that a block counts its full places.
+    ghost DROPS: { Bool };
+
+    /// Whether items have to be dropped one by one, so that a block counts its full places: true for `Owned` alone.
+    const DROPS: bool;
+
     /// Which lists are legal.
     ghost is_legal: { List Self.Item → Type 0 };
 
+    /// Why a list isn't legal.
+    ghost is_refused: { List Self.Item → Self.TryFromSliceError → Type 0 };
+
     /// Ok exactly where the list is legal. Takes no memory.
     fn try_from_slice(items: &[Self::Item]) -> Result<(), Self::TryFromSliceError>
-        ensures { IsOk result ↔ is_legal items.now };
+        ensures ok { IsOk result ↔ is_legal items.now }
+        ensures refused { IfErr result (λ e. is_refused items.now e) };
+
+    /// How many places the first block of a window has that grows from nothing: 8 where an item is one byte, else 4.
+    fn first() -> usize
+        requires { FitsInMemory Self.Item.row }
+        ensures { result ≡ (if type_size Self.Item.row == 1 then 8 else 4) }
+    {
+        if Layout::new::<Self::Item>().size() == 1 {
+            8
+        } else {
+            4
+        }
+    }
 }
 
 /// Kinds that have an empty window: all.
@@ -51,51 +83,36 @@ pub trait Subsliceable: Slice {
         → Self.is_legal xs → IsRange boundary xs start end → Self.is_legal (sub xs start end) };
 }
 
+/// Kinds whose lists may follow one another: all.
+pub trait Concatenable: Slice {
+    /// A legal list, followed by a legal list, is legal.
+    ghost both_are_legal: { (xs ys : List Self.Item) → Self.is_legal xs → Self.is_legal ys → Self.is_legal (xs ++ ys) };
+}
+
+/// Kinds whose lists may grow by any item: all but `Text`.
+pub trait Extendable: Concatenable {
+    /// A legal list, followed by an item, is legal.
+    ghost more_is_legal: { (xs : List Self.Item) (x : Self.Item) → Self.is_legal xs → Self.is_legal (xs ++ x ∷ []) };
+}
+
+/// Kinds with a zero: text, byte text, and whole numbers.
+pub trait Zeroable: Slice {
+    /// The item that a list of zeros has.
+    ghost zero_item: { Self.Item };
+
+    /// Zero.
+    fn zero() -> Self::Item
+        ensures { result ≡ zero_item };
+
+    /// A list of zeros is legal.
+    ghost zeros_are_legal: { (n : ℕ) → Self.is_legal (replicate n zero_item) };
+}
+
 /// The Copy kinds: a window may be made of a copy of any slice of the items.
 pub trait CopySlice: Slice {
     /// Each list is legal.
     ghost all_are_legal: { (xs : List Self.Item) → Self.is_legal xs };
 }
 
-/// Items that are plain data: each list is legal, and may be cut anywhere.
-#[derive(Clone, Copy, Debug, PartialEq, Eq)]
-pub struct Plain<T> {
-    of: PhantomData<T>,
-}
-
-impl<T: Copy + Send + Sync + Drop> Slice for Plain<T> {
-    type Item = T;
-
-    type TryFromSliceError = Infallible;
-
-    ghost is_legal = { λ _. Unit {0} };
-
-    fn try_from_slice(items: &[T]) -> Result<(), Infallible> {
-        let _ = items;
-        Ok(())
-    }
-}
-
-impl<T: Copy + Send + Sync + Drop> Emptyable for Plain<T> {
-    ghost empty_is_legal = { tt };
-}
-
-impl<T: Copy + Send + Sync + Drop> Subsliceable for Plain<T> {
-    ghost boundary = { λ _ _. true };
-
-    fn is_boundary(items: &[T], at: usize) -> bool {
-        let _ = items;
-        let _ = at;
-        true
-    }
-
-    ghost ends_are_edges = { λ _ _. (record { within = Prim.omega arith; cuts = refl }, record { within = Prim.omega arith; cuts = refl }) };
-
-    ghost range_edges = { λ _ _ _ _ _ _ _. refl };
-
-    ghost range_is_legal = { λ _ _ _ _ _. tt };
-}
-
-impl<T: Copy + Send + Sync + Drop> CopySlice for Plain<T> {
-    ghost all_are_legal = { λ _. tt };
-}
+#[cfg(test)]
+mod tests;
