@@ -405,13 +405,15 @@ impl<S: Slice, L: Layout, A: Allocator + Copy> ArcSlice<S, L, A, Open> {
 
     /// Whether no other owner of the block lives: `is_unique_as` with a new pass. `false` on no block.
     pub fn is_unique(&self) -> bool
-        ensures { WithNewPass self.now.place (λ first last. AsksAt self.now.place first last result) }
+        ensures block { IsUnderAt false self.now.place }
+        ensures entry { WithNewPass self.now.place (λ first last. AsksAt self.now.place first last result) }
     {
         self.is_unique_as(&mut self.pass())
     }
 
     /// The items as an array: `try_into_array_as` with a new pass.
     pub fn try_into_array<const N: usize>(self) -> Result<[S::Item; N], Self>
+        ensures block { IsUnderAt false self.place }
         ensures taken { IfOk result (λ array. IsWholeOf N self × (array ≡ self.items) × WithNewPass self.place (λ first last. TakesAt self.place first last)) }
         ensures refused { IfErr result (λ window. (window ≡ self) × WithNewPass self.place (λ first last. RefusesArray N self first last)) }
     {
@@ -421,7 +423,8 @@ impl<S: Slice, L: Layout, A: Allocator + Copy> ArcSlice<S, L, A, Open> {
 
     /// Ends the window: `drop_with_unique_hint_as` with a new pass.
     pub fn drop_with_unique_hint(self)
-        ensures { WithNewPass self.place (λ first last. AsksAndLeavesAt self.place first last) }
+        ensures block { IsUnderAt false self.place }
+        ensures entries { WithNewPass self.place (λ first last. AsksAndLeavesAt self.place first last) }
     {
         let mut pass = self.pass();
         self.drop_with_unique_hint_as(&mut pass);
@@ -433,6 +436,7 @@ impl<S: Slice, L: Layout, A: Allocator + Copy> ArcSlice<S, L, A, Open> {
     ///
     /// Takes no memory and copies no item. `CountFull` exactly where `MAX_OWNERS` owners live.
     pub fn try_clone(&self, rt: &impl Wait) -> Result<Self, OwnerError>
+        ensures block { IsUnderAt false self.now.place }
         ensures ok { IfOk result (λ window. (window.items ≡ self.now.items) × WithNewPass self.now.place (λ first last. SharesAt self.now.place first last window.place)) }
         ensures refused { IfErr result (λ e. (e ≡ OwnerError.CountFull) × WithNewPass self.now.place (λ first last. IsFullAt self.now.place first last)) }
     {
@@ -446,6 +450,7 @@ impl<S: Slice, L: Layout, A: Allocator + Copy> ArcSlice<S, L, A, Open> {
     where
         S: Subsliceable,
         requires { IsRange S.boundary self.now.items start end }
+        ensures block { IsUnderAt false self.now.place }
         ensures ok { IfOk result (λ window. (window.items ≡ (part_window L.STATIC self.now start end).items)
             × WithNewPass self.now.place (λ first last. SharesAt (part_window L.STATIC self.now start end).place first last window.place)) }
         ensures refused { IfErr result (λ e. (e ≡ OwnerError.CountFull)

@@ -76,7 +76,7 @@ fn memory_refused(rt: HostRuntime) -> Result<(), Fail> {
                 drop(block);
                 assert_eq!(rt; heap.used(), taken, "in {blocks} blocks");
                 assert_eq!(rt; other.as_slice(), items.as_slice(), "in {blocks} blocks");
-                drop(other);
+                assert!(rt; other.release_as(&mut pass));
                 made = made.saturating_add(1);
             }
             Err(error) => {

@@ -1,9 +1,11 @@
-ghost use Rattle.std.specs.Prelude.{IfOk};
+ghost use Rattle.std.specs.Prelude.{◌≡◌, IfOk};
+ghost use Rattle.arc_owners.specs.Passes.{IsPassOfNone};
 ghost use Rattle.arc_read.specs.Steps.{IsPassAt};
 
 use super::*;
 use arc_block::layout::ArcLayout;
 use arc_buffer::kinds::Plain;
+use arc_owners::mark::Whole;
 use linked_list_allocator::LocalHeap;
 use std::test::Fail;
 use std::thread;
@@ -95,19 +97,33 @@ fn alone_or_not(rt: HostRuntime) -> Result<(), Fail> {
     Ok(())
 }
 
+/// Each call on windows that stand on no block, and makes none: the pass is as it was, as the contract says. The windows that were made.
+fn called_on_no_block<R: Wait>(
+    rt: &R,
+    alloc: Global,
+    pass: Pass<Open>,
+) -> Result<(Pass<Open>, usize), OwnerError>
+    requires { IsPassOfNone pass }
+    ensures { IfOk result (λ r. r.0 ≡ pass) }
+{
+    let mut pass = pass;
+    let none: ArcSlice<Plain<u32>> = ArcSlice::new(alloc);
+    let empty: ArcSlice<Plain<u32>> = ArcSlice::try_from_slice_as(alloc, &[], &mut pass)?;
+    let clone = none.try_clone_as(rt, &mut pass)?;
+    let part = none.try_subslice_as(rt, 0, 0, &mut pass)?;
+    let len = empty.len() + clone.len() + part.len();
+    let unique = none.is_unique_as(&mut pass);
+    none.learn(&mut pass, &Pass::none());
+    none.release_as(&mut pass);
+    clone.drop_with_unique_hint_as(&mut pass);
+    let taken = part.try_into_array_as::<0>(&mut pass).is_ok();
+    Ok((pass, if unique || taken { 1 } else { len }))
+}
+
 #[test]
 fn calls_on_no_block(rt: HostRuntime) -> Result<(), Fail> {
-    let none: ArcSlice<Plain<u32>> = ArcSlice::new(rt.alloc());
-    let mut pass = Pass::none();
-    let clone = none.try_clone_as(&rt, &mut pass)?;
-    assert!(rt; clone.is_empty());
-    assert!(rt; !none.is_unique_as(&mut pass));
-    none.learn(&mut pass, &none.pass());
-    none.release_as(&mut pass);
-    let other: ArcSlice<Plain<u32>> = ArcSlice::new(rt.alloc());
-    other.drop_with_unique_hint_as(&mut pass);
-    let last: ArcSlice<Plain<u32>> = ArcSlice::new(rt.alloc());
-    assert!(rt; last.try_into_array_as::<0>(&mut pass).is_err());
+    let (_, found) = called_on_no_block(&rt, rt.alloc(), Pass::none())?;
+    assert_eq!(rt; found, 0);
     Ok(())
 }
 
@@ -139,13 +155,46 @@ fn memory_given_back_once(rt: HostRuntime) -> Result<(), Fail> {
         assert_eq!(rt; heap.used(), taken);
         second.drop_with_unique_hint();
         assert_eq!(rt; heap.used(), taken);
-        if order < 3 {
-            drop(third);
-        } else {
-            third.drop_with_unique_hint();
+        match order % 3 {
+            0 => drop(third),
+            1 => third.drop_with_unique_hint(),
+            _ => {
+                let mut pass = third.pass();
+                third.release_as(&mut pass);
+            }
         }
         assert_eq!(rt; heap.used(), before);
     }
+    Ok(())
+}
+
+/// What is taken back as an array gives its block back, and a window under `Whole` that is dropped keeps it for good.
+#[test]
+fn memory_of_arrays_and_of_forgotten_windows(rt: HostRuntime) -> Result<(), Fail> {
+    let heap = LocalHeap::new(rt.alloc(), 1024)?;
+    let before = heap.used();
+    let Ok(window) = ArcSlice::<Plain<u32>, DefaultLayout, &LocalHeap>::try_from_array(
+        &heap,
+        [1, 2, 3],
+    ) else {
+        return Err("no memory".into());
+    };
+    assert!(rt; before < heap.used());
+    assert!(rt; window.try_into_array::<3>().is_ok());
+    assert_eq!(rt; heap.used(), before);
+    let mut pass = Pass::none();
+    let kept = ArcSlice::<Plain<u32>, DefaultLayout, &LocalHeap, Whole>::try_from_slice_as(
+        &heap,
+        &[1, 2, 3],
+        &mut pass,
+    )?;
+    let clone = kept.try_clone_as(&rt, &mut pass)?;
+    assert!(rt; !kept.is_unique_as(&mut pass));
+    clone.release_as(&mut pass);
+    assert!(rt; kept.is_unique_as(&mut pass));
+    let taken = heap.used();
+    drop(kept);
+    assert_eq!(rt; heap.used(), taken);
     Ok(())
 }
 
