@@ -1,5 +1,5 @@
 -- Blocks: what a window may stand on, and what is known of it.
-use Rattle.std.specs.Prelude.{ℕ, Bool, Option, None, List, length}
+use Rattle.std.specs.Prelude.{ℕ, Bool, if◌then◌else◌, Option, Some, None, List, length}
 use Rattle.std.specs.declared.vec.Vec.{Vec}
 use Rattle.std.specs.Vec.{vec_capacity}
 use Rattle.arc_owners.specs.Pieces.{Owner}
@@ -22,9 +22,13 @@ pub record Facts (M : Type 0) : Type 0 where
   pub full : Option ℕ
   pub metadata : Option M
 
--- a native block of this many places, whose items are plain data
-abbrev pub native_facts : {M : Type 0} → ℕ → Facts M
-native_facts size = record { sort = native; size = size; full = None; metadata = None }
+-- how many places are full, where that is counted: of items that are dropped one by one
+abbrev pub full_places : Bool → ℕ → Option ℕ
+full_places drops full = if drops then Some full else None
+
+-- a native block of this many places, all of which are full
+abbrev pub native_facts : {M : Type 0} → Bool → ℕ → Facts M
+native_facts drops size = record { sort = native; size = size; full = full_places drops size; metadata = None }
 
 -- what is seen of a block through one of its owners: who that is, the items, and what is known of the block
 pub record Held (T M : Type 0) : Type 0 where
@@ -33,9 +37,9 @@ pub record Held (T M : Type 0) : Type 0 where
   pub facts : Facts M
 
 -- a native block of these items, with a place for each
-abbrev pub native_block : {T M : Type 0} → Owner → List T → Held T M
-native_block owner items = record { owner = owner; items = items; facts = native_facts (length items) }
+abbrev pub native_block : {T M : Type 0} → Bool → Owner → List T → Held T M
+native_block drops owner items = record { owner = owner; items = items; facts = native_facts drops (length items) }
 
 -- a native block whose items lie in this vector
-abbrev pub held_in : {T M A : Type 0} → Owner → Vec T A → Held T M
-held_in owner v = record { owner = owner; items = v.items; facts = native_facts (vec_capacity v) }
+abbrev pub held_in : {T M A : Type 0} → Bool → Owner → Vec T A → Held T M
+held_in drops owner v = record { owner = owner; items = v.items; facts = record { sort = native; size = vec_capacity v; full = full_places drops (length v.items); metadata = None } }

@@ -1,6 +1,6 @@
 //! Blocks: memory that stays where it is while a window stands on it.
 ghost use Rattle.std.specs.Prelude.{◌≡◌, ◌≤◌, ◌↔◌, length, false, IsTrue, IfOk, IfErr};
-ghost use Rattle.std.specs.Vec.{vec_capacity};
+ghost use Rattle.std.specs.Vec.{vec_capacity, vec_len};
 ghost use Rattle.arc_owners.specs.Pieces.{IsFirst, IsUnder, IsPassFor, IsFreshPass, IsNewPass, Learns, Asks, FindsFull, MakesAnother, Leaves, TakesBlock};
 ghost use Rattle.arc_block.specs.Block.{native, native_block};
 
@@ -28,7 +28,7 @@ impl<S: Slice, A: Allocator + Copy, const MAX: u64, H: Mark> Model for Block<S, 
 
     ghost Value = { Held S.Item (Unit {0}) };
 
-    ghost view = { λ b. held_in (owner_of b.piece) (value_of b.piece) };
+    ghost view = { λ b. held_in S.DROPS (owner_of b.piece) (value_of b.piece) };
 
     ghost invariant = { λ b. IsUnder MAX H.whole (owner_of b.piece) };
 }
@@ -51,7 +51,57 @@ fn copied<T: Copy, A: Allocator>(alloc: A, items: &[T]) -> Result<Vec<T, A>, All
     Ok(copy)
 }
 
+/// The items of a vector as an array.
+fn array_of<T: Drop, A: Allocator, const N: usize>(items: Vec<T, A>) -> [T; N]
+    requires { vec_len items ≡ N }
+    ensures { result ≡ items.items }
+{
+    match <[T; N]>::try_from(items) {
+        Ok(array) => array,
+        Err(_) => unreachable!(),
+    }
+}
+
+/// A vector with the items of an array, and a place for each. Takes memory; refused, the array comes back.
+fn moved<T: Drop, A: Allocator + Copy, const N: usize>(
+    alloc: A,
+    array: [T; N],
+) -> Result<Vec<T, A>, [T; N]>
+    ensures moved { IfOk result (λ v. (v.items ≡ array) × (vec_capacity v ≡ length v.items)) }
+    ensures refused { IfErr result (λ back. back ≡ array) }
+{
+    let items = match Vec::from_array(alloc, array) {
+        Ok(items) => items,
+        Err(refused) => return Err(refused.value),
+    };
+    if items.capacity() == items.len() {
+        return Ok(items);
+    }
+    // The vector of an empty array has a place, which no block of no items asks for.
+    let Ok(mut exact) = Vec::with_capacity(alloc, items.len()) else {
+        return Err(array_of(items));
+    };
+    for item in items {
+        exact.push_reserved(item);
+    }
+    Ok(exact)
+}
+
 impl<S: Slice, A: Allocator + Copy, const MAX: u64, H: Mark> Block<S, A, MAX, H> {
+    /// The first owner of a new native block with the items of a vector that has exactly a place for each, with a pass of the block.
+    ///
+    /// Takes memory; refused, the vector comes back. `MAX` is at least 2.
+    pub fn try_from_exact(alloc: A, items: Vec<S::Item, A>) -> Result<(Self, Pass<H>), Vec<S::Item, A>>
+        requires most { 2 ≤ MAX }
+        requires exact { vec_capacity items ≡ length items.items }
+        ensures made { IfOk result (λ r. (r.0 ≡ native_block S.DROPS r.0.owner items.items) × IsFirst MAX H.whole r.0.owner) }
+        ensures pass { IfOk result (λ r. IsFreshPass r.0.owner r.1) }
+        ensures refused { IfErr result (λ back. back ≡ items) }
+    {
+        let (piece, pass) = Piece::new(alloc, items)?;
+        Ok((Block { piece }, pass))
+    }
+
     /// The first owner of a new native block with a copy of the items, and exactly a place for each, with a pass of the block.
     ///
     /// Takes memory; refused, the answer is `AllocError`. `MAX` is at least 2.
@@ -59,12 +109,31 @@ impl<S: Slice, A: Allocator + Copy, const MAX: u64, H: Mark> Block<S, A, MAX, H>
     where
         S::Item: Copy,
         requires { 2 ≤ MAX }
-        ensures made { IfOk result (λ r. (r.0 ≡ native_block r.0.owner items.now) × IsFirst MAX H.whole r.0.owner) }
+        ensures made { IfOk result (λ r. (r.0 ≡ native_block S.DROPS r.0.owner items.now) × IsFirst MAX H.whole r.0.owner) }
         ensures pass { IfOk result (λ r. IsFreshPass r.0.owner r.1) }
     {
-        match Piece::new(alloc, copied(alloc, items)?) {
-            Ok((piece, pass)) => Ok((Block { piece }, pass)),
+        match Self::try_from_exact(alloc, copied(alloc, items)?) {
+            Ok(made) => Ok(made),
             Err(_) => Err(AllocError),
+        }
+    }
+
+    /// The first owner of a new native block with the items of an array, and exactly a place for each, with a pass of the block.
+    ///
+    /// Takes memory; refused, the array comes back. `MAX` is at least 2.
+    pub fn try_from_array<const N: usize>(
+        alloc: A,
+        array: [S::Item; N],
+    ) -> Result<(Self, Pass<H>), [S::Item; N]>
+        requires { 2 ≤ MAX }
+        ensures made { IfOk result (λ r. (r.0 ≡ native_block S.DROPS r.0.owner array) × IsFirst MAX H.whole r.0.owner) }
+        ensures pass { IfOk result (λ r. IsFreshPass r.0.owner r.1) }
+        ensures refused { IfErr result (λ back. back ≡ array) }
+    {
+        let items = moved(alloc, array)?;
+        match Self::try_from_exact(alloc, items) {
+            Ok(made) => Ok(made),
+            Err(items) => Err(array_of(items)),
         }
     }
 

@@ -108,11 +108,14 @@ pub trait Zeroable: Slice {
     ghost zeros_are_legal: { (n : ℕ) → Self.is_legal (replicate n zero_item) };
 }
 
-/// The Copy kinds: a window may be made of a copy of any slice of the items.
-pub trait CopySlice: Slice {
+/// Kinds of which each list is legal: all but `Text`.
+pub trait AnyItems: Slice {
     /// Each list is legal.
     ghost all_are_legal: { (xs : List Self.Item) → Self.is_legal xs };
 }
+
+/// The Copy kinds, `Plain` and `ByteText`: a window may be made of a copy of any slice of the items.
+pub trait CopySlice: AnyItems {}
 
 #[cfg(test)]
 mod tests;

@@ -7,7 +7,8 @@ use Rattle.arc_owners.specs.declared.owners.tokens.Pass.{Pass}
 use Rattle.arc_owners.specs.Book.{Names}
 use Rattle.arc_owners.specs.Pieces.{Owner, IsFirst, IsUnder, IsFreshPass, MakesAnother, FindsFull}
 use Rattle.arc_buffer.specs.Slice.{sub, IsRange}
-use Rattle.arc_buffer.proofs.Sub.{sub-slice_range, sub-sub, sub-whole, length-sub}
+use Rattle.arc_buffer.specs.Laws.{sub-slice_range}
+use Rattle.arc_buffer.proofs.Sub.{sub-sub, sub-whole, length-sub}
 use Rattle.arc_block.specs.Block.{Facts, Held, native, native_facts, native_block}
 use Rattle.arc_block.specs.declared.block.TheConstants.{MAX_OWNERS}
 use Rattle.arc_block.specs.Place.{Place, nowhere, on_block, part_place}
@@ -131,21 +132,21 @@ both_true true n both = eqb-true n 0 both
 both_true false n both = absurd (false≢true both)
 
 -- a window that is made of a list on a new block, and one that is made on nothing
-pub made_on_block : {T H : Type 0} (has_static one_pass : Bool) (items : List T) (b : Held T (Unit {0})) (old new : Pass H) → b ≡ native_block b.owner items → IsFirst MAX_OWNERS one_pass b.owner → IsFreshPass b.owner new → (has_static && (length items == 0)) ≡ false
-    → Makes has_static one_pass items old new (window_seen (Some b) 0 (length items))
-made_on_block {T} {H} has_static one_pass items b old new is first fresh kept =
-    let there : Bool → Place Owner (Unit {0}) = λ nothing. if nothing then nowhere else on_block b.owner 0 (native_facts (length items)) in
-    let P : Held T (Unit {0}) → Type 0 = λ x. window_seen (Some x) 0 (length items) ≡ made_window has_static b.owner items in
+pub made_on_block : {T H : Type 0} (has_static drops one_pass : Bool) (items : List T) (b : Held T (Unit {0})) (old new : Pass H) → b ≡ native_block drops b.owner items → IsFirst MAX_OWNERS one_pass b.owner → IsFreshPass b.owner new → (has_static && (length items == 0)) ≡ false
+    → Makes has_static drops one_pass items old new (window_seen (Some b) 0 (length items))
+made_on_block {T} {H} has_static drops one_pass items b old new is first fresh kept =
+    let there : Bool → Place Owner (Unit {0}) = λ nothing. if nothing then nowhere else on_block b.owner 0 (native_facts drops (length items)) in
+    let P : Held T (Unit {0}) → Type 0 = λ x. window_seen (Some x) 0 (length items) ≡ made_window has_static drops b.owner items in
     (b.owner, subst P (sym is) (ap (λ xs. record { items = xs; place = there false }) (sub-whole items) ∙ ap (λ nothing. record { items = items; place = there nothing }) (sym kept)), (first, fresh))
 
-pub made_on_nothing : {T H : Type 0} (has_static one_pass : Bool) (items : List T) (old : Pass H) → (has_static && (length items == 0)) ≡ true
-    → Makes has_static one_pass items old old (window_seen {T = T} None 0 0)
-made_on_nothing {T} {H} has_static one_pass items old nothing =
+pub made_on_nothing : {T H : Type 0} (has_static drops one_pass : Bool) (items : List T) (old : Pass H) → (has_static && (length items == 0)) ≡ true
+    → Makes has_static drops one_pass items old old (window_seen {T = T} None 0 0)
+made_on_nothing {T} {H} has_static drops one_pass items old nothing =
     let owner : Owner = record { block = old.trace.names; number = 0; born = [] } in
     let empty : items ≡ [] = nil_from_length items (both_true has_static (length items) nothing) in
-    let there : Bool → Place Owner (Unit {0}) = λ b. if b then nowhere else on_block owner 0 (native_facts (length items)) in
+    let there : Bool → Place Owner (Unit {0}) = λ b. if b then nowhere else on_block owner 0 (native_facts drops (length items)) in
     (owner, ap (λ xs. record { items = xs; place = nowhere }) (sym empty) ∙ ap (λ b. record { items = items; place = there b }) (sym nothing), refl)
 
--- the window made on a new block lies within it, and is legal where each list is
-pub made_kept : {T : Type 0} (legal : List T → Type 0) → ((xs : List T) → legal xs) → (items : List T) (b : Held T (Unit {0})) (owner : Owner) → b ≡ native_block owner items → IsWithin (Some b) 0 (length items) × ∥ legal (window_seen (Some b) 0 (length items)).items ∥₁
-made_kept {T} legal all items b owner is = (subst (λ x. IsWithin (Some x) 0 (length items)) (sym is) (omega arith, omega arith, omega arith), ∣ all _ ∣₁)
+-- a window made on a new block lies within it
+pub made_within : {T : Type 0} (drops : Bool) (items : List T) (b : Held T (Unit {0})) → b ≡ native_block drops b.owner items → IsWithin (Some b) 0 (length items)
+made_within {T} drops items b is = subst (λ x. IsWithin (Some x) 0 (length items)) (sym is) (omega arith, omega arith, omega arith)

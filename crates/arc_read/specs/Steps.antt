@@ -91,5 +91,5 @@ module _ {T H : Type 0} where
     pub unasked : ¬ IsWholeOf size w → new ≡ old
 
   -- a window was made of a list
-  abbrev pub Makes : Bool → Bool → List T → Pass H → Pass H → Window T → Type 0
-  Makes has_static one_pass items old new w = (owner : Owner) × (w ≡ made_window has_static owner items) × BeginsAt one_pass w.place old new
+  abbrev pub Makes : Bool → Bool → Bool → List T → Pass H → Pass H → Window T → Type 0
+  Makes has_static drops one_pass items old new w = (owner : Owner) × (w ≡ made_window has_static drops owner items) × BeginsAt one_pass w.place old new

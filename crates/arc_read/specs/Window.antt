@@ -1,5 +1,5 @@
 -- What is seen of a read window, and what holds of its parts.
-use Rattle.std.specs.Prelude.{◌≡◌, ℕ, ◌≤◌, Bool, List, [], length, Option, Some, None}
+use Rattle.std.specs.Prelude.{◌≡◌, ℕ, ◌≤◌, Bool, false, List, [], length, Option, Some, None}
 use Rattle.arc_owners.specs.Pieces.{Owner}
 use Rattle.arc_buffer.specs.Slice.{sub}
 use Rattle.arc_block.specs.Block.{native, Facts, Held, native_facts}
@@ -10,12 +10,12 @@ abbrev pub Window : Type 0 → Type 0
 Window T = Sight T Owner (Unit {0})
 
 -- the window that is made of a list, where its block has this owner: a native block has a place for each item
-abbrev pub made_window : {T : Type 0} → Bool → Owner → List T → Window T
-made_window has_static owner items = record { items = items; place = made_place has_static owner (native_facts (length items)) items }
+abbrev pub made_window : {T : Type 0} → Bool → Bool → Owner → List T → Window T
+made_window has_static drops owner items = record { items = items; place = made_place has_static owner (native_facts drops (length items)) items }
 
 -- a window that is made of a list stands on a block
 abbrev pub NeedsBlock : {T : Type 0} → Bool → List T → Type 0
-NeedsBlock {T} has_static items = let facts : Facts (Unit {0}) = native_facts (length items) in IsOnBlock (made_place {T = T} {N = Unit {0}} has_static tt facts items)
+NeedsBlock {T} has_static items = let facts : Facts (Unit {0}) = native_facts false (length items) in IsOnBlock (made_place {T = T} {N = Unit {0}} has_static tt facts items)
 
 -- the window over a window's part from start to end, as the same owner
 abbrev pub part_window : {T : Type 0} → Bool → Window T → ℕ → ℕ → Window T

@@ -1,14 +1,16 @@
 //! `ArcSlice`, a window that is read.
-ghost use Rattle.std.specs.Prelude.{◌≡◌, ◌==◌, ◌↔◌, true, false, [], length, IsOk, IsTrue, IfOk, IfErr, OnErr};
+ghost use Rattle.std.specs.Prelude.{◌≡◌, ◌==◌, ◌&&◌, ◌↔◌, true, false, [], length, IsOk, IsTrue, IfOk, IfErr, OnErr};
 ghost use Rattle.arc_buffer.specs.Slice.{IsRange, range_answer};
 ghost use Rattle.arc_block.specs.Place.{nowhere};
 ghost use Rattle.arc_owners.specs.Passes.{IsPassOfNone};
+ghost use Rattle.arc_owners.specs.Pieces.{IsFirst, IsFreshPass};
+ghost use Rattle.arc_block.specs.Block.{native_block};
 ghost use Rattle.arc_read.specs.Window.{NeedsBlock, IsWholeOf, part_window};
 ghost use Rattle.arc_read.specs.Steps.{IsUnderAt, IsPassAt, IsNewPassAt, Makes, SharesAt, IsFullAt, AsksAt, LeavesAt, AsksAndLeavesAt, TakesAt, LearnsAt, RefusesArray, WithNewPass, WithPassOfNone};
 
 use arc_block::block::{Block, MAX_OWNERS};
 use arc_block::layout::{DefaultLayout, Layout, StaticLayout, stands_on_nothing};
-use arc_buffer::kinds::{CopySlice, Emptyable, Slice, Subsliceable};
+use arc_buffer::kinds::{AnyItems, CopySlice, Emptyable, Slice, Subsliceable};
 use arc_owners::error::{AllocError, OwnerError, RangeError};
 use arc_owners::mark::{Mark, Open};
 use arc_owners::owners::Pass;
@@ -86,6 +88,44 @@ impl<S: Slice, L: Layout, A: Allocator + Copy, H: Mark> ArcSlice<S, L, A, H> {
         }
     }
 
+    /// The window over all of a block that was just made; the pass becomes the block's.
+    fn over_new(
+        alloc: A,
+        block: Block<S, A, MAX_OWNERS, H>,
+        new: Pass<H>,
+        pass: &mut Pass<H>,
+    ) -> Self
+        requires legal { ∥ S.is_legal block.items ∥₁ }
+        requires made { (block ≡ native_block S.DROPS block.owner block.items) × IsFirst MAX_OWNERS H.whole block.owner × IsFreshPass block.owner new }
+        requires stands { (L.STATIC && (length block.items == 0)) ≡ false }
+        ensures { Makes L.STATIC S.DROPS H.whole block.items pass.old pass.new result }
+    {
+        let end = block.as_slice().len();
+        *pass = new;
+        ArcSlice {
+            block: Some(block),
+            start: 0,
+            end,
+            alloc,
+            of: PhantomData,
+        }
+    }
+
+    /// A window over a copy of the items, which are legal.
+    fn try_copied_as(alloc: A, items: &[S::Item], pass: &mut Pass<H>) -> Result<Self, AllocError>
+    where
+        S::Item: Copy,
+        requires legal { ∥ S.is_legal items.now ∥₁ }
+        ensures ok { IfOk result (λ window. Makes L.STATIC S.DROPS H.whole items.now pass.old pass.new window) }
+        ensures refused { OnErr result (NeedsBlock L.STATIC items.now × (pass.new ≡ pass.old)) }
+    {
+        if stands_on_nothing::<L>(items.len()) {
+            return Ok(Self::on_nothing(alloc));
+        }
+        let (block, new) = Block::try_from_slice(alloc, items)?;
+        Ok(Self::over_new(alloc, block, new, pass))
+    }
+
     /// A window over a copy of the items: no items stand on nothing where the layout has static data, else they stand on a new native
     /// block with exactly a place for each. The pass, which is of no block, becomes the block's; the window is owner 0.
     ///
@@ -99,40 +139,30 @@ impl<S: Slice, L: Layout, A: Allocator + Copy, H: Mark> ArcSlice<S, L, A, H> {
         S: CopySlice,
         S::Item: Copy,
         requires pass { IsPassOfNone pass.old }
-        ensures ok { IfOk result (λ window. Makes L.STATIC H.whole items.now pass.old pass.new window) }
+        ensures ok { IfOk result (λ window. Makes L.STATIC S.DROPS H.whole items.now pass.old pass.new window) }
         ensures refused { OnErr result (NeedsBlock L.STATIC items.now × (pass.new ≡ pass.old)) }
     {
-        if stands_on_nothing::<L>(items.len()) {
-            return Ok(Self::on_nothing(alloc));
-        }
-        let (block, new) = Block::try_from_slice(alloc, items)?;
-        *pass = new;
-        Ok(ArcSlice {
-            block: Some(block),
-            start: 0,
-            end: items.len(),
-            alloc,
-            of: PhantomData,
-        })
+        Self::try_copied_as(alloc, items, pass)
     }
 
-    /// `try_from_slice_as` of an array's items. Refused memory, the array comes back.
+    /// A window over an array's items, which are moved into a block as by `try_from_slice_as`. Refused memory, the array comes back.
     pub fn try_from_array_as<const N: usize>(
         alloc: A,
         array: [S::Item; N],
         pass: &mut Pass<H>,
     ) -> Result<Self, [S::Item; N]>
     where
-        S: CopySlice,
-        S::Item: Copy,
+        S: AnyItems,
         requires pass { IsPassOfNone pass.old }
-        ensures ok { IfOk result (λ window. Makes L.STATIC H.whole array pass.old pass.new window) }
+        ensures ok { IfOk result (λ window. Makes L.STATIC S.DROPS H.whole array pass.old pass.new window) }
         ensures refused { IfErr result (λ back. (back ≡ array) × NeedsBlock L.STATIC array × (pass.new ≡ pass.old)) }
     {
-        match Self::try_from_slice_as(alloc, &array, pass) {
-            Ok(window) => Ok(window),
-            Err(AllocError) => Err(array),
+        if stands_on_nothing::<L>(array.as_slice().len()) {
+            drop(array);
+            return Ok(Self::on_nothing(alloc));
         }
+        let (block, new) = Block::try_from_array(alloc, array)?;
+        Ok(Self::over_new(alloc, block, new, pass))
     }
 }
 
@@ -144,7 +174,7 @@ impl<S: Slice, L: Layout, A: Allocator + Copy> ArcSlice<S, L, A, Open> {
     where
         S: CopySlice,
         S::Item: Copy,
-        ensures ok { IfOk result (λ window. WithPassOfNone (λ first last. Makes L.STATIC false items.now first last window)) }
+        ensures ok { IfOk result (λ window. WithPassOfNone (λ first last. Makes L.STATIC S.DROPS false items.now first last window)) }
         ensures refused { OnErr result (NeedsBlock L.STATIC items.now) }
     {
         Self::try_from_slice_as(alloc, items, &mut Pass::none())
@@ -156,9 +186,8 @@ impl<S: Slice, L: Layout, A: Allocator + Copy> ArcSlice<S, L, A, Open> {
         array: [S::Item; N],
     ) -> Result<Self, [S::Item; N]>
     where
-        S: CopySlice,
-        S::Item: Copy,
-        ensures ok { IfOk result (λ window. WithPassOfNone (λ first last. Makes L.STATIC false array first last window)) }
+        S: AnyItems,
+        ensures ok { IfOk result (λ window. WithPassOfNone (λ first last. Makes L.STATIC S.DROPS false array first last window)) }
         ensures refused { IfErr result (λ back. (back ≡ array) × NeedsBlock L.STATIC array) }
     {
         Self::try_from_array_as(alloc, array, &mut Pass::none())

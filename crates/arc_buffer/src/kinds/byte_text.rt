@@ -3,7 +3,9 @@ ghost use Rattle.std.specs.Prelude.{false, refl};
 ghost use Rattle.arc_buffer.specs.Slice.{anywhere};
 ghost use Rattle.arc_buffer.specs.Laws.{anywhere_at_ends};
 
-use super::{Concatenable, CopySlice, Emptyable, Extendable, Slice, Subsliceable, Zeroable};
+use super::{
+    AnyItems, Concatenable, CopySlice, Emptyable, Extendable, Slice, Subsliceable, Zeroable,
+};
 use std::convert::Infallible;
 
 /// Bytes that are text by convention: each list is legal, and may be cut anywhere.
@@ -57,9 +59,11 @@ impl Extendable for ByteText {
     ghost more_is_legal = { λ _ _ _. tt };
 }
 
-impl CopySlice for ByteText {
+impl AnyItems for ByteText {
     ghost all_are_legal = { λ _. tt };
 }
+
+impl CopySlice for ByteText {}
 
 impl Zeroable for ByteText {
     ghost zero_item = { 0 };

@@ -3,7 +3,7 @@ ghost use Rattle.std.specs.Prelude.{true, refl};
 ghost use Rattle.arc_buffer.specs.Slice.{anywhere};
 ghost use Rattle.arc_buffer.specs.Laws.{anywhere_at_ends};
 
-use super::{Concatenable, Emptyable, Extendable, Slice, Subsliceable};
+use super::{AnyItems, Concatenable, Emptyable, Extendable, Slice, Subsliceable};
 use std::convert::Infallible;
 use std::marker::PhantomData;
 
@@ -59,4 +59,8 @@ impl<T: Send + Sync + Drop> Concatenable for Owned<T> {
 
 impl<T: Send + Sync + Drop> Extendable for Owned<T> {
     ghost more_is_legal = { λ _ _ _. tt };
+}
+
+impl<T: Send + Sync + Drop> AnyItems for Owned<T> {
+    ghost all_are_legal = { λ _. tt };
 }

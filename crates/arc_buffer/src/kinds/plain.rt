@@ -4,7 +4,9 @@ ghost use Rattle.arc_buffer.specs.Slice.{anywhere};
 ghost use Rattle.arc_buffer.specs.Laws.{anywhere_at_ends};
 
 use super::zero_item::ZeroItem;
-use super::{Concatenable, CopySlice, Emptyable, Extendable, Slice, Subsliceable, Zeroable};
+use super::{
+    AnyItems, Concatenable, CopySlice, Emptyable, Extendable, Slice, Subsliceable, Zeroable,
+};
 use std::convert::Infallible;
 use std::marker::PhantomData;
 
@@ -61,9 +63,11 @@ impl<T: Copy + Send + Sync + Drop> Extendable for Plain<T> {
     ghost more_is_legal = { λ _ _ _. tt };
 }
 
-impl<T: Copy + Send + Sync + Drop> CopySlice for Plain<T> {
+impl<T: Copy + Send + Sync + Drop> AnyItems for Plain<T> {
     ghost all_are_legal = { λ _. tt };
 }
+
+impl<T: Copy + Send + Sync + Drop> CopySlice for Plain<T> {}
 
 impl<T: ZeroItem + Send + Sync + Drop> Zeroable for Plain<T> {
     ghost zero_item = { T.zero_item };
