@@ -28,3 +28,9 @@ range_answer boundary xs start end =
     if nat_lt (length xs) end then Err OutOfRange else
     if nat_lt end start then Err InvalidRange else
     if boundary xs start && boundary xs end then Ok tt else Err NotBoundary
+
+-- what a test of a place answers: the length is asked first, then the edge
+abbrev pub edge_answer : {T : Type 0} → (List T → ℕ → Bool) → List T → ℕ → Result (Unit {0}) RangeError
+edge_answer boundary xs at =
+    if nat_lt (length xs) at then Err OutOfRange else
+    if boundary xs at then Ok tt else Err NotBoundary

@@ -489,5 +489,6 @@ impl<S: Slice, L: Layout, A: Allocator + Copy> ArcSlice<S, L, A, Open> {
     }
 }
 
+mod cuts;
 #[cfg(test)]
 mod tests;
