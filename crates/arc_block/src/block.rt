@@ -228,6 +228,17 @@ impl<S: Slice, A: Allocator + Copy, const MAX: u64, H: Mark> Block<S, A, MAX, H>
     }
 }
 
+impl<S: Slice, A: Allocator + Copy, const MAX: u64, H: Mark> Block<S, A, MAX, H> {
+    /// The same owner, of items of another kind. Takes no memory and adds nothing.
+    pub fn into_kind<K: Slice<Item = S::Item>>(self) -> Block<K, A, MAX, H>
+        requires { K.DROPS ≡ S.DROPS }
+        ensures { result ≡ self }
+    {
+        let Block { piece } = self;
+        Block { piece }
+    }
+}
+
 impl<S: Slice, A: Allocator + Copy, const MAX: u64> Block<S, A, MAX, Open> {
     /// A new pass, which has seen at least the entry that made this owner, and made nothing. It adds no entry and takes no memory.
     pub fn pass(&self) -> Pass<Open>

@@ -407,6 +407,32 @@ impl<S: Slice, L: Layout, A: Allocator + Copy, H: Mark> ArcSlice<S, L, A, H> {
         }
     }
 
+    /// The same window, of items of another kind, for which its list is legal.
+    fn into_kind<K: Slice<Item = S::Item>>(self) -> ArcSlice<K, L, A, H>
+        requires drops { K.DROPS ≡ S.DROPS }
+        requires legal { ∥ K.is_legal self.items ∥₁ }
+        ensures { result ≡ self }
+    {
+        let ArcSlice {
+            block,
+            start,
+            end,
+            alloc,
+            of,
+        } = self;
+        let block = match block {
+            Some(block) => Some(block.into_kind()),
+            None => None,
+        };
+        ArcSlice {
+            block,
+            start,
+            end,
+            alloc,
+            of,
+        }
+    }
+
     /// Afterwards the first pass has seen at least what the other had. It adds nothing and takes no memory.
     pub fn learn(&self, pass: &mut Pass<H>, other: &Pass<H>)
         requires pass { IsPassAt self.now.place pass.old }
@@ -492,3 +518,4 @@ impl<S: Slice, L: Layout, A: Allocator + Copy> ArcSlice<S, L, A, Open> {
 mod cuts;
 #[cfg(test)]
 mod tests;
+mod text;

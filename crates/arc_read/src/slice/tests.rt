@@ -4,9 +4,10 @@ ghost use Rattle.arc_read.specs.Steps.{IsPassAt};
 
 use super::*;
 use arc_block::layout::ArcLayout;
-use arc_buffer::kinds::Plain;
+use arc_buffer::kinds::{ByteText, Owned, Plain, Text};
 use arc_owners::mark::Whole;
 use linked_list_allocator::LocalHeap;
+use std::sync::Arc;
 use std::test::Fail;
 use std::thread;
 
@@ -265,5 +266,157 @@ fn ended_by_another_thread(rt: HostRuntime) -> Result<(), Fail> {
     assert_eq!(rt; len, 3);
     window.learn(&mut own, &other);
     assert!(rt; window.is_unique_as(&mut own));
+    Ok(())
+}
+
+/// The bytes of `aéb`.
+const A_E_B: [u8; 4] = [0x61, 0xc3, 0xa9, 0x62];
+
+#[test]
+fn bytes_split(rt: HostRuntime) -> Result<(), Fail> {
+    let mut text: ArcSlice<Plain<u8>> = ArcSlice::try_from_slice(rt.alloc(), b"Hello world")?;
+    assert_eq!(rt; text.check_at(6), Ok(()));
+    assert_eq!(rt; text.check_at(12), Err(RangeError::OutOfRange));
+    let front = text.try_split_to(&rt, 6)?;
+    assert_eq!(rt; front.as_slice(), b"Hello ".as_slice());
+    assert_eq!(rt; text.as_slice(), b"world".as_slice());
+    assert_eq!(rt; text.check_at(1), Ok(()));
+    let back = text.try_split_off(&rt, 1)?;
+    assert_eq!(rt; back.as_slice(), b"orld".as_slice());
+    assert_eq!(rt; text.as_slice(), b"w".as_slice());
+    assert!(rt; !text.is_unique());
+    drop(front);
+    drop(back);
+    assert!(rt; text.is_unique());
+    Ok(())
+}
+
+/// At its ends a window hands out itself, or an empty part on nothing: either way one owner stays.
+#[test]
+fn split_at_the_ends(rt: HostRuntime) -> Result<(), Fail> {
+    let mut text: ArcSlice<Plain<u8>> = ArcSlice::try_from_slice(rt.alloc(), b"Hello")?;
+    assert_eq!(rt; text.check_at(0), Ok(()));
+    let mut whole = text.try_split_off(&rt, 0)?;
+    assert!(rt; text.is_empty() && !text.is_unique());
+    assert_eq!(rt; whole.as_slice(), b"Hello".as_slice());
+    assert!(rt; whole.is_unique());
+    assert_eq!(rt; whole.check_at(5), Ok(()));
+    let all = whole.try_split_to(&rt, 5)?;
+    assert!(rt; whole.is_empty() && !whole.is_unique());
+    assert_eq!(rt; all.as_slice(), b"Hello".as_slice());
+    assert!(rt; all.is_unique());
+    let mut empty: ArcSlice<Plain<()>, WithoutStatic> = ArcSlice::try_from_slice(rt.alloc(), &[])?;
+    assert_eq!(rt; empty.check_at(0), Ok(()));
+    let other = empty.try_split_to(&rt, 0)?;
+    assert!(rt; !empty.is_unique() && !other.is_unique());
+    Ok(())
+}
+
+#[test]
+fn cut_in_place(rt: HostRuntime) -> Result<(), Fail> {
+    let mut text: ArcSlice<Plain<u8>> = ArcSlice::try_from_slice(rt.alloc(), b"Hello")?;
+    assert_eq!(rt; text.check_at(2), Ok(()));
+    text.advance(2);
+    assert_eq!(rt; text.as_slice(), b"llo".as_slice());
+    text.truncate(7);
+    assert_eq!(rt; text.as_slice(), b"llo".as_slice());
+    text.truncate(0);
+    assert!(rt; text.is_empty() && text.is_unique());
+    Ok(())
+}
+
+#[test]
+fn units_split(rt: HostRuntime) -> Result<(), Fail> {
+    let mut units: ArcSlice<Plain<()>> = ArcSlice::try_from_slice(rt.alloc(), &[(); 5])?;
+    assert_eq!(rt; units.check_at(2), Ok(()));
+    let back = units.try_split_off(&rt, 2)?;
+    assert_eq!(rt; (units.len(), back.len()), (2, 3));
+    Ok(())
+}
+
+#[test]
+fn text_is_cut_between_characters(rt: HostRuntime) -> Result<(), Fail> {
+    let mut text: ArcSlice<Text> = ArcSlice::try_from_str(rt.alloc(), "aéb")?;
+    assert_eq!(rt; text.len(), 4);
+    assert_eq!(rt; text.check_at(2), Err(RangeError::NotBoundary));
+    assert_eq!(rt; text.check_range(3, 9), Err(RangeError::OutOfRange));
+    assert_eq!(rt; text.check_range(3, 1), Err(RangeError::InvalidRange));
+    assert_eq!(rt; text.check_range(0, 2), Err(RangeError::NotBoundary));
+    assert_eq!(rt; text.check_at(3), Ok(()));
+    let back = text.try_split_off(&rt, 3)?;
+    assert_eq!(rt; text.as_str(), "aé");
+    assert_eq!(rt; back.as_str(), "b");
+    let bytes = text.into_arc_slice();
+    assert_eq!(rt; bytes.as_slice(), &A_E_B[..3]);
+    Ok(())
+}
+
+#[test]
+fn text_from_bytes(rt: HostRuntime) -> Result<(), Fail> {
+    let half: ArcSlice<Plain<u8>> = ArcSlice::try_from_slice(rt.alloc(), &A_E_B[..2])?;
+    let Err((error, half)) = ArcSlice::<Text>::try_from_arc_slice(half) else {
+        return Err("half a character".into());
+    };
+    assert_eq!(rt; error.valid_up_to(), 1);
+    assert_eq!(rt; half.as_slice(), &A_E_B[..2]);
+    let whole: ArcSlice<Plain<u8>> = ArcSlice::try_from_slice(rt.alloc(), &A_E_B)?;
+    let Ok(text) = ArcSlice::<Text>::try_from_arc_slice(whole) else {
+        return Err("a text".into());
+    };
+    assert_eq!(rt; text.as_str(), "aéb");
+    let Ok(loose) = ArcSlice::<ByteText>::try_from_arc_slice(half) else {
+        return Err("byte text".into());
+    };
+    assert_eq!(rt; loose.into_arc_slice().as_slice(), &A_E_B[..2]);
+    let mine: ArcSlice<ByteText> = ArcSlice::try_from_slice(rt.alloc(), &A_E_B[..2])?;
+    assert_eq!(rt; mine.check_at(2), Ok(()));
+    Ok(())
+}
+
+/// Items that are dropped one by one, each once, with the last owner of their block: the language's own count tells how many clones of
+/// each item live.
+#[test]
+fn owned_items_are_dropped_once(rt: HostRuntime) -> Result<(), Fail> {
+    let a = Arc::new(rt.alloc(), b'a')?;
+    let b = Arc::new(rt.alloc(), b'b')?;
+    let c = Arc::new(rt.alloc(), b'c')?;
+    let items = [
+        Arc::try_clone(&a)?,
+        Arc::try_clone(&b)?,
+        Arc::try_clone(&c)?,
+    ];
+    let Ok(window) = ArcSlice::<Owned<Arc<u8>>>::try_from_array(rt.alloc(), items) else {
+        return Err("no memory".into());
+    };
+    let clone = window.try_clone(&rt)?;
+    assert_eq!(rt; window.check_range(1, 2), Ok(()));
+    let part = window.try_subslice(&rt, 1, 2)?;
+    assert_eq!(rt; *part.as_slice()[0], b'b');
+    drop(window);
+    drop(part);
+    for item in [&a, &b, &c] {
+        assert_eq!(rt; Arc::strong_count(item), 2);
+    }
+    drop(clone);
+    for item in [&a, &b, &c] {
+        assert_eq!(rt; Arc::strong_count(item), 1);
+    }
+    Ok(())
+}
+
+/// Items that are taken back as an array are the caller's again.
+#[test]
+fn owned_items_taken_back(rt: HostRuntime) -> Result<(), Fail> {
+    let a = Arc::new(rt.alloc(), b'a')?;
+    let items = [Arc::try_clone(&a)?];
+    let Ok(window) = ArcSlice::<Owned<Arc<u8>>>::try_from_array(rt.alloc(), items) else {
+        return Err("no memory".into());
+    };
+    let Ok(items) = window.try_into_array::<1>() else {
+        return Err("alone".into());
+    };
+    assert_eq!(rt; Arc::strong_count(&a), 2);
+    drop(items);
+    assert_eq!(rt; Arc::strong_count(&a), 1);
     Ok(())
 }

@@ -1,0 +1,92 @@
+//! Windows over text and byte text.
+ghost use Rattle.std.specs.Prelude.{◌≡◌, false, drop, IsOk, IfOk, IfErr, OnErr};
+ghost use Rattle.std.specs.Str.{IsUtf8, valid_up_to, error_len};
+ghost use Rattle.std.specs.Str.Lossy.{utf8_valid_len, utf8_error_len};
+ghost use Rattle.arc_owners.specs.Passes.{IsPassOfNone};
+ghost use Rattle.arc_read.specs.Window.{NeedsBlock};
+ghost use Rattle.arc_read.specs.Steps.{Makes, WithPassOfNone};
+
+use super::ArcSlice;
+use arc_block::layout::Layout;
+use arc_buffer::kinds::{ByteText, Plain, Slice, Text};
+use arc_owners::error::AllocError;
+use arc_owners::mark::{Mark, Open};
+use arc_owners::owners::Pass;
+use std::alloc::Allocator;
+use std::convert::Infallible;
+use std::str;
+use std::str::Utf8Error;
+
+impl<L: Layout, A: Allocator + Copy, H: Mark> ArcSlice<Text, L, A, H> {
+    /// A window over a copy of the text: no text stands on nothing where the layout has static data, else it stands on a new native block
+    /// with exactly a place for each byte. The pass, which is of no block, becomes the block's; the window is owner 0.
+    ///
+    /// Takes memory for a block; refused, the answer is `AllocError`, and the pass is as before.
+    pub fn try_from_str_as(alloc: A, text: &str, pass: &mut Pass<H>) -> Result<Self, AllocError>
+        requires pass { IsPassOfNone pass.old }
+        ensures ok { IfOk result (λ window. Makes L.STATIC false H.whole text.now pass.old pass.new window) }
+        ensures refused { OnErr result (NeedsBlock L.STATIC text.now × (pass.new ≡ pass.old)) }
+    {
+        Self::try_copied_as(alloc, text.as_bytes(), pass)
+    }
+
+    /// The text.
+    pub fn as_str(&self) -> &str
+        ensures { result.now ≡ self.now.items }
+    {
+        let _ = &self.block;
+        unsafe { str::from_utf8_unchecked(self.as_slice()) }
+    }
+
+    /// The same window, over bytes. Takes no memory and adds nothing.
+    pub fn into_arc_slice(self) -> ArcSlice<Plain<u8>, L, A, H>
+        ensures { result ≡ self }
+    {
+        self.into_kind()
+    }
+
+    /// The same window, over text, exactly where its bytes are valid UTF-8: else the bytes come back, with what is wrong with them. Takes
+    /// no memory and adds nothing.
+    pub fn try_from_arc_slice(
+        bytes: ArcSlice<Plain<u8>, L, A, H>,
+    ) -> Result<Self, (Utf8Error, ArcSlice<Plain<u8>, L, A, H>)>
+        ensures ok { IfOk result (λ text. (text ≡ bytes) × IsUtf8 bytes.items) }
+        ensures back { IfErr result (λ r. (r.1 ≡ bytes) × ¬ (IsUtf8 bytes.items)) }
+        ensures error { IfErr result (λ r. (valid_up_to r.0 ≡ utf8_valid_len bytes.items) × (error_len r.0 ≡ utf8_error_len (drop (valid_up_to r.0) bytes.items))) }
+    {
+        match Text::try_from_slice(bytes.as_slice()) {
+            Ok(()) => Ok(bytes.into_kind()),
+            Err(error) => Err((error, bytes)),
+        }
+    }
+}
+
+impl<L: Layout, A: Allocator + Copy> ArcSlice<Text, L, A, Open> {
+    /// A window over a copy of the text: `try_from_str_as` with a new pass.
+    ///
+    /// Takes memory for a block; refused, the answer is `AllocError`.
+    pub fn try_from_str(alloc: A, text: &str) -> Result<Self, AllocError>
+        ensures ok { IfOk result (λ window. WithPassOfNone (λ first last. Makes L.STATIC false false text.now first last window)) }
+        ensures refused { OnErr result (NeedsBlock L.STATIC text.now) }
+    {
+        Self::try_from_str_as(alloc, text, &mut Pass::none())
+    }
+}
+
+impl<L: Layout, A: Allocator + Copy, H: Mark> ArcSlice<ByteText, L, A, H> {
+    /// The same window, over bytes. Takes no memory and adds nothing.
+    pub fn into_arc_slice(self) -> ArcSlice<Plain<u8>, L, A, H>
+        ensures { result ≡ self }
+    {
+        self.into_kind()
+    }
+
+    /// The same window, over byte text. Takes no memory and adds nothing.
+    pub fn try_from_arc_slice(
+        bytes: ArcSlice<Plain<u8>, L, A, H>,
+    ) -> Result<Self, (Infallible, ArcSlice<Plain<u8>, L, A, H>)>
+        ensures { IfOk result (λ text. text ≡ bytes) }
+    {
+        Ok(bytes.into_kind())
+    }
+}
