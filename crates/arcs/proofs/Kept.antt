@@ -255,11 +255,11 @@ module _ {A : Type 0} (entries entries' : List (Option (Entry A))) (e : Entry A)
       subst (λ ss. IsKept MAX_OWNERS ss passes) (sym (stands-more ∙ ap (λ b. stands_of entries ++ stand_at b e.window.place ∷ []) none ∙ ap (λ s. stands_of entries ++ s ∷ []) (stand-none e.window.place)))
       (kept-nowhere k)
 
-  pub made-on_block : {H : Type 0} {passes passes' : List (Pass H)} (items : List ℕ) (old new : Pass H) → IsKept MAX_OWNERS (stands_of entries) passes → Makes true true items old new e.window → (length items == 0) ≡ false → e.block ≡ Some (length passes) → passes' ≡ passes ++ new ∷ [] → IsKept MAX_OWNERS (stands_of entries') passes'
+  pub made-on_block : {H : Type 0} {passes passes' : List (Pass H)} (items : List ℕ) (old new : Pass H) → IsKept MAX_OWNERS (stands_of entries) passes → Makes true false true items old new e.window → (length items == 0) ≡ false → e.block ≡ Some (length passes) → passes' ≡ passes ++ new ∷ [] → IsKept MAX_OWNERS (stands_of entries') passes'
   made-on_block {passes = passes} {passes' = passes'} items old new k makes some block one_pass =
       let n = length passes in
       let owner = makes.0 in
-      let there : Place Owner (Unit {0}) = on_block owner 0 (native_facts (length items)) in
+      let there : Place Owner (Unit {0}) = on_block owner 0 (native_facts false (length items)) in
       let place : e.window.place ≡ there = ap (λ (w : Window ℕ). w.place) makes.1 ∙ ap (λ b. if b then nowhere else there) some in
       let begins : BeginsAt true there old new = subst (λ p. BeginsAt true p old new) place makes.2 in
       let stands : stands_of entries' ≡ stands_of entries ++ Some (n, owner) ∷ [] = stands-more ∙ ap (λ b. stands_of entries ++ stand_at b e.window.place ∷ []) block ∙ ap (λ p. stands_of entries ++ stand_at (Some n) p ∷ []) place in

@@ -1,5 +1,5 @@
 -- Scripts: the lines of an input, what each is answered, and what is written.
-use Rattle.std.specs.Prelude.{◌≡◌, ℕ, true, List, [], ◌∷◌, ◌++◌, Option, Some, None, map, flat_map, Contains, codes}
+use Rattle.std.specs.Prelude.{◌≡◌, ℕ, true, false, List, [], ◌∷◌, ◌++◌, Option, Some, None, map, flat_map, Contains, codes}
 use Rattle.std.specs.List.{AllByRecursion}
 use Rattle.arc_block.specs.Table.{Table, empty_table}
 use Rattle.arcs.specs.RunOf.{RunOf}
@@ -31,7 +31,7 @@ pub record AreLines (input : List ℕ) (lines : List (List ℕ)) : Type 0 where
 
 -- a byte window may be cut anywhere, and its layout has static data
 abbrev pub byte_setting : Setting ℕ
-byte_setting = record { has_static = true; boundary = λ items at. true }
+byte_setting = record { has_static = true; drops = false; boundary = λ items at. true }
 
 -- the script's tables: no window has metadata
 abbrev pub ByteTable : Type 0

@@ -16,6 +16,8 @@ use Rattle.arcs.specs.declared.command.Reply.TheVariants as reply
 -- what a table is run under: whether its layout has static data, and where its kind may be cut
 pub record Setting (T : Type 0) : Type 0 where
   pub has_static : Bool
+  -- whether blocks count their full places
+  pub drops : Bool
   pub boundary : List T → ℕ → Bool
 
 -- a reply, and the table after it
@@ -38,7 +40,7 @@ blocks_after blocks (on_block block offset facts) = blocks + 1
 
 -- a window over a copy of the items
 abbrev pub made : {T M : Type 0} → Setting T → Table T M → List T → Outcome T M
-made setting t items = let place = made_place setting.has_static t.blocks (native_facts (length items)) items in with_window t items place (blocks_after t.blocks place)
+made setting t items = let place = made_place setting.has_static t.blocks (native_facts setting.drops (length items)) items in with_window t items place (blocks_after t.blocks place)
 
 -- a window more with the items, the place and the role of a row
 abbrev pub cloned : {T M : Type 0} → Table T M → Row T M → Outcome T M
