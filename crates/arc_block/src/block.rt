@@ -91,7 +91,10 @@ impl<S: Slice, A: Allocator + Copy, const MAX: u64, H: Mark> Block<S, A, MAX, H>
     /// The first owner of a new native block with the items of a vector that has exactly a place for each, with a pass of the block.
     ///
     /// Takes memory; refused, the vector comes back. `MAX` is at least 2.
-    pub fn try_from_exact(alloc: A, items: Vec<S::Item, A>) -> Result<(Self, Pass<H>), Vec<S::Item, A>>
+    pub fn try_from_exact(
+        alloc: A,
+        items: Vec<S::Item, A>,
+    ) -> Result<(Self, Pass<H>), Vec<S::Item, A>>
         requires most { 2 ≤ MAX }
         requires exact { vec_capacity items ≡ length items.items }
         ensures made { IfOk result (λ r. (r.0 ≡ native_block S.DROPS r.0.owner items.items) × IsFirst MAX H.whole r.0.owner) }
