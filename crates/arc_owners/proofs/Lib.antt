@@ -7,3 +7,4 @@ pub mod Rows
 pub mod Book
 pub mod Runs
 pub mod Realized
+pub mod Calls

@@ -8,7 +8,7 @@ use Rattle.arc_owners.specs.declared.owners.entry.Entry.TheVariants.{Up, Full, D
 use Rattle.arc_owners.specs.declared.owners.event.Event.{Event}
 use Rattle.arc_owners.specs.Histories.{Counted, owners_ever, owners_ended, live_owners, is_promotion, is_promoted, is_counted, MayFollow, IsLegalAfter, IsLegal}
 use Rattle.arc_owners.specs.Machine.{Machine, step, changed, opening, after_events}
-use Rattle.arc_owners.specs.Agreement.{Tells}
+use Rattle.arc_owners.specs.Agreement.{Tells, is_exchange}
 use Rattle.arc_owners.proofs.Owned.{promoted-append}
 use Rattle.arc_owners.proofs.Legality.{legal-append}
 use Rattle.arc_owners.proofs.Book.Events.{IsStep, one_event}
@@ -41,6 +41,14 @@ no_promotion (Alone by found) s = refl
 no_promotion (Promote by new) s = absurd s
 no_promotion (Joined by) s = absurd s
 
+no_exchange : (e : Entry) → IsStep e → is_exchange e ≡ false
+no_exchange (Up by new) s = refl
+no_exchange (Full by) s = refl
+no_exchange (Down owner) s = refl
+no_exchange (Alone by found) s = refl
+no_exchange (Promote by new) s = absurd s
+no_exchange (Joined by) s = absurd s
+
 still_none : (h : List Entry) (e : Entry) → is_promoted h ≡ false → IsStep e → is_promoted (h ++ e ∷ []) ≡ false
 still_none h e n s = promoted-append h e ∙ rw (n, no_promotion e s) refl
 
@@ -55,7 +63,7 @@ module _ (most : ℕ) where
   realizes : (before rest : List Entry) (events : List Event) → Tells_after events before → IsLegal most Counted before → is_promoted before ≡ false → IsLegalAfter most Counted before rest → (all : List Event) × Tells_after all (before ++ rest)
   realizes before [] events t l n r = (events, subst (λ (h : List Entry). Tells_after events h) (sym (append-nil before)) t)
   realizes before (e ∷ rest) events t l n r =
-      let m : Machine = after_events most Counted events in let s : IsStep e = is_step most before e n r.0 in let one = one_event most Counted before l (counted before) e s r.0 m 1 t in let all : List Event = events ++ one.0 ∷ [] in
+      let m : Machine = after_events most Counted events in let s : IsStep e = is_step most before e n r.0 in let one = one_event most Counted before l (counted before) e s r.0 m 1 t (λ (x : is_exchange e ≡ true). absurd (false≢true (sym (no_exchange e s) ∙ x))) in let all : List Event = events ++ one.0 ∷ [] in
       let next : after_events most Counted all ≡ changed m one.0 = fold-append (step most) (opening Counted) events (one.0 ∷ []) ∙ happens most m one.0 one.2 in
       subst (λ (h : List Entry). (es : List Event) × Tells_after es h) (append_assoc before (e ∷ []) rest)
       (realizes (before ++ e ∷ []) rest all (subst (λ (x : Machine). Tells Counted x (before ++ e ∷ [])) (sym next) one.3) (legal-append most Counted before e l r.0) (still_none before e n s) r.1)

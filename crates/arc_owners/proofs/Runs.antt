@@ -25,9 +25,9 @@ pub written-next : (t : Names) (p : ℕ) (seen : List Line) (e : Entry) (ls : Li
 written-next t p seen e ls whole w = w.1.1 ∙ ap (λ (b : List Line). b ++ (p, e) ∷ []) (sym (w.1.0.undisturbed whole))
 
 -- and its entry may follow the history so far
-pub may-next : (t : Names) (p : ℕ) (seen : List Line) (e : Entry) (ls : List Line) (h : List Entry) → t.whole ≡ true → Written t p seen e ls → entries_of seen ≡ h → MayFollow t.most (beginning t.counted) h e
+pub may-next : (t : Names) (p : ℕ) (seen : List Line) (e : Entry) (ls : List Line) (h : List Entry) → t.whole ≡ true → Written t p seen e ls → entries_of seen ≡ h → MayFollow t.most t.began h e
 may-next t p seen e ls h whole w is =
-    subst (λ (b : List Entry). MayFollow t.most (beginning t.counted) b e) (ap entries_of (sym (w.1.0.undisturbed whole)) ∙ is) w.1.0.may
+    subst (λ (b : List Entry). MayFollow t.most t.began b e) (ap entries_of (sym (w.1.0.undisturbed whole)) ∙ is) w.1.0.may
 
 module _ (t : Names) (whole : t.whole ≡ true) (p r : Trace) (h : List Entry) (ran : Ran p h) where
   -- the history, and this entry
@@ -41,7 +41,7 @@ module _ (t : Names) (whole : t.whole ≡ true) (p r : Trace) (h : List Entry) (
   here : (before : List Line) {e : Entry} → Adds t p.number p.lines before e → entries_of before ≡ h
   here before adds = ap entries_of (sym (adds.undisturbed whole)) ∙ ran.entries
 
-  may-more : (e : Entry) → Wrote t p r e → MayFollow t.most (beginning t.counted) h e
+  may-more : (e : Entry) → Wrote t p r e → MayFollow t.most t.began h e
   may-more e w = may-next t p.number p.lines e r.lines h whole w ran.entries
 
   -- the entry of a new owner

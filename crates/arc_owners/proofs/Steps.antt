@@ -1,6 +1,7 @@
 -- What holds of the word machine after every run, and that each event keeps it.
 use Rattle.std.proofs.Common.{inl, inr, ◌≡◌, ℕ, ◌+◌, ◌-◌, ◌≤◌, ◌<◌, true, false, eqb, ltb, List, [], ◌∷◌, ◌++◌, length, None, refl, sym, ◌∙◌, ap, arith, length-append, not, ◌&&◌, ◌||◌}
 use Rattle.std.proofs.lemmas.Bool.{cases_Bool, eqb-true, eq-eqb, ltb-true, false≢true, not-true, and_parts, or_left, or_right}
+use Rattle.std.proofs.Math.Bool.{or-false}
 use Rattle.arc_owners.specs.declared.owners.entry.Entry.{Entry}
 use Rattle.arc_owners.specs.declared.owners.entry.Entry.TheVariants.{Up, Full, Down, Alone, Promote, Joined}
 use Rattle.arc_owners.specs.declared.owners.event.Event.{Event}
@@ -38,6 +39,12 @@ pub counted-more : (began : Beginning) (h : List Entry) (e : Entry) → is_count
 unfolding is_counted
 counted-more Counted h e c = refl
 counted-more Lone h e c = promoted-append h e ∙ or_left (is_promoted h) (is_promotion e || false) c
+
+-- an end leaves the word as it was
+pub counted-ended : (began : Beginning) (h : List Entry) (owner : ℕ) → is_counted began (h ++ Down owner ∷ []) ≡ is_counted began h
+unfolding is_counted
+counted-ended Counted h owner = refl
+counted-ended Lone h owner = promoted-append h (Down owner) ∙ or-false (is_promoted h)
 
 pub counted-won : (began : Beginning) (h : List Entry) (by new : ℕ) → is_counted began h ≡ false → is_counted began (h ++ Promote by new ∷ []) ≡ true
 unfolding is_counted

@@ -1,11 +1,11 @@
 -- When a run of the word machine agrees with an owner history.
-use Rattle.std.specs.Prelude.{◌≡◌, ℕ, true, false, List, [], ◌∷◌, ◌++◌, length, ◌⊎◌}
-use Rattle.arc_owners.specs.Histories.{Beginning, live_owners, is_counted}
+use Rattle.std.specs.Prelude.{◌≡◌, ℕ, Bool, true, false, List, [], ◌∷◌, ◌++◌, length, ◌⊎◌}
+use Rattle.arc_owners.specs.Histories.{Beginning, is_in, live_owners, is_counted}
 use Rattle.arc_owners.specs.Machine.{Machine, may_happen, changed, after_events}
 use Rattle.arc_owners.specs.declared.owners.entry.Entry.{Entry}
 use Rattle.arc_owners.specs.declared.owners.event.Event.{Event}
 use Rattle.arc_owners.specs.declared.owners.event.Event.TheVariants.{Load, ExchangeWon, ExchangeLost, CountUp, FullFound, CountDown, UniquenessLoad}
-use Rattle.arc_owners.specs.declared.owners.entry.Entry.TheVariants.{Down}
+use Rattle.arc_owners.specs.declared.owners.entry.Entry.TheVariants.{Up, Full, Down, Alone, Promote, Joined}
 
 -- the machine tells the history: its entries in order, its live owners, and their number; a lone word has one owner
 pub record Tells (began : Beginning) (m : Machine) (history : List Entry) : Type 0 where
@@ -39,6 +39,32 @@ thread_of (FullFound thread by) = thread
 thread_of (CountDown thread by seen) = thread
 thread_of (UniquenessLoad thread by seen) = thread
 
--- the entry is what one event of the word machine writes, whatever state tells the history before it and whichever thread makes it
+-- whether an entry is that of a promoting exchange, which a thread makes that has found the word lone
+abbrev pub is_exchange : Entry → Bool
+is_exchange (Up by new) = false
+is_exchange (Full by) = false
+is_exchange (Down owner) = false
+is_exchange (Alone by found) = false
+is_exchange (Promote by new) = true
+is_exchange (Joined by) = true
+
+-- one event of this thread leads from the machine to one that tells the history
+abbrev pub LeadsTo : ℕ → Beginning → Machine → ℕ → List Entry → Type 0
+LeadsTo most began m thread history =
+    (event : Event) × (thread_of event ≡ thread) × (may_happen most m event ≡ true) × Tells began (changed m event) history
+
+-- the entry is one event of the word machine: whichever machine tells the history before it, an event of whichever thread, ready where
+-- that is asked, leads to one that tells it with the entry
 abbrev pub IsOneEvent : ℕ → Beginning → List Entry → Entry → Type 0
-IsOneEvent most began history entry = (m : Machine) (thread : ℕ) → Tells began m history → (event : Event) × (thread_of event ≡ thread) × (may_happen most m event ≡ true) × Tells began (changed m event) (history ++ entry ∷ [])
+IsOneEvent most began history entry =
+    (m : Machine) (thread : ℕ) → Tells began m history → (is_exchange entry ≡ true → is_in thread m.ready ≡ true)
+    → LeadsTo most began m thread (history ++ entry ∷ [])
+
+-- the entry is the end without a step: whichever machine tells the history before it agrees with it and the entry, as it is
+abbrev pub IsEndWithoutStep : Beginning → List Entry → Entry → Type 0
+IsEndWithoutStep began history entry = (m : Machine) → Tells began m history → Agrees began m (history ++ entry ∷ [])
+
+-- a step on a block's word: one event of the word machine. On a lone word an owner's end is the end without a step
+abbrev pub IsOneStep : ℕ → Beginning → List Entry → Entry → Type 0
+IsOneStep most began history entry =
+    IsOneEvent most began history entry ⊎ ((is_counted began history ≡ false) × IsEndWithoutStep began history entry)

@@ -19,9 +19,10 @@ use Rattle.core.specs.Sync.RawAtomic.{word}
 use Rattle.arc_owners.specs.declared.owners.entry.Entry.{Entry}
 use Rattle.arc_owners.specs.declared.owners.entry.Entry.TheVariants.{Up, Full, Down, Alone}
 use Rattle.arc_owners.specs.contracts.owners.entry.Entry as entry_type
-use Rattle.arc_owners.specs.Histories.{live_owners, owners_ever, is_counted, MayFollow, IsLegal}
-use Rattle.arc_owners.specs.Machine.{beginning}
-use Rattle.arc_owners.specs.Agreement.{IsOneEvent}
+use Rattle.arc_owners.specs.Histories.{Beginning, Lone, Counted, live_owners, owners_ever, is_counted, MayFollow, IsLegal}
+use Rattle.arc_owners.specs.Machine.{begins_counted}
+use Rattle.std.proofs.Common.{refl, sym}
+use Rattle.std.proofs.lemmas.Bool.{false≢true}
 
 -- which block it is: the number of its book, the ghost names in it, and what is fixed when it begins
 pub record Names : Type 0 where
@@ -32,13 +33,23 @@ pub record Names : Type 0 where
   pub count : ℕ
   pub place : ℕ
   pub most : ℕ
-  pub counted : Bool
+  pub began : Beginning
   pub whole : Bool
 
+-- how a block begins is told by whether it has a count then
+pub beginning_told : (x y : Beginning) → begins_counted x ≡ begins_counted y → x ≡ y
+beginning_told Lone Lone e = refl
+beginning_told Lone Counted e = absurd (false≢true e)
+beginning_told Counted Lone e = absurd (false≢true (sym e))
+beginning_told Counted Counted e = refl
+
+abbrev pub beginning_coded : Coded Beginning
+beginning_coded = coded_via coded_bool begins_counted beginning_told
+
 abbrev pub names_coded : Coded Names
-names_coded = coded_via (coded× coded_ℕ (coded× coded_ℕ (coded× coded_ℕ (coded× coded_ℕ (coded× coded_ℕ (coded× coded_ℕ (coded× coded_ℕ (coded× coded_bool coded_bool))))))))
-    (λ (t : Names). (t.number, (t.history, (t.rights, (t.passes, (t.count, (t.place, (t.most, (t.counted, t.whole)))))))))
-    (λ x y e i. record { number = (e i).0; history = (e i).1.0; rights = (e i).1.1.0; passes = (e i).1.1.1.0; count = (e i).1.1.1.1.0; place = (e i).1.1.1.1.1.0; most = (e i).1.1.1.1.1.1.0; counted = (e i).1.1.1.1.1.1.1.0; whole = (e i).1.1.1.1.1.1.1.1 })
+names_coded = coded_via (coded× coded_ℕ (coded× coded_ℕ (coded× coded_ℕ (coded× coded_ℕ (coded× coded_ℕ (coded× coded_ℕ (coded× coded_ℕ (coded× beginning_coded coded_bool))))))))
+    (λ (t : Names). (t.number, (t.history, (t.rights, (t.passes, (t.count, (t.place, (t.most, (t.began, t.whole)))))))))
+    (λ x y e i. record { number = (e i).0; history = (e i).1.0; rights = (e i).1.1.0; passes = (e i).1.1.1.0; count = (e i).1.1.1.1.0; place = (e i).1.1.1.1.1.0; most = (e i).1.1.1.1.1.1.0; began = (e i).1.1.1.1.1.1.1.0; whole = (e i).1.1.1.1.1.1.1.1 })
 
 -- an entry, with the number of the pass that made it
 abbrev pub Line : Type 0
@@ -150,8 +161,8 @@ pub record Account : Type 0 where
   pub seats : List (Bool × Seat)
   pub lease : Lease
 
-pub record FitsFor (most : ℕ) (counted : Bool) (a : Account) : Type 0 where
-  pub legal : IsLegal most (beginning counted) (entries_of a.lines)
+pub record FitsFor (most : ℕ) (began : Beginning) (a : Account) : Type 0 where
+  pub legal : IsLegal most began (entries_of a.lines)
   pub live : live_owners (entries_of a.lines) ≡ living 0 a.roll
   pub ever : owners_ever (entries_of a.lines) ≡ upto 0 (length a.roll)
   pub made : (p : ℕ) → (slice_index_or a.seats p (false, fresh_seat)).1.1 ≡ made_by p a.lines
@@ -161,7 +172,7 @@ pub record FitsFor (most : ℕ) (counted : Bool) (a : Account) : Type 0 where
 
 -- the account is true of the block
 abbrev pub Fits : Names → Account → Type 0
-Fits t a = FitsFor t.most t.counted a
+Fits t a = FitsFor t.most t.began a
 
 -- what the owners leave in the book of the lifetime, with the ticket for its end: nothing where a sole owner took the block back
 abbrev pub pooled : Bool → Lease → ℕ → Fml
@@ -186,7 +197,7 @@ tokens true l κ = fshr_bor κ (λ q. flft (l.lifetime ∷ []) q)
 tokens false l κ = ftrue
 
 abbrev pub located : Names → List Line → Fml
-located t ls = fex (Option (ℕ × ℕ)) (λ x. fsep (latest places three_quarters t.place x) (told (is_counted (beginning t.counted) (entries_of ls) ≡ is_there x)))
+located t ls = fex (Option (ℕ × ℕ)) (λ x. fsep (latest places three_quarters t.place x) (told (is_counted t.began (entries_of ls) ≡ is_there x)))
 
 -- while an owner lives the word counts how many do. A sole owner may end without a step, and then the word stays as it was
 abbrev pub tally_of : Names → ℕ → ℕ → Fml
@@ -237,9 +248,8 @@ pub record Adds (t : Names) (p : ℕ) (seen before : List Line) (e : Entry) : Ty
   pub own : made_by p before ≡ made_by p seen
   pub grown : made_by p (before ++ (p, e) ∷ []) ≡ made_by p seen ++ e ∷ []
   pub undisturbed : t.whole ≡ true → seen ≡ before
-  pub may : MayFollow t.most (beginning t.counted) (entries_of before) e
-  pub legal : IsLegal t.most (beginning t.counted) (entries_of before ++ e ∷ [])
-  pub event : IsOneEvent t.most (beginning t.counted) (entries_of before) e
+  pub may : MayFollow t.most t.began (entries_of before) e
+  pub legal : IsLegal t.most t.began (entries_of (before ++ (p, e) ∷ []))
 
 -- what a call leaves that added an entry to the history before it: the pass, with what it has seen since
 abbrev pub left_by : Names → ℕ → Bool → List Line → (List Line → Entry) → (List Line → Fml) → List Line → Fml
@@ -341,6 +351,11 @@ right_shares false t o l born κ = ftrue
 abbrev pub trace_owns : Bool → Names → ℕ → Bool → List Line → Fml
 trace_owns true t p ready seen = fsep (known t seen) (fsep (withheld t t.whole seen) (cell seat_coded t.passes p quarter (ready, made_by p seen)))
 trace_owns false t p ready seen = ftrue
+
+-- that a pass has seen a beginning of its block's history
+abbrev pub told_of : Bool → Names → List Line → Fml
+told_of true t seen = reached t seen
+told_of false t seen = ftrue
 
 abbrev pub trace_shares : Bool → Names → List Line → Fml
 trace_shares true t seen = known t seen

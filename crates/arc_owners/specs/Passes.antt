@@ -1,18 +1,49 @@
--- What contracts read in a count, in an owner and in a pass.
-use Rattle.std.specs.Prelude.{◌≡◌, ℕ, Bool, true, false, List, [], ◌∷◌, ◌++◌}
+-- What contracts read in a count, in an owner and in a pass, and what a call adds to a block's history.
+use Rattle.std.specs.Prelude.{◌≡◌, ℕ, Bool, true, false, List, [], ◌∷◌, ◌++◌, length, map, IsTrue, ◌↔◌, ◌⊎◌}
+use mathlib.Core.List.{IsPrefix}
 use Rattle.arc_owners.specs.declared.mark.Mark.{Ghosts}
 use Rattle.arc_owners.specs.declared.owners.entry.Entry.{Entry}
+use Rattle.arc_owners.specs.declared.owners.entry.Entry.TheVariants.{Up, Full, Down, Alone, Promote, Joined}
 use Rattle.arc_owners.specs.declared.owners.tokens.Owners.{Owners}
 use Rattle.arc_owners.specs.declared.owners.tokens.Share.{Share}
 use Rattle.arc_owners.specs.declared.owners.tokens.Sole.{Sole}
 use Rattle.arc_owners.specs.declared.owners.tokens.Pass.{Pass}
 use Rattle.arc_owners.specs.declared.owners.tokens.Term.{Term}
 use Rattle.arc_owners.specs.Book.{Names, Line, Lease, entries_of, made_by}
-use Rattle.arc_owners.specs.Traces.{IsOf, SamePass, Wrote, RaisedIf, Ends, Claimed}
+use Rattle.arc_owners.specs.Histories.{LivesAlone, owners_ever, live_owners, is_counted, IsLegal}
+use Rattle.arc_owners.specs.Agreement.{IsOneStep, IsEndWithoutStep}
+
+-- an owner: of which block, its number there, and the history in which it was made, with the entry that made it
+pub record Owner : Type 0 where
+  pub block : Names
+  pub number : ℕ
+  pub born : List Line
 
 -- which block a count is of
 abbrev pub block_of : {MAX : ℕ} {H : Type 0} {G : Ghosts H} → Owners MAX H G → Names
 block_of o = o.word
+
+-- the word of the block has a count, as far as this history tells
+abbrev pub HasCountIn : Names → List Entry → Type 0
+HasCountIn t history = is_counted t.began history ≡ true
+
+-- the last line is one step on the block's word
+pub record EndsInOneStep (t : Names) (lines : List Line) : Type 0 where
+  pub last : (before : List Line) (line : Line) → lines ≡ before ++ line ∷ [] → IsOneStep t.most t.began (entries_of before) line.1
+
+-- the last line is an owner's end without a step
+pub record EndsWithoutStep (t : Names) (lines : List Line) : Type 0 where
+  pub last : (before : List Line) (line : Line) → lines ≡ before ++ line ∷ [] → IsEndWithoutStep t.began (entries_of before) line.1
+
+-- the entry by which a new owner is made: the count is raised, or a lone word promoted
+abbrev pub making : Bool → ℕ → ℕ → Entry
+making true by new = Up by new
+making false by new = Promote by new
+
+-- the entries by which uniqueness is read: none on a lone word
+abbrev pub reading : Bool → ℕ → Bool → List Entry
+reading true by found = Alone by found ∷ []
+reading false by found = []
 
 module _ {H : Type 0} where
   -- what a pass has seen, with the pass that made each entry
@@ -33,35 +64,112 @@ module _ {H : Type 0} where
 
   -- a pass of this block, and one of none
   abbrev pub IsPassOf : Names → Pass H → Type 0
-  IsPassOf t p = IsOf t p.trace
+  IsPassOf t p = (p.trace.bound ≡ true) × (p.trace.names ≡ t)
 
   abbrev pub IsPassOfNone : Pass H → Type 0
   IsPassOfNone p = p.trace.bound ≡ false
 
-  -- the same pass of this block, which may have seen more
+  -- the same pass of this block
   abbrev pub IsSamePass : Names → Pass H → Pass H → Type 0
-  IsSamePass t p r = SamePass t p.trace r.trace
+  IsSamePass t old new = IsPassOf t new × (new.trace.number ≡ old.trace.number) × (new.trace.ready ≡ old.trace.ready)
 
-  -- the pass added this entry to the history before it, which begins with all that it had seen
-  abbrev pub AddsEntry : Names → Pass H → Pass H → Entry → Type 0
-  AddsEntry t p r e = Wrote t p.trace r.trace e
+  -- The pass added these entries, one or none, to the history before them. That is all that it had seen and what others added since;
+  -- under `Whole` nothing came between. What it has seen now is legal.
+  pub record Appends (t : Names) (old new : Pass H) (before : List Line) (entries : List Entry) : Type 0 where
+    pub same : IsSamePass t old new
+    pub after_seen : IsPrefix old.trace.lines before
+    pub none_own : made_by old.trace.number before ≡ made_by old.trace.number old.trace.lines
+    pub undisturbed : t.whole ≡ true → old.trace.lines ≡ before
+    pub seen_now : new.trace.lines ≡ before ++ map (λ e. (old.trace.number, e)) entries
+    pub legal : IsLegal t.most t.began (entries_of new.trace.lines)
 
-  -- the pass added this entry right after this history
-  abbrev pub AddsAfter : Pass H → Pass H → List Line → Entry → Type 0
-  AddsAfter p r before e = r.trace.lines ≡ before ++ (p.trace.number, e) ∷ []
+  -- a pass of this owner's block
+  abbrev pub IsPassFor : Owner → Pass H → Type 0
+  IsPassFor o p = IsPassOf o.block p
 
-  -- the pass added the end of this owner, and whether it was the last one
-  abbrev pub EndsOwner : Names → Pass H → Pass H → ℕ → Bool → Type 0
-  EndsOwner t p r owner last = Ends t p.trace r.trace owner last
+  -- a new pass: it has seen how the owner was made, and made nothing
+  abbrev pub IsNewPass : Owner → Pass H → Type 0
+  IsNewPass o p = IsPassOf o.block p × IsPrefix o.born (history_of p) × (mine p ≡ [])
+
+  -- the pass learnt what another had seen, and added nothing
+  pub record Learns (t : Names) (old other new : Pass H) : Type 0 where
+    pub same : IsSamePass t old new
+    pub kept : IsPrefix (history_of old) (history_of new)
+    pub learnt : IsPrefix (history_of other) (history_of new)
+    pub own : mine new ≡ mine old
+
+  -- uniqueness was read: the answer is yes exactly where no other owner lived. On a lone word that is so, and adds nothing
+  pub record Asks (o : Owner) (old new : Pass H) (found : Bool) : Type 0 where
+    pub before : List Line
+    pub added : Appends o.block old new before (reading (is_counted o.block.began (entries_of before)) o.number found)
+    pub exact : IsTrue found ↔ LivesAlone o.number (entries_of before)
+
+  -- nothing was done yet, or the exchange was lost that was to promote a word which the pass didn't know to be counted
+  abbrev pub MayJoin : Owner → Pass H → Pass H → Type 0
+  MayJoin o old new =
+      (new ≡ old)
+      ⊎ ((before : List Line) × (is_counted o.block.began (seen old) ≡ false) × Appends o.block old new before (Joined o.number ∷ []))
+
+  -- through this owner another one of the same block was made: its number is how many the history had
+  pub record MakesAnother (o : Owner) (old new : Pass H) (other : Owner) : Type 0 where
+    pub middle : Pass H
+    pub joined : MayJoin o old middle
+    pub before : List Line
+    pub added : Appends o.block middle new before
+        (making (is_counted o.block.began (entries_of before)) o.number (length (owners_ever (entries_of before))) ∷ [])
+    pub made : other ≡ record { block = o.block; number = length (owners_ever (entries_of before)); born = history_of new }
+
+  -- the count was found at its greatest
+  pub record FindsFull (o : Owner) (old new : Pass H) : Type 0 where
+    pub middle : Pass H
+    pub joined : MayJoin o old middle
+    pub before : List Line
+    pub added : Appends o.block middle new before (Full o.number ∷ [])
+    pub full : length (live_owners (entries_of before)) ≡ o.block.most
+
+  -- this owner ended: as the last one exactly where no other owner lived
+  pub record Leaves (o : Owner) (old new : Pass H) (last : Bool) : Type 0 where
+    pub before : List Line
+    pub added : Appends o.block old new before (Down o.number ∷ [])
+    pub exact : IsTrue last ↔ LivesAlone o.number (entries_of before)
+
+  -- this owner asked, was alone, and ended as the last one
+  pub record TakesBlock (o : Owner) (old new : Pass H) : Type 0 where
+    pub middle : Pass H
+    pub asked : Asks o old middle true
+    pub left : Leaves o middle new true
+
+  -- this owner asked, and then ended: as the last one, where it was alone
+  pub record AsksAndLeaves (o : Owner) (old new : Pass H) : Type 0 where
+    pub middle : Pass H
+    pub found : Bool
+    pub last : Bool
+    pub asked : Asks o old middle found
+    pub left : Leaves o middle new last
+    pub alone : found ≡ true → last ≡ true
+
+  -- this owner ended with a new pass, which this one is afterwards, and whether it was the last one
+  pub record EndsByItself (o : Owner) (after : Pass H) (last : Bool) : Type 0 where
+    pub new : Pass H
+    pub made : IsNewPass o new
+    pub left : Leaves o new after last
+
+-- the first owner of a block that so many owners may have at most, under a mark, in which nothing has happened yet. Its word has a count
+pub record IsFirst (greatest : ℕ) (one_pass : Bool) (o : Owner) : Type 0 where
+  pub number : o.number ≡ 0
+  pub born : o.born ≡ []
+  pub most : o.block.most ≡ greatest
+  pub whole : o.block.whole ≡ one_pass
+  pub counted : HasCountIn o.block []
+
+-- a pass of a block in which nothing has happened yet
+abbrev pub IsFreshPass : {H : Type 0} → Owner → Pass H → Type 0
+IsFreshPass o p = IsPassOf o.block p × (history_of p ≡ [])
 
 module _ {H : Type 0} {G : Ghosts H} where
-  -- the number of an owner: how many there were before it
-  abbrev pub number_of : Share H G → ℕ
-  number_of s = s.right.owner
-
-  -- the history in which an owner was made, with the entry that made it
-  abbrev pub birth_of : Share H G → List Line
-  birth_of s = s.right.born
+  -- the owner that a share is
+  abbrev pub owner_of : Share H G → Owner
+  owner_of s = record { block = s.right.names; number = s.right.owner; born = s.right.born }
 
   -- for which lifetime the block is lent to an owner
   abbrev pub lease_of : Share H G → Lease
@@ -71,32 +179,10 @@ module _ {H : Type 0} {G : Ghosts H} where
   abbrev pub IsOwnerOf : Names → Share H G → Type 0
   IsOwnerOf t s = s.right.names ≡ t
 
-  -- the pass added the making of a new owner, through this one
-  abbrev pub MakesOwner : Names → Pass H → Pass H → Share H G → Share H G → Type 0
-  MakesOwner t p r by new = RaisedIf t p.trace r.trace by.right new.right true
-
-  -- the same owner, which took the block back, and one to whom it is still lent
-  abbrev pub TakesBack : Share H G → Sole H G → Type 0
-  TakesBack s sole = Claimed s.right.names s.right sole.right true
-
-  abbrev pub HandsBack : Share H G → Share H G → Type 0
-  HandsBack s back = Claimed s.right.names s.right back.right false
-
   -- the right to end the lifetime for which the block was lent to this owner
   abbrev pub IsTermOf : Share H G → Term → Type 0
   IsTermOf s term = term.spoils.lease ≡ s.right.lease
 
-  -- the history in which a sole owner was made
-  abbrev pub sole_birth : Sole H G → List Line
-  sole_birth s = s.right.born
-
-  -- the block, and the number, of a sole owner
-  abbrev pub sole_block : Sole H G → Names
-  sole_block s = s.right.names
-
-  abbrev pub sole_number : Sole H G → ℕ
-  sole_number s = s.right.owner
-
-  -- the same owner, to whom the block is lent anew
-  abbrev pub IsLentTo : Sole H G → Share H G → Type 0
-  IsLentTo sole s = (s.right.names ≡ sole.right.names) × (s.right.owner ≡ sole.right.owner) × (s.right.born ≡ sole.right.born)
+  -- the owner that a sole owner is
+  abbrev pub sole_owner : Sole H G → Owner
+  sole_owner s = record { block = s.right.names; number = s.right.owner; born = s.right.born }

@@ -1,13 +1,14 @@
 -- What a step says of an owner's right and of the pass that makes it.
-use Rattle.std.specs.Prelude.{◌≡◌, ℕ, ◌+◌, ◌-◌, ◌^◌, ◌<◌, Bool, true, false, List, IsTrue, ◌↔◌}
+use Rattle.std.specs.Prelude.{◌≡◌, ℕ, ◌+◌, ◌-◌, ◌^◌, ◌<◌, Bool, true, false, List, [], IsTrue, ◌↔◌}
+use mathlib.Core.List.{IsPrefix}
 use Rattle.arc_owners.specs.declared.owners.entry.Entry.{Entry}
 use Rattle.arc_owners.specs.declared.owners.entry.Entry.TheVariants.{Down}
-use Rattle.arc_owners.specs.Histories.{LivesAlone}
+use Rattle.arc_owners.specs.Histories.{Counted, LivesAlone}
 use Rattle.arc_owners.specs.declared.owners.word.Right.{Right}
 use Rattle.arc_owners.specs.declared.owners.word.Trace.{Trace}
 use Rattle.arc_owners.specs.declared.owners.word.Lodging.{Lodging}
 use denote.RawPtr.{Ptr}
-use Rattle.arc_owners.specs.Book.{Names, Line, Written, Filled, MadeOne, AddedTo, entries_of, Lease, lease_after}
+use Rattle.arc_owners.specs.Book.{Names, Line, Written, Filled, MadeOne, AddedTo, entries_of, made_by, Lease, lease_after}
 
 -- the right is held, by an owner of this block, to whom the block is lent
 abbrev pub IsHeld : Names → Right → Type 0
@@ -20,6 +21,12 @@ IsSole t r = (r.held ≡ true) × (r.names ≡ t) × (r.lease.is_lent ≡ false)
 -- the pass is of this block
 abbrev pub IsOf : Names → Trace → Type 0
 IsOf t p = (p.bound ≡ true) × (p.names ≡ t)
+
+-- the word of a new block, its first owner, and a pass that has seen nothing
+abbrev pub IsOpened : ℕ → Bool → Names → Right → Trace → Type 0
+IsOpened most whole t r p =
+    (t.most ≡ most) × (t.began ≡ Counted) × (t.whole ≡ whole) × IsHeld t r × IsOf t p × (r.owner ≡ 0) × (r.born ≡ [])
+    × (p.number ≡ 0) × (p.ready ≡ false) × (p.lines ≡ [])
 
 -- the same pass of this block, which may have seen more
 abbrev pub SamePass : Names → Trace → Trace → Type 0
@@ -51,3 +58,14 @@ IsNext old next = old < 2 ^ 64 - 1 → next ≡ old + 1
 -- this owner ended, and whether it was the last one
 abbrev pub Ends : Names → Trace → Trace → ℕ → Bool → Type 0
 Ends t p r o last = (before : List Line) × AddedTo t p.number p.lines (λ _. Down o) before r.lines × (IsTrue last ↔ LivesAlone o (entries_of before))
+
+-- a new pass of an owner's block: it has seen how the owner was made, and made nothing
+abbrev pub IsFork : Right → Trace → Type 0
+IsFork own new = IsOf own.names new × (new.ready ≡ false) × IsPrefix own.born new.lines × (made_by new.number new.lines ≡ [])
+
+-- this owner ended with a new pass, which this one is afterwards, and whether it was the last one
+pub record EndsWithNew (own : Right) (after : Trace) (last : Bool) : Type 0 where
+  pub new : Trace
+  pub made : IsFork own new
+  pub same : SamePass own.names new after
+  pub ended : Ends own.names new after own.owner last

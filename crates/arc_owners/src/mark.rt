@@ -1,36 +1,134 @@
-//! Marks of windows: who may step on the count of a window's block.
-ghost use Rattle.std.specs.Prelude.{◌≡◌, Bool, true, false};
+//! Marks: who may step on the count of a window's block.
+//!
+//! A body that is generic in the mark learns nothing of it at run time. What the marks do differently, they do in methods of their own.
+ghost use Rattle.std.specs.Prelude.{◌≡◌, ◌≤◌, ℕ, Bool, true, false, List, refl};
+ghost use Rattle.arc_owners.specs.Book.{Names, Line, entries_of};
+ghost use Rattle.arc_owners.specs.Histories.{IsLegal};
+ghost use Rattle.arc_owners.specs.Traces.{IsHeld, IsSole, IsOf, IsLodged, IsOpened, EndsWithNew};
 
-/// A mark of windows and of what they stand on.
-pub trait Mark {
+use crate::owners::word::{Lodging, Right, Spoils, Trace, Word};
+
+mod sealed {
+    /// What no other crate can give a type.
+    pub trait Sealed {}
+}
+
+/// A mark of windows and of what they stand on: `Open` or `Whole`.
+pub trait Mark: sealed::Sealed {
     // Whether a block has one pass, which has seen its whole history.
     ghost whole: { Bool };
 
-    /// Whether a block has one pass.
-    fn is_whole() -> bool
-        ensures { result ≡ Self.whole };
+    // A pass of this block, with this number, has seen these lines. It holds at both marks, but a body that is generic in the mark gets
+    // it from `attest` alone, which takes a pass that is there.
+    ghost real: { Names → ℕ → List Line → Type 0 };
+
+    /// The word of a new block, its first owner's right and the first pass.
+    fn open(most: u64) -> (Word, Right, Trace)
+        requires { 1 ≤ most }
+        ensures { IsOpened most Self.whole result.0 result.1 result.2 };
+
+    /// What a pass has seen is legal, and that the pass is there.
+    fn attest(pass: &Trace)
+        ensures legal { pass.now.bound ≡ true → IsLegal pass.now.names.most pass.now.names.began (entries_of pass.now.lines) }
+        ensures shown { pass.now.bound ≡ true → Self.real pass.now.names pass.now.number pass.now.lines };
+
+    /// What becomes of an owner that is dropped: whether it ended as the last one, and the pass that it ended with.
+    ///
+    /// # Safety
+    ///
+    /// The word lies at this place for as long as the block is lent: the lodging says so.
+    unsafe fn let_go(place: *const u64, lodging: &Lodging, own: Right) -> (bool, Spoils, Trace)
+        requires held { IsHeld lodging.now.names own }
+        requires mark { own.names.whole ≡ Self.whole }
+        requires place { IsLodged lodging.now place own.lease }
+        ensures last { result.0 ≡ true → (result.1.last ≡ true) × (result.1.lease ≡ own.lease) }
+        ensures forgotten { Self.whole ≡ true → (result.0 ≡ false) × (result.2.bound ≡ false) }
+        ensures ended { Self.whole ≡ false → EndsWithNew own result.2 result.0 };
+
+    /// What becomes of a sole owner that is dropped: whether it ended, and the pass that it ended with.
+    fn let_go_sole(own: Right) -> (bool, Trace)
+        requires held { IsSole own.names own }
+        requires mark { own.names.whole ≡ Self.whole }
+        ensures forgotten { Self.whole ≡ true → (result.0 ≡ false) × (result.1.bound ≡ false) }
+        ensures ended { Self.whole ≡ false → (result.0 ≡ true) × EndsWithNew own result.1 true };
+}
+
+/// Marks under which a block has many passes, and each call may have a new one.
+pub trait Stepping: Mark {
+    ghost many: { Self.Mark.whole ≡ false };
 }
 
 /// The mark of windows that each call and each drop may step for.
 #[derive(Clone, Copy, Debug, PartialEq, Eq)]
 pub struct Open;
 
+impl sealed::Sealed for Open {}
+
 impl Mark for Open {
     ghost whole = { false };
 
-    fn is_whole() -> bool {
-        false
+    ghost real = { λ _ _ _. Unit {0} };
+
+    fn open(most: u64) -> (Word, Right, Trace) {
+        Word::open(most, false)
     }
+
+    fn attest(pass: &Trace) {
+        pass.attest();
+    }
+
+    /// It ends with a new pass.
+    unsafe fn let_go(place: *const u64, lodging: &Lodging, own: Right) -> (bool, Spoils, Trace) {
+        let mut pass = own.fork();
+        let mut last = Spoils::none();
+        let mut right = own;
+        let found = unsafe { Word::lower_raw(place, lodging, &mut right, &mut pass, &mut last) };
+        (found == 1, last, pass)
+    }
+
+    /// It ends with a new pass, without a step.
+    fn let_go_sole(own: Right) -> (bool, Trace) {
+        let mut pass = own.fork();
+        let mut right = own;
+        right.finish(&mut pass);
+        (true, pass)
+    }
+}
+
+impl Stepping for Open {
+    ghost many = { refl };
 }
 
 /// The mark of a block with one pass, which has seen its whole history: nothing comes between two of its calls.
 #[derive(Clone, Copy, Debug, PartialEq, Eq)]
 pub struct Whole;
 
+impl sealed::Sealed for Whole {}
+
 impl Mark for Whole {
     ghost whole = { true };
 
-    fn is_whole() -> bool {
-        true
+    ghost real = { λ _ _ _. Unit {0} };
+
+    fn open(most: u64) -> (Word, Right, Trace) {
+        Word::open(most, true)
+    }
+
+    fn attest(pass: &Trace) {
+        pass.attest();
+    }
+
+    /// It is forgotten, without a step.
+    unsafe fn let_go(place: *const u64, lodging: &Lodging, own: Right) -> (bool, Spoils, Trace) {
+        let _ = place;
+        let _ = lodging;
+        drop(own);
+        (false, Spoils::none(), Trace::none())
+    }
+
+    /// It is forgotten.
+    fn let_go_sole(own: Right) -> (bool, Trace) {
+        drop(own);
+        (false, Trace::none())
     }
 }

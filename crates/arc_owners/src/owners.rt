@@ -9,12 +9,13 @@ mod interleavings;
 mod kept;
 mod lent;
 mod loan;
+mod passes;
 mod piece;
 mod raw;
 mod replays;
 mod sole;
 mod tokens;
-mod word;
+pub(crate) mod word;
 mod world;
 
 pub use entry::Entry;

@@ -62,7 +62,7 @@ module _ (t : Names) (a : Account) (f : Fits t a) (p : ℕ) (ready : Bool) (seat
   h = entries_of a.lines
 
   abbrev began : Beginning
-  began = beginning t.counted
+  began = t.began
 
   made-wrote : (e : Entry) (roll : List (Bool × Lease)) (j : ℕ) → (seat_of (wrote a p ready e roll).seats j).1.1 ≡ made_by j (wrote a p ready e roll).lines
   made-wrote e roll j = elim (cases_Bool (eqb p j)) [

@@ -14,19 +14,21 @@ use base.Fml.{Fml, ftrue, fsep, finv, fnamed}
 use base.Growing.{latest, at_least}
 use types.Logic.{Logic, sem}
 use types.Owned.{basic, named_past}
-use types.Growing.{latest_new, latest_shows, latest_bounds, latest_cut}
+use types.Growing.{at_least_dup, latest_new, latest_shows, latest_bounds, latest_cut}
 use types.Keyed.{entries_new, entries_take, entries_from, ticket, token}
 use types.RcWeak.{part, rest, cut}
 use types.Tokens.{lft_new}
 use types.Kit.{‵, raw, ◌⊛◌, some as any, given, later, ◌$◌, ◌∵◌, !, qed, by, move, drop, split, fsplit, fjoin, fpick, fpack, pick, learn, show, check, assume, frame, group, done, use0, use1, use2, use3, rewrite, suffices, settle, updating, await, now}
 use denote.Steps.{nothing}
-use Rattle.arc_owners.specs.Histories.{is_counted, live_owners, owners_ever, owners_ended}
+use Rattle.arc_owners.specs.Histories.{Counted, IsLegal, is_counted, live_owners, owners_ever, owners_ended}
 use Rattle.arc_owners.specs.Machine.{beginning}
-use Rattle.arc_owners.specs.Book.{Names, Line, made_by, Lease, lease_coded, no_lease, Seat, seat_coded, fresh_seat, halved, cell, row, tally, right, lines_order, reached, authority, withheld, places, is_there, told, pool, stake, how_many, Account, Fits, contents, behind, known, right_owns, trace_owns, pass_holds, finished_by, after_finish, Lowered}
+use Rattle.arc_owners.specs.Book.{Names, Line, entries_of, told_of, trace_shares, made_by, Lease, lease_coded, no_lease, Seat, seat_coded, fresh_seat, halved, cell, row, tally, right, lines_order, reached, authority, withheld, places, is_there, told, pool, stake, how_many, Account, Fits, contents, behind, known, right_owns, trace_owns, pass_holds, finished_by, after_finish, Lowered}
 use Rattle.arc_owners.proofs.Book.Rolls.{get-more, get-last, living-relet}
 use Rattle.arc_owners.proofs.Book.Cells.{row_new, row_adds, row_finds, row_writes, cell_parts}
 use Rattle.arc_owners.proofs.Book.Parts.{top, sees, pool_sole, tally_in}
 use Rattle.arc_owners.proofs.Book.Accounts.{relet, fits-relet, one-lives}
+use Rattle.arc_owners.proofs.Legality.{legal-front}
+use Rattle.arc_owners.proofs.Book.Rolls.{entries-after}
 use Rattle.arc_owners.proofs.Book.Opened.{shuts, latest_of, rolled, seated, seat}
 use Rattle.arc_owners.proofs.Book.Shared.{known_twice}
 use Rattle.arc_owners.proofs.Book.Moves.{finishes}
@@ -47,7 +49,7 @@ first-fits : (t : Names) (l : Lease) → 1 ≤ t.most → t.most < 2 ^ 64 → Fi
 unfolding live_owners owners_ever owners_ended
 first-fits t l one small = record { legal = tt; live = refl; ever = refl; made = first-made l; leased = first-leased l; within = one; small = small }
 
-counted-at-first : is_counted (beginning true) [] ≡ true
+counted-at-first : is_counted Counted [] ≡ true
 unfolding is_counted
 counted-at-first = refl
 
@@ -74,7 +76,7 @@ module _ {M : Type 1} {𝓤 : Ura M} (𝓛 : Logic 𝓤) where
   authorized t false ls = qed 𝓛 (‵ (latest lines_order full_share t.history ls) ∷ []) ∵ nothing ! $ move ! (1 ∷ 0 ∷ []) $ done !
 
   abbrev pub Fresh : ℕ → Bool → Names × Lease → Pr
-  Fresh most w x = guard 𝓤 ((x.0.most ≡ most) × (x.0.counted ≡ true) × (x.0.whole ≡ w) × (x.1.is_lent ≡ true)) (⟦ behind x.0 1 ⟧ ∗ ⟦ right_owns true x.0 0 x.1 [] ⟧ ∗ ⟦ trace_owns true x.0 0 false [] ⟧)
+  Fresh most w x = guard 𝓤 ((x.0.most ≡ most) × (x.0.began ≡ Counted) × (x.0.whole ≡ w) × (x.1.is_lent ≡ true)) (⟦ behind x.0 1 ⟧ ∗ ⟦ right_owns true x.0 0 x.1 [] ⟧ ∗ ⟦ trace_owns true x.0 0 false [] ⟧)
 
   pub begins : (most : ℕ) (w : Bool) → 1 ≤ most → most < 2 ^ 64 → emp 𝓤 ⊢ H.⇛ (ex 𝓤 (Fresh most w))
   begins most w one small = qed 𝓛 [] ∵ updating ! $ lft_new ! tt (λ a.
@@ -94,10 +96,10 @@ module _ {M : Type 1} {𝓤 : Ura M} (𝓛 : Logic 𝓤) where
       use0 𝓛 (later (any (λ (θ : ℕ). ‵ (latest places full_share θ (some (0, 0)))))) (via 𝓤 _ (latest_new places 𝓛 (some (0, 0))) (basic 𝓛 _)) $ await ! tt $ pick ! (λ θ.
       use1 𝓛 (‵ (latest places full_share θ (some (0, 0))) ⊛ ‵ (at_least places θ (some (0, 0)))) (latest_shows places 𝓛 full_share θ (some (0, 0)) (some (0, 0)) (places.same (some (0, 0)))) $ split ! $
       use1 𝓛 (‵ (latest places quarter θ (some (0, 0))) ⊛ ‵ (latest places three_quarters θ (some (0, 0)))) (latest_cut places 𝓛 full_share quarter three_quarters θ (some (0, 0)) Share.quarters) $ split ! $ drop ! $
-      let t₀ : Names = record { number = 0; history = η; rights = δ; passes = π; count = γ; place = θ; most = most; counted = true; whole = w } in let acc : Account = first_account l in
+      let t₀ : Names = record { number = 0; history = η; rights = δ; passes = π; count = γ; place = θ; most = most; began = Counted; whole = w } in let acc : Account = first_account l in
       -- [the place; that it stands; the count's quarter; tally; the seats; the seat; the roll; the right; the history; the pool; the stake]
-      nothing ! $ fpack ! (is_counted (beginning true) [] ≡ is_there (some (0, 0))) (λ _. ftrue) counted-at-first $ move ! (1 ∷ 0 ∷ []) $ fjoin ! $
-      fpack ! (Option (ℕ × ℕ)) (λ x. fsep (latest places three_quarters θ x) (told (is_counted (beginning true) [] ≡ is_there x))) (some (0, 0)) $
+      nothing ! $ fpack ! (is_counted Counted [] ≡ is_there (some (0, 0))) (λ _. ftrue) counted-at-first $ move ! (1 ∷ 0 ∷ []) $ fjoin ! $
+      fpack ! (Option (ℕ × ℕ)) (λ x. fsep (latest places three_quarters θ x) (told (is_counted Counted [] ≡ is_there x))) (some (0, 0)) $
       move ! (8 ∷ []) $ use1 𝓛 (‵ (latest lines_order full_share η []) ⊛ ‵ (at_least lines_order η [])) (latest_shows lines_order 𝓛 full_share η [] [] (lines_order.same [])) $ split ! $
       use1 𝓛 (‵ (latest_of 𝓛 t₀ []) ⊛ ‵ (withheld t₀ w [])) (authorized t₀ w []) $ split ! $
       -- [latest; withheld; reached; located; that it stands; the count's quarter; tally; the seats; the seat; the roll; the right; the pool; the stake]
@@ -225,13 +227,31 @@ module _ {M : Type 1} {𝓤 : Ura M} (𝓛 : Logic 𝓤) where
         -- [the book; known; the right; the stake; the pool]
         move ! (0 ∷ 1 ∷ 2 ∷ 3 ∷ 4 ∷ []) $ by ! (resets o l m born unlent refl)))
 
+    front-legal : (a : Account) → Fits t a → (seen : List Line) → IsPrefix seen a.lines → IsLegal t.most t.began (entries_of seen)
+    front-legal a f seen (more, is) = legal-front t.most t.began (entries_of a.lines) (entries_of seen) (entries_of more) f.legal (sym (ap entries_of is) ∙ entries-after seen more)
+
+    abbrev pub Attested : Bool → List Line → Pr
+    Attested b seen = guard 𝓤 (b ≡ true → IsLegal t.most t.began (entries_of seen)) ⟦ told_of b t seen ⟧
+
+    -- what a pass has seen is a beginning of the history, and so it is legal
+    pub attests : (b : Bool) (seen : List Line) → ⟦ trace_shares b t seen ⟧ ⊢ H.⇛ (Attested b seen)
+    attests true seen = let Z : Pr = Attested true seen in let w : Bool = t.whole in qed 𝓛 (‵ (known t seen) ∷ []) ∵ fsplit ! $
+        use1 𝓛 (‵ (finv J)) (𝓛.invs.named_inv t.number J) $ suffices ! _ (𝓛.invs.inv_acc J Z) $ frame ! $ assume ! (‵ J) $ suffices ! _ (upd_i 𝓤 (⟦ J ⟧ ∗ Z)) $
+        fpick ! (λ a. fsplit ! $ move ! (1 ∷ []) $ fsplit ! $ move ! (1 ∷ []) $ fsplit ! $ move ! (1 ∷ []) $ fsplit ! $ move ! (1 ∷ []) $ fsplit ! $ move ! (1 ∷ []) $ fpick ! (λ f. drop ! $ fsplit ! $
+        -- [tally; pool; seats; roll; located; latest; reached]
+        move ! (6 ∷ []) $ use1 𝓛 (‵ (reached t seen) ⊛ ‵ (reached t seen)) (at_least_dup lines_order 𝓛 t.history seen) $ split ! $
+        move ! (7 ∷ 0 ∷ []) $ use2 𝓛 (given (IsPrefix seen a.lines) (‵ (latest_of 𝓛 t a.lines) ⊛ ‵ (reached t seen))) (latest_bounds lines_order 𝓛 (authority w) t.history a.lines seen) $ learn ! (λ past. split ! $ move ! (1 ∷ []) $ drop ! $
+        -- [latest; reached; tally; pool; seats; roll; located]
+        move ! (0 ∷ 6 ∷ 5 ∷ 4 ∷ 2 ∷ 3 ∷ []) $ group ! 6 $ use1 𝓛 (‵ J) (shuts 𝓛 t a f) $ frame ! $ check ! (λ _. front-legal a f seen past) $ done !)))
+    attests false seen = let Z : Pr = Attested false seen in qed 𝓛 (‵ ftrue ∷ []) ∵ updating ! $ now ! $ check ! (λ (e : false ≡ true). absurd (false≢true e)) $ done !
+
     -- a sole owner who has the block back ends
-    pub finishes_by : (p : ℕ) (ready : Bool) (seen : List Line) (o : ℕ) (l : Lease) → l.is_lent ≡ false → t.counted ≡ true → ⟦ trace_owns true t p ready seen ⟧ ∗ ⟦ right t o l quarter ⟧ ⊢ H.⇛ (ex 𝓤 (λ (ls : List Line). ⟦ after_finish t p ready seen o ls ⟧))
-    finishes_by p ready seen o l unlent began = let Z : Pr = ex 𝓤 (λ (ls : List Line). ⟦ after_finish t p ready seen o ls ⟧) in let B : Fml = pass_holds t p ready seen in let F : Fml = finished_by t p ready seen o in
+    pub finishes_by : (p : ℕ) (ready : Bool) (seen : List Line) (o : ℕ) (l : Lease) → l.is_lent ≡ false → ⟦ trace_owns true t p ready seen ⟧ ∗ ⟦ right t o l quarter ⟧ ⊢ H.⇛ (ex 𝓤 (λ (ls : List Line). ⟦ after_finish t p ready seen o ls ⟧))
+    finishes_by p ready seen o l unlent = let Z : Pr = ex 𝓤 (λ (ls : List Line). ⟦ after_finish t p ready seen o ls ⟧) in let B : Fml = pass_holds t p ready seen in let F : Fml = finished_by t p ready seen o in
         qed 𝓛 (‵ (trace_owns true t p ready seen) ∷ ‵ (right t o l quarter) ∷ []) ∵ fsplit ! $ fsplit ! $ use1 𝓛 (‵ N ⊛ ‵ N) (𝓛.invs.named_dup t.number J) $ split ! $ use1 𝓛 (‵ (finv J)) (𝓛.invs.named_inv t.number J) $
         suffices ! _ (𝓛.invs.inv_acc J Z) $ frame ! $ assume ! (‵ J) $
         -- [the contents; the book; reached; withheld and seat; right]
-        move ! (2 ∷ 3 ∷ []) $ fjoin ! $ use1 𝓛 (‵ B) (id⊢ 𝓤 _) $ move ! (1 ∷ 0 ∷ 3 ∷ []) $ group ! 3 $ use1 𝓛 (raw (upd 𝓤 (⟦ J ⟧ ∗ ⟦ F ⟧))) (finishes 𝓛 t p ready seen o l unlent began) $ settle 𝓛 (⟦ J ⟧ ∗ Z) (‵ J ⊛ ‵ F) $ split ! $
+        move ! (2 ∷ 3 ∷ []) $ fjoin ! $ use1 𝓛 (‵ B) (id⊢ 𝓤 _) $ move ! (1 ∷ 0 ∷ 3 ∷ []) $ group ! 3 $ use1 𝓛 (raw (upd 𝓤 (⟦ J ⟧ ∗ ⟦ F ⟧))) (finishes 𝓛 t p ready seen o l unlent) $ settle 𝓛 (⟦ J ⟧ ∗ Z) (‵ J ⊛ ‵ F) $ split ! $
         suffices ! _ (upd_i 𝓤 (⟦ J ⟧ ∗ Z)) $ frame ! $ fpick ! (λ before. fsplit ! $ fpick ! (λ so. drop ! $ fsplit ! $ move ! (1 ∷ []) $ fpick ! (λ single. drop ! $ let ls : List Line = before ++ (p, Down o) ∷ [] in
         -- [the pass; the book]
         fsplit ! $ move ! (2 ∷ 0 ∷ []) $ fjoin ! $ move ! (0 ∷ 1 ∷ []) $ fjoin ! $ use1 𝓛 (‵ (trace_owns true t p ready ls)) (id⊢ 𝓤 _) $

@@ -16,14 +16,9 @@ use Rattle.arc_owners.specs.Machine.{beginning}
 use Rattle.arc_owners.specs.Book.{Names, Line, entries_of, made_by, withheld, has_place, located, Lease, lease_coded, no_lease, Seat, seat_coded, fresh_seat, right, counted_as, tally, pool, stake, how_many, Account, Fits, contents, behind, pass_holds, Adds, left_by, added, next_owner, looked, glanced, glanced_at, raised_by, spoils, lowered_by, told, how_many_live, taken, claim_gain, claimed_by, finished_by}
 use Rattle.arc_owners.proofs.Book.Accounts.{wrote, relet, fits-relet, raised, lowered, fits-aside, fits-raised, fits-lowered, how_many-raised, how_many-lowered, lives, some-live, one-lives, may-look, may-raise, may-full}
 use Rattle.arc_owners.proofs.Book.Rolls.{length-upto, living-relet, entries-append, made-own}
-use Rattle.arc_owners.proofs.Book.Events.{IsStep, one_event}
 use Rattle.arc_owners.proofs.Book.Cells.{row_adds, row_ends, row_writes, row_finds}
-use Rattle.arc_owners.proofs.Book.Parts.{pool_more, pool_less, pool_last, pool_sole, counts, Seen, sees, tally_ends}
+use Rattle.arc_owners.proofs.Book.Parts.{ended_counts, pool_more, pool_less, pool_last, pool_sole, counts, Seen, sees, tally_ends}
 use Rattle.arc_owners.proofs.Book.Opened.{latest_of, rolled, seated, seat, Shown, Open, opened, owes, shut, shuts, WrittenDown, writes_down}
-
-begins-counted : (h : List Entry) → is_counted (beginning true) h ≡ true
-unfolding is_counted
-begins-counted h = refl
 
 module _ {M : Type 1} {𝓤 : Ura M} (𝓛 : Logic 𝓤) (t : Names) (p : ℕ) (ready : Bool) (seen : List Line) (o : ℕ) (l : Lease) where
   abbrev Pr : Type 2
@@ -45,12 +40,12 @@ module _ {M : Type 1} {𝓤 : Ura M} (𝓛 : Logic 𝓤) (t : Names) (p : ℕ) (
   infixr 35 ◌∗◌
   infixr 30 ◌-∗◌
   -- an entry that leaves the owners as they are
-  aside : (q : Share) (n : ℕ) (entry : Entry) (a : Account) (so : Shown 𝓛 t n p ready seen o l q a) → IsStep entry → MayFollow t.most (beginning t.counted) (entries_of a.lines) entry → Fits t (wrote a p ready entry a.roll)
+  aside : (q : Share) (n : ℕ) (entry : Entry) (a : Account) (so : Shown 𝓛 t n p ready seen o l q a) → MayFollow t.most t.began (entries_of a.lines) entry → Fits t (wrote a p ready entry a.roll)
       → Open 𝓛 t n p ready seen o l q a (emp 𝓤) ⊢ upd 𝓤 (⟦ behind t n ⟧ ∗ ⟦ contents t ⟧ ∗ ⟦ added t p ready seen (λ _. entry) (λ _. right t o l q) ⟧)
-  aside q n entry a so step may f = let G : List Line → Fml = λ _. right t o l q in
+  aside q n entry a so may f = let G : List Line → Fml = λ _. right t o l q in
       subst (λ (m : ℕ). Open 𝓛 t n p ready seen o l q a (emp 𝓤) ⊢ upd 𝓤 (⟦ behind t m ⟧ ∗ ⟦ contents t ⟧ ∗ ⟦ added t p ready seen (λ _. entry) G ⟧)) (sym so.number)
       (qed 𝓛 (‵ (latest_of 𝓛 t a.lines) ∷ ‵ (withheld t t.whole seen) ∷ ‵ (rolled 𝓛 t a.roll) ∷ ‵ (right t o l q) ∷ ‵ (seated 𝓛 t a.seats) ∷ ‵ (seat 𝓛 t p ready (made_by p seen)) ∷ ‵ (located t a.lines) ∷ ‵ (has_place t) ∷ ‵ (counted_as t full_share (how_many a.roll)) ∷ ‵ (pool a.lease (how_many a.roll)) ∷ raw (emp 𝓤) ∷ []) ∵
-      keep ! (0 ∷ 1 ∷ 2 ∷ 4 ∷ 5 ∷ 6 ∷ 7 ∷ 8 ∷ 9 ∷ 3 ∷ []) $ by ! (shut 𝓛 t n p ready seen o l q a so (λ _. entry) a.roll a.lease G step may f))
+      keep ! (0 ∷ 1 ∷ 2 ∷ 4 ∷ 5 ∷ 6 ∷ 7 ∷ 8 ∷ 9 ∷ 3 ∷ []) $ by ! (shut 𝓛 t n p ready seen o l q a so (λ _. entry) a.roll a.lease G may f))
 
   abbrev Before : Share → ℕ → Pr
   Before q n = ⟦ behind t n ⟧ ∗ ⟦ contents t ⟧ ∗ ⟦ pass_holds t p ready seen ⟧ ∗ ⟦ right t o l q ⟧
@@ -65,15 +60,15 @@ module _ {M : Type 1} {𝓤 : Ura M} (𝓛 : Logic 𝓤) (t : Names) (p : ℕ) (
   -- uniqueness is read
   pub looks : (q : Share) (n : ℕ) → Before q n ⊢ ToPr (looked t p ready seen o l q n) n
   looks q n = opens q n (ToPr (looked t p ready seen o l q n) n) (λ a so. let e = Alone o (eqb n 1) in
-      let may : MayFollow t.most (beginning t.counted) (entries_of a.lines) e = subst (λ (m : ℕ). MayFollow t.most (beginning t.counted) (entries_of a.lines) (Alone o (eqb m 1))) (sym so.number)
+      let may : MayFollow t.most t.began (entries_of a.lines) e = subst (λ (m : ℕ). MayFollow t.most t.began (entries_of a.lines) (Alone o (eqb m 1))) (sym so.number)
       (may-look t a so.fits p ready so.seat_is.0 o l so.owner_is.1 so.counted) in
-      aside q n e a so tt may (fits-aside t a so.fits p ready so.seat_is.0 e refl refl may))
+      aside q n e a so may (fits-aside t a so.fits p ready so.seat_is.0 e refl refl may))
 
   -- the count is found at its greatest
   fills : (q : Share) (n : ℕ) → n ≡ t.most → Before q n ⊢ ToPr (added t p ready seen (λ _. Full o) (λ _. right t o l q)) n
   fills q n full = opens q n (ToPr (added t p ready seen (λ _. Full o) (λ _. right t o l q)) n) (λ a so. let e = Full o in
-      let may : MayFollow t.most (beginning t.counted) (entries_of a.lines) e = may-full t a so.fits p ready so.seat_is.0 o l so.owner_is.1 so.counted (sym so.number ∙ full) in
-      aside q n e a so tt may (fits-aside t a so.fits p ready so.seat_is.0 e refl refl may))
+      let may : MayFollow t.most t.began (entries_of a.lines) e = may-full t a so.fits p ready so.seat_is.0 o l so.owner_is.1 so.counted (sym so.number ∙ full) in
+      aside q n e a so may (fits-aside t a so.fits p ready so.seat_is.0 e refl refl may))
 
   nothing_done : (q : Share) (n : ℕ) → Before q n ⊢ ToPr (fsep (pass_holds t p ready seen) (right t o l q)) n
   nothing_done q n = upd_i 𝓤 _
@@ -104,8 +99,8 @@ module _ {M : Type 1} {𝓤 : Ura M} (𝓛 : Logic 𝓤) (t : Names) (p : ℕ) (
       let leased : l ≡ a.lease = so.fits.leased o l so.owner_is.1 in
       let roll' : List (Bool × Lease) = raised t a so.fits p ready so.seat_is.0 in
       let many : how_many roll' ≡ how_many a.roll + 1 = how_many-raised t a so.fits p ready so.seat_is.0 in
-      let may : MayFollow t.most (beginning t.counted) (entries_of a.lines) (Up o new) = may-raise t a so.fits p ready so.seat_is.0 o l so.owner_is.1 so.counted below in
-      let may' : MayFollow t.most (beginning t.counted) (entries_of a.lines) (up_entry a.lines) = subst (λ (k : ℕ). MayFollow t.most (beginning t.counted) (entries_of a.lines) (Up o k)) is may in
+      let may : MayFollow t.most t.began (entries_of a.lines) (Up o new) = may-raise t a so.fits p ready so.seat_is.0 o l so.owner_is.1 so.counted below in
+      let may' : MayFollow t.most t.began (entries_of a.lines) (up_entry a.lines) = subst (λ (k : ℕ). MayFollow t.most t.began (entries_of a.lines) (Up o k)) is may in
       let fits' : Fits t (wrote a p ready (up_entry a.lines) roll') = subst (λ (k : ℕ). Fits t (wrote a p ready (Up o k) roll')) is (fits-raised t a so.fits p ready so.seat_is.0 o may) in
       let live : 0 < how_many a.roll = some-live t a so.fits p ready so.seat_is.0 o l so.owner_is.1 in
       let to : how_many roll' ≡ m = omega arith in
@@ -120,7 +115,7 @@ module _ {M : Type 1} {𝓤 : Ura M} (𝓛 : Logic 𝓤) (t : Names) (p : ℕ) (
       rewrite ! 1 (λ (k : Lease). ‵ (stake k)) (sym leased) refl $ rewrite ! 3 (λ (k : ℕ × Lease). ‵ (right t k.0 k.1 quarter)) (λ i. (is i, sym leased i)) refl $
       move ! (3 ∷ 1 ∷ []) $ fjoin ! $ move ! (5 ∷ 0 ∷ []) $ fjoin ! $
       -- [gain; pool; roll; latest; withheld; seats; seat; located; the key; count]
-      move ! (3 ∷ 4 ∷ 2 ∷ 5 ∷ 6 ∷ 7 ∷ 8 ∷ 9 ∷ 1 ∷ 0 ∷ []) $ by ! (shut 𝓛 t n p ready seen o l q a so up_entry roll' a.lease (up_gain q) tt may' fits')))
+      move ! (3 ∷ 4 ∷ 2 ∷ 5 ∷ 6 ∷ 7 ∷ 8 ∷ 9 ∷ 1 ∷ 0 ∷ []) $ by ! (shut 𝓛 t n p ready seen o l q a so up_entry roll' a.lease (up_gain q) may' fits')))
 
   pub tries : l.is_lent ≡ true → (q : Share) (n old m : ℕ) → ¬ (old ≡ t.most) → (old < 2 ^ 64 - 1 → m ≡ old + 1) → Before q n ⊢ ToPr (raised_by t p ready seen o l q (eqb n old)) (prog.Atomic.either (eqb n old) m n)
   tries lent q n old m room next = elim (cases_Bool (eqb n old)) [
@@ -157,7 +152,7 @@ module _ {M : Type 1} {𝓤 : Ura M} (𝓛 : Logic 𝓤) (t : Names) (p : ℕ) (
       let leased : l ≡ a.lease = so.fits.leased o l so.owner_is.1 in
       let roll' : List (Bool × Lease) = lowered t a so.fits p ready so.seat_is.0 o in
       let many : how_many a.roll ≡ how_many roll' + 1 = how_many-lowered t a so.fits p ready so.seat_is.0 o l so.owner_is.1 in
-      let may : MayFollow t.most (beginning t.counted) (entries_of a.lines) (Down o) = lives t a so.fits p ready so.seat_is.0 o l so.owner_is.1 in
+      let may : MayFollow t.most t.began (entries_of a.lines) (Down o) = lives t a so.fits p ready so.seat_is.0 o l so.owner_is.1 in
       let fits' : Fits t (wrote a p ready (Down o) roll') = fits-lowered t a so.fits p ready so.seat_is.0 o l so.owner_is.0 so.owner_is.1 may in
       let to : how_many roll' ≡ m = omega arith in
       let F : Fml = added t p ready seen (λ _. Down o) G in let N : Pr = ⟦ contents t ⟧ ∗ ⟦ F ⟧ in
@@ -169,7 +164,7 @@ module _ {M : Type 1} {𝓤 : Ura M} (𝓛 : Logic 𝓤) (t : Names) (p : ℕ) (
       rewrite ! 0 (λ (k : Lease). ‵ (rolled 𝓛 t (set a.roll o (false, k)))) leased refl $
       -- [roll; latest; withheld; seats; seat; located; the key; count; pool]
       move ! (1 ∷ 2 ∷ 0 ∷ 3 ∷ 4 ∷ 5 ∷ 6 ∷ 7 ∷ []) $ types.Kit.group ! 8 $
-      use1 𝓛 (raw (upd 𝓤 (⟦ behind t (how_many roll') ⟧ ∗ W))) (owes 𝓛 t n p ready seen o l q a so (λ _. Down o) roll' a.lease G tt may fits') $ settle 𝓛 X (‵ (behind t (how_many roll')) ⊛ raw W) $ split ! $
+      use1 𝓛 (raw (upd 𝓤 (⟦ behind t (how_many roll') ⟧ ∗ W))) (owes 𝓛 t n p ready seen o l q a so (λ _. Down o) roll' a.lease G may fits') $ settle 𝓛 X (‵ (behind t (how_many roll')) ⊛ raw W) $ split ! $
       suffices ! _ (upd_i 𝓤 X) $ frame ! $ assume ! (‵ (stake l)) $
       -- [stake; what is owed; pool]
       move ! (2 ∷ 0 ∷ []) $ rewrite ! 0 (λ (k : Lease × ℕ). ‵ (pool k.0 k.1)) (λ i. (sym leased i, sym same i)) refl $
@@ -187,13 +182,13 @@ module _ {M : Type 1} {𝓤 : Ura M} (𝓛 : Logic 𝓤) (t : Names) (p : ℕ) (
   -- an owner that finds others takes its part of the lifetime again
   claims_none : (n : ℕ) → Before quarter n ⊢ Owing (Claim n false) n
   claims_none n = let q : Share = quarter in let G : List Line → Fml = λ _. claim_gain t o l false in opens q n (Owing (Claim n false) n) (λ a so. let e = Alone o (eqb n 1) in
-      let may : MayFollow t.most (beginning t.counted) (entries_of a.lines) e = subst (λ (m : ℕ). MayFollow t.most (beginning t.counted) (entries_of a.lines) (Alone o (eqb m 1))) (sym so.number)
+      let may : MayFollow t.most t.began (entries_of a.lines) e = subst (λ (m : ℕ). MayFollow t.most t.began (entries_of a.lines) (Alone o (eqb m 1))) (sym so.number)
       (may-look t a so.fits p ready so.seat_is.0 o l so.owner_is.1 so.counted) in
       let N : Pr = ⟦ contents t ⟧ ∗ ⟦ Claim n false ⟧ in let W : Pr = (⟦ pool a.lease (how_many a.roll) ⟧ ∗ ⟦ G a.lines ⟧) -∗ N in let X : Pr = ⟦ behind t (how_many a.roll) ⟧ ∗ (⟦ stake l ⟧ -∗ N) in
       subst (λ (m : ℕ). Open 𝓛 t n p ready seen o l q a (emp 𝓤) ⊢ Owing (Claim n false) m) (sym so.number)
       (qed 𝓛 (‵ (latest_of 𝓛 t a.lines) ∷ ‵ (withheld t t.whole seen) ∷ ‵ (rolled 𝓛 t a.roll) ∷ ‵ (right t o l q) ∷ ‵ (seated 𝓛 t a.seats) ∷ ‵ (seat 𝓛 t p ready (made_by p seen)) ∷ ‵ (located t a.lines) ∷ ‵ (has_place t) ∷ ‵ (counted_as t full_share (how_many a.roll)) ∷ ‵ (pool a.lease (how_many a.roll)) ∷ raw (emp 𝓤) ∷ []) ∵
       keep ! (0 ∷ 1 ∷ 2 ∷ 4 ∷ 5 ∷ 6 ∷ 7 ∷ 8 ∷ 9 ∷ 3 ∷ []) $ types.Kit.group ! 8 $
-      use1 𝓛 (raw (upd 𝓤 (⟦ behind t (how_many a.roll) ⟧ ∗ W))) (owes 𝓛 t n p ready seen o l q a so (alone_entry n) a.roll a.lease G tt may (fits-aside t a so.fits p ready so.seat_is.0 e refl refl may)) $
+      use1 𝓛 (raw (upd 𝓤 (⟦ behind t (how_many a.roll) ⟧ ∗ W))) (owes 𝓛 t n p ready seen o l q a so (alone_entry n) a.roll a.lease G may (fits-aside t a so.fits p ready so.seat_is.0 e refl refl may)) $
       settle 𝓛 X (‵ (behind t (how_many a.roll)) ⊛ raw W) $ split ! $ suffices ! _ (upd_i 𝓤 X) $ frame ! $ assume ! (‵ (stake l)) $
       -- [stake; what is owed; pool; right]
       nothing ! $ move ! (1 ∷ 0 ∷ []) $ fjoin ! $ move ! (3 ∷ 0 ∷ []) $ fjoin ! $ move ! (2 ∷ 0 ∷ []) $ join ! $ by ! (apply∗ 𝓤 (⟦ pool a.lease (how_many a.roll) ⟧ ∗ ⟦ G a.lines ⟧) N)))
@@ -201,7 +196,7 @@ module _ {M : Type 1} {𝓤 : Ura M} (𝓛 : Logic 𝓤) (t : Names) (p : ℕ) (
   -- a sole owner takes the block back: the lifetime whole, and the ticket for its end
   claims_all : l.is_lent ≡ true → (n : ℕ) → n ≡ 1 → Before quarter n ⊢ Owing (Claim n true) n
   claims_all lent n one = let q : Share = quarter in let k : Lease = taken l in let G : List Line → Fml = λ _. claim_gain t o l true in opens q n (Owing (Claim n true) n) (λ a so. let e = Alone o (eqb n 1) in
-      let may : MayFollow t.most (beginning t.counted) (entries_of a.lines) e = subst (λ (m : ℕ). MayFollow t.most (beginning t.counted) (entries_of a.lines) (Alone o (eqb m 1))) (sym so.number)
+      let may : MayFollow t.most t.began (entries_of a.lines) e = subst (λ (m : ℕ). MayFollow t.most t.began (entries_of a.lines) (Alone o (eqb m 1))) (sym so.number)
       (may-look t a so.fits p ready so.seat_is.0 o l so.owner_is.1 so.counted) in
       let single : how_many a.roll ≡ 1 = sym so.number ∙ one in let leased : l ≡ a.lease = so.fits.leased o l so.owner_is.1 in let roll' : List (Bool × Lease) = set a.roll o (true, k) in
       let fits' : Fits t (relet (wrote a p ready e a.roll) o k) = fits-relet t (wrote a p ready e a.roll) (fits-aside t a so.fits p ready so.seat_is.0 e refl refl may) o l k so.owner_is.0 so.owner_is.1 single in
@@ -214,7 +209,7 @@ module _ {M : Type 1} {𝓤 : Ura M} (𝓛 : Logic 𝓤) (t : Names) (p : ℕ) (
       settle 𝓛 X (‵ (rolled 𝓛 t roll') ⊛ ‵ (right t o k quarter)) $ split ! $
       -- [roll; right; latest; withheld; seats; seat; located; the key; count; pool]
       move ! (2 ∷ 3 ∷ 0 ∷ 4 ∷ 5 ∷ 6 ∷ 7 ∷ 8 ∷ []) $ types.Kit.group ! 8 $
-      use1 𝓛 (raw (upd 𝓤 (⟦ behind t (how_many roll') ⟧ ∗ W))) (owes 𝓛 t n p ready seen o l q a so (alone_entry n) roll' k G tt may fits') $ settle 𝓛 X (‵ (behind t (how_many roll')) ⊛ raw W) $ split ! $
+      use1 𝓛 (raw (upd 𝓤 (⟦ behind t (how_many roll') ⟧ ∗ W))) (owes 𝓛 t n p ready seen o l q a so (alone_entry n) roll' k G may fits') $ settle 𝓛 X (‵ (behind t (how_many roll')) ⊛ raw W) $ split ! $
       suffices ! _ (upd_i 𝓤 X) $ frame ! $ assume ! (‵ (stake l)) $
       -- [stake; what is owed; right; pool]
       move ! (3 ∷ 0 ∷ []) $ rewrite ! 0 (λ (z : Lease × ℕ). ‵ (pool z.0 z.1)) (λ i. (sym leased i, single i)) refl $
@@ -232,8 +227,8 @@ module _ {M : Type 1} {𝓤 : Ura M} (𝓛 : Logic 𝓤) (t : Names) (p : ℕ) (
   ]
 
   -- a sole owner who has the block back ends: the word stays as it was
-  pub finishes : l.is_lent ≡ false → t.counted ≡ true → ⟦ contents t ⟧ ∗ ⟦ pass_holds t p ready seen ⟧ ∗ ⟦ right t o l quarter ⟧ ⊢ upd 𝓤 (⟦ contents t ⟧ ∗ ⟦ finished_by t p ready seen o ⟧)
-  finishes unlent began = let F : Fml = finished_by t p ready seen o in let Z : Pr = ⟦ contents t ⟧ ∗ ⟦ F ⟧ in let e : Entry = Down o in let G : List Line → Fml = λ before. told (1 ≡ how_many_live before) in
+  pub finishes : l.is_lent ≡ false → ⟦ contents t ⟧ ∗ ⟦ pass_holds t p ready seen ⟧ ∗ ⟦ right t o l quarter ⟧ ⊢ upd 𝓤 (⟦ contents t ⟧ ∗ ⟦ finished_by t p ready seen o ⟧)
+  finishes unlent = let F : Fml = finished_by t p ready seen o in let Z : Pr = ⟦ contents t ⟧ ∗ ⟦ F ⟧ in let e : Entry = Down o in let G : List Line → Fml = λ before. told (1 ≡ how_many_live before) in
       qed 𝓛 (‵ (contents t) ∷ ‵ (pass_holds t p ready seen) ∷ ‵ (right t o l quarter) ∷ []) ∵
       fpick ! (λ a. fsplit ! $ move ! (1 ∷ []) $ fsplit ! $ move ! (1 ∷ []) $ fsplit ! $ move ! (1 ∷ []) $ fsplit ! $ move ! (1 ∷ []) $ fsplit ! $ move ! (1 ∷ []) $ fpick ! (λ f. drop ! $ fsplit ! $
       -- [tally; pool; seats; roll; located; latest; the pass; right]
@@ -250,13 +245,12 @@ module _ {M : Type 1} {𝓤 : Ura M} (𝓛 : Logic 𝓤) (t : Names) (p : ℕ) (
       move ! (8 ∷ 5 ∷ 4 ∷ []) $ use3 𝓛 (given (Seen 𝓛 t t.whole seen a.lines) (‵ (latest_of 𝓛 t a.lines) ⊛ ‵ (withheld t t.whole seen))) (sees 𝓛 t t.whole seen a.lines) $ learn ! (λ seen_is. split ! $
       -- [latest; withheld; roll; right; seats; seat; tally; located]
       let kept : made_by p a.lines ≡ made_by p seen = sym (f.made p) ∙ ap (λ (s : Bool × Seat). s.1.1) seat_is.1 in
-      let counted : counts 𝓛 t a.lines = subst (λ (y : Bool). is_counted (beginning y) (entries_of a.lines) ≡ true) (sym began) (begins-counted (entries_of a.lines)) in
-      let may : MayFollow t.most (beginning t.counted) (entries_of a.lines) e = lives t a f p ready seat_is.0 o l owner_is.1 in
+      let may : MayFollow t.most t.began (entries_of a.lines) e = lives t a f p ready seat_is.0 o l owner_is.1 in
       let roll' : List (Bool × Lease) = lowered t a f p ready seat_is.0 o in let many : how_many a.roll ≡ how_many roll' + 1 = how_many-lowered t a f p ready seat_is.0 o l owner_is.1 in let none : 0 ≡ how_many roll' = omega arith in
       let a' : Account = wrote a p ready e roll' in let f' : Fits t a' = fits-lowered t a f p ready seat_is.0 o l owner_is.0 owner_is.1 may in let ls : List Line = a'.lines in
       move ! (2 ∷ 3 ∷ []) $ use2 𝓛 (‵ (rolled 𝓛 t (set a.roll o (false, l)))) (row_ends lease_coded 𝓛 t.rights no_lease a.roll o l owner_is.0 owner_is.1) $ rewrite ! 0 (λ (k : Lease). ‵ (rolled 𝓛 t (set a.roll o (false, k)))) leased refl $
       -- [roll; latest; withheld; seats; seat; tally; located]
-      move ! (1 ∷ 2 ∷ 3 ∷ 4 ∷ 6 ∷ []) $ types.Kit.group ! 5 $ use1 𝓛 (raw (upd 𝓤 (WrittenDown 𝓛 t p ready seen a e))) (writes_down 𝓛 t p ready seen a e counted seat_is.0 seat_is.1 seen_is.1) $
+      move ! (1 ∷ 2 ∷ 3 ∷ 4 ∷ 6 ∷ []) $ types.Kit.group ! 5 $ use1 𝓛 (raw (upd 𝓤 (WrittenDown 𝓛 t p ready seen a e))) (writes_down 𝓛 t p ready seen a e (ended_counts 𝓛 t a.lines p o) seat_is.0 seat_is.1 seen_is.1) $
       settle 𝓛 Z (‵ (latest_of 𝓛 t ls) ⊛ ‵ (pass_holds t p ready ls) ⊛ ‵ (seated 𝓛 t a'.seats) ⊛ ‵ (located t ls)) $ split3 ! $ move ! (2 ∷ []) $ split ! $ suffices ! _ (upd_i 𝓤 Z) $
       -- [seats; located; latest; pass; roll; tally]
       move ! (5 ∷ []) $ use1 𝓛 (‵ (tally t 0)) (tally_ends 𝓛 t (how_many a.roll)) $ rewrite ! 0 (λ (k : ℕ). ‵ (tally t k)) none refl $
@@ -266,5 +260,5 @@ module _ {M : Type 1} {𝓤 : Ura M} (𝓛 : Logic 𝓤) (t : Names) (p : ℕ) (
       -- [pass]
       nothing ! $ fpack ! (1 ≡ how_many_live a.lines) (λ _. ftrue) (sym one ∙ sym (ap length f.live)) $ move ! (1 ∷ 0 ∷ []) $ fjoin ! $
       nothing ! $ fpack ! (Adds t p seen a.lines e) (λ _. ftrue)
-      (record { after_seen = seen_is.0; own = kept; grown = made-own p a.lines e ∙ ap (λ (es : List Entry). es ++ e ∷ []) kept; undisturbed = seen_is.1; may = may; legal = subst (λ (es : List Entry). IsLegal t.most (beginning t.counted) es) (entries-append a.lines p e) f'.legal; event = one_event t.most (beginning t.counted) (entries_of a.lines) f.legal counted e tt may }) $
+      (record { after_seen = seen_is.0; own = kept; grown = made-own p a.lines e ∙ ap (λ (es : List Entry). es ++ e ∷ []) kept; undisturbed = seen_is.1; may = may; legal = f'.legal }) $
       fjoin ! $ fpack ! (List Line) (left_by t p ready seen (λ _. Down o) G) a.lines $ done !))))))

@@ -15,10 +15,9 @@ use Rattle.arc_owners.specs.Histories.{is_counted, MayFollow}
 use Rattle.arc_owners.specs.Machine.{beginning}
 use Rattle.arc_owners.specs.Book.{Names, Line, entries_of, made_by, reached, withheld, has_place, located, Lease, lease_coded, no_lease, Seat, seat_coded, fresh_seat, cell, row, right, counted_as, tally, pool, how_many, Account, Fits, standing, contents, behind, pass_holds, Adds, left_by, added}
 use Rattle.arc_owners.proofs.Book.Rolls.{entries-append, made-own}
-use Rattle.arc_owners.proofs.Book.Events.{IsStep, one_event}
 use Rattle.arc_owners.proofs.Book.Accounts.{seat_of, seat_set, wrote_for, one-lives}
 use Rattle.arc_owners.proofs.Book.Cells.{cell_parts, row_finds, row_writes}
-use Rattle.arc_owners.proofs.Book.Parts.{top, Seen, sees, writes, counts, keyed, stays, tallies, tally_in}
+use Rattle.arc_owners.proofs.Book.Parts.{top, Seen, sees, writes, counts, Same_count, counts_on, keyed, stays, tallies, tally_in}
 
 module _ {M : Type 1} {𝓤 : Ura M} (𝓛 : Logic 𝓤) (t : Names) where
   abbrev Pr : Type 2
@@ -67,7 +66,7 @@ module _ {M : Type 1} {𝓤 : Ura M} (𝓛 : Logic 𝓤) (t : Names) where
     WrittenDown = ⟦ latest_of more ⟧ ∗ ⟦ pass_holds t p ready more ⟧ ∗ ⟦ seated (seat_set a.seats p ready made) ⟧ ∗ ⟦ located t more ⟧
 
     -- one more line, by a pass that has seen what it must
-    pub writes_down : counts 𝓛 t a.lines → p < length a.seats → seat_of a.seats p ≡ (true, (ready, made_by p seen)) → (t.whole ≡ true → seen ≡ a.lines)
+    pub writes_down : Same_count 𝓛 t a.lines p e → p < length a.seats → seat_of a.seats p ≡ (true, (ready, made_by p seen)) → (t.whole ≡ true → seen ≡ a.lines)
         → ⟦ latest_of a.lines ⟧ ∗ ⟦ withheld t t.whole seen ⟧ ∗ ⟦ seated a.seats ⟧ ∗ ⟦ seat p ready (made_by p seen) ⟧ ∗ ⟦ located t a.lines ⟧ ⊢ upd 𝓤 WrittenDown
     writes_down counted low is whole_seen = let w : Bool = t.whole in let Z : Pr = WrittenDown in
         qed 𝓛 (‵ (latest_of a.lines) ∷ ‵ (withheld t w seen) ∷ ‵ (seated a.seats) ∷ ‵ (seat p ready (made_by p seen)) ∷ ‵ (located t a.lines) ∷ []) ∵
@@ -135,12 +134,12 @@ module _ {M : Type 1} {𝓤 : Ura M} (𝓛 : Logic 𝓤) (t : Names) where
       Owed gain = (⟦ pool lease n' ⟧ ∗ ⟦ gain a.lines ⟧) -∗ (⟦ contents t ⟧ ∗ ⟦ added t p ready seen entry gain ⟧)
 
       -- the line is written and the word's part is done: the book shuts once it has the pool, and the caller what it gains
-      pub owes : (gain : List Line → Fml) → IsStep e → MayFollow t.most (beginning t.counted) (entries_of a.lines) e → Fits t a'
+      pub owes : (gain : List Line → Fml) → MayFollow t.most t.began (entries_of a.lines) e → Fits t a'
           → ⟦ latest_of a.lines ⟧ ∗ ⟦ withheld t t.whole seen ⟧ ∗ ⟦ rolled roll ⟧ ∗ ⟦ seated a.seats ⟧ ∗ ⟦ seat p ready (made_by p seen) ⟧ ∗ ⟦ located t a.lines ⟧ ∗ ⟦ has_place t ⟧ ∗ ⟦ counted_as t full_share (how_many a.roll) ⟧
           ⊢ upd 𝓤 (⟦ behind t n' ⟧ ∗ Owed gain)
-      owes gain step may f = let w : Bool = t.whole in let Z : Pr = ⟦ behind t n' ⟧ ∗ Owed gain in let ls : List Line = a'.lines in
+      owes gain may f = let w : Bool = t.whole in let Z : Pr = ⟦ behind t n' ⟧ ∗ Owed gain in let ls : List Line = a'.lines in
           qed 𝓛 (‵ (latest_of a.lines) ∷ ‵ (withheld t w seen) ∷ ‵ (rolled roll) ∷ ‵ (seated a.seats) ∷ ‵ (seat p ready (made_by p seen)) ∷ ‵ (located t a.lines) ∷ ‵ (has_place t) ∷ ‵ (counted_as t full_share (how_many a.roll)) ∷ []) ∵
-          move ! (0 ∷ 1 ∷ 3 ∷ 4 ∷ 5 ∷ []) $ types.Kit.group ! 5 $ use1 𝓛 (raw (upd 𝓤 (WrittenDown p ready seen a e))) (writes_down p ready seen a e so.counted so.seat_is.0 so.seat_is.1 so.seen_is.1) $
+          move ! (0 ∷ 1 ∷ 3 ∷ 4 ∷ 5 ∷ []) $ types.Kit.group ! 5 $ use1 𝓛 (raw (upd 𝓤 (WrittenDown p ready seen a e))) (writes_down p ready seen a e (counts_on 𝓛 t a.lines p e so.counted) so.seat_is.0 so.seat_is.1 so.seen_is.1) $
           settle 𝓛 Z (‵ (latest_of ls) ⊛ ‵ (pass_holds t p ready ls) ⊛ ‵ (seated a'.seats) ⊛ ‵ (located t ls)) $ split3 ! $ move ! (2 ∷ []) $ split ! $
           -- [seats; located; latest; pass; roll; the key; count]
           move ! (6 ∷ []) $ use1 𝓛 (raw (upd 𝓤 (⟦ counted_as t quarter n' ⟧ ∗ ⟦ counted_as t three_quarters n' ⟧))) (cell_parts coded_ℕ 𝓛 t.count 0 (how_many a.roll) n') $
@@ -150,15 +149,15 @@ module _ {M : Type 1} {𝓤 : Ura M} (𝓛 : Logic 𝓤) (t : Names) where
           -- [tally; seats; located; latest; pass; roll]
           assume ! (‵ (pool lease n') ⊛ ‵ (gain a.lines)) $ split ! $ move ! (6 ∷ 1 ∷ []) $ fjoin ! $
           nothing ! $ fpack ! (Adds t p seen a.lines e) (λ _. ftrue)
-          (record { after_seen = so.seen_is.0; own = made-kept; grown = made-own p a.lines e ∙ ap (λ (es : List Entry). es ++ e ∷ []) made-kept; undisturbed = so.seen_is.1; may = may; legal = subst (λ (es : List Entry). Rattle.arc_owners.specs.Histories.IsLegal t.most (beginning t.counted) es) (entries-append a.lines p e) f.legal; event = one_event t.most (beginning t.counted) (entries_of a.lines) so.fits.legal so.counted e step may }) $
+          (record { after_seen = so.seen_is.0; own = made-kept; grown = made-own p a.lines e ∙ ap (λ (es : List Entry). es ++ e ∷ []) made-kept; undisturbed = so.seen_is.1; may = may; legal = f.legal }) $
           fjoin ! $ fpack ! (List Line) (left_by t p ready seen entry gain) a.lines $
           -- [added; pool; tally; seats; located; latest; roll]
           move ! (5 ∷ 4 ∷ 6 ∷ 3 ∷ 2 ∷ 1 ∷ 0 ∷ []) $ types.Kit.group ! 6 $ use1 𝓛 (‵ (contents t)) (shuts a' f) $ done !
 
-      pub shut : (gain : List Line → Fml) → IsStep e → MayFollow t.most (beginning t.counted) (entries_of a.lines) e → Fits t a'
+      pub shut : (gain : List Line → Fml) → MayFollow t.most t.began (entries_of a.lines) e → Fits t a'
           → ⟦ latest_of a.lines ⟧ ∗ ⟦ withheld t t.whole seen ⟧ ∗ ⟦ rolled roll ⟧ ∗ ⟦ seated a.seats ⟧ ∗ ⟦ seat p ready (made_by p seen) ⟧ ∗ ⟦ located t a.lines ⟧ ∗ ⟦ has_place t ⟧ ∗ ⟦ counted_as t full_share (how_many a.roll) ⟧ ∗ ⟦ pool lease n' ⟧ ∗ ⟦ gain a.lines ⟧
           ⊢ upd 𝓤 (Done gain)
-      shut gain step may f = let Z : Pr = Done gain in let w : Bool = t.whole in
+      shut gain may f = let Z : Pr = Done gain in let w : Bool = t.whole in
           qed 𝓛 (‵ (latest_of a.lines) ∷ ‵ (withheld t w seen) ∷ ‵ (rolled roll) ∷ ‵ (seated a.seats) ∷ ‵ (seat p ready (made_by p seen)) ∷ ‵ (located t a.lines) ∷ ‵ (has_place t) ∷ ‵ (counted_as t full_share (how_many a.roll)) ∷ ‵ (pool lease n') ∷ ‵ (gain a.lines) ∷ []) ∵
-          types.Kit.group ! 8 $ use1 𝓛 (raw (upd 𝓤 (⟦ behind t n' ⟧ ∗ Owed gain))) (owes gain step may f) $ settle 𝓛 Z (‵ (behind t n') ⊛ raw (Owed gain)) $ split ! $
+          types.Kit.group ! 8 $ use1 𝓛 (raw (upd 𝓤 (⟦ behind t n' ⟧ ∗ Owed gain))) (owes gain may f) $ settle 𝓛 Z (‵ (behind t n') ⊛ raw (Owed gain)) $ split ! $
           suffices ! _ (upd_i 𝓤 Z) $ frame ! $ move ! (1 ∷ 2 ∷ []) $ types.Kit.join ! $ move ! (0 ∷ 1 ∷ []) $ use2 𝓛 (‵ (contents t) ⊛ ‵ (added t p ready seen entry gain)) (apply∗ 𝓤 (⟦ pool lease n' ⟧ ∗ ⟦ gain a.lines ⟧) (⟦ contents t ⟧ ∗ ⟦ added t p ready seen entry gain ⟧)) $ split ! $ done !

@@ -17,11 +17,12 @@ use types.RcWeak.{part, rest, takes, gives, whole}
 use types.Kit.{‵, raw, ◌⊛◌, given, ◌$◌, ◌∵◌, !, qed, move, drop, split, fsplit, fjoin, fpick, fpack, learn, check, done, use1, use2, rewrite, suffices, settle}
 use denote.Steps.{nothing}
 use Rattle.arc_owners.specs.declared.owners.entry.Entry.{Entry}
+use Rattle.arc_owners.specs.declared.owners.entry.Entry.TheVariants.{Down}
 use Rattle.arc_owners.specs.Histories.{is_counted}
 use Rattle.arc_owners.specs.Machine.{beginning}
 use base.Stored.{coded_ℕ}
 use Rattle.arc_owners.specs.Book.{Names, counted_as, tally_of, tally, Line, entries_of, lines_order, authority, reached, withheld, places, is_there, has_place, located, told, Lease, pooled, pool, staked, stake}
-use Rattle.arc_owners.proofs.Steps.{counted-more}
+use Rattle.arc_owners.proofs.Steps.{counted-more, counted-ended}
 use Rattle.arc_owners.proofs.Book.Rolls.{entries-append}
 use Rattle.arc_owners.proofs.Book.Cells.{cell_whole}
 
@@ -71,7 +72,7 @@ module _ {M : Type 1} {𝓤 : Ura M} (𝓛 : Logic 𝓤) (t : Names) where
       use1 𝓛 (‵ (top false all) ⊛ ‵ (reached t all)) (latest_shows lines_order 𝓛 full_share t.history all all (lines_order.same all)) $ split ! $ suffices ! _ (upd_i 𝓤 Z) $ done !
 
   abbrev pub counts : List Line → Type 0
-  counts ls = is_counted (beginning t.counted) (entries_of ls) ≡ true
+  counts ls = is_counted t.began (entries_of ls) ≡ true
 
   -- whoever knows that the count has a place knows that the word is counted
   there : (y : ℕ × ℕ) (x : Option (ℕ × ℕ)) → places.le (some y) x → is_there x ≡ true
@@ -80,17 +81,27 @@ module _ {M : Type 1} {𝓤 : Ura M} (𝓛 : Logic 𝓤) (t : Names) where
   there y (some x) h = refl
 
   pub keyed : (ls : List Line) → ⟦ located t ls ⟧ ∗ ⟦ has_place t ⟧ ⊢ guard 𝓤 (counts ls) (⟦ located t ls ⟧ ∗ ⟦ has_place t ⟧)
-  keyed ls = let F : Option (ℕ × ℕ) → Fml = λ x. fsep (latest places three_quarters t.place x) (told (is_counted (beginning t.counted) (entries_of ls) ≡ is_there x)) in let G : ℕ × ℕ → Fml = λ y. at_least places t.place (some y) in
+  keyed ls = let F : Option (ℕ × ℕ) → Fml = λ x. fsep (latest places three_quarters t.place x) (told (is_counted t.began (entries_of ls) ≡ is_there x)) in let G : ℕ × ℕ → Fml = λ y. at_least places t.place (some y) in
       qed 𝓛 (‵ (located t ls) ∷ ‵ (has_place t) ∷ []) ∵ fpick ! (λ x. fsplit ! $ move ! (1 ∷ []) $ fpick ! (λ e. drop ! $ move ! (1 ∷ []) $ fpick ! (λ y. move ! (1 ∷ 0 ∷ []) $
       use2 𝓛 (given (places.le (some y) x) (‵ (latest places three_quarters t.place x) ⊛ ‵ (at_least places t.place (some y)))) (latest_bounds places 𝓛 three_quarters t.place x (some y)) $
-      learn ! (λ le. check ! (e ∙ there y x le) $ split ! $ nothing ! $ fpack ! (is_counted (beginning t.counted) (entries_of ls) ≡ is_there x) (λ _. ftrue) e $ move ! (1 ∷ 0 ∷ []) $ fjoin ! $ fpack ! (Option (ℕ × ℕ)) F x $
+      learn ! (λ le. check ! (e ∙ there y x le) $ split ! $ nothing ! $ fpack ! (is_counted t.began (entries_of ls) ≡ is_there x) (λ _. ftrue) e $ move ! (1 ∷ 0 ∷ []) $ fjoin ! $ fpack ! (Option (ℕ × ℕ)) F x $
       move ! (1 ∷ []) $ fpack ! (ℕ × ℕ) G y $ move ! (1 ∷ 0 ∷ []) $ done !))))
 
+  -- after one more line the word is as it was
+  abbrev pub Same_count : List Line → ℕ → Entry → Type 0
+  Same_count ls p e = is_counted t.began (entries_of (ls ++ (p, e) ∷ [])) ≡ is_counted t.began (entries_of ls)
+
+  pub counts_on : (ls : List Line) (p : ℕ) (e : Entry) → counts ls → Same_count ls p e
+  counts_on ls p e c = ap (is_counted t.began) (entries-append ls p e) ∙ (counted-more t.began (entries_of ls) e c ∙ sym c)
+
+  pub ended_counts : (ls : List Line) (p o : ℕ) → Same_count ls p (Down o)
+  ended_counts ls p o = ap (is_counted t.began) (entries-append ls p (Down o)) ∙ counted-ended t.began (entries_of ls) o
+
   -- a count keeps its place
-  pub stays : (ls : List Line) (p : ℕ) (e : Entry) → counts ls → ⟦ located t ls ⟧ ⊢ ⟦ located t (ls ++ (p, e) ∷ []) ⟧
-  stays ls p e c = let more : List Line = ls ++ (p, e) ∷ [] in let F : Option (ℕ × ℕ) → Fml = λ x. fsep (latest places three_quarters t.place x) (told (is_counted (beginning t.counted) (entries_of more) ≡ is_there x)) in
+  pub stays : (ls : List Line) (p : ℕ) (e : Entry) → Same_count ls p e → ⟦ located t ls ⟧ ⊢ ⟦ located t (ls ++ (p, e) ∷ []) ⟧
+  stays ls p e c = let more : List Line = ls ++ (p, e) ∷ [] in let F : Option (ℕ × ℕ) → Fml = λ x. fsep (latest places three_quarters t.place x) (told (is_counted t.began (entries_of more) ≡ is_there x)) in
       qed 𝓛 (‵ (located t ls) ∷ []) ∵ fpick ! (λ x. fsplit ! $ move ! (1 ∷ []) $ fpick ! (λ is. drop ! $ nothing ! $
-      fpack ! (is_counted (beginning t.counted) (entries_of more) ≡ is_there x) (λ _. ftrue) (ap (is_counted (beginning t.counted)) (entries-append ls p e) ∙ (counted-more (beginning t.counted) (entries_of ls) e c ∙ (sym c ∙ is))) $
+      fpack ! (is_counted t.began (entries_of more) ≡ is_there x) (λ _. ftrue) (c ∙ is) $
       move ! (1 ∷ 0 ∷ []) $ fjoin ! $ fpack ! (Option (ℕ × ℕ)) F x $ done !))
 
   -- the pool of the lifetime for which the block is lent, with one owner more, one less, and none

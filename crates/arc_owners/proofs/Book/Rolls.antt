@@ -10,6 +10,10 @@ pub entries-append : (ls : List Line) (p : ℕ) (e : Entry) → entries_of (ls +
 entries-append [] p e = refl
 entries-append (l ∷ ls) p e = ap (λ (es : List Entry). l.1 ∷ es) (entries-append ls p e)
 
+pub entries-after : (ls more : List Line) → entries_of (ls ++ more) ≡ entries_of ls ++ entries_of more
+entries-after [] more = refl
+entries-after (l ∷ ls) more = ap (λ (es : List Entry). l.1 ∷ es) (entries-after ls more)
+
 pub made-own : (p : ℕ) (ls : List Line) (e : Entry) → made_by p (ls ++ (p, e) ∷ []) ≡ made_by p ls ++ e ∷ []
 made-own p [] e = rw (eq-eqb p p refl) refl
 made-own p (l ∷ ls) e = elim (cases_Bool (eqb l.0 p)) [

@@ -1,30 +1,18 @@
 //! The owners of a block whose word began with a count.
 ghost use Rattle.std.specs.Prelude.{◌≡◌, ◌≢◌, ◌≤◌, ◌==◌, true, false, [], IfSome, IfNone, IfOk, IfErr};
 ghost use mathlib.Core.List.{IsPrefix};
-ghost use Rattle.arc_owners.specs.declared.owners.entry.Entry.TheVariants.{Alone, Full};
-ghost use Rattle.arc_owners.specs.Passes.{block_of, number_of, birth_of, IsOwnerOf, IsPassOf, IsPassOfNone, IsSamePass, AddsEntry, MakesOwner, EndsOwner, IsTermOf, history_of, mine};
+ghost use Rattle.arc_owners.specs.Passes.{block_of, owner_of, lease_of, IsFirst, IsFreshPass, IsOwnerOf, IsPassOf, IsPassOfNone, IsSamePass, IsNewPass, Learns, Asks, MakesAnother, FindsFull, Leaves, IsTermOf, HasCountIn, EndsInOneStep, history_of, seen};
 ghost use Rattle.arc_owners.specs.Releases.{is_last, IfLast};
 
 use super::tokens::{Owners, Pass, Release, Share, Sole, Term};
-use super::word::{Right, Spoils, Trace, Word};
+use super::word::{Right, Spoils, Word};
 use crate::error::CountFull;
-use crate::mark::{Mark, Open};
+use crate::mark::Mark;
 use std::marker::PhantomData;
 use std::sync::Wait;
 
-impl<H: Mark> Pass<H> {
-    /// A pass of no block. Takes no memory.
-    pub fn none() -> Pass<H>
-        ensures { IsPassOfNone result }
-    {
-        Pass {
-            trace: Trace::none(),
-            mark: PhantomData,
-        }
-    }
-}
-
 /// One try to raise a count: nothing where the number changed between its two steps.
+#[tactic(auto, using(crate::proofs::Calls::made_of, crate::proofs::Calls::full_of, crate::proofs::Calls::same_pass))]
 fn try_up<H: Mark>(
     word: &Word,
     most: u64,
@@ -34,10 +22,11 @@ fn try_up<H: Mark>(
     requires most { word.now.most ≡ most }
     requires share { IsOwnerOf word.now by.now }
     requires pass { IsPassOf word.now pass.old }
-    ensures same { IsSamePass word.now pass.old pass.new }
-    ensures made { IfSome result (λ r. IfOk r (λ s. MakesOwner word.now pass.old pass.new by.now s)) }
-    ensures full { IfSome result (λ r. IfErr r (λ _. AddsEntry word.now pass.old pass.new (Full (number_of by.now)))) }
-    ensures again { IfNone result (history_of pass.new ≡ history_of pass.old) }
+    ensures made { IfSome result (λ r. IfOk r (λ s. MakesAnother (owner_of by.now) pass.old pass.new (owner_of s))) }
+    ensures lent { IfSome result (λ r. IfOk r (λ s. lease_of s ≡ lease_of by.now)) }
+    ensures full { IfSome result (λ r. IfErr r (λ _. FindsFull (owner_of by.now) pass.old pass.new)) }
+    ensures step { IfSome result (λ _. EndsInOneStep word.now (history_of pass.new)) }
+    ensures again { IfNone result (pass.new ≡ pass.old) }
 {
     let old = word.glance(&by.right, &mut pass.trace);
     if old == most {
@@ -66,9 +55,10 @@ pub(super) fn up<H: Mark>(
     requires most { word.now.most ≡ most }
     requires share { IsOwnerOf word.now by.now }
     requires pass { IsPassOf word.now pass.old }
-    ensures same { IsSamePass word.now pass.old pass.new }
-    ensures made { IfOk result (λ s. MakesOwner word.now pass.old pass.new by.now s) }
-    ensures full { IfErr result (λ _. AddsEntry word.now pass.old pass.new (Full (number_of by.now))) }
+    ensures made { IfOk result (λ s. MakesAnother (owner_of by.now) pass.old pass.new (owner_of s)) }
+    ensures lent { IfOk result (λ s. lease_of s ≡ lease_of by.now) }
+    ensures full { IfErr result (λ _. FindsFull (owner_of by.now) pass.old pass.new) }
+    ensures step { EndsInOneStep word.now (history_of pass.new) }
 {
     for _ in rt.forever() {
         if let Some(made) = try_up(word, most, by, pass) {
@@ -95,13 +85,14 @@ impl<const MAX: u64, H: Mark> Owners<MAX, H> {
     /// The count of a new block, which is 1: one owner, number 0, and a pass that has seen nothing.
     ///
     /// `MAX`, at least 2, is how many owners may live at once. Takes no memory.
+    #[tactic(auto, using(crate::proofs::Calls::first_of))]
     pub fn new() -> (Owners<MAX, H>, Share<H>, Pass<H>)
         requires { 2 ≤ MAX }
-        ensures most { (block_of result.0).most ≡ MAX }
-        ensures share { IsOwnerOf (block_of result.0) result.1 × (number_of result.1 ≡ 0) × (birth_of result.1 ≡ []) }
-        ensures pass { IsPassOf (block_of result.0) result.2 × (history_of result.2 ≡ []) }
+        ensures share { IsOwnerOf (block_of result.0) result.1 }
+        ensures first { IsFirst MAX H.whole (owner_of result.1) }
+        ensures pass { IsFreshPass (owner_of result.1) result.2 }
     {
-        let (word, right, trace) = Word::open(MAX, H::is_whole());
+        let (word, right, trace) = H::open(MAX);
         (
             Owners {
                 word,
@@ -118,22 +109,36 @@ impl<const MAX: u64, H: Mark> Owners<MAX, H> {
         )
     }
 
-    /// Whether the owner is alone, at the point of the one load that this takes. It adds one entry, Alone with the answer.
+    /// Whether the owner is alone, at the point of the one load that this takes.
     ///
-    /// Takes no memory. Another thread may raise the count through the same owner right after: `claim_as` is for who wants the block back.
+    /// Takes no memory. Another thread may raise the count through the same owner right after: `claim_as` is for who wants
+    /// the block back.
+    ///
+    /// # History
+    ///
+    /// Alone with the answer; none on a lone word, where the answer is yes.
+    #[tactic(auto, using(crate::proofs::Calls::asks_of))]
     pub fn alone_as(&self, by: &Share<H>, pass: &mut Pass<H>) -> bool
         requires share { IsOwnerOf (block_of self.now) by.now }
         requires pass { IsPassOf (block_of self.now) pass.old }
-        ensures same { IsSamePass (block_of self.now) pass.old pass.new }
-        ensures entry { AddsEntry (block_of self.now) pass.old pass.new (Alone (number_of by.now) result) }
+        ensures entry { Asks (owner_of by.now) pass.old pass.new result }
+        ensures step { EndsInOneStep (block_of self.now) (history_of pass.new) }
     {
         self.word.look(&by.right, &mut pass.trace) == 1
     }
 
-    /// A new owner of the same block. It adds one entry, Up.
+    /// A new owner of the same block.
     ///
-    /// `CountFull` exactly where `MAX` owners live, which adds one entry, Full. Takes no memory. It takes `rt` since a raise that
-    /// another thread disturbs is tried again.
+    /// Takes no memory. It takes `rt` since a raise that another thread disturbs is tried again. On a word that began lone the
+    /// pass has to know of its promotion.
+    ///
+    /// # Errors
+    ///
+    /// `CountFull` exactly where `MAX` owners live.
+    ///
+    /// # History
+    ///
+    /// Up, or Full where refused.
     pub fn up_as(
         &self,
         rt: &impl Wait,
@@ -142,22 +147,28 @@ impl<const MAX: u64, H: Mark> Owners<MAX, H> {
     ) -> Result<Share<H>, CountFull>
         requires share { IsOwnerOf (block_of self.now) by.now }
         requires pass { IsPassOf (block_of self.now) pass.old }
-        ensures same { IsSamePass (block_of self.now) pass.old pass.new }
-        ensures made { IfOk result (λ s. MakesOwner (block_of self.now) pass.old pass.new by.now s) }
-        ensures full { IfErr result (λ _. AddsEntry (block_of self.now) pass.old pass.new (Full (number_of by.now))) }
+        requires counted { HasCountIn (block_of self.now) (seen pass.old) }
+        ensures made { IfOk result (λ s. MakesAnother (owner_of by.now) pass.old pass.new (owner_of s)) }
+        ensures full { IfErr result (λ _. FindsFull (owner_of by.now) pass.old pass.new) }
+        ensures step { EndsInOneStep (block_of self.now) (history_of pass.new) }
     {
         up(&self.word, rt, MAX, by, pass)
     }
 
-    /// Ends an owner by one subtraction, which is not tried again. It adds one entry, Down, and says whether that was the last owner.
+    /// Ends an owner by one subtraction, which is not tried again, and says whether that was the last owner.
     ///
     /// Takes no memory. The last one gets the right to end the lifetime for which the block was lent to the owners.
+    ///
+    /// # History
+    ///
+    /// Down.
+    #[tactic(auto, using(crate::proofs::Calls::leaves_of))]
     pub fn down_as(&self, share: Share<H>, pass: &mut Pass<H>) -> Release
         requires share { IsOwnerOf (block_of self.now) share }
         requires pass { IsPassOf (block_of self.now) pass.old }
-        ensures same { IsSamePass (block_of self.now) pass.old pass.new }
-        ensures entry { EndsOwner (block_of self.now) pass.old pass.new (number_of share) (is_last result) }
+        ensures entry { Leaves (owner_of share) pass.old pass.new (is_last result) }
         ensures term { IfLast result (λ term. IsTermOf share term) }
+        ensures step { EndsInOneStep (block_of self.now) (history_of pass.new) }
     {
         let mut last = Spoils::none();
         let mut right = share.right;
@@ -169,35 +180,8 @@ impl<const MAX: u64, H: Mark> Owners<MAX, H> {
     pub fn learn(&self, pass: &mut Pass<H>, other: &Pass<H>)
         requires pass { IsPassOf (block_of self.now) pass.old }
         requires other { IsPassOf (block_of self.now) other.now }
-        ensures same { IsSamePass (block_of self.now) pass.old pass.new }
-        ensures kept { IsPrefix (history_of pass.old) (history_of pass.new) }
-        ensures learnt { IsPrefix (history_of other.now) (history_of pass.new) }
-        ensures mine { mine pass.new ≡ mine pass.old }
+        ensures { Learns (block_of self.now) pass.old other.now pass.new }
     {
-        pass.trace.learn(&other.trace);
-    }
-}
-
-impl<const MAX: u64> Owners<MAX, Open> {
-    /// A new pass, which has seen at least the entry that made this owner, and made nothing. It adds no entry and takes no memory.
-    pub fn pass(&self, by: &Share<Open>) -> Pass<Open>
-        requires share { IsOwnerOf (block_of self.now) by.now }
-        ensures of { IsPassOf (block_of self.now) result }
-        ensures seen { IsPrefix (birth_of by.now) (history_of result) }
-        ensures mine { mine result ≡ [] }
-    {
-        Pass {
-            trace: by.right.fork(),
-            mark: PhantomData,
-        }
-    }
-}
-
-impl<H: Mark> Share<H> {
-    /// What stands behind the owner: for what is lent to owners, as a `Loan`.
-    pub fn right(&self) -> &Right
-        ensures { result.now ≡ self.now.right }
-    {
-        &self.right
+        pass.learn(other);
     }
 }

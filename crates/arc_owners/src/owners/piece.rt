@@ -6,10 +6,10 @@ use super::home::Room;
 use super::kept::Kept;
 use super::lent::Lent;
 use super::loan::Loan;
-use super::tokens::{Owners, Pass, Release, Share};
+use super::tokens::{Owners, Pass, Release, Share, Term};
 use super::word::Lodging;
 use crate::error::CountFull;
-use crate::mark::{Mark, Open};
+use crate::mark::{Mark, Open, Stepping};
 use std::alloc::Allocator;
 use std::marker::PhantomData;
 use std::sync::Wait;
@@ -40,16 +40,16 @@ pub struct Piece<V: Drop, A: Allocator + Copy, const MAX: u64, H: Mark = Open> {
 }
 
 impl<V: Drop, A: Allocator + Copy, const MAX: u64, H: Mark> Piece<V, A, MAX, H> {
-    ghost use Rattle.std.specs.Prelude.{◌≡◌, ◌≤◌, IfOk, IfErr, IfSome, is_some, true, false, None};
-    ghost use Rattle.arc_owners.specs.Passes.{IsPassOfNone};
-    ghost use Rattle.arc_owners.specs.Pieces.{owner_of, value_of, IsFirst, IsPassFor, IsFreshPass, IsNewPass, Learns, Asks, FindsFull, MakesAnother, Leaves, TakesBlock, EndsWithNew};
+    ghost use Rattle.std.specs.Prelude.{◌≡◌, ◌≤◌, IfOk, IfErr, IfSome, is_some, is_ok, true, false, None};
+    ghost use Rattle.arc_owners.specs.Passes.{IsPassFor, IsPassOfNone, IsFirst, IsFreshPass, IsNewPass, Learns, Asks, FindsFull, MakesAnother, Leaves, TakesBlock, EndsByItself};
+    ghost use Rattle.arc_owners.specs.Pieces.{owner_in, value_of};
 
     /// The first owner of a value, with a pass of its block. Takes memory, for the value and the count together; refused, the value
     /// comes back. `MAX`, at least 2, is how many owners may live at once.
     pub fn new(alloc: A, value: V) -> Result<(Self, Pass<H>), V>
         requires { 2 ≤ MAX }
-        ensures made { IfOk result (λ r. IsFirst MAX H.whole (owner_of r.0) × (value_of r.0 ≡ value)) }
-        ensures pass { IfOk result (λ r. IsFreshPass (owner_of r.0) r.1) }
+        ensures made { IfOk result (λ r. IsFirst MAX H.whole (owner_in r.0) × (value_of r.0 ≡ value)) }
+        ensures pass { IfOk result (λ r. IsFreshPass (owner_in r.0) r.1) }
         ensures refused { IfErr result (λ back. back ≡ value) }
     {
         let (owners, share, pass) = Owners::<MAX, H>::new();
@@ -99,8 +99,8 @@ impl<V: Drop, A: Allocator + Copy, const MAX: u64, H: Mark> Piece<V, A, MAX, H> 
 
     /// Whether no other owner lives, by one load. Adds Alone with the answer. Takes no memory.
     pub fn is_unique_as(&self, pass: &mut Pass<H>) -> bool
-        requires pass { IsPassFor (owner_of self.now) pass.old }
-        ensures entry { Asks (owner_of self.now) pass.old pass.new result }
+        requires pass { IsPassFor (owner_in self.now) pass.old }
+        ensures entry { Asks (owner_in self.now) pass.old pass.new result }
     {
         unsafe { Owners::<MAX, H>::alone_raw(self.word, &self.lodging, &self.share, pass) }
     }
@@ -108,11 +108,11 @@ impl<V: Drop, A: Allocator + Copy, const MAX: u64, H: Mark> Piece<V, A, MAX, H> 
     /// The value back, and the memory to its allocator, where no other owner lives: adds Alone, then the Down of this one. Else it is
     /// handed back, and Alone was added with no. Takes no memory.
     pub fn try_into_value_as(self, pass: &mut Pass<H>) -> Result<V, Self>
-        requires pass { IsPassFor (owner_of self) pass.old }
-        ensures alone { IfOk result (λ _. TakesBlock (owner_of self) pass.old pass.new) }
+        requires pass { IsPassFor (owner_in self) pass.old }
+        ensures alone { IfOk result (λ _. TakesBlock (owner_in self) pass.old pass.new) }
         ensures value { IfOk result (λ value. value ≡ value_of self) }
-        ensures others { IfErr result (λ _. Asks (owner_of self) pass.old pass.new false) }
-        ensures back { IfErr result (λ piece. (owner_of piece ≡ owner_of self) × (value_of piece ≡ value_of self)) }
+        ensures others { IfErr result (λ _. Asks (owner_in self) pass.old pass.new false) }
+        ensures back { IfErr result (λ piece. (owner_in piece ≡ owner_in self) × (value_of piece ≡ value_of self)) }
     {
         let alloc = self.housed().alloc;
         let Piece {
@@ -145,8 +145,8 @@ impl<V: Drop, A: Allocator + Copy, const MAX: u64, H: Mark> Piece<V, A, MAX, H> 
 
     /// Ends this owner by one subtraction. Adds its Down. The last one gives the memory back, and gets the value. Takes no memory.
     pub fn release_as(self, pass: &mut Pass<H>) -> Option<V>
-        requires pass { IsPassFor (owner_of self) pass.old }
-        ensures entry { Leaves (owner_of self) pass.old pass.new (is_some result) }
+        requires pass { IsPassFor (owner_in self) pass.old }
+        ensures entry { Leaves (owner_in self) pass.old pass.new (is_some result) }
         ensures value { IfSome result (λ value. value ≡ value_of self) }
     {
         let alloc = self.housed().alloc;
@@ -172,53 +172,58 @@ impl<V: Drop, A: Allocator + Copy, const MAX: u64, H: Mark> Piece<V, A, MAX, H> 
     /// What a drop does: under `Open` this owner ends with a new pass, and the last one gets the value; under `Whole` it is forgotten,
     /// without a step. Takes no memory.
     /// The pass is the one that the owner ended with; under `Whole` it is of no block.
+    #[tactic(auto, using(crate::proofs::Calls::ended_by_itself))]
     pub fn let_go(self) -> (Option<V>, Pass<H>)
         ensures value { IfSome result.0 (λ value. value ≡ value_of self) }
         ensures forgotten { H.whole ≡ true → (result.0 ≡ None) × IsPassOfNone result.1 }
-        ensures ended { H.whole ≡ false → EndsWithNew (owner_of self) result.1 (is_some result.0) }
+        ensures ended { H.whole ≡ false → EndsByItself (owner_in self) result.1 (is_some result.0) }
     {
-        if H::is_whole() {
-            let Piece {
-                at: _,
-                word: _,
-                value: _,
-                lodging: _,
-                loan: _,
-                kept: _,
-                share: _,
-            } = self;
-            return (None, Pass::none());
-        }
-        let mut pass = Pass {
-            trace: self.share.right.fork(),
+        let alloc = self.housed().alloc;
+        let Piece {
+            at,
+            word,
+            value: _,
+            lodging,
+            loan: _,
+            kept,
+            share,
+        } = self;
+        let (last, spoils, trace) = unsafe { H::let_go(word, &lodging, share.right) };
+        let pass = Pass {
+            trace,
             mark: PhantomData,
         };
-        let value = self.release_as(&mut pass);
-        (value, pass)
+        if !last {
+            return (None, pass);
+        }
+        let memory = unsafe { kept.take(at.cast_mut(), alloc, Term { spoils }) };
+        let Room { word: _, value } = Box::into_inner(memory.into_box());
+        (Some(value.value), pass)
     }
 
     /// Afterwards the first pass has seen at least what the other had. It adds no entry and takes no memory.
     pub fn learn(&self, pass: &mut Pass<H>, other: &Pass<H>)
-        requires pass { IsPassFor (owner_of self.now) pass.old }
-        requires other { IsPassFor (owner_of self.now) other.now }
-        ensures { Learns (owner_of self.now) pass.old other.now pass.new }
+        requires pass { IsPassFor (owner_in self.now) pass.old }
+        requires other { IsPassFor (owner_in self.now) other.now }
+        ensures { Learns (owner_in self.now).block pass.old other.now pass.new }
     {
-        pass.trace.learn(&other.trace);
+        pass.learn(other);
     }
 }
 
 impl<V: Drop, A: Allocator + Copy, const MAX: u64, H: Mark> Piece<V, A, MAX, H> {
-    ghost use Rattle.std.specs.Prelude.{◌≡◌, ◌≤◌, IfOk, IfErr, IfSome, is_some, true, false, None};
-    ghost use Rattle.arc_owners.specs.Pieces.{owner_of, value_of, IsFirst, IsPassFor, IsFreshPass, IsNewPass, Learns, Asks, FindsFull, MakesAnother, Leaves, TakesBlock};
+    ghost use Rattle.std.specs.Prelude.{◌≡◌, ◌≤◌, IfOk, IfErr, IfSome, is_some, is_ok, true, false, None};
+    ghost use Rattle.arc_owners.specs.Passes.{IsPassFor, IsPassOfNone, IsFirst, IsFreshPass, IsNewPass, Learns, Asks, FindsFull, MakesAnother, Leaves, TakesBlock, EndsByItself};
+    ghost use Rattle.arc_owners.specs.Pieces.{owner_in, value_of};
 
     /// One owner more of the same value, through this one. Adds Up. Takes no memory, and copies nothing.
     ///
     /// `CountFull` exactly where `MAX` owners live, which adds Full. It takes `rt` since a raise that another thread disturbs is tried
     /// again.
     pub fn try_clone_as(&self, rt: &impl Wait, pass: &mut Pass<H>) -> Result<Self, CountFull>
-        requires pass { IsPassFor (owner_of self.now) pass.old }
-        ensures made { IfOk result (λ piece. MakesAnother (owner_of self.now) pass.old pass.new (owner_of piece) × (value_of piece ≡ value_of self.now)) }
-        ensures full { IfErr result (λ _. FindsFull (owner_of self.now) pass.old pass.new) }
+        requires pass { IsPassFor (owner_in self.now) pass.old }
+        ensures made { IfOk result (λ piece. MakesAnother (owner_in self.now) pass.old pass.new (owner_in piece) × (value_of piece ≡ value_of self.now)) }
+        ensures full { IfErr result (λ _. FindsFull (owner_in self.now) pass.old pass.new) }
     {
         let share = unsafe {
             Owners::<MAX, H>::up_raw(self.word, rt, &self.lodging, &self.share, pass)?
@@ -235,18 +240,16 @@ impl<V: Drop, A: Allocator + Copy, const MAX: u64, H: Mark> Piece<V, A, MAX, H> 
     }
 }
 
-impl<V: Drop, A: Allocator + Copy, const MAX: u64> Piece<V, A, MAX, Open> {
-    ghost use Rattle.std.specs.Prelude.{◌≡◌, ◌≤◌, IfOk, IfErr, IfSome, is_some, true, false, None};
-    ghost use Rattle.arc_owners.specs.Pieces.{owner_of, value_of, IsFirst, IsPassFor, IsFreshPass, IsNewPass, Learns, Asks, FindsFull, MakesAnother, Leaves, TakesBlock};
+impl<V: Drop, A: Allocator + Copy, const MAX: u64, H: Stepping> Piece<V, A, MAX, H> {
+    ghost use Rattle.std.specs.Prelude.{◌≡◌, ◌≤◌, IfOk, IfErr, IfSome, is_some, is_ok, true, false, None};
+    ghost use Rattle.arc_owners.specs.Passes.{IsPassFor, IsPassOfNone, IsFirst, IsFreshPass, IsNewPass, Learns, Asks, FindsFull, MakesAnother, Leaves, TakesBlock, EndsByItself};
+    ghost use Rattle.arc_owners.specs.Pieces.{owner_in, value_of};
 
     /// A new pass, which has seen at least the entry that made this owner, and made nothing. It adds no entry and takes no memory.
-    pub fn pass(&self) -> Pass<Open>
-        ensures { IsNewPass (owner_of self.now) result }
+    pub fn pass(&self) -> Pass<H>
+        ensures { IsNewPass (owner_in self.now) result }
     {
-        Pass {
-            trace: self.share.right.fork(),
-            mark: PhantomData,
-        }
+        self.share.pass()
     }
 }
 

@@ -1,7 +1,6 @@
 //! The steps on the place of a word, which lies in a block's memory. A block may be gone before a release returns.
-ghost use Rattle.std.specs.Prelude.{◌≡◌, IfOk, IfErr, true, false};
-ghost use Rattle.arc_owners.specs.declared.owners.entry.Entry.TheVariants.{Alone, Full};
-ghost use Rattle.arc_owners.specs.Passes.{number_of, lease_of, IsOwnerOf, IsPassOf, IsSamePass, AddsEntry, MakesOwner, EndsOwner, TakesBack, HandsBack, IsTermOf};
+ghost use Rattle.std.specs.Prelude.{◌≡◌, IfOk, IfErr, true, false, is_ok};
+ghost use Rattle.arc_owners.specs.Passes.{owner_of, lease_of, sole_owner, IsOwnerOf, IsPassOf, Asks, MakesAnother, FindsFull, Leaves, IsTermOf, HasCountIn, seen};
 ghost use Rattle.arc_owners.specs.Releases.{is_last, IfLast};
 ghost use Rattle.arc_owners.specs.Traces.{IsLodged};
 
@@ -30,9 +29,9 @@ impl<const MAX: u64, H: Mark> Owners<MAX, H> {
         requires share { IsOwnerOf lodging.now.names by.now }
         requires pass { IsPassOf lodging.now.names pass.old }
         requires place { IsLodged lodging.now place (lease_of by.now) }
-        ensures same { IsSamePass lodging.now.names pass.old pass.new }
-        ensures made { IfOk result (λ s. MakesOwner lodging.now.names pass.old pass.new by.now s) }
-        ensures full { IfErr result (λ _. AddsEntry lodging.now.names pass.old pass.new (Full (number_of by.now))) }
+        ensures made { IfOk result (λ s. MakesAnother (owner_of by.now) pass.old pass.new (owner_of s)) }
+        ensures lent { IfOk result (λ s. lease_of s ≡ lease_of by.now) }
+        ensures full { IfErr result (λ _. FindsFull (owner_of by.now) pass.old pass.new) }
     {
         let word = unsafe { lodging.word(place, &by.right) };
         up(word, rt, MAX, by, pass)
@@ -43,6 +42,7 @@ impl<const MAX: u64, H: Mark> Owners<MAX, H> {
     /// # Safety
     ///
     /// The word lies at this place for as long as the block is lent: the lodging says so.
+    #[tactic(auto, using(crate::proofs::Calls::asks_of))]
     pub unsafe fn alone_raw(
         place: *const u64,
         lodging: &Lodging,
@@ -52,8 +52,7 @@ impl<const MAX: u64, H: Mark> Owners<MAX, H> {
         requires share { IsOwnerOf lodging.now.names by.now }
         requires pass { IsPassOf lodging.now.names pass.old }
         requires place { IsLodged lodging.now place (lease_of by.now) }
-        ensures same { IsSamePass lodging.now.names pass.old pass.new }
-        ensures entry { AddsEntry lodging.now.names pass.old pass.new (Alone (number_of by.now) result) }
+        ensures entry { Asks (owner_of by.now) pass.old pass.new result }
     {
         let word = unsafe { lodging.word(place, &by.right) };
         word.look(&by.right, &mut pass.trace) == 1
@@ -64,6 +63,7 @@ impl<const MAX: u64, H: Mark> Owners<MAX, H> {
     /// # Safety
     ///
     /// The word lies at this place for as long as the block is lent: the lodging says so.
+    #[tactic(auto, using(crate::proofs::Calls::leaves_of))]
     pub unsafe fn down_raw(
         place: *const u64,
         lodging: &Lodging,
@@ -73,8 +73,7 @@ impl<const MAX: u64, H: Mark> Owners<MAX, H> {
         requires share { IsOwnerOf lodging.now.names share }
         requires pass { IsPassOf lodging.now.names pass.old }
         requires place { IsLodged lodging.now place (lease_of share) }
-        ensures same { IsSamePass lodging.now.names pass.old pass.new }
-        ensures entry { EndsOwner lodging.now.names pass.old pass.new (number_of share) (is_last result) }
+        ensures entry { Leaves (owner_of share) pass.old pass.new (is_last result) }
         ensures term { IfLast result (λ term. IsTermOf share term) }
     {
         let mut last = Spoils::none();
@@ -90,6 +89,7 @@ impl<const MAX: u64, H: Mark> Owners<MAX, H> {
     /// # Safety
     ///
     /// The word lies at this place for as long as the block is lent: the lodging says so.
+    #[tactic(auto, using(crate::proofs::Calls::asks_of))]
     pub unsafe fn claim_raw(
         place: *const u64,
         lodging: &Lodging,
@@ -99,9 +99,9 @@ impl<const MAX: u64, H: Mark> Owners<MAX, H> {
         requires share { IsOwnerOf lodging.now.names share }
         requires pass { IsPassOf lodging.now.names pass.old }
         requires place { IsLodged lodging.now place (lease_of share) }
-        ensures same { IsSamePass lodging.now.names pass.old pass.new }
-        ensures alone { IfOk result (λ r. AddsEntry lodging.now.names pass.old pass.new (Alone (number_of share) true) × TakesBack share r.0 × IsTermOf share r.1) }
-        ensures others { IfErr result (λ s. AddsEntry lodging.now.names pass.old pass.new (Alone (number_of share) false) × HandsBack share s) }
+        ensures entry { Asks (owner_of share) pass.old pass.new (is_ok result) }
+        ensures alone { IfOk result (λ r. (sole_owner r.0 ≡ owner_of share) × IsTermOf share r.1) }
+        ensures others { IfErr result (λ s. (owner_of s ≡ owner_of share) × (lease_of s ≡ lease_of share)) }
     {
         let mut last = Spoils::none();
         let mut right = share.right;

@@ -1,12 +1,10 @@
 //! Sole owners: a block taken back whole, lent anew, or ended without a step.
-ghost use Rattle.std.specs.Prelude.{◌≡◌, ◌≢◌, true, false, [], IfOk, IfErr};
-ghost use mathlib.Core.List.{IsPrefix};
-ghost use Rattle.arc_owners.specs.declared.owners.entry.Entry.TheVariants.{Alone};
-ghost use Rattle.arc_owners.specs.Passes.{block_of, number_of, IsOwnerOf, IsPassOf, IsSamePass, AddsEntry, EndsOwner, TakesBack, HandsBack, IsTermOf, IsLentTo, sole_block, sole_number, sole_birth, history_of, mine};
+ghost use Rattle.std.specs.Prelude.{◌≡◌, ◌≢◌, ◌==◌, true, false, IfOk, IfErr, is_ok};
+ghost use Rattle.arc_owners.specs.Passes.{block_of, owner_of, sole_owner, lease_of, IsOwnerOf, IsPassOf, Asks, Leaves, IsTermOf, EndsInOneStep, EndsWithoutStep, history_of};
 
 use super::tokens::{Owners, Pass, Share, Sole, Term};
 use super::word::{Right, Spoils};
-use crate::mark::{Mark, Open};
+use crate::mark::Mark;
 use std::marker::PhantomData;
 
 /// What an owner has that asked for the block back, and found this number.
@@ -15,9 +13,10 @@ pub(super) fn claimed<H: Mark>(
     right: Right,
     last: Spoils,
 ) -> Result<(Sole<H>, Term), Share<H>>
-    requires right { (right.held ≡ true) × (right.names.whole ≡ H.whole) × (right.names.counted ≡ true) }
+    requires right { (right.held ≡ true) × (right.names.whole ≡ H.whole) }
     requires alone { found ≡ 1 → (right.lease.is_lent ≡ false) × (last.last ≡ true) }
     requires others { found ≢ 1 → right.lease.is_lent ≡ true }
+    ensures found { is_ok result ≡ (found == 1) }
     ensures alone { IfOk result (λ r. (found ≡ 1) × (r.0.right ≡ right) × (r.1.spoils ≡ last)) }
     ensures others { IfErr result (λ s. (found ≢ 1) × (s.right ≡ right)) }
 {
@@ -38,16 +37,21 @@ pub(super) fn claimed<H: Mark>(
 }
 
 impl<const MAX: u64, H: Mark> Owners<MAX, H> {
-    /// Takes the block back where the owner is alone, at the point of the one load that this takes, as `Arc::try_unwrap` does. It adds
-    /// one entry, Alone with the answer.
+    /// Takes the block back where the owner is alone, at the point of the one load that this takes, as `Arc::try_unwrap` does.
     ///
     /// Where other owners live, this one is handed back as it was. Takes no memory.
+    ///
+    /// # History
+    ///
+    /// Alone with the answer; none on a lone word.
+    #[tactic(auto, using(crate::proofs::Calls::asks_of))]
     pub fn claim_as(&self, share: Share<H>, pass: &mut Pass<H>) -> Result<(Sole<H>, Term), Share<H>>
         requires share { IsOwnerOf (block_of self.now) share }
         requires pass { IsPassOf (block_of self.now) pass.old }
-        ensures same { IsSamePass (block_of self.now) pass.old pass.new }
-        ensures alone { IfOk result (λ r. AddsEntry (block_of self.now) pass.old pass.new (Alone (number_of share) true) × TakesBack share r.0 × IsTermOf share r.1) }
-        ensures others { IfErr result (λ s. AddsEntry (block_of self.now) pass.old pass.new (Alone (number_of share) false) × HandsBack share s) }
+        ensures entry { Asks (owner_of share) pass.old pass.new (is_ok result) }
+        ensures alone { IfOk result (λ r. (sole_owner r.0 ≡ owner_of share) × IsTermOf share r.1) }
+        ensures others { IfErr result (λ s. (owner_of s ≡ owner_of share) × (lease_of s ≡ lease_of share)) }
+        ensures step { EndsInOneStep (block_of self.now) (history_of pass.new) }
     {
         let mut last = Spoils::none();
         let mut right = share.right;
@@ -59,7 +63,7 @@ impl<const MAX: u64, H: Mark> Owners<MAX, H> {
 impl<H: Mark> Sole<H> {
     /// Lends the block anew, under the same history: the same owner, for a new lifetime. It adds no entry and takes no memory.
     pub fn lend(self) -> Share<H>
-        ensures same { IsLentTo self result }
+        ensures same { owner_of result ≡ sole_owner self }
     {
         let mut right = self.right;
         right.lend();
@@ -69,27 +73,18 @@ impl<H: Mark> Sole<H> {
         }
     }
 
-    /// Ends this owner, the last one, without an atomic step: the word stays as it was. It adds one entry, Down, and takes no memory.
+    /// Ends this owner, the last one, without an atomic step: the word stays as it was. Takes no memory.
+    ///
+    /// # History
+    ///
+    /// Down.
+    #[tactic(auto, using(crate::proofs::Calls::leaves_of, crate::proofs::Calls::ended_without))]
     pub fn end_as(self, pass: &mut Pass<H>)
-        requires pass { IsPassOf (sole_block self) pass.old }
-        ensures same { IsSamePass (sole_block self) pass.old pass.new }
-        ensures entry { EndsOwner (sole_block self) pass.old pass.new (sole_number self) true }
+        requires pass { IsPassOf (sole_owner self).block pass.old }
+        ensures entry { Leaves (sole_owner self) pass.old pass.new true }
+        ensures step { EndsWithoutStep (sole_owner self).block (history_of pass.new) }
     {
         let mut right = self.right;
         right.finish(&mut pass.trace);
-    }
-}
-
-impl Sole<Open> {
-    /// A new pass, which has seen at least the entry that made this owner, and made nothing. It adds no entry and takes no memory.
-    pub fn pass(&self) -> Pass<Open>
-        ensures of { IsPassOf (sole_block self.now) result }
-        ensures seen { IsPrefix (sole_birth self.now) (history_of result) }
-        ensures mine { mine result ≡ [] }
-    {
-        Pass {
-            trace: self.right.fork(),
-            mark: PhantomData,
-        }
     }
 }

@@ -12,7 +12,6 @@ pub struct Owners<const MAX: u64, H: Mark = Open> {
     pub(super) mark: PhantomData<H>,
     ghost greatest: { word.most ≡ MAX },
     ghost marked: { word.whole ≡ H.whole },
-    ghost began: { word.counted ≡ true },
 }
 
 /// One owner of a block. It has no bytes. Dropped, it is a forgotten one, which stays an owner for good.
@@ -23,7 +22,6 @@ pub struct Share<H: Mark = Open> {
     ghost held: { right.held ≡ true },
     ghost lent: { right.lease.is_lent ≡ true },
     ghost marked: { right.names.whole ≡ H.whole },
-    ghost began: { right.names.counted ≡ true },
 }
 
 /// A sole owner who took the block back whole: no other owner lives, and the block isn't lent. It lends it anew, or ends. It has no
@@ -35,7 +33,6 @@ pub struct Sole<H: Mark = Open> {
     ghost held: { right.held ≡ true },
     ghost taken: { right.lease.is_lent ≡ false },
     ghost marked: { right.names.whole ≡ H.whole },
-    ghost began: { right.names.counted ≡ true },
 }
 
 /// What one caller has seen of a block's history, and made of it. It has no bytes, and is for contracts alone.

@@ -13,7 +13,7 @@ use std::sync::atomic::Ordering::SeqCst;
 use std::sync::atomic::raw;
 
 /// A count, in one word. Contracts see which block it is of.
-pub(crate) struct Word {
+pub struct Word {
     bits: u64,
 }
 
@@ -46,7 +46,7 @@ impl Model for Right {
 }
 
 /// What a caller has seen of a block's history, and made of it, where it is of a block. It has no bytes.
-pub(crate) struct Trace {
+pub struct Trace {
     marker: PhantomData<()>,
     pub(crate) ghost bound: { Bool },
     pub(crate) ghost names: { Names } by { names_coded },
@@ -76,7 +76,7 @@ impl Model for Lodging {
 }
 
 /// What an owner's end leaves: of the last owner, the right to end the lifetime for which the block is lent.
-pub(crate) struct Spoils {
+pub struct Spoils {
     marker: PhantomData<()>,
     pub(crate) ghost last: { Bool },
     pub(crate) ghost lease: { Lease } by { lease_coded },
@@ -88,13 +88,13 @@ impl Model for Spoils {
 
 impl Word {
     ghost use Rattle.std.specs.Prelude.{◌==◌};
-    ghost use Rattle.arc_owners.specs.Traces.{IsHeld, IsOf, IsNext, SamePass, Wrote, FullIf, RaisedIf, Ends, Claimed, IsLodged};
+    ghost use Rattle.arc_owners.specs.Traces.{IsHeld, IsOf, IsNext, IsOpened, SamePass, Wrote, FullIf, RaisedIf, Ends, Claimed, IsLodged};
     ghost use Rattle.std.specs.Prelude.{◌≢◌, ◌≤◌, []};
 
     /// The word of a new block with one owner, its right, and a pass.
     pub(crate) fn open(most: u64, whole: bool) -> (Word, Right, Trace)
         requires { 1 ≤ most }
-        ensures { (result.0.most ≡ most) × (result.0.counted ≡ true) × (result.0.whole ≡ whole) × IsHeld result.0 result.1 × IsOf result.0 result.2 × (result.1.owner ≡ 0) × (result.1.born ≡ []) × (result.2.number ≡ 0) × (result.2.ready ≡ false) × (result.2.lines ≡ []) }
+        ensures { IsOpened most whole result.0 result.1 result.2 }
     {
         let _ = (most, whole);
         (
@@ -201,7 +201,7 @@ impl Right {
 
     /// A sole owner who has the block back ends, without a step.
     pub(crate) fn finish(&mut self, pass: &mut Trace)
-        requires { IsSole self.old.names self.old × IsOf self.old.names pass.old × (self.old.names.counted ≡ true) }
+        requires { IsSole self.old.names self.old × IsOf self.old.names pass.old }
         ensures { SamePass self.old.names pass.old pass.new × Ends self.old.names pass.old pass.new self.old.owner true × (self.new.held ≡ false) }
     {}
 
@@ -224,7 +224,8 @@ impl Right {
 
 impl Trace {
     ghost use mathlib.Core.List.{IsPrefix};
-    ghost use Rattle.arc_owners.specs.Book.{made_by};
+    ghost use Rattle.arc_owners.specs.Book.{made_by, entries_of, told_of};
+    ghost use Rattle.arc_owners.specs.Histories.{IsLegal};
     ghost use Rattle.arc_owners.specs.Traces.{SamePass};
 
     /// A pass of no block.
@@ -235,6 +236,12 @@ impl Trace {
             marker: PhantomData,
         }
     }
+
+    /// What the pass has seen is a beginning of the block's history, and legal.
+    pub(crate) fn attest(&self)
+        ensures* reached { sem 𝓛 (told_of self.now.bound self.now.names self.now.lines) }
+        ensures legal { self.now.bound ≡ true → IsLegal self.now.names.most self.now.names.began (entries_of self.now.lines) }
+    {}
 
     /// Afterwards it has seen what both had seen.
     pub(crate) fn learn(&mut self, other: &Trace)

@@ -4,4 +4,4 @@ use Rattle.arc_owners.proofs.owners.counted.up.Given as goal
 abbrev pub invariant-loop : goal.invariant-loop
 invariant-loop g l =
     (goal.iterator-loop g).can_next l.iterator' × (goal.iterator-loop g).is_finite l.iterator' × (l.word ≡ l.fn.word) × (l.most ≡ l.fn.most) × (l.by ≡ l.fn.by)
-    × (l.pass.trace.bound ≡ l.fn.pass.trace.bound) × (l.pass.trace.names ≡ l.fn.pass.trace.names) × (l.pass.trace.number ≡ l.fn.pass.trace.number) × (l.pass.trace.ready ≡ l.fn.pass.trace.ready) × (l.pass.trace.lines ≡ l.fn.pass.trace.lines)
+    × (l.pass ≡ l.fn.pass)

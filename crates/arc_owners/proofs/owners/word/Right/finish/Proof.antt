@@ -45,7 +45,7 @@ finish_spec 𝓤 𝓛 𝓜 𝓡 wired =
     move ! (6 ∷ 7 ∷ 8 ∷ []) $ opens ! tt Trace.the_row b₂ o₂ (λ vs. move ! (1 ∷ []) $ fsplit ! $ move ! (1 ∷ []) $
     rewrite ! 0 (λ (k : Bool × Names). ‵ (trace_owns k.0 k.1 seen.number seen.ready seen.lines)) (λ i. (asked.1.0 i, asked.1.1 i)) refl $
     -- [the pass; its marker, cell and open borrow; the right; its marker, cell and open borrow]
-    move ! (0 ∷ 6 ∷ []) $ use2 𝓛 (later (some (λ (ls : List Line). ‵ (after_finish me seen.number seen.ready seen.lines own.owner ls)))) (begins.finishes_by 𝓛 me seen.number seen.ready seen.lines own.owner own.lease asked.0.2 asked.2) $
+    move ! (0 ∷ 6 ∷ []) $ use2 𝓛 (later (some (λ (ls : List Line). ‵ (after_finish me seen.number seen.ready seen.lines own.owner ls)))) (begins.finishes_by 𝓛 me seen.number seen.ready seen.lines own.owner own.lease asked.0.2) $
     await ! tt $ pick ! (λ ls. fsplit ! $ fpick ! (λ so. drop ! $
     let after : Trace.the_row.Denot = record { marker = record {}; bound = true; names = me; number = seen.number; ready = seen.ready; lines = ls } in
     let gone : Right.the_row.Denot = record { marker = record {}; held = false; names = me; owner = own.owner; lease = own.lease; born = own.born } in

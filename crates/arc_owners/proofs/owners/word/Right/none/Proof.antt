@@ -16,6 +16,7 @@ use denote.Steps.{nothing}
 use denote.Triple.Walked.{Stays, walk_of}
 use Rattle.std.proofs.raw_atomic.Walks.{proved}
 use Rattle.logbook.proofs.Fields.{token, Token, token_made, ends}
+use Rattle.arc_owners.specs.Histories.{Counted}
 use Rattle.arc_owners.specs.Book.{no_lease}
 use Rattle.arc_owners.specs.contracts.owners.word.Right.none as f
 use Rattle.arc_owners.proofs.owners.word.Right.none.Statement.{statement}
@@ -29,4 +30,4 @@ none_spec 𝓤 𝓛 𝓜 𝓡 wired =
     qed 𝓛 ((‵ ftrue ⊛ ‵ (owns (types_at f.ended.signature.params κs) a y.0.4)) ∷ raw ((c κs a).requires gh) ∷ []) ∵ keep ! (0 ∷ []) $ split ! $ keep ! (0 ∷ []) $
     enter ! 𝓣.C 𝓣.Λ fn [] Post $ alloc_all ! (λ l. pass_all ! refl tt $
     nothing ! $ use0 𝓛 (‵ ((Token unit).own_val (record {}, tt) (token ∷ []))) (token_made unit 𝓛) $ fjoin ! $ sets ! (agg ! (no_more !)) refl (tt, tt) $ sets ! (agg ! (and_then ! (get ! refl) (no_more !))) refl (tt, (tt, tt)) $ nothing ! $
-    returns ! (look_at ! 0 refl) $ free_all ! refl $ keep ! (2 ∷ 0 ∷ 1 ∷ []) $ by ! (ends 𝓛 f.ended stayed c y token (record { marker = record {}; held = false; names = record { number = 0; history = 0; rights = 0; passes = 0; count = 0; place = 0; most = 0; counted = true; whole = false }; owner = 0; lease = no_lease; born = [] }) tt tt (fact_i 𝓤 _ (emp 𝓤) refl))))
+    returns ! (look_at ! 0 refl) $ free_all ! refl $ keep ! (2 ∷ 0 ∷ 1 ∷ []) $ by ! (ends 𝓛 f.ended stayed c y token (record { marker = record {}; held = false; names = record { number = 0; history = 0; rights = 0; passes = 0; count = 0; place = 0; most = 0; began = Counted; whole = false }; owner = 0; lease = no_lease; born = [] }) tt tt (fact_i 𝓤 _ (emp 𝓤) refl))))

@@ -25,6 +25,7 @@ use Rattle.arc_owners.specs.contracts.owners.word.Right as Right
 use Rattle.arc_owners.specs.contracts.owners.word.Trace as Trace
 use denote.Builtin.{bool}
 use denote.Plain.{bool_vals, bool_Tells}
+use Rattle.arc_owners.specs.Histories.{Counted}
 use Rattle.arc_owners.specs.Book.{behind}
 use Rattle.arc_owners.proofs.Book.Fields.{word_val, word_made}
 use Rattle.arc_owners.proofs.Book.Begins as begins
@@ -44,7 +45,7 @@ open_spec 𝓤 𝓛 𝓜 𝓡 wired =
     let y : (walk_of 𝓛 f.ended stayed c).Ghost = ((κs, qs, bounds, a, (vint w64 most ∷ [], (bool_vals w, tt))), gh) in let Post : Val → SProp 𝓤 = (walk_of 𝓛 f.ended stayed c).post y in
     qed 𝓛 ((‵ ftrue ⊛ ‵ (owns (types_at f.ended.signature.params κs) a y.0.4)) ∷ given _ (‵ ftrue) ∷ []) ∵ keep ! (1 ∷ 0 ∷ []) $ learn ! (λ asked. drop ! $ split ! $ keep ! (0 ∷ []) $
     enter ! 𝓣.C 𝓣.Λ fn (vint w64 most ∷ bool_vals w) Post $ alloc_all ! (λ l. pass_all ! refl ((tt, record { fits = are.0.1 }), ((tt, tt), tt)) $
-    use0 𝓛 (later (some (λ (x : Names × Lease). given ((x.0.most ≡ most) × (x.0.counted ≡ true) × (x.0.whole ≡ w) × (x.1.is_lent ≡ true)) (‵ (behind x.0 1) ⊛ ‵ (right_owns true x.0 0 x.1 []) ⊛ ‵ (trace_owns true x.0 0 false []))))) (begins.begins 𝓛 most w asked are.0.1) $
+    use0 𝓛 (later (some (λ (x : Names × Lease). given ((x.0.most ≡ most) × (x.0.began ≡ Counted) × (x.0.whole ≡ w) × (x.1.is_lent ≡ true)) (‵ (behind x.0 1) ⊛ ‵ (right_owns true x.0 0 x.1 []) ⊛ ‵ (trace_owns true x.0 0 false []))))) (begins.begins 𝓛 most w asked are.0.1) $
     await ! tt $ pick ! (λ x. learn ! (λ so. types.Kit.split3 ! $ let t = x.0 in
     -- [the word's; the right's; the pass's; no token]
     sets ! (agg ! (and_then ! (get ! refl) (and_then ! (get ! refl) (no_more !)))) refl (tt, (record { fits = are.0.1 }, (tt, tt))) $ sets ! (agg ! (and_then ! (lit ! tt) (no_more !))) refl (tt, (record { fits = lit< tt }, tt)) $
