@@ -1,8 +1,8 @@
 -- Blocks: what a window may stand on, and what is known of it.
-use Rattle.std.specs.Prelude.{ℕ, Bool, if◌then◌else◌, Option, Some, None, List, length}
+use Rattle.std.specs.Prelude.{◌≡◌, ℕ, Bool, if◌then◌else◌, Option, Some, None, List, length}
 use Rattle.std.specs.declared.vec.Vec.{Vec}
 use Rattle.std.specs.Vec.{vec_capacity}
-use Rattle.arc_owners.specs.Pieces.{Owner}
+use Rattle.arc_owners.specs.Passes.{Owner}
 
 -- how a block keeps its items
 pub data Sort : Type 0 where
@@ -43,3 +43,8 @@ native_block drops owner items = record { owner = owner; items = items; facts = 
 -- a native block whose items lie in this vector
 abbrev pub held_in : {T M A : Type 0} → Bool → Owner → Vec T A → Held T M
 held_in drops owner v = record { owner = owner; items = v.items; facts = record { sort = native; size = vec_capacity v; full = full_places drops (length v.items); metadata = None } }
+
+-- an owner of a block that so many owners may have at once, under a mark
+pub record IsLimited (greatest : ℕ) (one_pass : Bool) (o : Owner) : Type 0 where
+  pub most : o.block.most ≡ greatest
+  pub whole : o.block.whole ≡ one_pass

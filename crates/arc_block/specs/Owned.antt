@@ -2,8 +2,7 @@
 use Rattle.std.specs.Prelude.{◌≡◌, ℕ, ◌<◌, ◌==◌, true, List, length, Option, Some, None, filter_map, slice_get, if◌then◌else◌}
 use Rattle.arc_owners.specs.declared.owners.tokens.Pass.{Pass}
 use Rattle.arc_owners.specs.Histories.{live_owners}
-use Rattle.arc_owners.specs.Passes.{seen}
-use Rattle.arc_owners.specs.Pieces.{Owner, IsPassFor}
+use Rattle.arc_owners.specs.Passes.{Owner, IsPassFor, seen}
 
 -- where a window stands: on the block with this number, as this owner. None for a window that is on no block, or has gone
 abbrev pub Stand : Type 0

@@ -1,5 +1,5 @@
 -- Places: where a window stands, and what is seen of a window.
-use Rattle.std.specs.Prelude.{ℕ, ◌+◌, Bool, ◌&&◌, ◌==◌, if◌then◌else◌, List, length}
+use Rattle.std.specs.Prelude.{ℕ, ◌+◌, Bool, ◌&&◌, ◌==◌, if◌then◌else◌, Option, Some, None, List, length}
 use Rattle.arc_block.specs.Block.{Facts}
 
 -- A window stands on nothing, on a static slice, or on a block at an offset. N is what a block goes by.
@@ -35,3 +35,17 @@ made_place has_static block facts items = empty_rule has_static items (on_block 
 -- where a part stands that begins at start: where its source does, that much further in
 abbrev pub part_place : {T N M : Type 0} → Bool → List T → ℕ → Place N M → Place N M
 part_place has_static items start place = empty_rule has_static items (moved start place)
+
+module _ {O M : Type 0} where
+  -- What holds of the owner that stands at a place. None stands where there is no block, nor on one that counts no owners.
+  abbrev pub at_owner : Place (Option O) M → Type 0 → (O → Type 0) → Type 0
+  at_owner nowhere none some = none
+  at_owner static_data none some = none
+  at_owner (on_block None offset facts) none some = none
+  at_owner (on_block (Some owner) offset facts) none some = some owner
+
+  -- the same place, for another owner
+  abbrev pub for_owner : O → Place (Option O) M → Place (Option O) M
+  for_owner other nowhere = nowhere
+  for_owner other static_data = static_data
+  for_owner other (on_block owner offset facts) = on_block (Some other) offset facts

@@ -1,12 +1,12 @@
 //! Blocks: memory that stays where it is while a window stands on it.
 ghost use Rattle.std.specs.Prelude.{◌≡◌, ◌≤◌, ◌↔◌, length, false, IsTrue, IfOk, IfErr};
 ghost use Rattle.std.specs.Vec.{vec_capacity, vec_len};
-ghost use Rattle.arc_owners.specs.Pieces.{IsFirst, IsUnder, IsPassFor, IsFreshPass, IsNewPass, Learns, Asks, FindsFull, MakesAnother, Leaves, TakesBlock};
-ghost use Rattle.arc_block.specs.Block.{native, native_block};
+ghost use Rattle.arc_owners.specs.Passes.{IsFirst, IsPassFor, IsFreshPass, IsNewPass, Learns, Asks, FindsFull, MakesAnother, Leaves, TakesBlock};
+ghost use Rattle.arc_block.specs.Block.{native, native_block, IsLimited};
 
 use arc_buffer::kinds::Slice;
 use arc_owners::error::{AllocError, CountFull};
-use arc_owners::mark::{Mark, Open};
+use arc_owners::mark::{Mark, Open, Stepping};
 use arc_owners::owners::{Pass, Piece};
 use std::alloc::Allocator;
 use std::marker::Model;
@@ -14,6 +14,13 @@ use std::sync::Wait;
 
 /// How many owners a window's block may have at once: 9,223,372,036,854,775,807.
 pub const MAX_OWNERS: u64 = 9223372036854775807;
+
+/// `MAX_OWNERS`, told as a number.
+pub fn max_owners() -> u64
+    ensures { result ≡ 9223372036854775807 }
+{
+    MAX_OWNERS
+}
 
 /// An owner of a block, which at most `MAX` owners share. The block is given back with its last owner.
 ///
@@ -23,14 +30,14 @@ pub struct Block<S: Slice, A: Allocator + Copy, const MAX: u64, H: Mark = Open> 
 }
 
 impl<S: Slice, A: Allocator + Copy, const MAX: u64, H: Mark> Model for Block<S, A, MAX, H> {
-    ghost use Rattle.arc_owners.specs.Pieces.{owner_of, value_of, IsUnder};
-    ghost use Rattle.arc_block.specs.Block.{Held, held_in};
+    ghost use Rattle.arc_owners.specs.Pieces.{owner_in, value_of};
+    ghost use Rattle.arc_block.specs.Block.{Held, held_in, IsLimited};
 
     ghost Value = { Held S.Item (Unit {0}) };
 
-    ghost view = { λ b. held_in S.DROPS (owner_of b.piece) (value_of b.piece) };
+    ghost view = { λ b. held_in S.DROPS (owner_in b.piece) (value_of b.piece) };
 
-    ghost invariant = { λ b. IsUnder MAX H.whole (owner_of b.piece) };
+    ghost invariant = { λ b. IsLimited MAX H.whole (owner_in b.piece) };
 }
 
 impl<S: Slice, A: Allocator + Copy, const MAX: u64, H: Mark> Drop for Block<S, A, MAX, H> {
@@ -145,7 +152,6 @@ impl<S: Slice, A: Allocator + Copy, const MAX: u64, H: Mark> Block<S, A, MAX, H>
     /// `CountFull` exactly where `MAX` owners live, which adds Full.
     pub fn try_share_as(&self, rt: &impl Wait, pass: &mut Pass<H>) -> Result<Self, CountFull>
         requires pass { IsPassFor self.now.owner pass.old }
-        ensures block { IsUnder MAX H.whole self.now.owner }
         ensures made { IfOk result (λ other. MakesAnother self.now.owner pass.old pass.new other.owner) }
         ensures alike { IfOk result (λ other. (other.items ≡ self.now.items) × (other.facts ≡ self.now.facts)) }
         ensures full { IfErr result (λ _. FindsFull self.now.owner pass.old pass.new) }
@@ -173,6 +179,15 @@ impl<S: Slice, A: Allocator + Copy, const MAX: u64, H: Mark> Block<S, A, MAX, H>
         true
     }
 
+    /// How many owners the block may have at once, and under which mark it is.
+    pub fn max_owners(&self) -> u64
+        ensures answer { result ≡ MAX }
+        ensures block { IsLimited MAX H.whole self.now.owner }
+    {
+        let _ = &self.piece;
+        MAX
+    }
+
     /// How many places the block has.
     pub fn size(&self) -> usize
         ensures { result ≡ self.now.facts.size }
@@ -183,7 +198,6 @@ impl<S: Slice, A: Allocator + Copy, const MAX: u64, H: Mark> Block<S, A, MAX, H>
     /// Whether no other owner lives, by one load. Adds Alone with the answer. Takes no memory.
     pub fn is_unique_as(&self, pass: &mut Pass<H>) -> bool
         requires pass { IsPassFor self.now.owner pass.old }
-        ensures block { IsUnder MAX H.whole self.now.owner }
         ensures entry { Asks self.now.owner pass.old pass.new result }
     {
         self.piece.is_unique_as(pass)
@@ -193,7 +207,6 @@ impl<S: Slice, A: Allocator + Copy, const MAX: u64, H: Mark> Block<S, A, MAX, H>
     /// and Alone was added with no. Takes no memory.
     pub fn try_into_items_as(self, pass: &mut Pass<H>) -> Result<Vec<S::Item, A>, Self>
         requires pass { IsPassFor self.owner pass.old }
-        ensures block { IsUnder MAX H.whole self.owner }
         ensures alone { IfOk result (λ items. (items.items ≡ self.items) × (vec_capacity items ≡ self.facts.size) × TakesBlock self.owner pass.old pass.new) }
         ensures others { IfErr result (λ back. (back ≡ self) × Asks self.owner pass.old pass.new false) }
     {
@@ -208,7 +221,6 @@ impl<S: Slice, A: Allocator + Copy, const MAX: u64, H: Mark> Block<S, A, MAX, H>
     /// no memory.
     pub fn release_as(self, pass: &mut Pass<H>) -> bool
         requires pass { IsPassFor self.owner pass.old }
-        ensures block { IsUnder MAX H.whole self.owner }
         ensures entry { Leaves self.owner pass.old pass.new result }
     {
         let Block { piece } = self;
@@ -225,7 +237,7 @@ impl<S: Slice, A: Allocator + Copy, const MAX: u64, H: Mark> Block<S, A, MAX, H>
     pub fn learn(&self, pass: &mut Pass<H>, other: &Pass<H>)
         requires pass { IsPassFor self.now.owner pass.old }
         requires other { IsPassFor self.now.owner other.now }
-        ensures { Learns self.now.owner pass.old other.now pass.new }
+        ensures { Learns self.now.owner.block pass.old other.now pass.new }
     {
         self.piece.learn(pass, other);
     }
@@ -242,11 +254,10 @@ impl<S: Slice, A: Allocator + Copy, const MAX: u64, H: Mark> Block<S, A, MAX, H>
     }
 }
 
-impl<S: Slice, A: Allocator + Copy, const MAX: u64> Block<S, A, MAX, Open> {
+impl<S: Slice, A: Allocator + Copy, const MAX: u64, H: Stepping> Block<S, A, MAX, H> {
     /// A new pass, which has seen at least the entry that made this owner, and made nothing. It adds no entry and takes no memory.
-    pub fn pass(&self) -> Pass<Open>
-        ensures block { IsUnder MAX false self.now.owner }
-        ensures new { IsNewPass self.now.owner result }
+    pub fn pass(&self) -> Pass<H>
+        ensures { IsNewPass self.now.owner result }
     {
         self.piece.pass()
     }

@@ -1,10 +1,14 @@
 //! Layouts: how a window holds what it stands on.
-ghost use Rattle.std.specs.Prelude.{◌≡◌, ◌==◌, ◌&&◌, Bool, true, refl};
+ghost use Rattle.std.specs.Prelude.{◌≡◌, ◌==◌, ◌&&◌, Bool, true, false, refl};
+ghost use Rattle.arc_block.specs.Block.{Sort};
 
 /// A layout of windows.
 pub trait Layout {
     /// Whether windows may stand on nothing, or on static data.
     ghost STATIC: { Bool };
+
+    /// Whether a clone of a window that stands on a block of this sort may want memory.
+    ghost clone_wants: { Sort → Bool };
 
     /// Whether windows may stand on nothing, or on static data.
     const STATIC: bool;
@@ -22,6 +26,8 @@ pub struct ArcLayout<const ANY: bool, const STATIC: bool>;
 
 impl<const ANY: bool, const STATIC: bool> Layout for ArcLayout<ANY, STATIC> {
     ghost STATIC = { STATIC };
+
+    ghost clone_wants = { λ _. false };
 
     const STATIC: bool = STATIC;
 }

@@ -3,26 +3,20 @@ use Rattle.std.proofs.Common.{◌≡◌, ℕ, ◌+◌, ◌-◌, ◌≤◌, Bool,
 use Rattle.std.proofs.lemmas.List.{nil_from_length}
 use Rattle.std.proofs.Math.Logic.{∥∥₁_map, ∥∥₁_elim}
 use Rattle.std.proofs.Math.Bool.{Bool-set}
-use Rattle.arc_owners.specs.Pieces.{Owner}
+use Rattle.arc_owners.specs.Passes.{Owner}
 use Rattle.arc_buffer.specs.Slice.{sub, IsEdge, IsRange}
 use Rattle.arc_buffer.proofs.Sub.{sub-sub, length-sub}
 use Rattle.arc_block.specs.Block.{Held}
 use Rattle.arc_block.specs.Place.{Place, nowhere, static_data, on_block, moved}
 use Rattle.arc_read.specs.Window.{Window, window_seen, IsWithin}
-use Rattle.arc_read.specs.Steps.{IsUnderAt}
 use Rattle.arc_read.specs.Cuts.{cut_window}
 use Rattle.arc_read.proofs.Windows.{on_block_seen}
 
 -- what holds of every window
-abbrev pub Holds : {T : Type 0} → (List T → Type 0) → Bool → Option (Held T (Unit {0})) → ℕ → ℕ → Type 0
-Holds legal one_pass inner from to = IsWithin inner from to × ∥ legal (window_seen inner from to).items ∥₁ × IsUnderAt one_pass (window_seen inner from to).place
+abbrev pub Holds : {T : Type 0} → (List T → Type 0) → Option (Held T (Unit {0})) → ℕ → ℕ → Type 0
+Holds legal inner from to = IsWithin inner from to × ∥ legal (window_seen inner from to).items ∥₁
 
-under_moved : (one_pass : Bool) (by : ℕ) (place : Place Owner (Unit {0})) → IsUnderAt one_pass place → IsUnderAt one_pass (moved by place)
-under_moved one_pass by nowhere under = under
-under_moved one_pass by static_data under = under
-under_moved one_pass by (on_block owner offset facts) under = under
-
-stays : (place : Place Owner (Unit {0})) → moved 0 place ≡ place
+stays : (place : Place (Option Owner) (Unit {0})) → moved 0 place ≡ place
 stays nowhere = refl
 stays static_data = refl
 stays (on_block owner offset facts) = let same : offset + 0 ≡ offset = omega arith in ap (λ n. on_block owner n facts) same
@@ -46,36 +40,34 @@ module _ {T : Type 0} where
       subst seen view (ap (λ xs. record { items = xs; place = nowhere }) (sym empty))
   cut_seen (Some b) from to start end w view within ordered inside =
       let seen : Window T → Type 0 = λ v. window_seen (Some b) (from + start) (from + end) ≡ cut_window v start end in
-      let there : Place Owner (Unit {0}) = on_block b.owner (from + start) b.facts in
+      let there : Place (Option Owner) (Unit {0}) = on_block (Some b.owner) (from + start) b.facts in
       subst seen view (ap (λ xs. record { items = xs; place = there }) (sym (sub-sub b.items from to start end inside)))
 
-  module _ (legal : List T → Type 0) (boundary : List T → ℕ → Bool) (law : (xs : List T) (s e : ℕ) → legal xs → IsRange boundary xs s e → legal (sub xs s e)) (one_pass : Bool) where
+  module _ (legal : List T → Type 0) (boundary : List T → ℕ → Bool) (law : (xs : List T) (s e : ℕ) → legal xs → IsRange boundary xs s e → legal (sub xs s e)) where
     -- a cut over a range
-    pub cut_holds : (inner : Option (Held T (Unit {0}))) (from to start end : ℕ) (w : Window T) → window_seen inner from to ≡ w → Holds legal one_pass inner from to → (legal w.items → IsRange boundary w.items start end) → start ≤ end → from + end ≤ to
-        → Holds legal one_pass inner (from + start) (from + end)
+    pub cut_holds : (inner : Option (Held T (Unit {0}))) (from to start end : ℕ) (w : Window T) → window_seen inner from to ≡ w → Holds legal inner from to → (legal w.items → IsRange boundary w.items start end) → start ≤ end → from + end ≤ to
+        → Holds legal inner (from + start) (from + end)
     cut_holds inner from to start end w view holds range ordered inside =
         let seen = cut_seen inner from to start end w view holds.0 ordered inside in
-        let good : ∥ legal w.items ∥₁ = subst (λ (v : Window T). ∥ legal v.items ∥₁) view holds.1 in
-        let under : IsUnderAt one_pass w.place = subst (λ (v : Window T). IsUnderAt one_pass v.place) view holds.2 in (
+        let good : ∥ legal w.items ∥₁ = subst (λ (v : Window T). ∥ legal v.items ∥₁) view holds.1 in (
           cut_within inner from to start end holds.0 ordered inside,
           subst (λ (v : Window T). ∥ legal v.items ∥₁) (sym seen) (∥∥₁_map good (λ h. law w.items start end h (range h))),
-          subst (λ (v : Window T). IsUnderAt one_pass v.place) (sym seen) (under_moved one_pass start w.place under),
         )
 
     module _ (ends : (xs : List T) → legal xs → IsEdge boundary xs 0 × IsEdge boundary xs (length xs)) where
       -- the first items are taken off
-      pub advanced : (inner : Option (Held T (Unit {0}))) (from to n : ℕ) (w : Window T) → window_seen inner from to ≡ w → Holds legal one_pass inner from to → IsEdge boundary w.items n → Holds legal one_pass inner (from + n) to
+      pub advanced : (inner : Option (Held T (Unit {0}))) (from to n : ℕ) (w : Window T) → window_seen inner from to ≡ w → Holds legal inner from to → IsEdge boundary w.items n → Holds legal inner (from + n) to
       advanced inner from to n w view holds edge =
           let long = window_length inner from to w view holds.0 in
-          subst (λ t. Holds legal one_pass inner (from + n) t) long
+          subst (λ t. Holds legal inner (from + n) t) long
           (cut_holds inner from to n (length w.items) w view holds (λ h. record { ordered = edge.within; from = edge; to = (ends w.items h).1 }) edge.within (omega (arith, long)))
 
       -- only the first items stay
-      pub truncated : (inner : Option (Held T (Unit {0}))) (from to n : ℕ) (w : Window T) → window_seen inner from to ≡ w → Holds legal one_pass inner from to → IsEdge boundary w.items n → Holds legal one_pass inner from (from + n)
+      pub truncated : (inner : Option (Held T (Unit {0}))) (from to n : ℕ) (w : Window T) → window_seen inner from to ≡ w → Holds legal inner from to → IsEdge boundary w.items n → Holds legal inner from (from + n)
       truncated inner from to n w view holds edge =
           let long = window_length inner from to w view holds.0 in
           let zero : from + 0 ≡ from = omega arith in
-          subst (λ f. Holds legal one_pass inner f (from + n)) zero
+          subst (λ f. Holds legal inner f (from + n)) zero
           (cut_holds inner from to 0 n w view holds (λ h. record { ordered = omega arith; from = (ends w.items h).0; to = edge }) (omega arith) (omega (arith, long, edge.within)))
 
   -- a window that is cut short is seen as its first items, where it stood

@@ -4,8 +4,7 @@ use Rattle.std.proofs.lemmas.Bool.{eqb-true, false≢true}
 use Rattle.std.proofs.lemmas.List.{nil_from_length}
 use Rattle.std.proofs.Math.Logic.{∥∥₁_map}
 use Rattle.arc_owners.specs.declared.owners.tokens.Pass.{Pass}
-use Rattle.arc_owners.specs.Book.{Names}
-use Rattle.arc_owners.specs.Pieces.{Owner, IsFirst, IsUnder, IsFreshPass, MakesAnother, FindsFull}
+use Rattle.arc_owners.specs.Passes.{Owner, IsFirst, MakesAnother}
 use Rattle.arc_buffer.specs.Slice.{sub, IsRange}
 use Rattle.arc_buffer.specs.Laws.{sub-slice_range}
 use Rattle.arc_buffer.proofs.Sub.{sub-sub, sub-whole, length-sub}
@@ -13,7 +12,7 @@ use Rattle.arc_block.specs.Block.{Facts, Held, native, native_facts, native_bloc
 use Rattle.arc_block.specs.declared.block.TheConstants.{MAX_OWNERS}
 use Rattle.arc_block.specs.Place.{Place, nowhere, on_block, part_place}
 use Rattle.arc_read.specs.Window.{Window, made_window, part_window, window_seen, IsWithin, IsNativeOf, IsWholeOf}
-use Rattle.arc_read.specs.Steps.{SharesAt, IsFullAt, Makes}
+use Rattle.arc_read.specs.Steps.{Shares, Makes}
 
 -- a window that stands on a block is seen as a part of it
 pub on_block_seen : {T : Type 0} (inner : Option (Held T (Unit {0}))) (from to : ℕ) (w : Window T) (b : Held T (Unit {0})) → window_seen inner from to ≡ w → inner ≡ Some b → w ≡ window_seen (Some b) from to
@@ -43,7 +42,7 @@ part_seen {T} boundary has_static inner from to start end w b view is within ran
     let parts : sub b.items (from + start) (from + end) ≡ sub (sub b.items from to) start end = sym (sub-sub b.items from to start end inside.1) in
     let whole : length (sub b.items from to) ≡ to - from = length-sub b.items from to (omega (arith, inside.0, inside.1)) inside.2 in
     let long : length (sub (sub b.items from to) start end) ≡ end - start = length-sub (sub b.items from to) start end inside.0 (omega (arith, inside.1, whole)) in
-    let there : Place Owner (Unit {0}) = on_block b.owner (from + start) b.facts in
+    let there : Place (Option Owner) (Unit {0}) = on_block (Some b.owner) (from + start) b.facts in
     let P : Window T → Type 0 = λ v. window_seen (Some b) (from + start) (from + end) ≡ record { items = sub v.items start end; place = part_place has_static (sub v.items start end) start v.place } in
     subst P (sym (on_block_seen inner from to w b view is))
     (ap (λ xs. record { items = xs; place = there }) parts
@@ -87,30 +86,16 @@ part_kept_by {T} legal boundary law has_static inner from to start end w b b' vi
     let P : Held T (Unit {0}) → Type 0 = λ x. IsWithin (Some x) (from + start) (from + end) × ∥ legal (window_seen (Some x) (from + start) (from + end)).items ∥₁ in
     subst P (as_reowned b b' items facts) (part_kept legal boundary law has_static inner from to start end w b view is holds range kept)
 
--- another owner of a block is under the same mark, with the same greatest count
-pub another_under : {H : Type 0} {greatest : ℕ} {one_pass : Bool} {o : Owner} {old new : Pass H} {other : Owner} → IsUnder greatest one_pass o → MakesAnother o old new other → IsUnder greatest one_pass other
-another_under {o = o} {other = other} under made =
-    let same : other.block ≡ o.block = ap (λ (x : Owner). x.block) made.made in
-    record { most = ap (λ (t : Names). t.most) same ∙ under.most; whole = ap (λ (t : Names). t.whole) same ∙ under.whole; counted = ap (λ (t : Names). t.counted) same ∙ under.counted }
-
 -- it has the part's items, and stands where its source does, that much further in, as the new owner
 pub part_shared : {T H : Type 0} (boundary : List T → ℕ → Bool) (has_static : Bool) (inner : Option (Held T (Unit {0}))) (from to start end : ℕ) (w : Window T) (b b' : Held T (Unit {0})) (old new : Pass H) → window_seen inner from to ≡ w → inner ≡ Some b → IsWithin inner from to → IsRange boundary w.items start end
     → (has_static && ((end - start) == 0)) ≡ false → b'.items ≡ b.items → b'.facts ≡ b.facts → MakesAnother b.owner old new b'.owner
-    → let seen = window_seen (Some b') (from + start) (from + end) in let part = part_window has_static w start end in (seen.items ≡ part.items) × SharesAt part.place old new seen.place
+    → let seen = window_seen (Some b') (from + start) (from + end) in let part = part_window has_static w start end in (seen.items ≡ part.items) × Shares part.place old new seen.place
 part_shared {T} boundary has_static inner from to start end w b b' old new view is within range kept items facts makes =
     let part = part_seen boundary has_static inner from to start end w b view is within range kept in
-    let P : Place Owner (Unit {0}) → Type 0 = λ place. SharesAt place old new (on_block b'.owner (from + start) b'.facts) in (
+    let P : Place (Option Owner) (Unit {0}) → Type 0 = λ place. Shares place old new (on_block (Some b'.owner) (from + start) b'.facts) in (
       ap (λ xs. sub xs (from + start) (from + end)) items ∙ ap (λ v. v.items) part,
-      subst P (ap (λ v. v.place) part) (b'.owner, makes, ap (λ x. on_block b'.owner (from + start) x) facts),
+      subst P (ap (λ v. v.place) part) (b'.owner, makes, ap (λ x. on_block (Some b'.owner) (from + start) x) facts),
     )
-
--- it is refused where its source's block is full
-pub part_full : {T H : Type 0} (boundary : List T → ℕ → Bool) (has_static : Bool) (inner : Option (Held T (Unit {0}))) (from to start end : ℕ) (w : Window T) (b : Held T (Unit {0})) (old new : Pass H) → window_seen inner from to ≡ w → inner ≡ Some b → IsWithin inner from to → IsRange boundary w.items start end
-    → (has_static && ((end - start) == 0)) ≡ false → FindsFull b.owner old new
-    → IsFullAt (part_window has_static w start end).place old new
-part_full boundary has_static inner from to start end w b old new view is within range kept full =
-    let P : Place Owner (Unit {0}) → Type 0 = λ place. IsFullAt place old new in
-    subst P (ap (λ v. v.place) (part_seen boundary has_static inner from to start end w b view is within range kept)) full
 
 -- a window with as many items as its block has places is all of the block
 pub whole_is_all : {T : Type 0} (inner : Option (Held T (Unit {0}))) (from to size : ℕ) (w : Window T) (b : Held T (Unit {0})) → window_seen inner from to ≡ w → inner ≡ Some b → IsWithin inner from to → IsWholeOf size w → (length b.items ≡ size) × (b.items ≡ w.items)
@@ -132,20 +117,29 @@ both_true true n both = eqb-true n 0 both
 both_true false n both = absurd (false≢true both)
 
 -- a window that is made of a list on a new block, and one that is made on nothing
-pub made_on_block : {T H : Type 0} (has_static drops one_pass : Bool) (items : List T) (b : Held T (Unit {0})) (old new : Pass H) → b ≡ native_block drops b.owner items → IsFirst MAX_OWNERS one_pass b.owner → IsFreshPass b.owner new → (has_static && (length items == 0)) ≡ false
-    → Makes has_static drops one_pass items old new (window_seen (Some b) 0 (length items))
-made_on_block {T} {H} has_static drops one_pass items b old new is first fresh kept =
-    let there : Bool → Place Owner (Unit {0}) = λ nothing. if nothing then nowhere else on_block b.owner 0 (native_facts drops (length items)) in
-    let P : Held T (Unit {0}) → Type 0 = λ x. window_seen (Some x) 0 (length items) ≡ made_window has_static drops b.owner items in
-    (b.owner, subst P (sym is) (ap (λ xs. record { items = xs; place = there false }) (sub-whole items) ∙ ap (λ nothing. record { items = items; place = there nothing }) (sym kept)), (first, fresh))
+pub made_on_block : {T : Type 0} (has_static drops one_pass : Bool) (items : List T) (b : Held T (Unit {0})) → b ≡ native_block drops b.owner items → IsFirst MAX_OWNERS one_pass b.owner → (has_static && (length items == 0)) ≡ false
+    → Makes has_static drops one_pass items (window_seen (Some b) 0 (length items))
+made_on_block {T} has_static drops one_pass items b is first kept =
+    let there : Bool → Place (Option Owner) (Unit {0}) = λ nothing. if nothing then nowhere else on_block (Some b.owner) 0 (native_facts drops (length items)) in
+    let P : Held T (Unit {0}) → Type 0 = λ x. window_seen (Some x) 0 (length items) ≡ made_window has_static drops b.owner items in record {
+      owner = b.owner;
+      made = subst P (sym is) (ap (λ xs. record { items = xs; place = there false }) (sub-whole items) ∙ ap (λ nothing. record { items = items; place = there nothing }) (sym kept));
+      first = first;
+    }
 
-pub made_on_nothing : {T H : Type 0} (has_static drops one_pass : Bool) (items : List T) (old : Pass H) → (has_static && (length items == 0)) ≡ true
-    → Makes has_static drops one_pass items old old (window_seen {T = T} None 0 0)
-made_on_nothing {T} {H} has_static drops one_pass items old nothing =
-    let owner : Owner = record { block = old.trace.names; number = 0; born = [] } in
+pub made_on_nothing : {T : Type 0} (has_static drops one_pass : Bool) (items : List T) (owner : Owner) → (has_static && (length items == 0)) ≡ true
+    → Makes has_static drops one_pass items (window_seen {T = T} None 0 0)
+made_on_nothing {T} has_static drops one_pass items owner nothing =
     let empty : items ≡ [] = nil_from_length items (both_true has_static (length items) nothing) in
-    let there : Bool → Place Owner (Unit {0}) = λ b. if b then nowhere else on_block owner 0 (native_facts drops (length items)) in
-    (owner, ap (λ xs. record { items = xs; place = nowhere }) (sym empty) ∙ ap (λ b. record { items = items; place = there b }) (sym nothing), refl)
+    let there : Bool → Place (Option Owner) (Unit {0}) = λ b. if b then nowhere else on_block (Some owner) 0 (native_facts drops (length items)) in record {
+      owner = owner;
+      made = ap (λ xs. record { items = xs; place = nowhere }) (sym empty) ∙ ap (λ b. record { items = items; place = there b }) (sym nothing);
+      first = tt;
+    }
+
+-- an owner, for a window that stands on nothing and has none
+pub owner_for : {H : Type 0} → Pass H → Owner
+owner_for p = record { block = p.trace.names; number = 0; born = [] }
 
 -- a window made on a new block lies within it
 pub made_within : {T : Type 0} (drops : Bool) (items : List T) (b : Held T (Unit {0})) → b ≡ native_block drops b.owner items → IsWithin (Some b) 0 (length items)

@@ -4,7 +4,7 @@ use Rattle.arc_owners.specs.declared.owners.tokens.Pass.{Pass}
 use Rattle.arc_buffer.specs.Slice.{sub}
 use Rattle.arc_block.specs.Place.{moved}
 use Rattle.arc_read.specs.Window.{Window, part_window}
-use Rattle.arc_read.specs.Steps.{SharesAt, IsFullAt}
+use Rattle.arc_read.specs.Steps.{Shares}
 
 -- the part from start to end, as the same owner: it stays where it stands, also with no items
 abbrev pub cut_window : {T : Type 0} → Window T → ℕ → ℕ → Window T
@@ -13,11 +13,8 @@ cut_window w start end = record { items = sub w.items start end; place = moved s
 module _ {T H : Type 0} where
   -- beside a window its part from start to end was made, as another owner, or with no items on nothing
   abbrev pub SharesPart : Bool → Window T → ℕ → ℕ → Pass H → Pass H → Window T → Type 0
-  SharesPart has_static w start end old new part = (part.items ≡ (part_window has_static w start end).items) × SharesAt (part_window has_static w start end).place old new part.place
-
-  -- the window's block had as many owners as it can have, so no part was made
-  abbrev pub IsFullForPart : Bool → Window T → ℕ → ℕ → Pass H → Pass H → Type 0
-  IsFullForPart has_static w start end old new = IsFullAt (part_window has_static w start end).place old new
+  SharesPart has_static w start end old new part =
+      (part.items ≡ sub w.items start end) × Shares (part_window has_static w start end).place old new part.place
 
   -- a window was split in two, and the back was handed out. At the front end that is the window itself, and the front is new; else the
   -- front is the window itself, and the back is new

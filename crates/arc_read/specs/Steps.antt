@@ -1,95 +1,60 @@
--- What a call does to the pass of its window's block. A window that stands on no block has a pass of no block, and its calls add
--- nothing.
-use Rattle.std.specs.Prelude.{◌⊎◌, ◌≡◌, ℕ, Bool, false, List}
+-- What a call does to the pass of its window's block. A window that stands where no owners are counted has a pass of no block, and its
+-- calls add nothing.
+use Rattle.std.specs.Prelude.{◌≡◌, ℕ, Bool, true, false, Option, List, []}
+use Rattle.arc_owners.specs.declared.error.OwnerError.{OwnerError}
+use Rattle.arc_owners.specs.declared.error.OwnerError.TheVariants.{AllocError, CountFull}
 use Rattle.arc_owners.specs.declared.owners.tokens.Pass.{Pass}
-use Rattle.arc_owners.specs.declared.mark.Open.{Open}
-use Rattle.arc_owners.specs.Passes.{IsPassOfNone}
-use Rattle.arc_owners.specs.Pieces.{Owner, IsFirst, IsUnder, IsPassFor, IsFreshPass, IsNewPass, Learns, FindsFull, Asks, MakesAnother, Leaves, TakesBlock}
-use Rattle.arc_block.specs.Place.{Place, nowhere, static_data, on_block}
+use Rattle.arc_owners.specs.Book.{Names, Line}
+use Rattle.arc_owners.specs.Passes.{Owner, Appends, IsPassOf, IsPassOfNone, IsFirst, IsFreshPass, IsNewPass, FindsFull, MakesAnother, Asks}
+use Rattle.arc_block.specs.Block.{Sort, Facts}
+use Rattle.arc_block.specs.Place.{Place, nowhere, static_data, on_block, at_owner, for_owner}
 use Rattle.arc_block.specs.declared.block.TheConstants.{MAX_OWNERS}
 use Rattle.arc_read.specs.Window.{Window, made_window, IsWholeOf}
 
--- the window's block began with a count, and `MAX_OWNERS` owners may live of it at most, under a mark
-abbrev pub IsUnderAt : {M : Type 0} → Bool → Place Owner M → Type 0
-IsUnderAt one_pass nowhere = Unit {0}
-IsUnderAt one_pass static_data = Unit {0}
-IsUnderAt one_pass (on_block owner offset facts) = IsUnder MAX_OWNERS one_pass owner
+-- whether a call on a window at this place may want memory, which by its layout depends on the sort of the block
+abbrev pub MayWant : {O M : Type 0} → (Sort → Bool) → Place O M → Type 0
+MayWant wants nowhere = ⊥
+MayWant wants static_data = ⊥
+MayWant wants (on_block owner offset facts) = wants facts.sort ≡ true
 
 module _ {M H : Type 0} where
-  -- a pass of the window's block
-  abbrev pub IsPassAt : Place Owner M → Pass H → Type 0
-  IsPassAt nowhere p = IsPassOfNone p
-  IsPassAt static_data p = IsPassOfNone p
-  IsPassAt (on_block owner offset facts) p = IsPassFor owner p
-
-  -- a new pass of the window's block: it has seen how the window became an owner, and made nothing
-  abbrev pub IsNewPassAt : Place Owner M → Pass H → Type 0
-  IsNewPassAt nowhere p = IsPassOfNone p
-  IsNewPassAt static_data p = IsPassOfNone p
-  IsNewPassAt (on_block owner offset facts) p = IsNewPass owner p
-
-  -- a window was made: it is the first owner of a new block, and the pass, which was of no block, is that block's
-  abbrev pub BeginsAt : Bool → Place Owner M → Pass H → Pass H → Type 0
-  BeginsAt one_pass nowhere old new = new ≡ old
-  BeginsAt one_pass static_data old new = new ≡ old
-  BeginsAt one_pass (on_block owner offset facts) old new = IsFirst MAX_OWNERS one_pass owner × IsFreshPass owner new
+  -- a pass of the window's block, or of none
+  abbrev pub IsPassAt : Place (Option Owner) M → Pass H → Type 0
+  IsPassAt place p = at_owner place (IsPassOfNone p) (λ o. IsPassOf o.block p)
 
   -- a window was made that stands where this one does, as another owner of the same block
-  abbrev pub SharesAt : Place Owner M → Pass H → Pass H → Place Owner M → Type 0
-  SharesAt nowhere old new there = (there ≡ nowhere) × (new ≡ old)
-  SharesAt static_data old new there = (there ≡ static_data) × (new ≡ old)
-  SharesAt (on_block owner offset facts) old new there = (other : Owner) × MakesAnother owner old new other × (there ≡ on_block other offset facts)
+  abbrev pub Shares : Place (Option Owner) M → Pass H → Pass H → Place (Option Owner) M → Type 0
+  Shares place old new there = at_owner place ((there ≡ place) × (new ≡ old))
+      (λ o. (other : Owner) × MakesAnother o old new other × (there ≡ for_owner other place))
 
-  -- the greatest count of owners was found
-  abbrev pub IsFullAt : Place Owner M → Pass H → Pass H → Type 0
-  IsFullAt nowhere old new = ⊥
-  IsFullAt static_data old new = ⊥
-  IsFullAt (on_block owner offset facts) old new = FindsFull owner old new
+  -- no window was made: the count was found at its greatest, or the layout's clones want memory, and nothing was added
+  abbrev pub Refuses : (Sort → Bool) → Place (Option Owner) M → Pass H → Pass H → OwnerError → Type 0
+  Refuses wants place old new CountFull = at_owner place ⊥ (λ o. FindsFull o old new)
+  Refuses wants place old new AllocError = MayWant wants place
+      × at_owner place (new ≡ old) (λ o. (before : List Line) × Appends o.block old new before [])
 
-  -- uniqueness was asked for: on no block the answer is no
-  abbrev pub AsksAt : Place Owner M → Pass H → Pass H → Bool → Type 0
-  AsksAt nowhere old new found = (found ≡ false) × (new ≡ old)
-  AsksAt static_data old new found = (found ≡ false) × (new ≡ old)
-  AsksAt (on_block owner offset facts) old new found = Asks owner old new found
+-- A call was made with a new pass of the window's block, and the last pass is one that is there: so much of the block's history the
+-- call has really seen.
+pub record WithNewPass {M H : Type 0} (real : Names → ℕ → List Line → Type 0) (place : Place (Option Owner) M) (call : Pass H → Pass H → Type 0) : Type 0 where
+  pub first : Pass H
+  pub last : Pass H
+  pub new : at_owner place (IsPassOfNone first) (λ o. IsNewPass o first)
+  pub called : call first last
+  pub there : last.trace.bound ≡ true → real last.trace.names last.trace.number last.trace.lines
 
-  -- the window ended
-  abbrev pub LeavesAt : Place Owner M → Pass H → Pass H → Type 0
-  LeavesAt nowhere old new = new ≡ old
-  LeavesAt static_data old new = new ≡ old
-  LeavesAt (on_block owner offset facts) old new = (last : Bool) × Leaves owner old new last
-
-  -- the window asked whether it is alone, and ended: as the last owner, without a further step, where it was, else by counting down
-  abbrev pub AsksAndLeavesAt : Place Owner M → Pass H → Pass H → Type 0
-  AsksAndLeavesAt nowhere old new = new ≡ old
-  AsksAndLeavesAt static_data old new = new ≡ old
-  AsksAndLeavesAt (on_block owner offset facts) old new = TakesBlock owner old new ⊎ ((middle : Pass H) × Asks owner old middle false × (last : Bool) × Leaves owner middle new last)
-
-  -- the window was found alone, and its block was taken back
-  abbrev pub TakesAt : Place Owner M → Pass H → Pass H → Type 0
-  TakesAt nowhere old new = ⊥
-  TakesAt static_data old new = ⊥
-  TakesAt (on_block owner offset facts) old new = TakesBlock owner old new
-
-  -- the pass learnt what another had seen
-  abbrev pub LearnsAt : Place Owner M → Pass H → Pass H → Pass H → Type 0
-  LearnsAt nowhere old other new = new ≡ old
-  LearnsAt static_data old other new = new ≡ old
-  LearnsAt (on_block owner offset facts) old other new = Learns owner old other new
-
--- a call that was made with a new pass of the window's block
-abbrev pub WithNewPass : {M : Type 0} → Place Owner M → (Pass Open → Pass Open → Type 0) → Type 0
-WithNewPass place call = (first : Pass Open) × (last : Pass Open) × IsNewPassAt place first × call first last
-
--- a call that was made with a pass of no block
-abbrev pub WithPassOfNone : (Pass Open → Pass Open → Type 0) → Type 0
-WithPassOfNone call = (first : Pass Open) × (last : Pass Open) × IsPassOfNone first × call first last
+module _ {T : Type 0} where
+  -- a window was made of a list: on a block it is its first owner
+  pub record Makes (has_static drops one_pass : Bool) (items : List T) (w : Window T) : Type 0 where
+    pub owner : Owner
+    pub made : w ≡ made_window has_static drops owner items
+    pub first : at_owner w.place (Unit {0}) (λ o. IsFirst MAX_OWNERS one_pass o)
 
 module _ {T H : Type 0} where
   -- an array was refused: where only the count could decide, it was asked and said no, and else nothing was asked
   pub record RefusesArray (size : ℕ) (w : Window T) (old new : Pass H) : Type 0 where
-    pub asked : IsWholeOf size w → AsksAt w.place old new false
+    pub asked : IsWholeOf size w → at_owner w.place ⊥ (λ o. Asks o old new false)
     pub unasked : ¬ IsWholeOf size w → new ≡ old
 
-  -- a window was made of a list
-  abbrev pub Makes : Bool → Bool → Bool → List T → Pass H → Pass H → Window T → Type 0
-  Makes has_static drops one_pass items old new w = (owner : Owner) × (w ≡ made_window has_static drops owner items) × BeginsAt one_pass w.place old new
+  -- the pass, which was of no block, is that of the window's new block, in which nothing has happened yet
+  abbrev pub Begins : Window T → Pass H → Pass H → Type 0
+  Begins w old new = at_owner w.place (new ≡ old) (λ o. IsFreshPass o new)

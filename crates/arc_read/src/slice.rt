@@ -1,18 +1,18 @@
 //! `ArcSlice`, a window that is read.
-ghost use Rattle.std.specs.Prelude.{◌≡◌, ◌==◌, ◌&&◌, ◌↔◌, true, false, [], length, IsOk, IsTrue, IfOk, IfErr, OnErr};
+ghost use Rattle.std.specs.Prelude.{◌≡◌, ◌==◌, ◌&&◌, ◌↔◌, Bool, true, false, [], length, IsOk, IsTrue, IfOk, IfErr, OnErr};
 ghost use Rattle.arc_buffer.specs.Slice.{IsRange, range_answer};
-ghost use Rattle.arc_block.specs.Place.{nowhere};
-ghost use Rattle.arc_owners.specs.Passes.{IsPassOfNone};
-ghost use Rattle.arc_owners.specs.Pieces.{IsFirst, IsFreshPass};
-ghost use Rattle.arc_block.specs.Block.{native_block};
+ghost use Rattle.arc_buffer.specs.Slice.{sub};
+ghost use Rattle.arc_block.specs.Block.{native_block, IsLimited};
+ghost use Rattle.arc_block.specs.Place.{nowhere, at_owner};
+ghost use Rattle.arc_owners.specs.Passes.{IsPassOfNone, IsFirst, IsFreshPass, IsNewPass, Learns, Asks, Leaves, TakesBlock, AsksAndLeaves};
 ghost use Rattle.arc_read.specs.Window.{NeedsBlock, IsWholeOf, part_window};
-ghost use Rattle.arc_read.specs.Steps.{IsUnderAt, IsPassAt, IsNewPassAt, Makes, SharesAt, IsFullAt, AsksAt, LeavesAt, AsksAndLeavesAt, TakesAt, LearnsAt, RefusesArray, WithNewPass, WithPassOfNone};
+ghost use Rattle.arc_read.specs.Steps.{IsPassAt, Makes, Begins, Shares, Refuses, RefusesArray, WithNewPass};
 
-use arc_block::block::{Block, MAX_OWNERS};
+use arc_block::block::{Block, MAX_OWNERS, max_owners};
 use arc_block::layout::{DefaultLayout, Layout, StaticLayout, stands_on_nothing};
 use arc_buffer::kinds::{AnyItems, CopySlice, Emptyable, Slice, Subsliceable};
 use arc_owners::error::{AllocError, OwnerError, RangeError};
-use arc_owners::mark::{Mark, Open};
+use arc_owners::mark::{Mark, Open, Stepping};
 use arc_owners::owners::Pass;
 use std::alloc::{Allocator, Global};
 use std::marker::{Model, PhantomData};
@@ -40,13 +40,12 @@ pub struct ArcSlice<
 impl<S: Slice, L: Layout, A: Allocator + Copy, H: Mark> Model for ArcSlice<S, L, A, H> {
     ghost use Rattle.std.specs.Prelude.{◌≡◌};
     ghost use Rattle.arc_read.specs.Window.{Window, window_seen, IsWithin};
-    ghost use Rattle.arc_read.specs.Steps.{IsUnderAt};
 
     ghost Value = { Window S.Item };
 
     ghost view = { λ w. window_seen w.block w.start w.end };
 
-    ghost invariant = { λ w. IsWithin w.block w.start w.end × ∥ S.is_legal (window_seen w.block w.start w.end).items ∥₁ × IsUnderAt H.whole (window_seen w.block w.start w.end).place };
+    ghost invariant = { λ w. IsWithin w.block w.start w.end × ∥ S.is_legal (window_seen w.block w.start w.end).items ∥₁ };
 }
 
 impl<S: Slice, L: Layout, A: Allocator + Copy, H: Mark> Drop for ArcSlice<S, L, A, H> {
@@ -98,7 +97,8 @@ impl<S: Slice, L: Layout, A: Allocator + Copy, H: Mark> ArcSlice<S, L, A, H> {
         requires legal { ∥ S.is_legal block.items ∥₁ }
         requires made { (block ≡ native_block S.DROPS block.owner block.items) × IsFirst MAX_OWNERS H.whole block.owner × IsFreshPass block.owner new }
         requires stands { (L.STATIC && (length block.items == 0)) ≡ false }
-        ensures { Makes L.STATIC S.DROPS H.whole block.items pass.old pass.new result }
+        ensures made { Makes L.STATIC S.DROPS H.whole block.items result }
+        ensures pass { Begins result pass.old pass.new }
     {
         let end = block.as_slice().len();
         *pass = new;
@@ -116,7 +116,8 @@ impl<S: Slice, L: Layout, A: Allocator + Copy, H: Mark> ArcSlice<S, L, A, H> {
     where
         S::Item: Copy,
         requires legal { ∥ S.is_legal items.now ∥₁ }
-        ensures ok { IfOk result (λ window. Makes L.STATIC S.DROPS H.whole items.now pass.old pass.new window) }
+        ensures ok { IfOk result (λ window. Makes L.STATIC S.DROPS H.whole items.now window) }
+        ensures pass { IfOk result (λ window. Begins window pass.old pass.new) }
         ensures refused { OnErr result (NeedsBlock L.STATIC items.now × (pass.new ≡ pass.old)) }
     {
         if stands_on_nothing::<L>(items.len()) {
@@ -139,7 +140,8 @@ impl<S: Slice, L: Layout, A: Allocator + Copy, H: Mark> ArcSlice<S, L, A, H> {
         S: CopySlice,
         S::Item: Copy,
         requires pass { IsPassOfNone pass.old }
-        ensures ok { IfOk result (λ window. Makes L.STATIC S.DROPS H.whole items.now pass.old pass.new window) }
+        ensures ok { IfOk result (λ window. Makes L.STATIC S.DROPS H.whole items.now window) }
+        ensures pass { IfOk result (λ window. Begins window pass.old pass.new) }
         ensures refused { OnErr result (NeedsBlock L.STATIC items.now × (pass.new ≡ pass.old)) }
     {
         Self::try_copied_as(alloc, items, pass)
@@ -154,7 +156,8 @@ impl<S: Slice, L: Layout, A: Allocator + Copy, H: Mark> ArcSlice<S, L, A, H> {
     where
         S: AnyItems,
         requires pass { IsPassOfNone pass.old }
-        ensures ok { IfOk result (λ window. Makes L.STATIC S.DROPS H.whole array pass.old pass.new window) }
+        ensures ok { IfOk result (λ window. Makes L.STATIC S.DROPS H.whole array window) }
+        ensures pass { IfOk result (λ window. Begins window pass.old pass.new) }
         ensures refused { IfErr result (λ back. (back ≡ array) × NeedsBlock L.STATIC array × (pass.new ≡ pass.old)) }
     {
         if stands_on_nothing::<L>(array.as_slice().len()) {
@@ -174,7 +177,7 @@ impl<S: Slice, L: Layout, A: Allocator + Copy> ArcSlice<S, L, A, Open> {
     where
         S: CopySlice,
         S::Item: Copy,
-        ensures ok { IfOk result (λ window. WithPassOfNone (λ first last. Makes L.STATIC S.DROPS false items.now first last window)) }
+        ensures ok { IfOk result (λ window. Makes L.STATIC S.DROPS false items.now window) }
         ensures refused { OnErr result (NeedsBlock L.STATIC items.now) }
     {
         Self::try_from_slice_as(alloc, items, &mut Pass::none())
@@ -187,7 +190,7 @@ impl<S: Slice, L: Layout, A: Allocator + Copy> ArcSlice<S, L, A, Open> {
     ) -> Result<Self, [S::Item; N]>
     where
         S: AnyItems,
-        ensures ok { IfOk result (λ window. WithPassOfNone (λ first last. Makes L.STATIC S.DROPS false array first last window)) }
+        ensures ok { IfOk result (λ window. Makes L.STATIC S.DROPS false array window) }
         ensures refused { IfErr result (λ back. (back ≡ array) × NeedsBlock L.STATIC array) }
     {
         Self::try_from_array_as(alloc, array, &mut Pass::none())
@@ -248,9 +251,9 @@ impl<S: Slice, L: Layout, A: Allocator + Copy, H: Mark> ArcSlice<S, L, A, H> {
     /// Takes no memory and copies no item. `CountFull` exactly where `MAX_OWNERS` owners live.
     pub fn try_clone_as(&self, rt: &impl Wait, pass: &mut Pass<H>) -> Result<Self, OwnerError>
         requires pass { IsPassAt self.now.place pass.old }
-        ensures block { IsUnderAt H.whole self.now.place }
-        ensures ok { IfOk result (λ window. (window.items ≡ self.now.items) × SharesAt self.now.place pass.old pass.new window.place) }
-        ensures refused { IfErr result (λ e. (e ≡ OwnerError.CountFull) × IsFullAt self.now.place pass.old pass.new) }
+        ensures items { IfOk result (λ window. window.items ≡ self.now.items) }
+        ensures place { IfOk result (λ window. Shares self.now.place pass.old pass.new window.place) }
+        ensures refused { IfErr result (λ e. Refuses L.clone_wants self.now.place pass.old pass.new e) }
     {
         let block = match &self.block {
             Some(block) => Some(block.try_share_as(rt, pass)?),
@@ -280,10 +283,11 @@ impl<S: Slice, L: Layout, A: Allocator + Copy, H: Mark> ArcSlice<S, L, A, H> {
         S: Subsliceable,
         requires range { IsRange S.boundary self.now.items start end }
         requires pass { IsPassAt self.now.place pass.old }
-        ensures block { IsUnderAt H.whole self.now.place }
-        ensures ok { IfOk result (λ window. (window.items ≡ (part_window L.STATIC self.now start end).items)
-            × SharesAt (part_window L.STATIC self.now start end).place pass.old pass.new window.place) }
-        ensures refused { IfErr result (λ e. (e ≡ OwnerError.CountFull) × IsFullAt (part_window L.STATIC self.now start end).place pass.old pass.new) }
+        ensures items { IfOk result (λ part. part.items ≡ sub self.now.items start end) }
+        ensures place { IfOk result (λ part.
+            Shares (part_window L.STATIC self.now start end).place pass.old pass.new part.place) }
+        ensures refused { IfErr result (λ e.
+            Refuses L.clone_wants (part_window L.STATIC self.now start end).place pass.old pass.new e) }
     {
         match &self.block {
             Some(block) if !stands_on_nothing::<L>(end - start) => Ok(ArcSlice {
@@ -309,8 +313,7 @@ impl<S: Slice, L: Layout, A: Allocator + Copy, H: Mark> ArcSlice<S, L, A, H> {
     /// memory.
     pub fn is_unique_as(&self, pass: &mut Pass<H>) -> bool
         requires pass { IsPassAt self.now.place pass.old }
-        ensures block { IsUnderAt H.whole self.now.place }
-        ensures entry { AsksAt self.now.place pass.old pass.new result }
+        ensures entry { at_owner self.now.place ((result ≡ false) × (pass.new ≡ pass.old)) (λ o. Asks o pass.old pass.new result) }
     {
         match &self.block {
             Some(block) => block.is_unique_as(pass),
@@ -335,8 +338,8 @@ impl<S: Slice, L: Layout, A: Allocator + Copy, H: Mark> ArcSlice<S, L, A, H> {
     /// Takes no memory.
     pub fn try_into_array_as<const N: usize>(self, pass: &mut Pass<H>) -> Result<[S::Item; N], Self>
         requires pass { IsPassAt self.place pass.old }
-        ensures block { IsUnderAt H.whole self.place }
-        ensures taken { IfOk result (λ array. IsWholeOf N self × (array ≡ self.items) × TakesAt self.place pass.old pass.new) }
+        ensures taken { IfOk result (λ array. IsWholeOf N self × (array ≡ self.items)) }
+        ensures entries { IfOk result (λ _. at_owner self.place ⊥ (λ o. TakesBlock o pass.old pass.new)) }
         ensures refused { IfErr result (λ window. (window ≡ self) × RefusesArray N self pass.old pass.new) }
     {
         if !self.is_whole(N) {
@@ -368,8 +371,7 @@ impl<S: Slice, L: Layout, A: Allocator + Copy, H: Mark> ArcSlice<S, L, A, H> {
     /// Ends the window. On a block it adds Down, and the last owner gives the block back. Takes no memory.
     pub fn release_as(self, pass: &mut Pass<H>)
         requires pass { IsPassAt self.place pass.old }
-        ensures block { IsUnderAt H.whole self.place }
-        ensures entry { LeavesAt self.place pass.old pass.new }
+        ensures entry { at_owner self.place (pass.new ≡ pass.old) (λ o. (last : Bool) × Leaves o pass.old pass.new last) }
     {
         let ArcSlice {
             block,
@@ -387,8 +389,7 @@ impl<S: Slice, L: Layout, A: Allocator + Copy, H: Mark> ArcSlice<S, L, A, H> {
     /// counts down. On a block it adds Alone with what was found, then Down. Takes no memory.
     pub fn drop_with_unique_hint_as(self, pass: &mut Pass<H>)
         requires pass { IsPassAt self.place pass.old }
-        ensures block { IsUnderAt H.whole self.place }
-        ensures entries { AsksAndLeavesAt self.place pass.old pass.new }
+        ensures entries { at_owner self.place (pass.new ≡ pass.old) (λ o. AsksAndLeaves o pass.old pass.new) }
     {
         let ArcSlice {
             block,
@@ -437,7 +438,7 @@ impl<S: Slice, L: Layout, A: Allocator + Copy, H: Mark> ArcSlice<S, L, A, H> {
     pub fn learn(&self, pass: &mut Pass<H>, other: &Pass<H>)
         requires pass { IsPassAt self.now.place pass.old }
         requires other { IsPassAt self.now.place other.now }
-        ensures { LearnsAt self.now.place pass.old other.now pass.new }
+        ensures { at_owner self.now.place (pass.new ≡ pass.old) (λ o. Learns o.block pass.old other.now pass.new) }
     {
         if let Some(block) = &self.block {
             block.learn(pass, other);
@@ -445,12 +446,26 @@ impl<S: Slice, L: Layout, A: Allocator + Copy, H: Mark> ArcSlice<S, L, A, H> {
     }
 }
 
-impl<S: Slice, L: Layout, A: Allocator + Copy> ArcSlice<S, L, A, Open> {
+impl<S: Slice, L: Layout, A: Allocator + Copy, H: Mark> ArcSlice<S, L, A, H> {
+    /// How many owners the window's block may have at once, and under which mark it is.
+    pub fn max_owners(&self) -> u64
+        ensures answer { result ≡ 9223372036854775807 }
+        ensures block { at_owner self.now.place (Unit {0}) (λ o. IsLimited 9223372036854775807 H.whole o) }
+    {
+        match &self.block {
+            Some(block) => block.max_owners(),
+            None => max_owners(),
+        }
+    }
+}
+
+// The plain forms. They are generic over the marks under which a block has many passes, which `Open` alone is: so a body can show a
+// pass only by one that is there (`Pass::attest`), and none that it made up.
+impl<S: Slice, L: Layout, A: Allocator + Copy, H: Stepping> ArcSlice<S, L, A, H> {
     /// A new pass of the window's block, which has seen at least how the window became an owner, and made nothing; on no block a pass
     /// of none. It adds nothing and takes no memory.
-    pub fn pass(&self) -> Pass<Open>
-        ensures block { IsUnderAt false self.now.place }
-        ensures new { IsNewPassAt self.now.place result }
+    pub fn pass(&self) -> Pass<H>
+        ensures { at_owner self.now.place (IsPassOfNone result) (λ o. IsNewPass o result) }
     {
         match &self.block {
             Some(block) => block.pass(),
@@ -460,42 +475,53 @@ impl<S: Slice, L: Layout, A: Allocator + Copy> ArcSlice<S, L, A, Open> {
 
     /// Whether no other owner of the block lives: `is_unique_as` with a new pass. `false` on no block.
     pub fn is_unique(&self) -> bool
-        ensures block { IsUnderAt false self.now.place }
-        ensures entry { WithNewPass self.now.place (λ first last. AsksAt self.now.place first last result) }
+        ensures entry { WithNewPass {H = H} H.real self.now.place (λ first last.
+            at_owner self.now.place ((result ≡ false) × (last ≡ first)) (λ o. Asks o first last result)) }
     {
-        self.is_unique_as(&mut self.pass())
+        let mut pass = self.pass();
+        let found = self.is_unique_as(&mut pass);
+        pass.attest();
+        found
     }
 
     /// The items as an array: `try_into_array_as` with a new pass.
     pub fn try_into_array<const N: usize>(self) -> Result<[S::Item; N], Self>
-        ensures block { IsUnderAt false self.place }
-        ensures taken { IfOk result (λ array. IsWholeOf N self × (array ≡ self.items) × WithNewPass self.place (λ first last. TakesAt self.place first last)) }
-        ensures refused { IfErr result (λ window. (window ≡ self) × WithNewPass self.place (λ first last. RefusesArray N self first last)) }
+        ensures taken { IfOk result (λ array. IsWholeOf N self × (array ≡ self.items)) }
+        ensures entries { IfOk result (λ _. WithNewPass {H = H} H.real self.place (λ first last.
+            at_owner self.place ⊥ (λ o. TakesBlock o first last))) }
+        ensures refused { IfErr result (λ window. window ≡ self) }
+        ensures asked { IfErr result (λ _. WithNewPass {H = H} H.real self.place (λ first last. RefusesArray N self first last)) }
     {
         let mut pass = self.pass();
-        self.try_into_array_as(&mut pass)
+        let taken = self.try_into_array_as(&mut pass);
+        pass.attest();
+        taken
     }
 
     /// Ends the window: `drop_with_unique_hint_as` with a new pass.
     pub fn drop_with_unique_hint(self)
-        ensures block { IsUnderAt false self.place }
-        ensures entries { WithNewPass self.place (λ first last. AsksAndLeavesAt self.place first last) }
+        ensures entries { WithNewPass {H = H} H.real self.place (λ first last.
+            at_owner self.place (last ≡ first) (λ o. AsksAndLeaves o first last)) }
     {
         let mut pass = self.pass();
         self.drop_with_unique_hint_as(&mut pass);
+        pass.attest();
     }
-}
 
-impl<S: Slice, L: Layout, A: Allocator + Copy> ArcSlice<S, L, A, Open> {
     /// Another window with the same items at the same place: `try_clone_as` with a new pass.
     ///
     /// Takes no memory and copies no item. `CountFull` exactly where `MAX_OWNERS` owners live.
     pub fn try_clone(&self, rt: &impl Wait) -> Result<Self, OwnerError>
-        ensures block { IsUnderAt false self.now.place }
-        ensures ok { IfOk result (λ window. (window.items ≡ self.now.items) × WithNewPass self.now.place (λ first last. SharesAt self.now.place first last window.place)) }
-        ensures refused { IfErr result (λ e. (e ≡ OwnerError.CountFull) × WithNewPass self.now.place (λ first last. IsFullAt self.now.place first last)) }
+        ensures items { IfOk result (λ window. window.items ≡ self.now.items) }
+        ensures place { IfOk result (λ window. WithNewPass {H = H} H.real self.now.place (λ first last.
+            Shares self.now.place first last window.place)) }
+        ensures refused { IfErr result (λ e. WithNewPass {H = H} H.real self.now.place (λ first last.
+            Refuses L.clone_wants self.now.place first last e)) }
     {
-        self.try_clone_as(rt, &mut self.pass())
+        let mut pass = self.pass();
+        let made = self.try_clone_as(rt, &mut pass);
+        pass.attest();
+        made
     }
 
     /// A window over the items from `start` to `end`: `try_subslice_as` with a new pass of this window's block.
@@ -505,13 +531,16 @@ impl<S: Slice, L: Layout, A: Allocator + Copy> ArcSlice<S, L, A, Open> {
     where
         S: Subsliceable,
         requires { IsRange S.boundary self.now.items start end }
-        ensures block { IsUnderAt false self.now.place }
-        ensures ok { IfOk result (λ window. (window.items ≡ (part_window L.STATIC self.now start end).items)
-            × WithNewPass self.now.place (λ first last. SharesAt (part_window L.STATIC self.now start end).place first last window.place)) }
-        ensures refused { IfErr result (λ e. (e ≡ OwnerError.CountFull)
-            × WithNewPass self.now.place (λ first last. IsFullAt (part_window L.STATIC self.now start end).place first last)) }
+        ensures items { IfOk result (λ part. part.items ≡ sub self.now.items start end) }
+        ensures place { IfOk result (λ part. WithNewPass {H = H} H.real self.now.place (λ first last.
+            Shares (part_window L.STATIC self.now start end).place first last part.place)) }
+        ensures refused { IfErr result (λ e. WithNewPass {H = H} H.real self.now.place (λ first last.
+            Refuses L.clone_wants (part_window L.STATIC self.now start end).place first last e)) }
     {
-        self.try_subslice_as(rt, start, end, &mut self.pass())
+        let mut pass = self.pass();
+        let made = self.try_subslice_as(rt, start, end, &mut pass);
+        pass.attest();
+        made
     }
 }
 

@@ -2,14 +2,15 @@
 ghost use Rattle.std.specs.Prelude.{◌≡◌, ◌<◌, ◌↔◌, length, drop, take, false, IsOk, IfOk, IfErr};
 ghost use Rattle.arc_buffer.specs.Slice.{IsEdge, IsRange, edge_answer};
 ghost use Rattle.arc_block.specs.Place.{moved};
-ghost use Rattle.arc_read.specs.Steps.{IsUnderAt, IsPassAt, WithNewPass};
-ghost use Rattle.arc_read.specs.Cuts.{SplitsOff, SplitsTo, IsFullForPart, off_end, to_start};
+ghost use Rattle.arc_read.specs.Window.{part_window};
+ghost use Rattle.arc_read.specs.Steps.{IsPassAt, Refuses, WithNewPass};
+ghost use Rattle.arc_read.specs.Cuts.{SplitsOff, SplitsTo, off_end, to_start};
 
 use super::ArcSlice;
 use arc_block::layout::Layout;
 use arc_buffer::kinds::Subsliceable;
 use arc_owners::error::{OwnerError, RangeError};
-use arc_owners::mark::{Mark, Open};
+use arc_owners::mark::{Mark, Stepping};
 use arc_owners::owners::Pass;
 use std::alloc::Allocator;
 use std::mem;
@@ -74,9 +75,10 @@ impl<S: Subsliceable, L: Layout, A: Allocator + Copy, H: Mark> ArcSlice<S, L, A,
     ) -> Result<Self, OwnerError>
         requires at { IsEdge S.boundary self.old.items at }
         requires pass { IsPassAt self.old.place pass.old }
-        ensures block { IsUnderAt H.whole self.old.place }
         ensures ok { IfOk result (λ back. SplitsOff L.STATIC self.old at pass.old pass.new self.new back) }
-        ensures refused { IfErr result (λ e. (e ≡ OwnerError.CountFull) × (self.new ≡ self.old) × IsFullForPart L.STATIC self.old at (off_end self.old at) pass.old pass.new) }
+        ensures kept { IfErr result (λ _. self.new ≡ self.old) }
+        ensures refused { IfErr result (λ e.
+            Refuses L.clone_wants (part_window L.STATIC self.old at (off_end self.old at)).place pass.old pass.new e) }
     {
         self.has_edges();
         if at == 0 {
@@ -101,9 +103,10 @@ impl<S: Subsliceable, L: Layout, A: Allocator + Copy, H: Mark> ArcSlice<S, L, A,
     ) -> Result<Self, OwnerError>
         requires at { IsEdge S.boundary self.old.items at }
         requires pass { IsPassAt self.old.place pass.old }
-        ensures block { IsUnderAt H.whole self.old.place }
         ensures ok { IfOk result (λ front. SplitsTo L.STATIC self.old at pass.old pass.new front self.new) }
-        ensures refused { IfErr result (λ e. (e ≡ OwnerError.CountFull) × (self.new ≡ self.old) × IsFullForPart L.STATIC self.old (to_start self.old at) at pass.old pass.new) }
+        ensures kept { IfErr result (λ _. self.new ≡ self.old) }
+        ensures refused { IfErr result (λ e.
+            Refuses L.clone_wants (part_window L.STATIC self.old (to_start self.old at) at).place pass.old pass.new e) }
     {
         self.has_edges();
         if at == self.len() {
@@ -116,19 +119,22 @@ impl<S: Subsliceable, L: Layout, A: Allocator + Copy, H: Mark> ArcSlice<S, L, A,
     }
 }
 
-impl<S: Subsliceable, L: Layout, A: Allocator + Copy> ArcSlice<S, L, A, Open> {
+impl<S: Subsliceable, L: Layout, A: Allocator + Copy, H: Stepping> ArcSlice<S, L, A, H> {
     /// Splits the window at `at` and hands out the back: `try_split_off_as` with a new pass.
     ///
     /// Takes no memory and copies no item. `CountFull` exactly where `MAX_OWNERS` owners live; the window is then as before.
     pub fn try_split_off(&mut self, rt: &impl Wait, at: usize) -> Result<Self, OwnerError>
         requires { IsEdge S.boundary self.old.items at }
-        ensures block { IsUnderAt false self.old.place }
-        ensures ok { IfOk result (λ back. WithNewPass self.old.place (λ first last. SplitsOff L.STATIC self.old at first last self.new back)) }
-        ensures refused { IfErr result (λ e. (e ≡ OwnerError.CountFull) × (self.new ≡ self.old)
-            × WithNewPass self.old.place (λ first last. IsFullForPart L.STATIC self.old at (off_end self.old at) first last)) }
+        ensures ok { IfOk result (λ back. WithNewPass {H = H} H.real self.old.place (λ first last.
+            SplitsOff L.STATIC self.old at first last self.new back)) }
+        ensures kept { IfErr result (λ _. self.new ≡ self.old) }
+        ensures refused { IfErr result (λ e. WithNewPass {H = H} H.real self.old.place (λ first last.
+            Refuses L.clone_wants (part_window L.STATIC self.old at (off_end self.old at)).place first last e)) }
     {
         let mut pass = self.pass();
-        self.try_split_off_as(rt, at, &mut pass)
+        let made = self.try_split_off_as(rt, at, &mut pass);
+        pass.attest();
+        made
     }
 
     /// Splits the window at `at` and hands out the front: `try_split_to_as` with a new pass.
@@ -136,12 +142,15 @@ impl<S: Subsliceable, L: Layout, A: Allocator + Copy> ArcSlice<S, L, A, Open> {
     /// Takes no memory and copies no item. `CountFull` exactly where `MAX_OWNERS` owners live; the window is then as before.
     pub fn try_split_to(&mut self, rt: &impl Wait, at: usize) -> Result<Self, OwnerError>
         requires { IsEdge S.boundary self.old.items at }
-        ensures block { IsUnderAt false self.old.place }
-        ensures ok { IfOk result (λ front. WithNewPass self.old.place (λ first last. SplitsTo L.STATIC self.old at first last front self.new)) }
-        ensures refused { IfErr result (λ e. (e ≡ OwnerError.CountFull) × (self.new ≡ self.old)
-            × WithNewPass self.old.place (λ first last. IsFullForPart L.STATIC self.old (to_start self.old at) at first last)) }
+        ensures ok { IfOk result (λ front. WithNewPass {H = H} H.real self.old.place (λ first last.
+            SplitsTo L.STATIC self.old at first last front self.new)) }
+        ensures kept { IfErr result (λ _. self.new ≡ self.old) }
+        ensures refused { IfErr result (λ e. WithNewPass {H = H} H.real self.old.place (λ first last.
+            Refuses L.clone_wants (part_window L.STATIC self.old (to_start self.old at) at).place first last e)) }
     {
         let mut pass = self.pass();
-        self.try_split_to_as(rt, at, &mut pass)
+        let made = self.try_split_to_as(rt, at, &mut pass);
+        pass.attest();
+        made
     }
 }

@@ -4,7 +4,7 @@ ghost use Rattle.std.specs.Str.{IsUtf8, valid_up_to, error_len};
 ghost use Rattle.std.specs.Str.Lossy.{utf8_valid_len, utf8_error_len};
 ghost use Rattle.arc_owners.specs.Passes.{IsPassOfNone};
 ghost use Rattle.arc_read.specs.Window.{NeedsBlock};
-ghost use Rattle.arc_read.specs.Steps.{Makes, WithPassOfNone};
+ghost use Rattle.arc_read.specs.Steps.{Makes, Begins};
 
 use super::ArcSlice;
 use arc_block::layout::Layout;
@@ -24,7 +24,8 @@ impl<L: Layout, A: Allocator + Copy, H: Mark> ArcSlice<Text, L, A, H> {
     /// Takes memory for a block; refused, the answer is `AllocError`, and the pass is as before.
     pub fn try_from_str_as(alloc: A, text: &str, pass: &mut Pass<H>) -> Result<Self, AllocError>
         requires pass { IsPassOfNone pass.old }
-        ensures ok { IfOk result (λ window. Makes L.STATIC false H.whole text.now pass.old pass.new window) }
+        ensures ok { IfOk result (λ window. Makes L.STATIC false H.whole text.now window) }
+        ensures pass { IfOk result (λ window. Begins window pass.old pass.new) }
         ensures refused { OnErr result (NeedsBlock L.STATIC text.now × (pass.new ≡ pass.old)) }
     {
         Self::try_copied_as(alloc, text.as_bytes(), pass)
@@ -66,7 +67,7 @@ impl<L: Layout, A: Allocator + Copy> ArcSlice<Text, L, A, Open> {
     ///
     /// Takes memory for a block; refused, the answer is `AllocError`.
     pub fn try_from_str(alloc: A, text: &str) -> Result<Self, AllocError>
-        ensures ok { IfOk result (λ window. WithPassOfNone (λ first last. Makes L.STATIC false false text.now first last window)) }
+        ensures ok { IfOk result (λ window. Makes L.STATIC false false text.now window) }
         ensures refused { OnErr result (NeedsBlock L.STATIC text.now) }
     {
         Self::try_from_str_as(alloc, text, &mut Pass::none())

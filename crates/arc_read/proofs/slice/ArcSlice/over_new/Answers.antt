@@ -5,8 +5,8 @@ use Rattle.arc_read.specs.Steps.{Makes}
 use Rattle.arc_read.proofs.Windows.{made_on_block}
 use Rattle.arc_read.proofs.slice.ArcSlice.over_new.Goals as goal
 
-pub returns : goal.returns
-returns g c =
+pub returns-clause-made : goal.returns-clause-made
+returns-clause-made g c =
     let made = c.requires.made in
-    subst (λ n. Makes g.L.Layout.STATIC g.S.Slice.DROPS g.H.Mark.whole c.args.block.items c.args.pass.now c.args.new (window_seen (Some c.args.block) 0 n)) (sym (ap (λ xs. length xs) c.as_slice-end.ensures))
-    (made_on_block g.L.Layout.STATIC g.S.Slice.DROPS g.H.Mark.whole c.args.block.items c.args.block c.args.pass.now c.args.new made.0 made.1 made.2 c.requires.stands)
+    subst (λ n. Makes g.L.Layout.STATIC g.S.Slice.DROPS g.H.Mark.whole c.args.block.items (window_seen (Some c.args.block) 0 n)) (sym (ap (λ xs. length xs) c.as_slice-end.ensures))
+    (made_on_block g.L.Layout.STATIC g.S.Slice.DROPS g.H.Mark.whole c.args.block.items c.args.block made.0 made.1 c.requires.stands)
