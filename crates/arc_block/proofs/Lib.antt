@@ -1,3 +1,3 @@
 pub mod Lists
--- pub mod Owned
+pub mod Owned
 pub mod Alone

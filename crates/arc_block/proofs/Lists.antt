@@ -1,7 +1,9 @@
 -- Lists by their places: one element more, one place set anew, and how many pass a test.
 use Rattle.std.proofs.Common.{inl, inr, ◌≡◌, ◌⊎◌, ℕ, zero, suc, ◌+◌, ◌<◌, ◌≤◌, Bool, true, false, cond, eqb, List, [], ◌∷◌, ◌++◌, length, Option, Some, None, is_some, filter, filter_map, slice_get, slice_set, refl, sym, ◌∙◌, ap, arith, not}
 use Rattle.std.specs.List.{cons_option}
-use Rattle.std.proofs.lemmas.Bool.{cases_Bool, eq-eqb, false_from_ne_true}
+use Rattle.std.proofs.lemmas.Bool.{cases_Bool, eq-eqb, false_from_ne_true, or_right}
+use Rattle.std.proofs.lemmas.List.Folds.{list_any-append}
+use Rattle.arc_owners.specs.Histories.{is_in}
 use Rattle.std.proofs.lemmas.Option.{none-some, same_Some}
 use Rattle.std.proofs.lemmas.List.Elements.{filter-append, filter_map-append}
 use Rattle.arc_owners.specs.Machine.{without_number}
@@ -73,6 +75,16 @@ filter_map-set f xs i x y here same =
     ap (filter_map f) (a.set y) ∙ filter_map-append f a.front (y ∷ a.rest)
     ∙ ap (λ o. filter_map f a.front ++ cons_option o (filter_map f a.rest)) same
     ∙ sym (ap (filter_map f) a.whole ∙ filter_map-append f a.front (x ∷ a.rest))
+
+-- what f gives of an element that stands in the list stands in what it gives of the list
+pub filter_map-in : {X : Type 0} (f : X → Option ℕ) (xs : List X) (i : ℕ) (x : X) (n : ℕ) → slice_get xs i ≡ Some x → f x ≡ Some n → is_in n (filter_map f xs) ≡ true
+filter_map-in f xs i x n here is =
+    let a = around xs i x here in
+    let fs : List ℕ = filter_map f a.front in
+    let rs : List ℕ = filter_map f a.rest in
+    let whole : filter_map f xs ≡ fs ++ n ∷ rs = ap (filter_map f) a.whole ∙ filter_map-append f a.front (x ∷ a.rest) ∙ ap (λ o. fs ++ cons_option o rs) is in
+    let self : eqb n n ≡ true = eq-eqb n n refl in
+    ap (is_in n) whole ∙ list_any-append (λ m. eqb m n) fs (n ∷ rs) ∙ or_right (is_in n fs) (is_in n (n ∷ rs)) (rw self refl)
 
 without-absent : (n : ℕ) (xs : List ℕ) → times n xs ≡ 0 → without_number n xs ≡ xs
 unfolding times
