@@ -11,6 +11,11 @@ pub record Traffic : Type 0 where
 abbrev pub no_traffic : Traffic
 no_traffic = record { bytes = []; failures = 0; empties = 0 }
 
+-- a device, and what it has told so far
+pub record WithTraffic (D : Type 0) : Type 0 where
+  pub device : D
+  pub traffic : Traffic
+
 -- after a call over a slice: so many of its first bytes passed, or the call failed
 abbrev pub after_call : Traffic → List ℕ → Option ℕ → Traffic
 after_call t slice (Some n) = record {
