@@ -1,5 +1,6 @@
 -- What a reader or a writer tells of its calls.
-use Rattle.std.specs.Prelude.{◌≡◌, ℕ, ◌+◌, ◌==◌, ◌&&◌, nat_lt, if◌then◌else◌, List, [], ◌++◌, length, take, Option, Some, None}
+use Rattle.std.specs.Prelude.{◌≡◌, ℕ, ◌+◌, ◌==◌, ◌&&◌, nat_lt, if◌then◌else◌, List, [], ◌++◌, length, take, Option, Some, None, IfSome}
+use Rattle.std.specs.Io.KnownBytes.{Consumes}
 
 -- the bytes that passed in all calls; how many calls failed; and how many, over a slice that isn't empty, passed nothing
 pub record Traffic : Type 0 where
@@ -32,6 +33,16 @@ pub record Exchanges (fits : List ℕ → List ℕ → Type 0) (reader reader' w
   pub given : reader'.bytes ≡ reader.bytes ++ input
   pub taken : writer'.bytes ≡ writer.bytes ++ text
   pub fit : fits input text
+
+-- what a reader told from one moment to the next is what its device lost, where it is known what that has left
+pub record Gives (old new : Traffic) (left left' : Option (List ℕ)) : Type 0 where
+  pub input : List ℕ
+  pub given : new.bytes ≡ old.bytes ++ input
+  pub consumed : Consumes left left' input
+
+-- a reader told all that its device had left, where that is known
+abbrev pub GivesAll : Traffic → Traffic → Option (List ℕ) → Type 0
+GivesAll old new left = IfSome left (λ input. new.bytes ≡ old.bytes ++ input)
 
 -- how many of a writer's calls failed or took nothing
 abbrev pub faults : Traffic → ℕ

@@ -1,4 +1,5 @@
 use Rattle.std.proofs.Common.{◌≡◌, ◌≤◌, vec_len}
+use Rattle.arcs.specs.Traffic.{Gives}
 use Rattle.arcs.specs.Engine.{IsRunning}
 use Rattle.arcs.specs.declared.script.TheConstants.{PIECE}
 use Rattle.arcs.proofs.script.Engine.run.Given as goal
@@ -9,5 +10,6 @@ invariant-pieces g l =
     record {
       running : IsRunning (g.R.Source.traffic l.fn.reader) (g.R.Source.traffic l.reader) (g.W.Sink.traffic l.fn.writer) (g.W.Sink.traffic l.writer) l.self;
       empties : (g.R.Source.traffic l.fn.reader).empties ≤ (g.R.Source.traffic l.reader).empties;
+      device : Gives (g.R.Source.traffic l.fn.reader) (g.R.Source.traffic l.reader) (g.R.Source.remaining l.fn.reader) (g.R.Source.remaining l.reader);
       room : vec_len l.piece ≡ PIECE;
     }
