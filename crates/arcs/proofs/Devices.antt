@@ -1,9 +1,9 @@
--- What a reader's device gave is what the reader told.
-use Rattle.std.proofs.Common.{◌≡◌, ℕ, ◌<◌, Bool, true, false, List, [], ◌∷◌, ◌++◌, length, take, Option, Some, None, Result, Ok, Err, refl, sym, ap, ◌∙◌, append_assoc}
-use Rattle.std.proofs.lemmas.List.{append-nil}
+-- What a device gave or got is what its reader or writer told.
+use Rattle.std.proofs.Common.{◌≡◌, ℕ, ◌-◌, List, [], ◌++◌, length, take, drop, Option, Some, None, Result, Ok, Err, refl, sym, ap, ◌∙◌, append_assoc, arith}
+use Rattle.std.proofs.lemmas.List.{append-nil, length-drop, take-append-drop, take_all}
 use Rattle.std.specs.Result.{result_ok}
-use Rattle.std.specs.Io.KnownBytes.{Consumes, IsAtEnd, Keeps, ReadConsumes}
-use Rattle.arcs.specs.Traffic.{Traffic, after_call, Gives, GivesAll}
+use Rattle.std.specs.Io.KnownBytes.{Appends, Consumes, IsAtEnd, Keeps, ReadConsumes, WriteAppends}
+use Rattle.arcs.specs.Traffic.{Traffic, after_call, Gives, GivesAll, Takes}
 
 consumes_nothing : (left : Option (List ℕ)) → Consumes left left []
 consumes_nothing None = tt
@@ -45,3 +45,44 @@ all_given (Some xs) (Some ys) r r' input given c end = given ∙ ap (λ us. r.by
 -- all was read
 pub gives_all : (r r' : Traffic) (l l' : Option (List ℕ)) → Gives r r' l l' → IsAtEnd l' → GivesAll r r' l
 gives_all r r' l l' g end = all_given l l' r r' g.input g.given g.consumed end
+
+appends_nothing : (held : Option (List ℕ)) → Appends held held []
+appends_nothing None = tt
+appends_nothing (Some xs) = sym (append-nil xs)
+
+appends_on : (h h1 h2 : Option (List ℕ)) (one other : List ℕ) → Appends h h1 one → Appends h1 h2 other → Appends h h2 (one ++ other)
+appends_on None h1 h2 one other a b = tt
+appends_on (Some xs) None h2 one other a b = absurd a
+appends_on (Some xs) (Some ys) None one other a b = absurd b
+appends_on (Some xs) (Some ys) (Some zs) one other a b = b ∙ ap (λ us. us ++ other) a ∙ append_assoc xs one other
+
+-- nothing was written
+pub takes_nothing : (w : Traffic) (held : Option (List ℕ)) → Takes w w held held
+takes_nothing w held = record { text = []; taken = sym (append-nil w.bytes); appended = appends_nothing held }
+
+-- one time after another
+pub takes_on : (w w1 w2 : Traffic) (h h1 h2 : Option (List ℕ)) → Takes w w1 h h1 → Takes w1 w2 h1 h2 → Takes w w2 h h2
+takes_on w w1 w2 h h1 h2 one other = record {
+  text = one.text ++ other.text;
+  taken = other.taken ∙ ap (λ xs. xs ++ other.text) one.taken ∙ append_assoc w.bytes one.text other.text;
+  appended = appends_on h h1 h2 one.text other.text one.appended other.appended;
+}
+
+keeps_appends : (h h' : Option (List ℕ)) → Keeps h h' → Appends h h' []
+keeps_appends None h' k = tt
+keeps_appends (Some xs) None k = absurd k
+keeps_appends (Some xs) (Some ys) k = k ∙ sym (append-nil xs)
+
+-- a write
+pub write_takes : {E : Type 0} (w w' : Traffic) (h h' : Option (List ℕ)) (result : Result ℕ E) (buf : List ℕ) → w' ≡ after_call w buf (result_ok result) → WriteAppends h h' result buf → Takes w w' h h'
+write_takes w w' h h' (Ok n) buf told bytes = record { text = take n buf; taken = ap (λ t. t.bytes) told; appended = bytes }
+write_takes w w' h h' (Err e) buf told bytes = record { text = []; taken = ap (λ t. t.bytes) told ∙ sym (append-nil w.bytes); appended = keeps_appends h h' bytes }
+
+-- a longer front was written, and the rest is left
+pub front_grows : (bytes sent rest left : List ℕ) (n : ℕ) → bytes ≡ sent ++ rest → left ≡ take (length rest - n) (drop n rest) → bytes ≡ (sent ++ take n rest) ++ left
+front_grows bytes sent rest left n parts behind =
+    let all : left ≡ drop n rest = behind ∙ take_all (length rest - n) (drop n rest) (omega (arith, length-drop n rest)) in
+    parts ∙ ap (λ xs. sent ++ xs) (sym (take-append-drop n rest)) ∙ sym (append_assoc sent (take n rest) (drop n rest)) ∙ ap (λ xs. (sent ++ take n rest) ++ xs) (sym all)
+
+pub told_grows : (w w1 w2 : Traffic) (sent rest : List ℕ) (n : ℕ) → w1.bytes ≡ w.bytes ++ sent → w2 ≡ after_call w1 rest (Some n) → w2.bytes ≡ w.bytes ++ (sent ++ take n rest)
+told_grows w w1 w2 sent rest n before told = ap (λ t. t.bytes) told ∙ ap (λ xs. xs ++ take n rest) before ∙ append_assoc w.bytes sent (take n rest)

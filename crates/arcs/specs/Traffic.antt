@@ -1,6 +1,6 @@
 -- What a reader or a writer tells of its calls.
 use Rattle.std.specs.Prelude.{◌≡◌, ℕ, ◌+◌, ◌==◌, ◌&&◌, nat_lt, if◌then◌else◌, List, [], ◌++◌, length, take, Option, Some, None, IfSome}
-use Rattle.std.specs.Io.KnownBytes.{Consumes}
+use Rattle.std.specs.Io.KnownBytes.{Appends, Consumes}
 
 -- the bytes that passed in all calls; how many calls failed; and how many, over a slice that isn't empty, passed nothing
 pub record Traffic : Type 0 where
@@ -39,6 +39,12 @@ pub record Gives (old new : Traffic) (left left' : Option (List ℕ)) : Type 0 w
   pub input : List ℕ
   pub given : new.bytes ≡ old.bytes ++ input
   pub consumed : Consumes left left' input
+
+-- what a writer told from one moment to the next is what its device got, where it is known what that holds
+pub record Takes (old new : Traffic) (held held' : Option (List ℕ)) : Type 0 where
+  pub text : List ℕ
+  pub taken : new.bytes ≡ old.bytes ++ text
+  pub appended : Appends held held' text
 
 -- a reader told all that its device had left, where that is known
 abbrev pub GivesAll : Traffic → Traffic → Option (List ℕ) → Type 0
