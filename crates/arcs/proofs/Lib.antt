@@ -8,5 +8,7 @@ pub mod Empty
 pub mod Splits
 pub mod Underway
 pub mod Going
+pub mod Devices
+mod Ended
 pub mod Rows
 mod Kept

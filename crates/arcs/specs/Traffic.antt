@@ -1,5 +1,6 @@
 -- What a reader or a writer tells of its calls.
-use Rattle.std.specs.Prelude.{◌≡◌, ℕ, ◌+◌, ◌==◌, ◌&&◌, nat_lt, if◌then◌else◌, List, [], ◌++◌, length, take, Option, Some, None}
+use Rattle.std.specs.Prelude.{◌≡◌, ℕ, ◌+◌, ◌==◌, ◌&&◌, nat_lt, if◌then◌else◌, List, [], ◌++◌, length, take, Option, Some, None, IfSome}
+use Rattle.std.specs.Io.KnownBytes.{Appends, Consumes}
 
 -- the bytes that passed in all calls; how many calls failed; and how many, over a slice that isn't empty, passed nothing
 pub record Traffic : Type 0 where
@@ -10,6 +11,11 @@ pub record Traffic : Type 0 where
 -- before any call
 abbrev pub no_traffic : Traffic
 no_traffic = record { bytes = []; failures = 0; empties = 0 }
+
+-- a device, and what it has told so far
+pub record WithTraffic (D : Type 0) : Type 0 where
+  pub device : D
+  pub traffic : Traffic
 
 -- after a call over a slice: so many of its first bytes passed, or the call failed
 abbrev pub after_call : Traffic → List ℕ → Option ℕ → Traffic
@@ -27,6 +33,22 @@ pub record Exchanges (fits : List ℕ → List ℕ → Type 0) (reader reader' w
   pub given : reader'.bytes ≡ reader.bytes ++ input
   pub taken : writer'.bytes ≡ writer.bytes ++ text
   pub fit : fits input text
+
+-- what a reader told from one moment to the next is what its device lost, where it is known what that has left
+pub record Gives (old new : Traffic) (left left' : Option (List ℕ)) : Type 0 where
+  pub input : List ℕ
+  pub given : new.bytes ≡ old.bytes ++ input
+  pub consumed : Consumes left left' input
+
+-- what a writer told from one moment to the next is what its device got, where it is known what that holds
+pub record Takes (old new : Traffic) (held held' : Option (List ℕ)) : Type 0 where
+  pub text : List ℕ
+  pub taken : new.bytes ≡ old.bytes ++ text
+  pub appended : Appends held held' text
+
+-- a reader told all that its device had left, where that is known
+abbrev pub GivesAll : Traffic → Traffic → Option (List ℕ) → Type 0
+GivesAll old new left = IfSome left (λ input. new.bytes ≡ old.bytes ++ input)
 
 -- how many of a writer's calls failed or took nothing
 abbrev pub faults : Traffic → ℕ

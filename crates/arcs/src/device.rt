@@ -1,11 +1,13 @@
 //! Readers and writers that tell what passed.
-ghost use Rattle.std.specs.Prelude.{◌≡◌, ◌≤◌, length, IfOk};
+ghost use Rattle.std.specs.Prelude.{◌≡◌, ◌≤◌, ℕ, List, Option, length, IfOk};
+ghost use Rattle.std.specs.Io.KnownBytes.{ReadConsumes, WriteAppends};
 ghost use Rattle.std.specs.Result.{result_ok};
-ghost use Rattle.arcs.specs.Traffic.{no_traffic};
+ghost use Rattle.arcs.specs.Traffic.{WithTraffic, no_traffic};
 
 use crate::log::{Call, Log};
 use std::io;
 use std::io::{Read, Write};
+use std::marker::Model;
 
 /// What gives a script its bytes: std's `read`, which tells its bytes and counts its failures and the ends it found.
 pub trait Source {
@@ -14,10 +16,14 @@ pub trait Source {
     /// What its reads have given so far.
     ghost traffic: { Self → Traffic };
 
+    /// What its reads will give from here on, where that is known.
+    ghost remaining: { Self → Option (List ℕ) };
+
     /// Reads into the front of `buf`, and answers how many bytes: none where `buf` is empty or the end was found.
     fn read(&mut self, buf: &mut [u8]) -> io::Result<usize>
         ensures bound { IfOk result (λ n. n ≤ length buf.new) }
-        ensures told { traffic self.new ≡ after_call (traffic self.old) buf.new (result_ok result) };
+        ensures told { traffic self.new ≡ after_call (traffic self.old) buf.new (result_ok result) }
+        ensures bytes { ReadConsumes (remaining self.old) (remaining self.new) result buf.new };
 }
 
 /// What takes a script's replies: std's `write`, which tells its bytes and counts its failures and the writes that took
@@ -28,10 +34,14 @@ pub trait Sink {
     /// What its writes have taken so far.
     ghost traffic: { Self → Traffic };
 
+    /// What it holds, where that is known.
+    ghost contents: { Self → Option (List ℕ) };
+
     /// Writes from the front of `buf`, and answers how many bytes it took.
     fn write(&mut self, buf: &[u8]) -> io::Result<usize>
         ensures bound { IfOk result (λ n. n ≤ length buf.now) }
-        ensures told { traffic self.new ≡ after_call (traffic self.old) buf.now (result_ok result) };
+        ensures told { traffic self.new ≡ after_call (traffic self.old) buf.now (result_ok result) }
+        ensures bytes { WriteAppends (contents self.old) (contents self.new) result buf.now };
 }
 
 /// A reader or a writer of std's, with what it has told.
@@ -41,11 +51,16 @@ pub struct Counted<T> {
     log: Log,
 }
 
+impl<T> Model for Counted<T> {
+    ghost Value = { WithTraffic T };
+
+    ghost view = { λ c. record { device = c.device; traffic = c.log.traffic } };
+}
+
 impl<T> Counted<T> {
     /// A device from which nothing was asked yet.
     pub fn new(device: T) -> Self
-        ensures device { result.device ≡ device }
-        ensures untold { result.log.traffic ≡ no_traffic }
+        ensures { result ≡ record { device = device; traffic = no_traffic } }
     {
         Counted {
             device,
@@ -55,7 +70,9 @@ impl<T> Counted<T> {
 }
 
 impl<T: Read> Source for Counted<T> {
-    ghost traffic = { λ c. c.log.traffic };
+    ghost traffic = { λ c. c.traffic };
+
+    ghost remaining = { λ c. T.remaining c.device };
 
     fn read(&mut self, buf: &mut [u8]) -> io::Result<usize> {
         let result = self.device.read(buf);
@@ -69,7 +86,9 @@ impl<T: Read> Source for Counted<T> {
 }
 
 impl<T: Write> Sink for Counted<T> {
-    ghost traffic = { λ c. c.log.traffic };
+    ghost traffic = { λ c. c.traffic };
+
+    ghost contents = { λ c. T.contents c.device };
 
     fn write(&mut self, buf: &[u8]) -> io::Result<usize> {
         let result = self.device.write(buf);

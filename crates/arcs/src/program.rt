@@ -1,5 +1,6 @@
 //! The program: its words, its statuses, and its lines on standard error.
 ghost use Rattle.std.specs.Prelude.{◌≡◌, ◌↔◌, IsTrue, Err};
+ghost use Rattle.arcs.specs.Traffic.{Gives, GivesAll, Takes};
 ghost use Rattle.arcs.specs.Program.{IsArc, IsRun, status_of};
 
 use crate::device::{Sink, Source};
@@ -41,6 +42,12 @@ pub fn run_args<R: Source, W: Sink, F: Sink, A: Allocator + Copy>(
     faults: &mut F,
 ) -> u8
     ensures arc { IsArc words.now → IsRun (R.traffic reader.old) (R.traffic reader.new) (W.traffic writer.old) (W.traffic writer.new) result }
+    ensures given { Gives (R.traffic reader.old) (R.traffic reader.new)
+        (R.remaining reader.old) (R.remaining reader.new) }
+    ensures taken { Takes (W.traffic writer.old) (W.traffic writer.new)
+        (W.contents writer.old) (W.contents writer.new) }
+    ensures drained { IsArc words.now → result ≡ 0
+        → GivesAll (R.traffic reader.old) (R.traffic reader.new) (R.remaining reader.old) }
     ensures usage { ¬ IsArc words.now → (result ≡ 2) × (R.traffic reader.new ≡ R.traffic reader.old) × (W.traffic writer.new ≡ W.traffic writer.old) }
 {
     if !is_arc(words) {

@@ -2,7 +2,9 @@
 ghost use Rattle.std.specs.Prelude.{◌≡◌, ◌<◌, ◌≤◌, ◌+◌, ◌++◌, ◌∷◌, List, ℕ, [], false, length, take, drop, OnOk, OnErr, IfOk, IfErr, IfSome, MatchOption, vec_len};
 ghost use Rattle.arcs.specs.Text.{line_feed};
 ghost use Rattle.arcs.specs.Script.{AreLines, BeginsReplyText, HasNoFeed, IsReplyText};
-ghost use Rattle.arcs.specs.Traffic.{Exchanges, NoFault, TakesFront, Traffic, faults};
+ghost use Rattle.std.specs.Io.KnownBytes.{IsAtEnd};
+ghost use Rattle.arcs.specs.Traffic.{Exchanges, Gives, GivesAll, NoFault, Takes, TakesFront};
+ghost use Rattle.arcs.specs.Traffic.{Traffic, faults};
 ghost use Rattle.arcs.specs.Faults.{IsCause, IsWhy};
 ghost use Rattle.arcs.specs.declared.parse.TheConstants.{LONGEST_LINE};
 ghost use Rattle.arcs.specs.declared.script.ScriptError.TheVariants as script_error;
@@ -10,6 +12,7 @@ ghost use Rattle.arcs.specs.declared.script.ScriptError.TheVariants as script_er
 use crate::command::Command;
 use crate::device::{Sink, Source};
 use crate::parse::{LONGEST_LINE, parse};
+use crate::passes::Passes;
 use crate::text::push_answer;
 use crate::windows::Windows;
 use arc_owners::error::AllocError;
@@ -52,6 +55,8 @@ pub enum ScriptLayout {
 /// Writes the bytes, in as many calls as it takes.
 pub fn write_out<W: Sink>(writer: &mut W, bytes: &[u8]) -> Result<(), ScriptError>
     ensures ok { OnOk result ((W.traffic writer.new).bytes ≡ (W.traffic writer.old).bytes ++ bytes.now) }
+    ensures taken { Takes (W.traffic writer.old) (W.traffic writer.new)
+        (W.contents writer.old) (W.contents writer.new) }
     ensures clean { OnOk result (NoFault (W.traffic writer.old) (W.traffic writer.new)) }
     ensures err { OnErr result (TakesFront bytes.now (W.traffic writer.old) (W.traffic writer.new)) }
     ensures write { IfErr result (λ e. e ≡ ScriptError.Write) }
@@ -67,8 +72,8 @@ pub fn write_out<W: Sink>(writer: &mut W, bytes: &[u8]) -> Result<(), ScriptErro
     Ok(())
 }
 
-/// A script that is being run: its windows, what has come of a line, and the replies that have not gone out.
-#[derive(Drop)]
+/// A script that is being run: its windows, what has come of a line, and the replies that have not gone out. It can't be dropped: it ends
+/// by `end`, which ends its windows.
 struct Engine<A: Allocator + Copy> {
     windows: Windows<A>,
     line: Vec<u8, A>,
@@ -80,7 +85,9 @@ struct Engine<A: Allocator + Copy> {
 
 impl<A: Allocator + Copy> Engine<A> {
     ghost use Rattle.std.specs.Prelude.{◌≡◌};
+    ghost use Rattle.arc_block.specs.Owned.{IsKept};
     ghost use Rattle.arc_block.specs.Table.{empty_table};
+    ghost use Rattle.arc_block.specs.declared.block.TheConstants.{MAX_OWNERS};
     ghost use Rattle.arcs.specs.Rows.{table_of};
     ghost use Rattle.arcs.specs.Seen.{IsReadAs};
     ghost use Rattle.arcs.specs.Underway.{Holds, Ends, IsAnswered, IsBegun};
@@ -145,6 +152,8 @@ impl<A: Allocator + Copy> Engine<A> {
         ensures ok { OnOk result (((W.traffic writer.new).bytes ≡ (W.traffic writer.old).bytes ++ self.old.out.items) × (self.new.out.items ≡ [])) }
         ensures windows { table_of self.new.windows ≡ table_of self.old.windows }
         ensures line { (self.new.line.items ≡ self.old.line.items) × (self.new.too_long ≡ self.old.too_long) }
+        ensures taken { Takes (W.traffic writer.old) (W.traffic writer.new)
+            (W.contents writer.old) (W.contents writer.new) }
         ensures clean { OnOk result (NoFault (W.traffic writer.old) (W.traffic writer.new)) }
         ensures err { OnErr result (TakesFront self.old.out.items (W.traffic writer.old) (W.traffic writer.new)) }
         ensures fault { IfErr result (IsWhy (W.traffic writer.old) (W.traffic writer.new)) }
@@ -163,6 +172,8 @@ impl<A: Allocator + Copy> Engine<A> {
     ) -> Result<(), ScriptError>
         requires { HasNoFeed bytes.now }
         ensures ok { OnOk result (Reads (bytes.now ++ line_feed ∷ []) (W.traffic writer.old) (W.traffic writer.new) self.old self.new) }
+        ensures taken { Takes (W.traffic writer.old) (W.traffic writer.new)
+            (W.contents writer.old) (W.contents writer.new) }
         ensures clean { OnOk result (NoFault (W.traffic writer.old) (W.traffic writer.new)) }
         ensures err { OnErr result (Stops (bytes.now ++ line_feed ∷ []) (W.traffic writer.old) (W.traffic writer.new) self.old) }
         ensures fault { IfErr result (IsWhy (W.traffic writer.old) (W.traffic writer.new)) }
@@ -183,6 +194,8 @@ impl<A: Allocator + Copy> Engine<A> {
         piece: &[u8],
     ) -> Result<(), ScriptError>
         ensures ok { OnOk result (Reads piece.now (W.traffic writer.old) (W.traffic writer.new) self.old self.new) }
+        ensures taken { Takes (W.traffic writer.old) (W.traffic writer.new)
+            (W.contents writer.old) (W.contents writer.new) }
         ensures clean { OnOk result (NoFault (W.traffic writer.old) (W.traffic writer.new)) }
         ensures err { OnErr result (Stops piece.now (W.traffic writer.old) (W.traffic writer.new) self.old) }
         ensures fault { IfErr result (IsWhy (W.traffic writer.old) (W.traffic writer.new)) }
@@ -208,6 +221,11 @@ impl<A: Allocator + Copy> Engine<A> {
         ensures ok { OnOk result ((r w : Traffic) → IsRunning r (R.traffic reader.old) w (W.traffic writer.old) self.old → IsRunning r (R.traffic reader.new) w (W.traffic writer.new) self.new) }
         ensures end { IfOk result (λ more. more ≡ false → (R.traffic reader.old).empties < (R.traffic reader.new).empties) }
         ensures empties { (R.traffic reader.old).empties ≤ (R.traffic reader.new).empties }
+        ensures given { Gives (R.traffic reader.old) (R.traffic reader.new)
+            (R.remaining reader.old) (R.remaining reader.new) }
+        ensures taken { Takes (W.traffic writer.old) (W.traffic writer.new)
+            (W.contents writer.old) (W.contents writer.new) }
+        ensures drained { IfOk result (λ more. more ≡ false → IsAtEnd (R.remaining reader.new)) }
         ensures begun { OnErr result ((r w : Traffic) → IsRunning r (R.traffic reader.old) w (W.traffic writer.old) self.old → Exchanges BeginsReplyText r (R.traffic reader.new) w (W.traffic writer.new)) }
         ensures fault { IfErr result (IsCause (R.traffic reader.old) (R.traffic reader.new) (W.traffic writer.old) (W.traffic writer.new)) }
     {
@@ -236,6 +254,8 @@ impl<A: Allocator + Copy> Engine<A> {
     /// Answers what stands behind the last line feed, unless it is empty, and writes what is held.
     fn finish<W: Sink>(&mut self, rt: &impl Wait, writer: &mut W) -> Result<(), ScriptError>
         ensures ok { OnOk result ((start input : List ℕ) → HasRead start input (W.traffic writer.old) self.old → IsAnswered start input (W.traffic writer.new) []) }
+        ensures taken { Takes (W.traffic writer.old) (W.traffic writer.new)
+            (W.contents writer.old) (W.contents writer.new) }
         ensures clean { OnOk result (NoFault (W.traffic writer.old) (W.traffic writer.new)) }
         ensures err { OnErr result ((start input : List ℕ) → HasRead start input (W.traffic writer.old) self.old → IsBegun start input (W.traffic writer.new)) }
         ensures fault { IfErr result (IsWhy (W.traffic writer.old) (W.traffic writer.new)) }
@@ -257,6 +277,12 @@ impl<A: Allocator + Copy> Engine<A> {
         requires out { self.old.out.items ≡ [] }
         ensures ok { OnOk result (Exchanges IsReplyText (R.traffic reader.old) (R.traffic reader.new) (W.traffic writer.old) (W.traffic writer.new)) }
         ensures end { OnOk result ((R.traffic reader.old).empties < (R.traffic reader.new).empties) }
+        ensures given { Gives (R.traffic reader.old) (R.traffic reader.new)
+            (R.remaining reader.old) (R.remaining reader.new) }
+        ensures taken { Takes (W.traffic writer.old) (W.traffic writer.new)
+            (W.contents writer.old) (W.contents writer.new) }
+        ensures drained { OnOk result
+            (GivesAll (R.traffic reader.old) (R.traffic reader.new) (R.remaining reader.old)) }
         ensures clean { OnOk result (((R.traffic reader.new).failures ≡ (R.traffic reader.old).failures) × NoFault (W.traffic writer.old) (W.traffic writer.new)) }
         ensures begun { OnErr result (Exchanges BeginsReplyText (R.traffic reader.old) (R.traffic reader.new) (W.traffic writer.old) (W.traffic writer.new)) }
         ensures fault { IfErr result (IsCause (R.traffic reader.old) (R.traffic reader.new) (W.traffic writer.old) (W.traffic writer.new)) }
@@ -268,6 +294,21 @@ impl<A: Allocator + Copy> Engine<A> {
             }
         }
         unreachable!()
+    }
+
+    /// Ends the engine, and with it the windows that are left. Answers the passes of their blocks, none of which has a live owner.
+    fn end(self) -> Passes<A>
+        ensures ended { IsKept MAX_OWNERS [] result.of_blocks.items }
+        ensures blocks { length result.of_blocks.items ≡ (table_of self.windows).blocks }
+    {
+        let Engine {
+            windows,
+            line: _,
+            too_long: _,
+            out: _,
+            alloc: _,
+        } = self;
+        windows.end()
     }
 }
 
@@ -301,15 +342,20 @@ pub fn run_script<R: Source, W: Sink, A: Allocator + Copy>(
 ) -> Result<(), ScriptError>
     ensures ok { OnOk result (Exchanges IsReplyText (R.traffic reader.old) (R.traffic reader.new) (W.traffic writer.old) (W.traffic writer.new)) }
     ensures end { OnOk result ((R.traffic reader.old).empties < (R.traffic reader.new).empties) }
+    ensures given { Gives (R.traffic reader.old) (R.traffic reader.new)
+        (R.remaining reader.old) (R.remaining reader.new) }
+    ensures taken { Takes (W.traffic writer.old) (W.traffic writer.new)
+        (W.contents writer.old) (W.contents writer.new) }
+    ensures drained { OnOk result
+        (GivesAll (R.traffic reader.old) (R.traffic reader.new) (R.remaining reader.old)) }
     ensures clean { OnOk result (((R.traffic reader.new).failures ≡ (R.traffic reader.old).failures) × NoFault (W.traffic writer.old) (W.traffic writer.new)) }
-
     ensures begun { OnErr result (Exchanges BeginsReplyText (R.traffic reader.old) (R.traffic reader.new) (W.traffic writer.old) (W.traffic writer.new)) }
     ensures fault { IfErr result (IsCause (R.traffic reader.old) (R.traffic reader.new) (W.traffic writer.old) (W.traffic writer.new)) }
 {
     let ScriptLayout::Arc = layout;
     let mut engine = Engine::new(alloc);
     let result = engine.run(rt, reader, writer);
-    engine.windows.end();
+    let _ = engine.end();
     result
 }
 

@@ -1,5 +1,5 @@
 //! The windows of a script, by number.
-ghost use Rattle.std.specs.Prelude.{◌≡◌, Some, None, MatchOption, slice_get};
+ghost use Rattle.std.specs.Prelude.{◌≡◌, ℕ, Some, None, MatchOption, slice_get};
 ghost use Rattle.std.specs.Option.{option_flatten};
 ghost use Rattle.arc_block.specs.declared.block.TheConstants.{MAX_OWNERS};
 ghost use Rattle.arc_block.specs.Owned.{IsKept};
@@ -17,8 +17,7 @@ use std::sync::Wait;
 /// The windows of a script under their numbers, `None` where one has gone, and the passes of the blocks on which they have stood.
 ///
 /// At every moment the live owners of each block's history are the windows that stand on it, so being alone is what the table says.
-/// `end` releases what is left: windows that are dropped would stay owners for good.
-#[derive(Drop)]
+/// They can't be dropped: they end by `end`, which releases every window that is left.
 pub struct Windows<A: Allocator + Copy> {
     entries: Vec<Option<Entry<A>>, A>,
     passes: Passes<A>,
@@ -33,8 +32,18 @@ fn entry_at<A: Allocator + Copy>(entries: &[Option<Entry<A>>], i: usize) -> Opti
     entries.get(i)?.as_ref()
 }
 
+/// Gives back the memory of entries whose windows have all gone.
+fn end_entries<A: Allocator + Copy>(mut entries: Vec<Option<Entry<A>>, A>)
+    requires { (i : ℕ) → option_flatten (slice_get entries.items i) ≡ None }
+{
+    while let Some(entry) = entries.pop() {
+        let None = entry else { unreachable!() };
+    }
+    entries.destroy_empty();
+}
+
 impl<A: Allocator + Copy> Windows<A> {
-    ghost use Rattle.std.specs.Prelude.{◌≡◌, ℕ, List, Some, None, MatchOption, slice_get, slice_set};
+    ghost use Rattle.std.specs.Prelude.{◌≡◌, ℕ, List, [], Some, None, MatchOption, length, slice_get, slice_set};
     ghost use Rattle.std.specs.Option.{option_map, option_flatten};
     ghost use Rattle.arc_block.specs.Table.{empty_table, row_at};
     ghost use Rattle.arcs.specs.Step.{Step};
@@ -87,9 +96,24 @@ impl<A: Allocator + Copy> Windows<A> {
         }
     }
 
-    /// Releases every window that is left, so that each block is given back. The passes stay: with no row left, none of their blocks has a
-    /// live owner.
-    pub fn end(&mut self)
+    /// Ends the table: every window that is left is released, so that each block is given back. Answers the passes of the blocks, none of
+    /// which has a live owner.
+    pub fn end(mut self) -> Passes<A>
+        ensures ended { IsKept MAX_OWNERS [] result.of_blocks.items }
+        ensures blocks { length result.of_blocks.items ≡ (table_of self).blocks }
+    {
+        self.release_all();
+        let Windows {
+            entries,
+            passes,
+            alloc: _,
+        } = self;
+        end_entries(entries);
+        passes
+    }
+
+    /// Releases every window that is left. The passes stay.
+    fn release_all(&mut self)
         ensures gone { (i : ℕ) → row_at (table_of self.new) i ≡ None }
         ensures blocks { (table_of self.new).blocks ≡ (table_of self.old).blocks }
     {

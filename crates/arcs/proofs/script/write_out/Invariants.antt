@@ -1,5 +1,5 @@
 use Rattle.std.proofs.Common.{◌≡◌, List, ℕ, ◌++◌, length}
-use Rattle.arcs.specs.Traffic.{NoFault}
+use Rattle.arcs.specs.Traffic.{NoFault, Takes}
 use Rattle.arcs.proofs.script.write_out.Given as goal
 
 -- a front was taken, and the rest is left
@@ -9,6 +9,7 @@ invariant-loop-rest g l =
     record {
       front : (sent : List ℕ) × (l.bytes ≡ sent ++ l.rest) × ((told l.writer).bytes ≡ (told l.fn.writer).bytes ++ sent);
       clean : NoFault (told l.fn.writer) (told l.writer);
+      taken : Takes (told l.fn.writer) (told l.writer) (g.W.Sink.contents l.fn.writer) (g.W.Sink.contents l.writer);
     }
 
 abbrev pub decreases-loop-rest : goal.decreases-loop-rest

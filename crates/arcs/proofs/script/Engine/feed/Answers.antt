@@ -2,6 +2,7 @@
 use Rattle.std.proofs.Common.{◌++◌, ◌∷◌, [], ◌∙◌}
 use Rattle.arcs.specs.Text.{line_feed}
 use Rattle.arcs.proofs.Going.{on_err, stops_now, stops_later, stops_longer, reads_on, reads_held, reads_whole, line_parts, more_parts}
+use Rattle.arcs.proofs.Devices.{takes_on}
 use Rattle.arcs.proofs.script.Engine.feed.Goals as goal
 
 pub returns-in_err-take_line-clause-err : goal.returns-in_err-take_line-clause-err
@@ -20,6 +21,7 @@ lines-preserved g c =
         reads_on front.0 (c.in-Some.line.now ++ line_feed ∷ []) _ (g.W.Sink.traffic c.lines.writer) _ c.args.self.now c.lines.self c.take_line.new.self front.2 c.in_ok-take_line.ensures.ok,
       );
       clean = (c.in_ok-take_line.ensures.clean.0 ∙ c.lines.invariant.clean.0, c.in_ok-take_line.ensures.clean.1 ∙ c.lines.invariant.clean.1);
+      taken = takes_on _ (g.W.Sink.traffic c.lines.writer) _ _ (g.W.Sink.contents c.lines.writer) _ c.lines.invariant.taken c.in_ok-take_line.ensures.taken;
     }
 
 pub returns-in_err-hold-clause-err : goal.returns-in_err-hold-clause-err
@@ -32,3 +34,7 @@ returns-clause-ok g c =
     let front = c.lines.invariant.front in
     reads_whole c.args.piece.now front.0 c.lines.rest.now _ (g.W.Sink.traffic c.lines.writer) _ c.args.self.now c.lines.self c.hold.new.self front.1 front.2
     (reads_held _ c.lines.self c.hold.new.self c.lines.rest.now c.in_default.ensures c.in_ok-hold.ensures.ok c.in_ok-hold.ensures.windows c.in_ok-hold.ensures.out)
+
+pub returns-in_err-take_line-clause-taken : goal.returns-in_err-take_line-clause-taken
+returns-in_err-take_line-clause-taken g c =
+    takes_on _ (g.W.Sink.traffic c.lines.writer) _ _ (g.W.Sink.contents c.lines.writer) _ c.lines.invariant.taken c.in_err-take_line.ensures.taken

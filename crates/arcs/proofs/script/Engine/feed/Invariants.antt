@@ -1,5 +1,5 @@
 use Rattle.std.proofs.Common.{◌≡◌, List, ℕ, ◌++◌, length}
-use Rattle.arcs.specs.Traffic.{NoFault}
+use Rattle.arcs.specs.Traffic.{NoFault, Takes}
 use Rattle.arcs.specs.Engine.{Reads}
 use Rattle.arcs.proofs.script.Engine.feed.Given as goal
 
@@ -10,6 +10,7 @@ invariant-lines g l =
     record {
       front : (front : List ℕ) × (l.piece ≡ front ++ l.rest) × Reads front (told l.fn.writer) (told l.writer) l.fn.self l.self;
       clean : NoFault (told l.fn.writer) (told l.writer);
+      taken : Takes (told l.fn.writer) (told l.writer) (g.W.Sink.contents l.fn.writer) (g.W.Sink.contents l.writer);
     }
 
 abbrev pub decreases-lines : goal.decreases-lines

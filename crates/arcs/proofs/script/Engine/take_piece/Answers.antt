@@ -1,6 +1,7 @@
 -- What was read goes through the engine, and the replies go out.
 use Rattle.std.proofs.Common.{ap, ◌∙◌}
 use Rattle.arcs.proofs.Going.{on_err, reads_and_out, reads_then_stops, run_stops_now, run_stops, run_goes_on}
+use Rattle.arcs.proofs.Devices.{takes_on}
 use Rattle.arcs.proofs.script.Engine.take_piece.Goals as goal
 
 pub returns-in_default-clause-begun : goal.returns-in_default-clause-begun
@@ -19,3 +20,11 @@ returns-clause-ok g c = λ r w run.
     run_goes_on r _ _ w _ _ c.args.self.now c.flush.new.self _ run (ap (λ t. t.bytes) c.in-Ok.ensures.told) (ap (λ t. t.failures) c.in-Ok.ensures.told)
     (c.in_ok-flush.ensures.clean.0 ∙ c.in_ok-feed.ensures.clean.0, c.in_ok-flush.ensures.clean.1 ∙ c.in_ok-feed.ensures.clean.1)
     (reads_and_out _ _ (g.W.Sink.traffic c.feed.new.writer) _ c.args.self.now c.feed.new.self c.flush.new.self c.in_ok-feed.ensures.ok c.in_ok-flush.ensures.ok c.in_ok-flush.ensures.windows c.in_ok-flush.ensures.line)
+
+pub returns-in_err-flush-clause-taken : goal.returns-in_err-flush-clause-taken
+returns-in_err-flush-clause-taken g c =
+    takes_on _ (g.W.Sink.traffic c.feed.new.writer) _ _ (g.W.Sink.contents c.feed.new.writer) _ c.in_ok-feed.ensures.taken c.in_err-flush.ensures.taken
+
+pub returns-clause-taken : goal.returns-clause-taken
+returns-clause-taken g c =
+    takes_on _ (g.W.Sink.traffic c.feed.new.writer) _ _ (g.W.Sink.contents c.feed.new.writer) _ c.in_ok-feed.ensures.taken c.in_ok-flush.ensures.taken

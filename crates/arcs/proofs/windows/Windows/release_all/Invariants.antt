@@ -1,7 +1,7 @@
 use Rattle.std.proofs.Common.{◌≡◌, ℕ, ◌<◌, None, length}
 use Rattle.arc_block.specs.Table.{row_at}
 use Rattle.arcs.specs.Rows.{table_of}
-use Rattle.arcs.proofs.windows.Windows.end.Given as goal
+use Rattle.arcs.proofs.windows.Windows.release_all.Given as goal
 
 -- the rows that were reached are gone
 abbrev pub invariant-loop-i : goal.invariant-loop-i
