@@ -11,10 +11,10 @@ use std::test::Fail;
 use std::thread::{Threads, join, yield_now};
 
 /// How many owners each of the four threads makes.
-const RAISES: u32 = 100_000;
+const RAISES: u32 = 1_000_000;
 
 /// The greatest count: the first owner, and all that the four threads make.
-const MOST: u64 = 400_001;
+const MOST: u64 = 4_000_001;
 
 /// How often a thread yields at most before all four have come. Then it begins without the others.
 const TURNS: u32 = 100_000;
