@@ -32,6 +32,10 @@ pub use world::World;
 #[cfg(test)]
 mod counted_tests;
 #[cfg(test)]
+mod forget_tests;
+#[cfg(test)]
 mod piece_tests;
+#[cfg(test)]
+mod raise_tests;
 #[cfg(test)]
 mod tests;
