@@ -5,16 +5,16 @@ use Rattle.std.proofs.lemmas.Bool.{cases_eq, false≢true}
 use Rattle.std.proofs.lemmas.Option.{same_Some, slice_get-map, slice_get_cases, slice_get_read, slice_get_within}
 use Rattle.std.proofs.lemmas.List.{map-append, length-set}
 use Rattle.arc_owners.specs.declared.owners.tokens.Pass.{Pass}
-use Rattle.arc_owners.specs.Pieces.{Owner}
+use Rattle.arc_owners.specs.Passes.{Owner, Asks, Leaves, IsFirst, IsFreshPass}
 use Rattle.arc_block.specs.declared.block.TheConstants.{MAX_OWNERS}
 use Rattle.arc_block.specs.Block.{native_facts}
 use Rattle.arc_block.specs.Owned.{Stand, number_on, owners_on, IsKept}
-use Rattle.arc_block.specs.Place.{Place, nowhere, static_data, on_block}
+use Rattle.arc_block.specs.Place.{Place, nowhere, static_data, on_block, at_owner}
 use Rattle.arc_block.specs.Table.{block_of, stands_on, owners, is_alone}
-use Rattle.arc_block.proofs.Owned.{kept-new, kept-nowhere, kept-gone-nowhere, kept-shared, kept-asked, kept-full, kept-gone, alone-exact, full-exact}
+use Rattle.arc_block.proofs.Owned.{kept-new, kept-nowhere, kept-gone-nowhere, kept-shared, kept-asked, kept-full, kept-gone, alone-exact, full-here}
 use Rattle.arc_block.proofs.Alone.{same_owners}
 use Rattle.arc_block.proofs.Lists.{get-set_other}
-use Rattle.arc_read.specs.Steps.{IsPassAt, Makes, BeginsAt, AsksAt, LeavesAt}
+use Rattle.arc_read.specs.Steps.{IsPassAt, Makes, Begins}
 use Rattle.arc_read.specs.Window.{Window}
 use Rattle.arcs.specs.Step.{IsFullPlace}
 use Rattle.arcs.specs.Script.{ByteTable}
@@ -23,16 +23,24 @@ use Rattle.arcs.specs.Entries.{row_of, stand_of, stands_of}
 use Rattle.arcs.specs.declared.entry.Entry.{Entry}
 use Rattle.arcs.proofs.Tables.{table_with, map-slice_set}
 
+-- what a window's asking and its end add
+abbrev pub AsksAt : {H : Type 0} → Place (Option Owner) (Unit {0}) → Pass H → Pass H → Bool → Type 0
+AsksAt place old new found = at_owner place ((found ≡ false) × (new ≡ old)) (λ o. Asks o old new found)
+
+abbrev pub LeavesAt : {H : Type 0} → Place (Option Owner) (Unit {0}) → Pass H → Pass H → Type 0
+LeavesAt place old new = at_owner place (new ≡ old) (λ o. (last : Bool) × Leaves o old new last)
+
 number-if : (b : Bool) (n : ℕ) → b ≡ is_some (if b then Some n else None)
 number-if true n = refl
 number-if false n = refl
 
 -- a row stands on a block where the window is one of its owners
-place-counted : (b : Option ℕ) (place : Place Owner (Unit {0})) (n : ℕ) → option_map_or (λ m. m == n) (block_of (numbered b place)) false ≡ is_some (number_on n (stand_at b place))
+place-counted : (b : Option ℕ) (place : Place (Option Owner) (Unit {0})) (n : ℕ) → option_map_or (λ m. m == n) (block_of (numbered b place)) false ≡ is_some (number_on n (stand_at b place))
 place-counted b nowhere n = refl
+place-counted b (on_block None offset facts) n = refl
 place-counted b static_data n = refl
-place-counted None (on_block owner offset facts) n = refl
-place-counted (Some m) (on_block owner offset facts) n = number-if (m == n) owner.number
+place-counted None (on_block (Some owner) offset facts) n = refl
+place-counted (Some m) (on_block (Some owner) offset facts) n = number-if (m == n) owner.number
 
 entry-counted : {A : Type 0} (x : Option (Entry A)) (n : ℕ) → stands_on n (option_map row_of x) ≡ is_some (number_on n (stand_of x))
 entry-counted None n = refl
@@ -131,68 +139,79 @@ module _ {H : Type 0} (passes left : List (Pass H)) (p : Pass H) where
 
 -- a window that is there, and what it and its block's pass are asked for
 module _ {H : Type 0} {stands : List Stand} {passes : List (Pass H)} (i : ℕ) (k : IsKept MAX_OWNERS stands passes) where
-  number-at : (b : Option ℕ) (place : Place Owner (Unit {0})) → is_some b ≡ is_on_block place → slice_get stands i ≡ Some (stand_at b place) → HasNumber passes b
+  number-at : (b : Option ℕ) (place : Place (Option Owner) (Unit {0})) → is_some b ≡ is_on_block place → slice_get stands i ≡ Some (stand_at b place) → HasNumber passes b
   number-at None place fits at = tt
   number-at (Some n) nowhere fits at = absurd (false≢true (sym fits))
+  number-at (Some n) (on_block None offset facts) fits at = absurd (false≢true (sym fits))
   number-at (Some n) static_data fits at = absurd (false≢true (sym fits))
-  number-at (Some n) (on_block owner offset facts) fits at = (k.known i n owner at).0
+  number-at (Some n) (on_block (Some owner) offset facts) fits at = (k.known i n owner at).0
 
   module _ (left : List (Pass H)) (p : Pass H) where
-    stand-pass-at : (b : Option ℕ) (place : Place Owner (Unit {0})) → is_some b ≡ is_on_block place → slice_get stands i ≡ Some (stand_at b place) → TakenOut passes b p left → IsPassOfStand (stand_at b place) p
+    stand-pass-at : (b : Option ℕ) (place : Place (Option Owner) (Unit {0})) → is_some b ≡ is_on_block place → slice_get stands i ≡ Some (stand_at b place) → TakenOut passes b p left → IsPassOfStand (stand_at b place) p
     stand-pass-at None nowhere fits at took = took.0
+    stand-pass-at None (on_block None offset facts) fits at took = took.0
     stand-pass-at None static_data fits at took = took.0
-    stand-pass-at None (on_block owner offset facts) fits at took = absurd (false≢true fits)
+    stand-pass-at None (on_block (Some owner) offset facts) fits at took = absurd (false≢true fits)
     stand-pass-at (Some n) nowhere fits at took = absurd (false≢true (sym fits))
+    stand-pass-at (Some n) (on_block None offset facts) fits at took = absurd (false≢true (sym fits))
     stand-pass-at (Some n) static_data fits at took = absurd (false≢true (sym fits))
-    stand-pass-at (Some n) (on_block owner offset facts) fits at took = (k.known i n owner at).1 p took.0
+    stand-pass-at (Some n) (on_block (Some owner) offset facts) fits at took = (k.known i n owner at).1 p took.0
 
     module _ (new : Pass H) where
-      joined-at : (b : Option ℕ) (place : Place Owner (Unit {0})) (s : Stand) → slice_get stands i ≡ Some (stand_at b place) → TakenOut passes b p left → Joins (stand_at b place) p new s → IsKept MAX_OWNERS (stands ++ s ∷ []) (put_back left b new)
+      joined-at : (b : Option ℕ) (place : Place (Option Owner) (Unit {0})) (s : Stand) → slice_get stands i ≡ Some (stand_at b place) → TakenOut passes b p left → Joins (stand_at b place) p new s → IsKept MAX_OWNERS (stands ++ s ∷ []) (put_back left b new)
       joined-at b place None at took same = subst (λ ps. IsKept MAX_OWNERS (stands ++ None ∷ []) ps) (sym (back-same passes left p b took new same)) (kept-nowhere k)
       joined-at b nowhere (Some made) at took joins = absurd joins
+      joined-at b (on_block None offset facts) (Some made) at took joins = absurd joins
       joined-at b static_data (Some made) at took joins = absurd joins
-      joined-at None (on_block owner offset facts) (Some made) at took joins = absurd joins
-      joined-at (Some n) (on_block owner offset facts) (Some made) at took joins =
+      joined-at None (on_block (Some owner) offset facts) (Some made) at took joins = absurd joins
+      joined-at (Some n) (on_block (Some owner) offset facts) (Some made) at took joins =
           subst (λ (m : ℕ). IsKept MAX_OWNERS (stands ++ Some (m, made.1) ∷ []) (slice_set left n new)) (sym joins.0)
           (subst (λ ps. IsKept MAX_OWNERS (stands ++ Some (n, made.1) ∷ []) ps) (sym (took.1 new)) (kept-shared i n k at took.0 joins.1))
 
-      full-at : (b : Option ℕ) (place : Place Owner (Unit {0})) → slice_get stands i ≡ Some (stand_at b place) → TakenOut passes b p left → IsFullStand (stand_at b place) p new → IsKept MAX_OWNERS stands (put_back left b new)
+      full-at : (b : Option ℕ) (place : Place (Option Owner) (Unit {0})) → slice_get stands i ≡ Some (stand_at b place) → TakenOut passes b p left → IsFullStand (stand_at b place) p new → IsKept MAX_OWNERS stands (put_back left b new)
       full-at b nowhere at took full = absurd full
+      full-at b (on_block None offset facts) at took full = absurd full
       full-at b static_data at took full = absurd full
-      full-at None (on_block owner offset facts) at took full = absurd full
-      full-at (Some n) (on_block owner offset facts) at took full = subst (λ ps. IsKept MAX_OWNERS stands ps) (sym (took.1 new)) (kept-full i n k at took.0 full)
+      full-at None (on_block (Some owner) offset facts) at took full = absurd full
+      full-at (Some n) (on_block (Some owner) offset facts) at took full = subst (λ ps. IsKept MAX_OWNERS stands ps) (sym (took.1 new)) (kept-full i n k at took.0 full)
 
-      full-count : (t : ByteTable) (b : Option ℕ) (place : Place Owner (Unit {0})) → ((n : ℕ) → owners t n ≡ length (owners_on n stands)) → slice_get stands i ≡ Some (stand_at b place) → TakenOut passes b p left → IsFullStand (stand_at b place) p new → IsFullPlace t (numbered b place)
+      full-count : (t : ByteTable) (b : Option ℕ) (place : Place (Option Owner) (Unit {0})) → ((n : ℕ) → owners t n ≡ length (owners_on n stands)) → slice_get stands i ≡ Some (stand_at b place) → TakenOut passes b p left → IsFullStand (stand_at b place) p new → IsFullPlace t (numbered b place)
       full-count t b nowhere counted at took full = absurd full
+      full-count t b (on_block None offset facts) counted at took full = absurd full
       full-count t b static_data counted at took full = absurd full
-      full-count t None (on_block owner offset facts) counted at took full = absurd full
-      full-count t (Some n) (on_block owner offset facts) counted at took full = counted n ∙ full-exact i n k at took.0 full
+      full-count t None (on_block (Some owner) offset facts) counted at took full = absurd full
+      full-count t (Some n) (on_block (Some owner) offset facts) counted at took full = counted n ∙ full-here i n k at took.0 full
 
-      asked-at : (found : Bool) (b : Option ℕ) (place : Place Owner (Unit {0})) → is_some b ≡ is_on_block place → slice_get stands i ≡ Some (stand_at b place) → TakenOut passes b p left → AsksAt place p new found → IsKept MAX_OWNERS stands (put_back left b new)
+      asked-at : (found : Bool) (b : Option ℕ) (place : Place (Option Owner) (Unit {0})) → is_some b ≡ is_on_block place → slice_get stands i ≡ Some (stand_at b place) → TakenOut passes b p left → AsksAt place p new found → IsKept MAX_OWNERS stands (put_back left b new)
       asked-at found b nowhere fits at took asks = subst (λ ps. IsKept MAX_OWNERS stands ps) (sym (back-same passes left p b took new asks.1)) k
+      asked-at found b (on_block None offset facts) fits at took asks = subst (λ ps. IsKept MAX_OWNERS stands ps) (sym (back-same passes left p b took new asks.1)) k
       asked-at found b static_data fits at took asks = subst (λ ps. IsKept MAX_OWNERS stands ps) (sym (back-same passes left p b took new asks.1)) k
-      asked-at found None (on_block owner offset facts) fits at took asks = absurd (false≢true fits)
-      asked-at found (Some n) (on_block owner offset facts) fits at took asks = subst (λ ps. IsKept MAX_OWNERS stands ps) (sym (took.1 new)) (kept-asked i n k at took.0 asks)
+      asked-at found None (on_block (Some owner) offset facts) fits at took asks = absurd (false≢true fits)
+      asked-at found (Some n) (on_block (Some owner) offset facts) fits at took asks = subst (λ ps. IsKept MAX_OWNERS stands ps) (sym (took.1 new)) (kept-asked i n k at took.0 asks)
 
-      alone-at : (found : Bool) (t : ByteTable) (b : Option ℕ) (place : Place Owner (Unit {0})) → ((n : ℕ) → owners t n ≡ length (owners_on n stands)) → is_some b ≡ is_on_block place → slice_get stands i ≡ Some (stand_at b place) → TakenOut passes b p left → AsksAt place p new found → is_alone t (numbered b place) ≡ found
+      alone-at : (found : Bool) (t : ByteTable) (b : Option ℕ) (place : Place (Option Owner) (Unit {0})) → ((n : ℕ) → owners t n ≡ length (owners_on n stands)) → is_some b ≡ is_on_block place → slice_get stands i ≡ Some (stand_at b place) → TakenOut passes b p left → AsksAt place p new found → is_alone t (numbered b place) ≡ found
       alone-at found t b nowhere counted fits at took asks = sym asks.0
+      alone-at found t b (on_block None offset facts) counted fits at took asks = sym asks.0
       alone-at found t b static_data counted fits at took asks = sym asks.0
-      alone-at found t None (on_block owner offset facts) counted fits at took asks = absurd (false≢true fits)
-      alone-at found t (Some n) (on_block owner offset facts) counted fits at took asks = ap (λ m. m == 1) (counted n) ∙ sym (alone-exact i n k at took.0 asks)
+      alone-at found t None (on_block (Some owner) offset facts) counted fits at took asks = absurd (false≢true fits)
+      alone-at found t (Some n) (on_block (Some owner) offset facts) counted fits at took asks = ap (λ m. m == 1) (counted n) ∙ sym (alone-exact i n k at took.0 asks)
 
-      gone-at : (b : Option ℕ) (place : Place Owner (Unit {0})) → is_some b ≡ is_on_block place → slice_get stands i ≡ Some (stand_at b place) → TakenOut passes b p left → LeavesAt place p new → IsKept MAX_OWNERS (slice_set stands i None) (put_back left b new)
+      gone-at : (b : Option ℕ) (place : Place (Option Owner) (Unit {0})) → is_some b ≡ is_on_block place → slice_get stands i ≡ Some (stand_at b place) → TakenOut passes b p left → LeavesAt place p new → IsKept MAX_OWNERS (slice_set stands i None) (put_back left b new)
       gone-at b nowhere fits at took leaves = subst (λ ps. IsKept MAX_OWNERS (slice_set stands i None) ps) (sym (back-same passes left p b took new leaves)) (kept-gone-nowhere i k at)
+      gone-at b (on_block None offset facts) fits at took leaves = subst (λ ps. IsKept MAX_OWNERS (slice_set stands i None) ps) (sym (back-same passes left p b took new leaves)) (kept-gone-nowhere i k at)
       gone-at b static_data fits at took leaves = subst (λ ps. IsKept MAX_OWNERS (slice_set stands i None) ps) (sym (back-same passes left p b took new leaves)) (kept-gone-nowhere i k at)
-      gone-at None (on_block owner offset facts) fits at took leaves = absurd (false≢true fits)
-      gone-at (Some n) (on_block owner offset facts) fits at took leaves = subst (λ ps. IsKept MAX_OWNERS (slice_set stands i None) ps) (sym (took.1 new)) (kept-gone i n k at took.0 leaves.1)
+      gone-at None (on_block (Some owner) offset facts) fits at took leaves = absurd (false≢true fits)
+      gone-at (Some n) (on_block (Some owner) offset facts) fits at took leaves = subst (λ ps. IsKept MAX_OWNERS (slice_set stands i None) ps) (sym (took.1 new)) (kept-gone i n k at took.0 leaves.1)
 
-pass-at : {H : Type 0} (p : Pass H) (b : Option ℕ) (place : Place Owner (Unit {0})) → is_some b ≡ is_on_block place → IsPassOfStand (stand_at b place) p → IsPassAt place p
+pass-at : {H : Type 0} (p : Pass H) (b : Option ℕ) (place : Place (Option Owner) (Unit {0})) → is_some b ≡ is_on_block place → IsPassOfStand (stand_at b place) p → IsPassAt place p
 pass-at p None nowhere fits of = of
+pass-at p None (on_block None offset facts) fits of = of
 pass-at p None static_data fits of = of
-pass-at p None (on_block owner offset facts) fits of = absurd (false≢true fits)
+pass-at p None (on_block (Some owner) offset facts) fits of = absurd (false≢true fits)
 pass-at p (Some n) nowhere fits of = absurd (false≢true (sym fits))
+pass-at p (Some n) (on_block None offset facts) fits of = absurd (false≢true (sym fits))
 pass-at p (Some n) static_data fits of = absurd (false≢true (sym fits))
-pass-at p (Some n) (on_block owner offset facts) fits of = of
+pass-at p (Some n) (on_block (Some owner) offset facts) fits of = of
 
 -- the same for the window of an entry
 module _ {A H : Type 0} (entries : List (Option (Entry A))) (passes : List (Pass H)) (i : ℕ) (e : Entry A) (k : IsKept MAX_OWNERS (stands_of entries) passes) (there : slice_get entries i ≡ Some (Some e)) where
@@ -240,10 +259,11 @@ module _ {A H : Type 0} (entries : List (Option (Entry A))) (passes : List (Pass
     pub alone-told : (new : Pass H) (found : Bool) (blocks : ℕ) → AsksAt e.window.place p new found → is_alone (table_with entries blocks) (row_of e).place ≡ found
     alone-told new found blocks asks = alone-at i k left p new found (table_with entries blocks) e.block e.window.place (rows-counted entries blocks) e.numbered stand-there took asks
 
-stand-none : (place : Place Owner (Unit {0})) → stand_at None place ≡ None
+stand-none : (place : Place (Option Owner) (Unit {0})) → stand_at None place ≡ None
 stand-none nowhere = refl
+stand-none (on_block None offset facts) = refl
 stand-none static_data = refl
-stand-none (on_block owner offset facts) = refl
+stand-none (on_block (Some owner) offset facts) = refl
 
 -- a window was made on nothing, or on a new block
 module _ {A : Type 0} (entries entries' : List (Option (Entry A))) (e : Entry A) (one_more : entries' ≡ entries ++ Some e ∷ []) where
@@ -255,16 +275,17 @@ module _ {A : Type 0} (entries entries' : List (Option (Entry A))) (e : Entry A)
       subst (λ ss. IsKept MAX_OWNERS ss passes) (sym (stands-more ∙ ap (λ b. stands_of entries ++ stand_at b e.window.place ∷ []) none ∙ ap (λ s. stands_of entries ++ s ∷ []) (stand-none e.window.place)))
       (kept-nowhere k)
 
-  pub made-on_block : {H : Type 0} {passes passes' : List (Pass H)} (items : List ℕ) (old new : Pass H) → IsKept MAX_OWNERS (stands_of entries) passes → Makes true false true items old new e.window → (length items == 0) ≡ false → e.block ≡ Some (length passes) → passes' ≡ passes ++ new ∷ [] → IsKept MAX_OWNERS (stands_of entries') passes'
-  made-on_block {passes = passes} {passes' = passes'} items old new k makes some block one_pass =
+  pub made-on_block : {H : Type 0} {passes passes' : List (Pass H)} (items : List ℕ) (old new : Pass H) → IsKept MAX_OWNERS (stands_of entries) passes → Makes true false true items e.window → Begins e.window old new → (length items == 0) ≡ false → e.block ≡ Some (length passes) → passes' ≡ passes ++ new ∷ [] → IsKept MAX_OWNERS (stands_of entries') passes'
+  made-on_block {passes = passes} {passes' = passes'} items old new k makes begins some block one_pass =
       let n = length passes in
-      let owner = makes.0 in
-      let there : Place Owner (Unit {0}) = on_block owner 0 (native_facts false (length items)) in
-      let place : e.window.place ≡ there = ap (λ (w : Window ℕ). w.place) makes.1 ∙ ap (λ b. if b then nowhere else there) some in
-      let begins : BeginsAt true there old new = subst (λ p. BeginsAt true p old new) place makes.2 in
+      let owner = makes.owner in
+      let there : Place (Option Owner) (Unit {0}) = on_block (Some owner) 0 (native_facts false (length items)) in
+      let place : e.window.place ≡ there = ap (λ (w : Window ℕ). w.place) makes.made ∙ ap (λ b. if b then nowhere else there) some in
+      let first : IsFirst MAX_OWNERS true owner = subst (λ p. at_owner p (Unit {0}) (λ o. IsFirst MAX_OWNERS true o)) place makes.first in
+      let fresh : IsFreshPass owner new = subst (λ p. at_owner p (new ≡ old) (λ o. IsFreshPass o new)) place begins in
       let stands : stands_of entries' ≡ stands_of entries ++ Some (n, owner) ∷ [] = stands-more ∙ ap (λ b. stands_of entries ++ stand_at b e.window.place ∷ []) block ∙ ap (λ p. stands_of entries ++ stand_at (Some n) p ∷ []) place in
       subst (λ ps. IsKept MAX_OWNERS (stands_of entries') ps) (sym one_pass)
-      (subst (λ ss. IsKept MAX_OWNERS ss (passes ++ new ∷ [])) (sym stands) (kept-new new k begins.0 begins.1))
+      (subst (λ ss. IsKept MAX_OWNERS ss (passes ++ new ∷ [])) (sym stands) (kept-new new k first fresh))
 
 -- the same passes
 pub kept-in : {H : Type 0} (stands : List Stand) {passes passes' : List (Pass H)} (e : passes ≡ passes') → IsKept MAX_OWNERS stands passes → IsKept MAX_OWNERS stands passes'

@@ -1,31 +1,33 @@
 -- Where the windows of a script stand: the numbers of their blocks, and the passes of these.
 use Rattle.std.specs.Prelude.{◌≡◌, ℕ, ◌<◌, Bool, true, false, List, Option, Some, None, length, slice_get, slice_set}
 use Rattle.arc_owners.specs.declared.owners.tokens.Pass.{Pass}
-use Rattle.arc_owners.specs.Passes.{IsPassOfNone}
-use Rattle.arc_owners.specs.Pieces.{Owner, IsPassFor, MakesAnother, FindsFull}
+use Rattle.arc_owners.specs.Passes.{Owner, IsPassOfNone, IsPassFor, MakesAnother, FindsFull}
 use Rattle.arc_block.specs.Owned.{Stand}
 use Rattle.arc_block.specs.Place.{Place, nowhere, static_data, on_block}
 
 module _ {M : Type 0} where
-  -- a place, on the block with this number
-  abbrev pub numbered : Option ℕ → Place Owner M → Place ℕ M
+  -- a place, on the block with this number. No window of a script stands on a block that counts no owners
+  abbrev pub numbered : Option ℕ → Place (Option Owner) M → Place ℕ M
   numbered number nowhere = nowhere
   numbered number static_data = static_data
-  numbered None (on_block owner offset facts) = nowhere
-  numbered (Some number) (on_block owner offset facts) = on_block number offset facts
+  numbered number (on_block None offset facts) = nowhere
+  numbered None (on_block (Some owner) offset facts) = nowhere
+  numbered (Some number) (on_block (Some owner) offset facts) = on_block number offset facts
 
-  -- whether a place is on a block
-  abbrev pub is_on_block : Place Owner M → Bool
+  -- whether a window at this place is an owner of a block
+  abbrev pub is_on_block : Place (Option Owner) M → Bool
   is_on_block nowhere = false
   is_on_block static_data = false
-  is_on_block (on_block owner offset facts) = true
+  is_on_block (on_block None offset facts) = false
+  is_on_block (on_block (Some owner) offset facts) = true
 
   -- where a window stands
-  abbrev pub stand_at : Option ℕ → Place Owner M → Stand
+  abbrev pub stand_at : Option ℕ → Place (Option Owner) M → Stand
   stand_at number nowhere = None
   stand_at number static_data = None
-  stand_at None (on_block owner offset facts) = None
-  stand_at (Some number) (on_block owner offset facts) = Some (number, owner)
+  stand_at number (on_block None offset facts) = None
+  stand_at None (on_block (Some owner) offset facts) = None
+  stand_at (Some number) (on_block (Some owner) offset facts) = Some (number, owner)
 
 module _ {H : Type 0} where
   -- a pass of the block on which a window stands

@@ -23,11 +23,12 @@ pub struct Entry<A: Allocator + Copy> {
 }
 
 impl<A: Allocator + Copy> Entry<A> {
-    ghost use Rattle.std.specs.Prelude.{◌≡◌, true, Some, IfOk, IfErr};
+    ghost use Rattle.std.specs.Prelude.{◌≡◌, Bool, true, false, Some, IfOk, IfErr};
     ghost use Rattle.arc_buffer.specs.Slice.{IsRange, sub};
-    ghost use Rattle.arc_block.specs.Place.{IsOnBlock, part_place};
+    ghost use Rattle.arc_block.specs.Place.{IsOnBlock, part_place, at_owner};
     ghost use Rattle.arc_block.specs.Table.{reader};
-    ghost use Rattle.arc_read.specs.Steps.{IsPassAt, AsksAt, LeavesAt};
+    ghost use Rattle.arc_owners.specs.Passes.{Asks, Leaves};
+    ghost use Rattle.arc_read.specs.Steps.{IsPassAt};
     ghost use Rattle.arcs.specs.Script.{byte_setting};
     ghost use Rattle.arcs.specs.Stands.{IsPassOfStand, Joins, IsFullStand};
     ghost use Rattle.arcs.specs.Entries.{row_of, stand_of};
@@ -70,7 +71,7 @@ impl<A: Allocator + Copy> Entry<A> {
     /// Whether no other owner of the window's block lives. `false` on no block. Takes no memory.
     pub fn is_unique(&self, pass: &mut Pass<Whole>) -> bool
         requires { IsPassAt self.now.window.place pass.old }
-        ensures { AsksAt self.now.window.place pass.old pass.new result }
+        ensures { at_owner self.now.window.place ((result ≡ false) × (pass.new ≡ pass.old)) (λ o. Asks o pass.old pass.new result) }
     {
         self.window.is_unique_as(pass)
     }
@@ -78,7 +79,7 @@ impl<A: Allocator + Copy> Entry<A> {
     /// Ends the window: the last owner gives its block back. Takes no memory.
     pub fn release(self, pass: &mut Pass<Whole>)
         requires { IsPassAt self.window.place pass.old }
-        ensures { LeavesAt self.window.place pass.old pass.new }
+        ensures { at_owner self.window.place (pass.new ≡ pass.old) (λ o. (last : Bool) × Leaves o pass.old pass.new last) }
     {
         let Entry { window, block: _ } = self;
         window.release_as(pass);

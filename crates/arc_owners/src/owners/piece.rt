@@ -259,8 +259,8 @@ impl<V: Drop, A: Allocator + Copy, const MAX: u64, H: Mark> Drop for Piece<V, A,
     }
 }
 
-unsafe impl<V: Drop + Send + Sync, A: Allocator + Copy + Send, const MAX: u64, H: Mark> Send
+unsafe impl<V: Drop + Send + Sync, A: Allocator + Copy + Send + Sync, const MAX: u64, H: Mark> Send
     for Piece<V, A, MAX, H> {}
 
-unsafe impl<V: Drop + Send + Sync, A: Allocator + Copy + Send, const MAX: u64, H: Mark> Sync
+unsafe impl<V: Drop + Send + Sync, A: Allocator + Copy + Send + Sync, const MAX: u64, H: Mark> Sync
     for Piece<V, A, MAX, H> {}

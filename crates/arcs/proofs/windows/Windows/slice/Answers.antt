@@ -10,7 +10,7 @@ invariant_of-self-then-is_empty g c =
 pub invariant_of-self-2 : goal.invariant_of-self-2
 invariant_of-self-2 g c =
     record {
-      kept = made-on_block c.args.self.now.entries.items _ _ (behind c.args.self.now.entries.items _ c.push_reserved-3.ensures.items c.reserve.ensures.items) _ c.none-pass.result c.try_from_slice_as.new.pass c.args.self.now.kept c.in-Ok.ensures.ok
+      kept = made-on_block c.args.self.now.entries.items _ _ (behind c.args.self.now.entries.items _ c.push_reserved-3.ensures.items c.reserve.ensures.items) _ c.none-pass.result c.try_from_slice_as.new.pass c.args.self.now.kept c.in-Ok.ensures.ok c.in-Ok.ensures.pass
           (ap (λ n. n == 0) c.deref.ensures.len ∙ sym c.is_empty.ensures ∙ c.if-is_empty.false)
           (ap Some (c.len.ensures ∙ c.reserve-else-is_err.new.self.ok.0 ∙ ap length c.reserve-else-is_err.ensures.items))
           (behind c.args.self.now.passes.of_blocks.items _ c.push_reserved-2.ensures.items c.reserve-else-is_err.ensures.items);
