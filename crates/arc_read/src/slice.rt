@@ -401,8 +401,8 @@ impl<S: Slice, L: Layout, A: Allocator + Copy, H: Mark> ArcSlice<S, L, A, H> {
         if let Some(block) = block {
             match block.try_into_items_as(pass) {
                 Ok(items) => drop(items),
-                Err(block) => {
-                    let _ = block.release_as(pass);
+                Err(shared) => {
+                    let _ = shared.release_as(pass);
                 }
             }
         }
