@@ -8,3 +8,4 @@ pub mod Book
 pub mod Runs
 pub mod Realized
 pub mod Calls
+pub mod Wholes
