@@ -62,12 +62,12 @@ module _ {H : Type 0} (o : Owner) (p r : Pass H) where
   pub made_of : (by new : Right) → by.owner ≡ o.number → SamePass t p.trace r.trace → RaisedIf t p.trace r.trace by new true → MakesAnother o p r (record { block = new.names; number = new.owner; born = new.born })
   made_of by new is same raised = let before : List Line = raised.0.0 in let a = raised.0.1 in
       let n : ℕ = next_owner before in let here = appends t p r (λ h. Up by.owner (next_owner h)) before same a in record {
-    middle = p;
-    joined = inl refl;
-    before = before;
-    added = subst (λ (c : Bool × ℕ). Appends t p r before (making c.0 c.1 n ∷ [])) (λ i. (sym a.0.may.2 i, is i)) here;
-    made = λ i. record { block = raised.1 i; number = raised.0.3 i; born = raised.3 i };
-  }
+        middle = p;
+        joined = inl refl;
+        before = before;
+        added = subst (λ (c : Bool × ℕ). Appends t p r before (making c.0 c.1 n ∷ [])) (λ i. (sym a.0.may.2 i, is i)) here;
+        made = λ i. record { block = raised.1 i; number = raised.0.3 i; born = raised.3 i };
+      }
 
   -- the owner ended
   pub leaves_of : (last : Bool) → SamePass t p.trace r.trace → Ends t p.trace r.trace o.number last → Leaves o p r last
@@ -75,9 +75,11 @@ module _ {H : Type 0} (o : Owner) (p r : Pass H) where
 
 -- the last line of a legal history is one step
 pub legal_step : (t : Names) (ls : List Line) → IsLegal t.most t.began (entries_of ls) → EndsInOneStep t ls
-legal_step t ls legal = record { last = λ before line split. let h : List Entry = entries_of before in
-    let is : entries_of ls ≡ h ++ line.1 ∷ [] = ap entries_of split ∙ entries-append before line.0 line.1 in
-    one_step t.most t.began h (legal-front t.most t.began (entries_of ls) h (line.1 ∷ []) legal is) line.1 (legal-at t.most t.began (entries_of ls) h line.1 [] legal is) }
+legal_step t ls legal = record {
+  last = λ before line split. let h : List Entry = entries_of before in
+      let is : entries_of ls ≡ h ++ line.1 ∷ [] = ap entries_of split ∙ entries-append before line.0 line.1 in
+      one_step t.most t.began h (legal-front t.most t.began (entries_of ls) h (line.1 ∷ []) legal is) line.1 (legal-at t.most t.began (entries_of ls) h line.1 [] legal is);
+}
 
 module _ {H : Type 0} (t : Names) (p r : Pass H) where
   pub wrote_step : (e : Entry) → SamePass t p.trace r.trace × Wrote t p.trace r.trace e → EndsInOneStep t (history_of r)
@@ -96,15 +98,17 @@ module _ {H : Type 0} (t : Names) (p r : Pass H) where
 
   -- a sole owner ended without a step
   pub ended_without : (owner : ℕ) → Ends t p.trace r.trace owner true → EndsWithoutStep t (history_of r)
-  ended_without owner (before, a, exact) = record { last = λ front line split m tells. let same : front ++ line ∷ [] ≡ before ++ (p.trace.number, Down owner) ∷ [] = sym split ∙ a.1 in
-      let parts = last-is front before line (p.trace.number, Down owner) same in
-      subst (λ (k : Ending). Tells t.began m (entries_of k.0) → Agrees t.began m (entries_of k.0 ++ k.1.1 ∷ [])) (sym parts)
-      (λ (tells' : Tells t.began m (entries_of before)). inr (
-        owner,
-        tells'.live ∙ exact.0 refl,
-        subst (λ (es : List Entry). Tells t.began m es) (sym tells'.entries) tells',
-        ap (λ (es : List Entry). es ++ Down owner ∷ []) (sym tells'.entries),
-      )) tells }
+  ended_without owner (before, a, exact) = record {
+    last = λ front line split m tells. let same : front ++ line ∷ [] ≡ before ++ (p.trace.number, Down owner) ∷ [] = sym split ∙ a.1 in
+        let parts = last-is front before line (p.trace.number, Down owner) same in
+        subst (λ (k : Ending). Tells t.began m (entries_of k.0) → Agrees t.began m (entries_of k.0 ++ k.1.1 ∷ [])) (sym parts)
+        (λ (tells' : Tells t.began m (entries_of before)). inr (
+          owner,
+          tells'.live ∙ exact.0 refl,
+          subst (λ (es : List Entry). Tells t.began m es) (sym tells'.entries) tells',
+          ap (λ (es : List Entry). es ++ Down owner ∷ []) (sym tells'.entries),
+        )) tells;
+  }
 
 counted-first : is_counted Counted [] ≡ true
 unfolding is_counted

@@ -1,82 +1,80 @@
 -- Runs of one pass alone: under `Whole` nothing comes between two of its calls, so each reply follows from the history so far.
-use Rattle.std.proofs.Common.{◌≡◌, ℕ, ◌<◌, Bool, true, List, [], ◌∷◌, ◌++◌, length, refl, sym, ap, ◌∙◌, subst, arith, lit<}
+use Rattle.std.proofs.Common.{◌≡◌, ℕ, ◌<◌, Bool, true, false, List, [], ◌∷◌, ◌++◌, length, refl, sym, ap, ◌∙◌, subst, arith, lit<}
 use Rattle.std.specs.List.{Contains}
 use Rattle.std.proofs.lemmas.List.Elements.{Contains-append_right}
 use Rattle.arc_owners.specs.declared.owners.entry.Entry.{Entry}
 use Rattle.arc_owners.specs.declared.owners.entry.Entry.TheVariants.{Up, Full, Down}
-use Rattle.arc_owners.specs.declared.owners.word.Right.{Right}
-use Rattle.arc_owners.specs.declared.owners.word.Trace.{Trace}
-use Rattle.arc_owners.specs.Histories.{owners_ever, live_owners, MayFollow, LivesAlone}
-use Rattle.arc_owners.specs.Machine.{beginning}
-use Rattle.arc_owners.specs.Book.{Names, Line, entries_of, made_by, Adds, Written}
-use Rattle.arc_owners.specs.Traces.{SamePass, Wrote, RaisedIf, Ends}
-use Rattle.arc_owners.proofs.Book.Rolls.{entries-append, made-own}
+use Rattle.arc_owners.specs.declared.owners.tokens.Pass.{Pass}
+use Rattle.arc_owners.specs.Histories.{owners_ever, live_owners, LivesAlone}
+use Rattle.arc_owners.specs.Book.{Names, Line, entries_of, made_by, next_owner}
+use Rattle.arc_owners.specs.Passes.{Owner, IsFirst, IsFreshPass, Appends, MakesAnother, FindsFull, Leaves, HasCountIn, mine, seen}
+use Rattle.arc_owners.proofs.Wholes.{counted_first, seen-after, seen-more, mine-more, before-is, counted-still, may-stand, counted-makes, counted-full, full-exact, last-exact, made-number}
 
--- the pass has seen this history, and made all of it
-pub record Ran (p : Trace) (h : List Entry) : Type 0 where
-  pub entries : entries_of p.lines ≡ h
-  pub made : made_by p.number p.lines ≡ h
+-- the pass has seen this history of a block that has a count, and made all of it
+pub record Ran {H : Type 0} (t : Names) (p : Pass H) (h : List Entry) : Type 0 where
+  pub entries : seen p ≡ h
+  pub made : mine p ≡ h
+  pub counted : HasCountIn t (seen p)
 
-pub ran-none : (p : Trace) → p.lines ≡ [] → Ran p []
-ran-none p is = record { entries = ap entries_of is; made = ap (made_by p.number) is }
+pub ran-none : {H : Type 0} {most : ℕ} {whole : Bool} {o : Owner} {p : Pass H} → IsFirst most whole o → IsFreshPass o p → Ran o.block p []
+ran-none {o = o} {p = p} first fresh = record {
+  entries = ap entries_of fresh.1;
+  made = ap (made_by p.trace.number) fresh.1;
+  counted = counted_first p first fresh;
+}
 
--- one call of a pass alone writes right after what that had seen
-pub written-next : (t : Names) (p : ℕ) (seen : List Line) (e : Entry) (ls : List Line) → t.whole ≡ true → Written t p seen e ls → ls ≡ seen ++ (p, e) ∷ []
-written-next t p seen e ls whole w = w.1.1 ∙ ap (λ (b : List Line). b ++ (p, e) ∷ []) (sym (w.1.0.undisturbed whole))
+whole-at : {t : Names} (o : Owner) → t.whole ≡ true → o.block ≡ t → o.block.whole ≡ true
+whole-at o whole at = ap (λ (b : Names). b.whole) at ∙ whole
 
--- and its entry may follow the history so far
-pub may-next : (t : Names) (p : ℕ) (seen : List Line) (e : Entry) (ls : List Line) (h : List Entry) → t.whole ≡ true → Written t p seen e ls → entries_of seen ≡ h → MayFollow t.most t.began h e
-may-next t p seen e ls h whole w is =
-    subst (λ (b : List Entry). MayFollow t.most t.began b e) (ap entries_of (sym (w.1.0.undisturbed whole)) ∙ is) w.1.0.may
+counted-at : {H : Type 0} {t : Names} {p : Pass H} {h : List Entry} (o : Owner) → Ran t p h → o.block ≡ t → HasCountIn o.block (seen p)
+counted-at {p = p} o ran at = subst (λ (b : Names). HasCountIn b (seen p)) (sym at) ran.counted
 
-module _ (t : Names) (whole : t.whole ≡ true) (p r : Trace) (h : List Entry) (ran : Ran p h) where
+module _ {H : Type 0} {t : Names} (whole : t.whole ≡ true) {p q : Pass H} {h : List Entry} (ran : Ran t p h) where
   -- the history, and this entry
-  pub ran-more : (e : Entry) → SamePass t p r → Wrote t p r e → Ran r (h ++ e ∷ [])
-  ran-more e same w = let is : r.lines ≡ p.lines ++ (p.number, e) ∷ [] = written-next t p.number p.lines e r.lines whole w in record {
-    entries = ap entries_of is ∙ (entries-append p.lines p.number e ∙ ap (λ (es : List Entry). es ++ e ∷ []) ran.entries);
-    made = ap (λ (n : ℕ). made_by n r.lines) same.2 ∙ (ap (made_by p.number) is ∙ (made-own p.number p.lines e ∙ ap (λ (es : List Entry). es ++ e ∷ []) ran.made));
+  ran-more : {before : List Line} {e : Entry} → Appends t p q before (e ∷ []) → Ran t q (h ++ e ∷ [])
+  ran-more {e = e} a = record {
+    entries = seen-more a whole ∙ ap (λ (es : List Entry). es ++ e ∷ []) ran.entries;
+    made = mine-more a ∙ ap (λ (es : List Entry). es ++ e ∷ []) ran.made;
+    counted = counted-still a ran.counted;
   }
 
-  -- what stands before an entry of this pass is the history so far
-  here : (before : List Line) {e : Entry} → Adds t p.number p.lines before e → entries_of before ≡ h
-  here before adds = ap entries_of (sym (adds.undisturbed whole)) ∙ ran.entries
+  module _ {o : Owner} (at : o.block ≡ t) where
+    -- the history, and a new owner, whose number is how many there have been
+    pub made-one : {other : Owner} (n : ℕ) → length (owners_ever h) ≡ n → MakesAnother o p q other → (other.block ≡ t) × (other.number ≡ n)
+    made-one n is makes = (ap (λ (x : Owner). x.block) makes.made ∙ at, made-number (whole-at o whole at) makes ∙ (ap (λ (es : List Entry). length (owners_ever es)) ran.entries ∙ is))
 
-  may-more : (e : Entry) → Wrote t p r e → MayFollow t.most t.began h e
-  may-more e w = may-next t p.number p.lines e r.lines h whole w ran.entries
+    pub ran-up : {other : Owner} (m n : ℕ) → o.number ≡ m → length (owners_ever h) ≡ n → MakesAnother o p q other → Ran t q (h ++ Up m n ∷ [])
+    ran-up m n by is makes = let made = counted-makes (counted-at o ran at) makes in
+        subst (λ (k : ℕ × ℕ). Ran t q (h ++ Up k.0 k.1 ∷ [])) (λ i. (by i, (sym made.3 ∙ (made-one n is makes).1) i)) (ran-more (subst (λ (b : Names). Appends b p q made.0 (Up o.number (next_owner made.0) ∷ [])) at made.1))
 
-  -- the entry of a new owner
-  pub made-one : (by new : Right) (n : ℕ) → length (owners_ever h) ≡ n → RaisedIf t p r by new true → Wrote t p r (Up by.owner n) × (new.owner ≡ n)
-  made-one by new n is raised =
-      let before = raised.0.0 in let added = raised.0.1 in
-      let number : length (owners_ever (entries_of before)) ≡ n = ap (λ (es : List Entry). length (owners_ever es)) (here before added.0) ∙ is in
-      (subst (λ (k : ℕ). Wrote t p r (Up by.owner k)) number (before, added), raised.0.3 ∙ number)
+    -- the history, and a refusal
+    pub ran-full : (m : ℕ) → o.number ≡ m → FindsFull o p q → Ran t q (h ++ Full m ∷ [])
+    ran-full m by full = let found = counted-full (counted-at o ran at) full in
+        subst (λ (k : ℕ). Ran t q (h ++ Full k ∷ [])) by (ran-more (subst (λ (b : Names). Appends b p q found.0 (Full o.number ∷ [])) at found.1))
 
-  -- the history, and an end
-  pub ran-down : (o n : ℕ) (last : Bool) → o ≡ n → SamePass t p r → Ends t p r o last → Ran r (h ++ Down n ∷ [])
-  ran-down o n last is same e = subst (λ (k : ℕ). Ran r (h ++ Down k ∷ [])) is (ran-more (Down o) same (e.0, e.1))
+    -- the history, and an end
+    pub ran-down : (m : ℕ) {last : Bool} → o.number ≡ m → Leaves o p q last → Ran t q (h ++ Down m ∷ [])
+    ran-down m by leaves = subst (λ (k : ℕ). Ran t q (h ++ Down k ∷ [])) by (ran-more (subst (λ (b : Names). Appends b p q leaves.before (Down o.number ∷ [])) at leaves.added))
 
-  -- the history, and a refusal
-  pub ran-full : (o n : ℕ) → o ≡ n → SamePass t p r → Wrote t p r (Full o) → Ran r (h ++ Full n ∷ [])
-  ran-full o n is same w = subst (λ (k : ℕ). Ran r (h ++ Full k ∷ [])) is (ran-more (Full o) same w)
+    -- no owner is made where the count is at its greatest
+    pub no-up : {other : Owner} → t.most ≡ length (live_owners h) → MakesAnother o p q other → ⊥
+    no-up most makes = let made = counted-makes (counted-at o ran at) makes in
+        let below : length (live_owners (entries_of made.0)) < o.block.most = (may-stand made.1).3 in
+        let is : length (live_owners (entries_of made.0)) ≡ length (live_owners h) = ap (λ (es : List Entry). length (live_owners es)) (before-is made.1 (whole-at o whole at) ∙ ran.entries) in
+        absurd (omega (arith, ap (λ (b : Names). b.most) at))
 
-  -- the history, and a new owner, whose number is how many there have been
-  pub ran-up : (by new : Right) (o n : ℕ) → by.owner ≡ o → length (owners_ever h) ≡ n → SamePass t p r → RaisedIf t p r by new true → Ran r (h ++ Up o n ∷ [])
-  ran-up by new o n by_is is same raised = subst (λ (k : ℕ). Ran r (h ++ Up k n ∷ [])) by_is (ran-more (Up by.owner n) same (made-one by new n is raised).0)
+    -- nor is one refused below that
+    pub no-full : (most : ℕ) → t.most ≡ most → length (live_owners h) < most → FindsFull o p q → ⊥
+    no-full most is below full =
+        absurd (omega (arith, ap (λ (b : Names). b.most) at, full-exact (whole-at o whole at) full, ap (λ (es : List Entry). length (live_owners es)) ran.entries))
 
-  -- no owner is made where the count is at its greatest
-  pub no-up : (by new : Right) → t.most ≡ length (live_owners h) → RaisedIf t p r by new true → ⊥
-  no-up by new full raised = let below : length (live_owners h) < t.most = (may-more (Up by.owner (length (owners_ever h))) (made-one by new (length (owners_ever h)) refl raised).0).3 in absurd (omega arith)
-
-  -- nor is one refused below that
-  pub no-full : (o most : ℕ) → t.most ≡ most → length (live_owners h) < most → Wrote t p r (Full o) → ⊥
-  no-full o most is below w = let full : length (live_owners h) ≡ t.most = (may-more (Full o) w).2 in absurd (omega arith)
-
-  -- an end is not that of the last owner where others live
-  pub not-last : (o : ℕ) → 1 < length (live_owners h) → Ends t p r o true → ⊥
-  not-last o others e = let alone : LivesAlone o h = subst (λ (es : List Entry). LivesAlone o es) (here e.0 e.1.0) (e.2.0 refl) in absurd (omega (arith, ap length alone))
+    -- an end is not that of the last owner where others live
+    pub not-last : 1 < length (live_owners h) → Leaves o p q true → ⊥
+    not-last others leaves = let alone : LivesAlone o.number (seen p) = (last-exact (whole-at o whole at) leaves).0 refl in
+        absurd (omega (arith, ap length alone, ap (λ (es : List Entry). length (live_owners es)) ran.entries))
 
 -- under either mark an end stands in what its pass has seen since
-pub ended-in : (t : Names) (p r : Trace) (o : ℕ) (last : Bool) → Ends t p r o last → Contains (entries_of r.lines) (Down o)
-ended-in t p r o last e =
-    subst (λ (es : List Entry). Contains es (Down o)) (sym (ap entries_of e.1.1 ∙ entries-append e.0 p.number (Down o)))
-    (Contains-append_right (entries_of e.0) (Down o ∷ []) (Down o) (0, lit< tt, refl))
+pub ended-in : {H : Type 0} {o : Owner} {p r : Pass H} {last : Bool} → Leaves o p r last → Contains (seen r) (Down o.number)
+ended-in {o = o} leaves =
+    subst (λ (es : List Entry). Contains es (Down o.number)) (sym (seen-after leaves.added))
+    (Contains-append_right (entries_of leaves.before) (Down o.number ∷ []) (Down o.number) (0, lit< tt, refl))

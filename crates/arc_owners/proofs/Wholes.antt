@@ -1,17 +1,19 @@
 -- What a call's record says of the history before it, where the word has a count; what a pass has seen under `Whole`, where nothing
 -- comes between two calls of the one pass; and who lives then.
 use Rattle.std.proofs.Common.{inl, inr, ◌≡◌, ℕ, ◌≤◌, Bool, true, false, List, [], ◌∷◌, ◌++◌, length, Some, None, refl, sym, ap, ◌∙◌, subst, append-nil, append_assoc, eqb}
-use Rattle.std.specs.Prelude.{IsTrue, ◌↔◌, map}
+use Rattle.std.specs.Prelude.{IsTrue, ◌↔◌, map, IfOk, IfErr, Result, Ok, Err}
 use Rattle.std.specs.List.{cons_option}
 use Rattle.std.proofs.lemmas.Bool.{cases_Bool, eq-eqb, false≢true}
 use mathlib.Core.List.{IsPrefix}
 use Rattle.arc_owners.specs.declared.owners.entry.Entry.{Entry}
 use Rattle.arc_owners.specs.declared.owners.entry.Entry.TheVariants.{Up, Full, Down, Alone, Promote, Joined}
+use Rattle.arc_owners.specs.declared.mark.Mark.{Ghosts}
 use Rattle.arc_owners.specs.declared.owners.tokens.Pass.{Pass}
+use Rattle.arc_owners.specs.declared.owners.tokens.Share.{Share}
 use Rattle.arc_owners.specs.Book.{Names, Line, entries_of, made_by, next_owner}
 use Rattle.arc_owners.specs.Histories.{Beginning, LivesAlone, NeverLived, owner_made, owner_ended, owners_ever, live_owners, is_counted, is_in, MayFollow}
 use Rattle.arc_owners.specs.Machine.{without_number}
-use Rattle.arc_owners.specs.Passes.{Owner, Appends, Asks, MayJoin, MakesAnother, FindsFull, Leaves, HasCountIn, IsSamePass, making, reading, mine, seen}
+use Rattle.arc_owners.specs.Passes.{Owner, Appends, Asks, MayJoin, MakesAnother, FindsFull, Leaves, HasCountIn, IsFirst, IsFreshPass, IsPassOf, IsNewPass, IsSamePass, owner_of, making, reading, mine, seen}
 use Rattle.arc_owners.proofs.Legality.{legal-at, legal-front}
 use Rattle.arc_owners.proofs.Owned.{live-same, live-ended, ever-append}
 use Rattle.arc_owners.proofs.Steps.{counted-more}
@@ -117,6 +119,60 @@ module _ {H : Type 0} {o : Owner} {old new : Pass H} where
 
   pub same-full : FindsFull o old new → IsSamePass o.block old new
   same-full full = same-after o new full.joined full.added.same
+
+-- a pass that knew before a call that the word has a count knows it after the call
+module _ {H : Type 0} {o : Owner} {old new : Pass H} (c : HasCountIn o.block (seen old)) where
+  pub still-asked : {found : Bool} → Asks o old new found → HasCountIn o.block (seen new)
+  still-asked asks = counted-still asks.added c
+
+  pub still-left : {last : Bool} → Leaves o old new last → HasCountIn o.block (seen new)
+  still-left leaves = counted-still leaves.added c
+
+  pub still-made : {other : Owner} → MakesAnother o old new other → HasCountIn o.block (seen new)
+  still-made makes = counted-still (counted-makes c makes).1 c
+
+  pub still-full : FindsFull o old new → HasCountIn o.block (seen new)
+  still-full full = counted-still (counted-full c full).1 c
+
+-- a pass of this block, which knows that the word has a count
+abbrev pub KnowsCount : {H : Type 0} → Names → Pass H → Type 0
+KnowsCount t p = IsPassOf t p × HasCountIn t (seen p)
+
+module _ {H : Type 0} {o : Owner} {t : Names} {old new : Pass H} (at : o.block ≡ t) (k : KnowsCount t old) where
+  pub knows-made : {other : Owner} → MakesAnother o old new other → KnowsCount t new × (other.block ≡ t)
+  knows-made {other = other} makes =
+      (subst (λ (b : Names). KnowsCount b old → KnowsCount b new) at (λ (j : KnowsCount o.block old). ((same-made makes).0, still-made j.1 makes)) k, ap (λ (x : Owner). x.block) makes.made ∙ at)
+
+  pub knows-full : FindsFull o old new → KnowsCount t new
+  knows-full full = subst (λ (b : Names). KnowsCount b old → KnowsCount b new) at (λ (j : KnowsCount o.block old). ((same-full full).0, still-full j.1 full)) k
+
+  pub knows-left : {last : Bool} → Leaves o old new last → KnowsCount t new
+  knows-left leaves = subst (λ (b : Names). KnowsCount b old → KnowsCount b new) at (λ (j : KnowsCount o.block old). ((same-left leaves).0, still-left j.1 leaves)) k
+
+  pub knows-asked : {found : Bool} → Asks o old new found → KnowsCount t new
+  knows-asked asks = subst (λ (b : Names). KnowsCount b old → KnowsCount b new) at (λ (j : KnowsCount o.block old). ((same-asked asks).0, still-asked j.1 asks)) k
+
+-- a call that tried to make an owner
+pub knows-tried : {H E : Type 0} {G : Ghosts H} {t : Names} (o : Owner) (old new : Pass H) → o.block ≡ t → KnowsCount t old → (r : Result (Share H G) E)
+    → IfOk r (λ s. MakesAnother o old new (owner_of s)) → IfErr r (λ _. FindsFull o old new) → KnowsCount t new
+knows-tried o old new at k (Ok s) made full = (knows-made at k made).0
+knows-tried o old new at k (Err e) made full = knows-full at k full
+
+-- a new pass knows it where the owner was made on such a word
+pub counted-new : {H : Type 0} (o : Owner) (p : Pass H) → HasCountIn o.block (entries_of o.born) → IsNewPass o p → HasCountIn o.block (seen p)
+counted-new o p c new =
+    subst (λ (h : List Entry). is_counted o.block.began h ≡ true) (sym (entries-after o.born new.1.0) ∙ ap entries_of new.1.1)
+    (counted-after o.block.began (entries_of o.born) (entries_of new.1.0) c)
+
+-- so do the first pass of a block that began with a count, and each new one
+pub counted_first : {H : Type 0} {most : ℕ} {whole : Bool} {o : Owner} (p : Pass H) → IsFirst most whole o → IsFreshPass o p → HasCountIn o.block (seen p)
+counted_first {o = o} p first fresh = subst (λ (ls : List Line). HasCountIn o.block (entries_of ls)) (sym fresh.1) first.counted
+
+pub knows-first : {H : Type 0} {most : ℕ} {whole : Bool} {o : Owner} {t : Names} (p : Pass H) → IsFirst most whole o → IsFreshPass o p → o.block ≡ t → KnowsCount t p
+knows-first p first fresh at = ((fresh.0.0, fresh.0.1 ∙ at), subst (λ (b : Names). HasCountIn b (seen p)) at (counted_first p first fresh))
+
+pub counted_forked : {H : Type 0} {most : ℕ} {whole : Bool} {o : Owner} (p : Pass H) → IsFirst most whole o → IsNewPass o p → HasCountIn o.block (seen p)
+counted_forked {o = o} p first new = counted-new o p (subst (λ (ls : List Line). HasCountIn o.block (entries_of ls)) (sym first.born) first.counted) new
 
 -- an entry by which an owner is made
 making-made : (c : Bool) (by new : ℕ) → owner_made (making c by new) ≡ Some new

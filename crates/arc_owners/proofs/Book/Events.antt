@@ -108,8 +108,7 @@ module _ (most : ℕ) (began : Beginning) (h : List Entry) (legal : IsLegal most
   unfolding is_fresh
   one-won by new may m thread t ready = let e = Promote by new in let owned : Owned h = legal-owned most began h legal in
       let more : live_owners (h ++ e ∷ []) ≡ live_owners h ++ new ∷ [] = grown h e new refl refl may.1 owned in
-      let alone : m.live ≡ by ∷ [] = t.live ∙ may.0 in let at : is_in by m.live ≡ true = ap (is_in by) alone ∙ in_alone by in let lone : m.counted ≡ false = t.counted ∙ may.2 in
-      (
+      let alone : m.live ≡ by ∷ [] = t.live ∙ may.0 in let at : is_in by m.live ≡ true = ap (is_in by) alone ∙ in_alone by in let lone : m.counted ≡ false = t.counted ∙ may.2 in (
         ExchangeWon thread by new,
         refl,
         rw (at, lone, ready refl, fresh most began h legal m new t may.1) refl,

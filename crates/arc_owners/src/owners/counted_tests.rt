@@ -1,11 +1,9 @@
 //! Owners whose word began with a count: the replies at the greatest count, and two threads.
-ghost use Rattle.std.specs.Prelude.{◌≡◌, List, [], ◌∷◌, IsTrue, ◌↔◌};
+ghost use Rattle.std.specs.Prelude.{◌≡◌, [], ◌∷◌};
 ghost use Rattle.std.specs.List.{Contains};
 ghost use mathlib.Core.List.{IsPrefix};
-ghost use Rattle.arc_owners.specs.declared.owners.entry.Entry.TheVariants.{Up, Full, Down, Alone};
-ghost use Rattle.arc_owners.specs.Histories.{LivesAlone};
-ghost use Rattle.arc_owners.specs.Book.{Line, entries_of};
-ghost use Rattle.arc_owners.specs.Passes.{block_of, number_of, seen, mine, history_of, IsOwnerOf, IsPassOf, IsSamePass, AddsAfter};
+ghost use Rattle.arc_owners.specs.declared.owners.entry.Entry.TheVariants.{Up, Full, Down};
+ghost use Rattle.arc_owners.specs.Passes.{block_of, owner_of, seen, mine, history_of, IsOwnerOf, IsPassOf, IsSamePass, HasCountIn, Asks};
 
 use super::{Owners, Pass, Release, Share};
 use crate::error::CountFull;
@@ -76,7 +74,8 @@ fn thousand<R: Wait>(
     first: &Share<Open>,
     pass: Pass<Open>,
 ) -> (u32, Pass<Open>)
-    requires { IsOwnerOf (block_of owners.now) first.now × IsPassOf (block_of owners.now) pass }
+    requires of { IsOwnerOf (block_of owners.now) first.now × IsPassOf (block_of owners.now) pass }
+    requires counted { HasCountIn (block_of owners.now) (seen pass) }
     ensures { IsPassOf (block_of owners.now) result.1 }
 {
     let mut pass = pass;
@@ -97,11 +96,13 @@ fn alone_after_two<R: Threads + Wait + Sync>(rt: &R) -> (u32, u32, bool) {
     let ((ones, mut one), (twos, two)) = join(
         rt,
         || -> (u32, Pass<Open>)
-            requires { IsOwnerOf (block_of owners) first × IsPassOf (block_of owners) one }
+            requires of { IsOwnerOf (block_of owners) first × IsPassOf (block_of owners) one }
+            requires counted { HasCountIn (block_of owners) (seen one) }
             ensures { IsPassOf (block_of owners) result.1 }
         { thousand(rt, &owners, &first, one) },
         || -> (u32, Pass<Open>)
-            requires { IsOwnerOf (block_of owners) first × IsPassOf (block_of owners) two }
+            requires of { IsOwnerOf (block_of owners) first × IsPassOf (block_of owners) two }
+            requires counted { HasCountIn (block_of owners) (seen two) }
             ensures { IsPassOf (block_of owners) result.1 }
         { thousand(rt, &owners, &first, two) },
     );
@@ -132,7 +133,7 @@ fn ended(owners: &Owners<8, Open>, share: Share<Open>, pass: Pass<Open>) -> Pass
     requires share { IsOwnerOf (block_of owners.now) share }
     requires pass { IsPassOf (block_of owners.now) pass }
     ensures same { IsSamePass (block_of owners.now) pass result }
-    ensures ended { Contains (seen result) (Down (number_of share)) }
+    ensures ended { Contains (seen result) (Down (owner_of share).number) }
 {
     let mut pass = pass;
     owners.down_as(share, &mut pass);
@@ -163,14 +164,14 @@ fn alone_after_end<R: Threads>(
     requires shares { IsOwnerOf (block_of owners.now) first.now × IsOwnerOf (block_of owners.now) second }
     requires passes { IsPassOf (block_of owners.now) own × IsPassOf (block_of owners.now) other }
     ensures same { IsSamePass (block_of owners.now) own result.1 × IsSamePass (block_of owners.now) other result.2 }
-    ensures ended { Contains (seen result.2) (Down (number_of second)) }
-    ensures asked { (before : List Line) × IsPrefix (history_of result.2) before × AddsAfter own result.1 before (Alone (number_of first.now) result.0) × (IsTrue result.0 ↔ LivesAlone (number_of first.now) (entries_of before)) }
+    ensures ended { Contains (seen result.2) (Down (owner_of second).number) }
+    ensures asked { (learnt : Pass Open) × IsPrefix (history_of result.2) (history_of learnt) × Asks (owner_of first.now) learnt result.1 result.0 }
 {
     let (other, mut own) = join(
         rt,
         || -> Pass<Open>
             requires { IsOwnerOf (block_of owners.now) second × IsPassOf (block_of owners.now) other }
-            ensures { IsSamePass (block_of owners.entry.now) other result × Contains (seen result) (Down (number_of second)) }
+            ensures { IsSamePass (block_of owners.entry.now) other result × Contains (seen result) (Down (owner_of second).number) }
         { ended(owners, second, other) },
         || -> Pass<Open>
             requires { IsOwnerOf (block_of owners.now) first.now × IsPassOf (block_of owners.now) own }

@@ -1,6 +1,7 @@
 //! A value in memory of its own: who gets it back, and that its memory is given back once.
 ghost use Rattle.std.specs.Prelude.{◌≡◌};
-ghost use Rattle.arc_owners.specs.Pieces.{owner_of, value_of, IsPassFor};
+ghost use Rattle.arc_owners.specs.Passes.{IsPassFor};
+ghost use Rattle.arc_owners.specs.Pieces.{owner_in, value_of};
 
 use super::piece::Piece;
 use super::tokens::Pass;
@@ -164,7 +165,7 @@ fn released_by_two_threads(rt: HostRuntime) -> Result<(), Fail> {
 
 /// Ends an owner with a pass of its own, and hands that back.
 fn ended(piece: Piece<u64, Global, 3, Open>) -> Pass<Open>
-    ensures { IsPassFor (owner_of piece) result }
+    ensures { IsPassFor (owner_in piece) result }
 {
     let mut pass = piece.pass();
     piece.release_as(&mut pass);
@@ -178,13 +179,13 @@ fn read_by_two<R: Threads>(
     second: Piece<u64, Global, 3, Open>,
 ) -> (u64, u64, Pass<Open>)
     ensures values { (result.0 ≡ value_of first.now) × (result.1 ≡ value_of first.now) }
-    ensures pass { IsPassFor (owner_of second) result.2 }
+    ensures pass { IsPassFor (owner_in second) result.2 }
 {
     let (one, (two, pass)) = join(
         rt,
         || *first.get(),
         || -> (u64, Pass<Open>)
-            ensures { (result.0 ≡ value_of first.entry.now) × IsPassFor (owner_of second) result.1 }
+            ensures { (result.0 ≡ value_of first.entry.now) × IsPassFor (owner_in second) result.1 }
         { (*first.get(), ended(second)) },
     );
     (one, two, pass)

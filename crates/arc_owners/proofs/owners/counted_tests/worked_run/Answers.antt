@@ -1,80 +1,110 @@
-use Rattle.std.proofs.Common.{◌≡◌, true, false, [], ◌∷◌, refl, lit<}
+use Rattle.std.proofs.Common.{◌≡◌, true, false, [], ◌∷◌, ◌∙◌, refl, subst, lit<}
 use Rattle.arc_owners.specs.declared.owners.entry.Entry.TheVariants.{Up, Full, Down}
-use Rattle.arc_owners.specs.declared.owners.word.Right.{Right}
-use Rattle.arc_owners.specs.declared.owners.word.Trace.{Trace}
+use Rattle.arc_owners.specs.declared.owners.tokens.Pass.{Pass}
 use Rattle.arc_owners.specs.Histories.{owners_ever, owners_ended, live_owners}
 use Rattle.arc_owners.specs.Book.{Names}
-use Rattle.arc_owners.specs.Traces.{SamePass, Wrote, RaisedIf, Ends}
+use Rattle.arc_owners.specs.Passes.{Owner, IsFirst, IsFreshPass, IsPassOf, HasCountIn, MakesAnother, FindsFull, Leaves, seen}
 use Rattle.arc_owners.proofs.Runs.{Ran, ran-none, made-one, ran-up, ran-full, ran-down, no-up, no-full, not-last}
+use Rattle.arc_owners.proofs.Wholes.{same-made, same-left}
 use Rattle.arc_owners.proofs.owners.counted_tests.worked_run.Goals as goal
 
 -- the history after each call of the run, all of them through the first owner but for the end
-module _ (t : Names) (whole : t.whole ≡ true) (by : Right) (first : by.owner ≡ 0) where
-  one : (p q : Trace) (a : Right) → p.lines ≡ [] → SamePass t p q → RaisedIf t p q by a true → Ran q (Up 0 1 ∷ [])
+module _ {H : Type 0} {o : Owner} (f : IsFirst 3 true o) where
+  one : {p q : Pass H} {a : Owner} → IsFreshPass o p → MakesAnother o p q a → Ran o.block q (Up 0 1 ∷ [])
   unfolding owners_ever
-  one p q a none same raised = ran-up t whole p q [] (ran-none p none) by a 0 1 first refl same raised
+  one fresh makes = ran-up f.whole (ran-none f fresh) refl 0 1 f.number refl makes
 
-  two : (p q : Trace) (b : Right) → Ran p (Up 0 1 ∷ []) → SamePass t p q → RaisedIf t p q by b true → Ran q (Up 0 1 ∷ Up 0 2 ∷ [])
+  two : {p q : Pass H} {b : Owner} → Ran o.block p (Up 0 1 ∷ []) → MakesAnother o p q b → Ran o.block q (Up 0 1 ∷ Up 0 2 ∷ [])
   unfolding owners_ever
-  two p q b ran same raised = ran-up t whole p q _ ran by b 0 2 first refl same raised
+  two ran makes = ran-up f.whole ran refl 0 2 f.number refl makes
 
-  three : (p q : Trace) → Ran p (Up 0 1 ∷ Up 0 2 ∷ []) → SamePass t p q → Wrote t p q (Full by.owner) → Ran q (Up 0 1 ∷ Up 0 2 ∷ Full 0 ∷ [])
-  three p q ran same w = ran-full t whole p q _ ran by.owner 0 first same w
+  three : {p q : Pass H} → Ran o.block p (Up 0 1 ∷ Up 0 2 ∷ []) → FindsFull o p q → Ran o.block q (Up 0 1 ∷ Up 0 2 ∷ Full 0 ∷ [])
+  three ran full = ran-full f.whole ran refl 0 f.number full
 
-  four : (p q r s : Trace) (b : Right) → Ran p (Up 0 1 ∷ []) → RaisedIf t p q by b true → Ran r (Up 0 1 ∷ Up 0 2 ∷ Full 0 ∷ []) → SamePass t r s → Ends t r s b.owner false → Ran s (Up 0 1 ∷ Up 0 2 ∷ Full 0 ∷ Down 2 ∷ [])
+  four : {p q r s : Pass H} {b : Owner} → Ran o.block p (Up 0 1 ∷ []) → MakesAnother o p q b → Ran o.block r (Up 0 1 ∷ Up 0 2 ∷ Full 0 ∷ []) → Leaves b r s false
+      → Ran o.block s (Up 0 1 ∷ Up 0 2 ∷ Full 0 ∷ Down 2 ∷ [])
   unfolding owners_ever
-  four p q r s b before raised ran same e = ran-down t whole r s _ ran b.owner 2 false (made-one t whole p q _ before by b 2 refl raised).1 same e
+  four before makes ran leaves = let made = made-one f.whole before refl 2 refl makes in ran-down f.whole ran made.0 2 made.1 leaves
 
-  five : (p q : Trace) (d : Right) → Ran p (Up 0 1 ∷ Up 0 2 ∷ Full 0 ∷ Down 2 ∷ []) → SamePass t p q → RaisedIf t p q by d true → Ran q (Up 0 1 ∷ Up 0 2 ∷ Full 0 ∷ Down 2 ∷ Up 0 3 ∷ [])
+  five : {p q : Pass H} {d : Owner} → Ran o.block p (Up 0 1 ∷ Up 0 2 ∷ Full 0 ∷ Down 2 ∷ []) → MakesAnother o p q d → Ran o.block q (Up 0 1 ∷ Up 0 2 ∷ Full 0 ∷ Down 2 ∷ Up 0 3 ∷ [])
   unfolding owners_ever
-  five p q d ran same raised = ran-up t whole p q _ ran by d 0 3 first refl same raised
+  five ran makes = ran-up f.whole ran refl 0 3 f.number refl makes
+
+-- the pass is of the count's block, and knows that it has a count
+known : {H : Type 0} (p : Pass H) {t u : Names} → IsPassOf t p → t ≡ u → HasCountIn t (seen p) → IsPassOf u p × HasCountIn u (seen p)
+known p of same counted = ((of.0, of.1 ∙ same), subst (λ (b : Names). HasCountIn b (seen p)) same counted)
+
+pub up_as-requires-2 : goal.up_as-requires-2
+up_as-requires-2 g c =
+    let f = c.new-owners.ensures.first in
+    let r1 = one f c.new-owners.ensures.pass c.in-Ok.ensures.made in
+    (lit< tt, (c.new-owners.ensures.share, known c.up_as.new.pass (same-made c.in-Ok.ensures.made).0 c.new-owners.ensures.share r1.counted))
+
+pub up_as-requires-3 : goal.up_as-requires-3
+up_as-requires-3 g c =
+    let f = c.new-owners.ensures.first in
+    let r1 = one f c.new-owners.ensures.pass c.in-Ok.ensures.made in
+    let r2 = two f r1 c.in-Ok-up_as.ensures.made in
+    (lit< tt, (c.new-owners.ensures.share, known c.up_as-2.new.pass (same-made c.in-Ok-up_as.ensures.made).0 c.new-owners.ensures.share r2.counted))
+
+pub up_as-requires-4 : goal.up_as-requires-4
+unfolding owners_ever
+up_as-requires-4 g c =
+    let f = c.new-owners.ensures.first in
+    let r1 = one f c.new-owners.ensures.pass c.in-Ok.ensures.made in
+    let r2 = two f r1 c.in-Ok-up_as.ensures.made in
+    let r3 = three f r2 c.in-Err.ensures.full in
+    let r4 = four f r1 c.in-Ok-up_as.ensures.made r3 c.in-NotLast.ensures.entry in
+    let gone = (same-left c.in-NotLast.ensures.entry).0 in
+    let made = made-one f.whole r1 refl 2 refl c.in-Ok-up_as.ensures.made in
+    (lit< tt, (c.new-owners.ensures.share, known c.down_as.new.pass (gone.0, gone.1 ∙ made.0) c.new-owners.ensures.share r4.counted))
 
 pub unreachable-requires : goal.unreachable-requires
 unfolding live_owners owners_ever owners_ended
 unreachable-requires g c =
-    let t = c.new-owners.result.0.word in let whole : t.whole ≡ true = c.new-owners.result.0.marked in let by = c.new-owners.result.1.right in let first = c.new-owners.ensures.share.1 in
-    no-full t whole c.new-owners.result.2.trace c.up_as.new.pass.trace _ (ran-none c.new-owners.result.2.trace c.new-owners.ensures.pass.1) by.owner 3 c.new-owners.ensures.most (lit< tt) c.in_default.ensures.full
+    let f = c.new-owners.ensures.first in
+    no-full f.whole (ran-none f c.new-owners.ensures.pass) refl 3 f.most (lit< tt) c.in_default.ensures.full
 
 pub unreachable-requires-in_default-up_as : goal.unreachable-requires-in_default-up_as
 unfolding live_owners owners_ever owners_ended
 unreachable-requires-in_default-up_as g c =
-    let t = c.new-owners.result.0.word in let whole : t.whole ≡ true = c.new-owners.result.0.marked in let by = c.new-owners.result.1.right in let first = c.new-owners.ensures.share.1 in
-    let r1 = one t whole by first c.new-owners.result.2.trace c.up_as.new.pass.trace c.in-Ok._second.right c.new-owners.ensures.pass.1 c.up_as.ensures.same c.in-Ok.ensures.made in
-    no-full t whole c.up_as.new.pass.trace c.up_as-2.new.pass.trace _ r1 by.owner 3 c.new-owners.ensures.most (lit< tt) c.in_default-up_as.ensures.full
+    let f = c.new-owners.ensures.first in
+    let r1 = one f c.new-owners.ensures.pass c.in-Ok.ensures.made in
+    no-full f.whole r1 refl 3 f.most (lit< tt) c.in_default-up_as.ensures.full
 
 pub unreachable-requires-in_default-up_as-2 : goal.unreachable-requires-in_default-up_as-2
 unfolding live_owners owners_ever owners_ended
 unreachable-requires-in_default-up_as-2 g c =
-    let t = c.new-owners.result.0.word in let whole : t.whole ≡ true = c.new-owners.result.0.marked in let by = c.new-owners.result.1.right in let first = c.new-owners.ensures.share.1 in
-    let r1 = one t whole by first c.new-owners.result.2.trace c.up_as.new.pass.trace c.in-Ok._second.right c.new-owners.ensures.pass.1 c.up_as.ensures.same c.in-Ok.ensures.made in
-    let r2 = two t whole by first c.up_as.new.pass.trace c.up_as-2.new.pass.trace c.in-Ok-up_as.third.right r1 c.up_as-2.ensures.same c.in-Ok-up_as.ensures.made in
-    no-up t whole c.up_as-2.new.pass.trace c.up_as-3.new.pass.trace _ r2 by c.in_default-up_as-2.field-0.right c.new-owners.ensures.most c.in_default-up_as-2.ensures.made
+    let f = c.new-owners.ensures.first in
+    let r1 = one f c.new-owners.ensures.pass c.in-Ok.ensures.made in
+    let r2 = two f r1 c.in-Ok-up_as.ensures.made in
+    no-up f.whole r2 refl f.most c.in_default-up_as-2.ensures.made
 
 pub unreachable-requires-in_default-down_as : goal.unreachable-requires-in_default-down_as
 unfolding live_owners owners_ever owners_ended
 unreachable-requires-in_default-down_as g c =
-    let t = c.new-owners.result.0.word in let whole : t.whole ≡ true = c.new-owners.result.0.marked in let by = c.new-owners.result.1.right in let first = c.new-owners.ensures.share.1 in
-    let r1 = one t whole by first c.new-owners.result.2.trace c.up_as.new.pass.trace c.in-Ok._second.right c.new-owners.ensures.pass.1 c.up_as.ensures.same c.in-Ok.ensures.made in
-    let r2 = two t whole by first c.up_as.new.pass.trace c.up_as-2.new.pass.trace c.in-Ok-up_as.third.right r1 c.up_as-2.ensures.same c.in-Ok-up_as.ensures.made in
-    let r3 = three t whole by first c.up_as-2.new.pass.trace c.up_as-3.new.pass.trace r2 c.up_as-3.ensures.same c.in-Err.ensures.full in
-    not-last t whole c.up_as-3.new.pass.trace c.down_as.new.pass.trace _ r3 c.in-Ok-up_as.third.right.owner (lit< tt) c.in_default-down_as.ensures.entry
+    let f = c.new-owners.ensures.first in
+    let r1 = one f c.new-owners.ensures.pass c.in-Ok.ensures.made in
+    let r2 = two f r1 c.in-Ok-up_as.ensures.made in
+    let r3 = three f r2 c.in-Err.ensures.full in
+    not-last f.whole r3 (made-one f.whole r1 refl 2 refl c.in-Ok-up_as.ensures.made).0 (lit< tt) c.in_default-down_as.ensures.entry
 
 pub unreachable-requires-in_default-up_as-3 : goal.unreachable-requires-in_default-up_as-3
 unfolding live_owners owners_ever owners_ended
 unreachable-requires-in_default-up_as-3 g c =
-    let t = c.new-owners.result.0.word in let whole : t.whole ≡ true = c.new-owners.result.0.marked in let by = c.new-owners.result.1.right in let first = c.new-owners.ensures.share.1 in
-    let r1 = one t whole by first c.new-owners.result.2.trace c.up_as.new.pass.trace c.in-Ok._second.right c.new-owners.ensures.pass.1 c.up_as.ensures.same c.in-Ok.ensures.made in
-    let r2 = two t whole by first c.up_as.new.pass.trace c.up_as-2.new.pass.trace c.in-Ok-up_as.third.right r1 c.up_as-2.ensures.same c.in-Ok-up_as.ensures.made in
-    let r3 = three t whole by first c.up_as-2.new.pass.trace c.up_as-3.new.pass.trace r2 c.up_as-3.ensures.same c.in-Err.ensures.full in
-    let r4 = four t whole by first c.up_as.new.pass.trace c.up_as-2.new.pass.trace c.up_as-3.new.pass.trace c.down_as.new.pass.trace c.in-Ok-up_as.third.right r1 c.in-Ok-up_as.ensures.made r3 c.down_as.ensures.same c.in-NotLast.ensures.entry in
-    no-full t whole c.down_as.new.pass.trace c.up_as-4.new.pass.trace _ r4 by.owner 3 c.new-owners.ensures.most (lit< tt) c.in_default-up_as-3.ensures.full
+    let f = c.new-owners.ensures.first in
+    let r1 = one f c.new-owners.ensures.pass c.in-Ok.ensures.made in
+    let r2 = two f r1 c.in-Ok-up_as.ensures.made in
+    let r3 = three f r2 c.in-Err.ensures.full in
+    let r4 = four f r1 c.in-Ok-up_as.ensures.made r3 c.in-NotLast.ensures.entry in
+    no-full f.whole r4 refl 3 f.most (lit< tt) c.in_default-up_as-3.ensures.full
 
 pub returns : goal.returns
 returns g c =
-    let t = c.new-owners.result.0.word in let whole : t.whole ≡ true = c.new-owners.result.0.marked in let by = c.new-owners.result.1.right in let first = c.new-owners.ensures.share.1 in
-    let r1 = one t whole by first c.new-owners.result.2.trace c.up_as.new.pass.trace c.in-Ok._second.right c.new-owners.ensures.pass.1 c.up_as.ensures.same c.in-Ok.ensures.made in
-    let r2 = two t whole by first c.up_as.new.pass.trace c.up_as-2.new.pass.trace c.in-Ok-up_as.third.right r1 c.up_as-2.ensures.same c.in-Ok-up_as.ensures.made in
-    let r3 = three t whole by first c.up_as-2.new.pass.trace c.up_as-3.new.pass.trace r2 c.up_as-3.ensures.same c.in-Err.ensures.full in
-    let r4 = four t whole by first c.up_as.new.pass.trace c.up_as-2.new.pass.trace c.up_as-3.new.pass.trace c.down_as.new.pass.trace c.in-Ok-up_as.third.right r1 c.in-Ok-up_as.ensures.made r3 c.down_as.ensures.same c.in-NotLast.ensures.entry in
-    let r5 = five t whole by first c.down_as.new.pass.trace c.up_as-4.new.pass.trace c.in-Ok-up_as-2._fourth.right r4 c.up_as-4.ensures.same c.in-Ok-up_as-2.ensures.made in
+    let f = c.new-owners.ensures.first in
+    let r1 = one f c.new-owners.ensures.pass c.in-Ok.ensures.made in
+    let r2 = two f r1 c.in-Ok-up_as.ensures.made in
+    let r3 = three f r2 c.in-Err.ensures.full in
+    let r4 = four f r1 c.in-Ok-up_as.ensures.made r3 c.in-NotLast.ensures.entry in
+    let r5 = five f r4 c.in-Ok-up_as-2.ensures.made in
     record { seen = r5.entries; made = r5.made }
