@@ -1,5 +1,6 @@
 -- Where every window has gone.
-use Rattle.std.proofs.Common.{◌≡◌, ℕ, zero, suc, List, [], ◌∷◌, ◌++◌, map, Option, Some, None, slice_get, refl, sym, ap, ◌∙◌, subst}
+use Rattle.std.proofs.Common.{◌≡◌, ℕ, zero, suc, List, [], ◌∷◌, map, Option, Some, None, slice_get}
+use Rattle.std.proofs.Common.{refl, sym, ap, ◌∙◌}
 use Rattle.std.specs.Option.{option_map, option_flatten}
 use Rattle.std.proofs.lemmas.Option.{slice_get-map}
 use Rattle.arc_owners.specs.declared.owners.tokens.Pass.{Pass}
@@ -11,38 +12,31 @@ use Rattle.arcs.specs.declared.entry.Entry.{Entry}
 abbrev pub AllGone : {X : Type 0} → List (Option X) → Type 0
 AllGone xs = (i : ℕ) → option_flatten (slice_get xs i) ≡ None
 
-front : {X : Type 0} (xs : List (Option X)) (x : Option X) → AllGone (xs ++ x ∷ []) → AllGone xs
-front [] x gone i = refl
-front (y ∷ ys) x gone zero = gone zero
-front (y ∷ ys) x gone (suc i) = front ys x (λ j. gone (suc j)) i
-
-last : {X : Type 0} (xs : List (Option X)) (x : Option X) → AllGone (xs ++ x ∷ []) → x ≡ None
-last [] x gone = gone zero
-last (y ∷ ys) x gone = last ys x (λ j. gone (suc j))
-
--- without their last
-pub front-gone : {X : Type 0} (all xs : List (Option X)) (x : Option X) → all ≡ xs ++ x ∷ [] → AllGone all → AllGone xs
-front-gone all xs x parts gone = front xs x (subst AllGone parts gone)
-
-pub last-gone : {X : Type 0} (all xs : List (Option X)) (x : Option X) → all ≡ xs ++ x ∷ [] → AllGone all → x ≡ None
-last-gone all xs x parts gone = last xs x (subst AllGone parts gone)
-
 module _ {A : Type 0} where
-  no_row : (x : Option (Option (Entry A))) → option_flatten (option_map (option_map row_of) x) ≡ None → option_flatten x ≡ None
+  no_row : (x : Option (Option (Entry A)))
+      → option_flatten (option_map (option_map row_of) x) ≡ None → option_flatten x ≡ None
   no_row None none = refl
   no_row (Some None) none = refl
   no_row (Some (Some e)) none = cc
 
   -- where no row is left, no entry has a window
-  pub entries-gone : (entries : List (Option (Entry A))) → ((i : ℕ) → option_flatten (slice_get (map (option_map row_of) entries) i) ≡ None) → AllGone entries
-  entries-gone entries gone i = no_row (slice_get entries i) (ap option_flatten (sym (slice_get-map (option_map row_of) entries i)) ∙ gone i)
+  pub entries-gone : (entries : List (Option (Entry A)))
+      → AllGone (map (option_map row_of) entries) → AllGone entries
+  entries-gone entries gone i =
+      let row = slice_get-map (option_map row_of) entries i in
+      no_row (slice_get entries i) (ap option_flatten (sym row) ∙ gone i)
 
-  none_on : (entries : List (Option (Entry A))) → AllGone entries → (n : ℕ) → owners_on n (stands_of entries) ≡ []
+  none_on : (entries : List (Option (Entry A)))
+      → AllGone entries → (n : ℕ) → owners_on n (stands_of entries) ≡ []
   none_on [] gone n = refl
-  none_on (x ∷ xs) gone n = ap (λ y. owners_on n (stand_of y ∷ stands_of xs)) (gone zero) ∙ none_on xs (λ i. gone (suc i)) n
+  none_on (x ∷ xs) gone n =
+      ap (λ y. owners_on n (stand_of y ∷ stands_of xs)) (gone zero)
+      ∙ none_on xs (λ i. gone (suc i)) n
 
   -- and no block has a live owner
-  pub kept-gone-all : {H : Type 0} (most : ℕ) (entries : List (Option (Entry A))) (passes : List (Pass H)) → IsKept most (stands_of entries) passes → AllGone entries → IsKept most [] passes
+  pub kept-gone-all : {H : Type 0} (most : ℕ) (entries : List (Option (Entry A)))
+      (passes : List (Pass H))
+      → IsKept most (stands_of entries) passes → AllGone entries → IsKept most [] passes
   kept-gone-all most entries passes k gone = record {
     known = λ i n o at. cc;
     passes_fit = k.passes_fit;

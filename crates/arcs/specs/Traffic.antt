@@ -1,5 +1,6 @@
 -- What a reader or a writer tells of its calls.
-use Rattle.std.specs.Prelude.{◌≡◌, ℕ, ◌+◌, ◌==◌, ◌&&◌, nat_lt, if◌then◌else◌, List, [], ◌++◌, length, take, Option, Some, None, IfSome}
+use Rattle.std.specs.Prelude.{◌≡◌, ℕ, ◌+◌, ◌==◌, ◌&&◌, nat_lt, if◌then◌else◌, List, [], ◌++◌}
+use Rattle.std.specs.Prelude.{length, take, Option, Some, None, IfSome}
 use Rattle.std.specs.Io.KnownBytes.{Appends, Consumes}
 
 -- the bytes that passed in all calls; how many calls failed; and how many, over a slice that isn't empty, passed nothing
@@ -34,13 +35,15 @@ pub record Exchanges (fits : List ℕ → List ℕ → Type 0) (reader reader' w
   pub taken : writer'.bytes ≡ writer.bytes ++ text
   pub fit : fits input text
 
--- what a reader told from one moment to the next is what its device lost, where it is known what that has left
+-- what a reader told from one moment to the next is what its device lost, where it is known what
+-- that has left
 pub record Gives (old new : Traffic) (left left' : Option (List ℕ)) : Type 0 where
   pub input : List ℕ
   pub given : new.bytes ≡ old.bytes ++ input
   pub consumed : Consumes left left' input
 
--- what a writer told from one moment to the next is what its device got, where it is known what that holds
+-- what a writer told from one moment to the next is what its device got, where it is known what
+-- that holds
 pub record Takes (old new : Traffic) (held held' : Option (List ℕ)) : Type 0 where
   pub text : List ℕ
   pub taken : new.bytes ≡ old.bytes ++ text

@@ -14,8 +14,9 @@ use std::sync::Wait;
 /// The windows of a script: over bytes, on blocks each of which has one pass.
 pub type ByteWindow<A> = ArcSlice<Plain<u8>, DefaultLayout, A, Whole>;
 
-/// A window, and the number of the block that it stands on, if it stands on one. It can't be dropped: each ends by `release`, since a
-/// window that is dropped would stay an owner of its block for good.
+/// A window, and the number of the block that it stands on, if it stands on one. It can't be
+/// dropped: each ends by `release`, since a window that is dropped would stay an owner of its block
+/// for good.
 pub struct Entry<A: Allocator + Copy> {
     pub window: ByteWindow<A>,
     pub block: Option<usize>,

@@ -72,8 +72,8 @@ pub fn write_out<W: Sink>(writer: &mut W, bytes: &[u8]) -> Result<(), ScriptErro
     Ok(())
 }
 
-/// A script that is being run: its windows, what has come of a line, and the replies that have not gone out. It can't be dropped: it ends
-/// by `end`, which ends its windows.
+/// A script that is being run: its windows, what has come of a line, and the replies that have not
+/// gone out. It can't be dropped: it ends by `end`, which ends its windows.
 struct Engine<A: Allocator + Copy> {
     windows: Windows<A>,
     line: Vec<u8, A>,
@@ -296,7 +296,8 @@ impl<A: Allocator + Copy> Engine<A> {
         unreachable!()
     }
 
-    /// Ends the engine, and with it the windows that are left. Answers the passes of their blocks, none of which has a live owner.
+    /// Ends the engine, and with it the windows that are left. Answers the passes of their blocks,
+    /// none of which has a live owner.
     fn end(self) -> Passes<A>
         ensures ended { IsKept MAX_OWNERS [] result.of_blocks.items }
         ensures blocks { length result.of_blocks.items ≡ (table_of self.windows).blocks }

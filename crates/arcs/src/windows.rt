@@ -43,7 +43,8 @@ fn end_entries<A: Allocator + Copy>(mut entries: Vec<Option<Entry<A>>, A>)
 }
 
 impl<A: Allocator + Copy> Windows<A> {
-    ghost use Rattle.std.specs.Prelude.{◌≡◌, ℕ, List, [], Some, None, MatchOption, length, slice_get, slice_set};
+    ghost use Rattle.std.specs.Prelude.{◌≡◌, ℕ, List, [], Some, None, MatchOption, length};
+    ghost use Rattle.std.specs.Prelude.{slice_get, slice_set};
     ghost use Rattle.std.specs.Option.{option_map, option_flatten};
     ghost use Rattle.arc_block.specs.Table.{empty_table, row_at};
     ghost use Rattle.arcs.specs.Step.{Step};
@@ -96,8 +97,8 @@ impl<A: Allocator + Copy> Windows<A> {
         }
     }
 
-    /// Ends the table: every window that is left is released, so that each block is given back. Answers the passes of the blocks, none of
-    /// which has a live owner.
+    /// Ends the table: every window that is left is released, so that each block is given back.
+    /// Answers the passes of the blocks, none of which has a live owner.
     pub fn end(mut self) -> Passes<A>
         ensures ended { IsKept MAX_OWNERS [] result.of_blocks.items }
         ensures blocks { length result.of_blocks.items ≡ (table_of self).blocks }

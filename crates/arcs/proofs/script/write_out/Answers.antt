@@ -4,12 +4,20 @@ use Rattle.arcs.proofs.Devices.{front_grows, takes_on, told_grows, write_takes}
 use Rattle.arcs.proofs.script.write_out.Goals as goal
 
 pub loop-rest-preserved : goal.loop-rest-preserved
-loop-rest-preserved g c = record {
-  front = (
-    c.loop-rest.invariant.front.0 ++ take c.in-Ok.n c.loop-rest.rest.now,
-    front_grows c.args.bytes.now c.loop-rest.invariant.front.0 c.loop-rest.rest.now _ c.in-Ok.n c.loop-rest.invariant.front.1 refl,
-    told_grows (g.W.Sink.traffic c.args.writer.now) (g.W.Sink.traffic c.loop-rest.writer) _ c.loop-rest.invariant.front.0 c.loop-rest.rest.now c.in-Ok.n c.loop-rest.invariant.front.2 c.in-Ok.ensures.told,
-  );
-  clean = search rules;
-  taken = takes_on _ (g.W.Sink.traffic c.loop-rest.writer) _ _ (g.W.Sink.contents c.loop-rest.writer) _ c.loop-rest.invariant.taken (write_takes _ _ _ _ c.write.result c.loop-rest.rest.now c.write.ensures.told c.write.ensures.bytes);
-}
+loop-rest-preserved g c =
+    let front = c.loop-rest.invariant.front in
+    let rest = c.loop-rest.rest.now in
+    let told = g.W.Sink.traffic in
+    let said = c.in-Ok.ensures in
+    record {
+      front = (
+        front.0 ++ take c.in-Ok.n rest,
+        front_grows c.args.bytes.now front.0 rest _ c.in-Ok.n front.1 refl,
+        told_grows (told c.args.writer.now) (told c.loop-rest.writer) _ front.0 rest c.in-Ok.n
+            front.2 said.told,
+      );
+      clean = search rules;
+      taken =
+          takes_on c.loop-rest.invariant.taken
+          (write_takes _ _ _ _ c.write.result rest c.write.ensures.told c.write.ensures.bytes);
+    }

@@ -21,7 +21,7 @@ lines-preserved g c =
         reads_on front.0 (c.in-Some.line.now ++ line_feed ∷ []) _ (g.W.Sink.traffic c.lines.writer) _ c.args.self.now c.lines.self c.take_line.new.self front.2 c.in_ok-take_line.ensures.ok,
       );
       clean = (c.in_ok-take_line.ensures.clean.0 ∙ c.lines.invariant.clean.0, c.in_ok-take_line.ensures.clean.1 ∙ c.lines.invariant.clean.1);
-      taken = takes_on _ (g.W.Sink.traffic c.lines.writer) _ _ (g.W.Sink.contents c.lines.writer) _ c.lines.invariant.taken c.in_ok-take_line.ensures.taken;
+      taken = takes_on c.lines.invariant.taken c.in_ok-take_line.ensures.taken;
     }
 
 pub returns-in_err-hold-clause-err : goal.returns-in_err-hold-clause-err
@@ -37,4 +37,4 @@ returns-clause-ok g c =
 
 pub returns-in_err-take_line-clause-taken : goal.returns-in_err-take_line-clause-taken
 returns-in_err-take_line-clause-taken g c =
-    takes_on _ (g.W.Sink.traffic c.lines.writer) _ _ (g.W.Sink.contents c.lines.writer) _ c.lines.invariant.taken c.in_err-take_line.ensures.taken
+    takes_on c.lines.invariant.taken c.in_err-take_line.ensures.taken

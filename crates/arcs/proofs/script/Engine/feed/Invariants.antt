@@ -7,10 +7,11 @@ use Rattle.arcs.proofs.script.Engine.feed.Given as goal
 abbrev pub invariant-lines : goal.invariant-lines
 invariant-lines g l =
     let told = g.W.Sink.traffic in
+    let held = g.W.Sink.contents in
     record {
       front : (front : List ℕ) × (l.piece ≡ front ++ l.rest) × Reads front (told l.fn.writer) (told l.writer) l.fn.self l.self;
       clean : NoFault (told l.fn.writer) (told l.writer);
-      taken : Takes (told l.fn.writer) (told l.writer) (g.W.Sink.contents l.fn.writer) (g.W.Sink.contents l.writer);
+      taken : Takes (told l.fn.writer) (told l.writer) (held l.fn.writer) (held l.writer);
     }
 
 abbrev pub decreases-lines : goal.decreases-lines

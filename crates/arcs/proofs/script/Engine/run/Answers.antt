@@ -1,6 +1,7 @@
 -- Pieces are taken one after another; at the end of the input the engine finishes.
 use Rattle.std.proofs.Common.{◌∙◌, arith}
-use Rattle.arcs.proofs.Going.{on_err, on_ok, on_ok_then, on_err_then, if_err_then, run_begins, nothing_exchanged, exchange_answered, exchange_begun, why_is_cause}
+use Rattle.arcs.proofs.Going.{on_err, on_ok, on_ok_then, on_err_then, if_err_then, run_begins}
+use Rattle.arcs.proofs.Going.{nothing_exchanged, exchange_answered, exchange_begun, why_is_cause}
 use Rattle.arcs.proofs.Devices.{gives_nothing, gives_on, gives_all, takes_nothing, takes_on}
 use Rattle.arcs.proofs.script.Engine.run.Goals as goal
 
@@ -40,33 +41,33 @@ pub pieces-preserved : goal.pieces-preserved
 pieces-preserved g c = record {
   running = c.in_ok-take_piece.ensures.ok _ _ c.pieces.invariant.running;
   empties = omega (arith, c.pieces.invariant.empties, c.in_ok-take_piece.ensures.empties);
-  given = gives_on _ (g.R.Source.traffic c.pieces.reader) _ _ (g.R.Source.remaining c.pieces.reader) _ c.pieces.invariant.given c.in_ok-take_piece.ensures.given;
-  taken = takes_on _ (g.W.Sink.traffic c.pieces.writer) _ _ (g.W.Sink.contents c.pieces.writer) _ c.pieces.invariant.taken c.in_ok-take_piece.ensures.taken;
+  given = gives_on c.pieces.invariant.given c.in_ok-take_piece.ensures.given;
+  taken = takes_on c.pieces.invariant.taken c.in_ok-take_piece.ensures.taken;
   room = c.pieces.invariant.room;
 }
 
 pub returns-in_err-take_piece-clause-given : goal.returns-in_err-take_piece-clause-given
 returns-in_err-take_piece-clause-given g c =
-    gives_on _ (g.R.Source.traffic c.pieces.reader) _ _ (g.R.Source.remaining c.pieces.reader) _ c.pieces.invariant.given c.in_err-take_piece.ensures.given
+    gives_on c.pieces.invariant.given c.in_err-take_piece.ensures.given
 
 pub returns-then-not-branch-clause-given : goal.returns-then-not-branch-clause-given
 returns-then-not-branch-clause-given g c =
-    gives_on _ (g.R.Source.traffic c.pieces.reader) _ _ (g.R.Source.remaining c.pieces.reader) _ c.pieces.invariant.given c.in_ok-take_piece.ensures.given
+    gives_on c.pieces.invariant.given c.in_ok-take_piece.ensures.given
 
 pub returns-then-not-branch-clause-drained : goal.returns-then-not-branch-clause-drained
 returns-then-not-branch-clause-drained g c =
-    let given = gives_on _ (g.R.Source.traffic c.pieces.reader) _ _ (g.R.Source.remaining c.pieces.reader) _ c.pieces.invariant.given c.in_ok-take_piece.ensures.given in
-    on_ok c.finish.result (gives_all _ _ _ _ given (c.in_ok-take_piece.ensures.drained c.if-not-branch.true))
+    let given = gives_on c.pieces.invariant.given c.in_ok-take_piece.ensures.given in
+    let end = c.in_ok-take_piece.ensures.drained c.if-not-branch.true in
+    on_ok c.finish.result (gives_all given end)
 
 pub returns-in_err-piece-clause-taken : goal.returns-in_err-piece-clause-taken
 returns-in_err-piece-clause-taken g c = takes_nothing _ _
 
 pub returns-in_err-take_piece-clause-taken : goal.returns-in_err-take_piece-clause-taken
 returns-in_err-take_piece-clause-taken g c =
-    takes_on _ (g.W.Sink.traffic c.pieces.writer) _ _ (g.W.Sink.contents c.pieces.writer) _ c.pieces.invariant.taken c.in_err-take_piece.ensures.taken
+    takes_on c.pieces.invariant.taken c.in_err-take_piece.ensures.taken
 
 pub returns-then-not-branch-clause-taken : goal.returns-then-not-branch-clause-taken
 returns-then-not-branch-clause-taken g c =
-    takes_on _ (g.W.Sink.traffic c.take_piece.new.writer) _ _ (g.W.Sink.contents c.take_piece.new.writer) _
-    (takes_on _ (g.W.Sink.traffic c.pieces.writer) _ _ (g.W.Sink.contents c.pieces.writer) _ c.pieces.invariant.taken c.in_ok-take_piece.ensures.taken)
-    c.finish.ensures.taken
+    let taken = takes_on c.pieces.invariant.taken c.in_ok-take_piece.ensures.taken in
+    takes_on taken c.finish.ensures.taken

@@ -7,10 +7,15 @@ use Rattle.arcs.proofs.script.Engine.run.Given as goal
 -- the engine has read all that the reader gave, and no call went wrong
 abbrev pub invariant-pieces : goal.invariant-pieces
 invariant-pieces g l =
+    let given = g.R.Source.traffic in
+    let told = g.W.Sink.traffic in
+    let left = g.R.Source.remaining in
+    let held = g.W.Sink.contents in
     record {
-      running : IsRunning (g.R.Source.traffic l.fn.reader) (g.R.Source.traffic l.reader) (g.W.Sink.traffic l.fn.writer) (g.W.Sink.traffic l.writer) l.self;
-      empties : (g.R.Source.traffic l.fn.reader).empties ≤ (g.R.Source.traffic l.reader).empties;
-      given : Gives (g.R.Source.traffic l.fn.reader) (g.R.Source.traffic l.reader) (g.R.Source.remaining l.fn.reader) (g.R.Source.remaining l.reader);
-      taken : Takes (g.W.Sink.traffic l.fn.writer) (g.W.Sink.traffic l.writer) (g.W.Sink.contents l.fn.writer) (g.W.Sink.contents l.writer);
+      running :
+          IsRunning (given l.fn.reader) (given l.reader) (told l.fn.writer) (told l.writer) l.self;
+      empties : (given l.fn.reader).empties ≤ (given l.reader).empties;
+      given : Gives (given l.fn.reader) (given l.reader) (left l.fn.reader) (left l.reader);
+      taken : Takes (told l.fn.writer) (told l.writer) (held l.fn.writer) (held l.writer);
       room : vec_len l.piece ≡ PIECE;
     }

@@ -23,8 +23,8 @@ returns-clause-ok g c = λ r w run.
 
 pub returns-in_err-flush-clause-taken : goal.returns-in_err-flush-clause-taken
 returns-in_err-flush-clause-taken g c =
-    takes_on _ (g.W.Sink.traffic c.feed.new.writer) _ _ (g.W.Sink.contents c.feed.new.writer) _ c.in_ok-feed.ensures.taken c.in_err-flush.ensures.taken
+    takes_on c.in_ok-feed.ensures.taken c.in_err-flush.ensures.taken
 
 pub returns-clause-taken : goal.returns-clause-taken
 returns-clause-taken g c =
-    takes_on _ (g.W.Sink.traffic c.feed.new.writer) _ _ (g.W.Sink.contents c.feed.new.writer) _ c.in_ok-feed.ensures.taken c.in_ok-flush.ensures.taken
+    takes_on c.in_ok-feed.ensures.taken c.in_ok-flush.ensures.taken
