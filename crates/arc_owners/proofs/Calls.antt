@@ -12,11 +12,11 @@ use Rattle.arc_owners.specs.declared.owners.tokens.Pass.{Pass}
 use Rattle.arc_owners.specs.declared.owners.word.Right.{Right}
 use Rattle.arc_owners.specs.declared.owners.word.Trace.{Trace}
 use Rattle.arc_owners.specs.Book.{Names, Line, Lease, entries_of, made_by, next_owner, AddedTo}
-use Rattle.arc_owners.specs.Histories.{Beginning, Counted, LivesAlone, owners_ever, live_owners, is_counted, IsLegal}
+use Rattle.arc_owners.specs.Histories.{Beginning, Counted, LivesAlone, owners_ever, owners_ended, live_owners, is_counted, IsLegal}
 use Rattle.arc_owners.specs.Machine.{Machine}
 use Rattle.arc_owners.specs.Agreement.{Tells, Agrees}
-use Rattle.arc_owners.specs.Traces.{IsOf, SamePass, Wrote, FullIf, RaisedIf, Ends, IsFork, IsOpened, EndsWithNew}
-use Rattle.arc_owners.specs.Passes.{Owner, Appends, Asks, MakesAnother, FindsFull, Leaves, IsSamePass, EndsInOneStep, EndsWithoutStep, EndsByItself, IsFirst, making, reading, history_of}
+use Rattle.arc_owners.specs.Traces.{IsOf, SamePass, Wrote, FullIf, RaisedIf, Ends, IsFork, IsOpened, EndsWithNew, SeesSole}
+use Rattle.arc_owners.specs.Passes.{Owner, Appends, Asks, MakesAnother, FindsFull, Leaves, SeesAlone, IsSamePass, EndsInOneStep, EndsWithoutStep, EndsByItself, IsFirst, making, reading, history_of}
 use Rattle.arc_owners.proofs.Legality.{legal-front, legal-at}
 use Rattle.arc_owners.proofs.Book.Rolls.{entries-append}
 use Rattle.arc_owners.proofs.Book.Events.{one_step}
@@ -115,14 +115,29 @@ unfolding is_counted
 counted-first = refl
 
 -- the first owner of a new block
-pub first_of : (most : ℕ) (whole : Bool) (t : Names) (r : Right) (p : Trace) → IsOpened most whole t r p → IsFirst most whole (record { block = r.names; number = r.owner; born = r.born })
-first_of most whole t r p so = let same : r.names ≡ t = so.3.1 in record {
+pub first_of : (most : ℕ) (whole lent : Bool) (t : Names) (r : Right) (p : Trace) → IsOpened most whole lent t r p → IsFirst most whole (record { block = r.names; number = r.owner; born = r.born })
+first_of most whole lent t r p so = let same : r.names ≡ t = so.3.1 in record {
   number = so.5;
   born = so.6;
   most = ap (λ (k : Names). k.most) same ∙ so.0;
   whole = ap (λ (k : Names). k.whole) same ∙ so.2;
   counted = subst (λ (b : Beginning). is_counted b [] ≡ true) (sym (ap (λ (k : Names). k.began) same ∙ so.1)) counted-first;
 }
+
+-- a sole owner showed the pass the whole history
+pub sees_alone : {H : Type 0} (own : Right) (p r : Pass H) → SeesSole own p.trace r.trace → SeesAlone (record { block = own.names; number = own.owner; born = own.born }) p r
+sees_alone own p r so = record {
+  same = ((so.0.0, so.0.1), so.0.2, so.0.3);
+  kept = so.1;
+  own = ap (λ (n : ℕ). made_by n r.trace.lines) so.0.2 ∙ so.2;
+  undisturbed = so.3;
+  alone = so.4;
+}
+
+-- the first owner lives alone after nothing
+pub alone_first : (most : ℕ) (whole lent : Bool) (t : Names) (r : Right) (p : Trace) → IsOpened most whole lent t r p → LivesAlone r.owner (entries_of p.lines)
+unfolding live_owners owners_ever owners_ended
+alone_first most whole lent t r p so = ap (λ (ls : List Line). live_owners (entries_of ls)) so.9 ∙ ap (λ (n : ℕ). n ∷ []) (sym so.5)
 
 -- an owner that was dropped, where the mark has many passes
 pub ended_by_itself : {H : Type 0} (own : Right) (r : Pass H) (last : Bool) → EndsWithNew own r.trace last → EndsByItself (record { block = own.names; number = own.owner; born = own.born }) r last

@@ -174,6 +174,14 @@ knows-first p first fresh at = ((fresh.0.0, fresh.0.1 ∙ at), subst (λ (b : Na
 pub counted_forked : {H : Type 0} {most : ℕ} {whole : Bool} {o : Owner} (p : Pass H) → IsFirst most whole o → IsNewPass o p → HasCountIn o.block (seen p)
 counted_forked {o = o} p first new = counted-new o p (subst (λ (ls : List Line). HasCountIn o.block (entries_of ls)) (sym first.born) first.counted) new
 
+-- who was found alone lives alone in what the pass has seen since
+alone-read : {H : Type 0} {t : Names} {old new : Pass H} {before : List Line} (by : ℕ) (c : Bool) → Appends t old new before (reading c by true) → LivesAlone by (entries_of before) → LivesAlone by (seen new)
+alone-read {before = before} by true a alone = ap live_owners (seen-after a) ∙ (live-same (entries_of before) (Alone by true) refl refl ∙ alone)
+alone-read {before = before} by false a alone = ap live_owners (seen-after a ∙ append-nil (entries_of before)) ∙ alone
+
+pub alone-asked : {H : Type 0} {o : Owner} {old new : Pass H} → Asks o old new true → LivesAlone o.number (seen new)
+alone-asked {o = o} asks = alone-read o.number (is_counted o.block.began (entries_of asks.before)) asks.added (asks.exact.0 refl)
+
 -- an entry by which an owner is made
 making-made : (c : Bool) (by new : ℕ) → owner_made (making c by new) ≡ Some new
 making-made true by new = refl

@@ -98,6 +98,15 @@ module _ {H : Type 0} where
     pub learnt : IsPrefix (history_of other) (history_of new)
     pub own : mine new ≡ mine old
 
+  -- The pass sees all of the block's history, in which this owner lives, and no other. It added nothing, and under `Whole` it had seen
+  -- all of it before.
+  pub record SeesAlone (o : Owner) (old new : Pass H) : Type 0 where
+    pub same : IsSamePass o.block old new
+    pub kept : IsPrefix (history_of old) (history_of new)
+    pub own : mine new ≡ mine old
+    pub undisturbed : o.block.whole ≡ true → history_of new ≡ history_of old
+    pub alone : LivesAlone o.number (seen new)
+
   -- uniqueness was read: the answer is yes exactly where no other owner lived. On a lone word that is so, and adds nothing
   pub record Asks (o : Owner) (old new : Pass H) (found : Bool) : Type 0 where
     pub before : List Line

@@ -22,10 +22,11 @@ IsSole t r = (r.held ≡ true) × (r.names ≡ t) × (r.lease.is_lent ≡ false)
 abbrev pub IsOf : Names → Trace → Type 0
 IsOf t p = (p.bound ≡ true) × (p.names ≡ t)
 
--- the word of a new block, its first owner, and a pass that has seen nothing
-abbrev pub IsOpened : ℕ → Bool → Names → Right → Trace → Type 0
-IsOpened most whole t r p =
-    (t.most ≡ most) × (t.began ≡ Counted) × (t.whole ≡ whole) × IsHeld t r × IsOf t p × (r.owner ≡ 0) × (r.born ≡ [])
+-- the word of a new block, its first owner, to whom it is lent or not, and a pass that has seen nothing
+abbrev pub IsOpened : ℕ → Bool → Bool → Names → Right → Trace → Type 0
+IsOpened most whole lent t r p =
+    (t.most ≡ most) × (t.began ≡ Counted) × (t.whole ≡ whole)
+    × ((r.held ≡ true) × (r.names ≡ t) × (r.lease.is_lent ≡ lent)) × IsOf t p × (r.owner ≡ 0) × (r.born ≡ [])
     × (p.number ≡ 0) × (p.ready ≡ false) × (p.lines ≡ [])
 
 -- the same pass of this block, which may have seen more
@@ -58,6 +59,12 @@ IsNext old next = old < 2 ^ 64 - 1 → next ≡ old + 1
 -- this owner ended, and whether it was the last one
 abbrev pub Ends : Names → Trace → Trace → ℕ → Bool → Type 0
 Ends t p r o last = (before : List Line) × AddedTo t p.number p.lines (λ _. Down o) before r.lines × (IsTrue last ↔ LivesAlone o (entries_of before))
+
+-- the pass sees the block's whole history, in which this owner lives alone; it added nothing, and under `Whole` it had seen it all
+abbrev pub SeesSole : Right → Trace → Trace → Type 0
+SeesSole own p r =
+    SamePass own.names p r × IsPrefix p.lines r.lines × (made_by p.number r.lines ≡ made_by p.number p.lines)
+    × (own.names.whole ≡ true → r.lines ≡ p.lines) × LivesAlone own.owner (entries_of r.lines)
 
 -- a new pass of an owner's block: it has seen how the owner was made, and made nothing
 abbrev pub IsFork : Right → Trace → Type 0

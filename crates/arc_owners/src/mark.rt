@@ -22,10 +22,10 @@ pub trait Mark: sealed::Sealed {
     // it from `attest` alone, which takes a pass that is there.
     ghost real: { Names → ℕ → List Line → Type 0 };
 
-    /// The word of a new block, its first owner's right and the first pass.
-    fn open(most: u64) -> (Word, Right, Trace)
+    /// The word of a new block, its first owner's right and the first pass. The block is lent to that owner, or not.
+    fn open(most: u64, lent: bool) -> (Word, Right, Trace)
         requires { 1 ≤ most }
-        ensures { IsOpened most Self.whole result.0 result.1 result.2 };
+        ensures { IsOpened most Self.whole lent result.0 result.1 result.2 };
 
     /// What a pass has seen is legal, and that the pass is there.
     fn attest(pass: &Trace)
@@ -69,8 +69,8 @@ impl Mark for Open {
 
     ghost real = { λ _ _ _. Unit {0} };
 
-    fn open(most: u64) -> (Word, Right, Trace) {
-        Word::open(most, false)
+    fn open(most: u64, lent: bool) -> (Word, Right, Trace) {
+        Word::open(most, false, lent)
     }
 
     fn attest(pass: &Trace) {
@@ -110,8 +110,8 @@ impl Mark for Whole {
 
     ghost real = { λ _ _ _. Unit {0} };
 
-    fn open(most: u64) -> (Word, Right, Trace) {
-        Word::open(most, true)
+    fn open(most: u64, lent: bool) -> (Word, Right, Trace) {
+        Word::open(most, true, lent)
     }
 
     fn attest(pass: &Trace) {

@@ -10,7 +10,7 @@ use base.Share
 use base.Share.{quarter, three_quarters}
 use base.Stored.{coded_ℕ}
 use base.Logic.{SProp, ent, sep, ex, guard, upd, emp, id⊢, via, upd_i}
-use base.Fml.{Fml, ftrue, fsep, finv, fnamed}
+use base.Fml.{Fml, Share, ftrue, fsep, finv, fnamed}
 use base.Growing.{latest, at_least}
 use types.Logic.{Logic, sem}
 use types.Owned.{basic, named_past}
@@ -20,13 +20,14 @@ use types.RcWeak.{part, rest, cut}
 use types.Tokens.{lft_new}
 use types.Kit.{‵, raw, ◌⊛◌, some as any, given, later, ◌$◌, ◌∵◌, !, qed, by, move, drop, split, fsplit, fjoin, fpick, fpack, pick, learn, show, check, assume, frame, group, done, use0, use1, use2, use3, rewrite, suffices, settle, updating, await, now}
 use denote.Steps.{nothing}
-use Rattle.arc_owners.specs.Histories.{Counted, IsLegal, is_counted, live_owners, owners_ever, owners_ended}
+use Rattle.arc_owners.specs.Histories.{Counted, LivesAlone, IsLegal, is_counted, live_owners, owners_ever, owners_ended}
 use Rattle.arc_owners.specs.Machine.{beginning}
-use Rattle.arc_owners.specs.Book.{Names, Line, entries_of, told_of, trace_shares, made_by, Lease, lease_coded, no_lease, Seat, seat_coded, fresh_seat, halved, cell, row, tally, right, lines_order, reached, authority, withheld, places, is_there, told, pool, stake, how_many, Account, Fits, contents, behind, known, right_owns, trace_owns, pass_holds, finished_by, after_finish, Lowered}
-use Rattle.arc_owners.proofs.Book.Rolls.{get-more, get-last, living-relet}
+use Rattle.arc_owners.specs.Book.{Names, Line, entries_of, told_of, trace_shares, made_by, Lease, lease_coded, no_lease, Seat, seat_coded, fresh_seat, halved, cell, row, tally, right, lines_order, reached, authority, withheld, places, is_there, told, pool, stake, how_many, living, Account, Fits, contents, behind, known, right_owns, trace_owns, pass_holds, finished_by, after_finish, Lowered}
+use Rattle.arc_owners.proofs.Book.Rolls.{get-more, get-last, living-relet, living-in}
 use Rattle.arc_owners.proofs.Book.Cells.{row_new, row_adds, row_finds, row_writes, cell_parts}
-use Rattle.arc_owners.proofs.Book.Parts.{top, sees, pool_sole, tally_in}
+use Rattle.arc_owners.proofs.Book.Parts.{top, sees, pool_sole, pool_alone, tally_in}
 use Rattle.arc_owners.proofs.Book.Accounts.{relet, fits-relet, one-lives}
+use Rattle.arc_owners.proofs.Steps.{one_is}
 use Rattle.arc_owners.proofs.Legality.{legal-front}
 use Rattle.arc_owners.proofs.Book.Rolls.{entries-after}
 use Rattle.arc_owners.proofs.Book.Opened.{shuts, latest_of, rolled, seated, seat}
@@ -75,16 +76,24 @@ module _ {M : Type 1} {𝓤 : Ura M} (𝓛 : Logic 𝓤) where
       use1 𝓛 (‵ (withheld t true ls) ⊛ ‵ (top 𝓛 t true ls)) (latest_cut lines_order 𝓛 full_share quarter three_quarters t.history ls Share.quarters) $ split ! $ move ! (1 ∷ 0 ∷ []) $ done !
   authorized t false ls = qed 𝓛 (‵ (latest lines_order full_share t.history ls) ∷ []) ∵ nothing ! $ move ! (1 ∷ 0 ∷ []) $ done !
 
-  abbrev pub Fresh : ℕ → Bool → Names × Lease → Pr
-  Fresh most w x = guard 𝓤 ((x.0.most ≡ most) × (x.0.began ≡ Counted) × (x.0.whole ≡ w) × (x.1.is_lent ≡ true)) (⟦ behind x.0 1 ⟧ ∗ ⟦ right_owns true x.0 0 x.1 [] ⟧ ∗ ⟦ trace_owns true x.0 0 false [] ⟧)
+  -- what a new lifetime is for, where the block is lent and where it isn't
+  funded : (lent : Bool) (a k : ℕ) (l : Lease) → l ≡ record { is_lent = lent; lifetime = a; key = k } → ⟦ ticket k 0 ⟧ ∗ ⟦ rest 64 a 1 ⟧ ∗ ⟦ part 64 a ⟧ ⊢ ⟦ pool l 1 ⟧ ∗ ⟦ stake l ⟧
+  funded true a k l is = subst (λ (m : Lease). ⟦ ticket k 0 ⟧ ∗ ⟦ rest 64 a 1 ⟧ ∗ ⟦ part 64 a ⟧ ⊢ ⟦ pool m 1 ⟧ ∗ ⟦ stake m ⟧) (sym is) (let m : Lease = record { is_lent = true; lifetime = a; key = k } in
+      qed 𝓛 (‵ (ticket k 0) ∷ ‵ (rest 64 a 1) ∷ ‵ (part 64 a) ∷ []) ∵ move ! (1 ∷ 0 ∷ []) $ fjoin ! $ use1 𝓛 (‵ (pool m 1)) (id⊢ 𝓤 _) $ done !)
+  funded false a k l is = subst (λ (m : Lease). ⟦ ticket k 0 ⟧ ∗ ⟦ rest 64 a 1 ⟧ ∗ ⟦ part 64 a ⟧ ⊢ ⟦ pool m 1 ⟧ ∗ ⟦ stake m ⟧) (sym is) (let m : Lease = record { is_lent = false; lifetime = a; key = k } in
+      qed 𝓛 (‵ (ticket k 0) ∷ ‵ (rest 64 a 1) ∷ ‵ (part 64 a) ∷ []) ∵ drop ! $ drop ! $ drop ! $ nothing ! $ use1 𝓛 (‵ (stake m)) (id⊢ 𝓤 _) $
+      nothing ! $ fpack ! (0 ≡ 0) (λ _. ftrue) refl $ use1 𝓛 (‵ (pool m 1)) (id⊢ 𝓤 _) $ done !)
 
-  pub begins : (most : ℕ) (w : Bool) → 1 ≤ most → most < 2 ^ 64 → emp 𝓤 ⊢ H.⇛ (ex 𝓤 (Fresh most w))
-  begins most w one small = qed 𝓛 [] ∵ updating ! $ lft_new ! tt (λ a.
+  abbrev pub Fresh : ℕ → Bool → Bool → Names × Lease → Pr
+  Fresh most w lent x = guard 𝓤 ((x.0.most ≡ most) × (x.0.began ≡ Counted) × (x.0.whole ≡ w) × (x.1.is_lent ≡ lent)) (⟦ behind x.0 1 ⟧ ∗ ⟦ right_owns true x.0 0 x.1 [] ⟧ ∗ ⟦ trace_owns true x.0 0 false [] ⟧)
+
+  pub begins : (most : ℕ) (w lent : Bool) → 1 ≤ most → most < 2 ^ 64 → emp 𝓤 ⊢ H.⇛ (ex 𝓤 (Fresh most w lent))
+  begins most w lent one small = qed 𝓛 [] ∵ updating ! $ lft_new ! tt (λ a.
       use1 𝓛 (‵ (rest 64 a 1) ⊛ ‵ (part 64 a)) (cut 64 𝓛 a 0 full_share (omega arith) (subst (Counts 64 full_share) (omega arith) (Counts-all 64))) $ split ! $
       use0 𝓛 (later (any (λ (k : ℕ). ‵ (entries_from token k 0 (λ _. tt))))) (via 𝓤 _ (entries_new token 𝓛 0 (λ _. tt)) (basic 𝓛 _)) $ await ! tt $ pick ! (λ k.
-      use1 𝓛 (‵ (ticket k 0) ⊛ ‵ (entries_from token k 1 (λ _. tt))) (entries_take token 𝓛 k 0 (λ _. tt)) $ split ! $ move ! (1 ∷ []) $ drop ! $ let l : Lease = record { is_lent = true; lifetime = a; key = k } in
+      use1 𝓛 (‵ (ticket k 0) ⊛ ‵ (entries_from token k 1 (λ _. tt))) (entries_take token 𝓛 k 0 (λ _. tt)) $ split ! $ move ! (1 ∷ []) $ drop ! $ let l : Lease = record { is_lent = lent; lifetime = a; key = k } in
       -- [the ticket; the pool's rest; the stake]
-      move ! (1 ∷ 0 ∷ []) $ fjoin ! $ use1 𝓛 (‵ (pool l 1)) (id⊢ 𝓤 _) $
+      use3 𝓛 (‵ (pool l 1) ⊛ ‵ (stake l)) (funded lent a k l refl) $ split ! $
       use0 𝓛 (later (any (λ (η : ℕ). ‵ (latest lines_order full_share η [])))) (via 𝓤 _ (latest_new lines_order 𝓛 []) (basic 𝓛 _)) $ await ! tt $ pick ! (λ η.
       use0 𝓛 (later (any (λ (δ : ℕ). ‵ (row lease_coded no_lease δ 0 [])))) (via 𝓤 _ (row_new lease_coded 𝓛 0 no_lease) (basic 𝓛 _)) $ await ! tt $ pick ! (λ δ.
       use1 𝓛 (later (‵ (row lease_coded no_lease δ 0 ((true, l) ∷ [])) ⊛ ‵ (cell lease_coded δ 0 quarter l))) (via 𝓤 _ (row_adds lease_coded 𝓛 δ no_lease [] l) (basic 𝓛 _)) $ await ! tt $ split ! $
@@ -115,7 +124,7 @@ module _ {M : Type 1} {𝓤 : Ura M} (𝓛 : Logic 𝓤) where
       move ! (5 ∷ 6 ∷ []) $ fjoin ! $ move ! (2 ∷ 0 ∷ []) $ fjoin ! $ use1 𝓛 (‵ (right_owns true t 0 l [])) (id⊢ 𝓤 _) $
       -- [the right; the word's; known; withheld; the seat]
       move ! (3 ∷ 4 ∷ []) $ fjoin ! $ move ! (3 ∷ 0 ∷ []) $ fjoin ! $ use1 𝓛 (‵ (trace_owns true t 0 false [])) (id⊢ 𝓤 _) $
-      now ! $ show ! (Fresh most w) (t, l) $ check ! (refl, refl, refl, refl) $ move ! (2 ∷ 1 ∷ 0 ∷ []) $ done !)))))))))
+      now ! $ show ! (Fresh most w lent) (t, l) $ check ! (refl, refl, refl, refl) $ move ! (2 ∷ 1 ∷ 0 ∷ []) $ done !)))))))))
 
   module _ (t : Names) where
     abbrev J : Fml
@@ -244,6 +253,38 @@ module _ {M : Type 1} {𝓤 : Ura M} (𝓛 : Logic 𝓤) where
         -- [latest; reached; tally; pool; seats; roll; located]
         move ! (0 ∷ 6 ∷ 5 ∷ 4 ∷ 2 ∷ 3 ∷ []) $ group ! 6 $ use1 𝓛 (‵ J) (shuts 𝓛 t a f) $ frame ! $ check ! (λ _. front-legal a f seen past) $ done !)))
     attests false seen = let Z : Pr = Attested false seen in qed 𝓛 (‵ ftrue ∷ []) ∵ updating ! $ now ! $ check ! (λ (e : false ≡ true). absurd (false≢true e)) $ done !
+
+    abbrev pub Onlied : ℕ → Bool → List Line → ℕ → Lease → Share → List Line → Pr
+    Onlied p ready seen o l q ls =
+        guard 𝓤 (IsPrefix seen ls × (made_by p ls ≡ made_by p seen) × (t.whole ≡ true → ls ≡ seen) × LivesAlone o (entries_of ls)) (⟦ trace_owns true t p ready ls ⟧ ∗ ⟦ right t o l q ⟧)
+
+    -- a pass sees all that the history is now, in which a sole owner who has the block back lives alone
+    pub onlies : (p : ℕ) (ready : Bool) (seen : List Line) (o : ℕ) (l : Lease) (q : Share) → l.is_lent ≡ false → ⟦ trace_owns true t p ready seen ⟧ ∗ ⟦ right t o l q ⟧ ⊢ H.⇛ (ex 𝓤 (Onlied p ready seen o l q))
+    onlies p ready seen o l q unlent = let Z : Pr = ex 𝓤 (Onlied p ready seen o l q) in let w : Bool = t.whole in qed 𝓛 (‵ (trace_owns true t p ready seen) ∷ ‵ (right t o l q) ∷ []) ∵ fsplit ! $ fsplit ! $
+        use1 𝓛 (‵ N ⊛ ‵ N) (𝓛.invs.named_dup t.number J) $ split ! $ use1 𝓛 (‵ (finv J)) (𝓛.invs.named_inv t.number J) $ suffices ! _ (𝓛.invs.inv_acc J Z) $ frame ! $ assume ! (‵ J) $ suffices ! _ (upd_i 𝓤 (⟦ J ⟧ ∗ Z)) $
+        fpick ! (λ a. fsplit ! $ move ! (1 ∷ []) $ fsplit ! $ move ! (1 ∷ []) $ fsplit ! $ move ! (1 ∷ []) $ fsplit ! $ move ! (1 ∷ []) $ fsplit ! $ move ! (1 ∷ []) $ fpick ! (λ f. drop ! $ fsplit ! $
+        -- [tally; pool; seats; roll; located; latest; the book; reached; withheld and seat; right]
+        move ! (8 ∷ []) $ fsplit ! $ move ! (1 ∷ []) $
+        -- [seat; withheld; tally; pool; seats; roll; located; latest; the book; reached; right]
+        move ! (4 ∷ 0 ∷ []) $ use2 𝓛 (given ((p < length a.seats) × (get_or a.seats p (false, fresh_seat) ≡ (true, (ready, made_by p seen)))) (‵ (seated 𝓛 t a.seats) ⊛ ‵ (seat 𝓛 t p ready (made_by p seen))))
+        (row_finds seat_coded 𝓛 t.passes fresh_seat a.seats 0 p p quarter (ready, made_by p seen) (omega arith)) $ learn ! (λ seat_is. split ! $
+        -- [seats; seat; withheld; tally; pool; roll; located; latest; the book; reached; right]
+        move ! (5 ∷ 10 ∷ []) $ use2 𝓛 (given ((o < length a.roll) × (get_or a.roll o (false, no_lease) ≡ (true, l))) (‵ (rolled 𝓛 t a.roll) ⊛ ‵ (right t o l q)))
+        (row_finds lease_coded 𝓛 t.rights no_lease a.roll 0 o o q l (omega arith)) $ learn ! (λ owner_is. split ! $ let leased : l ≡ a.lease = f.leased o l owner_is.1 in
+        -- [roll; right; seats; seat; withheld; tally; pool; located; latest; the book; reached]
+        move ! (6 ∷ []) $ use1 𝓛 (given (how_many a.roll ≡ 1) (‵ (pool a.lease (how_many a.roll)))) (pool_alone 𝓛 t a.lease (how_many a.roll) (ap (λ (k : Lease). k.is_lent) (sym leased) ∙ unlent) (one-lives a.roll o l owner_is.1)) $ learn ! (λ one.
+        let alone : LivesAlone o (entries_of a.lines) = f.live ∙ one_is (living 0 a.roll) o (living-in 0 o o a.roll l (omega arith) owner_is.1) one in
+        -- [pool; roll; right; seats; seat; withheld; tally; located; latest; the book; reached]
+        move ! (8 ∷ 10 ∷ 5 ∷ []) $ use3 𝓛 (given (IsPrefix seen a.lines × (w ≡ true → seen ≡ a.lines)) (‵ (latest_of 𝓛 t a.lines) ⊛ ‵ (withheld t w seen))) (sees 𝓛 t w seen a.lines) $ learn ! (λ so. split ! $
+        use1 𝓛 (‵ (latest_of 𝓛 t a.lines) ⊛ ‵ (reached t a.lines)) (latest_shows lines_order 𝓛 (authority w) t.history a.lines a.lines (lines_order.same a.lines)) $ split ! $
+        -- [latest; reached; withheld; pool; roll; right; seats; seat; tally; located; the book]
+        move ! (2 ∷ []) $ use1 𝓛 (‵ (withheld t w a.lines)) (still w seen a.lines so.1) $ let same : made_by p seen ≡ made_by p a.lines = sym (ap (λ (s : Bool × Seat). s.1.1) seat_is.1) ∙ f.made p in
+        move ! (7 ∷ []) $ rewrite ! 0 (λ (m : List _). ‵ (seat 𝓛 t p ready m)) same refl $ move ! (1 ∷ 0 ∷ []) $ fjoin ! $
+        -- [withheld and seat; latest; reached; pool; roll; right; seats; tally; located; the book]
+        move ! (9 ∷ 2 ∷ []) $ fjoin ! $ move ! (0 ∷ 1 ∷ []) $ fjoin ! $
+        -- [the pass; latest; pool; roll; right; seats; tally; located]
+        move ! (1 ∷ 7 ∷ 3 ∷ 5 ∷ 6 ∷ 2 ∷ []) $ group ! 6 $ use1 𝓛 (‵ J) (shuts 𝓛 t a f) $ frame ! $ show ! (Onlied p ready seen o l q) a.lines $
+        check ! (so.0, sym same, (λ (e : w ≡ true). sym (so.1 e)), alone) $ done !))))))
 
     -- a sole owner who has the block back ends
     pub finishes_by : (p : ℕ) (ready : Bool) (seen : List Line) (o : ℕ) (l : Lease) → l.is_lent ≡ false → ⟦ trace_owns true t p ready seen ⟧ ∗ ⟦ right t o l quarter ⟧ ⊢ H.⇛ (ex 𝓤 (λ (ls : List Line). ⟦ after_finish t p ready seen o ls ⟧))

@@ -129,6 +129,11 @@ module _ {M : Type 1} {𝓤 : Ura M} (𝓛 : Logic 𝓤) (t : Names) where
   pool_sole l zero unlent live = absurd (omega arith)
   pool_sole l (suc n) unlent live = qed 𝓛 (‵ (pooled l.is_lent l n) ∷ []) ∵ rewrite ! 0 (λ (y : Bool). ‵ (pooled y l n)) unlent refl $ fpick ! (λ none. drop ! $ check ! (ap suc none) $ done !)
 
+  pub pool_alone : (l : Lease) (n : ℕ) → l.is_lent ≡ false → 0 < n → ⟦ pool l n ⟧ ⊢ guard 𝓤 (n ≡ 1) ⟦ pool l n ⟧
+  pool_alone l zero unlent live = absurd (omega arith)
+  pool_alone l (suc n) unlent live = qed 𝓛 (‵ (pooled l.is_lent l n) ∷ []) ∵ rewrite ! 0 (λ (y : Bool). ‵ (pooled y l n)) unlent refl $ fpick ! (λ none. drop ! $ check ! (ap suc none) $
+      nothing ! $ fpack ! (n ≡ 0) (λ _. ftrue) none $ use1 𝓛 (‵ (pooled false l n)) (id⊢ 𝓤 _) $ rewrite ! 0 (λ (y : Bool). ‵ (pooled y l n)) (sym unlent) refl $ done !)
+
   -- the word's number and the book's, while an owner lives, and after the last one ended without a step
   pub tallies : (n m : ℕ) → 0 < m → ⟦ counted_as t quarter n ⟧ ∗ ⟦ tally t m ⟧ ⊢ guard 𝓤 (n ≡ m) ⟦ counted_as t full_share m ⟧
   tallies n m live = qed 𝓛 (‵ (counted_as t quarter n) ∷ ‵ (tally t m) ∷ []) ∵ move ! (1 ∷ []) $ fpick ! (λ k. fsplit ! $ fpick ! (λ so. drop ! $ move ! (1 ∷ 0 ∷ []) $

@@ -92,7 +92,7 @@ impl<const MAX: u64, H: Mark> Owners<MAX, H> {
         ensures first { IsFirst MAX H.whole (owner_of result.1) }
         ensures pass { IsFreshPass (owner_of result.1) result.2 }
     {
-        let (word, right, trace) = H::open(MAX);
+        let (word, right, trace) = H::open(MAX, true);
         (
             Owners {
                 word,

@@ -207,6 +207,22 @@ fn sole_owner_takes_back(rt: HostRuntime) -> Result<(), Fail> {
     Ok(())
 }
 
+/// A block whose first owner has it whole, lends it, has it back, and ends.
+#[test]
+fn sole_owner_from_the_beginning(rt: HostRuntime) -> Result<(), Fail> {
+    let (owners, sole, mut pass) = Owners::<3, Whole>::new_sole();
+    sole.only(&mut pass);
+    let first = sole.lend();
+    assert!(rt; owners.alone_as(&first, &mut pass));
+    let Ok((sole, _term)) = owners.claim_as(first, &mut pass) else {
+        assert!(rt; false);
+        return Ok(());
+    };
+    sole.only(&mut pass);
+    sole.end_as(&mut pass);
+    Ok(())
+}
+
 #[test]
 fn alone_after_other_ended(rt: HostRuntime) -> Result<(), Fail> {
     let (owners, first, mut pass) = Owners::<8, Open>::new();

@@ -1,6 +1,7 @@
 //! Sole owners: a block taken back whole, lent anew, or ended without a step.
-ghost use Rattle.std.specs.Prelude.{◌≡◌, ◌≢◌, ◌==◌, true, false, IfOk, IfErr, is_ok};
-ghost use Rattle.arc_owners.specs.Passes.{block_of, owner_of, sole_owner, lease_of, IsOwnerOf, IsPassOf, Asks, Leaves, IsTermOf, EndsInOneStep, EndsWithoutStep, history_of};
+ghost use Rattle.std.specs.Prelude.{◌≡◌, ◌≢◌, ◌≤◌, ◌==◌, true, false, IfOk, IfErr, is_ok};
+ghost use Rattle.arc_owners.specs.Histories.{LivesAlone};
+ghost use Rattle.arc_owners.specs.Passes.{block_of, owner_of, sole_owner, lease_of, seen, IsOwnerOf, IsPassOf, IsFirst, IsFreshPass, SeesAlone, Asks, Leaves, IsTermOf, EndsInOneStep, EndsWithoutStep, history_of};
 
 use super::tokens::{Owners, Pass, Share, Sole, Term};
 use super::word::{Right, Spoils};
@@ -37,6 +38,33 @@ pub(super) fn claimed<H: Mark>(
 }
 
 impl<const MAX: u64, H: Mark> Owners<MAX, H> {
+    /// The count of a new block, which is 1: one owner, number 0, who has the block whole, and a pass that has seen nothing.
+    ///
+    /// `MAX`, at least 2, is how many owners may live at once. Takes no memory.
+    pub fn new_sole() -> (Owners<MAX, H>, Sole<H>, Pass<H>)
+        requires { 2 ≤ MAX }
+        ensures sole { (sole_owner result.1).block ≡ block_of result.0 }
+        ensures first { IsFirst MAX H.whole (sole_owner result.1) }
+        ensures pass { IsFreshPass (sole_owner result.1) result.2 }
+        ensures alone { LivesAlone (sole_owner result.1).number (seen result.2) }
+    {
+        let (word, right, trace) = H::open(MAX, false);
+        (
+            Owners {
+                word,
+                mark: PhantomData,
+            },
+            Sole {
+                right,
+                mark: PhantomData,
+            },
+            Pass {
+                trace,
+                mark: PhantomData,
+            },
+        )
+    }
+
     /// Takes the block back where the owner is alone, at the point of the one load that this takes, as `Arc::try_unwrap` does.
     ///
     /// Where other owners live, this one is handed back as it was. Takes no memory.
@@ -61,6 +89,15 @@ impl<const MAX: u64, H: Mark> Owners<MAX, H> {
 }
 
 impl<H: Mark> Sole<H> {
+    /// Shows a pass the block's whole history so far, in which no other owner lives. It adds no entry and takes no memory.
+    #[tactic(auto, using(crate::proofs::Calls::sees_alone))]
+    pub fn only(&self, pass: &mut Pass<H>)
+        requires pass { IsPassOf (sole_owner self.now).block pass.old }
+        ensures { SeesAlone (sole_owner self.now) pass.old pass.new }
+    {
+        self.right.only(&mut pass.trace);
+    }
+
     /// Lends the block anew, under the same history: the same owner, for a new lifetime. It adds no entry and takes no memory.
     pub fn lend(self) -> Share<H>
         ensures same { owner_of result ≡ sole_owner self }

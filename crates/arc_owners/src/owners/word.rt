@@ -91,12 +91,12 @@ impl Word {
     ghost use Rattle.arc_owners.specs.Traces.{IsHeld, IsOf, IsNext, IsOpened, SamePass, Wrote, FullIf, RaisedIf, Ends, Claimed, IsLodged};
     ghost use Rattle.std.specs.Prelude.{◌≢◌, ◌≤◌, []};
 
-    /// The word of a new block with one owner, its right, and a pass.
-    pub(crate) fn open(most: u64, whole: bool) -> (Word, Right, Trace)
+    /// The word of a new block with one owner, to whom it is lent or not, its right, and a pass.
+    pub(crate) fn open(most: u64, whole: bool, lent: bool) -> (Word, Right, Trace)
         requires { 1 ≤ most }
-        ensures { IsOpened most whole result.0 result.1 result.2 }
+        ensures { IsOpened most whole lent result.0 result.1 result.2 }
     {
-        let _ = (most, whole);
+        let _ = (most, whole, lent);
         (
             Word { bits: 1 },
             Right {
@@ -188,7 +188,7 @@ impl Right {
     ghost use mathlib.Core.List.{IsPrefix};
     ghost use Rattle.std.specs.Prelude.{[]};
     ghost use Rattle.arc_owners.specs.Book.{made_by};
-    ghost use Rattle.arc_owners.specs.Traces.{IsSole, IsOf, SamePass, Ends};
+    ghost use Rattle.arc_owners.specs.Traces.{IsSole, IsOf, SamePass, Ends, SeesSole};
 
     /// No right.
     pub(crate) fn none() -> Right
@@ -203,6 +203,12 @@ impl Right {
     pub(crate) fn finish(&mut self, pass: &mut Trace)
         requires { IsSole self.old.names self.old × IsOf self.old.names pass.old }
         ensures { SamePass self.old.names pass.old pass.new × Ends self.old.names pass.old pass.new self.old.owner true × (self.new.held ≡ false) }
+    {}
+
+    /// Shows a pass the block's whole history, in which a sole owner who has the block back lives alone.
+    pub(crate) fn only(&self, pass: &mut Trace)
+        requires { IsSole self.now.names self.now × IsOf self.now.names pass.old }
+        ensures { SeesSole self.now pass.old pass.new }
     {}
 
     /// A sole owner who has the block back lends it anew.

@@ -34,21 +34,21 @@ use Rattle.arc_owners.proofs.owners.word.Word.«open».Statement.{statement}
 use Rattle.arc_owners.proofs.owners.word.Word.«open».Code as code
 
 abbrev stayed : Stays f.ended.signature.params f.ended.kept
-stayed = (stay_dropped (plain (λ _. u64)) yes, (stay_dropped (plain (λ _. bool)) yes, tt))
+stayed = (stay_dropped (plain (λ _. u64)) yes, (stay_dropped (plain (λ _. bool)) yes, (stay_dropped (plain (λ _. bool)) yes, tt)))
 
 pub open_spec : {M : Type 1} → statement M
 open_spec 𝓤 𝓛 𝓜 𝓡 wired =
     let H = 𝓛.H in let 𝓣 = tables 𝓤 H 𝓜 𝓡 𝓡.env in let fn = code.function in let c = f.clauses 𝓛 𝓜.mem 𝓡.returns in
-    proved 𝓛 f.ended stayed c 𝓜 𝓡 (Goes-dropped 𝓛 0 (plain (λ _. u64)) yes (λ κs x w. refl), (Goes-dropped 𝓛 0 (plain (λ _. bool)) yes (λ κs x w. refl), tt)) f.Key.name fn (code.unfolded 𝓤 H 𝓜 𝓡 wired)
-    (λ κs. (uint_vals w64, (bool_vals, tt))) (λ κs. (uint_Tells w64, (bool_Tells, tt))) (λ κs qs bounds a gh are.
-    let most = a.0 in let w = a.1.0 in
-    let y : (walk_of 𝓛 f.ended stayed c).Ghost = ((κs, qs, bounds, a, (vint w64 most ∷ [], (bool_vals w, tt))), gh) in let Post : Val → SProp 𝓤 = (walk_of 𝓛 f.ended stayed c).post y in
+    proved 𝓛 f.ended stayed c 𝓜 𝓡 (Goes-dropped 𝓛 0 (plain (λ _. u64)) yes (λ κs x w. refl), (Goes-dropped 𝓛 0 (plain (λ _. bool)) yes (λ κs x w. refl), (Goes-dropped 𝓛 0 (plain (λ _. bool)) yes (λ κs x w. refl), tt))) f.Key.name fn (code.unfolded 𝓤 H 𝓜 𝓡 wired)
+    (λ κs. (uint_vals w64, (bool_vals, (bool_vals, tt)))) (λ κs. (uint_Tells w64, (bool_Tells, (bool_Tells, tt)))) (λ κs qs bounds a gh are.
+    let most = a.0 in let w = a.1.0 in let lent = a.1.1.0 in
+    let y : (walk_of 𝓛 f.ended stayed c).Ghost = ((κs, qs, bounds, a, (vint w64 most ∷ [], (bool_vals w, (bool_vals lent, tt)))), gh) in let Post : Val → SProp 𝓤 = (walk_of 𝓛 f.ended stayed c).post y in
     qed 𝓛 ((‵ ftrue ⊛ ‵ (owns (types_at f.ended.signature.params κs) a y.0.4)) ∷ given _ (‵ ftrue) ∷ []) ∵ keep ! (1 ∷ 0 ∷ []) $ learn ! (λ asked. drop ! $ split ! $ keep ! (0 ∷ []) $
-    enter ! 𝓣.C 𝓣.Λ fn (vint w64 most ∷ bool_vals w) Post $ alloc_all ! (λ l. pass_all ! refl ((tt, record { fits = are.0.1 }), ((tt, tt), tt)) $
-    use0 𝓛 (later (some (λ (x : Names × Lease). given ((x.0.most ≡ most) × (x.0.began ≡ Counted) × (x.0.whole ≡ w) × (x.1.is_lent ≡ true)) (‵ (behind x.0 1) ⊛ ‵ (right_owns true x.0 0 x.1 []) ⊛ ‵ (trace_owns true x.0 0 false []))))) (begins.begins 𝓛 most w asked are.0.1) $
+    enter ! 𝓣.C 𝓣.Λ fn (vint w64 most ∷ (bool_vals w ++ bool_vals lent)) Post $ alloc_all ! (λ l. pass_all ! refl ((tt, record { fits = are.0.1 }), ((tt, tt), ((tt, tt), tt))) $
+    use0 𝓛 (later (some (λ (x : Names × Lease). given ((x.0.most ≡ most) × (x.0.began ≡ Counted) × (x.0.whole ≡ w) × (x.1.is_lent ≡ lent)) (‵ (behind x.0 1) ⊛ ‵ (right_owns true x.0 0 x.1 []) ⊛ ‵ (trace_owns true x.0 0 false []))))) (begins.begins 𝓛 most w lent asked are.0.1) $
     await ! tt $ pick ! (λ x. learn ! (λ so. types.Kit.split3 ! $ let t = x.0 in
     -- [the word's; the right's; the pass's; no token]
-    sets ! (agg ! (and_then ! (get ! refl) (and_then ! (get ! refl) (no_more !)))) refl (tt, (record { fits = are.0.1 }, (tt, tt))) $ sets ! (agg ! (and_then ! (lit ! tt) (no_more !))) refl (tt, (record { fits = lit< tt }, tt)) $
+    sets ! (agg ! (and_then ! (get ! refl) (and_then ! (get ! refl) (and_then ! (get ! refl) (no_more !))))) refl (tt, (record { fits = are.0.1 }, (tt, (tt, tt)))) $ sets ! (agg ! (and_then ! (lit ! tt) (no_more !))) refl (tt, (record { fits = lit< tt }, tt)) $
     sets ! (agg ! (no_more !)) refl (tt, tt) $ sets ! (agg ! (and_then ! (get ! refl) (no_more !))) refl (tt, (tt, tt)) $ sets ! (agg ! (no_more !)) refl (tt, tt) $ sets ! (agg ! (and_then ! (get ! refl) (no_more !))) refl (tt, (tt, tt)) $
     sets ! (agg ! (and_then ! (get ! refl) (and_then ! (get ! refl) (and_then ! (get ! refl) (no_more !))))) refl (tt, ((record { fits = lit< tt }, tt), ((tt, tt), ((tt, tt), tt)))) $
     use1 𝓛 (‵ (Word.the_row.own_val t (word_val 1 ∷ []))) (word_made 𝓛 t 1 (lit< tt)) $
@@ -58,6 +58,6 @@ open_spec 𝓤 𝓛 𝓜 𝓡 wired =
     let v : Val = vstruct (vcons (word_val 1) (vcons token (vcons token vnil))) in let Rs : List denote.RattleType.RattleType = Word.the_row ∷ Right.the_row ∷ Trace.the_row ∷ [] in
     let right' : Right.the_row.Denot = record { marker = record {}; held = true; names = t; owner = 0; lease = x.1; born = [] } in let trace' : Trace.the_row.Denot = record { marker = record {}; bound = true; names = t; number = 0; ready = false; lines = [] } in
     feq_i ! (List Val) (v ∷ []) (v ∷ []) refl $ fjoin ! $ fpack ! (Valss Rs) (λ vss. fsep (feq (List Val) (v ∷ []) (vstruct (of_list (vss.0 ++ (vss.1.0 ++ (vss.1.1.0 ++ [])))) ∷ [])) (owns Rs (t, (right', (trace', tt))) vss)) (word_val 1 ∷ [], (token ∷ [], (token ∷ [], tt))) $
-    nothing ! $ nothing ! $ fjoin ! $ nothing ! $ fjoin ! $
+    nothing ! $ nothing ! $ fjoin ! $ nothing ! $ fjoin ! $ nothing ! $ fjoin ! $
     returns ! (look_at ! 0 refl) $ free_all ! refl $ keep ! (2 ∷ 0 ∷ 1 ∷ []) $
-    by ! (ends 𝓛 f.ended stayed c y v (t, right', trace') (tt, (tt, tt)) (tt, (tt, tt)) (fact_i 𝓤 _ (emp 𝓤) (so.0, so.1, so.2, (refl, refl, so.3), (refl, refl), refl, refl, refl, refl, refl))))))))
+    by ! (ends 𝓛 f.ended stayed c y v (t, right', trace') (tt, (tt, (tt, tt))) (tt, (tt, (tt, tt))) (fact_i 𝓤 _ (emp 𝓤) (so.0, so.1, so.2, (refl, refl, so.3), (refl, refl), refl, refl, refl, refl, refl))))))))
