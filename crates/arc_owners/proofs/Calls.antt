@@ -34,7 +34,7 @@ module _ {H : Type 0} (t : Names) (p r : Pass H) where
 
   pub appends : (e : List Line → Entry) (before : List Line) → SamePass t p.trace r.trace → Added e before → Appends t p r before (e before ∷ [])
   appends e before same a = record {
-    same = ((same.0, same.1), same.2, same.3);
+    same = ((same.0, same.1), same.2, λ (is : p.trace.ready ≡ true). same.3 ∙ is);
     after_seen = a.0.after_seen;
     none_own = a.0.own;
     undisturbed = a.0.undisturbed;
@@ -127,7 +127,7 @@ first_of most whole lent t r p so = let same : r.names ≡ t = so.3.1 in record 
 -- a sole owner showed the pass the whole history
 pub sees_alone : {H : Type 0} (own : Right) (p r : Pass H) → SeesSole own p.trace r.trace → SeesAlone (record { block = own.names; number = own.owner; born = own.born }) p r
 sees_alone own p r so = record {
-  same = ((so.0.0, so.0.1), so.0.2, so.0.3);
+  same = ((so.0.0, so.0.1), so.0.2, λ (is : p.trace.ready ≡ true). so.0.3 ∙ is);
   kept = so.1;
   own = ap (λ (n : ℕ). made_by n r.trace.lines) so.0.2 ∙ so.2;
   undisturbed = so.3;

@@ -99,12 +99,12 @@ module _ {H : Type 0} {o : Owner} {old new : Pass H} (c : HasCountIn o.block (se
   pub counted-full : FindsFull o old new → (before : List Line) × Appends o.block old new before (Full o.number ∷ []) × (length (live_owners (entries_of before)) ≡ o.block.most)
   counted-full full = (full.before, subst (λ (p : Pass H). Appends o.block p new full.before (Full o.number ∷ [])) (unjoined o c full.joined) full.added, full.full)
 
-same-joined : {H : Type 0} (o : Owner) {old middle : Pass H} → MayJoin o old middle → (middle.trace.number ≡ old.trace.number) × (middle.trace.ready ≡ old.trace.ready)
-same-joined {H = H} o (inl same) = (ap (λ (p : Pass H). p.trace.number) same, ap (λ (p : Pass H). p.trace.ready) same)
+same-joined : {H : Type 0} (o : Owner) {old middle : Pass H} → MayJoin o old middle → (middle.trace.number ≡ old.trace.number) × (old.trace.ready ≡ true → middle.trace.ready ≡ true)
+same-joined {H = H} o (inl same) = (ap (λ (p : Pass H). p.trace.number) same, λ is. ap (λ (p : Pass H). p.trace.ready) same ∙ is)
 same-joined o (inr joined) = (joined.2.same.1, joined.2.same.2)
 
 same-after : {H : Type 0} (o : Owner) {old middle : Pass H} (new : Pass H) → MayJoin o old middle → IsSamePass o.block middle new → IsSamePass o.block old new
-same-after o new joined same = let first = same-joined o joined in (same.0, same.1 ∙ first.0, same.2 ∙ first.1)
+same-after o new joined same = let first = same-joined o joined in (same.0, same.1 ∙ first.0, λ is. same.2 (first.1 is))
 
 -- each call is of the same pass
 module _ {H : Type 0} {o : Owner} {old new : Pass H} where

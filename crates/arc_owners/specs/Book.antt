@@ -24,6 +24,16 @@ use Rattle.arc_owners.specs.Machine.{begins_counted}
 use Rattle.std.proofs.Common.{refl, sym}
 use Rattle.std.proofs.lemmas.Bool.{false≢true}
 
+-- how a block begins is told by whether it has a count then
+pub beginning_told : (x y : Beginning) → begins_counted x ≡ begins_counted y → x ≡ y
+beginning_told Lone Lone e = refl
+beginning_told Lone Counted e = absurd (false≢true e)
+beginning_told Counted Lone e = absurd (false≢true (sym e))
+beginning_told Counted Counted e = refl
+
+abbrev pub beginning_coded : Coded Beginning
+beginning_coded = coded_via coded_bool begins_counted beginning_told
+
 -- which block it is: the number of its book, the ghost names in it, and what is fixed when it begins
 pub record Names : Type 0 where
   pub number : ℕ
@@ -35,16 +45,6 @@ pub record Names : Type 0 where
   pub most : ℕ
   pub began : Beginning
   pub whole : Bool
-
--- how a block begins is told by whether it has a count then
-pub beginning_told : (x y : Beginning) → begins_counted x ≡ begins_counted y → x ≡ y
-beginning_told Lone Lone e = refl
-beginning_told Lone Counted e = absurd (false≢true e)
-beginning_told Counted Lone e = absurd (false≢true (sym e))
-beginning_told Counted Counted e = refl
-
-abbrev pub beginning_coded : Coded Beginning
-beginning_coded = coded_via coded_bool begins_counted beginning_told
 
 abbrev pub names_coded : Coded Names
 names_coded = coded_via (coded× coded_ℕ (coded× coded_ℕ (coded× coded_ℕ (coded× coded_ℕ (coded× coded_ℕ (coded× coded_ℕ (coded× coded_ℕ (coded× beginning_coded coded_bool))))))))

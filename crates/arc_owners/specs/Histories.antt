@@ -92,11 +92,16 @@ HasNoCount began history = is_counted began history ≡ false
 
 -- the entry may stand after this history of a block that can have so many owners at most
 abbrev pub MayFollow : ℕ → Beginning → List Entry → Entry → Type 0
-MayFollow most began before (Up by new) = Lives by before × NeverLived new before × HasCount began before × (length (live_owners before) < most)
-MayFollow most began before (Full by) = Lives by before × HasCount began before × (length (live_owners before) ≡ most)
+MayFollow most began before (Up by new) =
+    Lives by before × (is_in new (owners_ever before) ≡ false) × (is_counted began before ≡ true)
+    × (length (live_owners before) < most)
+MayFollow most began before (Full by) =
+    Lives by before × (is_counted began before ≡ true) × (length (live_owners before) ≡ most)
 MayFollow most began before (Down owner) = Lives owner before
-MayFollow most began before (Alone by found) = Lives by before × HasCount began before × (IsTrue found ↔ LivesAlone by before)
-MayFollow most began before (Promote by new) = LivesAlone by before × NeverLived new before × HasNoCount began before
+MayFollow most began before (Alone by found) =
+    Lives by before × (is_counted began before ≡ true) × (IsTrue found ↔ LivesAlone by before)
+MayFollow most began before (Promote by new) =
+    LivesAlone by before × (is_in new (owners_ever before) ≡ false) × (is_counted began before ≡ false)
 MayFollow most began before (Joined by) = Lives by before × IsTrue (is_promoted before)
 
 -- each of these entries may stand where it stands, after this history

@@ -62,6 +62,16 @@ module _ {H : Type 0} where
   abbrev pub is_ready : Pass H → Bool
   is_ready p = p.trace.ready
 
+  -- of which block it is, if it is of one, and its number there
+  abbrev pub pass_block : Pass H → Names
+  pass_block p = p.trace.names
+
+  abbrev pub pass_number : Pass H → ℕ
+  pass_number p = p.trace.number
+
+  abbrev pub IsOfBlock : Pass H → Type 0
+  IsOfBlock p = p.trace.bound ≡ true
+
   -- a pass of this block, and one of none
   abbrev pub IsPassOf : Names → Pass H → Type 0
   IsPassOf t p = (p.trace.bound ≡ true) × (p.trace.names ≡ t)
@@ -69,9 +79,10 @@ module _ {H : Type 0} where
   abbrev pub IsPassOfNone : Pass H → Type 0
   IsPassOfNone p = p.trace.bound ≡ false
 
-  -- the same pass of this block
+  -- the same pass of this block, which once ready stays so
   abbrev pub IsSamePass : Names → Pass H → Pass H → Type 0
-  IsSamePass t old new = IsPassOf t new × (new.trace.number ≡ old.trace.number) × (new.trace.ready ≡ old.trace.ready)
+  IsSamePass t old new =
+      IsPassOf t new × (new.trace.number ≡ old.trace.number) × (old.trace.ready ≡ true → new.trace.ready ≡ true)
 
   -- The pass added these entries, one or none, to the history before them. That is all that it had seen and what others added since;
   -- under `Whole` nothing came between. What it has seen now is legal.
@@ -117,7 +128,7 @@ module _ {H : Type 0} where
   abbrev pub MayJoin : Owner → Pass H → Pass H → Type 0
   MayJoin o old new =
       (new ≡ old)
-      ⊎ ((before : List Line) × (is_counted o.block.began (seen old) ≡ false) × Appends o.block old new before (Joined o.number ∷ []))
+      ⊎ ((before : List Line) × (is_counted o.block.began (entries_of old.trace.lines) ≡ false) × Appends o.block old new before (Joined o.number ∷ []))
 
   -- through this owner another one of the same block was made: its number is how many the history had
   pub record MakesAnother (o : Owner) (old new : Pass H) (other : Owner) : Type 0 where
@@ -126,7 +137,7 @@ module _ {H : Type 0} where
     pub before : List Line
     pub added : Appends o.block middle new before
         (making (is_counted o.block.began (entries_of before)) o.number (length (owners_ever (entries_of before))) ∷ [])
-    pub made : other ≡ record { block = o.block; number = length (owners_ever (entries_of before)); born = history_of new }
+    pub made : other ≡ record { block = o.block; number = length (owners_ever (entries_of before)); born = new.trace.lines }
 
   -- the count was found at its greatest
   pub record FindsFull (o : Owner) (old new : Pass H) : Type 0 where

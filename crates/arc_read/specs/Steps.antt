@@ -5,7 +5,7 @@ use Rattle.arc_owners.specs.declared.error.OwnerError.{OwnerError}
 use Rattle.arc_owners.specs.declared.error.OwnerError.TheVariants.{AllocError, CountFull}
 use Rattle.arc_owners.specs.declared.owners.tokens.Pass.{Pass}
 use Rattle.arc_owners.specs.Book.{Names, Line}
-use Rattle.arc_owners.specs.Passes.{Owner, Appends, IsPassOf, IsPassOfNone, IsFirst, IsFreshPass, IsNewPass, FindsFull, MakesAnother, Asks}
+use Rattle.arc_owners.specs.Passes.{Owner, Appends, IsOfBlock, IsPassOf, IsPassOfNone, pass_block, pass_number, history_of, IsFirst, IsFreshPass, IsNewPass, FindsFull, MakesAnother, Asks}
 use Rattle.arc_block.specs.Block.{Sort, Facts}
 use Rattle.arc_block.specs.Place.{Place, nowhere, static_data, on_block, at_owner, for_owner}
 use Rattle.arc_block.specs.declared.block.TheConstants.{MAX_OWNERS}
@@ -40,7 +40,7 @@ pub record WithNewPass {M H : Type 0} (real : Names → ℕ → List Line → Ty
   pub last : Pass H
   pub new : at_owner place (IsPassOfNone first) (λ o. IsNewPass o first)
   pub called : call first last
-  pub there : last.trace.bound ≡ true → real last.trace.names last.trace.number last.trace.lines
+  pub there : IsOfBlock last → real (pass_block last) (pass_number last) (history_of last)
 
 module _ {T : Type 0} where
   -- a window was made of a list: on a block it is its first owner

@@ -1,4 +1,4 @@
-//! The owners of a block whose word began with a count.
+//! The calls on a count of owners.
 ghost use Rattle.std.specs.Prelude.{◌≡◌, ◌≢◌, ◌≤◌, ◌==◌, true, false, [], IfSome, IfNone, IfOk, IfErr};
 ghost use mathlib.Core.List.{IsPrefix};
 ghost use Rattle.arc_owners.specs.Passes.{block_of, owner_of, lease_of, IsFirst, IsFreshPass, IsOwnerOf, IsPassOf, IsPassOfNone, IsSamePass, IsNewPass, Learns, Asks, MakesAnother, FindsFull, Leaves, IsTermOf, HasCountIn, EndsInOneStep, history_of, seen};

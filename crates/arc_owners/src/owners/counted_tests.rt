@@ -1,4 +1,4 @@
-//! Owners whose word began with a count: the replies at the greatest count, and two threads.
+//! Owners and their count: the replies at the greatest count, and two threads.
 ghost use Rattle.std.specs.Prelude.{◌≡◌, [], ◌∷◌};
 ghost use Rattle.std.specs.List.{Contains};
 ghost use mathlib.Core.List.{IsPrefix};

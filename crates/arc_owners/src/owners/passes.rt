@@ -1,8 +1,6 @@
 //! Passes: of no block, new ones where the mark has many, and what one has seen.
-ghost use Rattle.std.specs.Prelude.{◌≡◌, true};
-ghost use Rattle.arc_owners.specs.Book.{entries_of};
 ghost use Rattle.arc_owners.specs.Histories.{IsLegal};
-ghost use Rattle.arc_owners.specs.Passes.{block_of, owner_of, sole_owner, IsOwnerOf, IsPassOf, IsPassOfNone, IsNewPass, Learns};
+ghost use Rattle.arc_owners.specs.Passes.{block_of, owner_of, sole_owner, pass_block, pass_number, seen, history_of, IsOfBlock, IsOwnerOf, IsPassOf, IsPassOfNone, IsNewPass, Learns};
 
 use super::tokens::{Owners, Pass, Share, Sole};
 use super::word::Trace;
@@ -22,17 +20,17 @@ impl<H: Mark> Pass<H> {
 
     /// What a pass of a block has seen is legal, and that the pass is there.
     pub fn attest(&self)
-        ensures legal { self.now.trace.bound ≡ true → IsLegal self.now.trace.names.most self.now.trace.names.began (entries_of self.now.trace.lines) }
-        ensures shown { self.now.trace.bound ≡ true → H.real self.now.trace.names self.now.trace.number self.now.trace.lines }
+        ensures legal { IsOfBlock self.now → IsLegal (pass_block self.now).most (pass_block self.now).began (seen self.now) }
+        ensures shown { IsOfBlock self.now → H.real (pass_block self.now) (pass_number self.now) (history_of self.now) }
     {
         H::attest(&self.trace);
     }
 
     /// Afterwards the pass has seen at least what another of the same block had. It adds no entry and takes no memory.
     pub fn learn(&mut self, other: &Pass<H>)
-        requires bound { self.old.trace.bound ≡ true }
-        requires other { IsPassOf self.old.trace.names other.now }
-        ensures { Learns self.old.trace.names self.old other.now self.new }
+        requires bound { IsOfBlock self.old }
+        requires other { IsPassOf (pass_block self.old) other.now }
+        ensures { Learns (pass_block self.old) self.old other.now self.new }
     {
         self.trace.learn(&other.trace);
     }

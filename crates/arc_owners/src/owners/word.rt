@@ -257,22 +257,6 @@ impl Trace {
 }
 
 impl Lodging {
-    /// The word lies at this place.
-    ///
-    /// # Safety
-    ///
-    /// The word is lodged there: a borrow of it, for the lifetime of the block's lease, stands behind an invariant.
-    pub unsafe fn new(place: *const u64) -> Lodging
-        ghost of: { Names × ℕ }
-        requires* { sem 𝓛 (lodged of.0 place of.1) }
-        ensures { (result.names ≡ of.0) × (result.at ≡ place) × (result.lifetime ≡ of.1) }
-    {
-        let _ = place;
-        Lodging {
-            marker: PhantomData,
-        }
-    }
-
     /// The word, for as long as an owner is borrowed to whom the block is lent.
     ///
     /// # Safety
