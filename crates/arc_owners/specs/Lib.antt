@@ -8,3 +8,4 @@ pub mod Traces
 pub mod Releases
 pub mod Passes
 pub mod Pieces
+pub mod SoleBoxes

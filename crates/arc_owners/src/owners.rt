@@ -14,6 +14,7 @@ mod piece;
 mod raw;
 mod replays;
 mod sole;
+mod sole_box;
 mod tokens;
 pub(crate) mod word;
 mod world;
@@ -25,6 +26,7 @@ pub use kept::Kept;
 pub use loan::Loan;
 pub use piece::Piece;
 pub use replays::{replay, replay_lone};
+pub use sole_box::SoleBox;
 pub use tokens::{Owners, Pass, Release, Share, Sole, Term};
 pub use word::{Lodging, Right};
 pub use world::World;
@@ -37,5 +39,7 @@ mod forget_tests;
 mod piece_tests;
 #[cfg(test)]
 mod raise_tests;
+#[cfg(test)]
+mod sole_box_tests;
 #[cfg(test)]
 mod tests;

@@ -28,7 +28,7 @@ impl<T: Drop, A: Allocator> Bare<T, A> {
 
     /// The box again.
     pub(crate) fn into_box(self) -> Box<T, A>
-        ensures { result.value ≡ self.value }
+        ensures { (result.value ≡ self.value) × (box_allocator result ≡ self.alloc) }
     {
         let Bare { at, alloc } = self;
         unsafe { Box::from_raw(alloc, at) }

@@ -6,6 +6,7 @@ use super::home::Room;
 use super::kept::Kept;
 use super::lent::Lent;
 use super::loan::Loan;
+use super::sole_box::SoleBox;
 use super::tokens::{Owners, Pass, Release, Share, Term};
 use super::word::Lodging;
 use crate::error::CountFull;
@@ -34,6 +35,7 @@ pub struct Piece<V: Drop, A: Allocator + Copy, const MAX: u64, H: Mark = Open> {
     pub(super) share: Share<H>,
     ghost greatest: { lodging.names.most ≡ MAX },
     ghost counted: { share.right.names ≡ lodging.names },
+    ghost worded: { kept.value.word ≡ lodging.names },
     ghost lodged: { (lodging.at ≡ word) × (lodging.lifetime ≡ share.right.lease.lifetime) },
     ghost shown: { (loan.at ≡ value) × (loan.lifetime ≡ share.right.lease.lifetime) },
     ghost comes_back: { (kept.at ≡ at) × (kept.alloc ≡ loan.value.alloc) × (kept.lease ≡ share.right.lease) × (kept.value.value ≡ loan.value) },
@@ -43,6 +45,9 @@ impl<V: Drop, A: Allocator + Copy, const MAX: u64, H: Mark> Piece<V, A, MAX, H> 
     ghost use Rattle.std.specs.Prelude.{◌≡◌, ◌≤◌, IfOk, IfErr, IfSome, is_some, is_ok, true, false, None};
     ghost use Rattle.arc_owners.specs.Passes.{IsPassFor, IsPassOfNone, IsFirst, IsFreshPass, IsNewPass, Learns, Asks, FindsFull, MakesAnother, Leaves, TakesBlock, EndsByItself};
     ghost use Rattle.arc_owners.specs.Pieces.{owner_in, value_of};
+    ghost use Rattle.arc_owners.specs.SoleBoxes.{sole_in, sole_value};
+    ghost use Rattle.arc_owners.specs.Passes.{owner_of};
+    ghost use Rattle.std_alloc.specs.Box.{box_allocator};
 
     /// The first owner of a value, with a pass of its block. Takes memory, for the value and the count together; refused, the value
     /// comes back. `MAX`, at least 2, is how many owners may live at once.
@@ -62,6 +67,15 @@ impl<V: Drop, A: Allocator + Copy, const MAX: u64, H: Mark> Piece<V, A, MAX, H> 
                 return Err(value.value);
             }
         };
+        Ok((Piece::settled(memory, share), pass))
+    }
+
+    /// The owner of the value that lies in this memory, which is lent to it.
+    pub(super) fn settled(memory: Box<Room<Housed<V, A>>, A>, share: Share<H>) -> Self
+        requires count { (share.right.names ≡ memory.value.word) × (memory.value.word.most ≡ MAX) }
+        requires memory { box_allocator memory ≡ memory.value.value.alloc }
+        ensures { (owner_in result ≡ owner_of share) × (value_of result ≡ memory.value.value.value) }
+    {
         let mut right = share.right;
         let (at, _, lent, kept) = Lent::of(Bare::of(memory), &right);
         let (word, lodging, value, loan) = unsafe { Room::settle(lent, at, &mut right) };
@@ -69,18 +83,15 @@ impl<V: Drop, A: Allocator + Copy, const MAX: u64, H: Mark> Piece<V, A, MAX, H> 
             right,
             mark: PhantomData,
         };
-        Ok((
-            Piece {
-                at,
-                word,
-                value,
-                lodging,
-                loan,
-                kept,
-                share,
-            },
-            pass,
-        ))
+        Piece {
+            at,
+            word,
+            value,
+            lodging,
+            loan,
+            kept,
+            share,
+        }
     }
 
     /// The value.
@@ -103,6 +114,44 @@ impl<V: Drop, A: Allocator + Copy, const MAX: u64, H: Mark> Piece<V, A, MAX, H> 
         ensures entry { Asks (owner_in self.now) pass.old pass.new result }
     {
         unsafe { Owners::<MAX, H>::alone_raw(self.word, &self.lodging, &self.share, pass) }
+    }
+
+    /// The memory back, with the value in it, where no other owner lives: the same owner has both. Else it is handed back. Adds Alone
+    /// with the answer. Takes no memory.
+    pub fn try_into_sole_as(self, pass: &mut Pass<H>) -> Result<SoleBox<V, A, MAX, H>, Self>
+        requires pass { IsPassFor (owner_in self) pass.old }
+        ensures entry { Asks (owner_in self) pass.old pass.new (is_ok result) }
+        ensures sole { IfOk result (λ b. (sole_in b ≡ owner_in self) × (sole_value b ≡ value_of self)) }
+        ensures back { IfErr result (λ piece. (owner_in piece ≡ owner_in self) × (value_of piece ≡ value_of self)) }
+    {
+        let alloc = self.housed().alloc;
+        let Piece {
+            at,
+            word,
+            value,
+            lodging,
+            loan,
+            kept,
+            share,
+        } = self;
+        match unsafe { Owners::<MAX, H>::claim_raw(word, &lodging, share, pass) } {
+            Ok((sole, term)) => {
+                let memory = unsafe { kept.take(at.cast_mut(), alloc, term) };
+                Ok(SoleBox {
+                    memory: memory.into_box(),
+                    sole,
+                })
+            }
+            Err(share) => Err(Piece {
+                at,
+                word,
+                value,
+                lodging,
+                loan,
+                kept,
+                share,
+            }),
+        }
     }
 
     /// The value back, and the memory to its allocator, where no other owner lives: adds Alone, then the Down of this one. Else it is

@@ -3,21 +3,21 @@ use Rattle.std.proofs.Common.{◌≡◌, List, [], ◌∷◌, ◌++◌, refl, sy
 use mir.Syntax.{a_type, dcons, dnil}
 use mir.Val.{Val, vptr}
 use mir.MapTy.{inst_fn}
-use base.Logic.{SProp, ent, id⊢}
+use base.Logic.{SProp, ent, id⊢, emp}
 use base.Fml.{ftrue, flft}
 use prog.Wp.{WpFn}
-use types.Kit.{‵, raw, ◌⊛◌, some, later, at_ret, ◌$◌, ◌∵◌, !, qed, by, move, keep, split, split3, join, fsplit, fjoin, pick, suffices, use1, await, rewrite, feq_i}
+use types.Kit.{‵, raw, ◌⊛◌, some, later, at_ret, ◌$◌, ◌∵◌, !, qed, by, move, keep, split, split3, join, fsplit, fjoin, pick, suffices, use1, await, rewrite, feq_i, use0}
 use types.Run.{stop, fld, of_opd, no_more, and_then, first, blocks, exec, returns, enter}
 use types.ByLocal.{alloc_all, pass_all, free_all, look_at, get, get_in, sets, lands_last, env}
 use types.Part.{sub, whole}
-use contract.Monad.{fact}
+use contract.Monad.{fact, fact_i}
 use contract.BorrowLft.{◌⊑◌}
 use contract.Running.{tables}
 use denote.Exit.{no}
 use denote.RattleType.{owns}
 use denote.Signature.{types_at, plain}
 use denote.RawPtr.{block_ptr}
-use denote.Steps.{nothing, only}
+use denote.Steps.{nothing, only, heard}
 use denote.Param.{layout, bounded}
 use denote.Triple.Clauses.{Lasts, lasts}
 use denote.Triple.Spec.{triple_of}
@@ -60,9 +60,11 @@ into_box_spec 𝓤 𝓛 𝓜 𝓡 wired T A L LA g d dt da allocator glue glued 
     sets ! (of_opd ! (get_in ! (fld ! refl (stop !)) (sub ! 0 refl (whole !)))) refl (tt, tt) $ sets ! (of_opd ! (get_in ! (fld ! refl (stop !)) (sub ! 1 refl (whole !)))) refl fits $ first ! $ blocks ! $ sets ! (of_opd ! (get ! refl)) refl fits $
     calls_at_last ! (fm 𝓛 𝓜 𝓡) G (met 𝓤 𝓛 𝓜 𝓡 (code.calls-std_alloc::boxed::Box::from_raw 𝓡.env wired) T A L LA g d da allocator glued) z (and_then ! (get ! refl) (and_then ! (get ! refl) (no_more !))) (λ u.
     use1 𝓛 (later (some (λ (r : D E). (alive ⊛ ‵ ((B E).own_val r (u ∷ []))) ⊛ some (λ (ws : Lasts (callee.ended T A g d da) κs z.0.3). ‵ (lasts (callee.ended T A g d da) κs z.0.3 ws) ⊛ (raw (fact 𝓤 (r.value ≡ was.value)) ⊛ raw (fact 𝓤 (r.alloc ≡ was.alloc))))))) (id⊢ 𝓤 (G.post z u)) $
-    await ! tt $ pick ! (λ r. split ! $ move ! (1 ∷ []) $ pick ! (λ ws. split3 ! $ move ! (3 ∷ 1 ∷ []) $ split ! $ move ! (1 ∷ []) $
+    await ! tt $ pick ! (λ r. split ! $ move ! (1 ∷ []) $ pick ! (λ ws. split3 ! $ move ! (3 ∷ 1 ∷ []) $ split ! $ move ! (2 ∷ []) $
+    heard ! (r.value ≡ was.value) (λ same_value. move ! (3 ∷ []) $ heard ! (r.alloc ≡ was.alloc) (λ same_alloc.
+    use0 𝓛 (raw (fact 𝓤 ((r.value ≡ was.value) × (r.alloc ≡ was.alloc)))) (fact_i 𝓤 ((r.value ≡ was.value) × (r.alloc ≡ was.alloc)) (emp 𝓤) (same_value, same_alloc)) $ move ! (2 ∷ 1 ∷ 0 ∷ []) $
     -- [the box; the tokens; its value]
     box_out E ! r (u ∷ []) (λ b₂ o₂ h₂ at_b₂ is₂ fits₂. box_in E ! r b₂ o₂ r.value at_b₂ refl $ rewrite ! 0 (λ (us : List Val). ‵ ((B E).own_val r us)) (sym is₂) refl $
     let typed₂ : Good (layout (B E)) u = subst (Good (layout (B E))) (sym (ap only is₂)) (box_typed E h₂ b₂ o₂ fits₂) in
     lands_last ! refl typed₂ $ exec ! 𝓣.C 𝓣.Λ Ev (after 3 fn.body) (at_ret Ev Post) $ sets ! (of_opd ! (get ! refl)) refl typed₂ $ nothing ! $ nothing ! $ fjoin ! $
-    returns ! (look_at ! 0 refl) $ free_all ! refl $ keep ! (2 ∷ 0 ∷ 1 ∷ 3 ∷ []) $ by ! (leaves 𝓛 En hs c y u r ((tt, (tt, tt)), tt) (tt, tt)))))))))
+    returns ! (look_at ! 0 refl) $ free_all ! refl $ keep ! (2 ∷ 0 ∷ 1 ∷ 3 ∷ []) $ by ! (leaves 𝓛 En hs c y u r ((tt, (tt, tt)), tt) (tt, tt)))))))))))
