@@ -42,6 +42,10 @@ counted-after began h [] c = subst (λ (es : List Entry). is_counted began es �
 counted-after began h (e ∷ more) c =
     subst (λ (es : List Entry). is_counted began es ≡ true) (append_assoc h (e ∷ []) more) (counted-after began (h ++ e ∷ []) more (counted-more began h e c))
 
+-- a word that began with a count has one after every history
+pub counted_ever : (t : Names) (h : List Entry) → HasCountIn t [] → HasCountIn t h
+counted_ever t h c = counted-after t.began [] h c
+
 module _ {H : Type 0} {t : Names} {old new : Pass H} {before : List Line} {es : List Entry} (a : Appends t old new before es) where
   -- the pass has seen the history before, and these entries
   pub seen-after : seen new ≡ entries_of before ++ es

@@ -1,6 +1,6 @@
 //! Raises through one owner in four threads: one that is overtaken reads the count again.
-ghost use Rattle.std.specs.Prelude.{◌≡◌};
-ghost use Rattle.arc_owners.specs.Passes.{block_of, IsOwnerOf};
+ghost use Rattle.std.specs.Prelude.{◌≡◌, []};
+ghost use Rattle.arc_owners.specs.Passes.{block_of, HasCountIn, IsOwnerOf};
 
 use super::{Owners, Share};
 use crate::mark::Open;
@@ -33,13 +33,14 @@ fn wait_for_four(come: &AtomicU64) {
 /// Makes owners through one owner, once four threads have come. It answers how many were made.
 ///
 /// Each is forgotten and so lives on: the number that a raise once found never comes back.
+#[tactic(auto, using(crate::proofs::Wholes::counted_ever))]
 fn raised<R: Wait>(
     rt: &R,
     owners: &Owners<MOST, Open>,
     first: &Share<Open>,
     come: &AtomicU64,
 ) -> u32
-    requires { IsOwnerOf (block_of owners.now) first.now }
+    requires { IsOwnerOf (block_of owners.now) first.now × HasCountIn (block_of owners.now) [] }
 {
     wait_for_four(come);
     let mut pass = owners.pass(first);
@@ -59,15 +60,15 @@ fn raised_by_two<R: Threads + Wait + Sync>(
     first: &Share<Open>,
     come: &AtomicU64,
 ) -> (u32, u32)
-    requires { IsOwnerOf (block_of owners.now) first.now }
+    requires { IsOwnerOf (block_of owners.now) first.now × HasCountIn (block_of owners.now) [] }
 {
     join(
         rt,
         || -> u32
-            requires { IsOwnerOf (block_of owners.now) first.now }
+            requires { IsOwnerOf (block_of owners.now) first.now × HasCountIn (block_of owners.now) [] }
         { raised(rt, owners, first, come) },
         || -> u32
-            requires { IsOwnerOf (block_of owners.now) first.now }
+            requires { IsOwnerOf (block_of owners.now) first.now × HasCountIn (block_of owners.now) [] }
         { raised(rt, owners, first, come) },
     )
 }
@@ -80,10 +81,10 @@ fn raised_by_four<R: Threads + Wait + Sync>(rt: &R) -> ((u32, u32), (u32, u32), 
     let (one, two) = join(
         rt,
         || -> (u32, u32)
-            requires { IsOwnerOf (block_of owners) first }
+            requires { IsOwnerOf (block_of owners) first × HasCountIn (block_of owners) [] }
         { raised_by_two(rt, &owners, &first, &come) },
         || -> (u32, u32)
-            requires { IsOwnerOf (block_of owners) first }
+            requires { IsOwnerOf (block_of owners) first × HasCountIn (block_of owners) [] }
         { raised_by_two(rt, &owners, &first, &come) },
     );
     let full = owners.up_as(rt, &first, &mut pass).is_err();
