@@ -1,22 +1,17 @@
 -- What a step of the word leaves, as contracts say it.
-use Rattle.std.proofs.Common.{inl, inr, ◌≡◌, ℕ, Bool, true, false, eqb, List, [], ◌∷◌, ◌++◌, length, refl, sym, ap, ◌∙◌, subst}
-use Rattle.std.specs.Prelude.{IsTrue, ◌↔◌}
+use Rattle.std.proofs.Common.{inl, inr, ◌≡◌, ℕ, Bool, true, false, List, [], ◌∷◌, ◌++◌, refl, sym, ap, ◌∙◌, subst}
 use Rattle.std.proofs.lemmas.Bool.{false≢true}
 use Rattle.std.proofs.lemmas.List.{same_from_push}
-use mathlib.Core.List.{IsPrefix}
-use Rattle.arc_owners.specs.declared.mark.Mark.{Ghosts}
 use Rattle.arc_owners.specs.declared.owners.entry.Entry.{Entry}
 use Rattle.arc_owners.specs.declared.owners.entry.Entry.TheVariants.{Up, Full, Down, Alone}
-use Rattle.arc_owners.specs.declared.owners.tokens.Share.{Share}
 use Rattle.arc_owners.specs.declared.owners.tokens.Pass.{Pass}
 use Rattle.arc_owners.specs.declared.owners.word.Right.{Right}
 use Rattle.arc_owners.specs.declared.owners.word.Trace.{Trace}
-use Rattle.arc_owners.specs.Book.{Names, Line, Lease, entries_of, made_by, next_owner, AddedTo}
+use Rattle.arc_owners.specs.Book.{Names, Line, entries_of, made_by, next_owner, AddedTo}
 use Rattle.arc_owners.specs.Histories.{Beginning, Counted, LivesAlone, owners_ever, owners_ended, live_owners, is_counted, IsLegal}
-use Rattle.arc_owners.specs.Machine.{Machine}
 use Rattle.arc_owners.specs.Agreement.{Tells, Agrees}
-use Rattle.arc_owners.specs.Traces.{IsOf, SamePass, Wrote, FullIf, RaisedIf, Ends, IsFork, IsOpened, EndsWithNew, SeesSole}
-use Rattle.arc_owners.specs.Passes.{Owner, Appends, Asks, MakesAnother, FindsFull, Leaves, SeesAlone, IsSamePass, EndsInOneStep, EndsWithoutStep, EndsByItself, IsFirst, making, reading, history_of}
+use Rattle.arc_owners.specs.Traces.{IsOf, SamePass, Wrote, FullIf, RaisedIf, Ends, IsOpened, EndsWithNew, SeesSole}
+use Rattle.arc_owners.specs.Passes.{Owner, Appends, Asks, MakesAnother, FindsFull, Leaves, SeesAlone, EndsInOneStep, EndsWithoutStep, EndsByItself, IsFirst, making, reading, history_of}
 use Rattle.arc_owners.proofs.Legality.{legal-front, legal-at}
 use Rattle.arc_owners.proofs.Book.Rolls.{entries-append}
 use Rattle.arc_owners.proofs.Book.Events.{one_step}

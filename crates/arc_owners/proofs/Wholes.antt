@@ -1,12 +1,10 @@
 -- What a call's record says of the history before it, where the word has a count; what a pass has seen under `Whole`, where nothing
 -- comes between two calls of the one pass; and who lives then.
-use Rattle.std.proofs.Common.{inl, inr, ◌≡◌, ℕ, ◌≤◌, Bool, true, false, List, [], ◌∷◌, ◌++◌, length, Some, None, refl, sym, ap, ◌∙◌, subst, append-nil, append_assoc, eqb}
+use Rattle.std.proofs.Common.{inl, inr, ◌≡◌, ℕ, Bool, true, false, List, [], ◌∷◌, ◌++◌, length, Some, None, refl, sym, ap, ◌∙◌, subst, append-nil, append_assoc, eqb}
 use Rattle.std.specs.Prelude.{IsTrue, ◌↔◌, map, IfOk, IfErr, Result, Ok, Err}
-use Rattle.std.specs.List.{cons_option}
 use Rattle.std.proofs.lemmas.Bool.{cases_Bool, eq-eqb, false≢true}
-use mathlib.Core.List.{IsPrefix}
 use Rattle.arc_owners.specs.declared.owners.entry.Entry.{Entry}
-use Rattle.arc_owners.specs.declared.owners.entry.Entry.TheVariants.{Up, Full, Down, Alone, Promote, Joined}
+use Rattle.arc_owners.specs.declared.owners.entry.Entry.TheVariants.{Up, Full, Alone, Joined}
 use Rattle.arc_owners.specs.declared.mark.Mark.{Ghosts}
 use Rattle.arc_owners.specs.declared.owners.tokens.Pass.{Pass}
 use Rattle.arc_owners.specs.declared.owners.tokens.Share.{Share}

@@ -5,7 +5,7 @@ use Rattle.std.proofs.lemmas.List.{append-nil}
 use Rattle.arc_owners.specs.declared.owners.entry.Entry.{Entry}
 use Rattle.arc_owners.specs.declared.owners.entry.Entry.TheVariants.{Up, Full, Down, Alone}
 use Rattle.arc_owners.specs.Histories.{Beginning, is_in, owner_made, owner_ended, live_owners, owners_ever, is_counted, MayFollow, IsLegal, Lives, NeverLived}
-use Rattle.arc_owners.specs.Machine.{beginning, without_number}
+use Rattle.arc_owners.specs.Machine.{without_number}
 use Rattle.arc_owners.specs.Book.{Names, entries_of, made_by, Lease, no_lease, Seat, fresh_seat, living, upto, how_many, Account, Fits}
 use Rattle.arc_owners.proofs.Owned.{live-same, live-ended, ever-append}
 use Rattle.arc_owners.proofs.Legality.{legal-append}

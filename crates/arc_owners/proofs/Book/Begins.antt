@@ -21,7 +21,6 @@ use types.Tokens.{lft_new}
 use types.Kit.{‵, raw, ◌⊛◌, some as any, given, later, ◌$◌, ◌∵◌, !, qed, by, move, drop, split, fsplit, fjoin, fpick, fpack, pick, learn, show, check, assume, frame, group, done, use0, use1, use2, use3, rewrite, suffices, settle, updating, await, now}
 use denote.Steps.{nothing}
 use Rattle.arc_owners.specs.Histories.{Counted, LivesAlone, IsLegal, is_counted, live_owners, owners_ever, owners_ended}
-use Rattle.arc_owners.specs.Machine.{beginning}
 use Rattle.arc_owners.specs.Book.{Names, Line, entries_of, told_of, trace_shares, made_by, Lease, lease_coded, no_lease, Seat, seat_coded, fresh_seat, halved, cell, row, tally, right, lines_order, reached, authority, withheld, places, is_there, told, pool, stake, how_many, living, Account, Fits, contents, behind, known, right_owns, trace_owns, pass_holds, finished_by, after_finish, Lowered}
 use Rattle.arc_owners.proofs.Book.Rolls.{get-more, get-last, living-relet, living-in}
 use Rattle.arc_owners.proofs.Book.Cells.{row_new, row_adds, row_finds, row_writes, cell_parts}

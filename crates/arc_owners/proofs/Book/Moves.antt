@@ -11,13 +11,12 @@ use types.Kit.{‵, raw, ◌⊛◌, given, ◌$◌, ◌∵◌, !, qed, by, move,
 use denote.Steps.{nothing}
 use Rattle.arc_owners.specs.declared.owners.entry.Entry.{Entry}
 use Rattle.arc_owners.specs.declared.owners.entry.Entry.TheVariants.{Up, Full, Down, Alone}
-use Rattle.arc_owners.specs.Histories.{is_counted, MayFollow, IsLegal}
-use Rattle.arc_owners.specs.Machine.{beginning}
+use Rattle.arc_owners.specs.Histories.{MayFollow}
 use Rattle.arc_owners.specs.Book.{Names, Line, entries_of, made_by, withheld, has_place, located, Lease, lease_coded, no_lease, Seat, seat_coded, fresh_seat, right, counted_as, tally, pool, stake, how_many, Account, Fits, contents, behind, pass_holds, Adds, left_by, added, next_owner, looked, glanced, glanced_at, raised_by, spoils, lowered_by, told, how_many_live, taken, claim_gain, claimed_by, finished_by}
 use Rattle.arc_owners.proofs.Book.Accounts.{wrote, relet, fits-relet, raised, lowered, fits-aside, fits-raised, fits-lowered, how_many-raised, how_many-lowered, lives, some-live, one-lives, may-look, may-raise, may-full}
-use Rattle.arc_owners.proofs.Book.Rolls.{length-upto, living-relet, entries-append, made-own}
+use Rattle.arc_owners.proofs.Book.Rolls.{length-upto, living-relet, made-own}
 use Rattle.arc_owners.proofs.Book.Cells.{row_adds, row_ends, row_writes, row_finds}
-use Rattle.arc_owners.proofs.Book.Parts.{ended_counts, pool_more, pool_less, pool_last, pool_sole, counts, Seen, sees, tally_ends}
+use Rattle.arc_owners.proofs.Book.Parts.{ended_counts, pool_more, pool_less, pool_last, pool_sole, Seen, sees, tally_ends}
 use Rattle.arc_owners.proofs.Book.Opened.{latest_of, rolled, seated, seat, Shown, Open, opened, owes, shut, shuts, WrittenDown, writes_down}
 
 module _ {M : Type 1} {𝓤 : Ura M} (𝓛 : Logic 𝓤) (t : Names) (p : ℕ) (ready : Bool) (seen : List Line) (o : ℕ) (l : Lease) where

@@ -1,5 +1,5 @@
 -- The book opened for one step, with the number of the word, a pass and a share of an owner's right; and shut again with one more line. Assumes `Logic`.
-use Rattle.std.proofs.Common.{◌≡◌, ℕ, ◌<◌, Bool, true, false, List, [], ◌∷◌, ◌++◌, length, get_or, refl, sym, ap, ◌∙◌, subst, arith}
+use Rattle.std.proofs.Common.{◌≡◌, ℕ, ◌<◌, Bool, true, false, List, [], ◌∷◌, ◌++◌, length, get_or, refl, sym, ap, ◌∙◌, arith}
 use mathlib.Core.List.{IsPrefix}
 use seplogic.Ra.Ura.{Ura}
 use base.Fraction.{full_share}
@@ -11,10 +11,9 @@ use types.Logic.{Logic, sem}
 use types.Kit.{‵, raw, ◌⊛◌, given, ◌$◌, ◌∵◌, !, qed, by, move, drop, split, split3, fsplit, fjoin, fpick, fpack, learn, check, done, frame, assume, use1, use2, use3, rewrite, suffices, settle}
 use denote.Steps.{nothing}
 use Rattle.arc_owners.specs.declared.owners.entry.Entry.{Entry}
-use Rattle.arc_owners.specs.Histories.{is_counted, MayFollow}
-use Rattle.arc_owners.specs.Machine.{beginning}
+use Rattle.arc_owners.specs.Histories.{MayFollow}
 use Rattle.arc_owners.specs.Book.{Names, Line, entries_of, made_by, reached, withheld, has_place, located, Lease, lease_coded, no_lease, Seat, seat_coded, fresh_seat, cell, row, right, counted_as, tally, pool, how_many, Account, Fits, standing, contents, behind, pass_holds, Adds, left_by, added}
-use Rattle.arc_owners.proofs.Book.Rolls.{entries-append, made-own}
+use Rattle.arc_owners.proofs.Book.Rolls.{made-own}
 use Rattle.arc_owners.proofs.Book.Accounts.{seat_of, seat_set, wrote_for, one-lives}
 use Rattle.arc_owners.proofs.Book.Cells.{cell_parts, row_finds, row_writes}
 use Rattle.arc_owners.proofs.Book.Parts.{top, Seen, sees, writes, counts, Same_count, counts_on, keyed, stays, tallies, tally_in}

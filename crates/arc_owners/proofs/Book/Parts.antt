@@ -19,7 +19,6 @@ use denote.Steps.{nothing}
 use Rattle.arc_owners.specs.declared.owners.entry.Entry.{Entry}
 use Rattle.arc_owners.specs.declared.owners.entry.Entry.TheVariants.{Down}
 use Rattle.arc_owners.specs.Histories.{is_counted}
-use Rattle.arc_owners.specs.Machine.{beginning}
 use base.Stored.{coded_ℕ}
 use Rattle.arc_owners.specs.Book.{Names, counted_as, tally_of, tally, Line, entries_of, lines_order, authority, reached, withheld, places, is_there, has_place, located, told, Lease, pooled, pool, staked, stake}
 use Rattle.arc_owners.proofs.Steps.{counted-more, counted-ended}

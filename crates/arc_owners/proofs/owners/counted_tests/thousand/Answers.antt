@@ -1,4 +1,4 @@
-use Rattle.std.proofs.Common.{◌≡◌, refl, sym, subst}
+use Rattle.std.proofs.Common.{refl, sym, subst}
 use Rattle.arc_owners.proofs.Wholes.{KnowsCount, knows-made, knows-full, knows-left}
 use Rattle.arc_owners.proofs.owners.counted_tests.thousand.Goals as goal
 use Rattle.arc_owners.proofs.owners.counted_tests.thousand.Goals.{in-Ok, in_default}

@@ -1,5 +1,5 @@
 -- `none` makes a value that owns nothing.
-use Rattle.std.proofs.Common.{true, false, [], ◌∷◌, refl}
+use Rattle.std.proofs.Common.{false, [], ◌∷◌, refl}
 use mir.Val.{Val}
 use base.Logic.{SProp, emp}
 use base.Fml.{ftrue}

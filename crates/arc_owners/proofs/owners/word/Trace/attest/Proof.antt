@@ -1,13 +1,12 @@
 -- `attest` opens the book for a look at its history, which is past the pass.
-use Rattle.std.proofs.Common.{◌≡◌, ℕ, Bool, true, false, List, [], ◌∷◌, refl}
+use Rattle.std.proofs.Common.{◌≡◌, true, List, [], ◌∷◌, refl}
 use mir.Syntax.{named}
 use mir.Val.{Val, vunit, vptr}
-use base.Logic.{SProp, emp, id⊢}
+use base.Logic.{SProp}
 use base.Fml.{ftrue, fsep, flft, fhide}
-use types.Kit.{‵, raw, group, frame, suffices, ◌⊛◌, some, given, feq_i, done, later, ◌$◌, ◌∵◌, !, qed, by, move, keep, drop, split, fsplit, fjoin, pick, learn, use0, use1, await, rewrite}
+use types.Kit.{‵, raw, group, frame, suffices, ◌⊛◌, given, feq_i, done, later, ◌$◌, ◌∵◌, !, qed, move, keep, drop, split, fsplit, fjoin, learn, use1, await}
 use types.Run.{unit_lit, of_opd, returns, enter}
 use types.ByLocal.{alloc_all, pass_all, free_all, look_at, sets}
-use contract.Monad.{fact_i}
 use contract.Running.{tables}
 use denote.Exit.{yes}
 use denote.RattleType.{owns}
@@ -22,7 +21,7 @@ use denote.Triple.Walked.{says, Stays, stay_dropped, walk_of, ends_at, Goes-drop
 use Rattle.core.specs.contracts.marker.PhantomData as marker
 use Rattle.std.proofs.raw_atomic.Walks.{proved}
 use Rattle.logbook.proofs.Fields.{Token}
-use Rattle.arc_owners.specs.Book.{Line, entries_of, trace_shares, told_of}
+use Rattle.arc_owners.specs.Book.{entries_of, trace_shares, told_of}
 use Rattle.arc_owners.specs.Histories.{IsLegal}
 use Rattle.arc_owners.specs.contracts.owners.word.Trace as Trace
 use Rattle.arc_owners.proofs.Book.Begins as begins
