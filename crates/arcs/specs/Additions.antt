@@ -1,5 +1,6 @@
--- What each command adds to the histories of the blocks: by which call, through the pass of which block. All other passes stay.
-use Rattle.std.specs.Prelude.{◌≡◌, ℕ, Bool, true, false, List, [], ◌∷◌, ◌++◌, length, Some, None, slice_get, slice_set}
+-- What each command adds to the histories of the blocks: by which call, and through the pass of
+-- which block. All other passes stay.
+use Rattle.std.specs.Prelude.{◌≡◌, ℕ, Bool, true, false, List, [], ◌∷◌, ◌++◌, length, Option, Some, None, slice_get, slice_set}
 use Rattle.std.specs.Option.{option_flatten}
 use Rattle.arc_owners.specs.declared.owners.tokens.Pass.{Pass}
 use Rattle.arc_owners.specs.Passes.{Owner, IsPassFor, Asks, MakesAnother, FindsFull, Leaves, IsFirst, IsFreshPass}
@@ -20,8 +21,9 @@ module _ {H : Type 0} where
   abbrev pub stand_in : Standing H → ℕ → Stand
   stand_in t i = option_flatten (slice_get t.stands i)
 
-  -- a call went by an owner, through the pass of its block, which has this number; the other passes stay
-  pub record Through (number : ℕ) (owner : Owner) (old new : List (Pass H)) (call : Owner → Pass H → Pass H → Type 0) : Type 0 where
+  -- a call by an owner went through the pass of its block, which has this number; the others stay
+  pub record Through (number : ℕ) (owner : Owner) (old new : List (Pass H))
+      (call : Owner → Pass H → Pass H → Type 0) : Type 0 where
     pub before : Pass H
     pub after : Pass H
     pub was : slice_get old number ≡ Some before
@@ -31,8 +33,9 @@ module _ {H : Type 0} where
     pub called : call owner before after
     pub others : new ≡ slice_set old number after
 
-  -- a call went by a window that stands here; on nothing it adds nothing
-  abbrev pub Along : Stand → List (Pass H) → List (Pass H) → (Owner → Pass H → Pass H → Type 0) → Type 0
+  -- a call by a window that stands here; where it stands on nothing, nothing is added
+  abbrev pub Along : Stand → List (Pass H) → List (Pass H)
+      → (Owner → Pass H → Pass H → Type 0) → Type 0
   Along None old new call = new ≡ old
   Along (Some (number, owner)) old new call = Through number owner old new call
 
@@ -43,7 +46,8 @@ module _ {H : Type 0} where
   Beside (Some (number, owner)) old new (Some made) =
       (made.0 ≡ number) × Through number owner old new (λ o p q. MakesAnother o p q made.1)
 
-  -- a window was made of a list: on nothing, or as the first owner of a block more, which has a fresh pass
+  -- a window was made of a list: on nothing, or as the first owner of a block more, whose pass is
+  -- a fresh one
   abbrev pub Founds : List (Pass H) → List (Pass H) → Stand → Type 0
   Founds old new None = new ≡ old
   Founds old new (Some (number, owner)) =
@@ -60,7 +64,8 @@ module _ {H : Type 0} where
 
   -- a call by the window with this number; the windows stand where they stood
   abbrev pub Calls : Standing H → ℕ → Standing H → (Owner → Pass H → Pass H → Type 0) → Type 0
-  Calls old i new call = (new.stands ≡ old.stands) × Along (stand_in old i) old.passes new.passes call
+  Calls old i new call =
+      (new.stands ≡ old.stands) × Along (stand_in old i) old.passes new.passes call
 
   -- the window with this number ended
   abbrev pub Ends : Standing H → ℕ → Standing H → Type 0
@@ -79,3 +84,9 @@ module _ {H : Type 0} where
   Adds old (Uniq i) reply.No new = Calls old i new (λ o p q. Asks o p q false)
   Adds old (Drop i) reply.Ok new = Ends old i new
   Adds old command reply new = new ≡ old
+
+  -- what a line adds, by the command that it says, if it says one
+  abbrev pub AddsFor : Standing H → Option (Command (List ℕ)) → Option (Reply (List ℕ)) → Standing H
+      → Type 0
+  AddsFor old (Some command) (Some reply) new = Adds old command reply new
+  AddsFor old said reply new = new ≡ old

@@ -57,8 +57,15 @@ returns-in_default-clause-gone g c = none-there c.args.self.now.entries.items c.
 
 pub returns-clause-passes : goal.returns-clause-passes
 returns-clause-passes g c =
+    let w = c.args.self.now in
+    let entries = w.entries.items in
+    let e = c.in-Some-replace.entry in
     let got = ap (λ es. slice_get es c.args.i) (sym c.deref.ensures.value) ∙ c.in-Some.ensures in
-    let there = read-there c.args.self.now.entries.items c.args.i c.index_mut.result.now _ got c.index_mut.ensures.value ∙ ap Some (sym c.replace.ensures.value ∙ c.in-Some-replace.is) in
-    end-added c.args.self.now.entries.items c.args.self.now.passes.of_blocks.items c.args.i c.in-Some-replace.entry c.args.self.now.kept there c.lend-pass.new.self.of_blocks.items c.lend-pass.result c.lend-pass.ensures
-    c.release.new.pass c.give_back.new.self.of_blocks.items c.give_back.ensures (slice_set c.args.self.now.entries.items c.args.i c.replace.new.dest)
-    (ap (slice_set c.args.self.now.entries.items c.args.i) c.replace.ensures.after) c.release.ensures
+    let there =
+    read-there entries c.args.i c.index_mut.result.now _ got c.index_mut.ensures.value
+    ∙ ap Some (sym c.replace.ensures.value ∙ c.in-Some-replace.is) in
+    end-added entries w.passes.of_blocks.items c.args.i e w.kept there
+    c.lend-pass.new.self.of_blocks.items c.lend-pass.result c.lend-pass.ensures
+    c.release.new.pass c.give_back.new.self.of_blocks.items c.give_back.ensures
+    (slice_set entries c.args.i c.replace.new.dest)
+    (ap (slice_set entries c.args.i) c.replace.ensures.after) c.release.ensures

@@ -19,8 +19,14 @@ invariant_of-self-2 g c =
 
 pub returns-clause-passes : goal.returns-clause-passes
 returns-clause-passes g c =
-    block-added c.args.self.now.entries.items _ _ (behind c.args.self.now.entries.items _ c.push_reserved-3.ensures.items c.reserve.ensures.items)
-    c.args.self.now.passes.of_blocks.items c.push_reserved-2.new.self.items _ c.none-pass.result c.try_from_slice_as.new.pass c.in-Ok.ensures.ok c.in-Ok.ensures.pass
+    let w = c.args.self.now in
+    let entries = w.entries.items in
+    let passes = w.passes.of_blocks.items in
+    let room = c.reserve-else-is_err in
+    block-added entries _ _
+    (behind entries _ c.push_reserved-3.ensures.items c.reserve.ensures.items) passes
+    c.push_reserved-2.new.self.items _ c.none-pass.result c.try_from_slice_as.new.pass
+    c.in-Ok.ensures.ok c.in-Ok.ensures.pass
     (ap (λ n. n == 0) c.deref.ensures.len ∙ sym c.is_empty.ensures ∙ c.if-is_empty.false)
-    (ap Some (c.len.ensures ∙ c.reserve-else-is_err.new.self.ok.0 ∙ ap length c.reserve-else-is_err.ensures.items))
-    (behind c.args.self.now.passes.of_blocks.items _ c.push_reserved-2.ensures.items c.reserve-else-is_err.ensures.items)
+    (ap Some (c.len.ensures ∙ room.new.self.ok.0 ∙ ap length room.ensures.items))
+    (behind passes _ c.push_reserved-2.ensures.items room.ensures.items)

@@ -4,7 +4,7 @@ use Rattle.arc_buffer.specs.Slice.{IsRange, range_answer}
 use Rattle.arcs.specs.Script.{byte_setting}
 use Rattle.arcs.specs.Entries.{row_of}
 use Rattle.arcs.specs.Step.{with_row, in_range, cut}
-use Rattle.arcs.proofs.Kept.{slice_in, same_entry, has-number, still-number, stand-pass, joined, stays-full, as-many, full-place}
+use Rattle.arcs.proofs.Kept.{slice_in, behind, same_entry, has-number, still-number, stand-pass, joined, stays-full, as-many, full-place}
 use Rattle.arcs.proofs.Tables.{table_with, added, part_refused}
 use Rattle.arcs.proofs.Added.{joins-added, full-added}
 use Rattle.arcs.proofs.windows.Windows.sub.Goals as goal
@@ -68,13 +68,28 @@ returns-in-Err-made-clause-rows g c =
 
 pub returns-in-Ok-clause-passes : goal.returns-in-Ok-clause-passes
 returns-in-Ok-clause-passes g c =
-    let there = slice_in _ _ c.args.self.now.entries.items c.args.i _ c.deref-2.ensures.value c.reserve.ensures.items c.in-Some-entry_at.ensures in
-    joins-added c.args.self.now.entries.items c.args.self.now.passes.of_blocks.items c.args.i c.in-Some-entry_at.entry.now c.args.self.now.kept there c.lend-pass.new.self.of_blocks.items c.lend-pass.result c.lend-pass.ensures
-    c.try_subslice-made.new.pass c.give_back.new.self.of_blocks.items c.give_back.ensures c.in-Ok.entry c.push_reserved.new.self.items
-    (c.push_reserved.ensures.items ∙ ap (λ es. es ++ Some c.in-Ok.entry ∷ []) c.reserve.ensures.items) c.in-Ok.ensures.stand
+    let w = c.args.self.now in
+    let entries = w.entries.items in
+    let e = c.in-Some-entry_at.entry.now in
+    let there =
+    slice_in _ _ entries c.args.i _ c.deref-2.ensures.value c.reserve.ensures.items
+    c.in-Some-entry_at.ensures in
+    joins-added entries w.passes.of_blocks.items c.args.i e w.kept there
+    c.lend-pass.new.self.of_blocks.items c.lend-pass.result c.lend-pass.ensures
+    c.try_subslice-made.new.pass c.give_back.new.self.of_blocks.items c.give_back.ensures
+    c.in-Ok.entry c.push_reserved.new.self.items
+    (behind entries (Some c.in-Ok.entry) c.push_reserved.ensures.items c.reserve.ensures.items)
+    c.in-Ok.ensures.stand
 
 pub returns-in-Err-made-clause-passes : goal.returns-in-Err-made-clause-passes
 returns-in-Err-made-clause-passes g c =
-    let there = slice_in _ _ c.args.self.now.entries.items c.args.i _ c.deref-2.ensures.value c.reserve.ensures.items c.in-Some-entry_at.ensures in
-    full-added c.args.self.now.entries.items c.args.self.now.passes.of_blocks.items c.args.i c.in-Some-entry_at.entry.now c.args.self.now.kept there c.lend-pass.new.self.of_blocks.items c.lend-pass.result c.lend-pass.ensures
-    c.try_subslice-made.new.pass c.give_back.new.self.of_blocks.items c.give_back.ensures c.reserve.new.self.items c.reserve.ensures.items c.in-Err-made.ensures.refused.1
+    let w = c.args.self.now in
+    let entries = w.entries.items in
+    let e = c.in-Some-entry_at.entry.now in
+    let there =
+    slice_in _ _ entries c.args.i _ c.deref-2.ensures.value c.reserve.ensures.items
+    c.in-Some-entry_at.ensures in
+    full-added entries w.passes.of_blocks.items c.args.i e w.kept there
+    c.lend-pass.new.self.of_blocks.items c.lend-pass.result c.lend-pass.ensures
+    c.try_subslice-made.new.pass c.give_back.new.self.of_blocks.items c.give_back.ensures
+    c.reserve.new.self.items c.reserve.ensures.items c.in-Err-made.ensures.refused.1

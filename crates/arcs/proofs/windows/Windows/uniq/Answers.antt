@@ -45,13 +45,23 @@ returns-else-alone-clause-rows g c =
 pub returns-then-alone-clause-passes : goal.returns-then-alone-clause-passes
 returns-then-alone-clause-passes g c =
     let there = ap (λ es. slice_get es c.args.i) (sym c.deref.ensures.value) ∙ c.in-Some.ensures in
-    let asks = subst (AsksAt c.in-Some.entry.now.window.place c.lend-pass.result c.is_unique-alone.new.pass) c.if-alone.true c.is_unique-alone.ensures in
-    asked-added c.args.self.now.entries.items c.args.self.now.passes.of_blocks.items c.args.i c.in-Some.entry.now c.args.self.now.kept there c.lend-pass.new.self.of_blocks.items c.lend-pass.result c.lend-pass.ensures
-    c.is_unique-alone.new.pass c.give_back.new.self.of_blocks.items c.give_back.ensures true asks
+    let w = c.args.self.now in
+    let e = c.in-Some.entry.now in
+    let asked = c.is_unique-alone in
+    let p = c.lend-pass.result in
+    let asks = subst (AsksAt e.window.place p asked.new.pass) c.if-alone.true asked.ensures in
+    asked-added w.entries.items w.passes.of_blocks.items c.args.i e w.kept there
+    c.lend-pass.new.self.of_blocks.items p c.lend-pass.ensures
+    asked.new.pass c.give_back.new.self.of_blocks.items c.give_back.ensures true asks
 
 pub returns-else-alone-clause-passes : goal.returns-else-alone-clause-passes
 returns-else-alone-clause-passes g c =
     let there = ap (λ es. slice_get es c.args.i) (sym c.deref.ensures.value) ∙ c.in-Some.ensures in
-    let asks = subst (AsksAt c.in-Some.entry.now.window.place c.lend-pass.result c.is_unique-alone.new.pass) c.if-alone.false c.is_unique-alone.ensures in
-    asked-added c.args.self.now.entries.items c.args.self.now.passes.of_blocks.items c.args.i c.in-Some.entry.now c.args.self.now.kept there c.lend-pass.new.self.of_blocks.items c.lend-pass.result c.lend-pass.ensures
-    c.is_unique-alone.new.pass c.give_back.new.self.of_blocks.items c.give_back.ensures false asks
+    let w = c.args.self.now in
+    let e = c.in-Some.entry.now in
+    let asked = c.is_unique-alone in
+    let p = c.lend-pass.result in
+    let asks = subst (AsksAt e.window.place p asked.new.pass) c.if-alone.false asked.ensures in
+    asked-added w.entries.items w.passes.of_blocks.items c.args.i e w.kept there
+    c.lend-pass.new.self.of_blocks.items p c.lend-pass.ensures
+    asked.new.pass c.give_back.new.self.of_blocks.items c.give_back.ensures false asks
