@@ -122,7 +122,8 @@ module _ {H : Type 0} (passes left : List (Pass H)) (p : Pass H) where
   back-to (Some n) took q = took.1 q
 
   -- nothing was added to it
-  back-same : (b : Option ℕ) → TakenOut passes b p left → (new : Pass H) → new ≡ p → put_back left b new ≡ passes
+  pub back-same : (b : Option ℕ) → TakenOut passes b p left → (new : Pass H) → new ≡ p
+      → put_back left b new ≡ passes
   back-same None took new same = took.1
   back-same (Some n) took new same = took.1 new ∙ ap (slice_set passes n) same ∙ set-back passes n p took.0
 
@@ -270,22 +271,47 @@ module _ {A : Type 0} (entries entries' : List (Option (Entry A))) (e : Entry A)
   stands-more : stands_of entries' ≡ stands_of entries ++ stand_of (Some e) ∷ []
   stands-more = ap stands_of one_more ∙ map-append stand_of entries (Some e ∷ [])
 
-  pub made-nowhere : {H : Type 0} {passes : List (Pass H)} → IsKept MAX_OWNERS (stands_of entries) passes → e.block ≡ None → IsKept MAX_OWNERS (stands_of entries') passes
-  made-nowhere {passes = passes} k none =
-      subst (λ ss. IsKept MAX_OWNERS ss passes) (sym (stands-more ∙ ap (λ b. stands_of entries ++ stand_at b e.window.place ∷ []) none ∙ ap (λ s. stands_of entries ++ s ∷ []) (stand-none e.window.place)))
-      (kept-nowhere k)
+  pub stands-nowhere : e.block ≡ None → stands_of entries' ≡ stands_of entries ++ None ∷ []
+  stands-nowhere none =
+      stands-more ∙ ap (λ b. stands_of entries ++ stand_at b e.window.place ∷ []) none
+      ∙ ap (λ s. stands_of entries ++ s ∷ []) (stand-none e.window.place)
 
-  pub made-on_block : {H : Type 0} {passes passes' : List (Pass H)} (items : List ℕ) (old new : Pass H) → IsKept MAX_OWNERS (stands_of entries) passes → Makes true false true items e.window → Begins e.window old new → (length items == 0) ≡ false → e.block ≡ Some (length passes) → passes' ≡ passes ++ new ∷ [] → IsKept MAX_OWNERS (stands_of entries') passes'
-  made-on_block {passes = passes} {passes' = passes'} items old new k makes begins some block one_pass =
-      let n = length passes in
+  pub made-nowhere : {H : Type 0} {passes : List (Pass H)}
+      → IsKept MAX_OWNERS (stands_of entries) passes → e.block ≡ None
+      → IsKept MAX_OWNERS (stands_of entries') passes
+  made-nowhere {passes = passes} k none =
+      subst (λ ss. IsKept MAX_OWNERS ss passes) (sym (stands-nowhere none)) (kept-nowhere k)
+
+  -- on which it is the first owner, and the pass is a fresh one
+  pub founded : {H : Type 0} (n : ℕ) (items : List ℕ) (old new : Pass H)
+      → Makes true false true items e.window → Begins e.window old new
+      → (length items == 0) ≡ false → e.block ≡ Some n
+      → (owner : Owner) × (stands_of entries' ≡ stands_of entries ++ Some (n, owner) ∷ [])
+      × IsFirst MAX_OWNERS true owner × IsFreshPass owner new
+  founded n items old new makes begins some block =
       let owner = makes.owner in
-      let there : Place (Option Owner) (Unit {0}) = on_block (Some owner) 0 (native_facts false (length items)) in
-      let place : e.window.place ≡ there = ap (λ (w : Window ℕ). w.place) makes.made ∙ ap (λ b. if b then nowhere else there) some in
-      let first : IsFirst MAX_OWNERS true owner = subst (λ p. at_owner p (Unit {0}) (λ o. IsFirst MAX_OWNERS true o)) place makes.first in
-      let fresh : IsFreshPass owner new = subst (λ p. at_owner p (new ≡ old) (λ o. IsFreshPass o new)) place begins in
-      let stands : stands_of entries' ≡ stands_of entries ++ Some (n, owner) ∷ [] = stands-more ∙ ap (λ b. stands_of entries ++ stand_at b e.window.place ∷ []) block ∙ ap (λ p. stands_of entries ++ stand_at (Some n) p ∷ []) place in
-      subst (λ ps. IsKept MAX_OWNERS (stands_of entries') ps) (sym one_pass)
-      (subst (λ ss. IsKept MAX_OWNERS ss (passes ++ new ∷ [])) (sym stands) (kept-new new k first fresh))
+      let there : Place (Option Owner) (Unit {0}) =
+      on_block (Some owner) 0 (native_facts false (length items)) in
+      let place : e.window.place ≡ there =
+      ap (λ (w : Window ℕ). w.place) makes.made ∙ ap (λ b. if b then nowhere else there) some in
+      let first : IsFirst MAX_OWNERS true owner =
+      subst (λ p. at_owner p (Unit {0}) (λ o. IsFirst MAX_OWNERS true o)) place makes.first in
+      let fresh : IsFreshPass owner new =
+      subst (λ p. at_owner p (new ≡ old) (λ o. IsFreshPass o new)) place begins in
+      let stands : stands_of entries' ≡ stands_of entries ++ Some (n, owner) ∷ [] =
+      stands-more ∙ ap (λ b. stands_of entries ++ stand_at b e.window.place ∷ []) block
+      ∙ ap (λ p. stands_of entries ++ stand_at (Some n) p ∷ []) place in
+      (owner, stands, first, fresh)
+
+  pub made-on_block : {H : Type 0} {passes passes' : List (Pass H)} (items : List ℕ)
+      (old new : Pass H) → IsKept MAX_OWNERS (stands_of entries) passes
+      → Makes true false true items e.window → Begins e.window old new
+      → (length items == 0) ≡ false → e.block ≡ Some (length passes)
+      → passes' ≡ passes ++ new ∷ [] → IsKept MAX_OWNERS (stands_of entries') passes'
+  made-on_block {passes = passes} {passes' = passes'} items old new k makes begins some block more =
+      let f = founded (length passes) items old new makes begins some block in
+      subst (λ ps. IsKept MAX_OWNERS (stands_of entries') ps) (sym more)
+      (subst (λ ss. IsKept MAX_OWNERS ss (passes ++ new ∷ [])) (sym f.1) (kept-new new k f.2 f.3))
 
 -- the same passes
 pub kept-in : {H : Type 0} (stands : List Stand) {passes passes' : List (Pass H)} (e : passes ≡ passes') → IsKept MAX_OWNERS stands passes → IsKept MAX_OWNERS stands passes'

@@ -12,3 +12,4 @@ pub mod Devices
 mod Ended
 pub mod Rows
 mod Kept
+mod Added

@@ -7,6 +7,7 @@ pub mod Seen
 pub mod Writing
 pub mod Stands
 pub mod Entries
+pub mod Additions
 pub mod Rows
 pub mod Traffic
 pub mod Underway

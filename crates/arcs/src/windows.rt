@@ -50,7 +50,8 @@ impl<A: Allocator + Copy> Windows<A> {
     ghost use Rattle.arcs.specs.Step.{Step};
     ghost use Rattle.arcs.specs.Script.{Answers, ByteTable, byte_setting};
     ghost use Rattle.arcs.specs.Seen.{IsReadAs, seen_command, seen_reply};
-    ghost use Rattle.arcs.specs.Rows.{table_of};
+    ghost use Rattle.arcs.specs.Rows.{table_of, standing_of};
+    ghost use Rattle.arcs.specs.Additions.{Adds, AddsFor};
     ghost use Rattle.arcs.specs.declared.command.Command.TheVariants as command;
 
     /// No window yet. Takes no memory.
@@ -71,7 +72,10 @@ impl<A: Allocator + Copy> Windows<A> {
     /// Takes memory for a window more, for what a window is made of and for what is shown; refused, the answer is
     /// `Alloc`.
     pub fn step(&mut self, rt: &impl Wait, command: Command<Vec<u8, A>>) -> Reply<Vec<u8, A>>
-        ensures { Step byte_setting (table_of self.old) (seen_command command) (seen_reply result) (table_of self.new) }
+        ensures rows { Step byte_setting (table_of self.old)
+            (seen_command command) (seen_reply result) (table_of self.new) }
+        ensures passes { Adds (standing_of self.old) (seen_command command)
+            (seen_reply result) (standing_of self.new) }
     {
         match command {
             Command::Slice(items) => self.slice(items),
@@ -89,7 +93,10 @@ impl<A: Allocator + Copy> Windows<A> {
         rt: &impl Wait,
         said: Option<Command<Vec<u8, A>>>,
     ) -> Option<Reply<Vec<u8, A>>>
-        ensures { (line : List ℕ) → IsReadAs line said → Answers (table_of self.old) line (option_map seen_reply result) (table_of self.new) }
+        ensures rows { (line : List ℕ) → IsReadAs line said
+            → Answers (table_of self.old) line (option_map seen_reply result) (table_of self.new) }
+        ensures passes { AddsFor (standing_of self.old) (option_map seen_command said)
+            (option_map seen_reply result) (standing_of self.new) }
     {
         match said {
             Some(command) => Some(self.step(rt, command)),
@@ -125,7 +132,10 @@ impl<A: Allocator + Copy> Windows<A> {
 
     /// A window over a copy of the items.
     fn slice(&mut self, items: Vec<u8, A>) -> Reply<Vec<u8, A>>
-        ensures { Step byte_setting (table_of self.old) (command.Slice items.items) (seen_reply result) (table_of self.new) }
+        ensures rows { Step byte_setting (table_of self.old)
+            (command.Slice items.items) (seen_reply result) (table_of self.new) }
+        ensures passes { Adds (standing_of self.old) (command.Slice items.items)
+            (seen_reply result) (standing_of self.new) }
     {
         if self.entries.reserve(1).is_err() || self.passes.of_blocks.reserve(1).is_err() {
             return Reply::Alloc;
@@ -151,7 +161,10 @@ impl<A: Allocator + Copy> Windows<A> {
     /// Another window with the same items at the same place. `NoWindow` where the window isn't there, `Owner` where its
     /// block has as many owners as it can have. Takes memory for the new entry; refused, the answer is `Alloc`.
     fn clone_window(&mut self, rt: &impl Wait, i: usize) -> Reply<Vec<u8, A>>
-        ensures { Step byte_setting (table_of self.old) (command.Clone i) (seen_reply result) (table_of self.new) }
+        ensures rows { Step byte_setting (table_of self.old)
+            (command.Clone i) (seen_reply result) (table_of self.new) }
+        ensures passes { Adds (standing_of self.old) (command.Clone i)
+            (seen_reply result) (standing_of self.new) }
     {
         if entry_at(&self.entries, i).is_none() {
             return Reply::NoWindow;
@@ -178,7 +191,10 @@ impl<A: Allocator + Copy> Windows<A> {
 
     /// A window over the part from `start` to `end` of another.
     fn sub(&mut self, rt: &impl Wait, i: usize, start: usize, end: usize) -> Reply<Vec<u8, A>>
-        ensures { Step byte_setting (table_of self.old) (command.Sub i start end) (seen_reply result) (table_of self.new) }
+        ensures rows { Step byte_setting (table_of self.old)
+            (command.Sub i start end) (seen_reply result) (table_of self.new) }
+        ensures passes { Adds (standing_of self.old) (command.Sub i start end)
+            (seen_reply result) (standing_of self.new) }
     {
         let Some(entry) = entry_at(&self.entries, i) else {
             return Reply::NoWindow;
@@ -208,7 +224,10 @@ impl<A: Allocator + Copy> Windows<A> {
 
     /// Whether a window is the only owner of its block. `No` where it stands on no block.
     fn uniq(&mut self, i: usize) -> Reply<Vec<u8, A>>
-        ensures { Step byte_setting (table_of self.old) (command.Uniq i) (seen_reply result) (table_of self.new) }
+        ensures rows { Step byte_setting (table_of self.old)
+            (command.Uniq i) (seen_reply result) (table_of self.new) }
+        ensures passes { Adds (standing_of self.old) (command.Uniq i)
+            (seen_reply result) (standing_of self.new) }
     {
         let Some(entry) = entry_at(&self.entries, i) else {
             return Reply::NoWindow;
@@ -222,7 +241,10 @@ impl<A: Allocator + Copy> Windows<A> {
 
     /// The items of a window.
     fn show(&self, i: usize) -> Reply<Vec<u8, A>>
-        ensures { Step byte_setting (table_of self.now) (command.Show i) (seen_reply result) (table_of self.now) }
+        ensures rows { Step byte_setting (table_of self.now)
+            (command.Show i) (seen_reply result) (table_of self.now) }
+        ensures passes { Adds (standing_of self.now) (command.Show i)
+            (seen_reply result) (standing_of self.now) }
     {
         let Some(entry) = entry_at(&self.entries, i) else {
             return Reply::NoWindow;
@@ -235,7 +257,10 @@ impl<A: Allocator + Copy> Windows<A> {
 
     /// The end of a window.
     fn release(&mut self, i: usize) -> Reply<Vec<u8, A>>
-        ensures step { Step byte_setting (table_of self.old) (command.Drop i) (seen_reply result) (table_of self.new) }
+        ensures rows { Step byte_setting (table_of self.old)
+            (command.Drop i) (seen_reply result) (table_of self.new) }
+        ensures passes { Adds (standing_of self.old) (command.Drop i)
+            (seen_reply result) (standing_of self.new) }
         ensures gone { (table_of self.new).rows ≡ slice_set (table_of self.old).rows i None }
         ensures blocks { (table_of self.new).blocks ≡ (table_of self.old).blocks }
     {

@@ -4,6 +4,7 @@ use Rattle.std.specs.Option.{option_map, option_flatten}
 use Rattle.arcs.specs.Entries.{row_of}
 use Rattle.arcs.proofs.Kept.{read-there, has-number, still-number, window-pass, gone, as-many}
 use Rattle.arcs.proofs.Tables.{dropped, map-slice_set, none-there}
+use Rattle.arcs.proofs.Added.{end-added}
 use Rattle.arcs.proofs.windows.Windows.release.Goals as goal
 
 pub lend-pass-requires : goal.lend-pass-requires
@@ -33,8 +34,8 @@ invariant_of-self g c =
           c.release.new.pass c.give_back.new.self.of_blocks.items c.give_back.ensures (slice_set c.args.self.now.entries.items c.args.i c.replace.new.dest) (ap (slice_set c.args.self.now.entries.items c.args.i) c.replace.ensures.after) c.release.ensures;
     }
 
-pub returns-clause-step : goal.returns-clause-step
-returns-clause-step g c =
+pub returns-clause-rows : goal.returns-clause-rows
+returns-clause-rows g c =
     let got = ap (λ es. slice_get es c.args.i) (sym c.deref.ensures.value) ∙ c.in-Some.ensures in
     let there = read-there c.args.self.now.entries.items c.args.i c.index_mut.result.now _ got c.index_mut.ensures.value ∙ ap Some (sym c.replace.ensures.value ∙ c.in-Some-replace.is) in
     let many = as-many c.args.self.now.entries.items c.args.self.now.passes.of_blocks.items c.args.i c.in-Some-replace.entry c.args.self.now.kept there c.lend-pass.new.self.of_blocks.items c.lend-pass.result c.lend-pass.ensures c.release.new.pass c.give_back.new.self.of_blocks.items c.give_back.ensures in
@@ -53,3 +54,18 @@ returns-clause-gone g c =
 
 pub returns-in_default-clause-gone : goal.returns-in_default-clause-gone
 returns-in_default-clause-gone g c = none-there c.args.self.now.entries.items c.args.i (ap (λ es. option_flatten (slice_get es c.args.i)) (sym c.deref.ensures.value) ∙ c.in_default.ensures)
+
+pub returns-clause-passes : goal.returns-clause-passes
+returns-clause-passes g c =
+    let w = c.args.self.now in
+    let entries = w.entries.items in
+    let e = c.in-Some-replace.entry in
+    let got = ap (λ es. slice_get es c.args.i) (sym c.deref.ensures.value) ∙ c.in-Some.ensures in
+    let there =
+    read-there entries c.args.i c.index_mut.result.now _ got c.index_mut.ensures.value
+    ∙ ap Some (sym c.replace.ensures.value ∙ c.in-Some-replace.is) in
+    end-added entries w.passes.of_blocks.items c.args.i e w.kept there
+    c.lend-pass.new.self.of_blocks.items c.lend-pass.result c.lend-pass.ensures
+    c.release.new.pass c.give_back.new.self.of_blocks.items c.give_back.ensures
+    (slice_set entries c.args.i c.replace.new.dest)
+    (ap (slice_set entries c.args.i) c.replace.ensures.after) c.release.ensures
