@@ -3,10 +3,10 @@ use Rattle.std.proofs.Common.{inl, inr, ◌≡◌, ◌⊎◌, ℕ, zero, suc, �
 use Rattle.std.specs.List.{cons_option}
 use Rattle.std.proofs.lemmas.Bool.{cases_Bool, eq-eqb, false_from_ne_true, or_right}
 use Rattle.std.proofs.lemmas.List.Folds.{list_any-append}
-use Rattle.arc_owners.specs.Histories.{is_in}
+use Rattle.arc_owners.specs.history.Histories.{is_in}
 use Rattle.std.proofs.lemmas.Option.{none-some, same_Some}
 use Rattle.std.proofs.lemmas.List.Elements.{filter-append, filter_map-append}
-use Rattle.arc_owners.specs.Machine.{without_number}
+use Rattle.arc_owners.specs.history.Machine.{without_number}
 use Rattle.arc_owners.proofs.Numbers.{times, times-append}
 
 -- one element more stands at the end, and each other one where it stood

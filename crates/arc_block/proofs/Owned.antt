@@ -4,13 +4,13 @@ use Rattle.std.specs.List.{cons_option}
 use Rattle.std.proofs.lemmas.Bool.{cases_Bool, cases_eq, eq-eqb, ne_eqb, false≢true}
 use Rattle.std.proofs.lemmas.Option.{none-some, same_Some, slice_get_cases, slice_get_within}
 use Rattle.std.proofs.lemmas.List.Elements.{filter_map-append}
-use Rattle.arc_owners.specs.declared.owners.entry.Entry.{Entry}
-use Rattle.arc_owners.specs.declared.owners.entry.Entry.TheVariants.{Up, Full, Down, Alone}
-use Rattle.arc_owners.specs.declared.owners.tokens.Pass.{Pass}
-use Rattle.arc_owners.specs.Book.{Line, Names, entries_of}
-use Rattle.arc_owners.specs.Histories.{is_in, live_owners, owners_ever, owners_ended}
-use Rattle.arc_owners.specs.Machine.{without_number}
-use Rattle.arc_owners.specs.Passes.{Owner, IsSamePass, IsFirst, IsPassFor, IsFreshPass, Asks, FindsFull, MakesAnother, Leaves, seen}
+use Rattle.arc_owners.specs.declared.history.entry.Entry.{Entry}
+use Rattle.arc_owners.specs.declared.history.entry.Entry.TheVariants.{Up, Full, Down, Alone}
+use Rattle.arc_owners.specs.declared.count.tokens.Pass.{Pass}
+use Rattle.arc_owners.specs.count.Invariant.{Line, BlockId, entries_of}
+use Rattle.arc_owners.specs.history.Histories.{is_in, live_owners, owners_ever, owners_ended}
+use Rattle.arc_owners.specs.history.Machine.{without_number}
+use Rattle.arc_owners.specs.count.Calls.{Owner, IsSamePass, IsFirst, IsPassFor, IsFreshPass, Asks, FindsFull, MakesAnother, Leaves, seen}
 use Rattle.arc_owners.proofs.Numbers.{times}
 use Rattle.arc_owners.proofs.Steps.{one_is}
 use Rattle.arc_owners.proofs.Told.{Owned}
@@ -72,7 +72,7 @@ module _ {H : Type 0} where
 
   -- a pass of a block that so many owners may have at most, under `Whole`
   block-pass : (g : ℕ) (o : Owner) (p : Pass H) → o.block.whole ≡ true → o.block.most ≡ g → IsPassFor o p → IsBlockPass g p
-  block-pass g o p whole most for = record { bound = for.0; whole = ap (λ (t : Names). t.whole) for.1 ∙ whole; most = ap (λ (t : Names). t.most) for.1 ∙ most }
+  block-pass g o p whole most for = record { bound = for.0; whole = ap (λ (t : BlockId). t.whole) for.1 ∙ whole; most = ap (λ (t : BlockId). t.most) for.1 ∙ most }
 
   pub kept-none : {g : ℕ} → IsKept {H = H} g [] []
   kept-none = record { known = λ i n o here. absurd (none-some _ here); passes_fit = λ n p here. absurd (none-some p here); live = λ n p here. absurd (none-some p here) }
@@ -119,10 +119,10 @@ module _ {H : Type 0} {g : ℕ} {stands : List Stand} {passes : List (Pass H)} {
   is-for = (k.known i n o there).1 old was
 
   is-whole : o.block.whole ≡ true
-  is-whole = ap (λ (t : Names). t.whole) (sym is-for.1) ∙ (k.passes_fit n old was).whole
+  is-whole = ap (λ (t : BlockId). t.whole) (sym is-for.1) ∙ (k.passes_fit n old was).whole
 
   is-most : o.block.most ≡ g
-  is-most = ap (λ (t : Names). t.most) (sym is-for.1) ∙ (k.passes_fit n old was).most
+  is-most = ap (λ (t : BlockId). t.most) (sym is-for.1) ∙ (k.passes_fit n old was).most
 
   lived : live_owners (seen old) ≡ owners_on n stands
   lived = k.live n old was
@@ -144,7 +144,7 @@ module _ {H : Type 0} {g : ℕ} {stands : List Stand} {passes : List (Pass H)} {
           | inl e ↦
               (let one : found.0 ≡ old = same_Some found.0 old (sym found.1 ∙ ap (slice_get passes) (sym e) ∙ was) in
               subst (λ (x : ℕ). HasPass (slice_set passes n new) x q) e
-              (has-pass (slice_set passes n new) n q new (get-set passes n old new was) (same.0.0, same.0.1 ∙ sym is-for.1 ∙ ap (λ (p : Pass H). p.trace.names) (sym one) ∙ found.2.1)))
+              (has-pass (slice_set passes n new) n q new (get-set passes n old new was) (same.0.0, same.0.1 ∙ sym is-for.1 ∙ ap (λ (p : Pass H). p.trace.block) (sym one) ∙ found.2.1)))
           | inr apart ↦ has-pass (slice_set passes n new) m q found.0 (get-set_other passes n m new apart ∙ found.1) found.2
         ];
     passes_fit = λ m p at. elim (set-cases passes n m p new at) [

@@ -2,7 +2,7 @@
 use Rattle.std.specs.Prelude.{◌≡◌, ℕ, Bool, if◌then◌else◌, Option, Some, None, List, length}
 use Rattle.std.specs.declared.vec.Vec.{Vec}
 use Rattle.std.specs.Vec.{vec_capacity}
-use Rattle.arc_owners.specs.Passes.{Owner}
+use Rattle.arc_owners.specs.count.Calls.{Owner}
 
 -- how a block keeps its items
 pub data Sort : Type 0 where
@@ -16,7 +16,7 @@ pub data Sort : Type 0 where
   raw : Sort
 
 -- what is known of a block: its sort, its places, how many of them are full where that is counted, and its metadata
-pub record Facts (M : Type 0) : Type 0 where
+pub record BlockInfo (M : Type 0) : Type 0 where
   pub sort : Sort
   pub size : ℕ
   pub full : Option ℕ
@@ -27,21 +27,21 @@ abbrev pub full_places : Bool → ℕ → Option ℕ
 full_places drops full = if drops then Some full else None
 
 -- a native block of this many places, all of which are full
-abbrev pub native_facts : {M : Type 0} → Bool → ℕ → Facts M
+abbrev pub native_facts : {M : Type 0} → Bool → ℕ → BlockInfo M
 native_facts drops size = record { sort = native; size = size; full = full_places drops size; metadata = None }
 
 -- what is seen of a block through one of its owners: who that is, the items, and what is known of the block
-pub record Held (T M : Type 0) : Type 0 where
+pub record BlockView (T M : Type 0) : Type 0 where
   pub owner : Owner
   pub items : List T
-  pub facts : Facts M
+  pub facts : BlockInfo M
 
 -- a native block of these items, with a place for each
-abbrev pub native_block : {T M : Type 0} → Bool → Owner → List T → Held T M
+abbrev pub native_block : {T M : Type 0} → Bool → Owner → List T → BlockView T M
 native_block drops owner items = record { owner = owner; items = items; facts = native_facts drops (length items) }
 
 -- a native block whose items lie in this vector
-abbrev pub held_in : {T M A : Type 0} → Bool → Owner → Vec T A → Held T M
+abbrev pub held_in : {T M A : Type 0} → Bool → Owner → Vec T A → BlockView T M
 held_in drops owner v = record { owner = owner; items = v.items; facts = record { sort = native; size = vec_capacity v; full = full_places drops (length v.items); metadata = None } }
 
 -- an owner of a block that so many owners may have at once, under a mark

@@ -1,8 +1,8 @@
 -- Windows and the histories of their blocks, under the mark `Whole`, where each block has one pass: how they belong together.
 use Rattle.std.specs.Prelude.{◌≡◌, ℕ, ◌<◌, ◌==◌, true, List, length, Option, Some, None, filter_map, slice_get, if◌then◌else◌}
-use Rattle.arc_owners.specs.declared.owners.tokens.Pass.{Pass}
-use Rattle.arc_owners.specs.Histories.{live_owners}
-use Rattle.arc_owners.specs.Passes.{Owner, IsPassFor, seen}
+use Rattle.arc_owners.specs.declared.count.tokens.Pass.{Pass}
+use Rattle.arc_owners.specs.history.Histories.{live_owners}
+use Rattle.arc_owners.specs.count.Calls.{Owner, IsPassFor, seen}
 
 -- where a window stands: on the block with this number, as this owner. None for a window that is on no block, or has gone
 abbrev pub Stand : Type 0
@@ -21,8 +21,8 @@ module _ {H : Type 0} where
   -- the pass of a block under `Whole` that so many owners may have at most
   pub record IsBlockPass (greatest : ℕ) (p : Pass H) : Type 0 where
     pub bound : p.trace.bound ≡ true
-    pub whole : p.trace.names.whole ≡ true
-    pub most : p.trace.names.most ≡ greatest
+    pub whole : p.trace.block.whole ≡ true
+    pub most : p.trace.block.most ≡ greatest
 
   -- the block with this number has its pass, and it is the block of this owner
   abbrev pub HasPass : List (Pass H) → ℕ → Owner → Type 0

@@ -1,12 +1,12 @@
 -- Places: where a window stands, and what is seen of a window.
 use Rattle.std.specs.Prelude.{ℕ, ◌+◌, Bool, ◌&&◌, ◌==◌, if◌then◌else◌, Option, Some, None, List, length}
-use Rattle.arc_block.specs.Block.{Facts}
+use Rattle.arc_block.specs.Block.{BlockInfo}
 
 -- A window stands on nothing, on a static slice, or on a block at an offset. N is what a block goes by.
 pub data Place (N M : Type 0) : Type 0 where
   nowhere : Place N M
   static_data : Place N M
-  on_block : (block : N) → (offset : ℕ) → (facts : Facts M) → Place N M
+  on_block : (block : N) → (offset : ℕ) → (facts : BlockInfo M) → Place N M
 
 abbrev pub IsOnBlock : {N M : Type 0} → Place N M → Type 0
 IsOnBlock nowhere = ⊥
@@ -14,7 +14,7 @@ IsOnBlock static_data = ⊥
 IsOnBlock (on_block block offset facts) = Unit {0}
 
 -- what is seen of a window: its items, and where it stands
-pub record Sight (T N M : Type 0) : Type 0 where
+pub record WindowView (T N M : Type 0) : Type 0 where
   pub items : List T
   pub place : Place N M
 
@@ -29,7 +29,7 @@ abbrev pub empty_rule : {T N M : Type 0} → Bool → List T → Place N M → P
 empty_rule has_static items place = if has_static && (length items == 0) then nowhere else place
 
 -- where a window stands that is made of a list on a new block: at the front of it
-abbrev pub made_place : {T N M : Type 0} → Bool → N → Facts M → List T → Place N M
+abbrev pub made_place : {T N M : Type 0} → Bool → N → BlockInfo M → List T → Place N M
 made_place has_static block facts items = empty_rule has_static items (on_block block 0 facts)
 
 -- where a part stands that begins at start: where its source does, that much further in

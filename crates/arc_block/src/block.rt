@@ -1,13 +1,13 @@
 //! Blocks: memory that stays where it is while a window stands on it.
 ghost use Rattle.std.specs.Prelude.{◌≡◌, ◌≤◌, ◌↔◌, length, false, IsTrue, IfOk, IfErr};
 ghost use Rattle.std.specs.Vec.{vec_capacity, vec_len};
-ghost use Rattle.arc_owners.specs.Passes.{IsFirst, IsPassFor, IsFreshPass, IsNewPass, Learns, Asks, FindsFull, MakesAnother, Leaves, TakesBlock};
+ghost use Rattle.arc_owners.specs.count.Calls.{IsFirst, IsPassFor, IsFreshPass, IsNewPass, Learns, Asks, FindsFull, MakesAnother, Leaves, TakesBlock};
 ghost use Rattle.arc_block.specs.Block.{native, native_block, IsLimited};
 
 use arc_buffer::kinds::Slice;
 use arc_owners::error::{AllocError, CountFull};
 use arc_owners::mark::{Mark, Open, Stepping};
-use arc_owners::owners::{Pass, Piece};
+use arc_owners::owners::{CountedBox, Pass};
 use std::alloc::Allocator;
 use std::marker::Model;
 use std::sync::Wait;
@@ -26,14 +26,14 @@ pub fn max_owners() -> u64
 ///
 /// Dropped, it ends with a new pass under the mark `Open`. Under `Whole` it is a forgotten owner: the block stays for good.
 pub struct Block<S: Slice, A: Allocator + Copy, const MAX: u64, H: Mark = Open> {
-    piece: Piece<Vec<S::Item, A>, A, MAX, H>,
+    piece: CountedBox<Vec<S::Item, A>, A, MAX, H>,
 }
 
 impl<S: Slice, A: Allocator + Copy, const MAX: u64, H: Mark> Model for Block<S, A, MAX, H> {
-    ghost use Rattle.arc_owners.specs.Pieces.{owner_in, value_of};
-    ghost use Rattle.arc_block.specs.Block.{Held, held_in, IsLimited};
+    ghost use Rattle.arc_owners.specs.memory.Boxes.{owner_in, value_of};
+    ghost use Rattle.arc_block.specs.Block.{BlockView, held_in, IsLimited};
 
-    ghost Value = { Held S.Item (Unit {0}) };
+    ghost Value = { BlockView S.Item (Unit {0}) };
 
     ghost view = { λ b. held_in S.DROPS (owner_in b.piece) (value_of b.piece) };
 
@@ -108,7 +108,7 @@ impl<S: Slice, A: Allocator + Copy, const MAX: u64, H: Mark> Block<S, A, MAX, H>
         ensures pass { IfOk result (λ r. IsFreshPass r.0.owner r.1) }
         ensures refused { IfErr result (λ back. back ≡ items) }
     {
-        let (piece, pass) = Piece::new(alloc, items)?;
+        let (piece, pass) = CountedBox::new(alloc, items)?;
         Ok((Block { piece }, pass))
     }
 

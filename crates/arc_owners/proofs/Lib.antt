@@ -1,11 +1,5 @@
-pub mod Numbers
-pub mod Owned
-pub mod Legality
-pub mod Steps
-pub mod Told
-pub mod Rows
-pub mod Book
-pub mod Runs
-pub mod Realized
-pub mod Calls
-pub mod Wholes
+-- The lemmas stand in the folders history, count and memory, each with a list of its own. These are for the crates above.
+pub use Rattle.arc_owners.proofs.history.Numbers
+pub use Rattle.arc_owners.proofs.history.Steps
+pub use Rattle.arc_owners.proofs.history.Told
+pub use Rattle.arc_owners.proofs.count.Wholes

@@ -1,11 +1,3 @@
-pub mod Histories
-pub mod Machine
-pub mod Agreement
-pub mod Worlds
-pub mod Laws
-pub mod Book
-pub mod Traces
-pub mod Releases
-pub mod Passes
-pub mod Pieces
-pub mod SoleBoxes
+pub mod count
+pub mod history
+pub mod memory

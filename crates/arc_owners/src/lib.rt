@@ -1,6 +1,9 @@
 //! The owners of a block, and the refusals that every layer above answers.
 #![tactic(auto)]
 
+mod count;
 pub mod error;
+mod history;
 pub mod mark;
+mod memory;
 pub mod owners;

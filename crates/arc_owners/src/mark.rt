@@ -2,11 +2,11 @@
 //!
 //! A body that is generic in the mark learns nothing of it at run time. What the marks do differently, they do in methods of their own.
 ghost use Rattle.std.specs.Prelude.{◌≡◌, ◌≤◌, ℕ, Bool, true, false, List, refl};
-ghost use Rattle.arc_owners.specs.Book.{Names, Line, entries_of};
-ghost use Rattle.arc_owners.specs.Histories.{IsLegal};
-ghost use Rattle.arc_owners.specs.Traces.{IsHeld, IsSole, IsOf, IsLodged, IsOpened, EndsWithNew};
+ghost use Rattle.arc_owners.specs.count.Invariant.{BlockId, Line, entries_of};
+ghost use Rattle.arc_owners.specs.history.Histories.{IsLegal};
+ghost use Rattle.arc_owners.specs.count.Steps.{IsHeld, IsSole, IsOf, IsLodged, IsOpened, EndsWithNew};
 
-use crate::owners::word::{Lodging, Right, Spoils, Trace, Word};
+use crate::count::word::{EndTokens, OwnerToken, PassState, Word, WordBorrow};
 
 mod sealed {
     /// What no other crate can give a type.
@@ -20,35 +20,39 @@ pub trait Mark: sealed::Sealed {
 
     // A pass of this block, with this number, has seen these lines. It holds at both marks, but a body that is generic in the mark gets
     // it from `attest` alone, which takes a pass that is there.
-    ghost real: { Names → ℕ → List Line → Type 0 };
+    ghost real: { BlockId → ℕ → List Line → Type 0 };
 
     /// The word of a new block, its first owner's right and the first pass. The block is lent to that owner, or not.
-    fn open(most: u64, lent: bool) -> (Word, Right, Trace)
+    fn open(most: u64, lent: bool) -> (Word, OwnerToken, PassState)
         requires { 1 ≤ most }
         ensures { IsOpened most Self.whole lent result.0 result.1 result.2 };
 
     /// What a pass has seen is legal, and that the pass is there.
-    fn attest(pass: &Trace)
-        ensures legal { pass.now.bound ≡ true → IsLegal pass.now.names.most pass.now.names.began (entries_of pass.now.lines) }
-        ensures shown { pass.now.bound ≡ true → Self.real pass.now.names pass.now.number pass.now.lines };
+    fn attest(pass: &PassState)
+        ensures legal { pass.now.bound ≡ true → IsLegal pass.now.block.most pass.now.block.began (entries_of pass.now.lines) }
+        ensures shown { pass.now.bound ≡ true → Self.real pass.now.block pass.now.number pass.now.lines };
 
     /// What becomes of an owner that is dropped: whether it ended as the last one, and the pass that it ended with.
     ///
     /// # Safety
     ///
     /// The word lies at this place for as long as the block is lent: the lodging says so.
-    unsafe fn let_go(place: *const u64, lodging: &Lodging, own: Right) -> (bool, Spoils, Trace)
-        requires held { IsHeld lodging.now.names own }
-        requires mark { own.names.whole ≡ Self.whole }
+    unsafe fn let_go(
+        place: *const u64,
+        lodging: &WordBorrow,
+        own: OwnerToken,
+    ) -> (bool, EndTokens, PassState)
+        requires held { IsHeld lodging.now.block own }
+        requires mark { own.block.whole ≡ Self.whole }
         requires place { IsLodged lodging.now place own.lease }
         ensures last { result.0 ≡ true → (result.1.last ≡ true) × (result.1.lease ≡ own.lease) }
         ensures forgotten { Self.whole ≡ true → (result.0 ≡ false) × (result.2.bound ≡ false) }
         ensures ended { Self.whole ≡ false → EndsWithNew own result.2 result.0 };
 
     /// What becomes of a sole owner that is dropped: whether it ended, and the pass that it ended with.
-    fn let_go_sole(own: Right) -> (bool, Trace)
-        requires held { IsSole own.names own }
-        requires mark { own.names.whole ≡ Self.whole }
+    fn let_go_sole(own: OwnerToken) -> (bool, PassState)
+        requires held { IsSole own.block own }
+        requires mark { own.block.whole ≡ Self.whole }
         ensures forgotten { Self.whole ≡ true → (result.0 ≡ false) × (result.1.bound ≡ false) }
         ensures ended { Self.whole ≡ false → (result.0 ≡ true) × EndsWithNew own result.1 true };
 }
@@ -69,25 +73,29 @@ impl Mark for Open {
 
     ghost real = { λ _ _ _. Unit {0} };
 
-    fn open(most: u64, lent: bool) -> (Word, Right, Trace) {
+    fn open(most: u64, lent: bool) -> (Word, OwnerToken, PassState) {
         Word::open(most, false, lent)
     }
 
-    fn attest(pass: &Trace) {
+    fn attest(pass: &PassState) {
         pass.attest();
     }
 
     /// It ends with a new pass.
-    unsafe fn let_go(place: *const u64, lodging: &Lodging, own: Right) -> (bool, Spoils, Trace) {
+    unsafe fn let_go(
+        place: *const u64,
+        lodging: &WordBorrow,
+        own: OwnerToken,
+    ) -> (bool, EndTokens, PassState) {
         let mut pass = own.fork();
-        let mut last = Spoils::none();
+        let mut last = EndTokens::none();
         let mut right = own;
-        let found = unsafe { Word::lower_raw(place, lodging, &mut right, &mut pass, &mut last) };
+        let found = unsafe { Word::subtract_raw(place, lodging, &mut right, &mut pass, &mut last) };
         (found == 1, last, pass)
     }
 
     /// It ends with a new pass, without a step.
-    fn let_go_sole(own: Right) -> (bool, Trace) {
+    fn let_go_sole(own: OwnerToken) -> (bool, PassState) {
         let mut pass = own.fork();
         let mut right = own;
         right.finish(&mut pass);
@@ -110,25 +118,29 @@ impl Mark for Whole {
 
     ghost real = { λ _ _ _. Unit {0} };
 
-    fn open(most: u64, lent: bool) -> (Word, Right, Trace) {
+    fn open(most: u64, lent: bool) -> (Word, OwnerToken, PassState) {
         Word::open(most, true, lent)
     }
 
-    fn attest(pass: &Trace) {
+    fn attest(pass: &PassState) {
         pass.attest();
     }
 
     /// It is forgotten, without a step.
-    unsafe fn let_go(place: *const u64, lodging: &Lodging, own: Right) -> (bool, Spoils, Trace) {
+    unsafe fn let_go(
+        place: *const u64,
+        lodging: &WordBorrow,
+        own: OwnerToken,
+    ) -> (bool, EndTokens, PassState) {
         let _ = place;
         let _ = lodging;
         drop(own);
-        (false, Spoils::none(), Trace::none())
+        (false, EndTokens::none(), PassState::none())
     }
 
     /// It is forgotten.
-    fn let_go_sole(own: Right) -> (bool, Trace) {
+    fn let_go_sole(own: OwnerToken) -> (bool, PassState) {
         drop(own);
-        (false, Trace::none())
+        (false, PassState::none())
     }
 }

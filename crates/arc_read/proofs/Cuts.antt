@@ -3,17 +3,17 @@ use Rattle.std.proofs.Common.{◌≡◌, ℕ, ◌+◌, ◌-◌, ◌≤◌, Bool,
 use Rattle.std.proofs.lemmas.List.{nil_from_length}
 use Rattle.std.proofs.Math.Logic.{∥∥₁_map, ∥∥₁_elim}
 use Rattle.std.proofs.Math.Bool.{Bool-set}
-use Rattle.arc_owners.specs.Passes.{Owner}
+use Rattle.arc_owners.specs.count.Calls.{Owner}
 use Rattle.arc_buffer.specs.Slice.{sub, IsEdge, IsRange}
 use Rattle.arc_buffer.proofs.Sub.{sub-sub, length-sub}
-use Rattle.arc_block.specs.Block.{Held}
+use Rattle.arc_block.specs.Block.{BlockView}
 use Rattle.arc_block.specs.Place.{Place, nowhere, static_data, on_block, moved}
 use Rattle.arc_read.specs.Window.{Window, window_seen, IsWithin}
 use Rattle.arc_read.specs.Cuts.{cut_window}
 use Rattle.arc_read.proofs.Windows.{on_block_seen}
 
 -- what holds of every window
-abbrev pub Holds : {T : Type 0} → (List T → Type 0) → Option (Held T (Unit {0})) → ℕ → ℕ → Type 0
+abbrev pub Holds : {T : Type 0} → (List T → Type 0) → Option (BlockView T (Unit {0})) → ℕ → ℕ → Type 0
 Holds legal inner from to = IsWithin inner from to × ∥ legal (window_seen inner from to).items ∥₁
 
 stays : (place : Place (Option Owner) (Unit {0})) → moved 0 place ≡ place
@@ -23,16 +23,16 @@ stays (on_block owner offset facts) = let same : offset + 0 ≡ offset = omega a
 
 module _ {T : Type 0} where
   -- how long a window is
-  pub window_length : (inner : Option (Held T (Unit {0}))) (from to : ℕ) (w : Window T) → window_seen inner from to ≡ w → IsWithin inner from to → from + length w.items ≡ to
+  pub window_length : (inner : Option (BlockView T (Unit {0}))) (from to : ℕ) (w : Window T) → window_seen inner from to ≡ w → IsWithin inner from to → from + length w.items ≡ to
   window_length None from to w view within = omega (arith, ap (λ (v : Window T). length v.items) view, within.0, within.1)
   window_length (Some b) from to w view within = omega (arith, ap (λ (v : Window T). length v.items) view, length-sub b.items from to within.0 within.1, within.0)
 
-  cut_within : (inner : Option (Held T (Unit {0}))) (from to start end : ℕ) → IsWithin inner from to → start ≤ end → from + end ≤ to → IsWithin inner (from + start) (from + end)
+  cut_within : (inner : Option (BlockView T (Unit {0}))) (from to start end : ℕ) → IsWithin inner from to → start ≤ end → from + end ≤ to → IsWithin inner (from + start) (from + end)
   cut_within None from to start end within ordered inside = (omega (arith, within.0, within.1, ordered, inside), omega (arith, within.0, within.1, inside))
   cut_within (Some b) from to start end within ordered inside = (omega (arith, ordered), omega (arith, inside, within.1), within.2)
 
   -- the fields of a window that is cut are seen as the cut
-  pub cut_seen : (inner : Option (Held T (Unit {0}))) (from to start end : ℕ) (w : Window T) → window_seen inner from to ≡ w → IsWithin inner from to → start ≤ end → from + end ≤ to → window_seen inner (from + start) (from + end) ≡ cut_window w start end
+  pub cut_seen : (inner : Option (BlockView T (Unit {0}))) (from to start end : ℕ) (w : Window T) → window_seen inner from to ≡ w → IsWithin inner from to → start ≤ end → from + end ≤ to → window_seen inner (from + start) (from + end) ≡ cut_window w start end
   cut_seen None from to start end w view within ordered inside =
       let none : List T = [] in
       let empty : sub none start end ≡ [] = nil_from_length (sub none start end) (omega (arith, length-sub none start end ordered (omega (arith, within.0, within.1, inside)), within.0, within.1, inside)) in
@@ -45,7 +45,7 @@ module _ {T : Type 0} where
 
   module _ (legal : List T → Type 0) (boundary : List T → ℕ → Bool) (law : (xs : List T) (s e : ℕ) → legal xs → IsRange boundary xs s e → legal (sub xs s e)) where
     -- a cut over a range
-    pub cut_holds : (inner : Option (Held T (Unit {0}))) (from to start end : ℕ) (w : Window T) → window_seen inner from to ≡ w → Holds legal inner from to → (legal w.items → IsRange boundary w.items start end) → start ≤ end → from + end ≤ to
+    pub cut_holds : (inner : Option (BlockView T (Unit {0}))) (from to start end : ℕ) (w : Window T) → window_seen inner from to ≡ w → Holds legal inner from to → (legal w.items → IsRange boundary w.items start end) → start ≤ end → from + end ≤ to
         → Holds legal inner (from + start) (from + end)
     cut_holds inner from to start end w view holds range ordered inside =
         let seen = cut_seen inner from to start end w view holds.0 ordered inside in
@@ -56,14 +56,14 @@ module _ {T : Type 0} where
 
     module _ (ends : (xs : List T) → legal xs → IsEdge boundary xs 0 × IsEdge boundary xs (length xs)) where
       -- the first items are taken off
-      pub advanced : (inner : Option (Held T (Unit {0}))) (from to n : ℕ) (w : Window T) → window_seen inner from to ≡ w → Holds legal inner from to → IsEdge boundary w.items n → Holds legal inner (from + n) to
+      pub advanced : (inner : Option (BlockView T (Unit {0}))) (from to n : ℕ) (w : Window T) → window_seen inner from to ≡ w → Holds legal inner from to → IsEdge boundary w.items n → Holds legal inner (from + n) to
       advanced inner from to n w view holds edge =
           let long = window_length inner from to w view holds.0 in
           subst (λ t. Holds legal inner (from + n) t) long
           (cut_holds inner from to n (length w.items) w view holds (λ h. record { ordered = edge.within; from = edge; to = (ends w.items h).1 }) edge.within (omega (arith, long)))
 
       -- only the first items stay
-      pub truncated : (inner : Option (Held T (Unit {0}))) (from to n : ℕ) (w : Window T) → window_seen inner from to ≡ w → Holds legal inner from to → IsEdge boundary w.items n → Holds legal inner from (from + n)
+      pub truncated : (inner : Option (BlockView T (Unit {0}))) (from to n : ℕ) (w : Window T) → window_seen inner from to ≡ w → Holds legal inner from to → IsEdge boundary w.items n → Holds legal inner from (from + n)
       truncated inner from to n w view holds edge =
           let long = window_length inner from to w view holds.0 in
           let zero : from + 0 ≡ from = omega arith in
@@ -71,7 +71,7 @@ module _ {T : Type 0} where
           (cut_holds inner from to 0 n w view holds (λ h. record { ordered = omega arith; from = (ends w.items h).0; to = edge }) (omega arith) (omega (arith, long, edge.within)))
 
   -- a window that is cut short is seen as its first items, where it stood
-  pub truncated_seen : (inner : Option (Held T (Unit {0}))) (from to n : ℕ) (w : Window T) → window_seen inner from to ≡ w → IsWithin inner from to → from + n ≤ to → window_seen inner from (from + n) ≡ record { items = take n w.items; place = w.place }
+  pub truncated_seen : (inner : Option (BlockView T (Unit {0}))) (from to n : ℕ) (w : Window T) → window_seen inner from to ≡ w → IsWithin inner from to → from + n ≤ to → window_seen inner from (from + n) ≡ record { items = take n w.items; place = w.place }
   truncated_seen inner from to n w view within inside =
       let zero : from + 0 ≡ from = omega arith in
       ap (λ f. window_seen inner f (from + n)) (sym zero) ∙ cut_seen inner from to 0 n w view within (omega arith) inside ∙ ap (λ p. record { items = take n w.items; place = p }) (stays w.place)

@@ -1,6 +1,6 @@
 -- Cuts and splits of a read window.
 use Rattle.std.specs.Prelude.{◌≡◌, ℕ, ◌<◌, Bool, if◌then◌else◌, ◌==◌, List, length, take, drop}
-use Rattle.arc_owners.specs.declared.owners.tokens.Pass.{Pass}
+use Rattle.arc_owners.specs.declared.count.tokens.Pass.{Pass}
 use Rattle.arc_buffer.specs.Slice.{sub}
 use Rattle.arc_block.specs.Place.{moved}
 use Rattle.arc_read.specs.Window.{Window, part_window}

@@ -3,10 +3,10 @@
 use Rattle.std.specs.Prelude.{◌≡◌, ℕ, Bool, true, false, Option, List, []}
 use Rattle.arc_owners.specs.declared.error.OwnerError.{OwnerError}
 use Rattle.arc_owners.specs.declared.error.OwnerError.TheVariants.{AllocError, CountFull}
-use Rattle.arc_owners.specs.declared.owners.tokens.Pass.{Pass}
-use Rattle.arc_owners.specs.Book.{Names, Line}
-use Rattle.arc_owners.specs.Passes.{Owner, Appends, IsOfBlock, IsPassOf, IsPassOfNone, pass_block, pass_number, history_of, IsFirst, IsFreshPass, IsNewPass, FindsFull, MakesAnother, Asks}
-use Rattle.arc_block.specs.Block.{Sort, Facts}
+use Rattle.arc_owners.specs.declared.count.tokens.Pass.{Pass}
+use Rattle.arc_owners.specs.count.Invariant.{BlockId, Line}
+use Rattle.arc_owners.specs.count.Calls.{Owner, Appends, IsOfBlock, IsPassOf, IsPassOfNone, pass_block, pass_number, history_of, IsFirst, IsFreshPass, IsNewPass, FindsFull, MakesAnother, Asks}
+use Rattle.arc_block.specs.Block.{Sort, BlockInfo}
 use Rattle.arc_block.specs.Place.{Place, nowhere, static_data, on_block, at_owner, for_owner}
 use Rattle.arc_block.specs.declared.block.TheConstants.{MAX_OWNERS}
 use Rattle.arc_read.specs.Window.{Window, made_window, IsWholeOf}
@@ -35,7 +35,7 @@ module _ {M H : Type 0} where
 
 -- A call was made with a new pass of the window's block, and the last pass is one that is there: so much of the block's history the
 -- call has really seen.
-pub record WithNewPass {M H : Type 0} (real : Names → ℕ → List Line → Type 0) (place : Place (Option Owner) M) (call : Pass H → Pass H → Type 0) : Type 0 where
+pub record WithNewPass {M H : Type 0} (real : BlockId → ℕ → List Line → Type 0) (place : Place (Option Owner) M) (call : Pass H → Pass H → Type 0) : Type 0 where
   pub first : Pass H
   pub last : Pass H
   pub new : at_owner place (IsPassOfNone first) (λ o. IsNewPass o first)

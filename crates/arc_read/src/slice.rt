@@ -4,7 +4,7 @@ ghost use Rattle.arc_buffer.specs.Slice.{IsRange, range_answer};
 ghost use Rattle.arc_buffer.specs.Slice.{sub};
 ghost use Rattle.arc_block.specs.Block.{native_block, IsLimited};
 ghost use Rattle.arc_block.specs.Place.{nowhere, at_owner};
-ghost use Rattle.arc_owners.specs.Passes.{IsPassOfNone, IsFirst, IsFreshPass, IsNewPass, Learns, Asks, Leaves, TakesBlock, AsksAndLeaves};
+ghost use Rattle.arc_owners.specs.count.Calls.{IsPassOfNone, IsFirst, IsFreshPass, IsNewPass, Learns, Asks, Leaves, TakesBlock, AsksAndLeaves};
 ghost use Rattle.arc_read.specs.Window.{NeedsBlock, IsWholeOf, part_window};
 ghost use Rattle.arc_read.specs.Steps.{IsPassAt, Makes, Begins, Shares, Refuses, RefusesArray, WithNewPass};
 

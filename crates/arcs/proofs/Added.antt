@@ -5,17 +5,17 @@ use Rattle.std.specs.Option.{option_map, option_flatten}
 use Rattle.std.proofs.lemmas.Bool.{false≢true}
 use Rattle.std.proofs.lemmas.Option.{slice_get-map}
 use Rattle.std.proofs.lemmas.List.{map-append}
-use Rattle.arc_owners.specs.declared.owners.tokens.Pass.{Pass}
-use Rattle.arc_owners.specs.Book.{Names}
-use Rattle.arc_owners.specs.Passes.{Owner, Asks, Leaves, MakesAnother, FindsFull}
+use Rattle.arc_owners.specs.declared.count.tokens.Pass.{Pass}
+use Rattle.arc_owners.specs.count.Invariant.{BlockId}
+use Rattle.arc_owners.specs.count.Calls.{Owner, Asks, Leaves, MakesAnother, FindsFull}
 use Rattle.arc_block.specs.declared.block.TheConstants.{MAX_OWNERS}
 use Rattle.arc_block.specs.Owned.{Stand, IsKept}
 use Rattle.arc_block.specs.Place.{Place, nowhere, static_data, on_block, at_owner}
 use Rattle.arc_read.specs.Steps.{Makes, Begins}
 use Rattle.arcs.specs.Additions.{stand_in, Standing, Through, Along, Beside, Founds, OneMore, Joined, Calls, Ends}
 use Rattle.arcs.specs.Stands.{is_on_block, stand_at, Joins, IsFullStand, TakenOut, put_back}
-use Rattle.arcs.specs.Entries.{stand_of, stands_of}
-use Rattle.arcs.specs.declared.entry.Entry.{Entry}
+use Rattle.arcs.specs.Slots.{stand_of, stands_of}
+use Rattle.arcs.specs.declared.slot.Slot.{Slot}
 use Rattle.arcs.proofs.Kept.{AsksAt, LeavesAt, back-same, stands-nowhere, founded}
 use Rattle.arcs.proofs.Tables.{map-slice_set}
 
@@ -39,7 +39,7 @@ module _ {H : Type 0} {stands : List Stand} {passes : List (Pass H)} (i : ℕ)
         after = new;
         was = took.0;
         pass = for;
-        whole = ap (λ (t : Names). t.whole) (sym for.1) ∙ (k.passes_fit n p took.0).whole;
+        whole = ap (λ (t : BlockId). t.whole) (sym for.1) ∙ (k.passes_fit n p took.0).whole;
         called = called;
         others = took.1 new;
       }
@@ -83,11 +83,11 @@ module _ {H : Type 0} {stands : List Stand} {passes : List (Pass H)} (i : ℕ)
 
 module _ {A H : Type 0} where
   -- these entries, and these passes
-  abbrev pub standing_with : List (Option (Entry A)) → List (Pass H) → Standing H
+  abbrev pub standing_with : List (Option (Slot A)) → List (Pass H) → Standing H
   standing_with entries passes = record { stands = stands_of entries; passes = passes }
 
   -- the same for the window of an entry
-  module _ (entries : List (Option (Entry A))) (passes : List (Pass H)) (i : ℕ) (e : Entry A)
+  module _ (entries : List (Option (Slot A))) (passes : List (Pass H)) (i : ℕ) (e : Slot A)
       (k : IsKept MAX_OWNERS (stands_of entries) passes)
       (there : slice_get entries i ≡ Some (Some e)) where
     abbrev before : Standing H
@@ -112,7 +112,7 @@ module _ {A H : Type 0} where
           moved (λ s ps. Along s passes ps call)
           (along-at i k left p new none call e.block e.window.place e.numbered at took same h)
 
-      pub joins-added : (e' : Entry A) (entries' : List (Option (Entry A)))
+      pub joins-added : (e' : Slot A) (entries' : List (Option (Slot A)))
           → entries' ≡ entries ++ Some e' ∷ []
           → Joins (stand_of (Some e)) p new (stand_of (Some e'))
           → Joined before i (standing_with entries' after)
@@ -123,7 +123,7 @@ module _ {A H : Type 0} where
             (beside-at i k left p new e.block e.window.place (stand_of (Some e')) at took joins),
       )
 
-      pub full-added : (entries' : List (Option (Entry A))) → entries' ≡ entries
+      pub full-added : (entries' : List (Option (Slot A))) → entries' ≡ entries
           → IsFullStand (stand_of (Some e)) p new
           → Calls before i (standing_with entries' after) FindsFull
       full-added entries' same full = (
@@ -137,7 +137,7 @@ module _ {A H : Type 0} where
       asked-added found asks =
           (refl, called ((found ≡ false) × (new ≡ p)) (λ o q r. Asks o q r found) (λ h. h.1) asks)
 
-      pub end-added : (entries' : List (Option (Entry A))) → entries' ≡ slice_set entries i None
+      pub end-added : (entries' : List (Option (Slot A))) → entries' ≡ slice_set entries i None
           → LeavesAt e.window.place p new → Ends before i (standing_with entries' after)
       end-added entries' set leaves = (
         ap stands_of set ∙ map-slice_set stand_of entries i None,
@@ -145,7 +145,7 @@ module _ {A H : Type 0} where
       )
 
   -- a window was made on nothing, or on a new block
-  module _ (entries entries' : List (Option (Entry A))) (e : Entry A)
+  module _ (entries entries' : List (Option (Slot A))) (e : Slot A)
       (one_more : entries' ≡ entries ++ Some e ∷ []) (passes passes' : List (Pass H)) where
     pub nowhere-added : e.block ≡ None → passes' ≡ passes
         → OneMore (standing_with entries passes) (standing_with entries' passes')

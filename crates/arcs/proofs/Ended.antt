@@ -3,30 +3,30 @@ use Rattle.std.proofs.Common.{◌≡◌, ℕ, zero, suc, List, [], ◌∷◌, ma
 use Rattle.std.proofs.Common.{refl, sym, ap, ◌∙◌}
 use Rattle.std.specs.Option.{option_map, option_flatten}
 use Rattle.std.proofs.lemmas.Option.{slice_get-map}
-use Rattle.arc_owners.specs.declared.owners.tokens.Pass.{Pass}
+use Rattle.arc_owners.specs.declared.count.tokens.Pass.{Pass}
 use Rattle.arc_block.specs.Owned.{owners_on, IsKept}
-use Rattle.arcs.specs.Entries.{row_of, stand_of, stands_of}
-use Rattle.arcs.specs.declared.entry.Entry.{Entry}
+use Rattle.arcs.specs.Slots.{row_of, stand_of, stands_of}
+use Rattle.arcs.specs.declared.slot.Slot.{Slot}
 
 -- nothing stands anywhere
 abbrev pub AllGone : {X : Type 0} → List (Option X) → Type 0
 AllGone xs = (i : ℕ) → option_flatten (slice_get xs i) ≡ None
 
 module _ {A : Type 0} where
-  no_row : (x : Option (Option (Entry A)))
+  no_row : (x : Option (Option (Slot A)))
       → option_flatten (option_map (option_map row_of) x) ≡ None → option_flatten x ≡ None
   no_row None none = refl
   no_row (Some None) none = refl
   no_row (Some (Some e)) none = cc
 
   -- where no row is left, no entry has a window
-  pub entries-gone : (entries : List (Option (Entry A)))
+  pub entries-gone : (entries : List (Option (Slot A)))
       → AllGone (map (option_map row_of) entries) → AllGone entries
   entries-gone entries gone i =
       let row = slice_get-map (option_map row_of) entries i in
       no_row (slice_get entries i) (ap option_flatten (sym row) ∙ gone i)
 
-  none_on : (entries : List (Option (Entry A)))
+  none_on : (entries : List (Option (Slot A)))
       → AllGone entries → (n : ℕ) → owners_on n (stands_of entries) ≡ []
   none_on [] gone n = refl
   none_on (x ∷ xs) gone n =
@@ -34,7 +34,7 @@ module _ {A : Type 0} where
       ∙ none_on xs (λ i. gone (suc i)) n
 
   -- and no block has a live owner
-  pub kept-gone-all : {H : Type 0} (most : ℕ) (entries : List (Option (Entry A)))
+  pub kept-gone-all : {H : Type 0} (most : ℕ) (entries : List (Option (Slot A)))
       (passes : List (Pass H))
       → IsKept most (stands_of entries) passes → AllGone entries → IsKept most [] passes
   kept-gone-all most entries passes k gone = record {

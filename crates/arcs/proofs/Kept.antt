@@ -4,8 +4,8 @@ use Rattle.std.specs.Option.{option_map, option_map_or, option_flatten}
 use Rattle.std.proofs.lemmas.Bool.{cases_eq, false≢true}
 use Rattle.std.proofs.lemmas.Option.{same_Some, slice_get-map, slice_get_cases, slice_get_read, slice_get_within}
 use Rattle.std.proofs.lemmas.List.{map-append, length-set}
-use Rattle.arc_owners.specs.declared.owners.tokens.Pass.{Pass}
-use Rattle.arc_owners.specs.Passes.{Owner, Asks, Leaves, IsFirst, IsFreshPass}
+use Rattle.arc_owners.specs.declared.count.tokens.Pass.{Pass}
+use Rattle.arc_owners.specs.count.Calls.{Owner, Asks, Leaves, IsFirst, IsFreshPass}
 use Rattle.arc_block.specs.declared.block.TheConstants.{MAX_OWNERS}
 use Rattle.arc_block.specs.Block.{native_facts}
 use Rattle.arc_block.specs.Owned.{Stand, number_on, owners_on, IsKept}
@@ -19,8 +19,8 @@ use Rattle.arc_read.specs.Window.{Window}
 use Rattle.arcs.specs.Step.{IsFullPlace}
 use Rattle.arcs.specs.Script.{ByteTable}
 use Rattle.arcs.specs.Stands.{numbered, is_on_block, stand_at, IsPassOfStand, Joins, IsFullStand, TakenOut, put_back, HasNumber}
-use Rattle.arcs.specs.Entries.{row_of, stand_of, stands_of}
-use Rattle.arcs.specs.declared.entry.Entry.{Entry}
+use Rattle.arcs.specs.Slots.{row_of, stand_of, stands_of}
+use Rattle.arcs.specs.declared.slot.Slot.{Slot}
 use Rattle.arcs.proofs.Tables.{table_with, map-slice_set}
 
 -- what a window's asking and its end add
@@ -42,12 +42,12 @@ place-counted b static_data n = refl
 place-counted None (on_block (Some owner) offset facts) n = refl
 place-counted (Some m) (on_block (Some owner) offset facts) n = number-if (m == n) owner.number
 
-entry-counted : {A : Type 0} (x : Option (Entry A)) (n : ℕ) → stands_on n (option_map row_of x) ≡ is_some (number_on n (stand_of x))
+entry-counted : {A : Type 0} (x : Option (Slot A)) (n : ℕ) → stands_on n (option_map row_of x) ≡ is_some (number_on n (stand_of x))
 entry-counted None n = refl
 entry-counted (Some e) n = place-counted e.block e.window.place n
 
 -- so many rows stand on a block as the block has owners
-pub rows-counted : {A : Type 0} (entries : List (Option (Entry A))) (blocks n : ℕ) → owners (table_with entries blocks) n ≡ length (owners_on n (stands_of entries))
+pub rows-counted : {A : Type 0} (entries : List (Option (Slot A))) (blocks n : ℕ) → owners (table_with entries blocks) n ≡ length (owners_on n (stands_of entries))
 rows-counted entries blocks n = same_owners (option_map row_of) stand_of entry-counted entries n
 
 set-back : {X : Type 0} (xs : List X) (n : ℕ) (x : X) → slice_get xs n ≡ Some x → slice_set xs n x ≡ xs
@@ -215,7 +215,7 @@ pass-at p (Some n) static_data fits of = absurd (false≢true (sym fits))
 pass-at p (Some n) (on_block (Some owner) offset facts) fits of = of
 
 -- the same for the window of an entry
-module _ {A H : Type 0} (entries : List (Option (Entry A))) (passes : List (Pass H)) (i : ℕ) (e : Entry A) (k : IsKept MAX_OWNERS (stands_of entries) passes) (there : slice_get entries i ≡ Some (Some e)) where
+module _ {A H : Type 0} (entries : List (Option (Slot A))) (passes : List (Pass H)) (i : ℕ) (e : Slot A) (k : IsKept MAX_OWNERS (stands_of entries) passes) (there : slice_get entries i ≡ Some (Some e)) where
   stand-there : slice_get (stands_of entries) i ≡ Some (stand_of (Some e))
   stand-there = slice_get-map stand_of entries i ∙ ap (option_map stand_of) there
 
@@ -233,19 +233,19 @@ module _ {A H : Type 0} (entries : List (Option (Entry A))) (passes : List (Pass
     window-pass = pass-at p e.block e.window.place e.numbered stand-pass
 
     module _ (new : Pass H) (after : List (Pass H)) (back : after ≡ put_back left e.block new) where
-      pub joined : (e' : Entry A) (entries' : List (Option (Entry A))) → entries' ≡ entries ++ Some e' ∷ [] → Joins (stand_of (Some e)) p new (stand_of (Some e')) → IsKept MAX_OWNERS (stands_of entries') after
+      pub joined : (e' : Slot A) (entries' : List (Option (Slot A))) → entries' ≡ entries ++ Some e' ∷ [] → Joins (stand_of (Some e)) p new (stand_of (Some e')) → IsKept MAX_OWNERS (stands_of entries') after
       joined e' entries' one_more joins =
           subst (λ es. IsKept MAX_OWNERS (stands_of es) after) (sym one_more)
           (subst (λ ss. IsKept MAX_OWNERS ss after) (sym (map-append stand_of entries (Some e' ∷ [])))
           (subst (λ ps. IsKept MAX_OWNERS (stands_of entries ++ stand_of (Some e') ∷ []) ps) (sym back) (joined-at i k left p new e.block e.window.place (stand_of (Some e')) stand-there took joins)))
 
-      pub stays-full : (entries' : List (Option (Entry A))) → entries' ≡ entries → IsFullStand (stand_of (Some e)) p new → IsKept MAX_OWNERS (stands_of entries') after
+      pub stays-full : (entries' : List (Option (Slot A))) → entries' ≡ entries → IsFullStand (stand_of (Some e)) p new → IsKept MAX_OWNERS (stands_of entries') after
       stays-full entries' same full = subst (λ es. IsKept MAX_OWNERS (stands_of es) after) (sym same) (subst (λ ps. IsKept MAX_OWNERS (stands_of entries) ps) (sym back) (full-at i k left p new e.block e.window.place stand-there took full))
 
       pub stays-asked : (found : Bool) → AsksAt e.window.place p new found → IsKept MAX_OWNERS (stands_of entries) after
       stays-asked found asks = subst (λ ps. IsKept MAX_OWNERS (stands_of entries) ps) (sym back) (asked-at i k left p new found e.block e.window.place e.numbered stand-there took asks)
 
-      pub gone : (entries' : List (Option (Entry A))) → entries' ≡ slice_set entries i None → LeavesAt e.window.place p new → IsKept MAX_OWNERS (stands_of entries') after
+      pub gone : (entries' : List (Option (Slot A))) → entries' ≡ slice_set entries i None → LeavesAt e.window.place p new → IsKept MAX_OWNERS (stands_of entries') after
       gone entries' set leaves =
           subst (λ es. IsKept MAX_OWNERS (stands_of es) after) (sym set)
           (subst (λ ss. IsKept MAX_OWNERS ss after) (sym (map-slice_set stand_of entries i None))
@@ -267,7 +267,7 @@ stand-none static_data = refl
 stand-none (on_block (Some owner) offset facts) = refl
 
 -- a window was made on nothing, or on a new block
-module _ {A : Type 0} (entries entries' : List (Option (Entry A))) (e : Entry A) (one_more : entries' ≡ entries ++ Some e ∷ []) where
+module _ {A : Type 0} (entries entries' : List (Option (Slot A))) (e : Slot A) (one_more : entries' ≡ entries ++ Some e ∷ []) where
   stands-more : stands_of entries' ≡ stands_of entries ++ stand_of (Some e) ∷ []
   stands-more = ap stands_of one_more ∙ map-append stand_of entries (Some e ∷ [])
 

@@ -10,8 +10,8 @@ use Rattle.arc_block.specs.Place.{Place, nowhere, static_data, on_block, IsOnBlo
 use Rattle.arc_block.specs.Table.{Row, Table, row_at, is_alone}
 use Rattle.arcs.specs.Step.{Outcome, Step, with_row, on_row, IsFullPlace, MayBeFull}
 use Rattle.arcs.specs.Script.{ByteTable, byte_setting}
-use Rattle.arcs.specs.Entries.{row_of}
-use Rattle.arcs.specs.declared.entry.Entry.{Entry}
+use Rattle.arcs.specs.Slots.{row_of}
+use Rattle.arcs.specs.declared.slot.Slot.{Slot}
 use Rattle.arcs.specs.declared.command.Command.TheVariants as command
 use Rattle.arcs.specs.declared.command.Reply.TheVariants as reply
 
@@ -22,11 +22,11 @@ map-slice_set f (y ∷ ys) zero x = refl
 map-slice_set f (y ∷ ys) (suc i) x = ap (λ zs. f y ∷ zs) (map-slice_set f ys i x)
 
 -- the table of these entries
-abbrev pub table_with : {A : Type 0} → List (Option (Entry A)) → ℕ → ByteTable
+abbrev pub table_with : {A : Type 0} → List (Option (Slot A)) → ℕ → ByteTable
 table_with entries blocks = record { rows = map (option_map row_of) entries; blocks = blocks }
 
 -- where no window stands, no row goes
-pub none-there : {A : Type 0} (entries : List (Option (Entry A))) (i : ℕ) → option_flatten (slice_get entries i) ≡ None → map (option_map row_of) entries ≡ slice_set (map (option_map row_of) entries) i None
+pub none-there : {A : Type 0} (entries : List (Option (Slot A))) (i : ℕ) → option_flatten (slice_get entries i) ≡ None → map (option_map row_of) entries ≡ slice_set (map (option_map row_of) entries) i None
 none-there [] i none = refl
 none-there (x ∷ xs) zero none = ap (λ y. option_map row_of y ∷ map (option_map row_of) xs) none
 none-there (x ∷ xs) (suc i) none = ap (λ ys. option_map row_of x ∷ ys) (none-there xs i none)
@@ -38,7 +38,7 @@ part-full t false start nowhere full on = full
 part-full t false start static_data full on = full
 part-full t false start (on_block n offset facts) full on = full
 
-module _ {A : Type 0} (entries : List (Option (Entry A))) (blocks i : ℕ) (e : Entry A) (there : slice_get entries i ≡ Some (Some e)) where
+module _ {A : Type 0} (entries : List (Option (Slot A))) (blocks i : ℕ) (e : Slot A) (there : slice_get entries i ≡ Some (Some e)) where
   abbrev t : ByteTable
   t = table_with entries blocks
 
@@ -52,9 +52,9 @@ module _ {A : Type 0} (entries : List (Option (Entry A))) (blocks i : ℕ) (e : 
   pub answered : (found : Row ℕ (Unit {0}) → Outcome ℕ (Unit {0})) → on_row t i found ≡ found (row_of e)
   answered found = ap (λ r. option_map_or found r (reply.NoWindow, t)) row-there
 
-  module _ (entries' : List (Option (Entry A))) (blocks' : ℕ) (same_blocks : blocks' ≡ blocks) where
+  module _ (entries' : List (Option (Slot A))) (blocks' : ℕ) (same_blocks : blocks' ≡ blocks) where
     -- a window more
-    pub added : (e' : Entry A) (number : ℕ) (found : Row ℕ (Unit {0}) → Outcome ℕ (Unit {0})) → entries' ≡ entries ++ Some e' ∷ [] → number ≡ length entries → found (row_of e) ≡ with_row t (row_of e') blocks → on_row t i found ≡ (reply.New number, table_with entries' blocks')
+    pub added : (e' : Slot A) (number : ℕ) (found : Row ℕ (Unit {0}) → Outcome ℕ (Unit {0})) → entries' ≡ entries ++ Some e' ∷ [] → number ≡ length entries → found (row_of e) ≡ with_row t (row_of e') blocks → on_row t i found ≡ (reply.New number, table_with entries' blocks')
     added e' number found one_more long same =
         answered found ∙ same
         ∙ ap (λ (n : ℕ). (reply.New n, with_rows (t.rows ++ Some (row_of e') ∷ []))) (length-map entries (option_map row_of) ∙ sym long)

@@ -2,8 +2,8 @@
 -- which block. All other passes stay.
 use Rattle.std.specs.Prelude.{◌≡◌, ℕ, Bool, true, false, List, [], ◌∷◌, ◌++◌, length, Option, Some, None, slice_get, slice_set}
 use Rattle.std.specs.Option.{option_flatten}
-use Rattle.arc_owners.specs.declared.owners.tokens.Pass.{Pass}
-use Rattle.arc_owners.specs.Passes.{Owner, IsPassFor, Asks, MakesAnother, FindsFull, Leaves, IsFirst, IsFreshPass}
+use Rattle.arc_owners.specs.declared.count.tokens.Pass.{Pass}
+use Rattle.arc_owners.specs.count.Calls.{Owner, IsPassFor, Asks, MakesAnother, FindsFull, Leaves, IsFirst, IsFreshPass}
 use Rattle.arc_block.specs.declared.block.TheConstants.{MAX_OWNERS}
 use Rattle.arc_block.specs.Owned.{Stand}
 use Rattle.arcs.specs.declared.command.Command.{Command}

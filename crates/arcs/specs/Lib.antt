@@ -6,7 +6,7 @@ pub mod Script
 pub mod Seen
 pub mod Writing
 pub mod Stands
-pub mod Entries
+pub mod Slots
 pub mod Additions
 pub mod Rows
 pub mod Traffic

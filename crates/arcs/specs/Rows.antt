@@ -3,7 +3,7 @@ use Rattle.std.specs.Prelude.{length, map}
 use Rattle.std.specs.Option.{option_map}
 use Rattle.arc_owners.specs.declared.mark.Whole.{Whole}
 use Rattle.arcs.specs.Additions.{Standing}
-use Rattle.arcs.specs.Entries.{row_of, stands_of}
+use Rattle.arcs.specs.Slots.{row_of, stands_of}
 use Rattle.arcs.specs.Script.{ByteTable}
 use Rattle.arcs.specs.declared.windows.Windows.{Windows}
 

@@ -1,7 +1,7 @@
 -- Where the windows of a script stand: the numbers of their blocks, and the passes of these.
 use Rattle.std.specs.Prelude.{◌≡◌, ℕ, ◌<◌, Bool, true, false, List, Option, Some, None, length, slice_get, slice_set}
-use Rattle.arc_owners.specs.declared.owners.tokens.Pass.{Pass}
-use Rattle.arc_owners.specs.Passes.{Owner, IsPassOfNone, IsPassFor, MakesAnother, FindsFull}
+use Rattle.arc_owners.specs.declared.count.tokens.Pass.{Pass}
+use Rattle.arc_owners.specs.count.Calls.{Owner, IsPassOfNone, IsPassFor, MakesAnother, FindsFull}
 use Rattle.arc_block.specs.Owned.{Stand}
 use Rattle.arc_block.specs.Place.{Place, nowhere, static_data, on_block}
 

@@ -3,12 +3,12 @@
 
 mod command;
 mod device;
-mod entry;
 mod log;
 mod parse;
 mod passes;
 mod program;
 mod script;
+mod slot;
 mod text;
 mod windows;
 

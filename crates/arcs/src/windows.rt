@@ -3,11 +3,11 @@ ghost use Rattle.std.specs.Prelude.{◌≡◌, ℕ, Some, None, MatchOption, sli
 ghost use Rattle.std.specs.Option.{option_flatten};
 ghost use Rattle.arc_block.specs.declared.block.TheConstants.{MAX_OWNERS};
 ghost use Rattle.arc_block.specs.Owned.{IsKept};
-ghost use Rattle.arcs.specs.Entries.{stands_of};
+ghost use Rattle.arcs.specs.Slots.{stands_of};
 
 use crate::command::{Command, Reply};
-use crate::entry::Entry;
 use crate::passes::Passes;
+use crate::slot::Slot;
 use arc_owners::owners::Pass;
 use arc_read::slice::ArcSlice;
 use std::alloc::Allocator;
@@ -19,21 +19,21 @@ use std::sync::Wait;
 /// At every moment the live owners of each block's history are the windows that stand on it, so being alone is what the table says.
 /// They can't be dropped: they end by `end`, which releases every window that is left.
 pub struct Windows<A: Allocator + Copy> {
-    entries: Vec<Option<Entry<A>>, A>,
+    entries: Vec<Option<Slot<A>>, A>,
     passes: Passes<A>,
     alloc: A,
     ghost kept: { IsKept MAX_OWNERS (stands_of entries.items) passes.of_blocks.items },
 }
 
 /// The window with this number, if it was made and hasn't gone.
-fn entry_at<A: Allocator + Copy>(entries: &[Option<Entry<A>>], i: usize) -> Option<&Entry<A>>
+fn entry_at<A: Allocator + Copy>(entries: &[Option<Slot<A>>], i: usize) -> Option<&Slot<A>>
     ensures { MatchOption result (option_flatten (slice_get entries.now i) ≡ None) (λ entry. slice_get entries.now i ≡ Some (Some entry.now)) }
 {
     entries.get(i)?.as_ref()
 }
 
 /// Gives back the memory of entries whose windows have all gone.
-fn end_entries<A: Allocator + Copy>(mut entries: Vec<Option<Entry<A>>, A>)
+fn end_entries<A: Allocator + Copy>(mut entries: Vec<Option<Slot<A>>, A>)
     requires { (i : ℕ) → option_flatten (slice_get entries.items i) ≡ None }
 {
     while let Some(entry) = entries.pop() {
@@ -146,7 +146,7 @@ impl<A: Allocator + Copy> Windows<A> {
         };
         let number = self.entries.len();
         if items.is_empty() {
-            self.entries.push_reserved(Some(Entry {
+            self.entries.push_reserved(Some(Slot {
                 window,
                 block: None,
             }));
@@ -154,7 +154,7 @@ impl<A: Allocator + Copy> Windows<A> {
         }
         let block = Some(self.passes.of_blocks.len());
         self.passes.of_blocks.push_reserved(pass);
-        self.entries.push_reserved(Some(Entry { window, block }));
+        self.entries.push_reserved(Some(Slot { window, block }));
         Reply::New(number)
     }
 

@@ -1,5 +1,5 @@
 ghost use Rattle.std.specs.Prelude.{◌≡◌, IfOk};
-ghost use Rattle.arc_owners.specs.Passes.{IsPassOfNone};
+ghost use Rattle.arc_owners.specs.count.Calls.{IsPassOfNone};
 ghost use Rattle.arc_read.specs.Steps.{IsPassAt};
 
 use super::*;

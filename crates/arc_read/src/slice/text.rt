@@ -2,7 +2,7 @@
 ghost use Rattle.std.specs.Prelude.{◌≡◌, false, drop, IsOk, IfOk, IfErr, OnErr};
 ghost use Rattle.std.specs.Str.{IsUtf8, valid_up_to, error_len};
 ghost use Rattle.std.specs.Str.Lossy.{utf8_valid_len, utf8_error_len};
-ghost use Rattle.arc_owners.specs.Passes.{IsPassOfNone};
+ghost use Rattle.arc_owners.specs.count.Calls.{IsPassOfNone};
 ghost use Rattle.arc_read.specs.Window.{NeedsBlock};
 ghost use Rattle.arc_read.specs.Steps.{Makes, Begins};
 

@@ -1,7 +1,7 @@
 -- The row of the window is gone, and its owner has ended.
 use Rattle.std.proofs.Common.{None, Some, length, slice_get, slice_set, map, ap, sym, ◌∙◌}
 use Rattle.std.specs.Option.{option_map, option_flatten}
-use Rattle.arcs.specs.Entries.{row_of}
+use Rattle.arcs.specs.Slots.{row_of}
 use Rattle.arcs.proofs.Kept.{read-there, has-number, still-number, window-pass, gone, as-many}
 use Rattle.arcs.proofs.Tables.{dropped, map-slice_set, none-there}
 use Rattle.arcs.proofs.Added.{end-added}

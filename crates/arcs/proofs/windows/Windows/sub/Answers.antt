@@ -2,7 +2,7 @@
 use Rattle.std.proofs.Common.{[], ◌∷◌, ◌++◌, Some, length, slice_get, refl, ap, sym, subst, ◌∙◌}
 use Rattle.arc_buffer.specs.Slice.{IsRange, range_answer}
 use Rattle.arcs.specs.Script.{byte_setting}
-use Rattle.arcs.specs.Entries.{row_of}
+use Rattle.arcs.specs.Slots.{row_of}
 use Rattle.arcs.specs.Step.{with_row, in_range, cut}
 use Rattle.arcs.proofs.Kept.{slice_in, behind, same_entry, has-number, still-number, stand-pass, joined, stays-full, as-many, full-place}
 use Rattle.arcs.proofs.Tables.{table_with, added, part_refused}

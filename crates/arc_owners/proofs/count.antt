@@ -1,0 +1,17 @@
+pub mod Begins
+pub mod Calls
+pub mod Cells
+pub mod Ends
+pub mod Fields
+pub mod Lodged
+pub mod Moves
+pub mod Opened
+pub mod Parts
+pub mod Places
+pub mod Returns
+pub mod Rolls
+pub mod Runs
+pub mod Shared
+pub mod Stakes
+pub mod States
+pub mod Wholes

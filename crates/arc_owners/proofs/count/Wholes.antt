@@ -1,0 +1,260 @@
+-- What a call's record says of the history before it, where the word has a count; what a pass has seen under `Whole`, where nothing
+-- comes between two calls of the one pass; and who lives then.
+use Rattle.std.proofs.Common.{inl, inr, ◌≡◌, ℕ, Bool, true, false, List, [], ◌∷◌, ◌++◌, length, Some, None, refl, sym, ap, ◌∙◌, subst, append-nil, append_assoc, eqb}
+use Rattle.std.specs.Prelude.{IsTrue, ◌↔◌, map, IfOk, IfErr, Result, Ok, Err}
+use Rattle.std.proofs.lemmas.Bool.{cases_Bool, eq-eqb, false≢true}
+use Rattle.arc_owners.specs.declared.history.entry.Entry.{Entry}
+use Rattle.arc_owners.specs.declared.history.entry.Entry.TheVariants.{Up, Full, Alone, Joined}
+use Rattle.arc_owners.specs.declared.mark.Mark.{Ghosts}
+use Rattle.arc_owners.specs.declared.count.tokens.Pass.{Pass}
+use Rattle.arc_owners.specs.declared.count.tokens.Share.{Share}
+use Rattle.arc_owners.specs.count.Invariant.{BlockId, Line, entries_of, made_by, next_owner}
+use Rattle.arc_owners.specs.history.Histories.{Beginning, LivesAlone, NeverLived, owner_made, owner_ended, owners_ever, live_owners, is_counted, is_in, MayFollow}
+use Rattle.arc_owners.specs.history.Machine.{without_number}
+use Rattle.arc_owners.specs.count.Calls.{Owner, Appends, Asks, MayJoin, MakesAnother, FindsFull, Leaves, HasCountIn, IsFirst, IsFreshPass, IsPassOf, IsNewPass, IsSamePass, owner_of, making, reading, mine, seen}
+use Rattle.arc_owners.proofs.history.Legality.{legal-at, legal-front}
+use Rattle.arc_owners.proofs.history.Owned.{live-same, live-ended, ever-append}
+use Rattle.arc_owners.proofs.history.Steps.{counted-more}
+use Rattle.arc_owners.proofs.history.Told.{Owned, grown, legal-owned}
+use Rattle.arc_owners.proofs.count.Rolls.{entries-after}
+
+-- lines that one pass made
+entries-all : (p : ℕ) (es : List Entry) → entries_of (map (λ e. (p, e)) es) ≡ es
+entries-all p [] = refl
+entries-all p (e ∷ es) = ap (λ (xs : List Entry). e ∷ xs) (entries-all p es)
+
+made-all : (p : ℕ) (es : List Entry) → made_by p (map (λ e. (p, e)) es) ≡ es
+made-all p [] = refl
+made-all p (e ∷ es) = rw (eq-eqb p p refl) (ap (λ (xs : List Entry). e ∷ xs) (made-all p es))
+
+made-after : (p : ℕ) (xs ys : List Line) → made_by p (xs ++ ys) ≡ made_by p xs ++ made_by p ys
+made-after p [] ys = refl
+made-after p (x ∷ xs) ys = elim (cases_Bool (eqb x.0 p)) [
+  | inl h ↦ rw h (ap (λ (es : List Entry). x.1 ∷ es) (made-after p xs ys))
+  | inr h ↦ rw h (made-after p xs ys)
+]
+
+-- a word that has a count keeps it
+counted-after : (began : Beginning) (h more : List Entry) → is_counted began h ≡ true → is_counted began (h ++ more) ≡ true
+counted-after began h [] c = subst (λ (es : List Entry). is_counted began es ≡ true) (sym (append-nil h)) c
+counted-after began h (e ∷ more) c =
+    subst (λ (es : List Entry). is_counted began es ≡ true) (append_assoc h (e ∷ []) more) (counted-after began (h ++ e ∷ []) more (counted-more began h e c))
+
+-- a word that began with a count has one after every history
+pub counted_ever : (t : BlockId) (h : List Entry) → HasCountIn t [] → HasCountIn t h
+counted_ever t h c = counted-after t.began [] h c
+
+module _ {H : Type 0} {t : BlockId} {old new : Pass H} {before : List Line} {es : List Entry} (a : Appends t old new before es) where
+  -- the pass has seen the history before, and these entries
+  pub seen-after : seen new ≡ entries_of before ++ es
+  seen-after = ap entries_of a.seen_now ∙ (entries-after before (map (λ e. (old.trace.number, e)) es) ∙ ap (λ (xs : List Entry). entries_of before ++ xs) (entries-all old.trace.number es))
+
+  -- it made these entries, and no others since
+  pub mine-more : mine new ≡ mine old ++ es
+  mine-more =
+      ap (λ (p : ℕ). made_by p new.trace.lines) a.same.1 ∙ (ap (made_by old.trace.number) a.seen_now
+      ∙ (made-after old.trace.number before (map (λ e. (old.trace.number, e)) es) ∙ (λ i. a.none_own i ++ made-all old.trace.number es i)))
+
+  -- under `Whole` the history before is what the pass had seen
+  pub before-is : t.whole ≡ true → entries_of before ≡ seen old
+  before-is whole = ap entries_of (sym (a.undisturbed whole))
+
+  pub seen-more : t.whole ≡ true → seen new ≡ seen old ++ es
+  seen-more whole = seen-after ∙ ap (λ (h : List Entry). h ++ es) (before-is whole)
+
+  -- where the pass knew that the word has a count, it had one before the call, and has one after it
+  pub counted-before : HasCountIn t (seen old) → HasCountIn t (entries_of before)
+  counted-before c =
+      subst (λ (h : List Entry). is_counted t.began h ≡ true) (sym (entries-after old.trace.lines a.after_seen.0) ∙ ap entries_of a.after_seen.1)
+      (counted-after t.began (seen old) (entries_of a.after_seen.0) c)
+
+  pub counted-still : HasCountIn t (seen old) → HasCountIn t (seen new)
+  counted-still c = subst (λ (h : List Entry). is_counted t.began h ≡ true) (sym seen-after) (counted-after t.began (entries_of before) es (counted-before c))
+
+  pub owned-before : Owned (entries_of before)
+  owned-before = legal-owned t.most t.began (entries_of before) (legal-front t.most t.began (seen new) (entries_of before) es a.legal seen-after)
+
+-- the entry may follow the history before it
+pub may-stand : {H : Type 0} {t : BlockId} {old new : Pass H} {before : List Line} {e : Entry} → Appends t old new before (e ∷ []) → MayFollow t.most t.began (entries_of before) e
+may-stand {t = t} {new = new} {before = before} {e = e} a = legal-at t.most t.began (seen new) (entries_of before) e [] a.legal (seen-after a)
+
+-- nothing was joined on a word that the pass knows to be counted
+unjoined : {H : Type 0} (o : Owner) {old middle : Pass H} → HasCountIn o.block (seen old) → MayJoin o old middle → middle ≡ old
+unjoined o c (inl same) = same
+unjoined o c (inr joined) = absurd (false≢true (sym joined.1 ∙ c))
+
+-- what a call adds on a word that its pass knows to be counted: the one entry, and nothing was joined
+module _ {H : Type 0} {o : Owner} {old new : Pass H} (c : HasCountIn o.block (seen old)) where
+  pub counted-asks : {found : Bool} → Asks o old new found → (before : List Line) × Appends o.block old new before (Alone o.number found ∷ []) × (IsTrue found ↔ LivesAlone o.number (entries_of before))
+  counted-asks {found = found} asks = (asks.before, subst (λ (b : Bool). Appends o.block old new asks.before (reading b o.number found)) (counted-before asks.added c) asks.added, asks.exact)
+
+  pub counted-makes : {other : Owner} → MakesAnother o old new other
+      → (before : List Line) × Appends o.block old new before (Up o.number (next_owner before) ∷ []) × (other.block ≡ o.block) × (other.number ≡ next_owner before)
+  counted-makes makes =
+      let here = subst (λ (p : Pass H). Appends o.block p new makes.before (making (is_counted o.block.began (entries_of makes.before)) o.number (next_owner makes.before) ∷ [])) (unjoined o c makes.joined) makes.added in (
+        makes.before,
+        subst (λ (b : Bool). Appends o.block old new makes.before (making b o.number (next_owner makes.before) ∷ [])) (counted-before here c) here,
+        ap (λ (x : Owner). x.block) makes.made,
+        ap (λ (x : Owner). x.number) makes.made,
+      )
+
+  pub counted-full : FindsFull o old new → (before : List Line) × Appends o.block old new before (Full o.number ∷ []) × (length (live_owners (entries_of before)) ≡ o.block.most)
+  counted-full full = (full.before, subst (λ (p : Pass H). Appends o.block p new full.before (Full o.number ∷ [])) (unjoined o c full.joined) full.added, full.full)
+
+same-joined : {H : Type 0} (o : Owner) {old middle : Pass H} → MayJoin o old middle → (middle.trace.number ≡ old.trace.number) × (old.trace.ready ≡ true → middle.trace.ready ≡ true)
+same-joined {H = H} o (inl same) = (ap (λ (p : Pass H). p.trace.number) same, λ is. ap (λ (p : Pass H). p.trace.ready) same ∙ is)
+same-joined o (inr joined) = (joined.2.same.1, joined.2.same.2)
+
+same-after : {H : Type 0} (o : Owner) {old middle : Pass H} (new : Pass H) → MayJoin o old middle → IsSamePass o.block middle new → IsSamePass o.block old new
+same-after o new joined same = let first = same-joined o joined in (same.0, same.1 ∙ first.0, λ is. same.2 (first.1 is))
+
+-- each call is of the same pass
+module _ {H : Type 0} {o : Owner} {old new : Pass H} where
+  pub same-asked : {found : Bool} → Asks o old new found → IsSamePass o.block old new
+  same-asked asks = asks.added.same
+
+  pub same-left : {last : Bool} → Leaves o old new last → IsSamePass o.block old new
+  same-left leaves = leaves.added.same
+
+  pub same-made : {other : Owner} → MakesAnother o old new other → IsSamePass o.block old new
+  same-made makes = same-after o new makes.joined makes.added.same
+
+  pub same-full : FindsFull o old new → IsSamePass o.block old new
+  same-full full = same-after o new full.joined full.added.same
+
+-- a pass that knew before a call that the word has a count knows it after the call
+module _ {H : Type 0} {o : Owner} {old new : Pass H} (c : HasCountIn o.block (seen old)) where
+  pub still-asked : {found : Bool} → Asks o old new found → HasCountIn o.block (seen new)
+  still-asked asks = counted-still asks.added c
+
+  pub still-left : {last : Bool} → Leaves o old new last → HasCountIn o.block (seen new)
+  still-left leaves = counted-still leaves.added c
+
+  pub still-made : {other : Owner} → MakesAnother o old new other → HasCountIn o.block (seen new)
+  still-made makes = counted-still (counted-makes c makes).1 c
+
+  pub still-full : FindsFull o old new → HasCountIn o.block (seen new)
+  still-full full = counted-still (counted-full c full).1 c
+
+-- a pass of this block, which knows that the word has a count
+abbrev pub KnowsCount : {H : Type 0} → BlockId → Pass H → Type 0
+KnowsCount t p = IsPassOf t p × HasCountIn t (seen p)
+
+module _ {H : Type 0} {o : Owner} {t : BlockId} {old new : Pass H} (at : o.block ≡ t) (k : KnowsCount t old) where
+  pub knows-made : {other : Owner} → MakesAnother o old new other → KnowsCount t new × (other.block ≡ t)
+  knows-made {other = other} makes =
+      (subst (λ (b : BlockId). KnowsCount b old → KnowsCount b new) at (λ (j : KnowsCount o.block old). ((same-made makes).0, still-made j.1 makes)) k, ap (λ (x : Owner). x.block) makes.made ∙ at)
+
+  pub knows-full : FindsFull o old new → KnowsCount t new
+  knows-full full = subst (λ (b : BlockId). KnowsCount b old → KnowsCount b new) at (λ (j : KnowsCount o.block old). ((same-full full).0, still-full j.1 full)) k
+
+  pub knows-left : {last : Bool} → Leaves o old new last → KnowsCount t new
+  knows-left leaves = subst (λ (b : BlockId). KnowsCount b old → KnowsCount b new) at (λ (j : KnowsCount o.block old). ((same-left leaves).0, still-left j.1 leaves)) k
+
+  pub knows-asked : {found : Bool} → Asks o old new found → KnowsCount t new
+  knows-asked asks = subst (λ (b : BlockId). KnowsCount b old → KnowsCount b new) at (λ (j : KnowsCount o.block old). ((same-asked asks).0, still-asked j.1 asks)) k
+
+-- a call that tried to make an owner
+pub knows-tried : {H E : Type 0} {G : Ghosts H} {t : BlockId} (o : Owner) (old new : Pass H) → o.block ≡ t → KnowsCount t old → (r : Result (Share H G) E)
+    → IfOk r (λ s. MakesAnother o old new (owner_of s)) → IfErr r (λ _. FindsFull o old new) → KnowsCount t new
+knows-tried o old new at k (Ok s) made full = (knows-made at k made).0
+knows-tried o old new at k (Err e) made full = knows-full at k full
+
+-- a new pass knows it where the owner was made on such a word
+pub counted-new : {H : Type 0} (o : Owner) (p : Pass H) → HasCountIn o.block (entries_of o.born) → IsNewPass o p → HasCountIn o.block (seen p)
+counted-new o p c new =
+    subst (λ (h : List Entry). is_counted o.block.began h ≡ true) (sym (entries-after o.born new.1.0) ∙ ap entries_of new.1.1)
+    (counted-after o.block.began (entries_of o.born) (entries_of new.1.0) c)
+
+-- so do the first pass of a block that began with a count, and each new one
+pub counted_first : {H : Type 0} {most : ℕ} {whole : Bool} {o : Owner} (p : Pass H) → IsFirst most whole o → IsFreshPass o p → HasCountIn o.block (seen p)
+counted_first {o = o} p first fresh = subst (λ (ls : List Line). HasCountIn o.block (entries_of ls)) (sym fresh.1) first.counted
+
+pub knows-first : {H : Type 0} {most : ℕ} {whole : Bool} {o : Owner} {t : BlockId} (p : Pass H) → IsFirst most whole o → IsFreshPass o p → o.block ≡ t → KnowsCount t p
+knows-first p first fresh at = ((fresh.0.0, fresh.0.1 ∙ at), subst (λ (b : BlockId). HasCountIn b (seen p)) at (counted_first p first fresh))
+
+pub counted_forked : {H : Type 0} {most : ℕ} {whole : Bool} {o : Owner} (p : Pass H) → IsFirst most whole o → IsNewPass o p → HasCountIn o.block (seen p)
+counted_forked {o = o} p first new = counted-new o p (subst (λ (ls : List Line). HasCountIn o.block (entries_of ls)) (sym first.born) first.counted) new
+
+-- who was found alone lives alone in what the pass has seen since
+alone-read : {H : Type 0} {t : BlockId} {old new : Pass H} {before : List Line} (by : ℕ) (c : Bool) → Appends t old new before (reading c by true) → LivesAlone by (entries_of before) → LivesAlone by (seen new)
+alone-read {before = before} by true a alone = ap live_owners (seen-after a) ∙ (live-same (entries_of before) (Alone by true) refl refl ∙ alone)
+alone-read {before = before} by false a alone = ap live_owners (seen-after a ∙ append-nil (entries_of before)) ∙ alone
+
+pub alone-asked : {H : Type 0} {o : Owner} {old new : Pass H} → Asks o old new true → LivesAlone o.number (seen new)
+alone-asked {o = o} asks = alone-read o.number (is_counted o.block.began (entries_of asks.before)) asks.added (asks.exact.0 refl)
+
+-- an entry by which an owner is made
+making-made : (c : Bool) (by new : ℕ) → owner_made (making c by new) ≡ Some new
+making-made true by new = refl
+making-made false by new = refl
+
+making-ended : (c : Bool) (by new : ℕ) → owner_ended (making c by new) ≡ None
+making-ended true by new = refl
+making-ended false by new = refl
+
+making-never : (c : Bool) (by new most : ℕ) (began : Beginning) (h : List Entry) → MayFollow most began h (making c by new) → NeverLived new h
+making-never true by new most began h may = may.1
+making-never false by new most began h may = may.1
+
+module _ {H : Type 0} {t : BlockId} {old new : Pass H} (whole : t.whole ≡ true) {before : List Line} where
+  -- an entry that neither makes nor ends an owner
+  lives-same : (e : Entry) → owner_made e ≡ None → owner_ended e ≡ None → Appends t old new before (e ∷ []) → live_owners (seen new) ≡ live_owners (seen old)
+  lives-same e made ends a = ap live_owners (seen-more a whole) ∙ live-same (seen old) e made ends
+
+  lives-read : (by : ℕ) (c : Bool) (found : Bool) → Appends t old new before (reading c by found) → live_owners (seen new) ≡ live_owners (seen old)
+  lives-read by true found a = lives-same (Alone by found) refl refl a
+  lives-read by false found a = ap live_owners (seen-more a whole ∙ append-nil (seen old))
+
+-- who lives after each call, under `Whole`
+module _ {H : Type 0} {o : Owner} {old new : Pass H} (whole : o.block.whole ≡ true) where
+  pub lives-asked : {found : Bool} → Asks o old new found → live_owners (seen new) ≡ live_owners (seen old)
+  lives-asked {found = found} asks = lives-read whole o.number (is_counted o.block.began (entries_of asks.before)) found asks.added
+
+  pub found-exact : {found : Bool} → Asks o old new found → IsTrue found ↔ LivesAlone o.number (seen old)
+  found-exact {found = found} asks = subst (λ (h : List Entry). IsTrue found ↔ LivesAlone o.number h) (before-is asks.added whole) asks.exact
+
+  pub lives-left : {last : Bool} → Leaves o old new last → live_owners (seen new) ≡ without_number o.number (live_owners (seen old))
+  lives-left leaves = ap live_owners (seen-more leaves.added whole) ∙ live-ended (seen old) o.number
+
+  pub last-exact : {last : Bool} → Leaves o old new last → IsTrue last ↔ LivesAlone o.number (seen old)
+  last-exact {last = last} leaves = subst (λ (h : List Entry). IsTrue last ↔ LivesAlone o.number h) (before-is leaves.added whole) leaves.exact
+
+-- the same owners live, and ever lived, after an exchange that lost
+module _ {H : Type 0} (o : Owner) {old middle : Pass H} (whole : o.block.whole ≡ true) where
+  lives-joined : MayJoin o old middle → live_owners (seen middle) ≡ live_owners (seen old)
+  lives-joined (inl same) = ap (λ (p : Pass H). live_owners (seen p)) same
+  lives-joined (inr joined) = lives-same whole (Joined o.number) refl refl joined.2
+
+  ever-joined : MayJoin o old middle → owners_ever (seen middle) ≡ owners_ever (seen old)
+  ever-joined (inl same) = ap (λ (p : Pass H). owners_ever (seen p)) same
+  ever-joined (inr joined) = ap owners_ever (seen-more joined.2 whole) ∙ (ever-append (seen old) (Joined o.number) ∙ append-nil (owners_ever (seen old)))
+
+module _ {H : Type 0} {o : Owner} {old new : Pass H} (whole : o.block.whole ≡ true) where
+  -- the count was found at its greatest
+  pub lives-full : FindsFull o old new → live_owners (seen new) ≡ live_owners (seen old)
+  lives-full full = lives-same whole (Full o.number) refl refl full.added ∙ lives-joined o whole full.joined
+
+  pub full-exact : FindsFull o old new → length (live_owners (seen old)) ≡ o.block.most
+  full-exact full = ap length (sym (lives-joined o whole full.joined)) ∙ (ap (λ (h : List Entry). length (live_owners h)) (sym (before-is full.added whole)) ∙ full.full)
+
+  -- an owner was made: whether the count was raised, or the word promoted, or the exchange for that lost first
+  pub lives-made : {other : Owner} → MakesAnother o old new other → live_owners (seen new) ≡ live_owners (seen old) ++ other.number ∷ []
+  lives-made makes =
+      let c = is_counted o.block.began (entries_of makes.before) in let n : ℕ = next_owner makes.before in let e = making c o.number n in
+      let never = making-never c o.number n o.block.most o.block.began (entries_of makes.before) (may-stand makes.added) in
+      ap live_owners (seen-after makes.added)
+      ∙ (grown (entries_of makes.before) e n (making-made c o.number n) (making-ended c o.number n) never (owned-before makes.added)
+      ∙ (λ i. (ap live_owners (before-is makes.added whole) ∙ lives-joined o whole makes.joined) i ++ sym (ap (λ (x : Owner). x.number) makes.made) i ∷ []))
+
+  -- the new owner never lived
+  pub made-never : {other : Owner} → MakesAnother o old new other → NeverLived other.number (seen old)
+  made-never makes =
+      let c = is_counted o.block.began (entries_of makes.before) in let n : ℕ = next_owner makes.before in
+      let ever : owners_ever (entries_of makes.before) ≡ owners_ever (seen old) = ap owners_ever (before-is makes.added whole) ∙ ever-joined o whole makes.joined in
+      (λ i. is_in (ap (λ (x : Owner). x.number) makes.made i) (sym ever i)) ∙ making-never c o.number n o.block.most o.block.began (entries_of makes.before) (may-stand makes.added)
+
+  -- its number is how many owners there have been
+  pub made-number : {other : Owner} → MakesAnother o old new other → other.number ≡ length (owners_ever (seen old))
+  made-number makes =
+      ap (λ (x : Owner). x.number) makes.made ∙ (ap (λ (h : List Entry). length (owners_ever h)) (before-is makes.added whole) ∙ ap length (ever-joined o whole makes.joined))

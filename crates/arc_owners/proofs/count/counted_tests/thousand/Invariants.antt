@@ -1,0 +1,6 @@
+use Rattle.std.proofs.Common.{◌≡◌}
+use Rattle.arc_owners.specs.count.Calls.{HasCountIn, IsPassOf, seen}
+use Rattle.arc_owners.proofs.count.counted_tests.thousand.Given as goal
+
+abbrev pub invariant-loop : goal.invariant-loop
+invariant-loop g l = (l.first.right.block ≡ l.count.word) × (l.owners ≡ l.fn.owners) × IsPassOf l.count.word l.pass × HasCountIn l.count.word (seen l.pass)

@@ -1,0 +1,7 @@
+use Rattle.std.proofs.Common.{◌≡◌, []}
+use Rattle.arc_owners.specs.count.Calls.{HasCountIn}
+use Rattle.arc_owners.specs.count.Steps.{IsOf}
+use Rattle.arc_owners.proofs.count.raise_tests.raised.Given as goal
+
+abbrev pub invariant-loop : goal.invariant-loop
+invariant-loop g l = (l.first.right.block ≡ l.count.word) × IsOf l.count.word l.pass.trace × HasCountIn l.count.word []

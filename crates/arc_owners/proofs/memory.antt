@@ -1,0 +1,4 @@
+pub mod Borrows
+pub mod Boxes
+pub mod Inheritances
+pub mod Inners

@@ -1,0 +1,147 @@
+-- A block's memory that is lent for the lifetime of a lease: its word is lodged, and its value is there for the owners to read. Assumes `Logic`.
+use Rattle.std.proofs.Common.{ℕ, zero, ◌+◌, List, [], ◌∷◌, subst}
+use seplogic.Ra.Ura.{Ura}
+use mir.Syntax.{Ty}
+use mir.Val.{Val}
+use lib.Dec
+use prog.RawLaws.{has_ty-raw}
+use denote.Laws.{Typed}
+use contract.Monad.{fact, fact_use, fact_i}
+use types.Run.{well_typed}
+use base.Fraction.{full_share}
+use base.Logic.{SProp, ent, sep, wand, emp, via, fst∗, never_e, upd_i, id⊢, apply∗, all_e}
+use base.Fml.{Lft, Incl, Incl-trans, Share, Fml, ftrue, fsep, fseps, fex, fwand, fupd, fdead, fbor, flft}
+use contract.BorrowLft.{meet_⊑_left, meet_⊑_right}
+use prog.Memory.{size, align, up}
+use types.Logic.{Logic, sem}
+use types.Tokens.{bor_open, obor_alter}
+use types.Kit.{‵, raw, ◌⊛◌, later, ◌$◌, ◌∵◌, !, qed, by, move, keep, drop, split, split3, join, fsplit, fsplit3, fjoin, fjoin3, fpick, fpack, assume, suffices, updating, await, now, done, use0, use1, use2, use3}
+use denote.RattleType.{RattleType, Denots}
+use denote.Memory.{part_of, part_at, cell_at, shared_of, lone}
+use denote.Param.{param}
+use denote.Param.Laws.{Laws, param_laws}
+use denote.Steps.{nothing}
+use denote.Struct.Members.{Member, rows_of, parts_at}
+use denote.Struct.Parts.{shape_of, PartsBack, Struct-parts}
+use Rattle.arc_owners.specs.count.Invariant.{BlockId, lodged_for}
+use Rattle.arc_owners.specs.contracts.count.word.Word as Word
+use Rattle.arc_owners.specs.contracts.memory.inner.Inner as Inner
+use Rattle.arc_owners.proofs.count.word.Word.TheLaws.{the_row_laws as word_laws}
+use Rattle.arc_owners.proofs.count.Lodged.{lodges}
+
+module _ (T : RattleType) where
+  abbrev pub R : RattleType
+  R = param 0 T
+
+  abbrev word_ty : Ty
+  word_ty = lone Word.the_row.mir
+
+  abbrev value_ty : Ty
+  value_ty = lone R.mir
+
+  -- where the word lies in the memory, and the value
+  abbrev pub word_at : ℕ
+  word_at = up (align word_ty) zero
+
+  abbrev pub value_at : ℕ
+  value_at = up (align value_ty) (word_at + size word_ty)
+
+abbrev IsTyped : List Val → Type 0
+IsTyped us = Typed Word.the_row.mir us
+
+-- the word as a field, and as it is written: the first says besides that its machine value is of its type, which its place shows
+module _ {M : Type 1} {𝓤 : Ura M} (𝓛 : Logic 𝓤) (t : BlockId) (b o : ℕ) where
+  abbrev ghost_var : List Val → Fml
+  ghost_var us = cell_at full_share Word.the_row.mir us b o
+
+  typed_cell : (us : List Val) → ent 𝓤 (sem 𝓛 (ghost_var us)) (fact 𝓤 (IsTyped us))
+  typed_cell [] = never_e 𝓤 (fact 𝓤 (IsTyped []))
+  typed_cell (u ∷ []) = qed 𝓛 (‵ (ghost_var (u ∷ [])) ∷ []) ∵ well_typed ! (λ is. keep ! [] $ by ! (fact_i 𝓤 (IsTyped (u ∷ [])) (emp 𝓤) ((subst lib.Dec.T (has_ty-raw (lone Word.the_row.mir) u) is.0, is.1), tt)))
+  typed_cell (u ∷ w ∷ us) = never_e 𝓤 (fact 𝓤 (IsTyped (u ∷ w ∷ us)))
+
+  word_bare : ent 𝓤 (sem 𝓛 (part_at Word.the_row full_share t b o)) (sem 𝓛 (part_at Word.the_written full_share t b o))
+  unfolding part_of
+  word_bare = qed 𝓛 (‵ (part_at Word.the_row full_share t b o) ∷ []) ∵ fpick ! (λ us. fsplit3 ! $ keep ! (0 ∷ 2 ∷ []) $ fjoin ! $ fpack ! (List Val) (λ ws. fsep (ghost_var ws) (Word.the_written.own_val t ws)) us $ done !)
+
+  word_laid : ent 𝓤 (sem 𝓛 (part_at Word.the_written full_share t b o)) (sem 𝓛 (part_at Word.the_row full_share t b o))
+  unfolding part_of
+  word_laid = qed 𝓛 (‵ (part_at Word.the_written full_share t b o) ∷ []) ∵ fpick ! (λ us. let C : Fml = ghost_var us in let O : Fml = Word.the_written.own_val t us in
+      by ! (fact_use 𝓤 (IsTyped us) (via 𝓤 (sem 𝓛 C) (fst∗ 𝓤 (sem 𝓛 C) (sem 𝓛 O)) (typed_cell us)) (λ is.
+      qed 𝓛 (‵ C ∷ ‵ O ∷ []) ∵ use0 𝓛 (‵ (fex (IsTyped us) (λ _. ftrue))) (fact_i 𝓤 (IsTyped us) (emp 𝓤) is) $ move ! (1 ∷ 0 ∷ []) $ fjoin3 ! $
+      fpack ! (List Val) (λ ws. fsep (ghost_var ws) (Word.the_row.own_val t ws)) us $ done !)))
+
+module _ (T : RattleType) (L : Laws T) {M : Type 1} {𝓤 : Ura M} (𝓛 : Logic 𝓤) (t : BlockId) (v : (R T).Denot) (D : Fml) (b o : ℕ) where
+  open 𝓛 use {H, A as At}
+
+  abbrev Pr : Type 2
+  Pr = SProp 𝓤
+
+  abbrev ◌⊢◌ : Pr → Pr → Type 1
+  P ⊢ Q = ent 𝓤 P Q
+
+  abbrev ◌∗◌ : Pr → Pr → Pr
+  P ∗ Q = sep 𝓤 P Q
+
+  abbrev ⟦◌⟧ : Fml → Pr
+  ⟦ P ⟧ = sem 𝓛 P
+
+  infix 26 ◌⊢◌
+  infixr 35 ◌∗◌
+  abbrev ms : List Member
+  ms = record { row = Word.the_row; ty = word_ty T } ∷ record { row = R T; ty = value_ty T } ∷ []
+
+  abbrev vs : Denots (rows_of ms)
+  vs = (t, (v, tt))
+
+  abbrev Whole : Fml
+  Whole = part_at (Inner.the_row (R T)) full_share (record { word = t; value = v }) b o
+
+  abbrev TheField : Fml
+  TheField = part_at Word.the_row full_share t b (o + word_at T)
+
+  abbrev TheWord : Fml
+  TheWord = part_at Word.the_written full_share t b (o + word_at T)
+
+  abbrev TheValue : Fml
+  TheValue = part_at (R T) full_share v b (o + value_at T)
+
+  abbrev Back : Pr
+  Back = PartsBack 𝓛 full_share [] ms b o
+
+  apart : ⟦ Whole ⟧ ⊢ ⟦ parts_at full_share ms zero vs b o ⟧ ∗ Back
+  unfolding part_of
+  apart = Struct-parts 𝓛 full_share [] ms (word_laws.lawful 𝓛, ((param_laws 0 T L).lawful 𝓛, tt)) vs b o
+
+  together : ⟦ TheWord ⟧ ∗ ⟦ TheValue ⟧ ∗ Back ⊢ ⟦ Whole ⟧
+  unfolding part_of
+  together = let Parts : Fml = parts_at full_share ms zero vs b o in qed 𝓛 (‵ TheWord ∷ ‵ TheValue ∷ raw Back ∷ []) ∵ use1 𝓛 (‵ TheField) (word_laid 𝓛 t b (o + word_at T)) $ nothing ! $ move ! (2 ∷ 0 ∷ []) $ fjoin ! $ move ! (1 ∷ 0 ∷ []) $ fjoin ! $ move ! (1 ∷ []) $
+      use1 𝓛 (raw (wand 𝓤 ⟦ Parts ⟧ ⟦ Whole ⟧)) (all_e 𝓤 (λ (z : Denots (rows_of ms)). wand 𝓤 ⟦ parts_at full_share ms zero z b o ⟧ ⟦ part_at (denote.Struct.Struct.Struct (shape_of [] ms)) full_share z b o ⟧) vs) $ move ! (1 ∷ 0 ∷ []) $
+      by ! (apply∗ 𝓤 ⟦ Parts ⟧ ⟦ Whole ⟧)
+
+  -- the memory, with what frees it
+  abbrev pub memory : Fml
+  memory = fsep Whole D
+
+  way_back : (κ : Lft) → Back ∗ ⟦ D ⟧ ⊢ ⟦ fwand (fsep (fdead κ) (fseps (TheWord ∷ TheValue ∷ []))) (fupd memory) ⟧
+  unfolding fseps
+  way_back κ = qed 𝓛 (raw Back ∷ ‵ D ∷ []) ∵ assume ! (‵ (fsep (fdead κ) (fsep TheWord (fsep TheValue ftrue)))) $ suffices ! ⟦ memory ⟧ (upd_i 𝓤 ⟦ memory ⟧) $ fsplit ! $ drop ! $ fsplit ! $ move ! (1 ∷ []) $ fsplit ! $ move ! (2 ∷ 0 ∷ 3 ∷ []) $
+      use3 𝓛 (‵ Whole) together $ move ! (0 ∷ 2 ∷ []) $ fjoin ! $ keep ! (0 ∷ []) $ done !
+
+  module _ (a : ℕ) (s : Share) (τ : Lft) (p : Share) (inc : Incl τ (R T).lives) where
+    abbrev α : Lft
+    α = a ∷ []
+
+    -- lent for the lifetime a, with tokens of it and of the value's type
+    pub settles : At.bor α memory ∗ At.lft α s ∗ At.lft τ p ⊢ H.⇛ (⟦ lodged_for t b (o + word_at T) α ⟧ ∗ ⟦ shared_of (R T) v b (o + value_at T) α ⟧ ∗ At.lft α s ∗ At.lft τ p)
+    unfolding fseps
+    settles = qed 𝓛 (‵ (fbor α memory) ∷ ‵ (flft α s) ∷ ‵ (flft τ p) ∷ []) ∵ updating ! $ bor_open ! tt $ move ! (1 ∷ []) $ fsplit ! $
+        use1 𝓛 (‵ (parts_at full_share ms zero vs b o) ⊛ raw Back) apart $ split ! $ fsplit ! $ use1 𝓛 (‵ TheWord) (word_bare 𝓛 t b (o + word_at T)) $ move ! (1 ∷ []) $ fsplit ! $
+        -- [the value; nothing; the word; the way back to the memory; what frees it; the open borrow; the type's token]
+        move ! (3 ∷ 4 ∷ []) $ use2 𝓛 (‵ (fwand (fsep (fdead α) (fseps (TheWord ∷ TheValue ∷ []))) (fupd memory))) (way_back α) $ move ! (1 ∷ 2 ∷ []) $ fjoin ! $ move ! (2 ∷ 0 ∷ []) $ fjoin ! $
+        move ! (2 ∷ 0 ∷ 1 ∷ []) $ obor_alter ! tt (TheWord ∷ TheValue ∷ []) $ use1 𝓛 (‵ (fbor α TheWord) ⊛ ‵ (fbor α TheValue) ⊛ ‵ ftrue) (id⊢ 𝓤 _) $ split3 ! $
+        -- [two borrows; nothing; the tokens]
+        move ! (0 ∷ 3 ∷ []) $ use2 𝓛 (later (‵ (lodged_for t b (o + word_at T) α) ⊛ ‵ (flft α s))) (lodges 𝓛 t b (o + word_at T) α s) $ await ! tt $ split ! $
+        move ! (1 ∷ 4 ∷ []) $ join ! $ move ! (2 ∷ 0 ∷ []) $
+        use2 𝓛 (later (‵ (shared_of (R T) v b (o + value_at T) α) ⊛ ‵ (flft α s) ⊛ ‵ (flft τ p)))
+        ((param_laws 0 T L).shares 𝓛 v α ((α, s) ∷ (τ, p) ∷ []) b (o + value_at T) (Incl-trans (meet_⊑_right α τ) inc) (meet_⊑_left α τ)) $ await ! tt $ split3 ! $
+        now ! $ keep ! (3 ∷ 0 ∷ 1 ∷ 2 ∷ []) $ done !

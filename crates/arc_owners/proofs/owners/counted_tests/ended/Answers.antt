@@ -1,5 +1,0 @@
-use Rattle.arc_owners.proofs.Runs.{ended-in}
-use Rattle.arc_owners.proofs.owners.counted_tests.ended.Goals as goal
-
-pub returns-clause-ended : goal.returns-clause-ended
-returns-clause-ended c = ended-in c.down_as.ensures.entry

@@ -1,6 +1,0 @@
-use Rattle.std.proofs.Common.{◌≡◌}
-use Rattle.arc_owners.specs.Passes.{HasCountIn, IsPassOf, seen}
-use Rattle.arc_owners.proofs.owners.counted_tests.thousand.Given as goal
-
-abbrev pub invariant-loop : goal.invariant-loop
-invariant-loop g l = (l.first.right.names ≡ l.owners.word) × (l.owners ≡ l.fn.owners) × IsPassOf l.owners.word l.pass × HasCountIn l.owners.word (seen l.pass)

@@ -1,9 +1,0 @@
-use denote.Param.Send.{IsSync, sendable}
-use denote.Struct.Struct.{Struct}
-use denote.Struct.Owning.{shape}
-use Rattle.arc_owners.specs.contracts.owners.word.Right.{the_row, the_type}
-use Rattle.arc_owners.proofs.Book.Shared.{right_shared_keyless}
-
-pub sync : IsSync the_row
-sync = let fields : IsSync (Struct (shape the_type)) = search sendable depth 20 in
-    record { shared = λ d b o ν. (fields.shared (tt, tt) b o ν, right_shared_keyless d.held d.names d.owner d.lease d.born ν) }

@@ -1,6 +1,0 @@
-use denote.Param.Send.{IsSend}
-use Rattle.arc_owners.specs.contracts.owners.word.Spoils.{the_row}
-use Rattle.arc_owners.proofs.Book.Shared.{spoils_keyless}
-
-pub send : IsSend the_row
-send = record { owned = λ d vs. ((λ vss. (tt, ((λ uss. (tt, tt)), tt))), spoils_keyless d.lease d.last); leaving = λ k f vs. tt }

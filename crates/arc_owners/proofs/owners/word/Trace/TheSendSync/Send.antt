@@ -1,6 +1,0 @@
-use denote.Param.Send.{IsSend}
-use Rattle.arc_owners.specs.contracts.owners.word.Trace.{the_row}
-use Rattle.arc_owners.proofs.Book.Shared.{trace_keyless}
-
-pub send : IsSend the_row
-send = record { owned = λ d vs. ((λ vss. (tt, ((λ uss. (tt, tt)), tt))), trace_keyless d.bound d.names d.number d.ready d.lines); leaving = λ k f vs. tt }

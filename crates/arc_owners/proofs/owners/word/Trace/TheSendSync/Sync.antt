@@ -1,9 +1,0 @@
-use denote.Param.Send.{IsSync, sendable}
-use denote.Struct.Struct.{Struct}
-use denote.Struct.Owning.{shape}
-use Rattle.arc_owners.specs.contracts.owners.word.Trace.{the_row, the_type}
-use Rattle.arc_owners.proofs.Book.Shared.{trace_shared_keyless}
-
-pub sync : IsSync the_row
-sync = let fields : IsSync (Struct (shape the_type)) = search sendable depth 20 in
-    record { shared = λ d b o ν. (fields.shared (tt, tt) b o ν, trace_shared_keyless d.bound d.names d.lines) }

@@ -1,7 +1,0 @@
-use denote.Param.Send.{IsSync}
-use Rattle.arc_owners.specs.contracts.owners.word.Word.{the_row}
-use Rattle.core.proofs.atomic.Sent.{chain-Keyless}
-use Rattle.arc_owners.proofs.Book.Shared.{behind_keyless}
-
-pub sync : IsSync the_row
-sync = record { shared = λ t b o κ z. ((λ νs. chain-Keyless νs κ z.0), ((λ _. tt), λ n. (tt, behind_keyless t n))) }

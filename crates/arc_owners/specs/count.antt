@@ -1,0 +1,4 @@
+pub mod Calls
+pub mod Invariant
+pub mod Releases
+pub mod Steps

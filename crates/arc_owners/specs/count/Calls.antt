@@ -1,0 +1,208 @@
+-- What contracts read in a count, in an owner and in a pass, and what a call adds to a block's history.
+use Rattle.std.specs.Prelude.{◌≡◌, ℕ, Bool, true, false, List, [], ◌∷◌, ◌++◌, length, map, IsTrue, ◌↔◌, ◌⊎◌}
+use mathlib.Core.List.{IsPrefix}
+use Rattle.arc_owners.specs.declared.mark.Mark.{Ghosts}
+use Rattle.arc_owners.specs.declared.history.entry.Entry.{Entry}
+use Rattle.arc_owners.specs.declared.history.entry.Entry.TheVariants.{Up, Full, Down, Alone, Promote, Joined}
+use Rattle.arc_owners.specs.declared.count.tokens.Owners.{Owners}
+use Rattle.arc_owners.specs.declared.count.tokens.Share.{Share}
+use Rattle.arc_owners.specs.declared.count.tokens.Sole.{Sole}
+use Rattle.arc_owners.specs.declared.count.tokens.Pass.{Pass}
+use Rattle.arc_owners.specs.declared.count.tokens.LifetimeEnd.{LifetimeEnd}
+use Rattle.arc_owners.specs.count.Invariant.{BlockId, Line, Lease, entries_of, made_by}
+use Rattle.arc_owners.specs.history.Histories.{LivesAlone, owners_ever, live_owners, is_counted, IsLegal}
+use Rattle.arc_owners.specs.history.Agreement.{IsOneStep, IsEndWithoutStep}
+
+-- an owner: of which block, its number there, and the history in which it was made, with the entry that made it
+pub record Owner : Type 0 where
+  pub block : BlockId
+  pub number : ℕ
+  pub born : List Line
+
+-- which block a count is of
+abbrev pub block_of : {MAX : ℕ} {H : Type 0} {G : Ghosts H} → Owners MAX H G → BlockId
+block_of o = o.word
+
+-- the word of the block has a count, as far as this history tells
+abbrev pub HasCountIn : BlockId → List Entry → Type 0
+HasCountIn t history = is_counted t.began history ≡ true
+
+-- the last line is one step on the block's word
+pub record EndsInOneStep (t : BlockId) (lines : List Line) : Type 0 where
+  pub last : (before : List Line) (line : Line) → lines ≡ before ++ line ∷ [] → IsOneStep t.most t.began (entries_of before) line.1
+
+-- the last line is an owner's end without a step
+pub record EndsWithoutStep (t : BlockId) (lines : List Line) : Type 0 where
+  pub last : (before : List Line) (line : Line) → lines ≡ before ++ line ∷ [] → IsEndWithoutStep t.began (entries_of before) line.1
+
+-- the entry by which a new owner is made: the count is raised, or a lone word promoted
+abbrev pub making : Bool → ℕ → ℕ → Entry
+making true by new = Up by new
+making false by new = Promote by new
+
+-- the entries by which uniqueness is read: none on a lone word
+abbrev pub reading : Bool → ℕ → Bool → List Entry
+reading true by found = Alone by found ∷ []
+reading false by found = []
+
+module _ {H : Type 0} where
+  -- what a pass has seen, with the pass that made each entry
+  abbrev pub history_of : Pass H → List Line
+  history_of p = p.trace.lines
+
+  -- what a pass has seen of the block's history
+  abbrev pub seen : Pass H → List Entry
+  seen p = entries_of p.trace.lines
+
+  -- what was made with it
+  abbrev pub mine : Pass H → List Entry
+  mine p = made_by p.trace.number p.trace.lines
+
+  -- whether it once found the word lone
+  abbrev pub is_ready : Pass H → Bool
+  is_ready p = p.trace.ready
+
+  -- of which block it is, if it is of one, and its number there
+  abbrev pub pass_block : Pass H → BlockId
+  pass_block p = p.trace.block
+
+  abbrev pub pass_number : Pass H → ℕ
+  pass_number p = p.trace.number
+
+  abbrev pub IsOfBlock : Pass H → Type 0
+  IsOfBlock p = p.trace.bound ≡ true
+
+  -- a pass of this block, and one of none
+  abbrev pub IsPassOf : BlockId → Pass H → Type 0
+  IsPassOf t p = (p.trace.bound ≡ true) × (p.trace.block ≡ t)
+
+  abbrev pub IsPassOfNone : Pass H → Type 0
+  IsPassOfNone p = p.trace.bound ≡ false
+
+  -- the same pass of this block, which once ready stays so
+  abbrev pub IsSamePass : BlockId → Pass H → Pass H → Type 0
+  IsSamePass t old new =
+      IsPassOf t new × (new.trace.number ≡ old.trace.number) × (old.trace.ready ≡ true → new.trace.ready ≡ true)
+
+  -- The pass added these entries, one or none, to the history before them. That is all that it had seen and what others added since;
+  -- under `Whole` nothing came between. What it has seen now is legal.
+  pub record Appends (t : BlockId) (old new : Pass H) (before : List Line) (entries : List Entry) : Type 0 where
+    pub same : IsSamePass t old new
+    pub after_seen : IsPrefix old.trace.lines before
+    pub none_own : made_by old.trace.number before ≡ made_by old.trace.number old.trace.lines
+    pub undisturbed : t.whole ≡ true → old.trace.lines ≡ before
+    pub seen_now : new.trace.lines ≡ before ++ map (λ e. (old.trace.number, e)) entries
+    pub legal : IsLegal t.most t.began (entries_of new.trace.lines)
+
+  -- a pass of this owner's block
+  abbrev pub IsPassFor : Owner → Pass H → Type 0
+  IsPassFor o p = IsPassOf o.block p
+
+  -- a new pass: it has seen how the owner was made, and made nothing
+  abbrev pub IsNewPass : Owner → Pass H → Type 0
+  IsNewPass o p = IsPassOf o.block p × IsPrefix o.born (history_of p) × (mine p ≡ [])
+
+  -- the pass learnt what another had seen, and added nothing
+  pub record Learns (t : BlockId) (old other new : Pass H) : Type 0 where
+    pub same : IsSamePass t old new
+    pub kept : IsPrefix (history_of old) (history_of new)
+    pub learnt : IsPrefix (history_of other) (history_of new)
+    pub own : mine new ≡ mine old
+
+  -- The pass sees all of the block's history, in which this owner lives, and no other. It added nothing, and under `Whole` it had seen
+  -- all of it before.
+  pub record SeesAlone (o : Owner) (old new : Pass H) : Type 0 where
+    pub same : IsSamePass o.block old new
+    pub kept : IsPrefix (history_of old) (history_of new)
+    pub own : mine new ≡ mine old
+    pub undisturbed : o.block.whole ≡ true → history_of new ≡ history_of old
+    pub alone : LivesAlone o.number (seen new)
+
+  -- uniqueness was read: the answer is yes exactly where no other owner lived. On a lone word that is so, and adds nothing
+  pub record Asks (o : Owner) (old new : Pass H) (found : Bool) : Type 0 where
+    pub before : List Line
+    pub added : Appends o.block old new before (reading (is_counted o.block.began (entries_of before)) o.number found)
+    pub exact : IsTrue found ↔ LivesAlone o.number (entries_of before)
+
+  -- nothing was done yet, or the exchange was lost that was to promote a word which the pass didn't know to be counted
+  abbrev pub MayJoin : Owner → Pass H → Pass H → Type 0
+  MayJoin o old new =
+      (new ≡ old)
+      ⊎ ((before : List Line) × (is_counted o.block.began (entries_of old.trace.lines) ≡ false) × Appends o.block old new before (Joined o.number ∷ []))
+
+  -- through this owner another one of the same block was made: its number is how many the history had
+  pub record MakesAnother (o : Owner) (old new : Pass H) (other : Owner) : Type 0 where
+    pub middle : Pass H
+    pub joined : MayJoin o old middle
+    pub before : List Line
+    pub added : Appends o.block middle new before
+        (making (is_counted o.block.began (entries_of before)) o.number (length (owners_ever (entries_of before))) ∷ [])
+    pub made : other ≡ record { block = o.block; number = length (owners_ever (entries_of before)); born = new.trace.lines }
+
+  -- the count was found at its greatest
+  pub record FindsFull (o : Owner) (old new : Pass H) : Type 0 where
+    pub middle : Pass H
+    pub joined : MayJoin o old middle
+    pub before : List Line
+    pub added : Appends o.block middle new before (Full o.number ∷ [])
+    pub full : length (live_owners (entries_of before)) ≡ o.block.most
+
+  -- this owner ended: as the last one exactly where no other owner lived
+  pub record Leaves (o : Owner) (old new : Pass H) (last : Bool) : Type 0 where
+    pub before : List Line
+    pub added : Appends o.block old new before (Down o.number ∷ [])
+    pub exact : IsTrue last ↔ LivesAlone o.number (entries_of before)
+
+  -- this owner asked, was alone, and ended as the last one
+  pub record TakesBlock (o : Owner) (old new : Pass H) : Type 0 where
+    pub middle : Pass H
+    pub asked : Asks o old middle true
+    pub left : Leaves o middle new true
+
+  -- this owner asked, and then ended: as the last one, where it was alone
+  pub record AsksAndLeaves (o : Owner) (old new : Pass H) : Type 0 where
+    pub middle : Pass H
+    pub found : Bool
+    pub last : Bool
+    pub asked : Asks o old middle found
+    pub left : Leaves o middle new last
+    pub alone : found ≡ true → last ≡ true
+
+  -- this owner ended with a new pass, which this one is afterwards, and whether it was the last one
+  pub record EndsByItself (o : Owner) (after : Pass H) (last : Bool) : Type 0 where
+    pub new : Pass H
+    pub made : IsNewPass o new
+    pub left : Leaves o new after last
+
+-- the first owner of a block that so many owners may have at most, under a mark, in which nothing has happened yet. Its word has a count
+pub record IsFirst (greatest : ℕ) (one_pass : Bool) (o : Owner) : Type 0 where
+  pub number : o.number ≡ 0
+  pub born : o.born ≡ []
+  pub most : o.block.most ≡ greatest
+  pub whole : o.block.whole ≡ one_pass
+  pub counted : HasCountIn o.block []
+
+-- a pass of a block in which nothing has happened yet
+abbrev pub IsFreshPass : {H : Type 0} → Owner → Pass H → Type 0
+IsFreshPass o p = IsPassOf o.block p × (history_of p ≡ [])
+
+module _ {H : Type 0} {G : Ghosts H} where
+  -- the owner that a share is
+  abbrev pub owner_of : Share H G → Owner
+  owner_of s = record { block = s.right.block; number = s.right.owner; born = s.right.born }
+
+  -- for which lifetime the block is lent to an owner
+  abbrev pub lease_of : Share H G → Lease
+  lease_of s = s.right.lease
+
+  -- an owner of this block
+  abbrev pub IsOwnerOf : BlockId → Share H G → Type 0
+  IsOwnerOf t s = s.right.block ≡ t
+
+  -- the right to end the lifetime for which the block was lent to this owner
+  abbrev pub IsTermOf : Share H G → LifetimeEnd → Type 0
+  IsTermOf s term = term.spoils.lease ≡ s.right.lease
+
+  -- the owner that a sole owner is
+  abbrev pub sole_owner : Sole H G → Owner
+  sole_owner s = record { block = s.right.block; number = s.right.owner; born = s.right.born }

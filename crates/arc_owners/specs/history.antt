@@ -1,0 +1,5 @@
+pub mod Agreement
+pub mod Histories
+pub mod Laws
+pub mod Machine
+pub mod Worlds

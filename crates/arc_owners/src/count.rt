@@ -1,0 +1,16 @@
+//! The count of a block's owners: its word, the atomic steps on it, and what owners and passes have of it.
+
+mod counted;
+mod passes;
+mod raw;
+mod sole;
+pub(crate) mod tokens;
+pub(crate) mod word;
+
+pub use tokens::{LifetimeEnd, Owners, Pass, Release, Share, Sole};
+pub use word::{OwnerToken, WordBorrow};
+
+#[cfg(test)]
+mod counted_tests;
+#[cfg(test)]
+mod raise_tests;

@@ -1,0 +1,187 @@
+//! The calls on a count of owners.
+ghost use Rattle.std.specs.Prelude.{◌≡◌, ◌≢◌, ◌≤◌, ◌==◌, true, false, [], IfSome, IfNone, IfOk, IfErr};
+ghost use mathlib.Core.List.{IsPrefix};
+ghost use Rattle.arc_owners.specs.count.Calls.{block_of, owner_of, lease_of, IsFirst, IsFreshPass, IsOwnerOf, IsPassOf, IsPassOfNone, IsSamePass, IsNewPass, Learns, Asks, MakesAnother, FindsFull, Leaves, IsTermOf, HasCountIn, EndsInOneStep, history_of, seen};
+ghost use Rattle.arc_owners.specs.count.Releases.{is_last, IfLast};
+
+use super::tokens::{LifetimeEnd, Owners, Pass, Release, Share, Sole};
+use super::word::{EndTokens, OwnerToken, Word};
+use crate::error::CountFull;
+use crate::mark::Mark;
+use std::marker::PhantomData;
+use std::sync::Wait;
+
+/// One try to raise a count: nothing where the number changed between its two steps.
+#[tactic(auto, using(crate::proofs::count::Calls::made_of, crate::proofs::count::Calls::full_of, crate::proofs::count::Calls::same_pass))]
+fn try_up<H: Mark>(
+    word: &Word,
+    most: u64,
+    by: &Share<H>,
+    pass: &mut Pass<H>,
+) -> Option<Result<Share<H>, CountFull>>
+    requires most { word.now.most ≡ most }
+    requires share { IsOwnerOf word.now by.now }
+    requires pass { IsPassOf word.now pass.old }
+    ensures made { IfSome result (λ r. IfOk r (λ s. MakesAnother (owner_of by.now) pass.old pass.new (owner_of s))) }
+    ensures lent { IfSome result (λ r. IfOk r (λ s. lease_of s ≡ lease_of by.now)) }
+    ensures full { IfSome result (λ r. IfErr r (λ _. FindsFull (owner_of by.now) pass.old pass.new)) }
+    ensures step { IfSome result (λ _. EndsInOneStep word.now (history_of pass.new)) }
+    ensures again { IfNone result (pass.new ≡ pass.old) }
+{
+    let old = word.load_for_raise(&by.right, &mut pass.trace);
+    if old == most {
+        return Some(Err(CountFull));
+    }
+    let mut new = OwnerToken::none();
+    let next = old.wrapping_add(1);
+    let found = word.compare_exchange(&by.right, &mut pass.trace, &mut new, old, next);
+    if found != old {
+        return None;
+    }
+    Some(Ok(Share {
+        right: new,
+        mark: PhantomData,
+    }))
+}
+
+/// Makes a new owner, tried again until the exchange wins or finds the count at its greatest, which is refused.
+pub(crate) fn up<H: Mark>(
+    word: &Word,
+    rt: &impl Wait,
+    most: u64,
+    by: &Share<H>,
+    pass: &mut Pass<H>,
+) -> Result<Share<H>, CountFull>
+    requires most { word.now.most ≡ most }
+    requires share { IsOwnerOf word.now by.now }
+    requires pass { IsPassOf word.now pass.old }
+    ensures made { IfOk result (λ s. MakesAnother (owner_of by.now) pass.old pass.new (owner_of s)) }
+    ensures lent { IfOk result (λ s. lease_of s ≡ lease_of by.now) }
+    ensures full { IfErr result (λ _. FindsFull (owner_of by.now) pass.old pass.new) }
+    ensures step { EndsInOneStep word.now (history_of pass.new) }
+{
+    for _ in rt.forever() {
+        if let Some(made) = try_up(word, most, by, pass) {
+            return made;
+        }
+    }
+    unreachable!()
+}
+
+/// What an owner's end leaves that found this number.
+pub(crate) fn released(found: u64, last: EndTokens) -> Release
+    requires { last.last ≡ (found == 1) }
+    ensures last { is_last result ≡ (found == 1) }
+    ensures term { IfLast result (λ term. term.spoils ≡ last) }
+{
+    if found == 1 {
+        Release::Last(LifetimeEnd { spoils: last })
+    } else {
+        Release::NotLast
+    }
+}
+
+impl<const MAX: u64, H: Mark> Owners<MAX, H> {
+    /// The count of a new block, which is 1: one owner, number 0, and a pass that has seen nothing.
+    ///
+    /// `MAX`, at least 2, is how many owners may live at once. Takes no memory.
+    #[tactic(auto, using(crate::proofs::count::Calls::first_of))]
+    pub fn new() -> (Owners<MAX, H>, Share<H>, Pass<H>)
+        requires { 2 ≤ MAX }
+        ensures share { IsOwnerOf (block_of result.0) result.1 }
+        ensures first { IsFirst MAX H.whole (owner_of result.1) }
+        ensures pass { IsFreshPass (owner_of result.1) result.2 }
+    {
+        let (word, right, trace) = H::open(MAX, true);
+        (
+            Owners {
+                word,
+                mark: PhantomData,
+            },
+            Share {
+                right,
+                mark: PhantomData,
+            },
+            Pass {
+                trace,
+                mark: PhantomData,
+            },
+        )
+    }
+
+    /// Whether the owner is alone, at the point of the one load that this takes.
+    ///
+    /// Takes no memory. Another thread may raise the count through the same owner right after: `claim_as` is for who wants
+    /// the block back.
+    ///
+    /// # History
+    ///
+    /// Alone with the answer; none on a lone word, where the answer is yes.
+    #[tactic(auto, using(crate::proofs::count::Calls::asks_of))]
+    pub fn alone_as(&self, by: &Share<H>, pass: &mut Pass<H>) -> bool
+        requires share { IsOwnerOf (block_of self.now) by.now }
+        requires pass { IsPassOf (block_of self.now) pass.old }
+        ensures entry { Asks (owner_of by.now) pass.old pass.new result }
+        ensures step { EndsInOneStep (block_of self.now) (history_of pass.new) }
+    {
+        self.word.load(&by.right, &mut pass.trace) == 1
+    }
+
+    /// A new owner of the same block.
+    ///
+    /// Takes no memory. It takes `rt` since a raise that another thread disturbs is tried again. On a word that began lone the
+    /// pass has to know of its promotion.
+    ///
+    /// # Errors
+    ///
+    /// `CountFull` exactly where `MAX` owners live.
+    ///
+    /// # History
+    ///
+    /// Up, or Full where refused.
+    pub fn up_as(
+        &self,
+        rt: &impl Wait,
+        by: &Share<H>,
+        pass: &mut Pass<H>,
+    ) -> Result<Share<H>, CountFull>
+        requires share { IsOwnerOf (block_of self.now) by.now }
+        requires pass { IsPassOf (block_of self.now) pass.old }
+        requires counted { HasCountIn (block_of self.now) (seen pass.old) }
+        ensures made { IfOk result (λ s. MakesAnother (owner_of by.now) pass.old pass.new (owner_of s)) }
+        ensures full { IfErr result (λ _. FindsFull (owner_of by.now) pass.old pass.new) }
+        ensures step { EndsInOneStep (block_of self.now) (history_of pass.new) }
+    {
+        up(&self.word, rt, MAX, by, pass)
+    }
+
+    /// Ends an owner by one subtraction, which is not tried again, and says whether that was the last owner.
+    ///
+    /// Takes no memory. The last one gets the right to end the lifetime for which the block was lent to the owners.
+    ///
+    /// # History
+    ///
+    /// Down.
+    #[tactic(auto, using(crate::proofs::count::Calls::leaves_of))]
+    pub fn down_as(&self, share: Share<H>, pass: &mut Pass<H>) -> Release
+        requires share { IsOwnerOf (block_of self.now) share }
+        requires pass { IsPassOf (block_of self.now) pass.old }
+        ensures entry { Leaves (owner_of share) pass.old pass.new (is_last result) }
+        ensures term { IfLast result (λ term. IsTermOf share term) }
+        ensures step { EndsInOneStep (block_of self.now) (history_of pass.new) }
+    {
+        let mut last = EndTokens::none();
+        let mut right = share.right;
+        let found = self.word.subtract(&mut right, &mut pass.trace, &mut last);
+        released(found, last)
+    }
+
+    /// Afterwards the first pass has seen at least what the other had. It adds no entry and takes no memory.
+    pub fn learn(&self, pass: &mut Pass<H>, other: &Pass<H>)
+        requires pass { IsPassOf (block_of self.now) pass.old }
+        requires other { IsPassOf (block_of self.now) other.now }
+        ensures { Learns (block_of self.now) pass.old other.now pass.new }
+    {
+        pass.learn(other);
+    }
+}

@@ -1,0 +1,234 @@
+//! Owners and their count: the replies at the greatest count, and two threads.
+ghost use Rattle.std.specs.Prelude.{◌≡◌, [], ◌∷◌};
+ghost use Rattle.std.specs.List.{Contains};
+ghost use mathlib.Core.List.{IsPrefix};
+ghost use Rattle.arc_owners.specs.declared.history.entry.Entry.TheVariants.{Up, Full, Down};
+ghost use Rattle.arc_owners.specs.count.Calls.{block_of, owner_of, seen, mine, history_of, IsOwnerOf, IsPassOf, IsSamePass, HasCountIn, Asks};
+
+use super::{Owners, Pass, Release, Share};
+use crate::error::CountFull;
+use crate::mark::{Open, Whole};
+use std::sync::Wait;
+use std::test::Fail;
+use std::thread::{Threads, join};
+
+#[test]
+fn full_at_three(rt: HostRuntime) -> Result<(), Fail> {
+    let (owners, first, mut pass) = Owners::<3, Open>::new();
+    let second = owners.up_as(&rt, &first, &mut pass)?;
+    let _third = owners.up_as(&rt, &first, &mut pass)?;
+    assert!(rt; owners.up_as(&rt, &first, &mut pass).is_err());
+    assert!(rt; !owners.alone_as(&first, &mut pass));
+    assert!(rt; matches!(owners.down_as(second, &mut pass), Release::NotLast));
+    let _again = owners.up_as(&rt, &first, &mut pass)?;
+    Ok(())
+}
+
+#[test]
+fn last_of_two(rt: HostRuntime) -> Result<(), Fail> {
+    let (owners, first, mut pass) = Owners::<3, Open>::new();
+    let second = owners.up_as(&rt, &first, &mut pass)?;
+    let mut other = owners.pass(&second);
+    assert!(rt; matches!(owners.down_as(first, &mut pass), Release::NotLast));
+    owners.learn(&mut other, &pass);
+    assert!(rt; owners.alone_as(&second, &mut other));
+    assert!(rt; matches!(owners.down_as(second, &mut other), Release::Last(_)));
+    Ok(())
+}
+
+/// The replies where the word counts three owners at most: two are made, a third is refused, the second one made is
+/// released, not as the last, and then there is room again. No other reply can come, and the history is exactly this.
+fn worked_run<R: Wait>(rt: &R) -> Pass<Whole>
+    ensures seen { seen result ≡ Up 0 1 ∷ Up 0 2 ∷ Full 0 ∷ Down 2 ∷ Up 0 3 ∷ [] }
+    ensures made { mine result ≡ Up 0 1 ∷ Up 0 2 ∷ Full 0 ∷ Down 2 ∷ Up 0 3 ∷ [] }
+{
+    let (owners, first, mut pass) = Owners::<3, Whole>::new();
+    let Ok(_second) = owners.up_as(rt, &first, &mut pass) else {
+        unreachable!()
+    };
+    let Ok(third) = owners.up_as(rt, &first, &mut pass) else {
+        unreachable!()
+    };
+    let Err(CountFull) = owners.up_as(rt, &first, &mut pass) else {
+        unreachable!()
+    };
+    let Release::NotLast = owners.down_as(third, &mut pass) else {
+        unreachable!()
+    };
+    let Ok(_fourth) = owners.up_as(rt, &first, &mut pass) else {
+        unreachable!()
+    };
+    pass
+}
+
+#[test]
+fn replies_at_three(rt: HostRuntime) -> Result<(), Fail> {
+    let _pass = worked_run(&rt);
+    Ok(())
+}
+
+/// Raises and releases a thousand times through one owner. It answers how many owners were made, and the pass.
+fn thousand<R: Wait>(
+    rt: &R,
+    owners: &Owners<8, Open>,
+    first: &Share<Open>,
+    pass: Pass<Open>,
+) -> (u32, Pass<Open>)
+    requires of { IsOwnerOf (block_of owners.now) first.now × IsPassOf (block_of owners.now) pass }
+    requires counted { HasCountIn (block_of owners.now) (seen pass) }
+    ensures { IsPassOf (block_of owners.now) result.1 }
+{
+    let mut pass = pass;
+    let mut made = 0u32;
+    for _ in 0..1000u32 {
+        if let Ok(share) = owners.up_as(rt, first, &mut pass) {
+            owners.down_as(share, &mut pass);
+            made = made.wrapping_add(1);
+        }
+    }
+    (made, pass)
+}
+
+/// Two threads raise and release through one owner. It answers how many owners each made, and whether that one is alone afterwards.
+fn alone_after_two<R: Threads + Wait + Sync>(rt: &R) -> (u32, u32, bool) {
+    let (owners, first, one) = Owners::<8, Open>::new();
+    let two = owners.pass(&first);
+    let ((ones, mut one), (twos, two)) = join(
+        rt,
+        || -> (u32, Pass<Open>)
+            requires of { IsOwnerOf (block_of owners) first × IsPassOf (block_of owners) one }
+            requires counted { HasCountIn (block_of owners) (seen one) }
+            ensures { IsPassOf (block_of owners) result.1 }
+        { thousand(rt, &owners, &first, one) },
+        || -> (u32, Pass<Open>)
+            requires of { IsOwnerOf (block_of owners) first × IsPassOf (block_of owners) two }
+            requires counted { HasCountIn (block_of owners) (seen two) }
+            ensures { IsPassOf (block_of owners) result.1 }
+        { thousand(rt, &owners, &first, two) },
+    );
+    owners.learn(&mut one, &two);
+    (ones, twos, owners.alone_as(&first, &mut one))
+}
+
+#[test]
+fn alone_after_threads(rt: HostRuntime) -> Result<(), Fail> {
+    let (ones, twos, alone) = alone_after_two(&rt);
+    assert!(rt; ones == 1000 && twos == 1000 && alone);
+    Ok(())
+}
+
+#[test]
+fn forgotten_owner_stays(rt: HostRuntime) -> Result<(), Fail> {
+    let (owners, first, mut pass) = Owners::<3, Open>::new();
+    let second = owners.up_as(&rt, &first, &mut pass)?;
+    drop(second);
+    assert!(rt; !owners.alone_as(&first, &mut pass));
+    assert!(rt; matches!(owners.down_as(first, &mut pass), Release::NotLast));
+    assert!(rt; size_of::<Pass<Open>>() == 0);
+    Ok(())
+}
+
+/// Ends an owner, and hands the pass back.
+fn ended(owners: &Owners<8, Open>, share: Share<Open>, pass: Pass<Open>) -> Pass<Open>
+    requires share { IsOwnerOf (block_of owners.now) share }
+    requires pass { IsPassOf (block_of owners.now) pass }
+    ensures same { IsSamePass (block_of owners.now) pass result }
+    ensures ended { Contains (seen result) (Down (owner_of share).number) }
+{
+    let mut pass = pass;
+    owners.down_as(share, &mut pass);
+    pass
+}
+
+/// Reads whether an owner is alone, whatever that is now, and hands the pass back.
+fn looked(owners: &Owners<8, Open>, share: &Share<Open>, pass: Pass<Open>) -> Pass<Open>
+    requires share { IsOwnerOf (block_of owners.now) share.now }
+    requires pass { IsPassOf (block_of owners.now) pass }
+    ensures { IsSamePass (block_of owners.now) pass result }
+{
+    let mut pass = pass;
+    owners.alone_as(share, &mut pass);
+    pass
+}
+
+/// A second thread ends an owner with a pass of its own, while this one looks. After the join this one learns what that pass
+/// has seen, and asks whether the first owner is alone. It answers that, with its own pass and the other one.
+fn alone_after_end<R: Threads>(
+    rt: &R,
+    owners: &Owners<8, Open>,
+    first: &Share<Open>,
+    second: Share<Open>,
+    own: Pass<Open>,
+    other: Pass<Open>,
+) -> (bool, Pass<Open>, Pass<Open>)
+    requires shares { IsOwnerOf (block_of owners.now) first.now × IsOwnerOf (block_of owners.now) second }
+    requires passes { IsPassOf (block_of owners.now) own × IsPassOf (block_of owners.now) other }
+    ensures same { IsSamePass (block_of owners.now) own result.1 × IsSamePass (block_of owners.now) other result.2 }
+    ensures ended { Contains (seen result.2) (Down (owner_of second).number) }
+    ensures asked { (learnt : Pass Open) × IsPrefix (history_of result.2) (history_of learnt) × Asks (owner_of first.now) learnt result.1 result.0 }
+{
+    let (other, mut own) = join(
+        rt,
+        || -> Pass<Open>
+            requires { IsOwnerOf (block_of owners.now) second × IsPassOf (block_of owners.now) other }
+            ensures { IsSamePass (block_of history.entry.now) other result × Contains (seen result) (Down (owner_of second).number) }
+        { ended(owners, second, other) },
+        || -> Pass<Open>
+            requires { IsOwnerOf (block_of owners.now) first.now × IsPassOf (block_of owners.now) own }
+            ensures { IsSamePass (block_of history.entry.now) own result }
+        { looked(owners, first, own) },
+    );
+    owners.learn(&mut own, &other);
+    let alone = owners.alone_as(first, &mut own);
+    (alone, own, other)
+}
+
+#[test]
+fn sole_owner_takes_back(rt: HostRuntime) -> Result<(), Fail> {
+    let (owners, first, mut pass) = Owners::<3, Open>::new();
+    let second = owners.up_as(&rt, &first, &mut pass)?;
+    let Err(first) = owners.claim_as(first, &mut pass) else {
+        assert!(rt; false);
+        return Ok(());
+    };
+    assert!(rt; matches!(owners.down_as(second, &mut pass), Release::NotLast));
+    let Ok((sole, _term)) = owners.claim_as(first, &mut pass) else {
+        assert!(rt; false);
+        return Ok(());
+    };
+    let first = sole.lend();
+    let third = owners.up_as(&rt, &first, &mut pass)?;
+    assert!(rt; matches!(owners.down_as(third, &mut pass), Release::NotLast));
+    let Ok((sole, _term)) = owners.claim_as(first, &mut pass) else {
+        assert!(rt; false);
+        return Ok(());
+    };
+    sole.end_as(&mut pass);
+    Ok(())
+}
+
+/// A block whose first owner has it whole, lends it, has it back, and ends.
+#[test]
+fn sole_owner_from_the_beginning(rt: HostRuntime) -> Result<(), Fail> {
+    let (owners, sole, mut pass) = Owners::<3, Whole>::new_sole();
+    sole.only(&mut pass);
+    let first = sole.lend();
+    assert!(rt; owners.alone_as(&first, &mut pass));
+    let Ok((sole, _term)) = owners.claim_as(first, &mut pass) else {
+        assert!(rt; false);
+        return Ok(());
+    };
+    sole.only(&mut pass);
+    sole.end_as(&mut pass);
+    Ok(())
+}
+
+#[test]
+fn alone_after_other_ended(rt: HostRuntime) -> Result<(), Fail> {
+    let (owners, first, mut pass) = Owners::<8, Open>::new();
+    let second = owners.up_as(&rt, &first, &mut pass)?;
+    let other = owners.pass(&second);
+    let (alone, _own, _other) = alone_after_end(&rt, &owners, &first, second, pass, other);
+    assert!(rt; alone);
+    Ok(())
+}

@@ -1,0 +1,113 @@
+//! The steps on the place of a word, which lies in a block's memory. A block may be gone before a release returns.
+ghost use Rattle.std.specs.Prelude.{◌≡◌, IfOk, IfErr, true, false, is_ok};
+ghost use Rattle.arc_owners.specs.count.Calls.{owner_of, lease_of, sole_owner, IsOwnerOf, IsPassOf, Asks, MakesAnother, FindsFull, Leaves, IsTermOf, HasCountIn, seen};
+ghost use Rattle.arc_owners.specs.count.Releases.{is_last, IfLast};
+ghost use Rattle.arc_owners.specs.count.Steps.{IsLodged};
+
+use super::counted::{released, up};
+use super::sole::claimed;
+use super::tokens::{LifetimeEnd, Owners, Pass, Release, Share, Sole};
+use super::word::{EndTokens, Word, WordBorrow};
+use crate::error::CountFull;
+use crate::mark::Mark;
+use std::sync::Wait;
+
+impl<const MAX: u64, H: Mark> Owners<MAX, H> {
+    /// `up_as` on the place of the word.
+    ///
+    /// # Safety
+    ///
+    /// The word lies at this place for as long as the block is lent: the lodging says so.
+    pub unsafe fn up_raw(
+        place: *const u64,
+        rt: &impl Wait,
+        lodging: &WordBorrow,
+        by: &Share<H>,
+        pass: &mut Pass<H>,
+    ) -> Result<Share<H>, CountFull>
+        requires most { lodging.now.block.most ≡ MAX }
+        requires share { IsOwnerOf lodging.now.block by.now }
+        requires pass { IsPassOf lodging.now.block pass.old }
+        requires place { IsLodged lodging.now place (lease_of by.now) }
+        ensures made { IfOk result (λ s. MakesAnother (owner_of by.now) pass.old pass.new (owner_of s)) }
+        ensures lent { IfOk result (λ s. lease_of s ≡ lease_of by.now) }
+        ensures full { IfErr result (λ _. FindsFull (owner_of by.now) pass.old pass.new) }
+    {
+        let word = unsafe { lodging.word(place, &by.right) };
+        up(word, rt, MAX, by, pass)
+    }
+
+    /// `alone_as` on the place of the word.
+    ///
+    /// # Safety
+    ///
+    /// The word lies at this place for as long as the block is lent: the lodging says so.
+    #[tactic(auto, using(crate::proofs::count::Calls::asks_of))]
+    pub unsafe fn alone_raw(
+        place: *const u64,
+        lodging: &WordBorrow,
+        by: &Share<H>,
+        pass: &mut Pass<H>,
+    ) -> bool
+        requires share { IsOwnerOf lodging.now.block by.now }
+        requires pass { IsPassOf lodging.now.block pass.old }
+        requires place { IsLodged lodging.now place (lease_of by.now) }
+        ensures entry { Asks (owner_of by.now) pass.old pass.new result }
+    {
+        let word = unsafe { lodging.word(place, &by.right) };
+        word.load(&by.right, &mut pass.trace) == 1
+    }
+
+    /// `down_as` on the place of the word, which may be gone before the call returns.
+    ///
+    /// # Safety
+    ///
+    /// The word lies at this place for as long as the block is lent: the lodging says so.
+    #[tactic(auto, using(crate::proofs::count::Calls::leaves_of))]
+    pub unsafe fn down_raw(
+        place: *const u64,
+        lodging: &WordBorrow,
+        share: Share<H>,
+        pass: &mut Pass<H>,
+    ) -> Release
+        requires share { IsOwnerOf lodging.now.block share }
+        requires pass { IsPassOf lodging.now.block pass.old }
+        requires place { IsLodged lodging.now place (lease_of share) }
+        ensures entry { Leaves (owner_of share) pass.old pass.new (is_last result) }
+        ensures term { IfLast result (λ term. IsTermOf share term) }
+    {
+        let mut last = EndTokens::none();
+        let mut right = share.right;
+        let found = unsafe {
+            Word::subtract_raw(place, lodging, &mut right, &mut pass.trace, &mut last)
+        };
+        released(found, last)
+    }
+
+    /// `claim_as` on the place of the word.
+    ///
+    /// # Safety
+    ///
+    /// The word lies at this place for as long as the block is lent: the lodging says so.
+    #[tactic(auto, using(crate::proofs::count::Calls::asks_of))]
+    pub unsafe fn claim_raw(
+        place: *const u64,
+        lodging: &WordBorrow,
+        share: Share<H>,
+        pass: &mut Pass<H>,
+    ) -> Result<(Sole<H>, LifetimeEnd), Share<H>>
+        requires share { IsOwnerOf lodging.now.block share }
+        requires pass { IsPassOf lodging.now.block pass.old }
+        requires place { IsLodged lodging.now place (lease_of share) }
+        ensures entry { Asks (owner_of share) pass.old pass.new (is_ok result) }
+        ensures alone { IfOk result (λ r. (sole_owner r.0 ≡ owner_of share) × IsTermOf share r.1) }
+        ensures others { IfErr result (λ s. (owner_of s ≡ owner_of share) × (lease_of s ≡ lease_of share)) }
+    {
+        let mut last = EndTokens::none();
+        let mut right = share.right;
+        let found = unsafe {
+            Word::claim_raw(place, lodging, &mut right, &mut pass.trace, &mut last)
+        };
+        claimed(found, right, last)
+    }
+}

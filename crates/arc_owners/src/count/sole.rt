@@ -1,0 +1,131 @@
+//! Sole owners: a block taken back whole, lent anew, or ended without a step.
+ghost use Rattle.std.specs.Prelude.{◌≡◌, ◌≢◌, ◌≤◌, ◌==◌, true, false, IfOk, IfErr, is_ok};
+ghost use Rattle.arc_owners.specs.history.Histories.{LivesAlone};
+ghost use Rattle.arc_owners.specs.count.Calls.{block_of, owner_of, sole_owner, lease_of, seen, IsOwnerOf, IsPassOf, IsFirst, IsFreshPass, SeesAlone, Asks, Leaves, IsTermOf, EndsInOneStep, EndsWithoutStep, history_of};
+
+use super::tokens::{LifetimeEnd, Owners, Pass, Share, Sole};
+use super::word::{EndTokens, OwnerToken};
+use crate::mark::Mark;
+use std::marker::PhantomData;
+
+/// What an owner has that asked for the block back, and found this number.
+pub(crate) fn claimed<H: Mark>(
+    found: u64,
+    right: OwnerToken,
+    last: EndTokens,
+) -> Result<(Sole<H>, LifetimeEnd), Share<H>>
+    requires right { (right.held ≡ true) × (right.block.whole ≡ H.whole) }
+    requires alone { found ≡ 1 → (right.lease.is_lent ≡ false) × (last.last ≡ true) }
+    requires others { found ≢ 1 → right.lease.is_lent ≡ true }
+    ensures found { is_ok result ≡ (found == 1) }
+    ensures alone { IfOk result (λ r. (found ≡ 1) × (r.0.right ≡ right) × (r.1.spoils ≡ last)) }
+    ensures others { IfErr result (λ s. (found ≢ 1) × (s.right ≡ right)) }
+{
+    if found == 1 {
+        Ok((
+            Sole {
+                right,
+                mark: PhantomData,
+            },
+            LifetimeEnd { spoils: last },
+        ))
+    } else {
+        Err(Share {
+            right,
+            mark: PhantomData,
+        })
+    }
+}
+
+impl<const MAX: u64, H: Mark> Owners<MAX, H> {
+    /// The count of a new block, which is 1: one owner, number 0, who has the block whole, and a pass that has seen nothing.
+    ///
+    /// `MAX`, at least 2, is how many owners may live at once. Takes no memory.
+    pub fn new_sole() -> (Owners<MAX, H>, Sole<H>, Pass<H>)
+        requires { 2 ≤ MAX }
+        ensures sole { (sole_owner result.1).block ≡ block_of result.0 }
+        ensures first { IsFirst MAX H.whole (sole_owner result.1) }
+        ensures pass { IsFreshPass (sole_owner result.1) result.2 }
+        ensures alone { LivesAlone (sole_owner result.1).number (seen result.2) }
+    {
+        let (word, right, trace) = H::open(MAX, false);
+        (
+            Owners {
+                word,
+                mark: PhantomData,
+            },
+            Sole {
+                right,
+                mark: PhantomData,
+            },
+            Pass {
+                trace,
+                mark: PhantomData,
+            },
+        )
+    }
+
+    /// Takes the block back where the owner is alone, at the point of the one load that this takes, as `Arc::try_unwrap` does.
+    ///
+    /// Where other owners live, this one is handed back as it was. Takes no memory.
+    ///
+    /// # History
+    ///
+    /// Alone with the answer; none on a lone word.
+    #[tactic(auto, using(crate::proofs::count::Calls::asks_of))]
+    pub fn claim_as(
+        &self,
+        share: Share<H>,
+        pass: &mut Pass<H>,
+    ) -> Result<(Sole<H>, LifetimeEnd), Share<H>>
+        requires share { IsOwnerOf (block_of self.now) share }
+        requires pass { IsPassOf (block_of self.now) pass.old }
+        ensures entry { Asks (owner_of share) pass.old pass.new (is_ok result) }
+        ensures alone { IfOk result (λ r. (sole_owner r.0 ≡ owner_of share) × IsTermOf share r.1) }
+        ensures others { IfErr result (λ s. (owner_of s ≡ owner_of share) × (lease_of s ≡ lease_of share)) }
+        ensures step { EndsInOneStep (block_of self.now) (history_of pass.new) }
+    {
+        let mut last = EndTokens::none();
+        let mut right = share.right;
+        let found = self.word.claim(&mut right, &mut pass.trace, &mut last);
+        claimed(found, right, last)
+    }
+}
+
+impl<H: Mark> Sole<H> {
+    /// Shows a pass the block's whole history so far, in which no other owner lives. It adds no entry and takes no memory.
+    #[tactic(auto, using(crate::proofs::count::Calls::sees_alone))]
+    pub fn only(&self, pass: &mut Pass<H>)
+        requires pass { IsPassOf (sole_owner self.now).block pass.old }
+        ensures { SeesAlone (sole_owner self.now) pass.old pass.new }
+    {
+        self.right.only(&mut pass.trace);
+    }
+
+    /// Lends the block anew, under the same history: the same owner, for a new lifetime. It adds no entry and takes no memory.
+    pub fn lend(self) -> Share<H>
+        ensures same { owner_of result ≡ sole_owner self }
+    {
+        let mut right = self.right;
+        right.lend();
+        Share {
+            right,
+            mark: PhantomData,
+        }
+    }
+
+    /// Ends this owner, the last one, without an atomic step: the word stays as it was. Takes no memory.
+    ///
+    /// # History
+    ///
+    /// Down.
+    #[tactic(auto, using(crate::proofs::count::Calls::leaves_of, crate::proofs::count::Calls::ended_without))]
+    pub fn end_as(self, pass: &mut Pass<H>)
+        requires pass { IsPassOf (sole_owner self).block pass.old }
+        ensures entry { Leaves (sole_owner self) pass.old pass.new true }
+        ensures step { EndsWithoutStep (sole_owner self).block (history_of pass.new) }
+    {
+        let mut right = self.right;
+        right.finish(&mut pass.trace);
+    }
+}

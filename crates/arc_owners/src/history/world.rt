@@ -1,0 +1,154 @@
+//! What a run of the word machine leaves, and its one step.
+ghost use Rattle.std.specs.Prelude.{◌≡◌, IsTrue, OnOk, IfOk, length};
+ghost use Rattle.std.specs.List.{list_any};
+ghost use Rattle.arc_owners.specs.history.Histories.{is_end_of};
+ghost use Rattle.arc_owners.specs.history.Worlds.{machine_of};
+ghost use Rattle.arc_owners.specs.history.Machine.{may_happen, changed, is_fresh, with_number, without_number, opening, beginning, step};
+
+use super::entry::Entry;
+use super::event::Event;
+use crate::error::AllocError;
+use std::alloc::{Allocator, Global};
+
+/// The state of a block's word after a run of events, with the history that the run wrote: `Machine` in specs/, which
+/// `machine_of` reads off it. The former owners are those whose `Down` stands in the entries.
+#[derive(Drop)]
+pub struct World<A: Allocator = Global> {
+    /// Whether the word has a count, or is still lone.
+    pub counted: bool,
+    /// How many owners the word counts: 1 on a lone word.
+    pub count: u64,
+    /// The numbers of the live owners, in the order in which they were made.
+    pub live: Vec<u64, A>,
+    /// The numbers of the threads that found the word lone, in the order in which they first did.
+    pub ready: Vec<u64, A>,
+    /// The entries of the history, oldest first.
+    pub entries: Vec<Entry, A>,
+}
+
+impl<A: Allocator + Copy> World<A> {
+    /// A block's word as it begins: with a count or lone, and owner 0 alone.
+    pub(crate) fn opening(alloc: A, counted: bool) -> Result<Self, AllocError>
+        ensures { IfOk result (λ world. machine_of world ≡ opening (beginning counted)) }
+    {
+        let mut live = Vec::new(alloc);
+        live.push(0)?;
+        Ok(World {
+            counted,
+            count: 1,
+            live,
+            ready: Vec::new(alloc),
+            entries: Vec::new(alloc),
+        })
+    }
+}
+
+impl<A: Allocator> World<A> {
+    /// Whether an owner ended.
+    fn has_ended(&self, owner: u64) -> bool
+        ensures { result ≡ list_any (is_end_of owner) self.now.entries.items }
+    {
+        self.entries.iter().any(|entry| entry.ends(owner))
+    }
+
+    /// Whether an owner's number is one that never was live.
+    #[tactic(auto, using(crate::proofs::history::Owned::any_ends), unfolding(crate::specs::history::Machine::is_fresh))]
+    fn is_fresh(&self, owner: u64) -> bool
+        ensures { result ≡ is_fresh owner (machine_of self.now) }
+    {
+        !self.live.contains(&owner) && !self.has_ended(owner)
+    }
+
+    /// Whether an event may happen here.
+    fn may_happen(&self, most: u64, event: Event) -> bool
+        ensures { result ≡ may_happen most (machine_of self.now) event }
+    {
+        match event {
+            Event::Load { by, .. } => self.live.contains(&by) && !self.counted,
+            Event::ExchangeWon { thread, by, new } => {
+                self.live.contains(&by)
+                    && !self.counted
+                    && self.ready.contains(&thread)
+                    && self.is_fresh(new)
+            }
+            Event::ExchangeLost { thread, by } => {
+                self.live.contains(&by) && self.counted && self.ready.contains(&thread)
+            }
+            Event::CountUp { by, seen, new, .. } => {
+                self.live.contains(&by)
+                    && self.counted
+                    && self.count == seen
+                    && seen < most
+                    && self.is_fresh(new)
+            }
+            Event::FullFound { by, .. } => {
+                self.live.contains(&by) && self.counted && self.count == most
+            }
+            Event::CountDown { by, seen, .. } | Event::UniquenessLoad { by, seen, .. } => {
+                self.live.contains(&by) && self.counted && self.count == seen
+            }
+        }
+    }
+
+    /// Makes an event, where it may happen.
+    #[tactic(auto, unfolding(crate::specs::history::Machine::step))]
+    pub(crate) fn happen(&mut self, most: u64, event: Event) -> Result<(), AllocError>
+        requires { self.old.count ≡ length self.old.live.items }
+        ensures { OnOk result (machine_of self.new ≡ step most (machine_of self.old) event) }
+    {
+        if self.may_happen(most, event) {
+            self.change(most, event)?;
+        }
+        Ok(())
+    }
+
+    /// Makes an event that may happen.
+    fn change(&mut self, most: u64, event: Event) -> Result<(), AllocError>
+        requires allowed { IsTrue (may_happen most (machine_of self.old) event) }
+        requires owned { self.old.count ≡ length self.old.live.items }
+        ensures { OnOk result (machine_of self.new ≡ changed (machine_of self.old) event) }
+    {
+        match event {
+            Event::Load { thread, .. } => add_number(&mut self.ready, thread)?,
+            Event::ExchangeWon { by, new, .. } => {
+                self.entries.push(Entry::Promote(by, new))?;
+                self.live.push(new)?;
+                self.counted = true;
+                self.count = 2;
+            }
+            Event::ExchangeLost { by, .. } => self.entries.push(Entry::Joined(by))?,
+            Event::CountUp { by, new, .. } => {
+                self.entries.push(Entry::Up(by, new))?;
+                self.live.push(new)?;
+                self.count += 1;
+            }
+            Event::FullFound { by, .. } => self.entries.push(Entry::Full(by))?,
+            Event::CountDown { by, .. } => {
+                self.entries.push(Entry::Down(by))?;
+                remove_number(&mut self.live, by);
+                self.count -= 1;
+            }
+            Event::UniquenessLoad { by, .. } => {
+                self.entries.push(Entry::Alone(by, self.count == 1))?;
+            }
+        }
+        Ok(())
+    }
+}
+
+/// Puts a number among these, unless it is there.
+fn add_number<A: Allocator>(numbers: &mut Vec<u64, A>, number: u64) -> Result<(), AllocError>
+    ensures { OnOk result (numbers.new.items ≡ with_number number numbers.old.items) }
+{
+    if !numbers.contains(&number) {
+        numbers.push(number)?;
+    }
+    Ok(())
+}
+
+/// Takes a number from these.
+fn remove_number<A: Allocator>(numbers: &mut Vec<u64, A>, number: u64)
+    ensures { numbers.new.items ≡ without_number number numbers.old.items }
+{
+    numbers.retain(|other| *other != number);
+}

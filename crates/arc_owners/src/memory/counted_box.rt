@@ -1,0 +1,315 @@
+//! A value in memory of its own, with a count of its owners.
+ghost use Rattle.std.specs.Prelude.{◌≡◌};
+
+use super::box_parts::BoxParts;
+use super::inheritance::Inheritance;
+use super::inner::Inner;
+use super::lent_box::LentBox;
+use super::shared_borrow::SharedBorrow;
+use super::sole_box::SoleBox;
+use crate::count::tokens::{LifetimeEnd, Owners, Pass, Release, Share};
+use crate::count::word::WordBorrow;
+use crate::error::CountFull;
+use crate::mark::{Mark, Open, Stepping};
+use std::alloc::Allocator;
+use std::marker::PhantomData;
+use std::sync::Wait;
+
+/// A value, and the allocator that its memory came from.
+#[derive(Drop)]
+pub struct Housed<V: Drop, A: Allocator + Copy> {
+    pub(crate) value: V,
+    pub(crate) alloc: A,
+}
+
+/// One owner of a value that lies in memory of its own, next to the word that counts the owners. `MAX` is the greatest count.
+///
+/// Dropped, it ends with a new pass under the mark `Open`. Under `Whole` it is a forgotten owner: the memory stays for good.
+pub struct CountedBox<V: Drop, A: Allocator + Copy, const MAX: u64, H: Mark = Open> {
+    pub(crate) at: *const Inner<Housed<V, A>>,
+    pub(crate) word: *const u64,
+    pub(crate) value: *const Housed<V, A>,
+    pub(crate) lodging: WordBorrow,
+    pub(crate) loan: SharedBorrow<Housed<V, A>>,
+    pub(crate) kept: Inheritance<Inner<Housed<V, A>>, A>,
+    pub(crate) share: Share<H>,
+    ghost greatest: { lodging.block.most ≡ MAX },
+    ghost counted: { share.right.block ≡ lodging.block },
+    ghost worded: { kept.value.word ≡ lodging.block },
+    ghost lodged: { (lodging.at ≡ word) × (lodging.lifetime ≡ share.right.lease.lifetime) },
+    ghost shown: { (loan.at ≡ value) × (loan.lifetime ≡ share.right.lease.lifetime) },
+    ghost comes_back: { (kept.at ≡ at) × (kept.alloc ≡ loan.value.alloc) × (kept.lease ≡ share.right.lease) × (kept.value.value ≡ loan.value) },
+}
+
+impl<V: Drop, A: Allocator + Copy, const MAX: u64, H: Mark> CountedBox<V, A, MAX, H> {
+    ghost use Rattle.std.specs.Prelude.{◌≡◌, ◌≤◌, IfOk, IfErr, IfSome, is_some, is_ok, true, false, None};
+    ghost use Rattle.arc_owners.specs.count.Calls.{IsPassFor, IsPassOfNone, IsFirst, IsFreshPass, IsNewPass, Learns, Asks, FindsFull, MakesAnother, Leaves, TakesBlock, EndsByItself};
+    ghost use Rattle.arc_owners.specs.memory.Boxes.{owner_in, value_of};
+    ghost use Rattle.arc_owners.specs.memory.SoleBoxes.{sole_in, sole_value};
+    ghost use Rattle.arc_owners.specs.count.Calls.{owner_of};
+    ghost use Rattle.std_alloc.specs.Box.{box_allocator};
+
+    /// The first owner of a value, with a pass of its block. Takes memory, for the value and the count together; refused, the value
+    /// comes back. `MAX`, at least 2, is how many owners may live at once.
+    pub fn new(alloc: A, value: V) -> Result<(Self, Pass<H>), V>
+        requires { 2 ≤ MAX }
+        ensures made { IfOk result (λ r. IsFirst MAX H.whole (owner_in r.0) × (value_of r.0 ≡ value)) }
+        ensures pass { IfOk result (λ r. IsFreshPass (owner_in r.0) r.1) }
+        ensures refused { IfErr result (λ back. back ≡ value) }
+    {
+        let (owners, share, pass) = Owners::<MAX, H>::new();
+        let Owners { word, mark: _ } = owners;
+        let value = Housed { value, alloc };
+        let memory = match Box::new(alloc, Inner { word, value }) {
+            Ok(memory) => memory,
+            Err(refused) => {
+                let Inner { word: _, value } = refused.value;
+                return Err(value.value);
+            }
+        };
+        Ok((CountedBox::settled(memory, share), pass))
+    }
+
+    /// The owner of the value that lies in this memory, which is lent to it.
+    pub(crate) fn settled(memory: Box<Inner<Housed<V, A>>, A>, share: Share<H>) -> Self
+        requires count { (share.right.block ≡ memory.value.word) × (memory.value.word.most ≡ MAX) }
+        requires memory { box_allocator memory ≡ memory.value.value.alloc }
+        ensures { (owner_in result ≡ owner_of share) × (value_of result ≡ memory.value.value.value) }
+    {
+        let mut right = share.right;
+        let (at, _, lent, kept) = LentBox::of(BoxParts::of(memory), &right);
+        let (word, lodging, value, loan) = unsafe { Inner::settle(lent, at, &mut right) };
+        let share = Share {
+            right,
+            mark: PhantomData,
+        };
+        CountedBox {
+            at,
+            word,
+            value,
+            lodging,
+            loan,
+            kept,
+            share,
+        }
+    }
+
+    /// The value.
+    pub fn get(&self) -> &V
+        ensures { result.now ≡ value_of self.now }
+    {
+        &self.housed().value
+    }
+
+    /// The value, with the allocator that its memory came from.
+    fn housed(&self) -> &Housed<V, A>
+        ensures { result.now ≡ self.now.loan.value }
+    {
+        unsafe { self.loan.get(self.value, &self.share.right) }
+    }
+
+    /// Whether no other owner lives, by one load. Adds Alone with the answer. Takes no memory.
+    pub fn is_unique_as(&self, pass: &mut Pass<H>) -> bool
+        requires pass { IsPassFor (owner_in self.now) pass.old }
+        ensures entry { Asks (owner_in self.now) pass.old pass.new result }
+    {
+        unsafe { Owners::<MAX, H>::alone_raw(self.word, &self.lodging, &self.share, pass) }
+    }
+
+    /// The memory back, with the value in it, where no other owner lives: the same owner has both. Else it is handed back. Adds Alone
+    /// with the answer. Takes no memory.
+    pub fn try_into_sole_as(self, pass: &mut Pass<H>) -> Result<SoleBox<V, A, MAX, H>, Self>
+        requires pass { IsPassFor (owner_in self) pass.old }
+        ensures entry { Asks (owner_in self) pass.old pass.new (is_ok result) }
+        ensures sole { IfOk result (λ b. (sole_in b ≡ owner_in self) × (sole_value b ≡ value_of self)) }
+        ensures back { IfErr result (λ piece. (owner_in piece ≡ owner_in self) × (value_of piece ≡ value_of self)) }
+    {
+        let alloc = self.housed().alloc;
+        let CountedBox {
+            at,
+            word,
+            value,
+            lodging,
+            loan,
+            kept,
+            share,
+        } = self;
+        match unsafe { Owners::<MAX, H>::claim_raw(word, &lodging, share, pass) } {
+            Ok((sole, term)) => {
+                let memory = unsafe { kept.take(at.cast_mut(), alloc, term) };
+                Ok(SoleBox {
+                    memory: memory.into_box(),
+                    sole,
+                })
+            }
+            Err(share) => Err(CountedBox {
+                at,
+                word,
+                value,
+                lodging,
+                loan,
+                kept,
+                share,
+            }),
+        }
+    }
+
+    /// The value back, and the memory to its allocator, where no other owner lives: adds Alone, then the Down of this one. Else it is
+    /// handed back, and Alone was added with no. Takes no memory.
+    pub fn try_into_value_as(self, pass: &mut Pass<H>) -> Result<V, Self>
+        requires pass { IsPassFor (owner_in self) pass.old }
+        ensures alone { IfOk result (λ _. TakesBlock (owner_in self) pass.old pass.new) }
+        ensures value { IfOk result (λ value. value ≡ value_of self) }
+        ensures others { IfErr result (λ _. Asks (owner_in self) pass.old pass.new false) }
+        ensures back { IfErr result (λ piece. (owner_in piece ≡ owner_in self) × (value_of piece ≡ value_of self)) }
+    {
+        let alloc = self.housed().alloc;
+        let CountedBox {
+            at,
+            word,
+            value,
+            lodging,
+            loan,
+            kept,
+            share,
+        } = self;
+        match unsafe { Owners::<MAX, H>::claim_raw(word, &lodging, share, pass) } {
+            Ok((sole, term)) => {
+                let memory = unsafe { kept.take(at.cast_mut(), alloc, term) };
+                let Inner { word: _, value } = Box::into_inner(memory.into_box());
+                sole.end_as(pass);
+                Ok(value.value)
+            }
+            Err(share) => Err(CountedBox {
+                at,
+                word,
+                value,
+                lodging,
+                loan,
+                kept,
+                share,
+            }),
+        }
+    }
+
+    /// Ends this owner by one subtraction. Adds its Down. The last one gives the memory back, and gets the value. Takes no memory.
+    pub fn release_as(self, pass: &mut Pass<H>) -> Option<V>
+        requires pass { IsPassFor (owner_in self) pass.old }
+        ensures entry { Leaves (owner_in self) pass.old pass.new (is_some result) }
+        ensures value { IfSome result (λ value. value ≡ value_of self) }
+    {
+        let alloc = self.housed().alloc;
+        let CountedBox {
+            at,
+            word,
+            value: _,
+            lodging,
+            loan: _,
+            kept,
+            share,
+        } = self;
+        match unsafe { Owners::<MAX, H>::down_raw(word, &lodging, share, pass) } {
+            Release::Last(term) => {
+                let memory = unsafe { kept.take(at.cast_mut(), alloc, term) };
+                let Inner { word: _, value } = Box::into_inner(memory.into_box());
+                Some(value.value)
+            }
+            Release::NotLast => None,
+        }
+    }
+
+    /// What a drop does: under `Open` this owner ends with a new pass, and the last one gets the value; under `Whole` it is forgotten,
+    /// without a step. Takes no memory.
+    /// The pass is the one that the owner ended with; under `Whole` it is of no block.
+    #[tactic(auto, using(crate::proofs::count::Calls::ended_by_itself))]
+    pub fn let_go(self) -> (Option<V>, Pass<H>)
+        ensures value { IfSome result.0 (λ value. value ≡ value_of self) }
+        ensures forgotten { H.whole ≡ true → (result.0 ≡ None) × IsPassOfNone result.1 }
+        ensures ended { H.whole ≡ false → EndsByItself (owner_in self) result.1 (is_some result.0) }
+    {
+        let alloc = self.housed().alloc;
+        let CountedBox {
+            at,
+            word,
+            value: _,
+            lodging,
+            loan: _,
+            kept,
+            share,
+        } = self;
+        let (last, spoils, trace) = unsafe { H::let_go(word, &lodging, share.right) };
+        let pass = Pass {
+            trace,
+            mark: PhantomData,
+        };
+        if !last {
+            return (None, pass);
+        }
+        let memory = unsafe { kept.take(at.cast_mut(), alloc, LifetimeEnd { spoils }) };
+        let Inner { word: _, value } = Box::into_inner(memory.into_box());
+        (Some(value.value), pass)
+    }
+
+    /// Afterwards the first pass has seen at least what the other had. It adds no entry and takes no memory.
+    pub fn learn(&self, pass: &mut Pass<H>, other: &Pass<H>)
+        requires pass { IsPassFor (owner_in self.now) pass.old }
+        requires other { IsPassFor (owner_in self.now) other.now }
+        ensures { Learns (owner_in self.now).block pass.old other.now pass.new }
+    {
+        pass.learn(other);
+    }
+}
+
+impl<V: Drop, A: Allocator + Copy, const MAX: u64, H: Mark> CountedBox<V, A, MAX, H> {
+    ghost use Rattle.std.specs.Prelude.{◌≡◌, ◌≤◌, IfOk, IfErr, IfSome, is_some, is_ok, true, false, None};
+    ghost use Rattle.arc_owners.specs.count.Calls.{IsPassFor, IsPassOfNone, IsFirst, IsFreshPass, IsNewPass, Learns, Asks, FindsFull, MakesAnother, Leaves, TakesBlock, EndsByItself};
+    ghost use Rattle.arc_owners.specs.memory.Boxes.{owner_in, value_of};
+
+    /// One owner more of the same value, through this one. Adds Up. Takes no memory, and copies nothing.
+    ///
+    /// `CountFull` exactly where `MAX` owners live, which adds Full. It takes `rt` since a raise that another thread disturbs is tried
+    /// again.
+    pub fn try_clone_as(&self, rt: &impl Wait, pass: &mut Pass<H>) -> Result<Self, CountFull>
+        requires pass { IsPassFor (owner_in self.now) pass.old }
+        ensures made { IfOk result (λ piece. MakesAnother (owner_in self.now) pass.old pass.new (owner_in piece) × (value_of piece ≡ value_of self.now)) }
+        ensures full { IfErr result (λ _. FindsFull (owner_in self.now) pass.old pass.new) }
+    {
+        let share = unsafe {
+            Owners::<MAX, H>::up_raw(self.word, rt, &self.lodging, &self.share, pass)?
+        };
+        Ok(CountedBox {
+            at: self.at,
+            word: self.word,
+            value: self.value,
+            lodging: self.lodging.again(),
+            loan: self.loan.again(),
+            kept: self.kept.again(),
+            share,
+        })
+    }
+}
+
+impl<V: Drop, A: Allocator + Copy, const MAX: u64, H: Stepping> CountedBox<V, A, MAX, H> {
+    ghost use Rattle.std.specs.Prelude.{◌≡◌, ◌≤◌, IfOk, IfErr, IfSome, is_some, is_ok, true, false, None};
+    ghost use Rattle.arc_owners.specs.count.Calls.{IsPassFor, IsPassOfNone, IsFirst, IsFreshPass, IsNewPass, Learns, Asks, FindsFull, MakesAnother, Leaves, TakesBlock, EndsByItself};
+    ghost use Rattle.arc_owners.specs.memory.Boxes.{owner_in, value_of};
+
+    /// A new pass, which has seen at least the entry that made this owner, and made nothing. It adds no entry and takes no memory.
+    pub fn pass(&self) -> Pass<H>
+        ensures { IsNewPass (owner_in self.now) result }
+    {
+        self.share.pass()
+    }
+}
+
+impl<V: Drop, A: Allocator + Copy, const MAX: u64, H: Mark> Drop for CountedBox<V, A, MAX, H> {
+    fn drop(self) {
+        drop(self.let_go());
+    }
+}
+
+unsafe impl<V: Drop + Send + Sync, A: Allocator + Copy + Send + Sync, const MAX: u64, H: Mark> Send
+    for CountedBox<V, A, MAX, H> {}
+
+unsafe impl<V: Drop + Send + Sync, A: Allocator + Copy + Send + Sync, const MAX: u64, H: Mark> Sync
+    for CountedBox<V, A, MAX, H> {}

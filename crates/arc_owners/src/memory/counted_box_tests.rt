@@ -1,0 +1,206 @@
+//! A value in memory of its own: who gets it back, and that its memory is given back once.
+ghost use Rattle.std.specs.Prelude.{◌≡◌};
+ghost use Rattle.arc_owners.specs.count.Calls.{IsPassFor};
+ghost use Rattle.arc_owners.specs.memory.Boxes.{owner_in, value_of};
+
+use super::counted_box::CountedBox;
+use crate::count::tokens::Pass;
+use crate::error::AllocError;
+use crate::mark::{Open, Whole};
+use linked_list_allocator::LocalHeap;
+use std::alloc::Global;
+use std::test::Fail;
+use std::thread::{Threads, join};
+
+#[test]
+fn last_owner_gets_the_value(rt: HostRuntime) -> Result<(), Fail> {
+    let Ok((first, mut pass)) = CountedBox::<u64, _, 3, Open>::new(rt.alloc(), 7) else {
+        return Err(AllocError.into());
+    };
+    assert_eq!(rt; *first.get(), 7);
+    assert!(rt; first.is_unique_as(&mut pass));
+    let second = first.try_clone_as(&rt, &mut pass)?;
+    assert_eq!(rt; *second.get(), 7);
+    assert!(rt; !second.is_unique_as(&mut pass));
+    assert!(rt; first.release_as(&mut pass).is_none());
+    assert!(rt; second.is_unique_as(&mut pass));
+    assert_eq!(rt; *second.get(), 7);
+    assert_eq!(rt; second.release_as(&mut pass), Some(7));
+    Ok(())
+}
+
+#[test]
+fn taken_back_where_alone(rt: HostRuntime) -> Result<(), Fail> {
+    let Ok((first, mut pass)) = CountedBox::<u64, _, 3, Whole>::new(rt.alloc(), 7) else {
+        return Err(AllocError.into());
+    };
+    let second = first.try_clone_as(&rt, &mut pass)?;
+    let Err(first) = first.try_into_value_as(&mut pass) else {
+        return Err("beside another owner".into());
+    };
+    assert!(rt; second.release_as(&mut pass).is_none());
+    let Ok(value) = first.try_into_value_as(&mut pass) else {
+        return Err("alone".into());
+    };
+    assert_eq!(rt; value, 7);
+    Ok(())
+}
+
+#[test]
+fn fourth_owner_refused(rt: HostRuntime) -> Result<(), Fail> {
+    let Ok((first, mut pass)) = CountedBox::<u64, _, 3, Open>::new(rt.alloc(), 7) else {
+        return Err(AllocError.into());
+    };
+    let second = first.try_clone_as(&rt, &mut pass)?;
+    let third = second.try_clone_as(&rt, &mut pass)?;
+    assert!(rt; third.try_clone_as(&rt, &mut pass).is_err());
+    assert!(rt; first.release_as(&mut pass).is_none());
+    let fourth = third.try_clone_as(&rt, &mut pass)?;
+    assert_eq!(rt; *fourth.get(), 7);
+    Ok(())
+}
+
+/// The memory is taken once, stays while an owner lives, and is given back with the last one, in either order of ends.
+#[test]
+fn memory_given_back_once(rt: HostRuntime) -> Result<(), Fail> {
+    let heap = LocalHeap::new(rt.alloc(), 256)?;
+    let before = heap.used();
+    for order in 0..2u32 {
+        let Ok((first, mut pass)) = CountedBox::<u64, _, 3, Open>::new(&heap, 7) else {
+            return Err(AllocError.into());
+        };
+        let taken = heap.used();
+        assert!(rt; before < taken);
+        let second = first.try_clone_as(&rt, &mut pass)?;
+        assert_eq!(rt; heap.used(), taken);
+        let (early, late) = if order == 0 {
+            (first, second)
+        } else {
+            (second, first)
+        };
+        assert!(rt; early.release_as(&mut pass).is_none());
+        assert_eq!(rt; heap.used(), taken);
+        assert_eq!(rt; late.release_as(&mut pass), Some(7));
+        assert_eq!(rt; heap.used(), before);
+    }
+    Ok(())
+}
+
+#[test]
+fn value_handed_back_without_memory(rt: HostRuntime) -> Result<(), Fail> {
+    let heap = LocalHeap::new(rt.alloc(), 48)?;
+    let Ok((first, mut pass)) = CountedBox::<[u64; 3], _, 3, Open>::new(&heap, [1, 2, 3]) else {
+        return Err(AllocError.into());
+    };
+    let used = heap.used();
+    let Err(back) = CountedBox::<[u64; 3], _, 3, Open>::new(&heap, [4, 5, 6]) else {
+        return Err("two pieces in the room of one".into());
+    };
+    assert_eq!(rt; back, [4, 5, 6]);
+    assert_eq!(rt; heap.used(), used);
+    assert_eq!(rt; first.release_as(&mut pass), Some([1, 2, 3]));
+    Ok(())
+}
+
+/// Dropped under `Open`, an owner ends, and the last one gives the memory back.
+#[test]
+fn memory_given_back_by_drop(rt: HostRuntime) -> Result<(), Fail> {
+    let heap = LocalHeap::new(rt.alloc(), 256)?;
+    let before = heap.used();
+    let Ok((first, mut pass)) = CountedBox::<u64, _, 3, Open>::new(&heap, 7) else {
+        return Err(AllocError.into());
+    };
+    let taken = heap.used();
+    let second = first.try_clone_as(&rt, &mut pass)?;
+    drop(first);
+    assert_eq!(rt; heap.used(), taken);
+    assert_eq!(rt; *second.get(), 7);
+    drop(second);
+    assert_eq!(rt; heap.used(), before);
+    Ok(())
+}
+
+/// Dropped under `Whole`, an owner is forgotten: no other one is alone, or the last, and the memory stays taken.
+#[test]
+fn memory_kept_by_forgotten_owner(rt: HostRuntime) -> Result<(), Fail> {
+    let heap = LocalHeap::new(rt.alloc(), 256)?;
+    let before = heap.used();
+    let Ok((first, mut pass)) = CountedBox::<u64, _, 3, Whole>::new(&heap, 7) else {
+        return Err(AllocError.into());
+    };
+    let taken = heap.used();
+    assert!(rt; before < taken);
+    let second = first.try_clone_as(&rt, &mut pass)?;
+    drop(first);
+    assert!(rt; !second.is_unique_as(&mut pass));
+    assert!(rt; second.release_as(&mut pass).is_none());
+    assert_eq!(rt; heap.used(), taken);
+    Ok(())
+}
+
+/// Two owners end in two threads, each with a pass of its own: one of them gets the value, whichever is later.
+#[test]
+fn released_by_two_threads(rt: HostRuntime) -> Result<(), Fail> {
+    for round in 0..64u64 {
+        let Ok((first, mut pass)) = CountedBox::<u64, _, 3, Open>::new(rt.alloc(), round) else {
+            return Err(AllocError.into());
+        };
+        let second = first.try_clone_as(&rt, &mut pass)?;
+        let (one, two) = join(
+            &rt,
+            move || {
+                let mut pass = first.pass();
+                first.release_as(&mut pass)
+            },
+            move || {
+                let mut pass = second.pass();
+                second.release_as(&mut pass)
+            },
+        );
+        assert!(rt; one.is_some() != two.is_some(), "in round {round}");
+        assert_eq!(rt; one.or(two), Some(round));
+    }
+    Ok(())
+}
+
+/// Ends an owner with a pass of its own, and hands that back.
+fn ended(piece: CountedBox<u64, Global, 3, Open>) -> Pass<Open>
+    ensures { IsPassFor (owner_in piece) result }
+{
+    let mut pass = piece.pass();
+    piece.release_as(&mut pass);
+    pass
+}
+
+/// Two threads read through one owner, and one of them ends another one, whose pass is handed back.
+fn read_by_two<R: Threads>(
+    rt: &R,
+    first: &CountedBox<u64, Global, 3, Open>,
+    second: CountedBox<u64, Global, 3, Open>,
+) -> (u64, u64, Pass<Open>)
+    ensures values { (result.0 ≡ value_of first.now) × (result.1 ≡ value_of first.now) }
+    ensures pass { IsPassFor (owner_in second) result.2 }
+{
+    let (one, (two, pass)) = join(
+        rt,
+        || *first.get(),
+        || -> (u64, Pass<Open>)
+            ensures { (result.0 ≡ value_of first.entry.now) × IsPassFor (owner_in second) result.1 }
+        { (*first.get(), ended(second)) },
+    );
+    (one, two, pass)
+}
+
+#[test]
+fn read_in_another_thread(rt: HostRuntime) -> Result<(), Fail> {
+    let Ok((first, mut pass)) = CountedBox::<u64, _, 3, Open>::new(rt.alloc(), 7) else {
+        return Err(AllocError.into());
+    };
+    let second = first.try_clone_as(&rt, &mut pass)?;
+    assert!(rt; !first.is_unique_as(&mut pass));
+    let (one, two, other) = read_by_two(&rt, &first, second);
+    assert_eq!(rt; (one, two), (7, 7));
+    first.learn(&mut pass, &other);
+    assert!(rt; first.is_unique_as(&mut pass));
+    Ok(())
+}

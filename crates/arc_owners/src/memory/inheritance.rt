@@ -1,0 +1,69 @@
+//! What is kept for the end of a lease.
+ghost use Rattle.std.specs.Prelude.{◌≡◌, true};
+ghost use base.Fml.{finv};
+ghost use denote.RawPtr.{Ptr, coded_ptr};
+ghost use Rattle.std_alloc.specs.Box.Ownership.{box_owns};
+ghost use Rattle.arc_owners.specs.count.Invariant.{Lease, lease_coded, kept_for};
+
+use super::box_parts::BoxParts;
+use crate::count::tokens::LifetimeEnd;
+use crate::count::word::EndTokens;
+use std::alloc::Allocator;
+use std::marker::{Model, PhantomData};
+
+/// That what a box owns comes back at this place to whoever has the term of a lease. It has no bytes, and can be had again.
+pub struct Inheritance<T, A: Allocator> {
+    pub(crate) marker: PhantomData<(T, A)>,
+    pub ghost value: { T },
+    pub ghost alloc: { A },
+    pub ghost at: { Ptr } by { coded_ptr },
+    pub ghost lease: { Lease } by { lease_coded },
+}
+
+impl<T, A: Allocator> Model for Inheritance<T, A> {
+    ghost also_owns = { λ k. finv (kept_for (box_owns (A.dealloc_token k.alloc) T.row k.at k.value) k.lease) };
+
+    ghost also_shares = { λ k _ κ. finv (kept_for (box_owns (A.dealloc_token k.alloc) T.row k.at k.value) k.lease) };
+}
+
+impl<T, A: Allocator> Inheritance<T, A> {
+    /// The same again.
+    pub fn again(&self) -> Inheritance<T, A>
+        ensures { (result.value ≡ self.now.value) × (result.alloc ≡ self.now.alloc) × (result.at ≡ self.now.at) × (result.lease ≡ self.now.lease) }
+    {
+        Inheritance {
+            marker: PhantomData,
+        }
+    }
+
+    /// What was kept, for the term of the lease.
+    ///
+    /// # Safety
+    ///
+    /// It is kept at this place, with this allocator.
+    pub(crate) unsafe fn take(self, at: *mut T, alloc: A, term: LifetimeEnd) -> BoxParts<T, A>
+        requires { (at ≡ self.at) × (alloc ≡ self.alloc) × (term.spoils.lease ≡ self.lease) }
+        ensures { (result.value ≡ self.value) × (result.at ≡ at) × (result.alloc ≡ alloc) }
+    {
+        let mut spoils = term.spoils;
+        unsafe { self.take_by(at, alloc, &mut spoils) }
+    }
+
+    /// The same for what a term is made of, which is used up.
+    unsafe fn take_by(&self, at: *mut T, alloc: A, spoils: &mut EndTokens) -> BoxParts<T, A>
+        requires { (at ≡ self.now.at) × (alloc ≡ self.now.alloc) × (spoils.old.last ≡ true) × (spoils.old.lease ≡ self.now.lease) }
+        ensures { (result.value ≡ self.now.value) × (result.at ≡ at) × (result.alloc ≡ alloc) }
+    {
+        BoxParts { at, alloc }
+    }
+}
+
+impl<T, A: Allocator> Drop for Inheritance<T, A> {
+    fn drop(self) {
+        let Self { marker: _ } = self;
+    }
+}
+
+unsafe impl<T: Send, A: Allocator + Send> Send for Inheritance<T, A> {}
+
+unsafe impl<T: Send, A: Allocator + Send> Sync for Inheritance<T, A> {}

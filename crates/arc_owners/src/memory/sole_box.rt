@@ -1,0 +1,137 @@
+//! A value in memory of its own, whose only owner has that memory.
+ghost use Rattle.std.specs.Prelude.{◌≡◌};
+ghost use Rattle.std_alloc.specs.Box.{box_allocator};
+
+use super::counted_box::{CountedBox, Housed};
+use super::inner::Inner;
+use crate::count::tokens::{Owners, Pass, Sole};
+use crate::mark::{Mark, Open, Stepping};
+use std::alloc::Allocator;
+use std::marker::PhantomData;
+use std::mem::forget;
+
+/// The only owner of a value, who has the memory in which it lies, next to the word that counts the owners. `MAX` is the greatest count.
+///
+/// Dropped, it ends with a new pass under the mark `Open`. Under `Whole` it is a forgotten owner: the memory stays for good.
+pub struct SoleBox<V: Drop, A: Allocator + Copy, const MAX: u64, H: Mark = Open> {
+    pub(crate) memory: Box<Inner<Housed<V, A>>, A>,
+    pub(crate) sole: Sole<H>,
+    ghost greatest: { memory.value.word.most ≡ MAX },
+    ghost counted: { sole.right.block ≡ memory.value.word },
+    ghost homed: { box_allocator memory ≡ memory.value.value.alloc },
+}
+
+impl<V: Drop, A: Allocator + Copy, const MAX: u64, H: Mark> SoleBox<V, A, MAX, H> {
+    ghost use Rattle.std.specs.Prelude.{◌≡◌, ◌≤◌, IfOk, IfErr, IfSome, is_some, true, false, None};
+    ghost use Rattle.arc_owners.specs.history.Histories.{LivesAlone};
+    ghost use Rattle.arc_owners.specs.count.Calls.{IsPassFor, IsPassOfNone, IsFirst, IsFreshPass, Learns, Leaves, SeesAlone, EndsByItself, EndsWithoutStep, seen, history_of};
+    ghost use Rattle.arc_owners.specs.memory.Boxes.{owner_in, value_of};
+    ghost use Rattle.arc_owners.specs.memory.SoleBoxes.{sole_in, sole_value};
+
+    /// The first and only owner of a value, with a pass of its block. Takes memory, for the value and the count together; refused, the
+    /// value comes back. `MAX`, at least 2, is how many owners may live at once.
+    pub fn new(alloc: A, value: V) -> Result<(Self, Pass<H>), V>
+        requires { 2 ≤ MAX }
+        ensures made { IfOk result (λ r. IsFirst MAX H.whole (sole_in r.0) × (sole_value r.0 ≡ value)) }
+        ensures pass { IfOk result (λ r. IsFreshPass (sole_in r.0) r.1) }
+        ensures alone { IfOk result (λ r. LivesAlone (sole_in r.0).number (seen r.1)) }
+        ensures refused { IfErr result (λ back. back ≡ value) }
+    {
+        let (owners, sole, pass) = Owners::<MAX, H>::new_sole();
+        let Owners { word, mark: _ } = owners;
+        let value = Housed { value, alloc };
+        match Box::new(alloc, Inner { word, value }) {
+            Ok(memory) => Ok((SoleBox { memory, sole }, pass)),
+            Err(refused) => {
+                let Inner { word: _, value } = refused.value;
+                Err(value.value)
+            }
+        }
+    }
+
+    /// The value.
+    pub fn get(&self) -> &V
+        ensures { result.now ≡ sole_value self.now }
+    {
+        &self.memory.as_ref().value.value
+    }
+
+    /// Shows a pass the block's whole history so far, in which no other owner lives. It adds no entry and takes no memory.
+    pub fn only(&self, pass: &mut Pass<H>)
+        requires pass { IsPassFor (sole_in self.now) pass.old }
+        ensures { SeesAlone (sole_in self.now) pass.old pass.new }
+    {
+        self.sole.only(pass);
+    }
+
+    /// Lends the value anew, under the same history: the same owner of the same value. It adds no entry and takes no memory.
+    pub fn lend(self) -> CountedBox<V, A, MAX, H>
+        ensures same { (owner_in result ≡ sole_in self) × (value_of result ≡ sole_value self) }
+    {
+        let SoleBox { memory, sole } = self;
+        CountedBox::settled(memory, sole.lend())
+    }
+
+    /// The value, and the memory to its allocator. Adds the Down of this owner, the last one, without a step. Takes no memory.
+    pub fn into_value_as(self, pass: &mut Pass<H>) -> V
+        requires pass { IsPassFor (sole_in self) pass.old }
+        ensures entry { Leaves (sole_in self) pass.old pass.new true }
+        ensures step { EndsWithoutStep (sole_in self).block (history_of pass.new) }
+        ensures value { result ≡ sole_value self }
+    {
+        let SoleBox { memory, sole } = self;
+        let Inner { word: _, value } = Box::into_inner(memory);
+        sole.end_as(pass);
+        value.value
+    }
+
+    /// What a drop does: under `Open` this owner ends with a new pass, and the value comes out; under `Whole` it is forgotten, with the
+    /// value and the memory. Takes no memory.
+    /// The pass is the one that the owner ended with; under `Whole` it is of no block.
+    #[tactic(auto, using(crate::proofs::count::Calls::ended_by_itself))]
+    pub fn let_go(self) -> (Option<V>, Pass<H>)
+        ensures value { IfSome result.0 (λ value. value ≡ sole_value self) }
+        ensures forgotten { H.whole ≡ true → (result.0 ≡ None) × IsPassOfNone result.1 }
+        ensures ended { H.whole ≡ false → (is_some result.0 ≡ true) × EndsByItself (sole_in self) result.1 true }
+    {
+        let SoleBox { memory, sole } = self;
+        let (ended, trace) = H::let_go_sole(sole.right);
+        let pass = Pass {
+            trace,
+            mark: PhantomData,
+        };
+        if !ended {
+            forget(memory);
+            return (None, pass);
+        }
+        let Inner { word: _, value } = Box::into_inner(memory);
+        (Some(value.value), pass)
+    }
+
+    /// Afterwards the first pass has seen at least what the other had. It adds no entry and takes no memory.
+    pub fn learn(&self, pass: &mut Pass<H>, other: &Pass<H>)
+        requires pass { IsPassFor (sole_in self.now) pass.old }
+        requires other { IsPassFor (sole_in self.now) other.now }
+        ensures { Learns (sole_in self.now).block pass.old other.now pass.new }
+    {
+        pass.learn(other);
+    }
+}
+
+impl<V: Drop, A: Allocator + Copy, const MAX: u64, H: Stepping> SoleBox<V, A, MAX, H> {
+    ghost use Rattle.arc_owners.specs.count.Calls.{IsNewPass};
+    ghost use Rattle.arc_owners.specs.memory.SoleBoxes.{sole_in};
+
+    /// A new pass, which has seen at least the entry that made this owner, and made nothing. It adds no entry and takes no memory.
+    pub fn pass(&self) -> Pass<H>
+        ensures { IsNewPass (sole_in self.now) result }
+    {
+        self.sole.pass()
+    }
+}
+
+impl<V: Drop, A: Allocator + Copy, const MAX: u64, H: Mark> Drop for SoleBox<V, A, MAX, H> {
+    fn drop(self) {
+        drop(self.let_go());
+    }
+}

@@ -1,0 +1,114 @@
+//! A value whose only owner has its memory: taken back, lent anew, and given back once on each path.
+use super::counted_box::CountedBox;
+use super::sole_box::SoleBox;
+use crate::error::AllocError;
+use crate::mark::{Open, Whole};
+use linked_list_allocator::LocalHeap;
+use std::test::Fail;
+use std::thread::join;
+
+/// Taken back beside another owner it is refused; alone it is the same value, lent anew, cloned and read.
+#[test]
+fn taken_back_and_lent_anew(rt: HostRuntime) -> Result<(), Fail> {
+    let heap = LocalHeap::new(rt.alloc(), 256)?;
+    let before = heap.used();
+    let Ok((first, mut pass)) = CountedBox::<u64, _, 3, Whole>::new(&heap, 7) else {
+        return Err(AllocError.into());
+    };
+    let taken = heap.used();
+    let second = first.try_clone_as(&rt, &mut pass)?;
+    let Err(first) = first.try_into_sole_as(&mut pass) else {
+        return Err("beside another owner".into());
+    };
+    assert!(rt; second.release_as(&mut pass).is_none());
+    let Ok(sole) = first.try_into_sole_as(&mut pass) else {
+        return Err("alone".into());
+    };
+    assert_eq!(rt; *sole.get(), 7);
+    sole.only(&mut pass);
+    let first = sole.lend();
+    let second = first.try_clone_as(&rt, &mut pass)?;
+    assert_eq!(rt; heap.used(), taken);
+    assert_eq!(rt; *second.get(), 7);
+    assert!(rt; first.release_as(&mut pass).is_none());
+    let Ok(sole) = second.try_into_sole_as(&mut pass) else {
+        return Err("alone again".into());
+    };
+    assert_eq!(rt; heap.used(), taken);
+    assert_eq!(rt; sole.into_value_as(&mut pass), 7);
+    assert_eq!(rt; heap.used(), before);
+    Ok(())
+}
+
+#[test]
+fn sole_from_the_beginning(rt: HostRuntime) -> Result<(), Fail> {
+    let heap = LocalHeap::new(rt.alloc(), 256)?;
+    let before = heap.used();
+    let Ok((sole, mut pass)) = SoleBox::<u64, _, 3, Open>::new(&heap, 7) else {
+        return Err(AllocError.into());
+    };
+    assert_eq!(rt; *sole.get(), 7);
+    let first = sole.lend();
+    assert!(rt; first.is_unique_as(&mut pass));
+    assert_eq!(rt; first.release_as(&mut pass), Some(7));
+    assert_eq!(rt; heap.used(), before);
+    Ok(())
+}
+
+#[test]
+fn value_handed_back_without_memory(rt: HostRuntime) -> Result<(), Fail> {
+    let heap = LocalHeap::new(rt.alloc(), 48)?;
+    let Ok((sole, mut pass)) = SoleBox::<[u64; 3], _, 3, Open>::new(&heap, [1, 2, 3]) else {
+        return Err(AllocError.into());
+    };
+    let Err(back) = SoleBox::<[u64; 3], _, 3, Open>::new(&heap, [4, 5, 6]) else {
+        return Err("two values in the room of one".into());
+    };
+    assert_eq!(rt; back, [4, 5, 6]);
+    assert_eq!(rt; sole.into_value_as(&mut pass), [1, 2, 3]);
+    Ok(())
+}
+
+/// Dropped under `Open` it gives the memory back; under `Whole` it is forgotten, with the memory.
+#[test]
+fn memory_after_a_drop(rt: HostRuntime) -> Result<(), Fail> {
+    let heap = LocalHeap::new(rt.alloc(), 256)?;
+    let before = heap.used();
+    let Ok((open, _pass)) = SoleBox::<u64, _, 3, Open>::new(&heap, 7) else {
+        return Err(AllocError.into());
+    };
+    let taken = heap.used();
+    assert!(rt; before < taken);
+    drop(open);
+    assert_eq!(rt; heap.used(), before);
+    let Ok((whole, _pass)) = SoleBox::<u64, _, 3, Whole>::new(&heap, 7) else {
+        return Err(AllocError.into());
+    };
+    drop(whole);
+    assert_eq!(rt; heap.used(), taken);
+    Ok(())
+}
+
+/// It goes to another thread, which ends it with a pass of its own.
+#[test]
+fn ended_in_another_thread(rt: HostRuntime) -> Result<(), Fail> {
+    let Ok((one, _pass)) = SoleBox::<u64, _, 3, Open>::new(rt.alloc(), 7) else {
+        return Err(AllocError.into());
+    };
+    let Ok((two, _pass)) = SoleBox::<u64, _, 3, Open>::new(rt.alloc(), 8) else {
+        return Err(AllocError.into());
+    };
+    let (seven, eight) = join(
+        &rt,
+        move || {
+            let mut pass = one.pass();
+            one.into_value_as(&mut pass)
+        },
+        move || {
+            let mut pass = two.pass();
+            two.into_value_as(&mut pass)
+        },
+    );
+    assert_eq!(rt; (seven, eight), (7, 8));
+    Ok(())
+}
