@@ -171,11 +171,11 @@ fn alone_after_end<R: Threads>(
         rt,
         || -> Pass<Open>
             requires { IsOwnerOf (block_of owners.now) second × IsPassOf (block_of owners.now) other }
-            ensures { IsSamePass (block_of history.entry.now) other result × Contains (seen result) (Down (owner_of second).number) }
+            ensures { IsSamePass (block_of owners.entry.now) other result × Contains (seen result) (Down (owner_of second).number) }
         { ended(owners, second, other) },
         || -> Pass<Open>
             requires { IsOwnerOf (block_of owners.now) first.now × IsPassOf (block_of owners.now) own }
-            ensures { IsSamePass (block_of history.entry.now) own result }
+            ensures { IsSamePass (block_of owners.entry.now) own result }
         { looked(owners, first, own) },
     );
     owners.learn(&mut own, &other);

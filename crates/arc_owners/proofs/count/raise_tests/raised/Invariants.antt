@@ -4,4 +4,4 @@ use Rattle.arc_owners.specs.count.Steps.{IsOf}
 use Rattle.arc_owners.proofs.count.raise_tests.raised.Given as goal
 
 abbrev pub invariant-loop : goal.invariant-loop
-invariant-loop g l = (l.first.right.block ≡ l.count.word) × IsOf l.count.word l.pass.trace × HasCountIn l.count.word []
+invariant-loop g l = (l.first.right.block ≡ l.owners.word) × IsOf l.owners.word l.pass.trace × HasCountIn l.owners.word []
