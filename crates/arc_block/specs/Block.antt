@@ -15,7 +15,8 @@ pub data Sort : Type 0 where
   -- the language's `Arc` of a caller's buffer
   raw : Sort
 
--- what is known of a block: its sort, its places, how many of them are full where that is counted, and its metadata
+-- what is known of a block: its sort, its places, how many of them are full where that is counted,
+-- and its metadata
 pub record BlockInfo (M : Type 0) : Type 0 where
   pub sort : Sort
   pub size : ℕ
@@ -28,9 +29,15 @@ full_places drops full = if drops then Some full else None
 
 -- a native block of this many places, all of which are full
 abbrev pub native_facts : {M : Type 0} → Bool → ℕ → BlockInfo M
-native_facts drops size = record { sort = native; size = size; full = full_places drops size; metadata = None }
+native_facts drops size = record {
+  sort = native;
+  size = size;
+  full = full_places drops size;
+  metadata = None;
+}
 
--- what is seen of a block through one of its owners: who that is, the items, and what is known of the block
+-- what is seen of a block through one of its owners: who that is, the items, and what is known of
+-- the block
 pub record BlockView (T M : Type 0) : Type 0 where
   pub owner : Owner
   pub items : List T
@@ -38,11 +45,24 @@ pub record BlockView (T M : Type 0) : Type 0 where
 
 -- a native block of these items, with a place for each
 abbrev pub native_block : {T M : Type 0} → Bool → Owner → List T → BlockView T M
-native_block drops owner items = record { owner = owner; items = items; facts = native_facts drops (length items) }
+native_block drops owner items = record {
+  owner = owner;
+  items = items;
+  facts = native_facts drops (length items);
+}
 
 -- a native block whose items lie in this vector
 abbrev pub held_in : {T M A : Type 0} → Bool → Owner → Vec T A → BlockView T M
-held_in drops owner v = record { owner = owner; items = v.items; facts = record { sort = native; size = vec_capacity v; full = full_places drops (length v.items); metadata = None } }
+held_in drops owner v = record {
+  owner = owner;
+  items = v.items;
+  facts = record {
+    sort = native;
+    size = vec_capacity v;
+    full = full_places drops (length v.items);
+    metadata = None;
+  };
+}
 
 -- an owner of a block that so many owners may have at once, under a mark
 pub record IsLimited (greatest : ℕ) (one_pass : Bool) (o : Owner) : Type 0 where

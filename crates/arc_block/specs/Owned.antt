@@ -1,10 +1,13 @@
--- Windows and the histories of their blocks, under the mark `Whole`, where each block has one pass: how they belong together.
-use Rattle.std.specs.Prelude.{◌≡◌, ℕ, ◌<◌, ◌==◌, true, List, length, Option, Some, None, filter_map, slice_get, if◌then◌else◌}
+-- Windows and the histories of their blocks, under the mark `Whole`, where each block has one pass:
+-- how they belong together.
+use Rattle.std.specs.Prelude.{◌≡◌, ℕ, ◌<◌, ◌==◌, true, List, length, Option, Some, None, filter_map}
+use Rattle.std.specs.Prelude.{slice_get, if◌then◌else◌}
 use Rattle.arc_owners.specs.declared.count.tokens.Pass.{Pass}
 use Rattle.arc_owners.specs.history.Histories.{live_owners}
 use Rattle.arc_owners.specs.count.Calls.{Owner, IsPassFor, seen}
 
--- where a window stands: on the block with this number, as this owner. None for a window that is on no block, or has gone
+-- where a window stands: on the block with this number, as this owner. None for a window that is on
+-- no block, or has gone
 abbrev pub Stand : Type 0
 Stand = Option (ℕ × Owner)
 
@@ -26,7 +29,8 @@ module _ {H : Type 0} where
 
   -- the block with this number has its pass, and it is the block of this owner
   abbrev pub HasPass : List (Pass H) → ℕ → Owner → Type 0
-  HasPass passes n o = (n < length passes) × ((p : Pass H) → slice_get passes n ≡ Some p → IsPassFor o p)
+  HasPass passes n o = (n < length passes)
+      × ((p : Pass H) → slice_get passes n ≡ Some p → IsPassFor o p)
 
   -- the stands of the windows, and the passes of the blocks by their numbers, belong together
   pub record IsKept (greatest : ℕ) (stands : List Stand) (passes : List (Pass H)) : Type 0 where
@@ -35,4 +39,5 @@ module _ {H : Type 0} where
     -- each pass is that of a block under `Whole`
     pub passes_fit : (n : ℕ) (p : Pass H) → slice_get passes n ≡ Some p → IsBlockPass greatest p
     -- the live owners of each block's history are its windows
-    pub live : (n : ℕ) (p : Pass H) → slice_get passes n ≡ Some p → live_owners (seen p) ≡ owners_on n stands
+    pub live : (n : ℕ) (p : Pass H) → slice_get passes n ≡ Some p
+        → live_owners (seen p) ≡ owners_on n stands

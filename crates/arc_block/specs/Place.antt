@@ -1,8 +1,10 @@
 -- Places: where a window stands, and what is seen of a window.
-use Rattle.std.specs.Prelude.{ℕ, ◌+◌, Bool, ◌&&◌, ◌==◌, if◌then◌else◌, Option, Some, None, List, length}
+use Rattle.std.specs.Prelude.{ℕ, ◌+◌, Bool, ◌&&◌, ◌==◌, if◌then◌else◌, Option, Some, None, List}
+use Rattle.std.specs.Prelude.{length}
 use Rattle.arc_block.specs.Block.{BlockInfo}
 
--- A window stands on nothing, on a static slice, or on a block at an offset. N is what a block goes by.
+-- A window stands on nothing, on a static slice, or on a block at an offset. N is what a block goes
+-- by.
 pub data Place (N M : Type 0) : Type 0 where
   nowhere : Place N M
   static_data : Place N M
@@ -24,7 +26,8 @@ moved by nowhere = nowhere
 moved by static_data = static_data
 moved by (on_block block offset facts) = on_block block (offset + by) facts
 
--- the empty rule: under a layout with static data a window that is made with no items stands on nothing
+-- the empty rule: under a layout with static data a window that is made with no items stands on
+-- nothing
 abbrev pub empty_rule : {T N M : Type 0} → Bool → List T → Place N M → Place N M
 empty_rule has_static items place = if has_static && (length items == 0) then nowhere else place
 
@@ -37,7 +40,8 @@ abbrev pub part_place : {T N M : Type 0} → Bool → List T → ℕ → Place N
 part_place has_static items start place = empty_rule has_static items (moved start place)
 
 module _ {O M : Type 0} where
-  -- What holds of the owner that stands at a place. None stands where there is no block, nor on one that counts no owners.
+  -- What holds of the owner that stands at a place. None stands where there is no block, nor on one
+  -- that counts no owners.
   abbrev pub at_owner : Place (Option O) M → Type 0 → (O → Type 0) → Type 0
   at_owner nowhere none some = none
   at_owner static_data none some = none

@@ -1,5 +1,6 @@
 -- The table of lists: every window has a number and a list of its own.
-use Rattle.std.specs.Prelude.{◌≡◌, ℕ, ◌==◌, Bool, false, List, [], length, Option, Some, None, filter, slice_get}
+use Rattle.std.specs.Prelude.{◌≡◌, ℕ, ◌==◌, Bool, false, List, [], length, Option, Some, None}
+use Rattle.std.specs.Prelude.{filter, slice_get}
 use Rattle.std.specs.Option.{option_flatten, option_map_or}
 use Rattle.arc_block.specs.Place.{Place, nowhere, static_data, on_block}
 

@@ -1,7 +1,8 @@
 //! Blocks: memory that stays where it is while a window stands on it.
 ghost use Rattle.std.specs.Prelude.{◌≡◌, ◌≤◌, ◌↔◌, length, false, IsTrue, IfOk, IfErr};
 ghost use Rattle.std.specs.Vec.{vec_capacity, vec_len};
-ghost use Rattle.arc_owners.specs.count.Calls.{IsFirst, IsPassFor, IsFreshPass, IsNewPass, Learns, Asks, FindsFull, MakesAnother, Leaves, TakesBlock};
+ghost use Rattle.arc_owners.specs.count.Calls.{IsFirst, IsPassFor, IsFreshPass, IsNewPass, Learns};
+ghost use Rattle.arc_owners.specs.count.Calls.{Asks, FindsFull, MakesAnother, Leaves, TakesBlock};
 ghost use Rattle.arc_block.specs.Block.{native, native_block, IsLimited};
 
 use arc_buffer::kinds::Slice;
@@ -22,9 +23,11 @@ pub fn max_owners() -> u64
     MAX_OWNERS
 }
 
-/// An owner of a block, which at most `MAX` owners share. The block is given back with its last owner.
+/// An owner of a block, which at most `MAX` owners share. The block is given back with its last
+/// owner.
 ///
-/// Dropped, it ends with a new pass under the mark `Open`. Under `Whole` it is a forgotten owner: the block stays for good.
+/// Dropped, it ends with a new pass under the mark `Open`. Under `Whole` it is a forgotten owner:
+/// the block stays for good.
 pub struct Block<S: Slice, A: Allocator + Copy, const MAX: u64, H: Mark = Open> {
     piece: CountedBox<Vec<S::Item, A>, A, MAX, H>,
 }
@@ -47,7 +50,8 @@ impl<S: Slice, A: Allocator + Copy, const MAX: u64, H: Mark> Drop for Block<S, A
     }
 }
 
-/// A vector with a copy of the items, and a place for each. Takes memory; refused, the answer is `AllocError`.
+/// A vector with a copy of the items, and a place for each. Takes memory; refused, the answer is
+/// `AllocError`.
 fn copied<T: Copy, A: Allocator>(alloc: A, items: &[T]) -> Result<Vec<T, A>, AllocError>
     ensures { IfOk result (λ v. (v.items ≡ items.now) × (vec_capacity v ≡ length items.now)) }
 {
@@ -69,7 +73,8 @@ fn array_of<T: Drop, A: Allocator, const N: usize>(items: Vec<T, A>) -> [T; N]
     }
 }
 
-/// A vector with the items of an array, and a place for each. Takes memory; refused, the array comes back.
+/// A vector with the items of an array, and a place for each. Takes memory; refused, the array
+/// comes back.
 fn moved<T: Drop, A: Allocator + Copy, const N: usize>(
     alloc: A,
     array: [T; N],
@@ -95,7 +100,8 @@ fn moved<T: Drop, A: Allocator + Copy, const N: usize>(
 }
 
 impl<S: Slice, A: Allocator + Copy, const MAX: u64, H: Mark> Block<S, A, MAX, H> {
-    /// The first owner of a new native block with the items of a vector that has exactly a place for each, with a pass of the block.
+    /// The first owner of a new native block with the items of a vector that has exactly a place
+    /// for each, with a pass of the block.
     ///
     /// Takes memory; refused, the vector comes back. `MAX` is at least 2.
     pub fn try_from_exact(
@@ -104,7 +110,8 @@ impl<S: Slice, A: Allocator + Copy, const MAX: u64, H: Mark> Block<S, A, MAX, H>
     ) -> Result<(Self, Pass<H>), Vec<S::Item, A>>
         requires most { 2 ≤ MAX }
         requires exact { vec_capacity items ≡ length items.items }
-        ensures made { IfOk result (λ r. (r.0 ≡ native_block S.DROPS r.0.owner items.items) × IsFirst MAX H.whole r.0.owner) }
+        ensures made { IfOk result (λ r. (r.0 ≡ native_block S.DROPS r.0.owner items.items)
+            × IsFirst MAX H.whole r.0.owner) }
         ensures pass { IfOk result (λ r. IsFreshPass r.0.owner r.1) }
         ensures refused { IfErr result (λ back. back ≡ items) }
     {
@@ -112,14 +119,16 @@ impl<S: Slice, A: Allocator + Copy, const MAX: u64, H: Mark> Block<S, A, MAX, H>
         Ok((Block { piece }, pass))
     }
 
-    /// The first owner of a new native block with a copy of the items, and exactly a place for each, with a pass of the block.
+    /// The first owner of a new native block with a copy of the items, and exactly a place for
+    /// each, with a pass of the block.
     ///
     /// Takes memory; refused, the answer is `AllocError`. `MAX` is at least 2.
     pub fn try_from_slice(alloc: A, items: &[S::Item]) -> Result<(Self, Pass<H>), AllocError>
     where
         S::Item: Copy,
         requires { 2 ≤ MAX }
-        ensures made { IfOk result (λ r. (r.0 ≡ native_block S.DROPS r.0.owner items.now) × IsFirst MAX H.whole r.0.owner) }
+        ensures made { IfOk result (λ r. (r.0 ≡ native_block S.DROPS r.0.owner items.now)
+            × IsFirst MAX H.whole r.0.owner) }
         ensures pass { IfOk result (λ r. IsFreshPass r.0.owner r.1) }
     {
         match Self::try_from_exact(alloc, copied(alloc, items)?) {
@@ -128,7 +137,8 @@ impl<S: Slice, A: Allocator + Copy, const MAX: u64, H: Mark> Block<S, A, MAX, H>
         }
     }
 
-    /// The first owner of a new native block with the items of an array, and exactly a place for each, with a pass of the block.
+    /// The first owner of a new native block with the items of an array, and exactly a place for
+    /// each, with a pass of the block.
     ///
     /// Takes memory; refused, the array comes back. `MAX` is at least 2.
     pub fn try_from_array<const N: usize>(
@@ -136,7 +146,8 @@ impl<S: Slice, A: Allocator + Copy, const MAX: u64, H: Mark> Block<S, A, MAX, H>
         array: [S::Item; N],
     ) -> Result<(Self, Pass<H>), [S::Item; N]>
         requires { 2 ≤ MAX }
-        ensures made { IfOk result (λ r. (r.0 ≡ native_block S.DROPS r.0.owner array) × IsFirst MAX H.whole r.0.owner) }
+        ensures made { IfOk result (λ r. (r.0 ≡ native_block S.DROPS r.0.owner array)
+            × IsFirst MAX H.whole r.0.owner) }
         ensures pass { IfOk result (λ r. IsFreshPass r.0.owner r.1) }
         ensures refused { IfErr result (λ back. back ≡ array) }
     {
@@ -147,13 +158,16 @@ impl<S: Slice, A: Allocator + Copy, const MAX: u64, H: Mark> Block<S, A, MAX, H>
         }
     }
 
-    /// One owner more of the same block, through this one. Adds Up. Takes no memory and copies no item.
+    /// One owner more of the same block, through this one. Adds Up. Takes no memory and copies no
+    /// item.
     ///
     /// `CountFull` exactly where `MAX` owners live, which adds Full.
     pub fn try_share_as(&self, rt: &impl Wait, pass: &mut Pass<H>) -> Result<Self, CountFull>
         requires pass { IsPassFor self.now.owner pass.old }
-        ensures made { IfOk result (λ other. MakesAnother self.now.owner pass.old pass.new other.owner) }
-        ensures alike { IfOk result (λ other. (other.items ≡ self.now.items) × (other.facts ≡ self.now.facts)) }
+        ensures made { IfOk result (λ other.
+            MakesAnother self.now.owner pass.old pass.new other.owner) }
+        ensures alike { IfOk result (λ other. (other.items ≡ self.now.items)
+            × (other.facts ≡ self.now.facts)) }
         ensures full { IfErr result (λ _. FindsFull self.now.owner pass.old pass.new) }
     {
         Ok(Block {
@@ -203,12 +217,14 @@ impl<S: Slice, A: Allocator + Copy, const MAX: u64, H: Mark> Block<S, A, MAX, H>
         self.piece.is_unique_as(pass)
     }
 
-    /// The items, taken out of the block, where no other owner lives: adds Alone, then the Down of this one. Else it is handed back,
-    /// and Alone was added with no. Takes no memory.
+    /// The items, taken out of the block, where no other owner lives: adds Alone, then the Down of
+    /// this one. Else it is handed back, and Alone was added with no. Takes no memory.
     pub fn try_into_items_as(self, pass: &mut Pass<H>) -> Result<Vec<S::Item, A>, Self>
         requires pass { IsPassFor self.owner pass.old }
-        ensures alone { IfOk result (λ items. (items.items ≡ self.items) × (vec_capacity items ≡ self.facts.size) × TakesBlock self.owner pass.old pass.new) }
-        ensures others { IfErr result (λ back. (back ≡ self) × Asks self.owner pass.old pass.new false) }
+        ensures alone { IfOk result (λ items. (items.items ≡ self.items)
+            × (vec_capacity items ≡ self.facts.size) × TakesBlock self.owner pass.old pass.new) }
+        ensures others { IfErr result (λ back. (back ≡ self)
+            × Asks self.owner pass.old pass.new false) }
     {
         let Block { piece } = self;
         match piece.try_into_value_as(pass) {
@@ -217,8 +233,8 @@ impl<S: Slice, A: Allocator + Copy, const MAX: u64, H: Mark> Block<S, A, MAX, H>
         }
     }
 
-    /// Ends this owner by one subtraction, and answers whether it was the last one: then the block is given back. Adds its Down. Takes
-    /// no memory.
+    /// Ends this owner by one subtraction, and answers whether it was the last one: then the block
+    /// is given back. Adds its Down. Takes no memory.
     pub fn release_as(self, pass: &mut Pass<H>) -> bool
         requires pass { IsPassFor self.owner pass.old }
         ensures entry { Leaves self.owner pass.old pass.new result }
@@ -233,7 +249,8 @@ impl<S: Slice, A: Allocator + Copy, const MAX: u64, H: Mark> Block<S, A, MAX, H>
         }
     }
 
-    /// Afterwards the first pass has seen at least what the other had. It adds no entry and takes no memory.
+    /// Afterwards the first pass has seen at least what the other had. It adds no entry and takes
+    /// no memory.
     pub fn learn(&self, pass: &mut Pass<H>, other: &Pass<H>)
         requires pass { IsPassFor self.now.owner pass.old }
         requires other { IsPassFor self.now.owner other.now }
@@ -255,7 +272,8 @@ impl<S: Slice, A: Allocator + Copy, const MAX: u64, H: Mark> Block<S, A, MAX, H>
 }
 
 impl<S: Slice, A: Allocator + Copy, const MAX: u64, H: Stepping> Block<S, A, MAX, H> {
-    /// A new pass, which has seen at least the entry that made this owner, and made nothing. It adds no entry and takes no memory.
+    /// A new pass, which has seen at least the entry that made this owner, and made nothing. It
+    /// adds no entry and takes no memory.
     pub fn pass(&self) -> Pass<H>
         ensures { IsNewPass self.now.owner result }
     {

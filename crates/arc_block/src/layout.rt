@@ -19,8 +19,8 @@ pub trait StaticLayout: Layout {
     ghost has_static: { Self.STATIC ≡ true };
 }
 
-/// The default layout: a window stands on a counted block. `ANY` says whether that may be a vector or a buffer of the
-/// caller's, `STATIC` whether windows may stand on nothing, or on static data.
+/// The default layout: a window stands on a counted block. `ANY` says whether that may be a vector
+/// or a buffer of the caller's, `STATIC` whether windows may stand on nothing, or on static data.
 #[derive(Clone, Copy, Debug, PartialEq, Eq)]
 pub struct ArcLayout<const ANY: bool, const STATIC: bool>;
 
@@ -39,8 +39,8 @@ impl<const ANY: bool> StaticLayout for ArcLayout<ANY, true> {
 /// The layout of windows that name none.
 pub type DefaultLayout = ArcLayout<true, true>;
 
-/// Whether a window that is made with `len` items stands on nothing: one with none does, where the layout has static
-/// data.
+/// Whether a window that is made with `len` items stands on nothing: one with none does, where the
+/// layout has static data.
 pub fn stands_on_nothing<L: Layout>(len: usize) -> bool
     ensures { result ≡ (L.STATIC && (len == 0)) }
 {

@@ -1,70 +1,109 @@
 -- Laws of the kinds: that their lists may be cut as the traits promise.
-use Rattle.std.proofs.Common.{◌≡◌, ℕ, ◌+◌, ◌-◌, ◌<◌, ◌≤◌, not, ◌||◌, ◌==◌, IsTrue, List, length, take, drop, replicate, slice_index, sym, ap, ◌∙◌, subst, refl, length-drop, suc, inl, inr, arith}
+use Rattle.std.proofs.Common.{◌≡◌, ℕ, ◌+◌, ◌-◌, ◌<◌, ◌≤◌, not, ◌||◌, ◌==◌, IsTrue, List, length}
+use Rattle.std.proofs.Common.{take, drop, replicate, slice_index, sym, ap, ◌∙◌, subst, refl}
+use Rattle.std.proofs.Common.{length-drop, suc, inl, inr, arith}
 use Rattle.std.proofs.lemmas.Bool.{eq-eqb}
 use Rattle.std.proofs.lemmas.Bool.Decides.{nat_tests, eqb_tells, leb_tells}
 use Rattle.std.specs.Str.{IsUtf8, IsCharBoundary}
-use Rattle.std.proofs.lemmas.Str.{IsCharBoundary-start, IsCharBoundary-end, IsCharBoundary-from_drop, IsUtf8-take, IsUtf8-drop, IsUtf8-between, IsUtf8-from_ascii}
+use Rattle.std.proofs.lemmas.Str.{IsCharBoundary-start, IsCharBoundary-end}
+use Rattle.std.proofs.lemmas.Str.{IsCharBoundary-from_drop, IsUtf8-take, IsUtf8-drop}
+use Rattle.std.proofs.lemmas.Str.{IsUtf8-between, IsUtf8-from_ascii}
 use Rattle.arc_buffer.specs.Slice.{sub, anywhere, IsEdge, IsRange}
 use Rattle.arc_buffer.specs.Text.{continues, is_between_characters, CutsIntoTexts}
-use Rattle.std.proofs.lemmas.List.{drop-take, length-take-le, get_or-take, get_or-drop, get_or-replicate, get_or_past, length-replicate}
+use Rattle.std.proofs.lemmas.List.{drop-take, length-take-le, get_or-take, get_or-drop}
+use Rattle.std.proofs.lemmas.List.{get_or-replicate, get_or_past, length-replicate}
 
 -- a part is what `&xs[start..end]` is
-pub sub-slice_range : {T : Type 0} (xs : List T) (start end : ℕ) → start ≤ end → sub xs start end ≡ take (end - start) (drop start xs)
+pub sub-slice_range : {T : Type 0} (xs : List T) (start end : ℕ) → start ≤ end
+    → sub xs start end ≡ take (end - start) (drop start xs)
 sub-slice_range xs start end ordered =
     let h : end ≡ start + (end - start) = omega arith in
     ap (λ n. drop start (take n xs)) h ∙ drop-take start (end - start) xs
 
 -- a list that may be cut anywhere may be cut at both ends
-pub anywhere_at_ends : {T : Type 0} (xs : List T) → IsEdge anywhere xs 0 × IsEdge anywhere xs (length xs)
-anywhere_at_ends xs = (record { within = omega arith; cuts = refl }, record { within = omega arith; cuts = refl })
-
--- between characters is where the language says that one begins, or the text ends
-pub between_from_boundary : (text : List ℕ) (at : ℕ) → IsCharBoundary text at → IsTrue (is_between_characters text at)
-between_from_boundary text at b = grind (arith, nat_tests)
-
-pub boundary_from_between : (text : List ℕ) (at : ℕ) → at ≤ length text → IsTrue (is_between_characters text at) → IsCharBoundary text at
-boundary_from_between text at within cuts = (within, λ before wide. grind (arith, nat_tests))
-
-pub text_ends : (xs : List ℕ) → IsUtf8 xs → IsEdge is_between_characters xs 0 × IsEdge is_between_characters xs (length xs)
-text_ends xs u = (
-  record { within = omega arith; cuts = between_from_boundary xs 0 (IsCharBoundary-start xs u) },
-  record { within = omega arith; cuts = between_from_boundary xs (length xs) (IsCharBoundary-end xs) },
+pub anywhere_at_ends : {T : Type 0} (xs : List T)
+    → IsEdge anywhere xs 0 × IsEdge anywhere xs (length xs)
+anywhere_at_ends xs = (
+  record { within = omega arith; cuts = refl },
+  record { within = omega arith; cuts = refl },
 )
 
-pub text_parts : (xs : List ℕ) (start end : ℕ) → IsUtf8 xs → IsRange is_between_characters xs start end → IsUtf8 (sub xs start end)
+-- between characters is where the language says that one begins, or the text ends
+pub between_from_boundary : (text : List ℕ) (at : ℕ) → IsCharBoundary text at
+    → IsTrue (is_between_characters text at)
+between_from_boundary text at b = grind (arith, nat_tests)
+
+pub boundary_from_between : (text : List ℕ) (at : ℕ) → at ≤ length text
+    → IsTrue (is_between_characters text at) → IsCharBoundary text at
+boundary_from_between text at within cuts = (within, λ before wide. grind (arith, nat_tests))
+
+pub text_ends : (xs : List ℕ) → IsUtf8 xs
+    → IsEdge is_between_characters xs 0 × IsEdge is_between_characters xs (length xs)
+text_ends xs u = (
+  record { within = omega arith; cuts = between_from_boundary xs 0 (IsCharBoundary-start xs u) },
+  record {
+    within = omega arith;
+    cuts = between_from_boundary xs (length xs) (IsCharBoundary-end xs);
+  },
+)
+
+pub text_parts : (xs : List ℕ) (start end : ℕ) → IsUtf8 xs
+    → IsRange is_between_characters xs start end → IsUtf8 (sub xs start end)
 text_parts xs start end u r =
     subst IsUtf8 (sym (sub-slice_range xs start end r.ordered))
-    (IsUtf8-between xs start end u r.ordered (boundary_from_between xs start r.from.within r.from.cuts) (boundary_from_between xs end r.to.within r.to.cuts))
+    (IsUtf8-between xs start end u r.ordered
+    (boundary_from_between xs start r.from.within r.from.cuts)
+    (boundary_from_between xs end r.to.within r.to.cuts))
 
 -- at the end of one text, where another may be cut
-both_cut : (xs ys : List ℕ) (i j : ℕ) → i ≡ length xs → IsTrue (is_between_characters ys j) → is_between_characters xs i ≡ is_between_characters ys j
-both_cut xs ys i j last cuts = ap (λ b. b || not (continues (slice_index xs i))) (eq-eqb i (length xs) last) ∙ sym cuts
+both_cut : (xs ys : List ℕ) (i j : ℕ) → i ≡ length xs → IsTrue (is_between_characters ys j)
+    → is_between_characters xs i ≡ is_between_characters ys j
+both_cut xs ys i j last cuts =
+    ap (λ b. b || not (continues (slice_index xs i))) (eq-eqb i (length xs) last) ∙ sym cuts
 
 -- at a byte of two texts that is the same one
-same_byte : (xs ys : List ℕ) (i j : ℕ) → i < length xs → j < length ys → slice_index xs i ≡ slice_index ys j → is_between_characters xs i ≡ is_between_characters ys j
+same_byte : (xs ys : List ℕ) (i j : ℕ) → i < length xs → j < length ys
+    → slice_index xs i ≡ slice_index ys j → is_between_characters xs i ≡ is_between_characters ys j
 same_byte xs ys i j inside inside' same =
     let fst : (i == length xs) ≡ (j == length ys) = grind (arith, nat_tests) in
-    ap (λ b. b || not (continues (slice_index xs i))) fst ∙ ap (λ x. (j == length ys) || not (continues x)) same
+    ap (λ b. b || not (continues (slice_index xs i))) fst
+    ∙ ap (λ x. (j == length ys) || not (continues x)) same
 
-pub text_ranges : (xs : List ℕ) (start end at : ℕ) → IsUtf8 xs → IsRange is_between_characters xs start end → start + at ≤ end → is_between_characters (sub xs start end) at ≡ is_between_characters xs (start + at)
+pub text_ranges : (xs : List ℕ) (start end at : ℕ) → IsUtf8 xs
+    → IsRange is_between_characters xs start end → start + at ≤ end
+    → is_between_characters (sub xs start end) at ≡ is_between_characters xs (start + at)
 text_ranges xs start end at u r within =
-    let long : length (sub xs start end) ≡ end - start = omega (arith, r.ordered, length-drop start (take end xs), length-take-le end xs r.to.within) in
+    let long : length (sub xs start end) ≡ end - start =
+    omega (
+      arith,
+      r.ordered,
+      length-drop start (take end xs),
+      length-take-le end xs r.to.within,
+    ) in
     elim (eqb_tells (start + at) end) [
-      | inl last ↦ both_cut (sub xs start end) xs at (start + at) (omega (arith, long, last.1, r.ordered)) (subst (λ n. IsTrue (is_between_characters xs n)) (sym last.1) r.to.cuts)
+      | inl last ↦ both_cut (sub xs start end) xs at (start + at)
+          (omega (arith, long, last.1, r.ordered))
+          (subst (λ n. IsTrue (is_between_characters xs n)) (sym last.1) r.to.cuts)
       | inr more ↦
           let inside : start + at < end = omega (arith, within, more.1) in
-          same_byte (sub xs start end) xs at (start + at) (omega (arith, long, inside)) (omega (arith, inside, r.to.within)) (get_or-drop start (take end xs) at 0 ∙ get_or-take end xs (start + at) 0 inside)
+          same_byte (sub xs start end) xs at (start + at) (omega (arith, long, inside))
+          (omega (arith, inside, r.to.within))
+          (get_or-drop start (take end xs) at 0 ∙ get_or-take end xs (start + at) 0 inside)
     ]
 
 -- a list of zeros is zero everywhere, and past its end
 zeros_are_zero : (n i : ℕ) → slice_index (replicate n 0) i ≡ 0
-zeros_are_zero n i = elim (leb_tells (suc i) n) [ inl inside ↦ get_or-replicate n i 0 0 inside.1 | inr past ↦ get_or_past (replicate n 0) i 0 (omega (arith, past.1, length-replicate {A = ℕ} n 0)) ]
+zeros_are_zero n i = elim (leb_tells (suc i) n) [
+  | inl inside ↦ get_or-replicate n i 0 0 inside.1
+  | inr past ↦ get_or_past (replicate n 0) i 0 (omega (arith, past.1, length-replicate {A = ℕ} n 0))
+]
 
 pub zeros_are_text : (n : ℕ) → IsUtf8 (replicate n 0)
 zeros_are_text n = IsUtf8-from_ascii (replicate n 0) (λ i. omega (arith, zeros_are_zero n i))
 
 pub cut_into_texts : CutsIntoTexts
 cut_into_texts text at u within = (
-  (λ cuts. let b = boundary_from_between text at within cuts in (IsUtf8-take text at u b, IsUtf8-drop text at u b)),
+  (λ cuts. let b = boundary_from_between text at within cuts in
+      (IsUtf8-take text at u b, IsUtf8-drop text at u b)),
   λ parts. between_from_boundary text at (IsCharBoundary-from_drop text at within parts.1),
 )

@@ -1,7 +1,9 @@
 -- The lists of a slice kind: where one may be cut, and what a test of a range answers.
-use Rattle.std.specs.Prelude.{ℕ, ◌≤◌, Bool, true, IsTrue, nat_lt, ◌&&◌, if◌then◌else◌, List, length, take, drop, Result, Ok, Err}
+use Rattle.std.specs.Prelude.{ℕ, ◌≤◌, Bool, true, IsTrue, nat_lt, ◌&&◌, if◌then◌else◌, List, length}
+use Rattle.std.specs.Prelude.{take, drop, Result, Ok, Err}
 use Rattle.arc_owners.specs.declared.error.RangeError.{RangeError}
-use Rattle.arc_owners.specs.declared.error.RangeError.TheVariants.{OutOfRange, InvalidRange, NotBoundary}
+use Rattle.arc_owners.specs.declared.error.RangeError.TheVariants.{OutOfRange, InvalidRange}
+use Rattle.arc_owners.specs.declared.error.RangeError.TheVariants.{NotBoundary}
 
 -- the part from start to end
 abbrev pub sub : {T : Type 0} → List T → ℕ → ℕ → List T
@@ -17,20 +19,23 @@ pub record IsEdge {T : Type 0} (boundary : List T → ℕ → Bool) (xs : List T
   pub cuts : IsTrue (boundary xs at)
 
 -- a range begins and ends at an edge
-pub record IsRange {T : Type 0} (boundary : List T → ℕ → Bool) (xs : List T) (start end : ℕ) : Type 0 where
+pub record IsRange {T : Type 0} (boundary : List T → ℕ → Bool) (xs : List T)
+    (start end : ℕ) : Type 0 where
   pub ordered : start ≤ end
   pub from : IsEdge boundary xs start
   pub to : IsEdge boundary xs end
 
 -- what a test of a range answers: the end is asked first, then the order, then the edges
-abbrev pub range_answer : {T : Type 0} → (List T → ℕ → Bool) → List T → ℕ → ℕ → Result (Unit {0}) RangeError
+abbrev pub range_answer : {T : Type 0} → (List T → ℕ → Bool) → List T → ℕ → ℕ
+    → Result (Unit {0}) RangeError
 range_answer boundary xs start end =
     if nat_lt (length xs) end then Err OutOfRange else
     if nat_lt end start then Err InvalidRange else
     if boundary xs start && boundary xs end then Ok tt else Err NotBoundary
 
 -- what a test of a place answers: the length is asked first, then the edge
-abbrev pub edge_answer : {T : Type 0} → (List T → ℕ → Bool) → List T → ℕ → Result (Unit {0}) RangeError
+abbrev pub edge_answer : {T : Type 0} → (List T → ℕ → Bool) → List T → ℕ
+    → Result (Unit {0}) RangeError
 edge_answer boundary xs at =
     if nat_lt (length xs) at then Err OutOfRange else
     if boundary xs at then Ok tt else Err NotBoundary

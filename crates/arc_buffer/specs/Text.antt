@@ -1,5 +1,6 @@
 -- Text as bytes: where it may be cut.
-use Rattle.std.specs.Prelude.{ℕ, ◌≤◌, ◌↔◌, Bool, IsTrue, not, ◌&&◌, ◌||◌, ◌==◌, nat_lt, List, length, take, drop, slice_index}
+use Rattle.std.specs.Prelude.{ℕ, ◌≤◌, ◌↔◌, Bool, IsTrue, not, ◌&&◌, ◌||◌, ◌==◌, nat_lt, List}
+use Rattle.std.specs.Prelude.{length, take, drop, slice_index}
 use Rattle.std.specs.Str.{IsUtf8}
 
 -- a byte that continues a character, and begins none
@@ -12,4 +13,5 @@ is_between_characters text at = (at == length text) || not (continues (slice_ind
 
 -- text is cut at a place exactly where both parts are text
 abbrev pub CutsIntoTexts : Type 0
-CutsIntoTexts = (text : List ℕ) (at : ℕ) → IsUtf8 text → at ≤ length text → IsTrue (is_between_characters text at) ↔ (IsUtf8 (take at text) × IsUtf8 (drop at text))
+CutsIntoTexts = (text : List ℕ) (at : ℕ) → IsUtf8 text → at ≤ length text
+    → IsTrue (is_between_characters text at) ↔ (IsUtf8 (take at text) × IsUtf8 (drop at text))

@@ -1,5 +1,6 @@
 //! Slice kinds: markers that say what a window's items are, and which lists of them are legal.
-ghost use Rattle.std.specs.Prelude.{◌≡◌, ℕ, ◌+◌, ◌≤◌, ◌↔◌, ◌==◌, if◌then◌else◌, Bool, IsOk, IfErr, List, [], ◌∷◌, ◌++◌, replicate, length};
+ghost use Rattle.std.specs.Prelude.{◌≡◌, ℕ, ◌+◌, ◌≤◌, ◌↔◌, ◌==◌, if◌then◌else◌, Bool, IsOk, IfErr};
+ghost use Rattle.std.specs.Prelude.{List, [], ◌∷◌, ◌++◌, replicate, length};
 ghost use Rattle.std.specs.Mem.{FitsInMemory, type_size};
 ghost use Rattle.arc_buffer.specs.Slice.{IsEdge, IsRange, sub};
 
@@ -27,7 +28,8 @@ pub trait Slice {
     /// Whether items have to be dropped one by one, so that a block counts its full places.
     ghost DROPS: { Bool };
 
-    /// Whether items have to be dropped one by one, so that a block counts its full places: true for `Owned` alone.
+    /// Whether items have to be dropped one by one, so that a block counts its full places: true
+    /// for `Owned` alone.
     const DROPS: bool;
 
     /// Which lists are legal.
@@ -41,7 +43,8 @@ pub trait Slice {
         ensures ok { IsOk result ↔ is_legal items.now }
         ensures refused { IfErr result (λ e. is_refused items.now e) };
 
-    /// How many places the first block of a window has that grows from nothing: 8 where an item is one byte, else 4.
+    /// How many places the first block of a window has that grows from nothing: 8 where an item is
+    /// one byte, else 4.
     fn first() -> usize
         requires { FitsInMemory Self.Item.row }
         ensures { result ≡ (if type_size Self.Item.row == 1 then 8 else 4) }
@@ -75,7 +78,8 @@ pub trait Subsliceable: Slice {
         → IsEdge boundary xs 0 × IsEdge boundary xs (length xs) };
 
     /// A range may be cut where the list may.
-    ghost range_edges: { (xs : List Self.Item) (start end at : ℕ) → Self.is_legal xs → IsRange boundary xs start end
+    ghost range_edges: { (xs : List Self.Item) (start end at : ℕ) → Self.is_legal xs
+        → IsRange boundary xs start end
         → start + at ≤ end → boundary (sub xs start end) at ≡ boundary xs (start + at) };
 
     /// A range of a legal list is legal.
@@ -86,13 +90,15 @@ pub trait Subsliceable: Slice {
 /// Kinds whose lists may follow one another: all.
 pub trait Concatenable: Slice {
     /// A legal list, followed by a legal list, is legal.
-    ghost both_are_legal: { (xs ys : List Self.Item) → Self.is_legal xs → Self.is_legal ys → Self.is_legal (xs ++ ys) };
+    ghost both_are_legal: { (xs ys : List Self.Item) → Self.is_legal xs → Self.is_legal ys
+        → Self.is_legal (xs ++ ys) };
 }
 
 /// Kinds whose lists may grow by any item: all but `Text`.
 pub trait Extendable: Concatenable {
     /// A legal list, followed by an item, is legal.
-    ghost more_is_legal: { (xs : List Self.Item) (x : Self.Item) → Self.is_legal xs → Self.is_legal (xs ++ x ∷ []) };
+    ghost more_is_legal: { (xs : List Self.Item) (x : Self.Item) → Self.is_legal xs
+        → Self.is_legal (xs ++ x ∷ []) };
 }
 
 /// Kinds with a zero: text, byte text, and whole numbers.
@@ -114,7 +120,8 @@ pub trait AnyItems: Slice {
     ghost all_are_legal: { (xs : List Self.Item) → Self.is_legal xs };
 }
 
-/// The Copy kinds, `Plain` and `ByteText`: a window may be made of a copy of any slice of the items.
+/// The Copy kinds, `Plain` and `ByteText`: a window may be made of a copy of any slice of the
+/// items.
 pub trait CopySlice: AnyItems {}
 
 #[cfg(test)]

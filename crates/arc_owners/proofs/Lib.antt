@@ -1,4 +1,5 @@
--- The lemmas stand in the folders history, count and memory, each with a list of its own. These are for the crates above.
+-- The lemmas stand in the folders history, count and memory, each with a list of its own. These are
+-- for the crates above.
 pub use Rattle.arc_owners.proofs.history.Numbers
 pub use Rattle.arc_owners.proofs.history.Steps
 pub use Rattle.arc_owners.proofs.history.Told

@@ -1,4 +1,5 @@
-//! The count of a block's owners: its word, the atomic steps on it, and what owners and passes have of it.
+//! The count of a block's owners: its word, the atomic steps on it, and what owners and passes have
+//! of it.
 
 mod counted;
 mod passes;

@@ -1,4 +1,5 @@
-//! Owner histories: the events that threads make on a block's word, the entries that they write, and the plain program that replays them.
+//! Owner histories: the events that threads make on a block's word, the entries that they write,
+//! and the plain program that replays them.
 
 mod entry;
 mod event;

@@ -1,10 +1,12 @@
 //! Marks: who may step on the count of a window's block.
 //!
-//! A body that is generic in the mark learns nothing of it at run time. What the marks do differently, they do in methods of their own.
+//! What the marks do differently, they do in methods of their own, so that a body which is generic
+//! in the mark is the same under both.
 ghost use Rattle.std.specs.Prelude.{◌≡◌, ◌≤◌, ℕ, Bool, true, false, List, refl};
 ghost use Rattle.arc_owners.specs.count.Invariant.{BlockId, Line, entries_of};
 ghost use Rattle.arc_owners.specs.history.Histories.{IsLegal};
-ghost use Rattle.arc_owners.specs.count.Steps.{IsHeld, IsSole, IsOf, IsLodged, IsOpened, EndsWithNew};
+ghost use Rattle.arc_owners.specs.count.Steps.{IsHeld, IsSole, IsOf, IsLodged, IsOpened};
+ghost use Rattle.arc_owners.specs.count.Steps.{EndsWithNew};
 
 use crate::count::word::{EndTokens, OwnerToken, PassState, Word, WordBorrow};
 
@@ -18,25 +20,30 @@ pub trait Mark: sealed::Sealed {
     // Whether a block has one pass, which has seen its whole history.
     ghost whole: { Bool };
 
-    // A pass of this block, with this number, has seen these lines. It holds at both marks, but a body that is generic in the mark gets
-    // it from `attest` alone, which takes a pass that is there.
+    // A pass of this block, with this number, has seen these lines. It holds at both marks, but a
+    // body that is generic in the mark gets it from `attest` alone, which takes a pass that is
+    // there.
     ghost real: { BlockId → ℕ → List Line → Type 0 };
 
-    /// The word of a new block, its first owner's right and the first pass. The block is lent to that owner, or not.
+    /// The word of a new block, its first owner's right and the first pass. The block is lent to
+    /// that owner, or not.
     fn open(most: u64, lent: bool) -> (Word, OwnerToken, PassState)
         requires { 1 ≤ most }
         ensures { IsOpened most Self.whole lent result.0 result.1 result.2 };
 
     /// What a pass has seen is legal, and that the pass is there.
     fn attest(pass: &PassState)
-        ensures legal { pass.now.bound ≡ true → IsLegal pass.now.block.most pass.now.block.began (entries_of pass.now.lines) }
-        ensures shown { pass.now.bound ≡ true → Self.real pass.now.block pass.now.number pass.now.lines };
+        ensures legal { pass.now.bound ≡ true
+            → IsLegal pass.now.block.most pass.now.block.began (entries_of pass.now.lines) }
+        ensures shown { pass.now.bound ≡ true
+            → Self.real pass.now.block pass.now.number pass.now.lines };
 
-    /// What becomes of an owner that is dropped: whether it ended as the last one, and the pass that it ended with.
+    /// What becomes of an owner that is dropped: whether it ended as the last one, and the pass
+    /// that it ended with.
     ///
     /// # Safety
     ///
-    /// The word lies at this place for as long as the block is lent: the lodging says so.
+    /// The word lies at this place for as long as the block is lent: the borrow says so.
     unsafe fn let_go(
         place: *const u64,
         lodging: &WordBorrow,
@@ -49,7 +56,8 @@ pub trait Mark: sealed::Sealed {
         ensures forgotten { Self.whole ≡ true → (result.0 ≡ false) × (result.2.bound ≡ false) }
         ensures ended { Self.whole ≡ false → EndsWithNew own result.2 result.0 };
 
-    /// What becomes of a sole owner that is dropped: whether it ended, and the pass that it ended with.
+    /// What becomes of a sole owner that is dropped: whether it ended, and the pass that it ended
+    /// with.
     fn let_go_sole(own: OwnerToken) -> (bool, PassState)
         requires held { IsSole own.block own }
         requires mark { own.block.whole ≡ Self.whole }
@@ -107,7 +115,8 @@ impl Stepping for Open {
     ghost many = { refl };
 }
 
-/// The mark of a block with one pass, which has seen its whole history: nothing comes between two of its calls.
+/// The mark of a block with one pass, which has seen its whole history: nothing comes between two
+/// of its calls.
 #[derive(Clone, Copy, Debug, PartialEq, Eq)]
 pub struct Whole;
 

@@ -1,17 +1,20 @@
--- What a call does to the pass of its window's block. A window that stands where no owners are counted has a pass of no block, and its
--- calls add nothing.
+-- What a call does to the pass of its window's block. A window that stands where no owners are
+-- counted has a pass of no block, and its calls add nothing.
 use Rattle.std.specs.Prelude.{◌≡◌, ℕ, Bool, true, false, Option, List, []}
 use Rattle.arc_owners.specs.declared.error.OwnerError.{OwnerError}
 use Rattle.arc_owners.specs.declared.error.OwnerError.TheVariants.{AllocError, CountFull}
 use Rattle.arc_owners.specs.declared.count.tokens.Pass.{Pass}
 use Rattle.arc_owners.specs.count.Invariant.{BlockId, Line}
-use Rattle.arc_owners.specs.count.Calls.{Owner, Appends, IsOfBlock, IsPassOf, IsPassOfNone, pass_block, pass_number, history_of, IsFirst, IsFreshPass, IsNewPass, FindsFull, MakesAnother, Asks}
+use Rattle.arc_owners.specs.count.Calls.{Owner, Appends, IsOfBlock, IsPassOf, IsPassOfNone}
+use Rattle.arc_owners.specs.count.Calls.{pass_block, pass_number, history_of, IsFirst, IsFreshPass}
+use Rattle.arc_owners.specs.count.Calls.{IsNewPass, FindsFull, MakesAnother, Asks}
 use Rattle.arc_block.specs.Block.{Sort, BlockInfo}
 use Rattle.arc_block.specs.Place.{Place, nowhere, static_data, on_block, at_owner, for_owner}
 use Rattle.arc_block.specs.declared.block.TheConstants.{MAX_OWNERS}
 use Rattle.arc_read.specs.Window.{Window, made_window, IsWholeOf}
 
--- whether a call on a window at this place may want memory, which by its layout depends on the sort of the block
+-- whether a call on a window at this place may want memory, which by its layout depends on the sort
+-- of the block
 abbrev pub MayWant : {O M : Type 0} → (Sort → Bool) → Place O M → Type 0
 MayWant wants nowhere = ⊥
 MayWant wants static_data = ⊥
@@ -27,15 +30,18 @@ module _ {M H : Type 0} where
   Shares place old new there = at_owner place ((there ≡ place) × (new ≡ old))
       (λ o. (other : Owner) × MakesAnother o old new other × (there ≡ for_owner other place))
 
-  -- no window was made: the count was found at its greatest, or the layout's clones want memory, and nothing was added
-  abbrev pub Refuses : (Sort → Bool) → Place (Option Owner) M → Pass H → Pass H → OwnerError → Type 0
+  -- no window was made: the count was found at its greatest, or the layout's clones want memory,
+  -- and nothing was added
+  abbrev pub Refuses : (Sort → Bool) → Place (Option Owner) M → Pass H → Pass H → OwnerError
+      → Type 0
   Refuses wants place old new CountFull = at_owner place ⊥ (λ o. FindsFull o old new)
   Refuses wants place old new AllocError = MayWant wants place
       × at_owner place (new ≡ old) (λ o. (before : List Line) × Appends o.block old new before [])
 
--- A call was made with a new pass of the window's block, and the last pass is one that is there: so much of the block's history the
--- call has really seen.
-pub record WithNewPass {M H : Type 0} (real : BlockId → ℕ → List Line → Type 0) (place : Place (Option Owner) M) (call : Pass H → Pass H → Type 0) : Type 0 where
+-- A call was made with a new pass of the window's block, and the last pass is one that is there: so
+-- much of the block's history the call has really seen.
+pub record WithNewPass {M H : Type 0} (real : BlockId → ℕ → List Line → Type 0)
+    (place : Place (Option Owner) M) (call : Pass H → Pass H → Type 0) : Type 0 where
   pub first : Pass H
   pub last : Pass H
   pub new : at_owner place (IsPassOfNone first) (λ o. IsNewPass o first)
@@ -50,11 +56,13 @@ module _ {T : Type 0} where
     pub first : at_owner w.place (Unit {0}) (λ o. IsFirst MAX_OWNERS one_pass o)
 
 module _ {T H : Type 0} where
-  -- an array was refused: where only the count could decide, it was asked and said no, and else nothing was asked
+  -- an array was refused: where only the count could decide, it was asked and said no, and else
+  -- nothing was asked
   pub record RefusesArray (size : ℕ) (w : Window T) (old new : Pass H) : Type 0 where
     pub asked : IsWholeOf size w → at_owner w.place ⊥ (λ o. Asks o old new false)
     pub unasked : ¬ IsWholeOf size w → new ≡ old
 
-  -- the pass, which was of no block, is that of the window's new block, in which nothing has happened yet
+  -- the pass, which was of no block, is that of the window's new block, in which nothing has
+  -- happened yet
   abbrev pub Begins : Window T → Pass H → Pass H → Type 0
   Begins w old new = at_owner w.place (new ≡ old) (λ o. IsFreshPass o new)

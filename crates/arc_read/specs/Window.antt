@@ -3,33 +3,47 @@ use Rattle.std.specs.Prelude.{◌≡◌, ℕ, ◌≤◌, Bool, false, List, [], 
 use Rattle.arc_owners.specs.count.Calls.{Owner}
 use Rattle.arc_buffer.specs.Slice.{sub}
 use Rattle.arc_block.specs.Block.{native, BlockInfo, BlockView, native_facts}
-use Rattle.arc_block.specs.Place.{Place, WindowView, nowhere, static_data, on_block, IsOnBlock, made_place, part_place}
+use Rattle.arc_block.specs.Place.{Place, WindowView, nowhere, static_data, on_block, IsOnBlock}
+use Rattle.arc_block.specs.Place.{made_place, part_place}
 
 -- a window on a block says which of its owners it is, where the block counts them
 abbrev pub Window : Type 0 → Type 0
 Window T = WindowView T (Option Owner) (Unit {0})
 
--- the window that is made of a list, where its block has this owner: a native block has a place for each item
+-- the window that is made of a list, where its block has this owner: a native block has a place for
+-- each item
 abbrev pub made_window : {T : Type 0} → Bool → Bool → Owner → List T → Window T
-made_window has_static drops owner items = record { items = items; place = made_place has_static (Some owner) (native_facts drops (length items)) items }
+made_window has_static drops owner items = record {
+  items = items;
+  place = made_place has_static (Some owner) (native_facts drops (length items)) items;
+}
 
 -- a window that is made of a list stands on a block
 abbrev pub NeedsBlock : {T : Type 0} → Bool → List T → Type 0
-NeedsBlock {T} has_static items = let facts : BlockInfo (Unit {0}) = native_facts false (length items) in IsOnBlock (made_place {T = T} {N = Unit {0}} has_static tt facts items)
+NeedsBlock {T} has_static items =
+    let facts : BlockInfo (Unit {0}) = native_facts false (length items) in
+    IsOnBlock (made_place {T = T} {N = Unit {0}} has_static tt facts items)
 
 -- the window over a window's part from start to end, as the same owner
 abbrev pub part_window : {T : Type 0} → Bool → Window T → ℕ → ℕ → Window T
-part_window has_static w start end = let items = sub w.items start end in record { items = items; place = part_place has_static items start w.place }
+part_window has_static w start end =
+    let items = sub w.items start end in
+    record { items = items; place = part_place has_static items start w.place }
 
 -- the part from start to end of the block that a window stands on, if it stands on one
 abbrev pub window_seen : {T : Type 0} → Option (BlockView T (Unit {0})) → ℕ → ℕ → Window T
 window_seen None start end = record { items = []; place = nowhere }
-window_seen (Some block) start end = record { items = sub block.items start end; place = on_block (Some block.owner) start block.facts }
+window_seen (Some block) start end = record {
+  items = sub block.items start end;
+  place = on_block (Some block.owner) start block.facts;
+}
 
--- start to end lies within the block, which has a place for each item; a window on none has no items
+-- start to end lies within the block, which has a place for each item; a window on none has no
+-- items
 abbrev pub IsWithin : {T : Type 0} → Option (BlockView T (Unit {0})) → ℕ → ℕ → Type 0
 IsWithin None start end = (start ≡ 0) × (end ≡ 0)
-IsWithin (Some block) start end = (start ≤ end) × (end ≤ length block.items) × (length block.items ≤ block.facts.size)
+IsWithin (Some block) start end = (start ≤ end) × (end ≤ length block.items)
+    × (length block.items ≤ block.facts.size)
 
 -- a native block of this size
 abbrev pub IsNativeOf : {N M : Type 0} → ℕ → Place N M → Type 0

@@ -1,12 +1,15 @@
 //! `ArcSlice`, a window that is read.
-ghost use Rattle.std.specs.Prelude.{◌≡◌, ◌==◌, ◌&&◌, ◌↔◌, Bool, true, false, [], length, IsOk, IsTrue, IfOk, IfErr, OnErr};
+ghost use Rattle.std.specs.Prelude.{◌≡◌, ◌==◌, ◌&&◌, ◌↔◌, Bool, true, false, [], length, IsOk};
+ghost use Rattle.std.specs.Prelude.{IsTrue, IfOk, IfErr, OnErr};
 ghost use Rattle.arc_buffer.specs.Slice.{IsRange, range_answer};
 ghost use Rattle.arc_buffer.specs.Slice.{sub};
 ghost use Rattle.arc_block.specs.Block.{native_block, IsLimited};
 ghost use Rattle.arc_block.specs.Place.{nowhere, at_owner};
-ghost use Rattle.arc_owners.specs.count.Calls.{IsPassOfNone, IsFirst, IsFreshPass, IsNewPass, Learns, Asks, Leaves, TakesBlock, AsksAndLeaves};
+ghost use Rattle.arc_owners.specs.count.Calls.{IsPassOfNone, IsFirst, IsFreshPass, IsNewPass};
+ghost use Rattle.arc_owners.specs.count.Calls.{Learns, Asks, Leaves, TakesBlock, AsksAndLeaves};
 ghost use Rattle.arc_read.specs.Window.{NeedsBlock, IsWholeOf, part_window};
-ghost use Rattle.arc_read.specs.Steps.{IsPassAt, Makes, Begins, Shares, Refuses, RefusesArray, WithNewPass};
+ghost use Rattle.arc_read.specs.Steps.{IsPassAt, Makes, Begins, Shares, Refuses, RefusesArray};
+ghost use Rattle.arc_read.specs.Steps.{WithNewPass};
 
 use arc_block::block::{Block, MAX_OWNERS, max_owners};
 use arc_block::layout::{DefaultLayout, Layout, StaticLayout, stands_on_nothing};
@@ -18,12 +21,14 @@ use std::alloc::{Allocator, Global};
 use std::marker::{Model, PhantomData};
 use std::sync::Wait;
 
-/// A part of a block that may have other owners, or of nothing. Clones and cuts share the block and copy no item.
+/// A part of a block that may have other owners, or of nothing. Clones and cuts share the block and
+/// copy no item.
 ///
-/// Each call that makes, steps on or leaves a block has a form that ends in `_as` and takes a pass of the block, in which contracts
-/// read what was added to the block's history; a window that stands on nothing has a pass of no block. The plain form is that form
-/// with a new pass. Dropped, a window under the mark `Open` ends with a new pass. Under `Whole` only the `_as` forms are there, and a
-/// dropped window is a forgotten owner of its block.
+/// Each call that makes, steps on or leaves a block has a form that ends in `_as` and takes a pass
+/// of the block, in which contracts read what was added to the block's history; a window that
+/// stands on nothing has a pass of no block. The plain form is that form with a new pass. Dropped,
+/// a window under the mark `Open` ends with a new pass. Under `Whole` only the `_as` forms are
+/// there, and a dropped window is a forgotten owner of its block.
 pub struct ArcSlice<
     S: Slice,
     L: Layout = DefaultLayout,
@@ -45,7 +50,8 @@ impl<S: Slice, L: Layout, A: Allocator + Copy, H: Mark> Model for ArcSlice<S, L,
 
     ghost view = { λ w. window_seen w.block w.start w.end };
 
-    ghost invariant = { λ w. IsWithin w.block w.start w.end × ∥ S.is_legal (window_seen w.block w.start w.end).items ∥₁ };
+    ghost invariant = { λ w. IsWithin w.block w.start w.end
+        × ∥ S.is_legal (window_seen w.block w.start w.end).items ∥₁ };
 }
 
 impl<S: Slice, L: Layout, A: Allocator + Copy, H: Mark> Drop for ArcSlice<S, L, A, H> {
@@ -95,7 +101,8 @@ impl<S: Slice, L: Layout, A: Allocator + Copy, H: Mark> ArcSlice<S, L, A, H> {
         pass: &mut Pass<H>,
     ) -> Self
         requires legal { ∥ S.is_legal block.items ∥₁ }
-        requires made { (block ≡ native_block S.DROPS block.owner block.items) × IsFirst MAX_OWNERS H.whole block.owner × IsFreshPass block.owner new }
+        requires made { (block ≡ native_block S.DROPS block.owner block.items)
+            × IsFirst MAX_OWNERS H.whole block.owner × IsFreshPass block.owner new }
         requires stands { (L.STATIC && (length block.items == 0)) ≡ false }
         ensures made { Makes L.STATIC S.DROPS H.whole block.items result }
         ensures pass { Begins result pass.old pass.new }
@@ -127,8 +134,9 @@ impl<S: Slice, L: Layout, A: Allocator + Copy, H: Mark> ArcSlice<S, L, A, H> {
         Ok(Self::over_new(alloc, block, new, pass))
     }
 
-    /// A window over a copy of the items: no items stand on nothing where the layout has static data, else they stand on a new native
-    /// block with exactly a place for each. The pass, which is of no block, becomes the block's; the window is owner 0.
+    /// A window over a copy of the items: no items stand on nothing where the layout has static
+    /// data, else they stand on a new native block with exactly a place for each. The pass, which
+    /// is of no block, becomes the block's; the window is owner 0.
     ///
     /// Takes memory for a block; refused, the answer is `AllocError`, and the pass is as before.
     pub fn try_from_slice_as(
@@ -147,7 +155,8 @@ impl<S: Slice, L: Layout, A: Allocator + Copy, H: Mark> ArcSlice<S, L, A, H> {
         Self::try_copied_as(alloc, items, pass)
     }
 
-    /// A window over an array's items, which are moved into a block as by `try_from_slice_as`. Refused memory, the array comes back.
+    /// A window over an array's items, which are moved into a block as by `try_from_slice_as`.
+    /// Refused memory, the array comes back.
     pub fn try_from_array_as<const N: usize>(
         alloc: A,
         array: [S::Item; N],
@@ -158,7 +167,8 @@ impl<S: Slice, L: Layout, A: Allocator + Copy, H: Mark> ArcSlice<S, L, A, H> {
         requires pass { IsPassOfNone pass.old }
         ensures ok { IfOk result (λ window. Makes L.STATIC S.DROPS H.whole array window) }
         ensures pass { IfOk result (λ window. Begins window pass.old pass.new) }
-        ensures refused { IfErr result (λ back. (back ≡ array) × NeedsBlock L.STATIC array × (pass.new ≡ pass.old)) }
+        ensures refused { IfErr result (λ back. (back ≡ array) × NeedsBlock L.STATIC array
+            × (pass.new ≡ pass.old)) }
     {
         if stands_on_nothing::<L>(array.as_slice().len()) {
             drop(array);
@@ -183,7 +193,8 @@ impl<S: Slice, L: Layout, A: Allocator + Copy> ArcSlice<S, L, A, Open> {
         Self::try_from_slice_as(alloc, items, &mut Pass::none())
     }
 
-    /// A window over an array's items: `try_from_array_as` with a new pass. Refused memory, the array comes back.
+    /// A window over an array's items: `try_from_array_as` with a new pass. Refused memory, the
+    /// array comes back.
     pub fn try_from_array<const N: usize>(
         alloc: A,
         array: [S::Item; N],
@@ -224,8 +235,9 @@ impl<S: Slice, L: Layout, A: Allocator + Copy, H: Mark> ArcSlice<S, L, A, H> {
 }
 
 impl<S: Subsliceable, L: Layout, A: Allocator + Copy, H: Mark> ArcSlice<S, L, A, H> {
-    /// Whether `start` to `end` is a range of the window. `OutOfRange` where the end is past the length, else
-    /// `InvalidRange` where the start is past the end, else `NotBoundary` where the kind may not be cut at one of them.
+    /// Whether `start` to `end` is a range of the window. `OutOfRange` where the end is past the
+    /// length, else `InvalidRange` where the start is past the end, else `NotBoundary` where the
+    /// kind may not be cut at one of them.
     pub fn check_range(&self, start: usize, end: usize) -> Result<(), RangeError>
         ensures answer { result ≡ range_answer S.boundary self.now.items start end }
         ensures ok { IsOk result ↔ IsRange S.boundary self.now.items start end }
@@ -246,14 +258,17 @@ impl<S: Subsliceable, L: Layout, A: Allocator + Copy, H: Mark> ArcSlice<S, L, A,
 }
 
 impl<S: Slice, L: Layout, A: Allocator + Copy, H: Mark> ArcSlice<S, L, A, H> {
-    /// Another window with the same items at the same place, an owner more of the block. On a block it adds Up, or Full where refused.
+    /// Another window with the same items at the same place, an owner more of the block. On a block
+    /// it adds Up, or Full where refused.
     ///
     /// Takes no memory and copies no item. `CountFull` exactly where `MAX_OWNERS` owners live.
     pub fn try_clone_as(&self, rt: &impl Wait, pass: &mut Pass<H>) -> Result<Self, OwnerError>
         requires pass { IsPassAt self.now.place pass.old }
         ensures items { IfOk result (λ window. window.items ≡ self.now.items) }
-        ensures place { IfOk result (λ window. Shares self.now.place pass.old pass.new window.place) }
-        ensures refused { IfErr result (λ e. Refuses L.clone_wants self.now.place pass.old pass.new e) }
+        ensures place { IfOk result (λ window.
+            Shares self.now.place pass.old pass.new window.place) }
+        ensures refused { IfErr result (λ e.
+            Refuses L.clone_wants self.now.place pass.old pass.new e) }
     {
         let block = match &self.block {
             Some(block) => Some(block.try_share_as(rt, pass)?),
@@ -268,8 +283,9 @@ impl<S: Slice, L: Layout, A: Allocator + Copy, H: Mark> ArcSlice<S, L, A, H> {
         })
     }
 
-    /// A window over the items from `start` to `end`, an owner more of the block: it adds Up, or Full where refused. With no items it
-    /// stands on nothing where the layout has static data, and nothing is added.
+    /// A window over the items from `start` to `end`, an owner more of the block: it adds Up, or
+    /// Full where refused. With no items it stands on nothing where the layout has static data, and
+    /// nothing is added.
     ///
     /// Takes no memory and copies no item. `CountFull` exactly where `MAX_OWNERS` owners live.
     pub fn try_subslice_as(
@@ -287,7 +303,8 @@ impl<S: Slice, L: Layout, A: Allocator + Copy, H: Mark> ArcSlice<S, L, A, H> {
         ensures place { IfOk result (λ part.
             Shares (part_window L.STATIC self.now start end).place pass.old pass.new part.place) }
         ensures refused { IfErr result (λ e.
-            Refuses L.clone_wants (part_window L.STATIC self.now start end).place pass.old pass.new e) }
+            Refuses L.clone_wants
+            (part_window L.STATIC self.now start end).place pass.old pass.new e) }
     {
         match &self.block {
             Some(block) if !stands_on_nothing::<L>(end - start) => Ok(ArcSlice {
@@ -309,11 +326,12 @@ impl<S: Slice, L: Layout, A: Allocator + Copy, H: Mark> ArcSlice<S, L, A, H> {
 }
 
 impl<S: Slice, L: Layout, A: Allocator + Copy, H: Mark> ArcSlice<S, L, A, H> {
-    /// Whether no other owner of the block lives, by one load: on a block it adds Alone with the answer. `false` on no block. Takes no
-    /// memory.
+    /// Whether no other owner of the block lives, by one load: on a block it adds Alone with the
+    /// answer. `false` on no block. Takes no memory.
     pub fn is_unique_as(&self, pass: &mut Pass<H>) -> bool
         requires pass { IsPassAt self.now.place pass.old }
-        ensures entry { at_owner self.now.place ((result ≡ false) × (pass.new ≡ pass.old)) (λ o. Asks o pass.old pass.new result) }
+        ensures entry { at_owner self.now.place ((result ≡ false)
+            × (pass.new ≡ pass.old)) (λ o. Asks o pass.old pass.new result) }
     {
         match &self.block {
             Some(block) => block.is_unique_as(pass),
@@ -331,16 +349,19 @@ impl<S: Slice, L: Layout, A: Allocator + Copy, H: Mark> ArcSlice<S, L, A, H> {
         }
     }
 
-    /// The items as an array, where the window has `N` of them, which are all places of a native block, and no other owner lives. On
-    /// success it adds Alone and Down. Else the window comes back, and Alone was added with no where only the count could decide; on
-    /// no block it always comes back.
+    /// The items as an array, where the window has `N` of them, which are all places of a native
+    /// block, and no other owner lives. On success it adds Alone and Down. Else the window comes
+    /// back, and Alone was added with no where only the count could decide; on no block it always
+    /// comes back.
     ///
     /// Takes no memory.
     pub fn try_into_array_as<const N: usize>(self, pass: &mut Pass<H>) -> Result<[S::Item; N], Self>
         requires pass { IsPassAt self.place pass.old }
         ensures taken { IfOk result (λ array. IsWholeOf N self × (array ≡ self.items)) }
-        ensures entries { IfOk result (λ _. at_owner self.place ⊥ (λ o. TakesBlock o pass.old pass.new)) }
-        ensures refused { IfErr result (λ window. (window ≡ self) × RefusesArray N self pass.old pass.new) }
+        ensures entries { IfOk result (λ _.
+            at_owner self.place ⊥ (λ o. TakesBlock o pass.old pass.new)) }
+        ensures refused { IfErr result (λ window. (window ≡ self)
+            × RefusesArray N self pass.old pass.new) }
     {
         if !self.is_whole(N) {
             return Err(self);
@@ -368,10 +389,12 @@ impl<S: Slice, L: Layout, A: Allocator + Copy, H: Mark> ArcSlice<S, L, A, H> {
         }
     }
 
-    /// Ends the window. On a block it adds Down, and the last owner gives the block back. Takes no memory.
+    /// Ends the window. On a block it adds Down, and the last owner gives the block back. Takes no
+    /// memory.
     pub fn release_as(self, pass: &mut Pass<H>)
         requires pass { IsPassAt self.place pass.old }
-        ensures entry { at_owner self.place (pass.new ≡ pass.old) (λ o. (last : Bool) × Leaves o pass.old pass.new last) }
+        ensures entry { at_owner self.place (pass.new ≡ pass.old) (λ o. (last : Bool)
+            × Leaves o pass.old pass.new last) }
     {
         let ArcSlice {
             block,
@@ -385,11 +408,13 @@ impl<S: Slice, L: Layout, A: Allocator + Copy, H: Mark> ArcSlice<S, L, A, H> {
         }
     }
 
-    /// Ends the window: it reads the count first, and gives the block back without a further step where no other owner lives, else it
-    /// counts down. On a block it adds Alone with what was found, then Down. Takes no memory.
+    /// Ends the window: it reads the count first, and gives the block back without a further step
+    /// where no other owner lives, else it counts down. On a block it adds Alone with what was
+    /// found, then Down. Takes no memory.
     pub fn drop_with_unique_hint_as(self, pass: &mut Pass<H>)
         requires pass { IsPassAt self.place pass.old }
-        ensures entries { at_owner self.place (pass.new ≡ pass.old) (λ o. AsksAndLeaves o pass.old pass.new) }
+        ensures entries { at_owner self.place (pass.new ≡ pass.old) (λ o.
+            AsksAndLeaves o pass.old pass.new) }
     {
         let ArcSlice {
             block,
@@ -434,11 +459,13 @@ impl<S: Slice, L: Layout, A: Allocator + Copy, H: Mark> ArcSlice<S, L, A, H> {
         }
     }
 
-    /// Afterwards the first pass has seen at least what the other had. It adds nothing and takes no memory.
+    /// Afterwards the first pass has seen at least what the other had. It adds nothing and takes no
+    /// memory.
     pub fn learn(&self, pass: &mut Pass<H>, other: &Pass<H>)
         requires pass { IsPassAt self.now.place pass.old }
         requires other { IsPassAt self.now.place other.now }
-        ensures { at_owner self.now.place (pass.new ≡ pass.old) (λ o. Learns o.block pass.old other.now pass.new) }
+        ensures { at_owner self.now.place (pass.new ≡ pass.old) (λ o.
+            Learns o.block pass.old other.now pass.new) }
     {
         if let Some(block) = &self.block {
             block.learn(pass, other);
@@ -450,7 +477,8 @@ impl<S: Slice, L: Layout, A: Allocator + Copy, H: Mark> ArcSlice<S, L, A, H> {
     /// How many owners the window's block may have at once, and under which mark it is.
     pub fn max_owners(&self) -> u64
         ensures answer { result ≡ 9223372036854775807 }
-        ensures block { at_owner self.now.place (Unit {0}) (λ o. IsLimited 9223372036854775807 H.whole o) }
+        ensures block { at_owner self.now.place (Unit {0}) (λ o.
+            IsLimited 9223372036854775807 H.whole o) }
     {
         match &self.block {
             Some(block) => block.max_owners(),
@@ -459,11 +487,12 @@ impl<S: Slice, L: Layout, A: Allocator + Copy, H: Mark> ArcSlice<S, L, A, H> {
     }
 }
 
-// The plain forms. They are generic over the marks under which a block has many passes, which `Open` alone is: so a body can show a
-// pass only by one that is there (`Pass::attest`), and none that it made up.
+// The plain forms. They are generic over the marks under which a block has many passes, which
+// `Open` alone is: so a body can show a pass only by one that is there (`Pass::attest`), and none
+// that it made up.
 impl<S: Slice, L: Layout, A: Allocator + Copy, H: Stepping> ArcSlice<S, L, A, H> {
-    /// A new pass of the window's block, which has seen at least how the window became an owner, and made nothing; on no block a pass
-    /// of none. It adds nothing and takes no memory.
+    /// A new pass of the window's block, which has seen at least how the window became an owner,
+    /// and made nothing; on no block a pass of none. It adds nothing and takes no memory.
     pub fn pass(&self) -> Pass<H>
         ensures { at_owner self.now.place (IsPassOfNone result) (λ o. IsNewPass o result) }
     {
@@ -473,10 +502,12 @@ impl<S: Slice, L: Layout, A: Allocator + Copy, H: Stepping> ArcSlice<S, L, A, H>
         }
     }
 
-    /// Whether no other owner of the block lives: `is_unique_as` with a new pass. `false` on no block.
+    /// Whether no other owner of the block lives: `is_unique_as` with a new pass. `false` on no
+    /// block.
     pub fn is_unique(&self) -> bool
         ensures entry { WithNewPass {H = H} H.real self.now.place (λ first last.
-            at_owner self.now.place ((result ≡ false) × (last ≡ first)) (λ o. Asks o first last result)) }
+            at_owner self.now.place ((result ≡ false)
+            × (last ≡ first)) (λ o. Asks o first last result)) }
     {
         let mut pass = self.pass();
         let found = self.is_unique_as(&mut pass);
@@ -490,7 +521,8 @@ impl<S: Slice, L: Layout, A: Allocator + Copy, H: Stepping> ArcSlice<S, L, A, H>
         ensures entries { IfOk result (λ _. WithNewPass {H = H} H.real self.place (λ first last.
             at_owner self.place ⊥ (λ o. TakesBlock o first last))) }
         ensures refused { IfErr result (λ window. window ≡ self) }
-        ensures asked { IfErr result (λ _. WithNewPass {H = H} H.real self.place (λ first last. RefusesArray N self first last)) }
+        ensures asked { IfErr result (λ _.
+            WithNewPass {H = H} H.real self.place (λ first last. RefusesArray N self first last)) }
     {
         let mut pass = self.pass();
         let taken = self.try_into_array_as(&mut pass);
@@ -513,9 +545,11 @@ impl<S: Slice, L: Layout, A: Allocator + Copy, H: Stepping> ArcSlice<S, L, A, H>
     /// Takes no memory and copies no item. `CountFull` exactly where `MAX_OWNERS` owners live.
     pub fn try_clone(&self, rt: &impl Wait) -> Result<Self, OwnerError>
         ensures items { IfOk result (λ window. window.items ≡ self.now.items) }
-        ensures place { IfOk result (λ window. WithNewPass {H = H} H.real self.now.place (λ first last.
+        ensures place { IfOk result (λ window.
+            WithNewPass {H = H} H.real self.now.place (λ first last.
             Shares self.now.place first last window.place)) }
-        ensures refused { IfErr result (λ e. WithNewPass {H = H} H.real self.now.place (λ first last.
+        ensures refused { IfErr result (λ e.
+            WithNewPass {H = H} H.real self.now.place (λ first last.
             Refuses L.clone_wants self.now.place first last e)) }
     {
         let mut pass = self.pass();
@@ -524,7 +558,8 @@ impl<S: Slice, L: Layout, A: Allocator + Copy, H: Stepping> ArcSlice<S, L, A, H>
         made
     }
 
-    /// A window over the items from `start` to `end`: `try_subslice_as` with a new pass of this window's block.
+    /// A window over the items from `start` to `end`: `try_subslice_as` with a new pass of this
+    /// window's block.
     ///
     /// Takes no memory and copies no item. `CountFull` exactly where `MAX_OWNERS` owners live.
     pub fn try_subslice(&self, rt: &impl Wait, start: usize, end: usize) -> Result<Self, OwnerError>
@@ -532,9 +567,11 @@ impl<S: Slice, L: Layout, A: Allocator + Copy, H: Stepping> ArcSlice<S, L, A, H>
         S: Subsliceable,
         requires { IsRange S.boundary self.now.items start end }
         ensures items { IfOk result (λ part. part.items ≡ sub self.now.items start end) }
-        ensures place { IfOk result (λ part. WithNewPass {H = H} H.real self.now.place (λ first last.
+        ensures place { IfOk result (λ part.
+            WithNewPass {H = H} H.real self.now.place (λ first last.
             Shares (part_window L.STATIC self.now start end).place first last part.place)) }
-        ensures refused { IfErr result (λ e. WithNewPass {H = H} H.real self.now.place (λ first last.
+        ensures refused { IfErr result (λ e.
+            WithNewPass {H = H} H.real self.now.place (λ first last.
             Refuses L.clone_wants (part_window L.STATIC self.now start end).place first last e)) }
     {
         let mut pass = self.pass();

@@ -1,4 +1,5 @@
--- What each command does to the windows and the passes of their blocks, and what it finds of owners.
+-- What each command does to the windows and the passes of their blocks, and what it finds of
+-- owners.
 use Rattle.std.proofs.Common.{inl, inr, ◌≡◌, ℕ, ◌+◌, ◌<◌, ◌≤◌, zero, suc, ◌==◌, if◌then◌else◌, Bool, true, false, List, [], ◌∷◌, ◌++◌, length, Option, Some, None, is_some, slice_get, slice_set, slice_index_or, refl, sym, ap, ◌∙◌, subst, arith}
 use Rattle.std.specs.Option.{option_map, option_map_or, option_flatten}
 use Rattle.std.proofs.lemmas.Bool.{cases_eq, false≢true}

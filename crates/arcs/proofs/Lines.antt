@@ -128,7 +128,8 @@ want_answers old line said = (said.0, said.1, (items_want byte_setting old said.
 ended_append : (xs ys : List (Option (Reply (List ℕ)))) → ended (map answer_text (xs ++ ys)) ≡ ended (map answer_text xs) ++ ended (map answer_text ys)
 ended_append xs ys = ap ended (map-append answer_text xs ys) ∙ flat_map-append (λ (line : List ℕ). line ++ line_feed ∷ []) (map answer_text xs) (map answer_text ys)
 
--- What is written before the replies to some first lines are all written begins what is written for the input.
+-- What is written before the replies to some first lines are all written begins what is written for
+-- the input.
 pub begins : (input text more : List ℕ) (lines rest : List (List ℕ)) (replies : List (Option (Reply (List ℕ)))) (mid : ByteTable)
     → AreLines input (lines ++ rest) → RunOf Answers empty_table lines replies mid → text ++ more ≡ ended (map answer_text replies) → BeginsReplyText input text
 begins input text more lines rest replies mid cut run written =

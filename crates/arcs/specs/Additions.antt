@@ -1,9 +1,11 @@
 -- What each command adds to the histories of the blocks: by which call, and through the pass of
 -- which block. All other passes stay.
-use Rattle.std.specs.Prelude.{◌≡◌, ℕ, Bool, true, false, List, [], ◌∷◌, ◌++◌, length, Option, Some, None, slice_get, slice_set}
+use Rattle.std.specs.Prelude.{◌≡◌, ℕ, Bool, true, false, List, [], ◌∷◌, ◌++◌, length, Option, Some}
+use Rattle.std.specs.Prelude.{None, slice_get, slice_set}
 use Rattle.std.specs.Option.{option_flatten}
 use Rattle.arc_owners.specs.declared.count.tokens.Pass.{Pass}
-use Rattle.arc_owners.specs.count.Calls.{Owner, IsPassFor, Asks, MakesAnother, FindsFull, Leaves, IsFirst, IsFreshPass}
+use Rattle.arc_owners.specs.count.Calls.{Owner, IsPassFor, Asks, MakesAnother, FindsFull, Leaves}
+use Rattle.arc_owners.specs.count.Calls.{IsFirst, IsFreshPass}
 use Rattle.arc_block.specs.declared.block.TheConstants.{MAX_OWNERS}
 use Rattle.arc_block.specs.Owned.{Stand}
 use Rattle.arcs.specs.declared.command.Command.{Command}

@@ -7,18 +7,23 @@ use Rattle.arcs.specs.declared.script.Engine.{Engine}
 
 -- Since the writer had taken start, the engine has read this input.
 abbrev pub HasRead : {A : Type 0} → List ℕ → List ℕ → Traffic → Engine A → Type 0
-HasRead start input writer engine = IsUnderway start input writer engine.out.items (table_of engine.windows) engine.line.items engine.too_long
+HasRead start input writer engine = IsUnderway start input writer engine.out.items
+    (table_of engine.windows) engine.line.items engine.too_long
 
 -- these bytes more were read
 abbrev pub Reads : {A : Type 0} → List ℕ → Traffic → Traffic → Engine A → Engine A → Type 0
-Reads bytes writer writer' old new = (start input : List ℕ) → HasRead start input writer old → HasRead start (input ++ bytes) writer' new
+Reads bytes writer writer' old new = (start input : List ℕ) → HasRead start input writer old
+    → HasRead start (input ++ bytes) writer' new
 
 -- Within these bytes it had to stop: whatever follows them, what was written begins the replies.
 abbrev pub Stops : {A : Type 0} → List ℕ → Traffic → Traffic → Engine A → Type 0
-Stops bytes writer writer' old = (start input more : List ℕ) → HasRead start input writer old → IsBegun start (input ++ (bytes ++ more)) writer'
+Stops bytes writer writer' old = (start input more : List ℕ) → HasRead start input writer old
+    → IsBegun start (input ++ (bytes ++ more)) writer'
 
--- Between two moments of a run the engine has read all that the reader gave, and no call went wrong.
-pub record IsRunning {A : Type 0} (reader reader' writer writer' : Traffic) (engine : Engine A) : Type 0 where
+-- Between two moments of a run the engine has read all that the reader gave, and no call went
+-- wrong.
+pub record IsRunning {A : Type 0} (reader reader' writer writer' : Traffic)
+    (engine : Engine A) : Type 0 where
   pub input : List ℕ
   pub given : reader'.bytes ≡ reader.bytes ++ input
   pub read : HasRead writer.bytes input writer' engine

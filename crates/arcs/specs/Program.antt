@@ -1,5 +1,6 @@
 -- What the program does with its words.
-use Rattle.std.specs.Prelude.{◌≡◌, ◌<◌, ℕ, List, [], ◌∷◌, map, Result, Ok, Err, MatchResult, String, string_bytes, codes}
+use Rattle.std.specs.Prelude.{◌≡◌, ◌<◌, ℕ, List, [], ◌∷◌, map, Result, Ok, Err, MatchResult, String}
+use Rattle.std.specs.Prelude.{string_bytes, codes}
 use Rattle.std.specs.declared.alloc.Global.{Global}
 use Rattle.arcs.specs.Script.{IsReplyText, BeginsReplyText}
 use Rattle.arcs.specs.Traffic.{Traffic, Exchanges, NoFault}
@@ -34,4 +35,5 @@ pub record IsCut (reader reader' writer writer' : Traffic) (error : ScriptError)
 pub record IsRun (reader reader' writer writer' : Traffic) (status : ℕ) : Type 0 where
   pub outcome : Result (Unit {0}) ScriptError
   pub told : status ≡ status_of outcome
-  pub run : MatchResult outcome (λ done. IsWhole reader reader' writer writer') (IsCut reader reader' writer writer')
+  pub run : MatchResult outcome
+      (λ done. IsWhole reader reader' writer writer') (IsCut reader reader' writer writer')

@@ -1,5 +1,7 @@
 -- Reading a line: its words, and the command that they say.
-use Rattle.std.specs.Prelude.{◌≡◌, ℕ, ◌+◌, ◌*◌, ◌^◌, Bool, ◌==◌, ◌&&◌, ◌||◌, nat_lt, if◌then◌else◌, List, [], ◌∷◌, Option, Some, None, Result, Ok, Err, IsSomeAnd, decimal, codes}
+use Rattle.std.specs.Prelude.{◌≡◌, ℕ, ◌+◌, ◌*◌, ◌^◌, Bool, ◌==◌, ◌&&◌, ◌||◌, nat_lt, if◌then◌else◌}
+use Rattle.std.specs.Prelude.{List, [], ◌∷◌, Option, Some, None, Result, Ok, Err, IsSomeAnd}
+use Rattle.std.specs.Prelude.{decimal, codes}
 use Rattle.std.specs.Borrow.{Bor}
 use Rattle.std.specs.Char.{digit_value}
 use Rattle.std.specs.Int.{is_in_range}
@@ -28,9 +30,11 @@ abbrev pub words_in : Option (Bor (List ℕ)) → List (List ℕ)
 words_in None = []
 words_in (Some line) = words_of_line line.now
 
--- The value that a word says: the guess at it, if that is a value that can be written and is written so.
+-- The value that a word says: the guess at it, if that is a value that can be written and is
+-- written so.
 abbrev pub checked : {X : Type 0} → (List ℕ → X) → (X → List ℕ) → (X → Bool) → List ℕ → Option X
-checked guess write fits word = if bytes_eq word (write (guess word)) && fits (guess word) then Some (guess word) else None
+checked guess write fits word =
+    if bytes_eq word (write (guess word)) && fits (guess word) then Some (guess word) else None
 
 abbrev pub number_of : List ℕ → Option ℕ
 number_of word = checked (digits_value 10) decimal (λ n. nat_lt n (10 ^ 18)) word
@@ -48,7 +52,8 @@ abbrev pub items_of : List ℕ → Option (List ℕ)
 items_of word = checked pairs items_word (list_all (λ item. nat_lt item 256)) word
 
 -- the value of the first word, and the words behind it
-abbrev pub first_by : {X : Type 0} → (List ℕ → Option X) → List (List ℕ) → Option (X × List (List ℕ))
+abbrev pub first_by : {X : Type 0} → (List ℕ → Option X) → List (List ℕ)
+    → Option (X × List (List ℕ))
 first_by read [] = None
 first_by read (word ∷ words) = read word >>= λ x. Some (x, words)
 
@@ -110,7 +115,8 @@ BringsItems other = ⊥
 abbrev pub Never : {X : Type 0} → X → Type 0
 Never x = ⊥
 
--- What a function read, seen by view, is what reading gives. Memory may run out where a command brings items.
+-- What a function read, seen by view, is what reading gives. Memory may run out where a command
+-- brings items.
 abbrev pub Fails : {Y : Type 0} → Unread → (Y → Type 0) → Option Y → Type 0
 Fails unread.Bad wants read = read ≡ None
 Fails unread.Memory wants read = IsSomeAnd read wants

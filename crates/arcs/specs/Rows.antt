@@ -9,7 +9,10 @@ use Rattle.arcs.specs.declared.windows.Windows.{Windows}
 
 -- the windows as a table: there were as many blocks as there are passes
 abbrev pub table_of : {A : Type 0} → Windows A → ByteTable
-table_of w = record { rows = map (option_map row_of) w.entries.items; blocks = length w.passes.of_blocks.items }
+table_of w = record {
+  rows = map (option_map row_of) w.entries.items;
+  blocks = length w.passes.of_blocks.items;
+}
 
 -- where they stand, and the pass of each block
 abbrev pub standing_of : {A : Type 0} → Windows A → Standing Whole

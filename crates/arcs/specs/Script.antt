@@ -1,5 +1,6 @@
 -- Scripts: the lines of an input, what each is answered, and what is written.
-use Rattle.std.specs.Prelude.{◌≡◌, ℕ, true, false, List, [], ◌∷◌, ◌++◌, Option, Some, None, map, flat_map, Contains, codes}
+use Rattle.std.specs.Prelude.{◌≡◌, ℕ, true, false, List, [], ◌∷◌, ◌++◌, Option, Some, None, map}
+use Rattle.std.specs.Prelude.{flat_map, Contains, codes}
 use Rattle.std.specs.List.{AllByRecursion}
 use Rattle.arc_block.specs.Table.{Table, empty_table}
 use Rattle.arcs.specs.RunOf.{RunOf}
@@ -41,16 +42,19 @@ ByteTable = Table ℕ (Unit {0})
 abbrev pub IsBad : List ℕ → Type 0
 IsBad line = (c : Command (List ℕ)) → ¬ Says line c
 
--- what a line is answered: one step of the command that it says, or None where it says none and nothing changes
+-- what a line is answered: one step of the command that it says, or None where it says none and
+-- nothing changes
 abbrev pub Answers : ByteTable → List ℕ → Option (Reply (List ℕ)) → ByteTable → Type 0
-Answers old line (Some reply) new = (c : Command (List ℕ)) × Says line c × Step byte_setting old c reply new
+Answers old line (Some reply) new = (c : Command (List ℕ)) × Says line c
+    × Step byte_setting old c reply new
 Answers old line None new = IsBad line × (new ≡ old)
 
 abbrev pub answer_text : Option (Reply (List ℕ)) → List ℕ
 answer_text (Some reply) = reply_text reply
 answer_text None = codes "bad line"
 
--- what is written for an input: the replies of a run over its lines, from no window on, each with a line feed
+-- what is written for an input: the replies of a run over its lines, from no window on, each with a
+-- line feed
 pub record IsReplyText (input text : List ℕ) : Type 0 where
   pub lines : List (List ℕ)
   pub replies : List (Option (Reply (List ℕ)))

@@ -8,7 +8,11 @@ use Rattle.arcs.specs.declared.slot.Slot.{Slot}
 module _ {A : Type 0} where
   -- a window as a row
   abbrev pub row_of : Slot A → Row ℕ (Unit {0})
-  row_of e = record { items = e.window.items; place = numbered e.block e.window.place; role = reader }
+  row_of e = record {
+    items = e.window.items;
+    place = numbered e.block e.window.place;
+    role = reader;
+  }
 
   -- where a window stands, if it hasn't gone
   abbrev pub stand_of : Option (Slot A) → Stand

@@ -1,12 +1,14 @@
 -- Where the windows of a script stand: the numbers of their blocks, and the passes of these.
-use Rattle.std.specs.Prelude.{◌≡◌, ℕ, ◌<◌, Bool, true, false, List, Option, Some, None, length, slice_get, slice_set}
+use Rattle.std.specs.Prelude.{◌≡◌, ℕ, ◌<◌, Bool, true, false, List, Option, Some, None, length}
+use Rattle.std.specs.Prelude.{slice_get, slice_set}
 use Rattle.arc_owners.specs.declared.count.tokens.Pass.{Pass}
 use Rattle.arc_owners.specs.count.Calls.{Owner, IsPassOfNone, IsPassFor, MakesAnother, FindsFull}
 use Rattle.arc_block.specs.Owned.{Stand}
 use Rattle.arc_block.specs.Place.{Place, nowhere, static_data, on_block}
 
 module _ {M : Type 0} where
-  -- a place, on the block with this number. No window of a script stands on a block that counts no owners
+  -- a place, on the block with this number. No window of a script stands on a block that counts no
+  -- owners
   abbrev pub numbered : Option ℕ → Place (Option Owner) M → Place ℕ M
   numbered number nowhere = nowhere
   numbered number static_data = static_data
@@ -39,7 +41,8 @@ module _ {H : Type 0} where
   abbrev pub Joins : Stand → Pass H → Pass H → Stand → Type 0
   Joins s old new None = new ≡ old
   Joins None old new (Some made) = ⊥
-  Joins (Some (number, owner)) old new (Some made) = (made.0 ≡ number) × MakesAnother owner old new made.1
+  Joins (Some (number, owner)) old new (Some made) = (made.0 ≡ number)
+      × MakesAnother owner old new made.1
 
   -- the block on which a window stands had as many owners as it can have
   abbrev pub IsFullStand : Stand → Pass H → Pass H → Type 0
@@ -49,7 +52,8 @@ module _ {H : Type 0} where
   -- the pass with this number was taken out of these, or one of no block was made
   abbrev pub TakenOut : List (Pass H) → Option ℕ → Pass H → List (Pass H) → Type 0
   TakenOut passes None p left = IsPassOfNone p × (left ≡ passes)
-  TakenOut passes (Some number) p left = (slice_get passes number ≡ Some p) × ((q : Pass H) → slice_set left number q ≡ slice_set passes number q)
+  TakenOut passes (Some number) p left = (slice_get passes number ≡ Some p)
+      × ((q : Pass H) → slice_set left number q ≡ slice_set passes number q)
 
   -- the passes, with this one back under its number
   abbrev pub put_back : List (Pass H) → Option ℕ → Pass H → List (Pass H)

@@ -1,8 +1,10 @@
 -- The texts of a script: how items, commands and replies are written.
-use Rattle.std.specs.Prelude.{◌≡◌, ℕ, ◌+◌, ◌/◌, ◌%◌, ◌<◌, ◌≤◌, ◌^◌, nat_lt, if◌then◌else◌, List, [], ◌∷◌, ◌++◌, length, flat_map, decimal, codes}
+use Rattle.std.specs.Prelude.{◌≡◌, ℕ, ◌+◌, ◌/◌, ◌%◌, ◌<◌, ◌≤◌, ◌^◌, nat_lt, if◌then◌else◌, List, []}
+use Rattle.std.specs.Prelude.{◌∷◌, ◌++◌, length, flat_map, decimal, codes}
 use Rattle.std.specs.List.{AllByRecursion, join_with_byte}
 use Rattle.arc_owners.specs.declared.error.RangeError.{RangeError}
-use Rattle.arc_owners.specs.declared.error.RangeError.TheVariants.{OutOfRange, InvalidRange, NotBoundary}
+use Rattle.arc_owners.specs.declared.error.RangeError.TheVariants.{OutOfRange, InvalidRange}
+use Rattle.arc_owners.specs.declared.error.RangeError.TheVariants.{NotBoundary}
 use Rattle.arc_owners.specs.declared.error.OwnerError.{OwnerError}
 use Rattle.arc_owners.specs.declared.error.OwnerError.TheVariants as owner
 use Rattle.arcs.specs.declared.command.Command.{Command}

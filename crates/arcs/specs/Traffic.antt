@@ -3,7 +3,8 @@ use Rattle.std.specs.Prelude.{◌≡◌, ℕ, ◌+◌, ◌==◌, ◌&&◌, nat_l
 use Rattle.std.specs.Prelude.{length, take, Option, Some, None, IfSome}
 use Rattle.std.specs.Io.KnownBytes.{Appends, Consumes}
 
--- the bytes that passed in all calls; how many calls failed; and how many, over a slice that isn't empty, passed nothing
+-- the bytes that passed in all calls; how many calls failed; and how many, over a slice that isn't
+-- empty, passed nothing
 pub record Traffic : Type 0 where
   pub bytes : List ℕ
   pub failures : ℕ
@@ -27,8 +28,10 @@ after_call t slice (Some n) = record {
 }
 after_call t slice None = record t { failures = t.failures + 1 }
 
--- from one moment to the next a reader gave some input and a writer took some text, which go together
-pub record Exchanges (fits : List ℕ → List ℕ → Type 0) (reader reader' writer writer' : Traffic) : Type 0 where
+-- from one moment to the next a reader gave some input and a writer took some text, which go
+-- together
+pub record Exchanges (fits : List ℕ → List ℕ
+    → Type 0) (reader reader' writer writer' : Traffic) : Type 0 where
   pub input : List ℕ
   pub text : List ℕ
   pub given : reader'.bytes ≡ reader.bytes ++ input

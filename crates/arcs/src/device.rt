@@ -9,7 +9,8 @@ use std::io;
 use std::io::{Read, Write};
 use std::marker::Model;
 
-/// What gives a script its bytes: std's `read`, which tells its bytes and counts its failures and the ends it found.
+/// What gives a script its bytes: std's `read`, which tells its bytes and counts its failures and
+/// the ends it found.
 pub trait Source {
     ghost use Rattle.arcs.specs.Traffic.{Traffic, after_call};
 
@@ -19,15 +20,16 @@ pub trait Source {
     /// What its reads will give from here on, where that is known.
     ghost remaining: { Self → Option (List ℕ) };
 
-    /// Reads into the front of `buf`, and answers how many bytes: none where `buf` is empty or the end was found.
+    /// Reads into the front of `buf`, and answers how many bytes: none where `buf` is empty or the
+    /// end was found.
     fn read(&mut self, buf: &mut [u8]) -> io::Result<usize>
         ensures bound { IfOk result (λ n. n ≤ length buf.new) }
         ensures told { traffic self.new ≡ after_call (traffic self.old) buf.new (result_ok result) }
         ensures bytes { ReadConsumes (remaining self.old) (remaining self.new) result buf.new };
 }
 
-/// What takes a script's replies: std's `write`, which tells its bytes and counts its failures and the writes that took
-/// nothing.
+/// What takes a script's replies: std's `write`, which tells its bytes and counts its failures and
+/// the writes that took nothing.
 pub trait Sink {
     ghost use Rattle.arcs.specs.Traffic.{Traffic, after_call};
 

@@ -32,7 +32,8 @@ impl Log {
 
     /// The calls so far, and then this one.
     pub fn then(&self, _call: &Call) -> Log
-        ensures { result.traffic ≡ after_call self.now.traffic _call.now.slice.now _call.now.passed }
+        ensures { result.traffic
+            ≡ after_call self.now.traffic _call.now.slice.now _call.now.passed }
     {
         Log {}
     }

@@ -1,5 +1,6 @@
 //! Reading a line as a command.
-ghost use Rattle.std.specs.Prelude.{◌≡◌, ◌+◌, ◌*◌, ◌<◌, ◌≤◌, ℕ, List, length, true, Some, IfOk, MatchOption, OnErr, IsTrue};
+ghost use Rattle.std.specs.Prelude.{◌≡◌, ◌+◌, ◌*◌, ◌<◌, ◌≤◌, ℕ, List, length, true, Some, IfOk};
+ghost use Rattle.std.specs.Prelude.{MatchOption, OnErr, IsTrue};
 ghost use Rattle.std.specs.Option.{option_map};
 ghost use Rattle.std.specs.Char.{digit_value};
 ghost use Rattle.std.specs.List.{list_all, position_or_len};
@@ -9,7 +10,10 @@ ghost use Rattle.arcs.specs.Script.{IsBad};
 ghost use Rattle.arcs.specs.Seen.{seen_command};
 ghost use Rattle.arcs.specs.declared.command.Command.{Command};
 ghost use Rattle.arcs.specs.declared.parse.Unread.TheVariants as unread;
-ghost use Rattle.arcs.specs.Reading.{Never, is_hex_digit, is_space, BringsItems, Reads, clone_of, command_of, drop_of, first_by, items_of, only, number_of, pairs, show_of, slice_of, sub_of, uniq_of, words_in, words_of_line};
+ghost use Rattle.arcs.specs.Reading.{Never, is_hex_digit, is_space, BringsItems, Reads, clone_of};
+ghost use Rattle.arcs.specs.Reading.{command_of, drop_of, first_by, items_of, only, number_of};
+ghost use Rattle.arcs.specs.Reading.{pairs, show_of, slice_of, sub_of, uniq_of, words_in};
+ghost use Rattle.arcs.specs.Reading.{words_of_line};
 
 use crate::command::Command;
 use arc_owners::error::AllocError;
@@ -60,7 +64,8 @@ fn word_len(line: &[u8]) -> usize
 
 /// The first word of what is left, and what is left behind it.
 fn word(rest: Rest) -> Result<(&[u8], Rest), Unread>
-    ensures { Reads (λ x. (x.0.now, words_in x.1)) Never result (first_by Some (words_in rest.entry)) }
+    ensures { Reads (λ x.
+        (x.0.now, words_in x.1)) Never result (first_by Some (words_in rest.entry)) }
 {
     let line = rest.ok_or(Unread::Bad)?;
     let len = word_len(line);
@@ -93,7 +98,8 @@ fn number_in(word: &[u8]) -> Option<usize>
 
 /// The number that the first word says.
 fn number(rest: Rest) -> Result<(usize, Rest), Unread>
-    ensures { Reads (λ x. (x.0, words_in x.1)) Never result (first_by number_of (words_in rest.entry)) }
+    ensures { Reads (λ x.
+        (x.0, words_in x.1)) Never result (first_by number_of (words_in rest.entry)) }
 {
     let (word, rest) = word(rest)?;
     let number = number_in(word).ok_or(Unread::Bad)?;
@@ -141,7 +147,9 @@ fn digits_in(word: &[u8]) -> Option<Hex<'_>>
 
 /// The items that the first word says.
 fn items(rest: Rest) -> Result<(Hex, Rest), Unread>
-    ensures { Reads (λ x. (pairs x.0.digits.now, words_in x.1)) Never result (first_by items_of (words_in rest.entry)) }
+    ensures { Reads (λ x.
+        (pairs x.0.digits.now, words_in x.1)) Never result
+        (first_by items_of (words_in rest.entry)) }
 {
     let (word, rest) = word(rest)?;
     let hex = digits_in(word).ok_or(Unread::Bad)?;
@@ -250,14 +258,16 @@ fn command<A: Allocator>(alloc: A, line: &[u8]) -> Result<Command<Vec<u8, A>>, U
     }
 }
 
-/// The command that a line says, or `None` where it says none (`Says` and `IsBad` in `specs/`). A line of more than
-/// `LONGEST_LINE` bytes says none. Takes memory for the items of a command alone, once, for their number of bytes.
-/// `Err` where that memory is refused: the line then says a command that brings items.
+/// The command that a line says, or `None` where it says none (`Says` and `IsBad` in `specs/`). A
+/// line of more than `LONGEST_LINE` bytes says none. Takes memory for the items of a command alone,
+/// once, for their number of bytes. `Err` where that memory is refused: the line then says a
+/// command that brings items.
 pub fn parse<A: Allocator + Copy>(
     alloc: A,
     line: &[u8],
 ) -> Result<Option<Command<Vec<u8, A>>>, AllocError>
-    ensures ok { IfOk result (λ said. MatchOption said (IsBad line.now) (λ c. Says line.now (seen_command c))) }
+    ensures ok { IfOk result (λ said.
+        MatchOption said (IsBad line.now) (λ c. Says line.now (seen_command c))) }
     ensures err { OnErr result ((c : Command (List ℕ)) × Says line.now c × BringsItems c) }
 {
     if line.len() > LONGEST_LINE {

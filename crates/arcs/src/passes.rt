@@ -5,7 +5,8 @@ use arc_owners::owners::Pass;
 use std::alloc::Allocator;
 use std::mem;
 
-/// The one pass of each block, under the block's number. They have no bytes: what they say is for contracts.
+/// The one pass of each block, under the block's number. They have no bytes: what they say is for
+/// contracts.
 #[derive(Drop)]
 pub struct Passes<A: Allocator> {
     pub of_blocks: Vec<Pass<Whole>, A>,
@@ -15,7 +16,8 @@ impl<A: Allocator> Passes<A> {
     ghost use Rattle.std.specs.Prelude.{◌≡◌};
     ghost use Rattle.arcs.specs.Stands.{HasNumber, TakenOut, put_back};
 
-    /// The pass of a block, for a call that steps on it, or a pass of none. It comes back by `give_back`.
+    /// The pass of a block, for a call that steps on it, or a pass of none. It comes back by
+    /// `give_back`.
     pub fn lend(&mut self, block: Option<usize>) -> Pass<Whole>
         requires { HasNumber self.old.of_blocks.items block }
         ensures { TakenOut self.old.of_blocks.items block result self.new.of_blocks.items }

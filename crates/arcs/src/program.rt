@@ -15,7 +15,8 @@ use std::sync::Wait;
 /// How long a word of the program's may be, in bytes: each that it knows is shorter.
 const WORD: usize = 64;
 
-/// The status that a fault ends with, and its line on standard error. A failed write of the line changes no status.
+/// The status that a fault ends with, and its line on standard error. A failed write of the line
+/// changes no status.
 fn report<F: Sink>(faults: &mut F, error: ScriptError) -> u8
     ensures { result ≡ status_of (Err error) }
 {
@@ -30,9 +31,10 @@ fn report<F: Sink>(faults: &mut F, error: ScriptError) -> u8
 
 /// Runs the program on its words, and answers its status.
 ///
-/// For the one word `arc` it runs the script that the reader gives: 0 where all of it was answered, 1 where memory was
-/// refused, 3 where a read failed, 4 where a write failed or took nothing; a fault is told to `faults` in one line. For any
-/// other words it tells the usage there, and answers 2 before any input is read.
+/// For the one word `arc` it runs the script that the reader gives: 0 where all of it was answered,
+/// 1 where memory was refused, 3 where a read failed, 4 where a write failed or took nothing; a
+/// fault is told to `faults` in one line. For any other words it tells the usage there, and answers
+/// 2 before any input is read.
 pub fn run_args<R: Source, W: Sink, F: Sink, A: Allocator + Copy>(
     rt: &impl Wait,
     alloc: A,
@@ -41,14 +43,17 @@ pub fn run_args<R: Source, W: Sink, F: Sink, A: Allocator + Copy>(
     writer: &mut W,
     faults: &mut F,
 ) -> u8
-    ensures arc { IsArc words.now → IsRun (R.traffic reader.old) (R.traffic reader.new) (W.traffic writer.old) (W.traffic writer.new) result }
+    ensures arc { IsArc words.now
+        → IsRun (R.traffic reader.old) (R.traffic reader.new) (W.traffic writer.old)
+        (W.traffic writer.new) result }
     ensures given { Gives (R.traffic reader.old) (R.traffic reader.new)
         (R.remaining reader.old) (R.remaining reader.new) }
     ensures taken { Takes (W.traffic writer.old) (W.traffic writer.new)
         (W.contents writer.old) (W.contents writer.new) }
     ensures drained { IsArc words.now → result ≡ 0
         → GivesAll (R.traffic reader.old) (R.traffic reader.new) (R.remaining reader.old) }
-    ensures usage { ¬ IsArc words.now → (result ≡ 2) × (R.traffic reader.new ≡ R.traffic reader.old) × (W.traffic writer.new ≡ W.traffic writer.old) }
+    ensures usage { ¬ IsArc words.now → (result ≡ 2) × (R.traffic reader.new ≡ R.traffic reader.old)
+        × (W.traffic writer.new ≡ W.traffic writer.old) }
 {
     if !is_arc(words) {
         let _ = write_out(faults, b"usage: arcs arc|boxed|vec|raw|storm N\n");
@@ -87,8 +92,8 @@ fn word(rt: &(impl Env + AllocGlobal), i: usize) -> Result<Option<String>, Alloc
     Ok(Some(word))
 }
 
-/// The words behind the program's name. One that isn't text, or is longer than each word that the program knows, stands
-/// here as an empty word.
+/// The words behind the program's name. One that isn't text, or is longer than each word that the
+/// program knows, stands here as an empty word.
 pub fn words(rt: &(impl Env + AllocGlobal)) -> Result<Vec<String>, AllocError> {
     let mut words = Vec::new(rt.alloc());
     for i in 1..usize::MAX {

@@ -1,5 +1,7 @@
 //! Running a script: lines from a reader, replies to a writer.
-ghost use Rattle.std.specs.Prelude.{◌≡◌, ◌<◌, ◌≤◌, ◌+◌, ◌++◌, ◌∷◌, List, ℕ, [], false, length, take, drop, OnOk, OnErr, IfOk, IfErr, IfSome, MatchOption, vec_len};
+ghost use Rattle.std.specs.Prelude.{◌≡◌, ◌<◌, ◌≤◌, ◌+◌, ◌++◌, ◌∷◌, List, ℕ, [], false, length};
+ghost use Rattle.std.specs.Prelude.{take, drop, OnOk, OnErr, IfOk, IfErr, IfSome, MatchOption};
+ghost use Rattle.std.specs.Prelude.{vec_len};
 ghost use Rattle.arcs.specs.Text.{line_feed};
 ghost use Rattle.arcs.specs.Script.{AreLines, BeginsReplyText, HasNoFeed, IsReplyText};
 ghost use Rattle.std.specs.Io.KnownBytes.{IsAtEnd};
@@ -20,7 +22,8 @@ use std::alloc::Allocator;
 use std::sync::Wait;
 use thiserror::Error;
 
-/// How many bytes are read at once, and how many bytes of replies are held at most before they go out.
+/// How many bytes are read at once, and how many bytes of replies are held at most before they go
+/// out.
 const PIECE: usize = 65536;
 
 /// Why a script was not run to its end.
@@ -54,11 +57,13 @@ pub enum ScriptLayout {
 
 /// Writes the bytes, in as many calls as it takes.
 pub fn write_out<W: Sink>(writer: &mut W, bytes: &[u8]) -> Result<(), ScriptError>
-    ensures ok { OnOk result ((W.traffic writer.new).bytes ≡ (W.traffic writer.old).bytes ++ bytes.now) }
+    ensures ok { OnOk result
+        ((W.traffic writer.new).bytes ≡ (W.traffic writer.old).bytes ++ bytes.now) }
     ensures taken { Takes (W.traffic writer.old) (W.traffic writer.new)
         (W.contents writer.old) (W.contents writer.new) }
     ensures clean { OnOk result (NoFault (W.traffic writer.old) (W.traffic writer.new)) }
-    ensures err { OnErr result (TakesFront bytes.now (W.traffic writer.old) (W.traffic writer.new)) }
+    ensures err { OnErr result
+        (TakesFront bytes.now (W.traffic writer.old) (W.traffic writer.new)) }
     ensures write { IfErr result (λ e. e ≡ ScriptError.Write) }
     ensures fault { OnErr result (faults (W.traffic writer.old) < faults (W.traffic writer.new)) }
 {
@@ -110,7 +115,8 @@ impl<A: Allocator + Copy> Engine<A> {
 
     /// Holds more of the line, or only that it is too long.
     fn hold(&mut self, bytes: &[u8]) -> Result<(), AllocError>
-        ensures ok { OnOk result ((line : List ℕ) → Holds self.old.line.items self.old.too_long line → Holds self.new.line.items self.new.too_long (line ++ bytes.now)) }
+        ensures ok { OnOk result ((line : List ℕ) → Holds self.old.line.items self.old.too_long line
+            → Holds self.new.line.items self.new.too_long (line ++ bytes.now)) }
         ensures windows { table_of self.new.windows ≡ table_of self.old.windows }
         ensures out { self.new.out.items ≡ self.old.out.items }
     {
@@ -125,7 +131,8 @@ impl<A: Allocator + Copy> Engine<A> {
 
     /// Reads the line that has come.
     fn read_line(&self) -> Result<Option<Command<Vec<u8, A>>>, AllocError>
-        ensures { IfOk result (λ said. (line : List ℕ) → Holds self.now.line.items self.now.too_long line → IsReadAs line said) }
+        ensures { IfOk result (λ said. (line : List ℕ)
+            → Holds self.now.line.items self.now.too_long line → IsReadAs line said) }
     {
         if self.too_long {
             return Ok(None);
@@ -135,7 +142,9 @@ impl<A: Allocator + Copy> Engine<A> {
 
     /// Answers the line that has come.
     fn end_line(&mut self, rt: &impl Wait) -> Result<(), AllocError>
-        ensures ok { OnOk result (Ends self.old.line.items self.old.too_long (table_of self.old.windows) (table_of self.new.windows) self.old.out.items self.new.out.items) }
+        ensures ok { OnOk result
+            (Ends self.old.line.items self.old.too_long (table_of self.old.windows)
+            (table_of self.new.windows) self.old.out.items self.new.out.items) }
         ensures line { OnOk result ((self.new.line.items ≡ []) × (self.new.too_long ≡ false)) }
         ensures err { OnErr result (self.new.out.items ≡ self.old.out.items) }
     {
@@ -149,13 +158,17 @@ impl<A: Allocator + Copy> Engine<A> {
 
     /// Writes the replies that are held.
     fn flush<W: Sink>(&mut self, writer: &mut W) -> Result<(), ScriptError>
-        ensures ok { OnOk result (((W.traffic writer.new).bytes ≡ (W.traffic writer.old).bytes ++ self.old.out.items) × (self.new.out.items ≡ [])) }
+        ensures ok { OnOk result
+            (((W.traffic writer.new).bytes ≡ (W.traffic writer.old).bytes ++ self.old.out.items)
+            × (self.new.out.items ≡ [])) }
         ensures windows { table_of self.new.windows ≡ table_of self.old.windows }
-        ensures line { (self.new.line.items ≡ self.old.line.items) × (self.new.too_long ≡ self.old.too_long) }
+        ensures line { (self.new.line.items ≡ self.old.line.items)
+            × (self.new.too_long ≡ self.old.too_long) }
         ensures taken { Takes (W.traffic writer.old) (W.traffic writer.new)
             (W.contents writer.old) (W.contents writer.new) }
         ensures clean { OnOk result (NoFault (W.traffic writer.old) (W.traffic writer.new)) }
-        ensures err { OnErr result (TakesFront self.old.out.items (W.traffic writer.old) (W.traffic writer.new)) }
+        ensures err { OnErr result
+            (TakesFront self.old.out.items (W.traffic writer.old) (W.traffic writer.new)) }
         ensures fault { IfErr result (IsWhy (W.traffic writer.old) (W.traffic writer.new)) }
     {
         write_out(writer, &self.out)?;
@@ -163,7 +176,8 @@ impl<A: Allocator + Copy> Engine<A> {
         Ok(())
     }
 
-    /// Takes the end of a line and its line feed, and answers the line. Replies go out where many are held.
+    /// Takes the end of a line and its line feed, and answers the line. Replies go out where many
+    /// are held.
     fn take_line<W: Sink>(
         &mut self,
         rt: &impl Wait,
@@ -171,11 +185,15 @@ impl<A: Allocator + Copy> Engine<A> {
         bytes: &[u8],
     ) -> Result<(), ScriptError>
         requires { HasNoFeed bytes.now }
-        ensures ok { OnOk result (Reads (bytes.now ++ line_feed ∷ []) (W.traffic writer.old) (W.traffic writer.new) self.old self.new) }
+        ensures ok { OnOk result
+            (Reads (bytes.now ++ line_feed ∷ []) (W.traffic writer.old)
+            (W.traffic writer.new) self.old self.new) }
         ensures taken { Takes (W.traffic writer.old) (W.traffic writer.new)
             (W.contents writer.old) (W.contents writer.new) }
         ensures clean { OnOk result (NoFault (W.traffic writer.old) (W.traffic writer.new)) }
-        ensures err { OnErr result (Stops (bytes.now ++ line_feed ∷ []) (W.traffic writer.old) (W.traffic writer.new) self.old) }
+        ensures err { OnErr result
+            (Stops (bytes.now ++ line_feed ∷ []) (W.traffic writer.old)
+            (W.traffic writer.new) self.old) }
         ensures fault { IfErr result (IsWhy (W.traffic writer.old) (W.traffic writer.new)) }
     {
         self.hold(bytes)?;
@@ -193,11 +211,13 @@ impl<A: Allocator + Copy> Engine<A> {
         writer: &mut W,
         piece: &[u8],
     ) -> Result<(), ScriptError>
-        ensures ok { OnOk result (Reads piece.now (W.traffic writer.old) (W.traffic writer.new) self.old self.new) }
+        ensures ok { OnOk result
+            (Reads piece.now (W.traffic writer.old) (W.traffic writer.new) self.old self.new) }
         ensures taken { Takes (W.traffic writer.old) (W.traffic writer.new)
             (W.contents writer.old) (W.contents writer.new) }
         ensures clean { OnOk result (NoFault (W.traffic writer.old) (W.traffic writer.new)) }
-        ensures err { OnErr result (Stops piece.now (W.traffic writer.old) (W.traffic writer.new) self.old) }
+        ensures err { OnErr result
+            (Stops piece.now (W.traffic writer.old) (W.traffic writer.new) self.old) }
         ensures fault { IfErr result (IsWhy (W.traffic writer.old) (W.traffic writer.new)) }
     {
         let mut rest = piece;
@@ -209,7 +229,8 @@ impl<A: Allocator + Copy> Engine<A> {
         Ok(())
     }
 
-    /// Reads a piece of the input, answers its lines and writes their replies. `false` at the end of the input.
+    /// Reads a piece of the input, answers its lines and writes their replies. `false` at the end
+    /// of the input.
     fn take_piece<R: Source, W: Sink>(
         &mut self,
         rt: &impl Wait,
@@ -218,16 +239,23 @@ impl<A: Allocator + Copy> Engine<A> {
         piece: &mut [u8],
     ) -> Result<bool, ScriptError>
         requires { 0 < length piece.old }
-        ensures ok { OnOk result ((r w : Traffic) → IsRunning r (R.traffic reader.old) w (W.traffic writer.old) self.old → IsRunning r (R.traffic reader.new) w (W.traffic writer.new) self.new) }
-        ensures end { IfOk result (λ more. more ≡ false → (R.traffic reader.old).empties < (R.traffic reader.new).empties) }
+        ensures ok { OnOk result ((r w : Traffic)
+            → IsRunning r (R.traffic reader.old) w (W.traffic writer.old) self.old
+            → IsRunning r (R.traffic reader.new) w (W.traffic writer.new) self.new) }
+        ensures end { IfOk result (λ more. more ≡ false
+            → (R.traffic reader.old).empties < (R.traffic reader.new).empties) }
         ensures empties { (R.traffic reader.old).empties ≤ (R.traffic reader.new).empties }
         ensures given { Gives (R.traffic reader.old) (R.traffic reader.new)
             (R.remaining reader.old) (R.remaining reader.new) }
         ensures taken { Takes (W.traffic writer.old) (W.traffic writer.new)
             (W.contents writer.old) (W.contents writer.new) }
         ensures drained { IfOk result (λ more. more ≡ false → IsAtEnd (R.remaining reader.new)) }
-        ensures begun { OnErr result ((r w : Traffic) → IsRunning r (R.traffic reader.old) w (W.traffic writer.old) self.old → Exchanges BeginsReplyText r (R.traffic reader.new) w (W.traffic writer.new)) }
-        ensures fault { IfErr result (IsCause (R.traffic reader.old) (R.traffic reader.new) (W.traffic writer.old) (W.traffic writer.new)) }
+        ensures begun { OnErr result ((r w : Traffic)
+            → IsRunning r (R.traffic reader.old) w (W.traffic writer.old) self.old
+            → Exchanges BeginsReplyText r (R.traffic reader.new) w (W.traffic writer.new)) }
+        ensures fault { IfErr result
+            (IsCause (R.traffic reader.old) (R.traffic reader.new) (W.traffic writer.old)
+            (W.traffic writer.new)) }
     {
         let Ok(read) = reader.read(piece) else {
             return Err(ScriptError::Read);
@@ -242,7 +270,9 @@ impl<A: Allocator + Copy> Engine<A> {
 
     /// Answers what stands behind the last line feed, unless it is empty.
     fn answer_rest(&mut self, rt: &impl Wait) -> Result<(), AllocError>
-        ensures ok { OnOk result ((start input : List ℕ) (writer : Traffic) → HasRead start input writer self.old → IsAnswered start input writer self.new.out.items) }
+        ensures ok { OnOk result ((start input : List ℕ) (writer : Traffic)
+            → HasRead start input writer self.old
+            → IsAnswered start input writer self.new.out.items) }
     {
         if !self.too_long && self.line.is_empty() {
             return Ok(());
@@ -253,11 +283,15 @@ impl<A: Allocator + Copy> Engine<A> {
 
     /// Answers what stands behind the last line feed, unless it is empty, and writes what is held.
     fn finish<W: Sink>(&mut self, rt: &impl Wait, writer: &mut W) -> Result<(), ScriptError>
-        ensures ok { OnOk result ((start input : List ℕ) → HasRead start input (W.traffic writer.old) self.old → IsAnswered start input (W.traffic writer.new) []) }
+        ensures ok { OnOk result ((start input : List ℕ)
+            → HasRead start input (W.traffic writer.old) self.old
+            → IsAnswered start input (W.traffic writer.new) []) }
         ensures taken { Takes (W.traffic writer.old) (W.traffic writer.new)
             (W.contents writer.old) (W.contents writer.new) }
         ensures clean { OnOk result (NoFault (W.traffic writer.old) (W.traffic writer.new)) }
-        ensures err { OnErr result ((start input : List ℕ) → HasRead start input (W.traffic writer.old) self.old → IsBegun start input (W.traffic writer.new)) }
+        ensures err { OnErr result ((start input : List ℕ)
+            → HasRead start input (W.traffic writer.old) self.old
+            → IsBegun start input (W.traffic writer.new)) }
         ensures fault { IfErr result (IsWhy (W.traffic writer.old) (W.traffic writer.new)) }
     {
         self.answer_rest(rt)?;
@@ -265,7 +299,8 @@ impl<A: Allocator + Copy> Engine<A> {
         Ok(())
     }
 
-    /// Runs a script to its end, or to the first fault. The windows that are left then stay as they are.
+    /// Runs a script to its end, or to the first fault. The windows that are left then stay as they
+    /// are.
     fn run<R: Source, W: Sink>(
         &mut self,
         rt: &impl Wait,
@@ -275,17 +310,26 @@ impl<A: Allocator + Copy> Engine<A> {
         requires windows { table_of self.old.windows ≡ empty_table }
         requires line { (self.old.line.items ≡ []) × (self.old.too_long ≡ false) }
         requires out { self.old.out.items ≡ [] }
-        ensures ok { OnOk result (Exchanges IsReplyText (R.traffic reader.old) (R.traffic reader.new) (W.traffic writer.old) (W.traffic writer.new)) }
-        ensures end { OnOk result ((R.traffic reader.old).empties < (R.traffic reader.new).empties) }
+        ensures ok { OnOk result
+            (Exchanges IsReplyText (R.traffic reader.old) (R.traffic reader.new)
+            (W.traffic writer.old) (W.traffic writer.new)) }
+        ensures end { OnOk result
+            ((R.traffic reader.old).empties < (R.traffic reader.new).empties) }
         ensures given { Gives (R.traffic reader.old) (R.traffic reader.new)
             (R.remaining reader.old) (R.remaining reader.new) }
         ensures taken { Takes (W.traffic writer.old) (W.traffic writer.new)
             (W.contents writer.old) (W.contents writer.new) }
         ensures drained { OnOk result
             (GivesAll (R.traffic reader.old) (R.traffic reader.new) (R.remaining reader.old)) }
-        ensures clean { OnOk result (((R.traffic reader.new).failures ≡ (R.traffic reader.old).failures) × NoFault (W.traffic writer.old) (W.traffic writer.new)) }
-        ensures begun { OnErr result (Exchanges BeginsReplyText (R.traffic reader.old) (R.traffic reader.new) (W.traffic writer.old) (W.traffic writer.new)) }
-        ensures fault { IfErr result (IsCause (R.traffic reader.old) (R.traffic reader.new) (W.traffic writer.old) (W.traffic writer.new)) }
+        ensures clean { OnOk result
+            (((R.traffic reader.new).failures ≡ (R.traffic reader.old).failures)
+            × NoFault (W.traffic writer.old) (W.traffic writer.new)) }
+        ensures begun { OnErr result
+            (Exchanges BeginsReplyText (R.traffic reader.old) (R.traffic reader.new)
+            (W.traffic writer.old) (W.traffic writer.new)) }
+        ensures fault { IfErr result
+            (IsCause (R.traffic reader.old) (R.traffic reader.new) (W.traffic writer.old)
+            (W.traffic writer.new)) }
     {
         let mut piece = room(self.alloc)?;
         'pieces: for _ in rt.forever() {
@@ -315,7 +359,8 @@ impl<A: Allocator + Copy> Engine<A> {
 
 /// The bytes before the first line feed, and those behind it.
 fn first_line(bytes: &[u8]) -> Option<(&[u8], &[u8])>
-    ensures { MatchOption result (HasNoFeed bytes.now) (λ parts. HasNoFeed parts.0.now × (bytes.now ≡ parts.0.now ++ line_feed ∷ parts.1.now)) }
+    ensures { MatchOption result (HasNoFeed bytes.now) (λ parts. HasNoFeed parts.0.now
+        × (bytes.now ≡ parts.0.now ++ line_feed ∷ parts.1.now)) }
 {
     let end = bytes.iter().position(|byte| *byte == b'\n')?;
     Some((&bytes[..end], &bytes[end + 1..]))
@@ -328,12 +373,14 @@ fn room<A: Allocator>(alloc: A) -> Result<Vec<u8, A>, AllocError>
     Ok(vec![in alloc; 0u8; PIECE]?)
 }
 
-/// Runs a script: each line of the input is answered by one line of the output, and the windows go with the run.
+/// Runs a script: each line of the input is answered by one line of the output, and the windows go
+/// with the run.
 ///
-/// It reads in pieces of at most 65,536 bytes, holds no more of a line than 65,536 bytes, and writes the replies when a
-/// piece is done and whenever 65,536 bytes of them are held. `Read` where a read failed, `Write` where a write failed or
-/// took nothing, `Alloc` where memory was refused for a line, for its items or for replies that are held; what was written
-/// is then a beginning of the replies. Each window is released at the end and on every fault.
+/// It reads in pieces of at most 65,536 bytes, holds no more of a line than 65,536 bytes, and
+/// writes the replies when a piece is done and whenever 65,536 bytes of them are held. `Read` where
+/// a read failed, `Write` where a write failed or took nothing, `Alloc` where memory was refused
+/// for a line, for its items or for replies that are held; what was written is then a beginning of
+/// the replies. Each window is released at the end and on every fault.
 pub fn run_script<R: Source, W: Sink, A: Allocator + Copy>(
     rt: &impl Wait,
     alloc: A,
@@ -341,7 +388,9 @@ pub fn run_script<R: Source, W: Sink, A: Allocator + Copy>(
     writer: &mut W,
     layout: ScriptLayout,
 ) -> Result<(), ScriptError>
-    ensures ok { OnOk result (Exchanges IsReplyText (R.traffic reader.old) (R.traffic reader.new) (W.traffic writer.old) (W.traffic writer.new)) }
+    ensures ok { OnOk result
+        (Exchanges IsReplyText (R.traffic reader.old) (R.traffic reader.new) (W.traffic writer.old)
+        (W.traffic writer.new)) }
     ensures end { OnOk result ((R.traffic reader.old).empties < (R.traffic reader.new).empties) }
     ensures given { Gives (R.traffic reader.old) (R.traffic reader.new)
         (R.remaining reader.old) (R.remaining reader.new) }
@@ -349,9 +398,14 @@ pub fn run_script<R: Source, W: Sink, A: Allocator + Copy>(
         (W.contents writer.old) (W.contents writer.new) }
     ensures drained { OnOk result
         (GivesAll (R.traffic reader.old) (R.traffic reader.new) (R.remaining reader.old)) }
-    ensures clean { OnOk result (((R.traffic reader.new).failures ≡ (R.traffic reader.old).failures) × NoFault (W.traffic writer.old) (W.traffic writer.new)) }
-    ensures begun { OnErr result (Exchanges BeginsReplyText (R.traffic reader.old) (R.traffic reader.new) (W.traffic writer.old) (W.traffic writer.new)) }
-    ensures fault { IfErr result (IsCause (R.traffic reader.old) (R.traffic reader.new) (W.traffic writer.old) (W.traffic writer.new)) }
+    ensures clean { OnOk result (((R.traffic reader.new).failures ≡ (R.traffic reader.old).failures)
+        × NoFault (W.traffic writer.old) (W.traffic writer.new)) }
+    ensures begun { OnErr result
+        (Exchanges BeginsReplyText (R.traffic reader.old) (R.traffic reader.new)
+        (W.traffic writer.old) (W.traffic writer.new)) }
+    ensures fault { IfErr result
+        (IsCause (R.traffic reader.old) (R.traffic reader.new) (W.traffic writer.old)
+        (W.traffic writer.new)) }
 {
     let ScriptLayout::Arc = layout;
     let mut engine = Engine::new(alloc);
@@ -363,5 +417,6 @@ pub fn run_script<R: Source, W: Sink, A: Allocator + Copy>(
 /// Each input has replies, and is cut into lines in one way.
 pub fn every_input_is_answered()
     ensures answered { (input : List ℕ) → (text : List ℕ) × IsReplyText input text }
-    ensures lines { (input : List ℕ) (lines others : List (List ℕ)) → AreLines input lines → AreLines input others → lines ≡ others }
+    ensures lines { (input : List ℕ) (lines others : List (List ℕ)) → AreLines input lines
+        → AreLines input others → lines ≡ others }
 {}

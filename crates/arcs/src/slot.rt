@@ -34,12 +34,14 @@ impl<A: Allocator + Copy> Slot<A> {
     ghost use Rattle.arcs.specs.Stands.{IsPassOfStand, Joins, IsFullStand};
     ghost use Rattle.arcs.specs.Slots.{row_of, stand_of};
 
-    /// Another window with the same items at the same place, an owner more of the same block. Takes no memory; `CountFull` where the
-    /// block has as many owners as it can have.
+    /// Another window with the same items at the same place, an owner more of the same block. Takes
+    /// no memory; `CountFull` where the block has as many owners as it can have.
     pub fn try_clone(&self, rt: &impl Wait, pass: &mut Pass<Whole>) -> Result<Self, OwnerError>
         requires pass { IsPassOfStand (stand_of (Some self.now)) pass.old }
-        ensures ok { IfOk result (λ entry. (row_of entry ≡ row_of self.now) × Joins (stand_of (Some self.now)) pass.old pass.new (stand_of (Some entry))) }
-        ensures refused { IfErr result (λ e. (e ≡ OwnerError.CountFull) × IsFullStand (stand_of (Some self.now)) pass.old pass.new) }
+        ensures ok { IfOk result (λ entry. (row_of entry ≡ row_of self.now)
+            × Joins (stand_of (Some self.now)) pass.old pass.new (stand_of (Some entry))) }
+        ensures refused { IfErr result (λ e. (e ≡ OwnerError.CountFull)
+            × IsFullStand (stand_of (Some self.now)) pass.old pass.new) }
     {
         let window = self.window.try_clone_as(rt, pass)?;
         Ok(Slot {
@@ -48,8 +50,9 @@ impl<A: Allocator + Copy> Slot<A> {
         })
     }
 
-    /// A window over the items from `start` to `end`, an owner more of the same block, or with no items on nothing. Takes no memory;
-    /// `CountFull` where the block has as many owners as it can have.
+    /// A window over the items from `start` to `end`, an owner more of the same block, or with no
+    /// items on nothing. Takes no memory; `CountFull` where the block has as many owners as it can
+    /// have.
     pub fn try_subslice(
         &self,
         rt: &impl Wait,
@@ -59,10 +62,20 @@ impl<A: Allocator + Copy> Slot<A> {
     ) -> Result<Self, OwnerError>
         requires range { IsRange byte_setting.boundary self.now.window.items start end }
         requires pass { IsPassOfStand (stand_of (Some self.now)) pass.old }
-        ensures row { IfOk result (λ entry. row_of entry ≡ record { items = sub self.now.window.items start end; place = part_place true (sub self.now.window.items start end) start (row_of self.now).place; role = reader }) }
-        ensures stand { IfOk result (λ entry. Joins (stand_of (Some self.now)) pass.old pass.new (stand_of (Some entry))) }
-        ensures refused { IfErr result (λ e. (e ≡ OwnerError.CountFull) × IsFullStand (stand_of (Some self.now)) pass.old pass.new) }
-        ensures place { IfErr result (λ _. IsOnBlock (part_place true (sub self.now.window.items start end) start (row_of self.now).place)) }
+        ensures row { IfOk result (λ entry.
+            row_of entry ≡ record {
+              items = sub self.now.window.items start end;
+              place = part_place true (sub self.now.window.items start end) start
+                  (row_of self.now).place;
+              role = reader;
+            }) }
+        ensures stand { IfOk result (λ entry.
+            Joins (stand_of (Some self.now)) pass.old pass.new (stand_of (Some entry))) }
+        ensures refused { IfErr result (λ e. (e ≡ OwnerError.CountFull)
+            × IsFullStand (stand_of (Some self.now)) pass.old pass.new) }
+        ensures place { IfErr result (λ _.
+            IsOnBlock (part_place true (sub self.now.window.items start end) start
+            (row_of self.now).place)) }
     {
         let window = self.window.try_subslice_as(rt, start, end, pass)?;
         let block = if start == end { None } else { self.block };
@@ -72,7 +85,8 @@ impl<A: Allocator + Copy> Slot<A> {
     /// Whether no other owner of the window's block lives. `false` on no block. Takes no memory.
     pub fn is_unique(&self, pass: &mut Pass<Whole>) -> bool
         requires { IsPassAt self.now.window.place pass.old }
-        ensures { at_owner self.now.window.place ((result ≡ false) × (pass.new ≡ pass.old)) (λ o. Asks o pass.old pass.new result) }
+        ensures { at_owner self.now.window.place ((result ≡ false)
+            × (pass.new ≡ pass.old)) (λ o. Asks o pass.old pass.new result) }
     {
         self.window.is_unique_as(pass)
     }
@@ -80,7 +94,8 @@ impl<A: Allocator + Copy> Slot<A> {
     /// Ends the window: the last owner gives its block back. Takes no memory.
     pub fn release(self, pass: &mut Pass<Whole>)
         requires { IsPassAt self.window.place pass.old }
-        ensures { at_owner self.window.place (pass.new ≡ pass.old) (λ o. (last : Bool) × Leaves o pass.old pass.new last) }
+        ensures { at_owner self.window.place (pass.new ≡ pass.old) (λ o. (last : Bool)
+            × Leaves o pass.old pass.new last) }
     {
         let Slot { window, block: _ } = self;
         window.release_as(pass);

@@ -1,4 +1,5 @@
-//! Scripts and their replies, readers and writers that give or take little or fail, and the program's words and statuses.
+//! Scripts and their replies, readers and writers that give or take little or fail, and the
+//! program's words and statuses.
 use super::*;
 use crate::program::run_args;
 use crate::script::{ScriptError, ScriptLayout, run_script};
@@ -22,8 +23,8 @@ const REPLIES_IN_NEED: [&[u8]; 4] = [
     b"allocation error\nno window\nno window\n",
 ];
 
-/// A script whose fifth window may have no room in the list of windows, and its replies where it has room and where it
-/// has none.
+/// A script whose fifth window may have no room in the list of windows, and its replies where it
+/// has room and where it has none.
 const CLONES: &[u8] =
     b"slice 41\nclone 0\nclone 1\nclone 2\nclone 3\nshow 3\nshow 4\ndrop 0\nclone 1\nshow 4\n";
 
@@ -32,12 +33,14 @@ const CLONES_REPLIES: &[u8] = b"h0\nh1\nh2\nh3\nh4\n41\n41\nok\nh5\n41\n";
 const CLONES_IN_NEED: &[u8] =
     b"h0\nh1\nh2\nh3\nallocation error\n41\nno window\nok\nallocation error\nno window\n";
 
-/// A script that asks for a window alone on its block, with another owner beside it, and alone again, and its replies.
+/// A script that asks for a window alone on its block, with another owner beside it, and alone
+/// again, and its replies.
 const UNIQUE: &[u8] = b"slice 41\nuniq 0\nclone 0\nuniq 0\ndrop 1\nuniq 0\n";
 
 const UNIQUE_REPLIES: &[u8] = b"h0\nyes\nh1\nno\nok\nyes\n";
 
-/// A script that makes windows, clones and cuts on two blocks and on none and drops only some, and its replies.
+/// A script that makes windows, clones and cuts on two blocks and on none and drops only some, and
+/// its replies.
 const LEFT: &[u8] =
     b"slice 4142434445\nslice 6162\nclone 0\nsub 0 1 4\nsub 3 0 2\nclone 1\nslice -\nuniq 0\ndrop 0\ndrop 1\nsub 3 1 1\nuniq 5\nuniq 3\nshow 4\n";
 
@@ -421,8 +424,8 @@ fn statuses(rt: HostRuntime) -> Result<(), Fail> {
     Ok(())
 }
 
-/// A heap of its own, larger each time: at first it has no room for a piece of the input. A refusal while a command is
-/// carried out is a reply, and any other ends the run.
+/// A heap of its own, larger each time: at first it has no room for a piece of the input. A refusal
+/// while a command is carried out is a reply, and any other ends the run.
 #[test]
 fn memory_refused(rt: HostRuntime) -> Result<(), Fail> {
     let mut cut = 0u64;
@@ -458,8 +461,8 @@ fn memory_refused(rt: HostRuntime) -> Result<(), Fail> {
     Ok(())
 }
 
-/// A heap of its own, larger each time: where the list of windows can't grow, only a clone is refused, and it uses no
-/// number.
+/// A heap of its own, larger each time: where the list of windows can't grow, only a clone is
+/// refused, and it uses no number.
 #[test]
 fn clone_refused(rt: HostRuntime) -> Result<(), Fail> {
     let mut refused = 0u64;
@@ -486,7 +489,8 @@ fn clone_refused(rt: HostRuntime) -> Result<(), Fail> {
     Ok(())
 }
 
-/// The replies to earlier lines stand where a later line has no room: only the line is refused here.
+/// The replies to earlier lines stand where a later line has no room: only the line is refused
+/// here.
 #[test]
 fn line_refused(rt: HostRuntime) -> Result<(), Fail> {
     let mut script = Vec::from_slice(rt.alloc(), HELLO)?;
@@ -517,8 +521,8 @@ fn line_refused(rt: HostRuntime) -> Result<(), Fail> {
     Ok(())
 }
 
-/// Every piece of memory is given back at the end of a run, whatever windows are left: after the last line, and where a read or a
-/// write fails in mid-stream.
+/// Every piece of memory is given back at the end of a run, whatever windows are left: after the
+/// last line, and where a read or a write fails in mid-stream.
 #[test]
 fn given_back(rt: HostRuntime) -> Result<(), Fail> {
     let heap = LocalHeap::new(rt.alloc(), 200_000)?;

@@ -117,9 +117,9 @@ fn push_line<A: Allocator>(
     Ok(())
 }
 
-/// Appends what a line is answered, with its line feed: the text of the reply, or `bad line` for `None` (`answer_text`
-/// in `specs/`). Items take two bytes each. Takes memory where `out` has no room: `Err` where that is refused, and
-/// `out` then has the bytes that it had.
+/// Appends what a line is answered, with its line feed: the text of the reply, or `bad line` for
+/// `None` (`answer_text` in `specs/`). Items take two bytes each. Takes memory where `out` has no
+/// room: `Err` where that is refused, and `out` then has the bytes that it had.
 pub fn push_answer<A: Allocator>(
     out: &mut Vec<u8, A>,
     answer: &Option<Reply<Vec<u8, A>>>,

@@ -14,10 +14,12 @@ use std::alloc::Allocator;
 use std::mem;
 use std::sync::Wait;
 
-/// The windows of a script under their numbers, `None` where one has gone, and the passes of the blocks on which they have stood.
+/// The windows of a script under their numbers, `None` where one has gone, and the passes of the
+/// blocks on which they have stood.
 ///
-/// At every moment the live owners of each block's history are the windows that stand on it, so being alone is what the table says.
-/// They can't be dropped: they end by `end`, which releases every window that is left.
+/// At every moment the live owners of each block's history are the windows that stand on it, so
+/// being alone is what the table says. They can't be dropped: they end by `end`, which releases
+/// every window that is left.
 pub struct Windows<A: Allocator + Copy> {
     entries: Vec<Option<Slot<A>>, A>,
     passes: Passes<A>,
@@ -27,7 +29,8 @@ pub struct Windows<A: Allocator + Copy> {
 
 /// The window with this number, if it was made and hasn't gone.
 fn entry_at<A: Allocator + Copy>(entries: &[Option<Slot<A>>], i: usize) -> Option<&Slot<A>>
-    ensures { MatchOption result (option_flatten (slice_get entries.now i) ≡ None) (λ entry. slice_get entries.now i ≡ Some (Some entry.now)) }
+    ensures { MatchOption result (option_flatten (slice_get entries.now i) ≡ None) (λ entry.
+        slice_get entries.now i ≡ Some (Some entry.now)) }
 {
     entries.get(i)?.as_ref()
 }
@@ -69,8 +72,8 @@ impl<A: Allocator + Copy> Windows<A> {
 
     /// Carries out one command. A refusal changes nothing; what the command brought is let go.
     ///
-    /// Takes memory for a window more, for what a window is made of and for what is shown; refused, the answer is
-    /// `Alloc`.
+    /// Takes memory for a window more, for what a window is made of and for what is shown; refused,
+    /// the answer is `Alloc`.
     pub fn step(&mut self, rt: &impl Wait, command: Command<Vec<u8, A>>) -> Reply<Vec<u8, A>>
         ensures rows { Step byte_setting (table_of self.old)
             (seen_command command) (seen_reply result) (table_of self.new) }
@@ -87,7 +90,8 @@ impl<A: Allocator + Copy> Windows<A> {
         }
     }
 
-    /// Answers a line that was read: the command that it says is carried out, and a line that says none changes nothing.
+    /// Answers a line that was read: the command that it says is carried out, and a line that says
+    /// none changes nothing.
     pub fn answer(
         &mut self,
         rt: &impl Wait,
@@ -158,8 +162,9 @@ impl<A: Allocator + Copy> Windows<A> {
         Reply::New(number)
     }
 
-    /// Another window with the same items at the same place. `NoWindow` where the window isn't there, `Owner` where its
-    /// block has as many owners as it can have. Takes memory for the new entry; refused, the answer is `Alloc`.
+    /// Another window with the same items at the same place. `NoWindow` where the window isn't
+    /// there, `Owner` where its block has as many owners as it can have. Takes memory for the new
+    /// entry; refused, the answer is `Alloc`.
     fn clone_window(&mut self, rt: &impl Wait, i: usize) -> Reply<Vec<u8, A>>
         ensures rows { Step byte_setting (table_of self.old)
             (command.Clone i) (seen_reply result) (table_of self.new) }

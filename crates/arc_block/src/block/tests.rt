@@ -58,8 +58,8 @@ fn shared_by_two_threads(rt: HostRuntime) -> Result<(), Fail> {
     Ok(())
 }
 
-/// A heap of its own, larger each time: at first it has no room for the items, then none for the count beside them, and then it has.
-/// All memory is given back each time.
+/// A heap of its own, larger each time: at first it has no room for the items, then none for the
+/// count beside them, and then it has. All memory is given back each time.
 #[test]
 fn memory_refused(rt: HostRuntime) -> Result<(), Fail> {
     let items = [7u8; 40];

@@ -7,8 +7,8 @@ use super::{AnyItems, Concatenable, Emptyable, Extendable, Slice, Subsliceable};
 use std::convert::Infallible;
 use std::marker::PhantomData;
 
-/// Items of any type: each list is legal, and may be cut anywhere. A block counts how many of its places are full, and each item is
-/// dropped with the block.
+/// Items of any type: each list is legal, and may be cut anywhere. A block counts how many of its
+/// places are full, and each item is dropped with the block.
 #[derive(Clone, Copy, Debug, PartialEq, Eq)]
 pub struct Owned<T> {
     of: PhantomData<T>,

@@ -25,7 +25,8 @@ impl Slice for Text {
 
     ghost is_legal = { IsUtf8 };
 
-    ghost is_refused = { λ bytes e. (valid_up_to e ≡ utf8_valid_len bytes) × (error_len e ≡ utf8_error_len (drop (valid_up_to e) bytes)) };
+    ghost is_refused = { λ bytes e. (valid_up_to e ≡ utf8_valid_len bytes)
+        × (error_len e ≡ utf8_error_len (drop (valid_up_to e) bytes)) };
 
     fn try_from_slice(items: &[u8]) -> Result<(), Utf8Error> {
         match str::from_utf8(items) {

@@ -105,19 +105,24 @@ module _ {M : Type 1} {𝓤 : Ura M} (𝓛 : Logic 𝓤) where
       use1 𝓛 (‵ (latest places full_share θ (some (0, 0))) ⊛ ‵ (at_least places θ (some (0, 0)))) (latest_shows places 𝓛 full_share θ (some (0, 0)) (some (0, 0)) (places.same (some (0, 0)))) $ split ! $
       use1 𝓛 (‵ (latest places quarter θ (some (0, 0))) ⊛ ‵ (latest places three_quarters θ (some (0, 0)))) (latest_cut places 𝓛 full_share quarter three_quarters θ (some (0, 0)) Share.quarters) $ split ! $ drop ! $
       let t₀ : BlockId = record { number = 0; history = η; rights = δ; passes = π; count = γ; place = θ; most = most; began = Counted; whole = w } in let acc : State = first_account l in
-      -- [the place; that it stands; the count's quarter; tally; the seats; the seat; the roll; the right; the history; the pool; the stake]
+      -- [the place; that it stands; the count's quarter; tally; the seats; the seat; the roll; the
+      -- right; the history; the pool; the stake]
       nothing ! $ fpack ! (is_counted Counted [] ≡ is_there (some (0, 0))) (λ _. ftrue) counted-at-first $ move ! (1 ∷ 0 ∷ []) $ fjoin ! $
       fpack ! (Option (ℕ × ℕ)) (λ x. fsep (latest places three_quarters θ x) (told (is_counted Counted [] ≡ is_there x))) (some (0, 0)) $
       move ! (8 ∷ []) $ use1 𝓛 (‵ (latest lines_order full_share η []) ⊛ ‵ (at_least lines_order η [])) (latest_shows lines_order 𝓛 full_share η [] [] (lines_order.same [])) $ split ! $
       use1 𝓛 (‵ (latest_of 𝓛 t₀ []) ⊛ ‵ (withheld t₀ w [])) (authorized t₀ w []) $ split ! $
-      -- [latest; withheld; reached; located; that it stands; the count's quarter; tally; the seats; the seat; the roll; the right; the pool; the stake]
+      -- [latest; withheld; reached; located; that it stands; the count's quarter; tally; the seats;
+      -- the seat; the roll; the right; the pool; the stake]
       move ! (6 ∷ []) $ use1 𝓛 (‵ (tally t₀ 1)) (tally_in 𝓛 t₀ 1) $
-      -- [tally; latest; withheld; reached; located; that it stands; the count's quarter; the seats; the seat; the roll; the right; the pool; the stake]
+      -- [tally; latest; withheld; reached; located; that it stands; the count's quarter; the seats;
+      -- the seat; the roll; the right; the pool; the stake]
       move ! (1 ∷ 4 ∷ 9 ∷ 7 ∷ 0 ∷ 11 ∷ []) $ group ! 6 $ use1 𝓛 (‵ (contents t₀)) (shuts 𝓛 t₀ acc (first-fits t₀ l one small)) $
       use1 𝓛 (later (any (λ (j : ℕ). given (0 ≤ j) (‵ (fnamed j (contents t₀)))))) (named_past 𝓛 0 (contents t₀)) $ await ! tt $ pick ! (λ j. learn ! (λ _. let t : BlockId = record t₀ { number = j } in
-      -- [the invariant; withheld; reached; that it stands; the count's quarter; the seat; the right; the stake]
+      -- [the invariant; withheld; reached; that it stands; the count's quarter; the seat; the
+      -- right; the stake]
       move ! (0 ∷ 2 ∷ []) $ fjoin ! $ use1 𝓛 (‵ (known t [])) (id⊢ 𝓤 _) $ use1 𝓛 (‵ (known t []) ⊛ ‵ (known t [])) (known_twice 𝓛 t []) $ split ! $
-      -- [known; known; withheld; that it stands; the count's quarter; the seat; the right; the stake]
+      -- [known; known; withheld; that it stands; the count's quarter; the seat; the right; the
+      -- stake]
       move ! (3 ∷ []) $ fpack ! (ℕ × ℕ) (λ y. at_least places θ (some y)) (0, 0) $ move ! (4 ∷ 0 ∷ []) $ fjoin ! $ use1 𝓛 (‵ (behind t 1)) (id⊢ 𝓤 _) $
       -- [the word's; known; known; withheld; the seat; the right; the stake]
       move ! (5 ∷ 6 ∷ []) $ fjoin ! $ move ! (2 ∷ 0 ∷ []) $ fjoin ! $ use1 𝓛 (‵ (right_owns true t 0 l [])) (id⊢ 𝓤 _) $
@@ -144,12 +149,15 @@ module _ {M : Type 1} {𝓤 : Ura M} (𝓛 : Logic 𝓤) where
     learns p ready seen other = let Z : Pr = ex 𝓤 (Learned p ready seen other) in let w : Bool = t.whole in qed 𝓛 (‵ (trace_owns true t p ready seen) ∷ ‵ (history_at_least t other) ∷ []) ∵ fsplit ! $ fsplit ! $
         use1 𝓛 (‵ N ⊛ ‵ N) (𝓛.invs.named_dup t.number J) $ split ! $ use1 𝓛 (‵ (finv J)) (𝓛.invs.named_inv t.number J) $ suffices ! _ (𝓛.invs.inv_acc J Z) $ frame ! $ assume ! (‵ J) $ suffices ! _ (upd_i 𝓤 (⟦ J ⟧ ∗ Z)) $
         fpick ! (λ a. fsplit ! $ move ! (1 ∷ []) $ fsplit ! $ move ! (1 ∷ []) $ fsplit ! $ move ! (1 ∷ []) $ fsplit ! $ move ! (1 ∷ []) $ fsplit ! $ move ! (1 ∷ []) $ fpick ! (λ f. drop ! $ fsplit ! $
-        -- [tally; pool; seats; roll; located; latest; the invariant; reached; withheld and seat; other]
+        -- [tally; pool; seats; roll; located; latest; the invariant; reached; withheld and seat;
+        -- other]
         move ! (8 ∷ []) $ fsplit ! $ move ! (1 ∷ []) $
-        -- [seat; withheld; tally; pool; seats; roll; located; latest; the invariant; reached; other]
+        -- [seat; withheld; tally; pool; seats; roll; located; latest; the invariant; reached;
+        -- other]
         move ! (4 ∷ 0 ∷ []) $ use2 𝓛 (given ((p < length a.seats) × (get_or a.seats p (false, fresh_seat) ≡ (true, (ready, made_by p seen)))) (‵ (seated 𝓛 t a.seats) ⊛ ‵ (seat 𝓛 t p ready (made_by p seen))))
         (row_finds seat_coded 𝓛 t.passes fresh_seat a.seats 0 p p quarter (ready, made_by p seen) (omega arith)) $ learn ! (λ seat_is. split ! $
-        -- [seats; seat; withheld; tally; pool; roll; located; latest; the invariant; reached; other]
+        -- [seats; seat; withheld; tally; pool; roll; located; latest; the invariant; reached;
+        -- other]
         move ! (7 ∷ 10 ∷ []) $ use2 𝓛 (given (IsPrefix other a.lines) (‵ (latest_of 𝓛 t a.lines) ⊛ ‵ (history_at_least t other))) (latest_bounds lines_order 𝓛 (authority w) t.history a.lines other) $ learn ! (λ past. split ! $ move ! (1 ∷ []) $ drop ! $
         -- [latest; seats; seat; withheld; tally; pool; roll; located; the invariant; reached]
         move ! (0 ∷ 9 ∷ 3 ∷ []) $ use3 𝓛 (given (IsPrefix seen a.lines × (w ≡ true → seen ≡ a.lines)) (‵ (latest_of 𝓛 t a.lines) ⊛ ‵ (withheld t w seen))) (sees 𝓛 t w seen a.lines) $ learn ! (λ so. split ! $
@@ -257,29 +265,37 @@ module _ {M : Type 1} {𝓤 : Ura M} (𝓛 : Logic 𝓤) where
     Onlied p ready seen o l q ls =
         guard 𝓤 (IsPrefix seen ls × (made_by p ls ≡ made_by p seen) × (t.whole ≡ true → ls ≡ seen) × LivesAlone o (entries_of ls)) (⟦ trace_owns true t p ready ls ⟧ ∗ ⟦ right t o l q ⟧)
 
-    -- a pass sees all that the history is now, in which a sole owner who has the block back lives alone
+    -- a pass sees all that the history is now, in which a sole owner who has the block back lives
+    -- alone
     pub onlies : (p : ℕ) (ready : Bool) (seen : List Line) (o : ℕ) (l : Lease) (q : Share) → l.is_lent ≡ false → ⟦ trace_owns true t p ready seen ⟧ ∗ ⟦ right t o l q ⟧ ⊢ H.⇛ (ex 𝓤 (Onlied p ready seen o l q))
     onlies p ready seen o l q unlent = let Z : Pr = ex 𝓤 (Onlied p ready seen o l q) in let w : Bool = t.whole in qed 𝓛 (‵ (trace_owns true t p ready seen) ∷ ‵ (right t o l q) ∷ []) ∵ fsplit ! $ fsplit ! $
         use1 𝓛 (‵ N ⊛ ‵ N) (𝓛.invs.named_dup t.number J) $ split ! $ use1 𝓛 (‵ (finv J)) (𝓛.invs.named_inv t.number J) $ suffices ! _ (𝓛.invs.inv_acc J Z) $ frame ! $ assume ! (‵ J) $ suffices ! _ (upd_i 𝓤 (⟦ J ⟧ ∗ Z)) $
         fpick ! (λ a. fsplit ! $ move ! (1 ∷ []) $ fsplit ! $ move ! (1 ∷ []) $ fsplit ! $ move ! (1 ∷ []) $ fsplit ! $ move ! (1 ∷ []) $ fsplit ! $ move ! (1 ∷ []) $ fpick ! (λ f. drop ! $ fsplit ! $
-        -- [tally; pool; seats; roll; located; latest; the invariant; reached; withheld and seat; right]
+        -- [tally; pool; seats; roll; located; latest; the invariant; reached; withheld and seat;
+        -- right]
         move ! (8 ∷ []) $ fsplit ! $ move ! (1 ∷ []) $
-        -- [seat; withheld; tally; pool; seats; roll; located; latest; the invariant; reached; right]
+        -- [seat; withheld; tally; pool; seats; roll; located; latest; the invariant; reached;
+        -- right]
         move ! (4 ∷ 0 ∷ []) $ use2 𝓛 (given ((p < length a.seats) × (get_or a.seats p (false, fresh_seat) ≡ (true, (ready, made_by p seen)))) (‵ (seated 𝓛 t a.seats) ⊛ ‵ (seat 𝓛 t p ready (made_by p seen))))
         (row_finds seat_coded 𝓛 t.passes fresh_seat a.seats 0 p p quarter (ready, made_by p seen) (omega arith)) $ learn ! (λ seat_is. split ! $
-        -- [seats; seat; withheld; tally; pool; roll; located; latest; the invariant; reached; right]
+        -- [seats; seat; withheld; tally; pool; roll; located; latest; the invariant; reached;
+        -- right]
         move ! (5 ∷ 10 ∷ []) $ use2 𝓛 (given ((o < length a.roll) × (get_or a.roll o (false, no_lease) ≡ (true, l))) (‵ (rolled 𝓛 t a.roll) ⊛ ‵ (right t o l q)))
         (row_finds lease_coded 𝓛 t.rights no_lease a.roll 0 o o q l (omega arith)) $ learn ! (λ owner_is. split ! $ let leased : l ≡ a.lease = f.leased o l owner_is.1 in
-        -- [roll; right; seats; seat; withheld; tally; pool; located; latest; the invariant; reached]
+        -- [roll; right; seats; seat; withheld; tally; pool; located; latest; the invariant;
+        -- reached]
         move ! (6 ∷ []) $ use1 𝓛 (given (how_many a.roll ≡ 1) (‵ (pool a.lease (how_many a.roll)))) (pool_alone 𝓛 t a.lease (how_many a.roll) (ap (λ (k : Lease). k.is_lent) (sym leased) ∙ unlent) (one-lives a.roll o l owner_is.1)) $ learn ! (λ one.
         let alone : LivesAlone o (entries_of a.lines) = f.live ∙ one_is (living 0 a.roll) o (living-in 0 o o a.roll l (omega arith) owner_is.1) one in
-        -- [pool; roll; right; seats; seat; withheld; tally; located; latest; the invariant; reached]
+        -- [pool; roll; right; seats; seat; withheld; tally; located; latest; the invariant;
+        -- reached]
         move ! (8 ∷ 10 ∷ 5 ∷ []) $ use3 𝓛 (given (IsPrefix seen a.lines × (w ≡ true → seen ≡ a.lines)) (‵ (latest_of 𝓛 t a.lines) ⊛ ‵ (withheld t w seen))) (sees 𝓛 t w seen a.lines) $ learn ! (λ so. split ! $
         use1 𝓛 (‵ (latest_of 𝓛 t a.lines) ⊛ ‵ (history_at_least t a.lines)) (latest_shows lines_order 𝓛 (authority w) t.history a.lines a.lines (lines_order.same a.lines)) $ split ! $
-        -- [latest; reached; withheld; pool; roll; right; seats; seat; tally; located; the invariant]
+        -- [latest; reached; withheld; pool; roll; right; seats; seat; tally; located; the
+        -- invariant]
         move ! (2 ∷ []) $ use1 𝓛 (‵ (withheld t w a.lines)) (still w seen a.lines so.1) $ let same : made_by p seen ≡ made_by p a.lines = sym (ap (λ (s : Bool × Seat). s.1.1) seat_is.1) ∙ f.made p in
         move ! (7 ∷ []) $ rewrite ! 0 (λ (m : List _). ‵ (seat 𝓛 t p ready m)) same refl $ move ! (1 ∷ 0 ∷ []) $ fjoin ! $
-        -- [withheld and seat; latest; reached; pool; roll; right; seats; tally; located; the invariant]
+        -- [withheld and seat; latest; reached; pool; roll; right; seats; tally; located; the
+        -- invariant]
         move ! (9 ∷ 2 ∷ []) $ fjoin ! $ move ! (0 ∷ 1 ∷ []) $ fjoin ! $
         -- [the pass; latest; pool; roll; right; seats; tally; located]
         move ! (1 ∷ 7 ∷ 3 ∷ 5 ∷ 6 ∷ 2 ∷ []) $ group ! 6 $ use1 𝓛 (‵ J) (shuts 𝓛 t a f) $ frame ! $ show ! (Onlied p ready seen o l q) a.lines $

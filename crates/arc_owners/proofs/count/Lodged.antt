@@ -1,4 +1,5 @@
--- A word that is borrowed for the lifetime of a lease is lodged: the borrow stands behind an invariant whose number is past the invariant's. Assumes `Logic`.
+-- A word that is borrowed for the lifetime of a lease is lodged: the borrow stands behind an
+-- invariant whose number is past the invariant's. Assumes `Logic`.
 use Rattle.std.proofs.Common.{ℕ, zero, ◌+◌, ◌<◌, ◌≤◌, List, [], ◌∷◌, sym, refl, arith, add-zero, subst}
 use seplogic.Ra.Ura.{Ura}
 use mir.Syntax.{ty_struct}

@@ -110,7 +110,8 @@ module _ {M : Type 1} {𝓤 : Ura M} (𝓛 : Logic 𝓤) (t : BlockId) (p : ℕ)
       use1 𝓛 (raw (upd 𝓤 (⟦ rolled 𝓛 t roll' ⟧ ∗ ⟦ right t new a.lease quarter ⟧))) (row_adds lease_coded 𝓛 t.rights no_lease a.roll a.lease) $
       settle 𝓛 (⟦ behind t (how_many roll') ⟧ ∗ ⟦ contents t ⟧ ∗ ⟦ added t p ready seen up_entry (up_gain q) ⟧) (‵ (rolled 𝓛 t roll') ⊛ ‵ (right t new a.lease quarter)) $ split ! $ move ! (2 ∷ []) $
       use1 𝓛 (‵ (pool a.lease (how_many roll')) ⊛ ‵ (stake a.lease)) (pool_more 𝓛 t a.lease (how_many a.roll) (how_many roll') (ap (λ (k : Lease). k.is_lent) (sym leased) ∙ lent) live many (omega arith)) $ split ! $
-      -- [pool; stake; roll; new right; latest; withheld; right; seats; seat; located; the key; count]
+      -- [pool; stake; roll; new right; latest; withheld; right; seats; seat; located; the key;
+      -- count]
       rewrite ! 1 (λ (k : Lease). ‵ (stake k)) (sym leased) refl $ rewrite ! 3 (λ (k : ℕ × Lease). ‵ (right t k.0 k.1 quarter)) (λ i. (is i, sym leased i)) refl $
       move ! (3 ∷ 1 ∷ []) $ fjoin ! $ move ! (5 ∷ 0 ∷ []) $ fjoin ! $
       -- [gain; pool; roll; latest; withheld; seats; seat; located; the key; count]
@@ -131,7 +132,8 @@ module _ {M : Type 1} {𝓤 : Ura M} (𝓛 : Logic 𝓤) (t : BlockId) (p : ℕ)
   pool_ends lent n m is false more = let e : ¬ (n ≡ 1) = eqb-false n 1 more in
       qed 𝓛 (‵ (pool l n) ∷ ‵ (stake l) ∷ []) ∵ use2 𝓛 (‵ (pool l m)) (pool_less 𝓛 t l n m lent (omega (arith, e)) is) $ nothing ! $ move ! (1 ∷ 0 ∷ []) $ done !
 
-  -- the word's part of a step is done, and the invariant shuts once the caller's part of the lifetime is there
+  -- the word's part of a step is done, and the invariant shuts once the caller's part of the
+  -- lifetime is there
   abbrev pub Owing : Fml → ℕ → Pr
   Owing F n = upd 𝓤 (⟦ behind t n ⟧ ∗ (⟦ stake l ⟧ -∗ (⟦ contents t ⟧ ∗ ⟦ F ⟧)))
 

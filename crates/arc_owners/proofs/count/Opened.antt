@@ -1,4 +1,5 @@
--- The invariant opened for one step, with the number of the word, a pass and a share of an owner's right; and shut again with one more line. Assumes `Logic`.
+-- The invariant opened for one step, with the number of the word, a pass and a share of an owner's
+-- right; and shut again with one more line. Assumes `Logic`.
 use Rattle.std.proofs.Common.{◌≡◌, ℕ, ◌<◌, Bool, true, false, List, [], ◌∷◌, ◌++◌, length, get_or, refl, sym, ap, ◌∙◌, arith}
 use mathlib.Core.List.{IsPrefix}
 use seplogic.Ra.Ura.{Ura}
@@ -97,15 +98,19 @@ module _ {M : Type 1} {𝓤 : Ura M} (𝓛 : Logic 𝓤) (t : BlockId) where
         move ! (2 ∷ []) $ fsplit ! $ move ! (1 ∷ []) $ fsplit ! $ move ! (3 ∷ []) $ fsplit ! $ move ! (5 ∷ []) $
         -- [contents; the count's quarter; the key; withheld; seat; reached; right; X]
         fpick ! (λ a. fsplit ! $ move ! (1 ∷ []) $ fsplit ! $ move ! (1 ∷ []) $ fsplit ! $ move ! (1 ∷ []) $ fsplit ! $ move ! (1 ∷ []) $ fsplit ! $ move ! (1 ∷ []) $ fpick ! (λ f. drop ! $ fsplit ! $
-        -- [tally; pool; seats; roll; located; latest; the count's quarter; the key; withheld; seat; reached; right; X]
+        -- [tally; pool; seats; roll; located; latest; the count's quarter; the key; withheld; seat;
+        -- reached; right; X]
         move ! (4 ∷ 7 ∷ []) $ use2 𝓛 (given (counts 𝓛 t a.lines) (‵ (located t a.lines) ⊛ ‵ (has_place t))) (keyed 𝓛 t a.lines) $ learn ! (λ counted. split ! $
-        -- [located; the key; tally; pool; seats; roll; latest; the count's quarter; withheld; seat; reached; right; X]
+        -- [located; the key; tally; pool; seats; roll; latest; the count's quarter; withheld; seat;
+        -- reached; right; X]
         move ! (4 ∷ 9 ∷ []) $ use2 𝓛 (given ((p < length a.seats) × (seat_of a.seats p ≡ (true, (ready, made_by p seen)))) (‵ (seated a.seats) ⊛ ‵ (seat p ready (made_by p seen))))
         (row_finds seat_coded 𝓛 t.passes fresh_seat a.seats 0 p p quarter (ready, made_by p seen) (omega arith)) $ learn ! (λ seat_is. split ! $
-        -- [seats; seat; located; the key; tally; pool; roll; latest; the count's quarter; withheld; reached; right; X]
+        -- [seats; seat; located; the key; tally; pool; roll; latest; the count's quarter; withheld;
+        -- reached; right; X]
         move ! (6 ∷ 11 ∷ []) $ use2 𝓛 (given ((o < length a.roll) × (get_or a.roll o (false, no_lease) ≡ (true, l))) (‵ (rolled a.roll) ⊛ ‵ (right t o l q)))
         (row_finds lease_coded 𝓛 t.rights no_lease a.roll 0 o o q l (omega arith)) $ learn ! (λ owner_is. split ! $
-        -- [roll; right; seats; seat; located; the key; tally; pool; latest; the count's quarter; withheld; reached; X]
+        -- [roll; right; seats; seat; located; the key; tally; pool; latest; the count's quarter;
+        -- withheld; reached; X]
         move ! (9 ∷ 6 ∷ []) $ use2 𝓛 (given (n ≡ how_many a.roll) (‵ (counted_as t full_share (how_many a.roll)))) (tallies 𝓛 t n (how_many a.roll) (one-lives a.roll o l owner_is.1)) $ learn ! (λ number.
         -- [count; roll; right; seats; seat; located; the key; pool; latest; withheld; reached; X]
         move ! (1 ∷ 2 ∷ 3 ∷ 4 ∷ 5 ∷ 6 ∷ 0 ∷ []) $
@@ -132,7 +137,8 @@ module _ {M : Type 1} {𝓤 : Ura M} (𝓛 : Logic 𝓤) (t : BlockId) where
       abbrev pub Owed : (List Line → Fml) → Pr
       Owed gain = (⟦ pool lease n' ⟧ ∗ ⟦ gain a.lines ⟧) -∗ (⟦ contents t ⟧ ∗ ⟦ added t p ready seen entry gain ⟧)
 
-      -- the line is written and the word's part is done: the invariant shuts once it has the pool, and the caller what it gains
+      -- the line is written and the word's part is done: the invariant shuts once it has the pool,
+      -- and the caller what it gains
       pub owes : (gain : List Line → Fml) → MayFollow t.most t.began (entries_of a.lines) e → Fits t a'
           → ⟦ latest_of a.lines ⟧ ∗ ⟦ withheld t t.whole seen ⟧ ∗ ⟦ rolled roll ⟧ ∗ ⟦ seated a.seats ⟧ ∗ ⟦ seat p ready (made_by p seen) ⟧ ∗ ⟦ located t a.lines ⟧ ∗ ⟦ has_place t ⟧ ∗ ⟦ counted_as t full_share (how_many a.roll) ⟧
           ⊢ upd 𝓤 (⟦ behind t n' ⟧ ∗ Owed gain)

@@ -1,4 +1,5 @@
--- The parts of an open invariant, one at a time: its history, where the count lies, the count, and the lifetime. Assumes `Logic`.
+-- The parts of an open invariant, one at a time: its history, where the count lies, the count, and
+-- the lifetime. Assumes `Logic`.
 use Rattle.std.proofs.Common.{◌≡◌, ℕ, zero, suc, ◌+◌, ◌-◌, ◌^◌, ◌<◌, Bool, true, false, List, [], ◌∷◌, ◌++◌, refl, sym, ap, ◌∙◌, arith}
 use Rattle.std.proofs.lemmas.Bool.{false≢true}
 use mathlib.Core.Option.{Option, none, some}
@@ -133,7 +134,8 @@ module _ {M : Type 1} {𝓤 : Ura M} (𝓛 : Logic 𝓤) (t : BlockId) where
   pool_alone l (suc n) unlent live = qed 𝓛 (‵ (pooled l.is_lent l n) ∷ []) ∵ rewrite ! 0 (λ (y : Bool). ‵ (pooled y l n)) unlent refl $ fpick ! (λ none. drop ! $ check ! (ap suc none) $
       nothing ! $ fpack ! (n ≡ 0) (λ _. ftrue) none $ use1 𝓛 (‵ (pooled false l n)) (id⊢ 𝓤 _) $ rewrite ! 0 (λ (y : Bool). ‵ (pooled y l n)) (sym unlent) refl $ done !)
 
-  -- the word's number and the invariant's, while an owner lives, and after the last one ended without a step
+  -- the word's number and the invariant's, while an owner lives, and after the last one ended
+  -- without a step
   pub tallies : (n m : ℕ) → 0 < m → ⟦ counted_as t quarter n ⟧ ∗ ⟦ tally t m ⟧ ⊢ guard 𝓤 (n ≡ m) ⟦ counted_as t full_share m ⟧
   tallies n m live = qed 𝓛 (‵ (counted_as t quarter n) ∷ ‵ (tally t m) ∷ []) ∵ move ! (1 ∷ []) $ fpick ! (λ k. fsplit ! $ fpick ! (λ so. drop ! $ move ! (1 ∷ 0 ∷ []) $
       use2 𝓛 (given (n ≡ k) (‵ (counted_as t full_share k))) (cell_whole coded_ℕ 𝓛 t.count 0 n k) $ learn ! (λ same. check ! (same ∙ so live) $ rewrite ! 0 (λ (x : ℕ). ‵ (counted_as t full_share x)) (so live) refl $ done !)))

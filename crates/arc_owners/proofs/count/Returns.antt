@@ -1,4 +1,5 @@
--- What is lent for the lifetime of a lease comes back to whoever ends it: the last owner, or a sole one. Assumes `Logic`.
+-- What is lent for the lifetime of a lease comes back to whoever ends it: the last owner, or a sole
+-- one. Assumes `Logic`.
 use Rattle.std.proofs.Common.{Bool, true, false, [], ◌∷◌}
 use seplogic.Ra.Ura.{Ura}
 use base.Logic.{SProp, ent, sep, upd, via, never_e, upd_i, id⊢}

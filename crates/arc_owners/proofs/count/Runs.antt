@@ -1,4 +1,5 @@
--- Runs of one pass alone: under `Whole` nothing comes between two of its calls, so each reply follows from the history so far.
+-- Runs of one pass alone: under `Whole` nothing comes between two of its calls, so each reply
+-- follows from the history so far.
 use Rattle.std.proofs.Common.{◌≡◌, ℕ, ◌<◌, Bool, true, List, [], ◌∷◌, ◌++◌, length, refl, sym, ap, ◌∙◌, subst, arith, lit<}
 use Rattle.std.specs.List.{Contains}
 use Rattle.std.proofs.lemmas.List.Elements.{Contains-append_right}

@@ -1,4 +1,5 @@
--- What a `&` to an owner's right or to a pass holds, and that all of it may go to another thread. Assumes `Logic`.
+-- What a `&` to an owner's right or to a pass holds, and that all of it may go to another thread.
+-- Assumes `Logic`.
 use Rattle.std.proofs.Common.{ℕ, zero, suc, ◌<◌, Bool, true, false, List, [], ◌∷◌}
 use seplogic.Ra.Ura.{Ura}
 use base.Share

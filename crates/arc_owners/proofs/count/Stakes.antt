@@ -1,4 +1,5 @@
--- A step by an owner who opens the word with its own part of the lifetime, and who may have given that up once the step is done: the word may then be gone. Assumes `Logic`.
+-- A step by an owner who opens the word with its own part of the lifetime, and who may have given
+-- that up once the step is done: the word may then be gone. Assumes `Logic`.
 use Rattle.std.proofs.Common.{◌≡◌, ℕ, ◌+◌, ◌-◌, ◌%◌, ◌^◌, ◌<◌, Bool, true, List, [], ◌∷◌, refl, sym, arith}
 use mathlib.Core.List.{Mem, mem-cons, not-mem-nil}
 use mathlib.Core.HLevel.{⊥_prop}
@@ -60,7 +61,8 @@ module _ {M : Type 1} {𝓤 : Ura M} (𝓛 : Logic 𝓤) (t : BlockId) where
     abbrev Held : List (ℕ × Fml) → (ℕ → ℕ) → (ℕ → Fml) → Pr
     Held L f after = ex 𝓤 (found 𝓛 L b o f always after)
 
-    -- before the step: the word's invariant, the invariant's, and the borrow are opened, in this order
+    -- before the step: the word's invariant, the invariant's, and the borrow are opened, in this
+    -- order
     opening : (f : ℕ → ℕ) (X : Pr) (after : ℕ → Fml) → (O ∗ ⟦ I ⟧) ∗ ⟦ J ⟧ ∗ X ⊢ upd 𝓤 (Held open_both f after) → At.named i P ∗ ⟦ N ⟧ ∗ At.lft κ e ∗ X ⊢ asks 𝓛 (block_ptr b o) f always after
     opening f X after step = let Q : List (ℕ × Fml) → Pr = λ L. Held L f after in
         let LentBox : Pr = (At.bor κ I ∗ At.lft κ e) ∗ ((O ∗ ⟦ I ⟧) -∗ upd 𝓤 (Q open_both)) in let Booked : Pr = guard 𝓤 (¬ Mem t.number (i ∷ [])) (⟦ N ⟧ ∗ (⟦ J ⟧ -∗ upd 𝓤 LentBox)) in

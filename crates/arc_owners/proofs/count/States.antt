@@ -1,4 +1,5 @@
--- An account stays true where one more line is written by a pass, with what that line does to the roll.
+-- An account stays true where one more line is written by a pass, with what that line does to the
+-- roll.
 use Rattle.std.proofs.Common.{inl, inr, ◌≡◌, ℕ, suc, ◌+◌, ◌<◌, ◌≤◌, Bool, true, false, eqb, List, [], ◌∷◌, ◌++◌, length, get_or, set, None, refl, sym, ap, ◌∙◌, subst, arith, length-append, length-set}
 use Rattle.std.proofs.lemmas.Bool.{eqb-true, eqb-false, cases_Bool, false≢true}
 use Rattle.std.proofs.lemmas.List.{append-nil}
@@ -20,14 +21,14 @@ seat_of seats p = get_or seats p (false, fresh_seat)
 abbrev pub seat_set : List (Bool × Seat) → ℕ → Bool → List Entry → List (Bool × Seat)
 seat_set seats p ready made = set seats p (true, (ready, made))
 
--- the account with one more line by the pass p, and this roll and lease
+-- the state with one more line by the pass p, and this roll and lease
 abbrev pub wrote_for : Lease → State → ℕ → Bool → Entry → List (Bool × Lease) → State
 wrote_for l a p ready e roll = record { lines = a.lines ++ (p, e) ∷ []; roll = roll; seats = seat_set a.seats p ready (made_by p a.lines ++ e ∷ []); lease = l }
 
 abbrev pub wrote : State → ℕ → Bool → Entry → List (Bool × Lease) → State
 wrote a = wrote_for a.lease a
 
--- the account with the lease of the owner o, its only one, set anew
+-- the state with the lease of the owner o, its only one, set anew
 abbrev pub relet : State → ℕ → Lease → State
 relet a o l = record { lines = a.lines; roll = set a.roll o (true, l); seats = a.seats; lease = l }
 

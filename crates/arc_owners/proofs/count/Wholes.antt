@@ -1,5 +1,5 @@
--- What a call's record says of the history before it, where the word has a count; what a pass has seen under `Whole`, where nothing
--- comes between two calls of the one pass; and who lives then.
+-- What a call's record says of the history before it, where the word has a count; what a pass has
+-- seen under `Whole`, where nothing comes between two calls of the one pass; and who lives then.
 use Rattle.std.proofs.Common.{inl, inr, ◌≡◌, ℕ, Bool, true, false, List, [], ◌∷◌, ◌++◌, length, Some, None, refl, sym, ap, ◌∙◌, subst, append-nil, append_assoc, eqb}
 use Rattle.std.specs.Prelude.{IsTrue, ◌↔◌, map, IfOk, IfErr, Result, Ok, Err}
 use Rattle.std.proofs.lemmas.Bool.{cases_Bool, eq-eqb, false≢true}
@@ -83,7 +83,8 @@ unjoined : {H : Type 0} (o : Owner) {old middle : Pass H} → HasCountIn o.block
 unjoined o c (inl same) = same
 unjoined o c (inr joined) = absurd (false≢true (sym joined.1 ∙ c))
 
--- what a call adds on a word that its pass knows to be counted: the one entry, and nothing was joined
+-- what a call adds on a word that its pass knows to be counted: the one entry, and nothing was
+-- joined
 module _ {H : Type 0} {o : Owner} {old new : Pass H} (c : HasCountIn o.block (seen old)) where
   pub counted-asks : {found : Bool} → Asks o old new found → (before : List Line) × Appends o.block old new before (Alone o.number found ∷ []) × (IsTrue found ↔ LivesAlone o.number (entries_of before))
   counted-asks {found = found} asks = (asks.before, subst (λ (b : Bool). Appends o.block old new asks.before (reading b o.number found)) (counted-before asks.added c) asks.added, asks.exact)
@@ -238,7 +239,8 @@ module _ {H : Type 0} {o : Owner} {old new : Pass H} (whole : o.block.whole ≡ 
   pub full-exact : FindsFull o old new → length (live_owners (seen old)) ≡ o.block.most
   full-exact full = ap length (sym (lives-joined o whole full.joined)) ∙ (ap (λ (h : List Entry). length (live_owners h)) (sym (before-is full.added whole)) ∙ full.full)
 
-  -- an owner was made: whether the count was raised, or the word promoted, or the exchange for that lost first
+  -- an owner was made: whether the count was raised, or the word promoted, or the exchange for that
+  -- lost first
   pub lives-made : {other : Owner} → MakesAnother o old new other → live_owners (seen new) ≡ live_owners (seen old) ++ other.number ∷ []
   lives-made makes =
       let c = is_counted o.block.began (entries_of makes.before) in let n : ℕ = next_owner makes.before in let e = making c o.number n in

@@ -1,4 +1,5 @@
--- Each entry that may follow a legal history is one step of the word machine: an event, or on a lone word the end without a step.
+-- Each entry that may follow a legal history is one step of the word machine: an event, or on a
+-- lone word the end without a step.
 use Rattle.std.proofs.Common.{inl, inr, ◌≡◌, ℕ, ◌-◌, ◌<◌, Bool, true, false, eqb, ltb, List, [], ◌∷◌, ◌++◌, length, refl, sym, ap, ◌∙◌, subst, arith, length-append}
 use Rattle.std.proofs.lemmas.Bool.{cases_Bool, eq-eqb, eqb-true, lt-ltb, false≢true}
 use Rattle.arc_owners.specs.declared.history.entry.Entry.{Entry}

@@ -6,7 +6,8 @@ use Rattle.arc_owners.specs.declared.history.event.Event.TheVariants.{Load, Exch
 use Rattle.arc_owners.specs.history.Histories.{Lone, Counted, owners_ever, owners_ended, live_owners, is_promoted, is_counted, IsLegal}
 use Rattle.arc_owners.specs.history.Machine.{is_fresh, step, after_events}
 
--- two owners are made, the count is found full, one goes, and uniqueness is read of 2; the last event finds another count
+-- two owners are made, the count is found full, one goes, and uniqueness is read of 2; the last
+-- event finds another count
 pub counted_run : after_events 3 Counted (CountUp 1 0 1 1 ∷ CountUp 1 0 2 2 ∷ FullFound 1 0 ∷ CountDown 1 1 3 ∷ UniquenessLoad 1 0 2 ∷ CountUp 1 0 5 3 ∷ [])
     ≡ record { counted = true; count = 2; live = 0 ∷ 2 ∷ []; ready = []; entries = Up 0 1 ∷ Up 0 2 ∷ Full 0 ∷ Down 1 ∷ Alone 0 false ∷ [] }
 unfolding step is_fresh owners_ended

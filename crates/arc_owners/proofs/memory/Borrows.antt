@@ -1,4 +1,5 @@
--- What a `&` has for the lifetime of a lease can be had again, and is had for any lifetime that ends no later. Assumes `Logic`.
+-- What a `&` has for the lifetime of a lease can be had again, and is had for any lifetime that
+-- ends no later. Assumes `Logic`.
 use Rattle.std.proofs.Common.{ℕ, [], ◌∷◌, ◌++◌}
 use seplogic.Ra.Ura.{Ura}
 use base.Logic.{ent, sep, snd∗}

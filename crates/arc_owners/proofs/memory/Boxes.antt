@@ -1,4 +1,5 @@
--- A `BoxParts` owns what the box does that it was, at the same machine value; and so does a pointer with an allocator, next to what is at the pointer. Assumes `Logic`.
+-- A `BoxParts` owns what the box does that it was, at the same machine value; and so does a pointer
+-- with an allocator, next to what is at the pointer. Assumes `Logic`.
 use Rattle.std.proofs.Common.{List, [], ◌∷◌}
 use seplogic.Ra.Ura.{Ura}
 use mir.Val.{Val}

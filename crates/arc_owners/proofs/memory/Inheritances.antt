@@ -1,4 +1,5 @@
--- What is kept for the end of a lease can be had again, and is all that a `&` to it has. Assumes `Logic`.
+-- What is kept for the end of a lease can be had again, and is all that a `&` to it has. Assumes
+-- `Logic`.
 use Rattle.std.proofs.Common.{Bool, true, false}
 use seplogic.Ra.Ura.{Ura}
 use base.Logic.{ent, sep, snd∗}
@@ -37,6 +38,7 @@ either_keyless : (P : Fml) (l : Lease) → Keyless P → (y : Bool) → Keyless 
 either_keyless P l k true = k
 either_keyless P l k false = entry_keyless token l.key 0 tt
 
--- what a box owns may come back in any thread, where its value may go there and its memory may be freed there
+-- what a box owns may come back in any thread, where its value may go there and its memory may be
+-- freed there
 pub keep_keyless : (T A : RattleType) (g : Ghosts A.Denot) → IsSend T → Frees g g.dealloc_token → (alloc : A.Denot) (at : Ptr) (value : T.Denot) (l : Lease) → Keyless (finv (kept_for (box_owns (g.dealloc_token alloc) T at value) l))
 keep_keyless T A g s f alloc at value l = either_keyless (box_owns (g.dealloc_token alloc) T at value) l (lies T s at value, f.frees alloc (raw (lone T.mir)) at)

@@ -1,4 +1,5 @@
--- A block's memory that is lent for the lifetime of a lease: its word is lodged, and its value is there for the owners to read. Assumes `Logic`.
+-- A block's memory that is lent for the lifetime of a lease: its word is lodged, and its value is
+-- there for the owners to read. Assumes `Logic`.
 use Rattle.std.proofs.Common.{ℕ, zero, ◌+◌, List, [], ◌∷◌, subst}
 use seplogic.Ra.Ura.{Ura}
 use mir.Syntax.{Ty}
@@ -49,7 +50,8 @@ module _ (T : RattleType) where
 abbrev IsTyped : List Val → Type 0
 IsTyped us = Typed Word.the_row.mir us
 
--- the word as a field, and as it is written: the first says besides that its machine value is of its type, which its place shows
+-- the word as a field, and as it is written: the first says besides that its machine value is of
+-- its type, which its place shows
 module _ {M : Type 1} {𝓤 : Ura M} (𝓛 : Logic 𝓤) (t : BlockId) (b o : ℕ) where
   abbrev ghost_var : List Val → Fml
   ghost_var us = cell_at full_share Word.the_row.mir us b o
@@ -136,7 +138,8 @@ module _ (T : RattleType) (L : Laws T) {M : Type 1} {𝓤 : Ura M} (𝓛 : Logic
     unfolding fseps
     settles = qed 𝓛 (‵ (fbor α memory) ∷ ‵ (flft α s) ∷ ‵ (flft τ p) ∷ []) ∵ updating ! $ bor_open ! tt $ move ! (1 ∷ []) $ fsplit ! $
         use1 𝓛 (‵ (parts_at full_share ms zero vs b o) ⊛ raw Back) apart $ split ! $ fsplit ! $ use1 𝓛 (‵ TheWord) (word_bare 𝓛 t b (o + word_at T)) $ move ! (1 ∷ []) $ fsplit ! $
-        -- [the value; nothing; the word; the way back to the memory; what frees it; the open borrow; the type's token]
+        -- [the value; nothing; the word; the way back to the memory; what frees it; the open
+        -- borrow; the type's token]
         move ! (3 ∷ 4 ∷ []) $ use2 𝓛 (‵ (fwand (fsep (fdead α) (fseps (TheWord ∷ TheValue ∷ []))) (fupd memory))) (way_back α) $ move ! (1 ∷ 2 ∷ []) $ fjoin ! $ move ! (2 ∷ 0 ∷ []) $ fjoin ! $
         move ! (2 ∷ 0 ∷ 1 ∷ []) $ obor_alter ! tt (TheWord ∷ TheValue ∷ []) $ use1 𝓛 (‵ (fbor α TheWord) ⊛ ‵ (fbor α TheValue) ⊛ ‵ ftrue) (id⊢ 𝓤 _) $ split3 ! $
         -- [two borrows; nothing; the tokens]

@@ -1,19 +1,24 @@
--- What contracts read in a count, in an owner and in a pass, and what a call adds to a block's history.
-use Rattle.std.specs.Prelude.{◌≡◌, ℕ, Bool, true, false, List, [], ◌∷◌, ◌++◌, length, map, IsTrue, ◌↔◌, ◌⊎◌}
+-- What contracts read in a count, in an owner and in a pass, and what a call adds to a block's
+-- history.
+use Rattle.std.specs.Prelude.{◌≡◌, ℕ, Bool, true, false, List, [], ◌∷◌, ◌++◌, length, map, IsTrue}
+use Rattle.std.specs.Prelude.{◌↔◌, ◌⊎◌}
 use mathlib.Core.List.{IsPrefix}
 use Rattle.arc_owners.specs.declared.mark.Mark.{Ghosts}
 use Rattle.arc_owners.specs.declared.history.entry.Entry.{Entry}
-use Rattle.arc_owners.specs.declared.history.entry.Entry.TheVariants.{Up, Full, Down, Alone, Promote, Joined}
+use Rattle.arc_owners.specs.declared.history.entry.Entry.TheVariants.{Up, Full, Down, Alone}
+use Rattle.arc_owners.specs.declared.history.entry.Entry.TheVariants.{Promote, Joined}
 use Rattle.arc_owners.specs.declared.count.tokens.Owners.{Owners}
 use Rattle.arc_owners.specs.declared.count.tokens.Share.{Share}
 use Rattle.arc_owners.specs.declared.count.tokens.Sole.{Sole}
 use Rattle.arc_owners.specs.declared.count.tokens.Pass.{Pass}
 use Rattle.arc_owners.specs.declared.count.tokens.LifetimeEnd.{LifetimeEnd}
 use Rattle.arc_owners.specs.count.Invariant.{BlockId, Line, Lease, entries_of, made_by}
-use Rattle.arc_owners.specs.history.Histories.{LivesAlone, owners_ever, live_owners, is_counted, IsLegal}
+use Rattle.arc_owners.specs.history.Histories.{LivesAlone, owners_ever, live_owners, is_counted}
+use Rattle.arc_owners.specs.history.Histories.{IsLegal}
 use Rattle.arc_owners.specs.history.Agreement.{IsOneStep, IsEndWithoutStep}
 
--- an owner: of which block, its number there, and the history in which it was made, with the entry that made it
+-- an owner: of which block, its number there, and the history in which it was made, with the entry
+-- that made it
 pub record Owner : Type 0 where
   pub block : BlockId
   pub number : ℕ
@@ -29,11 +34,13 @@ HasCountIn t history = is_counted t.began history ≡ true
 
 -- the last line is one step on the block's word
 pub record EndsInOneStep (t : BlockId) (lines : List Line) : Type 0 where
-  pub last : (before : List Line) (line : Line) → lines ≡ before ++ line ∷ [] → IsOneStep t.most t.began (entries_of before) line.1
+  pub last : (before : List Line) (line : Line) → lines ≡ before ++ line ∷ []
+      → IsOneStep t.most t.began (entries_of before) line.1
 
 -- the last line is an owner's end without a step
 pub record EndsWithoutStep (t : BlockId) (lines : List Line) : Type 0 where
-  pub last : (before : List Line) (line : Line) → lines ≡ before ++ line ∷ [] → IsEndWithoutStep t.began (entries_of before) line.1
+  pub last : (before : List Line) (line : Line) → lines ≡ before ++ line ∷ []
+      → IsEndWithoutStep t.began (entries_of before) line.1
 
 -- the entry by which a new owner is made: the count is raised, or a lone word promoted
 abbrev pub making : Bool → ℕ → ℕ → Entry
@@ -82,11 +89,14 @@ module _ {H : Type 0} where
   -- the same pass of this block, which once ready stays so
   abbrev pub IsSamePass : BlockId → Pass H → Pass H → Type 0
   IsSamePass t old new =
-      IsPassOf t new × (new.trace.number ≡ old.trace.number) × (old.trace.ready ≡ true → new.trace.ready ≡ true)
+      IsPassOf t new × (new.trace.number ≡ old.trace.number)
+      × (old.trace.ready ≡ true → new.trace.ready ≡ true)
 
-  -- The pass added these entries, one or none, to the history before them. That is all that it had seen and what others added since;
-  -- under `Whole` nothing came between. What it has seen now is legal.
-  pub record Appends (t : BlockId) (old new : Pass H) (before : List Line) (entries : List Entry) : Type 0 where
+  -- The pass added these entries, one or none, to the history before them. That is all that it had
+  -- seen and what others added since; under `Whole` nothing came between. What it has seen now is
+  -- legal.
+  pub record Appends (t : BlockId) (old new : Pass H) (before : List Line)
+      (entries : List Entry) : Type 0 where
     pub same : IsSamePass t old new
     pub after_seen : IsPrefix old.trace.lines before
     pub none_own : made_by old.trace.number before ≡ made_by old.trace.number old.trace.lines
@@ -109,8 +119,8 @@ module _ {H : Type 0} where
     pub learnt : IsPrefix (history_of other) (history_of new)
     pub own : mine new ≡ mine old
 
-  -- The pass sees all of the block's history, in which this owner lives, and no other. It added nothing, and under `Whole` it had seen
-  -- all of it before.
+  -- After what the pass sees now this owner lives, and no other. It added nothing, and under
+  -- `Whole` it had seen all of it before.
   pub record SeesAlone (o : Owner) (old new : Pass H) : Type 0 where
     pub same : IsSamePass o.block old new
     pub kept : IsPrefix (history_of old) (history_of new)
@@ -118,26 +128,36 @@ module _ {H : Type 0} where
     pub undisturbed : o.block.whole ≡ true → history_of new ≡ history_of old
     pub alone : LivesAlone o.number (seen new)
 
-  -- uniqueness was read: the answer is yes exactly where no other owner lived. On a lone word that is so, and adds nothing
+  -- uniqueness was read: the answer is yes exactly where no other owner lived. On a lone word that
+  -- is so, and adds nothing
   pub record Asks (o : Owner) (old new : Pass H) (found : Bool) : Type 0 where
     pub before : List Line
-    pub added : Appends o.block old new before (reading (is_counted o.block.began (entries_of before)) o.number found)
+    pub added : Appends o.block old new before
+        (reading (is_counted o.block.began (entries_of before)) o.number found)
     pub exact : IsTrue found ↔ LivesAlone o.number (entries_of before)
 
-  -- nothing was done yet, or the exchange was lost that was to promote a word which the pass didn't know to be counted
+  -- nothing was done yet, or the exchange was lost that was to promote a word which the pass didn't
+  -- know to be counted
   abbrev pub MayJoin : Owner → Pass H → Pass H → Type 0
   MayJoin o old new =
       (new ≡ old)
-      ⊎ ((before : List Line) × (is_counted o.block.began (entries_of old.trace.lines) ≡ false) × Appends o.block old new before (Joined o.number ∷ []))
+      ⊎ ((before : List Line) × (is_counted o.block.began (entries_of old.trace.lines) ≡ false)
+      × Appends o.block old new before (Joined o.number ∷ []))
 
-  -- through this owner another one of the same block was made: its number is how many the history had
+  -- through this owner another one of the same block was made: its number is how many the history
+  -- had
   pub record MakesAnother (o : Owner) (old new : Pass H) (other : Owner) : Type 0 where
     pub middle : Pass H
     pub joined : MayJoin o old middle
     pub before : List Line
     pub added : Appends o.block middle new before
-        (making (is_counted o.block.began (entries_of before)) o.number (length (owners_ever (entries_of before))) ∷ [])
-    pub made : other ≡ record { block = o.block; number = length (owners_ever (entries_of before)); born = new.trace.lines }
+        (making (is_counted o.block.began (entries_of before)) o.number
+        (length (owners_ever (entries_of before))) ∷ [])
+    pub made : other ≡ record {
+      block = o.block;
+      number = length (owners_ever (entries_of before));
+      born = new.trace.lines;
+    }
 
   -- the count was found at its greatest
   pub record FindsFull (o : Owner) (old new : Pass H) : Type 0 where
@@ -174,7 +194,8 @@ module _ {H : Type 0} where
     pub made : IsNewPass o new
     pub left : Leaves o new after last
 
--- the first owner of a block that so many owners may have at most, under a mark, in which nothing has happened yet. Its word has a count
+-- the first owner of a block that so many owners may have at most, under a mark. Its word has a
+-- count
 pub record IsFirst (greatest : ℕ) (one_pass : Bool) (o : Owner) : Type 0 where
   pub number : o.number ≡ 0
   pub born : o.born ≡ []

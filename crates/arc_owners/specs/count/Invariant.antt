@@ -1,6 +1,8 @@
 -- What a block's word, its owners and their passes own: the ghost state behind a count.
--- A invariant's invariant holds ghost state alone, and lasts for good. The word lies elsewhere, and its number and the invariant's agree.
-use Rattle.std.specs.Prelude.{◌≡◌, ℕ, zero, suc, ◌^◌, ◌<◌, ◌≤◌, ◌==◌, Bool, true, false, List, [], ◌∷◌, ◌++◌, length, slice_index_or, if◌then◌else◌}
+-- A block's invariant holds ghost state alone, and lasts for good. The word lies elsewhere, and
+-- its number and the invariant's agree.
+use Rattle.std.specs.Prelude.{◌≡◌, ℕ, zero, suc, ◌^◌, ◌<◌, ◌≤◌, ◌==◌, Bool, true, false, List, []}
+use Rattle.std.specs.Prelude.{◌∷◌, ◌++◌, length, slice_index_or, if◌then◌else◌}
 use mathlib.Core.List.{IsPrefix}
 use mathlib.Core.Option.{Option, none, some}
 use base.Fraction.{full_share}
@@ -19,7 +21,8 @@ use Rattle.core.specs.Sync.RawAtomic.{word}
 use Rattle.arc_owners.specs.declared.history.entry.Entry.{Entry}
 use Rattle.arc_owners.specs.declared.history.entry.Entry.TheVariants.{Up, Full, Down, Alone}
 use Rattle.arc_owners.specs.contracts.history.entry.Entry as entry_type
-use Rattle.arc_owners.specs.history.Histories.{Beginning, Lone, Counted, live_owners, owners_ever, is_counted, MayFollow, IsLegal}
+use Rattle.arc_owners.specs.history.Histories.{Beginning, Lone, Counted, live_owners, owners_ever}
+use Rattle.arc_owners.specs.history.Histories.{is_counted, MayFollow, IsLegal}
 use Rattle.arc_owners.specs.history.Machine.{begins_counted}
 use Rattle.std.proofs.Common.{refl, sym}
 use Rattle.std.proofs.lemmas.Bool.{false≢true}
@@ -34,7 +37,8 @@ beginning_told Counted Counted e = refl
 abbrev pub beginning_coded : Coded Beginning
 beginning_coded = coded_via coded_bool begins_counted beginning_told
 
--- which block it is: the number of its invariant, the ghost names in it, and what is fixed when it begins
+-- which block it is: the number of its invariant, the ghost names in it, and what is fixed when it
+-- begins
 pub record BlockId : Type 0 where
   pub number : ℕ
   pub history : ℕ
@@ -47,9 +51,36 @@ pub record BlockId : Type 0 where
   pub whole : Bool
 
 abbrev pub block_id_coded : Coded BlockId
-block_id_coded = coded_via (coded× coded_ℕ (coded× coded_ℕ (coded× coded_ℕ (coded× coded_ℕ (coded× coded_ℕ (coded× coded_ℕ (coded× coded_ℕ (coded× beginning_coded coded_bool))))))))
-    (λ (t : BlockId). (t.number, (t.history, (t.rights, (t.passes, (t.count, (t.place, (t.most, (t.began, t.whole)))))))))
-    (λ x y e i. record { number = (e i).0; history = (e i).1.0; rights = (e i).1.1.0; passes = (e i).1.1.1.0; count = (e i).1.1.1.1.0; place = (e i).1.1.1.1.1.0; most = (e i).1.1.1.1.1.1.0; began = (e i).1.1.1.1.1.1.1.0; whole = (e i).1.1.1.1.1.1.1.1 })
+block_id_coded = coded_via
+    (coded× coded_ℕ (coded× coded_ℕ (coded× coded_ℕ (coded× coded_ℕ (coded× coded_ℕ
+    (coded× coded_ℕ (coded× coded_ℕ (coded× beginning_coded coded_bool))))))))
+    (λ (t : BlockId). (
+      t.number,
+      (
+        t.history,
+        (
+          t.rights,
+          (
+            t.passes,
+            (
+              t.count,
+              (t.place, (t.most, (t.began, t.whole))),
+            ),
+          ),
+        ),
+      ),
+    ))
+    (λ x y e i. record {
+      number = (e i).0;
+      history = (e i).1.0;
+      rights = (e i).1.1.0;
+      passes = (e i).1.1.1.0;
+      count = (e i).1.1.1.1.0;
+      place = (e i).1.1.1.1.1.0;
+      most = (e i).1.1.1.1.1.1.0;
+      began = (e i).1.1.1.1.1.1.1.0;
+      whole = (e i).1.1.1.1.1.1.1.1;
+    })
 
 -- an entry, with the number of the pass that made it
 abbrev pub Line : Type 0
@@ -67,14 +98,17 @@ abbrev pub made_by : ℕ → List Line → List Entry
 made_by p [] = []
 made_by p (l ∷ ls) = if l.0 == p then l.1 ∷ made_by p ls else made_by p ls
 
--- whether the block is lent to its owners, for which lifetime, and the name of the ticket for its end. A sole owner who took the block back whole has it unlent
+-- whether the block is lent to its owners, for which lifetime, and the name of the ticket for its
+-- end. A sole owner has it unlent
 pub record Lease : Type 0 where
   pub is_lent : Bool
   pub lifetime : ℕ
   pub key : ℕ
 
 abbrev pub lease_coded : Coded Lease
-lease_coded = coded_via (coded× coded_bool (coded× coded_ℕ coded_ℕ)) (λ (l : Lease). (l.is_lent, (l.lifetime, l.key))) (λ x y e i. record { is_lent = (e i).0; lifetime = (e i).1.0; key = (e i).1.1 })
+lease_coded = coded_via (coded× coded_bool (coded× coded_ℕ coded_ℕ))
+    (λ (l : Lease). (l.is_lent, (l.lifetime, l.key)))
+    (λ x y e i. record { is_lent = (e i).0; lifetime = (e i).1.0; key = (e i).1.1 })
 
 -- whether a pass is ready, and what it has made
 abbrev pub Seat : Type 0
@@ -86,7 +120,8 @@ seat_coded = coded× coded_bool (coded_list entry_type.the_row.coded)
 abbrev pub told : Type 0 → Fml
 told φ = fex φ (λ _. ftrue)
 
--- cells under one ghost name. Whoever has any share of a cell knows what it holds, and the whole share sets it
+-- cells under one ghost name. Whoever has any share of a cell knows what it holds, and the whole
+-- share sets it
 abbrev pub halved : {X : Type 0} → Coded X → Algebra
 halved c = both shares (agreed (coded c))
 
@@ -154,7 +189,8 @@ upto k (suc n) = k ∷ upto (suc k) n
 abbrev pub how_many : List (Bool × Lease) → ℕ
 how_many xs = length (living 0 xs)
 
--- what a invariant says: its lines, who lives, its passes, and for which lifetime the block is lent
+-- what an invariant says: its lines, who lives, its passes, and for which lifetime the block is
+-- lent
 pub record State : Type 0 where
   pub lines : List Line
   pub roll : List (Bool × Lease)
@@ -166,15 +202,17 @@ pub record FitsFor (most : ℕ) (began : Beginning) (a : State) : Type 0 where
   pub live : live_owners (entries_of a.lines) ≡ living 0 a.roll
   pub ever : owners_ever (entries_of a.lines) ≡ upto 0 (length a.roll)
   pub made : (p : ℕ) → (slice_index_or a.seats p (false, fresh_seat)).1.1 ≡ made_by p a.lines
-  pub leased : (o : ℕ) (l : Lease) → slice_index_or a.roll o (false, no_lease) ≡ (true, l) → l ≡ a.lease
+  pub leased : (o : ℕ) (l : Lease) → slice_index_or a.roll o (false, no_lease) ≡ (true, l)
+      → l ≡ a.lease
   pub within : how_many a.roll ≤ most
   pub small : most < 2 ^ 64
 
--- the account is true of the block
+-- the state is true of the block
 abbrev pub Fits : BlockId → State → Type 0
 Fits t a = FitsFor t.most t.began a
 
--- what the owners leave in the invariant of the lifetime, with the ticket for its end: nothing where a sole owner took the block back
+-- what the owners leave in the invariant of the lifetime, with the ticket for its end: nothing
+-- where a sole owner has the block
 abbrev pub pooled : Bool → Lease → ℕ → Fml
 pooled true l n = fsep (rest 64 l.lifetime (suc n)) (ticket l.key 0)
 pooled false l n = told (n ≡ 0)
@@ -197,9 +235,12 @@ tokens true l κ = fshr_bor κ (λ q. flft (l.lifetime ∷ []) q)
 tokens false l κ = ftrue
 
 abbrev pub located : BlockId → List Line → Fml
-located t ls = fex (Option (ℕ × ℕ)) (λ x. fsep (latest places three_quarters t.place x) (told (is_counted t.began (entries_of ls) ≡ is_there x)))
+located t ls = fex (Option (ℕ × ℕ)) (λ x.
+    fsep (latest places three_quarters t.place x)
+    (told (is_counted t.began (entries_of ls) ≡ is_there x)))
 
--- while an owner lives the word counts how many do. A sole owner may end without a step, and then the word stays as it was
+-- while an owner lives the word counts how many do. A sole owner may end without a step, and then
+-- the word stays as it was
 abbrev pub tally_of : BlockId → ℕ → ℕ → Fml
 tally_of t n m = fsep (told (0 < n → m ≡ n)) (counted_as t three_quarters m)
 
@@ -238,9 +279,12 @@ known t ls = fsep (fnamed t.number (contents t)) (history_at_least t ls)
 abbrev pub share_owns : BlockId → ℕ → Lease → List Line → Fml
 share_owns t o l born = fsep (known t born) (fsep (right t o l quarter) (stake l))
 
--- what a pass of a block has: the invariant, what it has seen, and its seat, with what it has made of that
+-- what a pass of a block has: the invariant, what it has seen, and its seat, with what it has made
+-- of that
 abbrev pub pass_holds : BlockId → ℕ → Bool → List Line → Fml
-pass_holds t p ready seen = fsep (history_at_least t seen) (fsep (withheld t t.whole seen) (ghost_var seat_coded t.passes p quarter (ready, made_by p seen)))
+pass_holds t p ready seen = fsep (history_at_least t seen)
+    (fsep (withheld t t.whole seen)
+    (ghost_var seat_coded t.passes p quarter (ready, made_by p seen)))
 
 -- the pass p, which has seen these lines, adds an entry to the history before it
 pub record Adds (t : BlockId) (p : ℕ) (seen before : List Line) (e : Entry) : Type 0 where
@@ -251,9 +295,12 @@ pub record Adds (t : BlockId) (p : ℕ) (seen before : List Line) (e : Entry) : 
   pub may : MayFollow t.most t.began (entries_of before) e
   pub legal : IsLegal t.most t.began (entries_of (before ++ (p, e) ∷ []))
 
--- what a call leaves that added an entry to the history before it: the pass, with what it has seen since
-abbrev pub left_by : BlockId → ℕ → Bool → List Line → (List Line → Entry) → (List Line → Fml) → List Line → Fml
-left_by t p ready seen e gain before = fsep (told (Adds t p seen before (e before))) (fsep (pass_holds t p ready (before ++ (p, e before) ∷ [])) (gain before))
+-- what a call leaves that added an entry to the history before it: the pass, with what it has seen
+-- since
+abbrev pub left_by : BlockId → ℕ → Bool → List Line → (List Line → Entry) → (List Line → Fml)
+    → List Line → Fml
+left_by t p ready seen e gain before = fsep (told (Adds t p seen before (e before)))
+    (fsep (pass_holds t p ready (before ++ (p, e before) ∷ [])) (gain before))
 
 abbrev pub added : BlockId → ℕ → Bool → List Line → (List Line → Entry) → (List Line → Fml) → Fml
 added t p ready seen e gain = fex (List Line) (left_by t p ready seen e gain)
@@ -276,7 +323,9 @@ glanced t p ready seen o l q n = glanced_at t p ready seen o l q (n == t.most)
 
 -- an exchange, which makes an owner where it wins
 abbrev pub raised_by : BlockId → ℕ → Bool → List Line → ℕ → Lease → Share → Bool → Fml
-raised_by t p ready seen o l q true = added t p ready seen (λ before. Up o (next_owner before)) (λ before. fsep (right t o l q) (fsep (right t (next_owner before) l quarter) (stake l)))
+raised_by t p ready seen o l q true = added t p ready seen
+    (λ before. Up o (next_owner before))
+    (λ before. fsep (right t o l q) (fsep (right t (next_owner before) l quarter) (stake l)))
 raised_by t p ready seen o l q false = fsep (pass_holds t p ready seen) (right t o l q)
 
 -- what the last owner has from its end: the whole token of the lifetime, and the ticket
@@ -297,7 +346,8 @@ abbrev pub how_many_live : List Line → ℕ
 how_many_live ls = length (live_owners (entries_of ls))
 
 abbrev pub lowered_by : BlockId → ℕ → Bool → List Line → ℕ → Lease → ℕ → Fml
-lowered_by t p ready seen o l n = added t p ready seen (λ _. Down o) (λ before. fsep (told (n ≡ how_many_live before)) (spoils l (n == 1)))
+lowered_by t p ready seen o l n = added t p ready seen (λ _. Down o)
+    (λ before. fsep (told (n ≡ how_many_live before)) (spoils l (n == 1)))
 
 -- the lease of an owner who asked for the block back: taken where it was found alone
 abbrev pub taken : Lease → Lease
@@ -309,18 +359,22 @@ lease_after l false = l
 
 -- what such an owner has: its right, and the end of the lifetime or its part of it
 abbrev pub claim_gain : BlockId → ℕ → Lease → Bool → Fml
-claim_gain t o l y = fsep (right t o (lease_after l y) quarter) (fsep (stake (lease_after l y)) (spoils l y))
+claim_gain t o l y = fsep (right t o (lease_after l y) quarter)
+    (fsep (stake (lease_after l y)) (spoils l y))
 
 abbrev pub claimed_by : BlockId → ℕ → Bool → List Line → ℕ → Lease → ℕ → Fml
-claimed_by t p ready seen o l n = added t p ready seen (λ _. Alone o (n == 1)) (λ _. claim_gain t o l (n == 1))
+claimed_by t p ready seen o l n = added t p ready seen (λ _. Alone o (n == 1))
+    (λ _. claim_gain t o l (n == 1))
 
 -- a sole owner's end, without a step
 abbrev pub finished_by : BlockId → ℕ → Bool → List Line → ℕ → Fml
-finished_by t p ready seen o = added t p ready seen (λ _. Down o) (λ before. told (1 ≡ how_many_live before))
+finished_by t p ready seen o = added t p ready seen (λ _. Down o)
+    (λ before. told (1 ≡ how_many_live before))
 
 -- a `&` to the word: an invariant over a borrow of it, whose number is past the invariant's
 abbrev pub lent : BlockId → ℕ → ℕ → Lft → Lft × ℕ → Fml
-lent t b o κ z = fsep (before κ z.0) (fsep (told (t.number < z.1)) (fnamed z.1 (fbor z.0 (counting t b o))))
+lent t b o κ z = fsep (before κ z.0)
+    (fsep (told (t.number < z.1)) (fnamed z.1 (fbor z.0 (counting t b o))))
 
 abbrev pub word_shares : BlockId → Ptr → Lft → Fml
 word_shares t (block_ptr b o) κ = fex (Lft × ℕ) (lent t b o κ)
@@ -344,12 +398,15 @@ right_owns true t o l born = share_owns t o l born
 right_owns false t o l born = ftrue
 
 abbrev pub right_shares : Bool → BlockId → ℕ → Lease → List Line → Lft → Fml
-right_shares true t o l born κ = fsep (known t born) (fsep (fshr_bor κ (λ q. right t o l q)) (tokens l.is_lent l κ))
+right_shares true t o l born κ = fsep (known t born)
+    (fsep (fshr_bor κ (λ q. right t o l q)) (tokens l.is_lent l κ))
 right_shares false t o l born κ = ftrue
 
 -- a pass of a block, or of none
 abbrev pub trace_owns : Bool → BlockId → ℕ → Bool → List Line → Fml
-trace_owns true t p ready seen = fsep (known t seen) (fsep (withheld t t.whole seen) (ghost_var seat_coded t.passes p quarter (ready, made_by p seen)))
+trace_owns true t p ready seen = fsep (known t seen)
+    (fsep (withheld t t.whole seen)
+    (ghost_var seat_coded t.passes p quarter (ready, made_by p seen)))
 trace_owns false t p ready seen = ftrue
 
 -- that a pass has seen a beginning of its block's history
@@ -370,7 +427,8 @@ Written t p seen e ls = (before : List Line) × AddedTo t p seen (λ _. e) befor
 
 -- what a look leaves
 abbrev pub after_look : BlockId → ℕ → Bool → List Line → ℕ → Lease → Share → ℕ → List Line → Fml
-after_look t p ready seen o l q n ls = fsep (told (Written t p seen (Alone o (n == 1)) ls)) (fsep (trace_owns true t p ready ls) (right t o l q))
+after_look t p ready seen o l q n ls = fsep (told (Written t p seen (Alone o (n == 1)) ls))
+    (fsep (trace_owns true t p ready ls) (right t o l q))
 
 -- the count was found at its greatest, which is an entry, or the pass is as it was
 abbrev pub Filled : BlockId → ℕ → List Line → ℕ → Bool → List Line → Type 0
@@ -378,25 +436,34 @@ Filled t p seen o true ls = Written t p seen (Full o) ls
 Filled t p seen o false ls = ls ≡ seen
 
 abbrev pub after_glance : BlockId → ℕ → Bool → List Line → ℕ → Lease → Share → ℕ → List Line → Fml
-after_glance t p ready seen o l q n ls = fsep (told (Filled t p seen o (n == t.most) ls)) (fsep (trace_owns true t p ready ls) (right t o l q))
+after_glance t p ready seen o l q n ls = fsep (told (Filled t p seen o (n == t.most) ls))
+    (fsep (trace_owns true t p ready ls) (right t o l q))
 
 -- a new owner, by its number and the history in which it was made, or none
 abbrev pub MadeOne : BlockId → ℕ → List Line → ℕ → Bool → List Line → Bool × ℕ → Type 0
-MadeOne t p seen o true ls new = (before : List Line) × AddedTo t p seen (λ h. Up o (next_owner h)) before ls × (new.0 ≡ true) × (new.1 ≡ next_owner before)
+MadeOne t p seen o true ls new = (before : List Line)
+    × AddedTo t p seen (λ h. Up o (next_owner h)) before ls × (new.0 ≡ true)
+    × (new.1 ≡ next_owner before)
 MadeOne t p seen o false ls new = (ls ≡ seen) × (new.0 ≡ false)
 
-abbrev pub after_raise : BlockId → ℕ → Bool → List Line → ℕ → Lease → Share → ℕ → ℕ → List Line × (Bool × ℕ) → Fml
-after_raise t p ready seen o l q old n u = fsep (told (MadeOne t p seen o (n == old) u.0 u.1)) (fsep (trace_owns true t p ready u.0) (fsep (right t o l q) (right_owns u.1.0 t u.1.1 l u.0)))
+abbrev pub after_raise : BlockId → ℕ → Bool → List Line → ℕ → Lease → Share → ℕ → ℕ
+    → List Line × (Bool × ℕ) → Fml
+after_raise t p ready seen o l q old n u = fsep (told (MadeOne t p seen o (n == old) u.0 u.1))
+    (fsep (trace_owns true t p ready u.0) (fsep (right t o l q) (right_owns u.1.0 t u.1.1 l u.0)))
 
 -- an owner ended, where the word counted so many
 abbrev pub Lowered : BlockId → ℕ → List Line → ℕ → ℕ → List Line → Type 0
-Lowered t p seen o n ls = (before : List Line) × AddedTo t p seen (λ _. Down o) before ls × (n ≡ how_many_live before)
+Lowered t p seen o n ls = (before : List Line) × AddedTo t p seen (λ _. Down o) before ls
+    × (n ≡ how_many_live before)
 
 abbrev pub after_claim : BlockId → ℕ → Bool → List Line → ℕ → Lease → ℕ → List Line → Fml
-after_claim t p ready seen o l n ls = fsep (told (Written t p seen (Alone o (n == 1)) ls)) (fsep (trace_owns true t p ready ls) (claim_gain t o l (n == 1)))
+after_claim t p ready seen o l n ls = fsep (told (Written t p seen (Alone o (n == 1)) ls))
+    (fsep (trace_owns true t p ready ls) (claim_gain t o l (n == 1)))
 
 abbrev pub after_finish : BlockId → ℕ → Bool → List Line → ℕ → List Line → Fml
-after_finish t p ready seen o ls = fsep (told (Lowered t p seen o 1 ls)) (trace_owns true t p ready ls)
+after_finish t p ready seen o ls = fsep (told (Lowered t p seen o 1 ls))
+    (trace_owns true t p ready ls)
 
 abbrev pub after_lower : BlockId → ℕ → Bool → List Line → ℕ → Lease → ℕ → List Line → Fml
-after_lower t p ready seen o l n ls = fsep (told (Lowered t p seen o n ls)) (fsep (trace_owns true t p ready ls) (spoils l (n == 1)))
+after_lower t p ready seen o l n ls = fsep (told (Lowered t p seen o n ls))
+    (fsep (trace_owns true t p ready ls) (spoils l (n == 1)))

@@ -8,13 +8,14 @@ use Rattle.arc_owners.specs.declared.count.word.OwnerToken.{OwnerToken}
 use Rattle.arc_owners.specs.declared.count.word.PassState.{PassState}
 use Rattle.arc_owners.specs.declared.count.word.WordBorrow.{WordBorrow}
 use denote.RawPtr.{Ptr}
-use Rattle.arc_owners.specs.count.Invariant.{BlockId, Line, Written, Filled, MadeOne, AddedTo, entries_of, made_by, Lease, lease_after}
+use Rattle.arc_owners.specs.count.Invariant.{BlockId, Line, Written, Filled, MadeOne, AddedTo}
+use Rattle.arc_owners.specs.count.Invariant.{entries_of, made_by, Lease, lease_after}
 
 -- the right is held, by an owner of this block, to whom the block is lent
 abbrev pub IsHeld : BlockId → OwnerToken → Type 0
 IsHeld t r = (r.held ≡ true) × (r.block ≡ t) × (r.lease.is_lent ≡ true)
 
--- the right is held, by an owner of this block who took it back whole
+-- the right is held, by an owner of this block who has it to itself
 abbrev pub IsSole : BlockId → OwnerToken → Type 0
 IsSole t r = (r.held ≡ true) × (r.block ≡ t) × (r.lease.is_lent ≡ false)
 
@@ -22,11 +23,13 @@ IsSole t r = (r.held ≡ true) × (r.block ≡ t) × (r.lease.is_lent ≡ false)
 abbrev pub IsOf : BlockId → PassState → Type 0
 IsOf t p = (p.bound ≡ true) × (p.block ≡ t)
 
--- the word of a new block, its first owner, to whom it is lent or not, and a pass that has seen nothing
+-- the word of a new block, its first owner, to whom it is lent or not, and a pass that has seen
+-- nothing
 abbrev pub IsOpened : ℕ → Bool → Bool → BlockId → OwnerToken → PassState → Type 0
 IsOpened most whole lent t r p =
     (t.most ≡ most) × (t.began ≡ Counted) × (t.whole ≡ whole)
-    × ((r.held ≡ true) × (r.block ≡ t) × (r.lease.is_lent ≡ lent)) × IsOf t p × (r.owner ≡ 0) × (r.born ≡ [])
+    × ((r.held ≡ true) × (r.block ≡ t) × (r.lease.is_lent ≡ lent)) × IsOf t p × (r.owner ≡ 0)
+    × (r.born ≡ [])
     × (p.number ≡ 0) × (p.ready ≡ false) × (p.lines ≡ [])
 
 -- the same pass of this block, which may have seen more
@@ -43,32 +46,39 @@ FullIf t p r by b = Filled t p.number p.lines by.owner b r.lines
 
 -- a new owner was made through this one, or nothing was done
 abbrev pub RaisedIf : BlockId → PassState → PassState → OwnerToken → OwnerToken → Bool → Type 0
-RaisedIf t p r by new b = MadeOne t p.number p.lines by.owner b r.lines (new.held, new.owner) × (new.block ≡ t) × (new.lease ≡ by.lease) × (new.born ≡ r.lines)
+RaisedIf t p r by new b = MadeOne t p.number p.lines by.owner b r.lines (new.held, new.owner)
+    × (new.block ≡ t) × (new.lease ≡ by.lease) × (new.born ≡ r.lines)
 
 -- the word lies at this place for as long as this lease
 abbrev pub IsLodged : WordBorrow → Ptr → Lease → Type 0
 IsLodged g place l = (g.at ≡ place) × (g.lifetime ≡ l.lifetime)
 
--- an owner asked for the block back: it is the same one, and where it was found alone the block is its own
+-- an owner asked for the block back: it is the same one, and where it was found alone the block is
+-- its own
 abbrev pub Claimed : BlockId → OwnerToken → OwnerToken → Bool → Type 0
-Claimed t own new found = (new.held ≡ true) × (new.block ≡ t) × (new.owner ≡ own.owner) × (new.born ≡ own.born) × (new.lease ≡ lease_after own.lease found)
+Claimed t own new found = (new.held ≡ true) × (new.block ≡ t) × (new.owner ≡ own.owner)
+    × (new.born ≡ own.born) × (new.lease ≡ lease_after own.lease found)
 
 abbrev pub IsNext : ℕ → ℕ → Type 0
 IsNext old next = old < 2 ^ 64 - 1 → next ≡ old + 1
 
 -- this owner ended, and whether it was the last one
 abbrev pub Ends : BlockId → PassState → PassState → ℕ → Bool → Type 0
-Ends t p r o last = (before : List Line) × AddedTo t p.number p.lines (λ _. Down o) before r.lines × (IsTrue last ↔ LivesAlone o (entries_of before))
+Ends t p r o last = (before : List Line) × AddedTo t p.number p.lines (λ _. Down o) before r.lines
+    × (IsTrue last ↔ LivesAlone o (entries_of before))
 
--- the pass sees the block's whole history, in which this owner lives alone; it added nothing, and under `Whole` it had seen it all
+-- the pass sees the block's whole history, in which this owner lives alone; it added nothing, and
+-- under `Whole` it had seen it all
 abbrev pub SeesSole : OwnerToken → PassState → PassState → Type 0
 SeesSole own p r =
-    SamePass own.block p r × IsPrefix p.lines r.lines × (made_by p.number r.lines ≡ made_by p.number p.lines)
+    SamePass own.block p r × IsPrefix p.lines r.lines
+    × (made_by p.number r.lines ≡ made_by p.number p.lines)
     × (own.block.whole ≡ true → r.lines ≡ p.lines) × LivesAlone own.owner (entries_of r.lines)
 
 -- a new pass of an owner's block: it has seen how the owner was made, and made nothing
 abbrev pub IsFork : OwnerToken → PassState → Type 0
-IsFork own new = IsOf own.block new × (new.ready ≡ false) × IsPrefix own.born new.lines × (made_by new.number new.lines ≡ [])
+IsFork own new = IsOf own.block new × (new.ready ≡ false) × IsPrefix own.born new.lines
+    × (made_by new.number new.lines ≡ [])
 
 -- this owner ended with a new pass, which this one is afterwards, and whether it was the last one
 pub record EndsWithNew (own : OwnerToken) (after : PassState) (last : Bool) : Type 0 where

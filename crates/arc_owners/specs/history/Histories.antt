@@ -1,8 +1,10 @@
 -- Owner histories: who lives after one, and which are legal.
-use Rattle.std.specs.Prelude.{◌≡◌, ℕ, ◌<◌, ◌==◌, Bool, true, false, not, IsTrue, ◌↔◌, List, [], ◌∷◌, ◌++◌, length, Option, Some, None, filter}
+use Rattle.std.specs.Prelude.{◌≡◌, ℕ, ◌<◌, ◌==◌, Bool, true, false, not, IsTrue, ◌↔◌, List, [], ◌∷◌}
+use Rattle.std.specs.Prelude.{◌++◌, length, Option, Some, None, filter}
 use Rattle.std.specs.List.{list_any, filter_map}
 use Rattle.arc_owners.specs.declared.history.entry.Entry.{Entry}
-use Rattle.arc_owners.specs.declared.history.entry.Entry.TheVariants.{Up, Full, Down, Alone, Promote, Joined}
+use Rattle.arc_owners.specs.declared.history.entry.Entry.TheVariants.{Up, Full, Down, Alone}
+use Rattle.arc_owners.specs.declared.history.entry.Entry.TheVariants.{Promote, Joined}
 
 -- a block begins with a lone vector, or with a count
 pub data Beginning : Type 0 where
@@ -59,7 +61,8 @@ owners_ended history = filter_map owner_ended history
 
 -- the live owners: those that ever lived, but for the ones that ended
 unfoldable pub live_owners : List Entry → List ℕ
-live_owners history = filter (λ owner. not (is_in owner (owners_ended history))) (owners_ever history)
+live_owners history =
+    filter (λ owner. not (is_in owner (owners_ended history))) (owners_ever history)
 
 -- whether a promotion stands in a history
 unfoldable pub is_promoted : List Entry → Bool
@@ -101,13 +104,15 @@ MayFollow most began before (Down owner) = Lives owner before
 MayFollow most began before (Alone by found) =
     Lives by before × (is_counted began before ≡ true) × (IsTrue found ↔ LivesAlone by before)
 MayFollow most began before (Promote by new) =
-    LivesAlone by before × (is_in new (owners_ever before) ≡ false) × (is_counted began before ≡ false)
+    LivesAlone by before × (is_in new (owners_ever before) ≡ false)
+    × (is_counted began before ≡ false)
 MayFollow most began before (Joined by) = Lives by before × IsTrue (is_promoted before)
 
 -- each of these entries may stand where it stands, after this history
 abbrev pub IsLegalAfter : ℕ → Beginning → List Entry → List Entry → Type 0
 IsLegalAfter most began before [] = Unit {0}
-IsLegalAfter most began before (entry ∷ rest) = MayFollow most began before entry × IsLegalAfter most began (before ++ entry ∷ []) rest
+IsLegalAfter most began before (entry ∷ rest) = MayFollow most began before entry
+    × IsLegalAfter most began (before ++ entry ∷ []) rest
 
 -- a legal history: each entry may follow what stands before it
 abbrev pub IsLegal : ℕ → Beginning → List Entry → Type 0

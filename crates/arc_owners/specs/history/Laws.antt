@@ -10,18 +10,22 @@ PromotedOnce history = length (filter is_promotion history) ≤ 1
 
 -- each exchange that lost comes after the one that won
 abbrev pub LosersAfterWinner : List Entry → Type 0
-LosersAfterWinner history = (before after : List Entry) (by : ℕ) → history ≡ before ++ Joined by ∷ after → IsTrue (is_promoted before)
+LosersAfterWinner history = (before after : List Entry) (by : ℕ)
+    → history ≡ before ++ Joined by ∷ after → IsTrue (is_promoted before)
 
 -- nothing stands after nobody lives
 abbrev pub NothingAfterLast : List Entry → Type 0
-NothingAfterLast history = (before after : List Entry) → history ≡ before ++ after → live_owners before ≡ [] → after ≡ []
+NothingAfterLast history = (before after : List Entry) → history ≡ before ++ after
+    → live_owners before ≡ [] → after ≡ []
 
 -- the entry after which nobody lives is the Down of an owner that lived alone
 abbrev pub ReleasedByLast : List Entry → Type 0
 ReleasedByLast history =
-    (before after : List Entry) (entry : Entry) → history ≡ before ++ entry ∷ after → live_owners (before ++ entry ∷ []) ≡ []
+    (before after : List Entry) (entry : Entry) → history ≡ before ++ entry ∷ after
+    → live_owners (before ++ entry ∷ []) ≡ []
     → (owner : ℕ) × (entry ≡ Down owner) × LivesAlone owner before
 
 -- uniqueness is found exactly where no other owner lives
 abbrev pub AloneIsExact : List Entry → Type 0
-AloneIsExact history = (before after : List Entry) (by : ℕ) (found : Bool) → history ≡ before ++ Alone by found ∷ after → (IsTrue found ↔ LivesAlone by before)
+AloneIsExact history = (before after : List Entry) (by : ℕ) (found : Bool)
+    → history ≡ before ++ Alone by found ∷ after → (IsTrue found ↔ LivesAlone by before)

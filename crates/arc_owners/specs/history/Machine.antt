@@ -1,11 +1,16 @@
 -- The word machine: what each event does to a block's word.
-use Rattle.std.specs.Prelude.{ℕ, ◌+◌, ◌-◌, ◌==◌, nat_lt, Bool, true, false, not, ◌&&◌, List, [], ◌∷◌, ◌++◌, filter, if◌then◌else◌}
+use Rattle.std.specs.Prelude.{ℕ, ◌+◌, ◌-◌, ◌==◌, nat_lt, Bool, true, false, not, ◌&&◌, List, []}
+use Rattle.std.specs.Prelude.{◌∷◌, ◌++◌, filter, if◌then◌else◌}
 use Rattle.std.specs.List.{fold}
 use Rattle.arc_owners.specs.history.Histories.{Beginning, Lone, Counted, is_in, owners_ended}
 use Rattle.arc_owners.specs.declared.history.entry.Entry.{Entry}
-use Rattle.arc_owners.specs.declared.history.entry.Entry.TheVariants.{Up, Full, Down, Alone, Promote, Joined}
+use Rattle.arc_owners.specs.declared.history.entry.Entry.TheVariants.{Up, Full, Down, Alone}
+use Rattle.arc_owners.specs.declared.history.entry.Entry.TheVariants.{Promote, Joined}
 use Rattle.arc_owners.specs.declared.history.event.Event.{Event}
-use Rattle.arc_owners.specs.declared.history.event.Event.TheVariants.{Load, ExchangeWon, ExchangeLost, CountUp, FullFound, CountDown, UniquenessLoad}
+use Rattle.arc_owners.specs.declared.history.event.Event.TheVariants.{Load, ExchangeWon}
+use Rattle.arc_owners.specs.declared.history.event.Event.TheVariants.{ExchangeLost, CountUp}
+use Rattle.arc_owners.specs.declared.history.event.Event.TheVariants.{FullFound, CountDown}
+use Rattle.arc_owners.specs.declared.history.event.Event.TheVariants.{UniquenessLoad}
 
 -- the word with its owners, the threads that found it lone, and the entries so far
 pub record Machine : Type 0 where
@@ -27,7 +32,13 @@ beginning true = Counted
 
 -- the machine as a block begins: owner 0 lives
 abbrev pub opening : Beginning → Machine
-opening began = record { counted = begins_counted began; count = 1; live = 0 ∷ []; ready = []; entries = [] }
+opening began = record {
+  counted = begins_counted began;
+  count = 1;
+  live = 0 ∷ [];
+  ready = [];
+  entries = [];
+}
 
 -- whether an owner's number is one that never was live
 unfoldable pub is_fresh : ℕ → Machine → Bool
@@ -36,12 +47,15 @@ is_fresh owner m = not (is_in owner m.live) && not (is_in owner (owners_ended m.
 -- whether the event may happen: its actor lives, and the word is as the event found it
 abbrev pub may_happen : ℕ → Machine → Event → Bool
 may_happen most m (Load thread by) = is_in by m.live && not m.counted
-may_happen most m (ExchangeWon thread by new) = is_in by m.live && not m.counted && is_in thread m.ready && is_fresh new m
+may_happen most m (ExchangeWon thread by new) = is_in by m.live && not m.counted
+    && is_in thread m.ready && is_fresh new m
 may_happen most m (ExchangeLost thread by) = is_in by m.live && m.counted && is_in thread m.ready
-may_happen most m (CountUp thread by seen new) = is_in by m.live && m.counted && (m.count == seen) && nat_lt seen most && is_fresh new m
+may_happen most m (CountUp thread by seen new) = is_in by m.live && m.counted && (m.count == seen)
+    && nat_lt seen most && is_fresh new m
 may_happen most m (FullFound thread by) = is_in by m.live && m.counted && (m.count == most)
 may_happen most m (CountDown thread by seen) = is_in by m.live && m.counted && (m.count == seen)
-may_happen most m (UniquenessLoad thread by seen) = is_in by m.live && m.counted && (m.count == seen)
+may_happen most m (UniquenessLoad thread by seen) = is_in by m.live && m.counted
+    && (m.count == seen)
 
 -- the numbers with this one among them
 abbrev pub with_number : ℕ → List ℕ → List ℕ
@@ -54,12 +68,26 @@ without_number number numbers = filter (λ x. not (x == number)) numbers
 -- the machine after an event that may happen
 abbrev pub changed : Machine → Event → Machine
 changed m (Load thread by) = record m { ready = with_number thread m.ready }
-changed m (ExchangeWon thread by new) = record m { counted = true; count = 2; live = m.live ++ new ∷ []; entries = m.entries ++ Promote by new ∷ [] }
+changed m (ExchangeWon thread by new) = record m {
+  counted = true;
+  count = 2;
+  live = m.live ++ new ∷ [];
+  entries = m.entries ++ Promote by new ∷ [];
+}
 changed m (ExchangeLost thread by) = record m { entries = m.entries ++ Joined by ∷ [] }
-changed m (CountUp thread by seen new) = record m { count = m.count + 1; live = m.live ++ new ∷ []; entries = m.entries ++ Up by new ∷ [] }
+changed m (CountUp thread by seen new) = record m {
+  count = m.count + 1;
+  live = m.live ++ new ∷ [];
+  entries = m.entries ++ Up by new ∷ [];
+}
 changed m (FullFound thread by) = record m { entries = m.entries ++ Full by ∷ [] }
-changed m (CountDown thread by seen) = record m { count = m.count - 1; live = without_number by m.live; entries = m.entries ++ Down by ∷ [] }
-changed m (UniquenessLoad thread by seen) = record m { entries = m.entries ++ Alone by (m.count == 1) ∷ [] }
+changed m (CountDown thread by seen) = record m {
+  count = m.count - 1;
+  live = without_number by m.live;
+  entries = m.entries ++ Down by ∷ [];
+}
+changed m (UniquenessLoad thread by seen) =
+    record m { entries = m.entries ++ Alone by (m.count == 1) ∷ [] }
 
 -- one event: one that may not happen changes nothing
 unfoldable pub step : ℕ → Machine → Event → Machine

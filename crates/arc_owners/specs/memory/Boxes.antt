@@ -7,7 +7,11 @@ use Rattle.arc_owners.specs.count.Calls.{Owner}
 module _ {V A H : Type 0} {MAX : ℕ} {G : Ghosts H} where
   -- the owner that a box is, and its value
   abbrev pub owner_in : CountedBox V A MAX H G → Owner
-  owner_in p = record { block = p.lodging.block; number = p.share.right.owner; born = p.share.right.born }
+  owner_in p = record {
+    block = p.lodging.block;
+    number = p.share.right.owner;
+    born = p.share.right.born;
+  }
 
   abbrev pub value_of : CountedBox V A MAX H G → V
   value_of p = p.loan.value.value

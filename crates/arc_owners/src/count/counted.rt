@@ -1,7 +1,12 @@
 //! The calls on a count of owners.
-ghost use Rattle.std.specs.Prelude.{◌≡◌, ◌≢◌, ◌≤◌, ◌==◌, true, false, [], IfSome, IfNone, IfOk, IfErr};
+ghost use Rattle.std.specs.Prelude.{◌≡◌, ◌≢◌, ◌≤◌, ◌==◌, true, false, [], IfSome, IfNone, IfOk};
+ghost use Rattle.std.specs.Prelude.{IfErr};
 ghost use mathlib.Core.List.{IsPrefix};
-ghost use Rattle.arc_owners.specs.count.Calls.{block_of, owner_of, lease_of, IsFirst, IsFreshPass, IsOwnerOf, IsPassOf, IsPassOfNone, IsSamePass, IsNewPass, Learns, Asks, MakesAnother, FindsFull, Leaves, IsTermOf, HasCountIn, EndsInOneStep, history_of, seen};
+ghost use Rattle.arc_owners.specs.count.Calls.{block_of, owner_of, lease_of, IsFirst, IsFreshPass};
+ghost use Rattle.arc_owners.specs.count.Calls.{IsOwnerOf, IsPassOf, IsPassOfNone, IsSamePass};
+ghost use Rattle.arc_owners.specs.count.Calls.{IsNewPass, Learns, Asks, MakesAnother, FindsFull};
+ghost use Rattle.arc_owners.specs.count.Calls.{Leaves, IsTermOf, HasCountIn, EndsInOneStep};
+ghost use Rattle.arc_owners.specs.count.Calls.{history_of, seen};
 ghost use Rattle.arc_owners.specs.count.Releases.{is_last, IfLast};
 
 use super::tokens::{LifetimeEnd, Owners, Pass, Release, Share, Sole};
@@ -22,9 +27,11 @@ fn try_up<H: Mark>(
     requires most { word.now.most ≡ most }
     requires share { IsOwnerOf word.now by.now }
     requires pass { IsPassOf word.now pass.old }
-    ensures made { IfSome result (λ r. IfOk r (λ s. MakesAnother (owner_of by.now) pass.old pass.new (owner_of s))) }
+    ensures made { IfSome result (λ r.
+        IfOk r (λ s. MakesAnother (owner_of by.now) pass.old pass.new (owner_of s))) }
     ensures lent { IfSome result (λ r. IfOk r (λ s. lease_of s ≡ lease_of by.now)) }
-    ensures full { IfSome result (λ r. IfErr r (λ _. FindsFull (owner_of by.now) pass.old pass.new)) }
+    ensures full { IfSome result (λ r.
+        IfErr r (λ _. FindsFull (owner_of by.now) pass.old pass.new)) }
     ensures step { IfSome result (λ _. EndsInOneStep word.now (history_of pass.new)) }
     ensures again { IfNone result (pass.new ≡ pass.old) }
 {
@@ -44,7 +51,8 @@ fn try_up<H: Mark>(
     }))
 }
 
-/// Makes a new owner, tried again until the exchange wins or finds the count at its greatest, which is refused.
+/// Makes a new owner, tried again until the exchange wins or finds the count at its greatest, which
+/// is refused.
 pub(crate) fn up<H: Mark>(
     word: &Word,
     rt: &impl Wait,
@@ -55,7 +63,8 @@ pub(crate) fn up<H: Mark>(
     requires most { word.now.most ≡ most }
     requires share { IsOwnerOf word.now by.now }
     requires pass { IsPassOf word.now pass.old }
-    ensures made { IfOk result (λ s. MakesAnother (owner_of by.now) pass.old pass.new (owner_of s)) }
+    ensures made { IfOk result (λ s.
+        MakesAnother (owner_of by.now) pass.old pass.new (owner_of s)) }
     ensures lent { IfOk result (λ s. lease_of s ≡ lease_of by.now) }
     ensures full { IfErr result (λ _. FindsFull (owner_of by.now) pass.old pass.new) }
     ensures step { EndsInOneStep word.now (history_of pass.new) }
@@ -111,8 +120,8 @@ impl<const MAX: u64, H: Mark> Owners<MAX, H> {
 
     /// Whether the owner is alone, at the point of the one load that this takes.
     ///
-    /// Takes no memory. Another thread may raise the count through the same owner right after: `claim_as` is for who wants
-    /// the block back.
+    /// Takes no memory. Another thread may raise the count through the same owner right after:
+    /// `claim_as` is for who wants the block back.
     ///
     /// # History
     ///
@@ -129,8 +138,8 @@ impl<const MAX: u64, H: Mark> Owners<MAX, H> {
 
     /// A new owner of the same block.
     ///
-    /// Takes no memory. It takes `rt` since a raise that another thread disturbs is tried again. On a word that began lone the
-    /// pass has to know of its promotion.
+    /// Takes no memory. It takes `rt` since a raise that another thread disturbs is tried again. On
+    /// a word that began lone the pass has to know of its promotion.
     ///
     /// # Errors
     ///
@@ -148,16 +157,19 @@ impl<const MAX: u64, H: Mark> Owners<MAX, H> {
         requires share { IsOwnerOf (block_of self.now) by.now }
         requires pass { IsPassOf (block_of self.now) pass.old }
         requires counted { HasCountIn (block_of self.now) (seen pass.old) }
-        ensures made { IfOk result (λ s. MakesAnother (owner_of by.now) pass.old pass.new (owner_of s)) }
+        ensures made { IfOk result (λ s.
+            MakesAnother (owner_of by.now) pass.old pass.new (owner_of s)) }
         ensures full { IfErr result (λ _. FindsFull (owner_of by.now) pass.old pass.new) }
         ensures step { EndsInOneStep (block_of self.now) (history_of pass.new) }
     {
         up(&self.word, rt, MAX, by, pass)
     }
 
-    /// Ends an owner by one subtraction, which is not tried again, and says whether that was the last owner.
+    /// Ends an owner by one subtraction, which is not tried again, and says whether that was the
+    /// last owner.
     ///
-    /// Takes no memory. The last one gets the right to end the lifetime for which the block was lent to the owners.
+    /// Takes no memory. The last one gets the right to end the lifetime for which the block was
+    /// lent to the owners.
     ///
     /// # History
     ///
@@ -176,7 +188,8 @@ impl<const MAX: u64, H: Mark> Owners<MAX, H> {
         released(found, last)
     }
 
-    /// Afterwards the first pass has seen at least what the other had. It adds no entry and takes no memory.
+    /// Afterwards the first pass has seen at least what the other had. It adds no entry and takes
+    /// no memory.
     pub fn learn(&self, pass: &mut Pass<H>, other: &Pass<H>)
         requires pass { IsPassOf (block_of self.now) pass.old }
         requires other { IsPassOf (block_of self.now) other.now }

@@ -3,7 +3,8 @@ ghost use Rattle.std.specs.Prelude.{◌≡◌, [], ◌∷◌};
 ghost use Rattle.std.specs.List.{Contains};
 ghost use mathlib.Core.List.{IsPrefix};
 ghost use Rattle.arc_owners.specs.declared.history.entry.Entry.TheVariants.{Up, Full, Down};
-ghost use Rattle.arc_owners.specs.count.Calls.{block_of, owner_of, seen, mine, history_of, IsOwnerOf, IsPassOf, IsSamePass, HasCountIn, Asks};
+ghost use Rattle.arc_owners.specs.count.Calls.{block_of, owner_of, seen, mine, history_of};
+ghost use Rattle.arc_owners.specs.count.Calls.{IsOwnerOf, IsPassOf, IsSamePass, HasCountIn, Asks};
 
 use super::{Owners, Pass, Release, Share};
 use crate::error::CountFull;
@@ -36,8 +37,9 @@ fn last_of_two(rt: HostRuntime) -> Result<(), Fail> {
     Ok(())
 }
 
-/// The replies where the word counts three owners at most: two are made, a third is refused, the second one made is
-/// released, not as the last, and then there is room again. No other reply can come, and the history is exactly this.
+/// The replies where the word counts three owners at most: two are made, a third is refused, the
+/// second one made is released, not as the last, and then there is room again. No other reply can
+/// come, and the history is exactly this.
 fn worked_run<R: Wait>(rt: &R) -> Pass<Whole>
     ensures seen { seen result ≡ Up 0 1 ∷ Up 0 2 ∷ Full 0 ∷ Down 2 ∷ Up 0 3 ∷ [] }
     ensures made { mine result ≡ Up 0 1 ∷ Up 0 2 ∷ Full 0 ∷ Down 2 ∷ Up 0 3 ∷ [] }
@@ -67,7 +69,8 @@ fn replies_at_three(rt: HostRuntime) -> Result<(), Fail> {
     Ok(())
 }
 
-/// Raises and releases a thousand times through one owner. It answers how many owners were made, and the pass.
+/// Raises and releases a thousand times through one owner. It answers how many owners were made,
+/// and the pass.
 fn thousand<R: Wait>(
     rt: &R,
     owners: &Owners<8, Open>,
@@ -89,7 +92,8 @@ fn thousand<R: Wait>(
     (made, pass)
 }
 
-/// Two threads raise and release through one owner. It answers how many owners each made, and whether that one is alone afterwards.
+/// Two threads raise and release through one owner. It answers how many owners each made, and
+/// whether that one is alone afterwards.
 fn alone_after_two<R: Threads + Wait + Sync>(rt: &R) -> (u32, u32, bool) {
     let (owners, first, one) = Owners::<8, Open>::new();
     let two = owners.pass(&first);
@@ -151,8 +155,9 @@ fn looked(owners: &Owners<8, Open>, share: &Share<Open>, pass: Pass<Open>) -> Pa
     pass
 }
 
-/// A second thread ends an owner with a pass of its own, while this one looks. After the join this one learns what that pass
-/// has seen, and asks whether the first owner is alone. It answers that, with its own pass and the other one.
+/// A second thread ends an owner with a pass of its own, while this one looks. After the join this
+/// one learns what that pass has seen, and asks whether the first owner is alone. It answers that,
+/// with its own pass and the other one.
 fn alone_after_end<R: Threads>(
     rt: &R,
     owners: &Owners<8, Open>,
@@ -161,20 +166,26 @@ fn alone_after_end<R: Threads>(
     own: Pass<Open>,
     other: Pass<Open>,
 ) -> (bool, Pass<Open>, Pass<Open>)
-    requires shares { IsOwnerOf (block_of owners.now) first.now × IsOwnerOf (block_of owners.now) second }
+    requires shares { IsOwnerOf (block_of owners.now) first.now
+        × IsOwnerOf (block_of owners.now) second }
     requires passes { IsPassOf (block_of owners.now) own × IsPassOf (block_of owners.now) other }
-    ensures same { IsSamePass (block_of owners.now) own result.1 × IsSamePass (block_of owners.now) other result.2 }
+    ensures same { IsSamePass (block_of owners.now) own result.1
+        × IsSamePass (block_of owners.now) other result.2 }
     ensures ended { Contains (seen result.2) (Down (owner_of second).number) }
-    ensures asked { (learnt : Pass Open) × IsPrefix (history_of result.2) (history_of learnt) × Asks (owner_of first.now) learnt result.1 result.0 }
+    ensures asked { (learnt : Pass Open) × IsPrefix (history_of result.2) (history_of learnt)
+        × Asks (owner_of first.now) learnt result.1 result.0 }
 {
     let (other, mut own) = join(
         rt,
         || -> Pass<Open>
-            requires { IsOwnerOf (block_of owners.now) second × IsPassOf (block_of owners.now) other }
-            ensures { IsSamePass (block_of owners.entry.now) other result × Contains (seen result) (Down (owner_of second).number) }
+            requires { IsOwnerOf (block_of owners.now) second
+                × IsPassOf (block_of owners.now) other }
+            ensures { IsSamePass (block_of owners.entry.now) other result
+                × Contains (seen result) (Down (owner_of second).number) }
         { ended(owners, second, other) },
         || -> Pass<Open>
-            requires { IsOwnerOf (block_of owners.now) first.now × IsPassOf (block_of owners.now) own }
+            requires { IsOwnerOf (block_of owners.now) first.now
+                × IsPassOf (block_of owners.now) own }
             ensures { IsSamePass (block_of owners.entry.now) own result }
         { looked(owners, first, own) },
     );

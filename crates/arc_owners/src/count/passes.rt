@@ -1,6 +1,8 @@
 //! Passes: of no block, new ones where the mark has many, and what one has seen.
 ghost use Rattle.arc_owners.specs.history.Histories.{IsLegal};
-ghost use Rattle.arc_owners.specs.count.Calls.{block_of, owner_of, sole_owner, pass_block, pass_number, seen, history_of, IsOfBlock, IsOwnerOf, IsPassOf, IsPassOfNone, IsNewPass, Learns};
+ghost use Rattle.arc_owners.specs.count.Calls.{block_of, owner_of, sole_owner, pass_block};
+ghost use Rattle.arc_owners.specs.count.Calls.{pass_number, seen, history_of, IsOfBlock, IsOwnerOf};
+ghost use Rattle.arc_owners.specs.count.Calls.{IsPassOf, IsPassOfNone, IsNewPass, Learns};
 
 use super::tokens::{Owners, Pass, Share, Sole};
 use super::word::PassState;
@@ -20,13 +22,16 @@ impl<H: Mark> Pass<H> {
 
     /// What a pass of a block has seen is legal, and that the pass is there.
     pub fn attest(&self)
-        ensures legal { IsOfBlock self.now → IsLegal (pass_block self.now).most (pass_block self.now).began (seen self.now) }
-        ensures shown { IsOfBlock self.now → H.real (pass_block self.now) (pass_number self.now) (history_of self.now) }
+        ensures legal { IsOfBlock self.now
+            → IsLegal (pass_block self.now).most (pass_block self.now).began (seen self.now) }
+        ensures shown { IsOfBlock self.now
+            → H.real (pass_block self.now) (pass_number self.now) (history_of self.now) }
     {
         H::attest(&self.trace);
     }
 
-    /// Afterwards the pass has seen at least what another of the same block had. It adds no entry and takes no memory.
+    /// Afterwards the pass has seen at least what another of the same block had. It adds no entry
+    /// and takes no memory.
     pub fn learn(&mut self, other: &Pass<H>)
         requires bound { IsOfBlock self.old }
         requires other { IsPassOf (pass_block self.old) other.now }
@@ -37,8 +42,8 @@ impl<H: Mark> Pass<H> {
 }
 
 impl<H: Stepping> Share<H> {
-    /// A new pass of the owner's block, which has seen at least the entry that made this owner, and made nothing. It adds no entry and
-    /// takes no memory.
+    /// A new pass of the owner's block, which has seen at least the entry that made this owner, and
+    /// made nothing. It adds no entry and takes no memory.
     pub fn pass(&self) -> Pass<H>
         ensures { IsNewPass (owner_of self.now) result }
     {
@@ -50,7 +55,8 @@ impl<H: Stepping> Share<H> {
 }
 
 impl<H: Stepping> Sole<H> {
-    /// A new pass, which has seen at least the entry that made this owner, and made nothing. It adds no entry and takes no memory.
+    /// A new pass, which has seen at least the entry that made this owner, and made nothing. It
+    /// adds no entry and takes no memory.
     pub fn pass(&self) -> Pass<H>
         ensures { IsNewPass (sole_owner self.now) result }
     {
@@ -62,7 +68,8 @@ impl<H: Stepping> Sole<H> {
 }
 
 impl<const MAX: u64, H: Stepping> Owners<MAX, H> {
-    /// A new pass, which has seen at least the entry that made this owner, and made nothing. It adds no entry and takes no memory.
+    /// A new pass, which has seen at least the entry that made this owner, and made nothing. It
+    /// adds no entry and takes no memory.
     pub fn pass(&self, by: &Share<H>) -> Pass<H>
         requires share { IsOwnerOf (block_of self.now) by.now }
         ensures { IsNewPass (owner_of by.now) result }

@@ -65,10 +65,12 @@ fn raised_by_two<R: Threads + Wait + Sync>(
     join(
         rt,
         || -> u32
-            requires { IsOwnerOf (block_of owners.now) first.now × HasCountIn (block_of owners.now) [] }
+            requires { IsOwnerOf (block_of owners.now) first.now
+                × HasCountIn (block_of owners.now) [] }
         { raised(rt, owners, first, come) },
         || -> u32
-            requires { IsOwnerOf (block_of owners.now) first.now × HasCountIn (block_of owners.now) [] }
+            requires { IsOwnerOf (block_of owners.now) first.now
+                × HasCountIn (block_of owners.now) [] }
         { raised(rt, owners, first, come) },
     )
 }

@@ -1,6 +1,9 @@
-//! The steps on the place of a word, which lies in a block's memory. A block may be gone before a release returns.
+//! The steps on the place of a word, which lies in a block's memory. A block may be gone before a
+//! release returns.
 ghost use Rattle.std.specs.Prelude.{◌≡◌, IfOk, IfErr, true, false, is_ok};
-ghost use Rattle.arc_owners.specs.count.Calls.{owner_of, lease_of, sole_owner, IsOwnerOf, IsPassOf, Asks, MakesAnother, FindsFull, Leaves, IsTermOf, HasCountIn, seen};
+ghost use Rattle.arc_owners.specs.count.Calls.{owner_of, lease_of, sole_owner, IsOwnerOf, IsPassOf};
+ghost use Rattle.arc_owners.specs.count.Calls.{Asks, MakesAnother, FindsFull, Leaves, IsTermOf};
+ghost use Rattle.arc_owners.specs.count.Calls.{HasCountIn, seen};
 ghost use Rattle.arc_owners.specs.count.Releases.{is_last, IfLast};
 ghost use Rattle.arc_owners.specs.count.Steps.{IsLodged};
 
@@ -17,7 +20,7 @@ impl<const MAX: u64, H: Mark> Owners<MAX, H> {
     ///
     /// # Safety
     ///
-    /// The word lies at this place for as long as the block is lent: the lodging says so.
+    /// The word lies at this place for as long as the block is lent: the borrow says so.
     pub unsafe fn up_raw(
         place: *const u64,
         rt: &impl Wait,
@@ -29,7 +32,8 @@ impl<const MAX: u64, H: Mark> Owners<MAX, H> {
         requires share { IsOwnerOf lodging.now.block by.now }
         requires pass { IsPassOf lodging.now.block pass.old }
         requires place { IsLodged lodging.now place (lease_of by.now) }
-        ensures made { IfOk result (λ s. MakesAnother (owner_of by.now) pass.old pass.new (owner_of s)) }
+        ensures made { IfOk result (λ s.
+            MakesAnother (owner_of by.now) pass.old pass.new (owner_of s)) }
         ensures lent { IfOk result (λ s. lease_of s ≡ lease_of by.now) }
         ensures full { IfErr result (λ _. FindsFull (owner_of by.now) pass.old pass.new) }
     {
@@ -41,7 +45,7 @@ impl<const MAX: u64, H: Mark> Owners<MAX, H> {
     ///
     /// # Safety
     ///
-    /// The word lies at this place for as long as the block is lent: the lodging says so.
+    /// The word lies at this place for as long as the block is lent: the borrow says so.
     #[tactic(auto, using(crate::proofs::count::Calls::asks_of))]
     pub unsafe fn alone_raw(
         place: *const u64,
@@ -62,7 +66,7 @@ impl<const MAX: u64, H: Mark> Owners<MAX, H> {
     ///
     /// # Safety
     ///
-    /// The word lies at this place for as long as the block is lent: the lodging says so.
+    /// The word lies at this place for as long as the block is lent: the borrow says so.
     #[tactic(auto, using(crate::proofs::count::Calls::leaves_of))]
     pub unsafe fn down_raw(
         place: *const u64,
@@ -88,7 +92,7 @@ impl<const MAX: u64, H: Mark> Owners<MAX, H> {
     ///
     /// # Safety
     ///
-    /// The word lies at this place for as long as the block is lent: the lodging says so.
+    /// The word lies at this place for as long as the block is lent: the borrow says so.
     #[tactic(auto, using(crate::proofs::count::Calls::asks_of))]
     pub unsafe fn claim_raw(
         place: *const u64,
@@ -101,7 +105,8 @@ impl<const MAX: u64, H: Mark> Owners<MAX, H> {
         requires place { IsLodged lodging.now place (lease_of share) }
         ensures entry { Asks (owner_of share) pass.old pass.new (is_ok result) }
         ensures alone { IfOk result (λ r. (sole_owner r.0 ≡ owner_of share) × IsTermOf share r.1) }
-        ensures others { IfErr result (λ s. (owner_of s ≡ owner_of share) × (lease_of s ≡ lease_of share)) }
+        ensures others { IfErr result (λ s. (owner_of s ≡ owner_of share)
+            × (lease_of s ≡ lease_of share)) }
     {
         let mut last = EndTokens::none();
         let mut right = share.right;

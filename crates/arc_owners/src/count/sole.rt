@@ -1,7 +1,10 @@
-//! Sole owners: a block taken back whole, lent anew, or ended without a step.
+//! Sole owners: a block that one owner has to itself, lent, or ended without a step.
 ghost use Rattle.std.specs.Prelude.{◌≡◌, ◌≢◌, ◌≤◌, ◌==◌, true, false, IfOk, IfErr, is_ok};
 ghost use Rattle.arc_owners.specs.history.Histories.{LivesAlone};
-ghost use Rattle.arc_owners.specs.count.Calls.{block_of, owner_of, sole_owner, lease_of, seen, IsOwnerOf, IsPassOf, IsFirst, IsFreshPass, SeesAlone, Asks, Leaves, IsTermOf, EndsInOneStep, EndsWithoutStep, history_of};
+ghost use Rattle.arc_owners.specs.count.Calls.{block_of, owner_of, sole_owner, lease_of, seen};
+ghost use Rattle.arc_owners.specs.count.Calls.{IsOwnerOf, IsPassOf, IsFirst, IsFreshPass};
+ghost use Rattle.arc_owners.specs.count.Calls.{SeesAlone, Asks, Leaves, IsTermOf, EndsInOneStep};
+ghost use Rattle.arc_owners.specs.count.Calls.{EndsWithoutStep, history_of};
 
 use super::tokens::{LifetimeEnd, Owners, Pass, Share, Sole};
 use super::word::{EndTokens, OwnerToken};
@@ -38,7 +41,8 @@ pub(crate) fn claimed<H: Mark>(
 }
 
 impl<const MAX: u64, H: Mark> Owners<MAX, H> {
-    /// The count of a new block, which is 1: one owner, number 0, who has the block whole, and a pass that has seen nothing.
+    /// The count of a new block, which is 1: one owner, number 0, who has the block whole, and a
+    /// pass that has seen nothing.
     ///
     /// `MAX`, at least 2, is how many owners may live at once. Takes no memory.
     pub fn new_sole() -> (Owners<MAX, H>, Sole<H>, Pass<H>)
@@ -65,7 +69,8 @@ impl<const MAX: u64, H: Mark> Owners<MAX, H> {
         )
     }
 
-    /// Takes the block back where the owner is alone, at the point of the one load that this takes, as `Arc::try_unwrap` does.
+    /// Takes the block back where the owner is alone, at the point of the one load that this takes,
+    /// as `Arc::try_unwrap` does.
     ///
     /// Where other owners live, this one is handed back as it was. Takes no memory.
     ///
@@ -82,7 +87,8 @@ impl<const MAX: u64, H: Mark> Owners<MAX, H> {
         requires pass { IsPassOf (block_of self.now) pass.old }
         ensures entry { Asks (owner_of share) pass.old pass.new (is_ok result) }
         ensures alone { IfOk result (λ r. (sole_owner r.0 ≡ owner_of share) × IsTermOf share r.1) }
-        ensures others { IfErr result (λ s. (owner_of s ≡ owner_of share) × (lease_of s ≡ lease_of share)) }
+        ensures others { IfErr result (λ s. (owner_of s ≡ owner_of share)
+            × (lease_of s ≡ lease_of share)) }
         ensures step { EndsInOneStep (block_of self.now) (history_of pass.new) }
     {
         let mut last = EndTokens::none();
@@ -93,7 +99,8 @@ impl<const MAX: u64, H: Mark> Owners<MAX, H> {
 }
 
 impl<H: Mark> Sole<H> {
-    /// Shows a pass the block's whole history so far, in which no other owner lives. It adds no entry and takes no memory.
+    /// Shows a pass the block's whole history so far, in which no other owner lives. It adds no
+    /// entry and takes no memory.
     #[tactic(auto, using(crate::proofs::count::Calls::sees_alone))]
     pub fn only(&self, pass: &mut Pass<H>)
         requires pass { IsPassOf (sole_owner self.now).block pass.old }
@@ -102,7 +109,8 @@ impl<H: Mark> Sole<H> {
         self.right.only(&mut pass.trace);
     }
 
-    /// Lends the block anew, under the same history: the same owner, for a new lifetime. It adds no entry and takes no memory.
+    /// Lends the block anew, under the same history: the same owner, for a new lifetime. It adds no
+    /// entry and takes no memory.
     pub fn lend(self) -> Share<H>
         ensures same { owner_of result ≡ sole_owner self }
     {
@@ -114,7 +122,8 @@ impl<H: Mark> Sole<H> {
         }
     }
 
-    /// Ends this owner, the last one, without an atomic step: the word stays as it was. Takes no memory.
+    /// Ends this owner, the last one, without an atomic step: the word stays as it was. Takes no
+    /// memory.
     ///
     /// # History
     ///

@@ -1,11 +1,15 @@
-//! The word of a count, and what stands behind it in the proofs. The walks stand here; `Owners` and its tokens are thin wrappers.
+//! The word of a count, and what stands behind it in the proofs. The walks stand here; `Owners` and
+//! its tokens are thin wrappers.
 ghost use Rattle.std.specs.Prelude.{◌≡◌, ℕ, Bool, true, false, List};
 ghost use base.Fml.{fsep, fex};
 ghost use types.Logic.{sem};
 ghost use denote.RawPtr.{Ptr, coded_ptr};
 ghost use base.Stored.{coded_list};
 ghost use Rattle.arc_owners.specs.declared.history.entry.Entry.TheVariants.{Alone};
-ghost use Rattle.arc_owners.specs.count.Invariant.{BlockId, block_id_coded, Line, line_coded, Lease, lease_coded, behind, word_shares, right_owns, right_shares, trace_owns, trace_shares, spoils, lodged};
+ghost use Rattle.arc_owners.specs.count.Invariant.{BlockId, block_id_coded, Line, line_coded};
+ghost use Rattle.arc_owners.specs.count.Invariant.{Lease, lease_coded, behind, word_shares};
+ghost use Rattle.arc_owners.specs.count.Invariant.{right_owns, right_shares, trace_owns};
+ghost use Rattle.arc_owners.specs.count.Invariant.{trace_shares, spoils, lodged};
 
 use atomic_table::exchange;
 use std::marker::{Brand, Model, Move, Owns, PhantomData};
@@ -26,7 +30,8 @@ impl Owns for Word {
 }
 
 impl Move for Word {
-    ghost own_val = { λ t vs. fex ℕ (λ n. fsep (Fields.own_val (record { bits = n }) vs) (behind t n)) };
+    ghost own_val = { λ t vs. fex ℕ (λ n.
+        fsep (Fields.own_val (record { bits = n }) vs) (behind t n)) };
 }
 
 /// The right of one owner, where it is held. It has no bytes.
@@ -45,7 +50,8 @@ impl Model for OwnerToken {
     ghost also_shares = { λ r _ κ. right_shares r.held r.block r.owner r.lease r.born κ };
 }
 
-/// What a caller has seen of a block's history, and made of it, where it is of a block. It has no bytes.
+/// What a caller has seen of a block's history, and made of it, where it is of a block. It has no
+/// bytes.
 pub struct PassState {
     marker: PhantomData<()>,
     pub(crate) ghost bound: { Bool },
@@ -61,7 +67,8 @@ impl Model for PassState {
     ghost also_shares = { λ p _ κ. trace_shares p.bound p.block p.lines };
 }
 
-/// That a count's word lies at a place for as long as its block is lent. It has no bytes, and can be had again.
+/// That a count's word lies at a place for as long as its block is lent. It has no bytes, and can
+/// be had again.
 pub struct WordBorrow {
     pub(crate) marker: PhantomData<()>,
     pub ghost block: { BlockId } by { block_id_coded },
@@ -75,7 +82,8 @@ impl Model for WordBorrow {
     ghost also_shares = { λ l _ κ. lodged l.block l.at l.lifetime };
 }
 
-/// What an owner's end leaves: of the last owner, the right to end the lifetime for which the block is lent.
+/// What an owner's end leaves: of the last owner, the right to end the lifetime for which the block
+/// is lent.
 pub struct EndTokens {
     marker: PhantomData<()>,
     pub(crate) ghost last: { Bool },
@@ -88,7 +96,8 @@ impl Model for EndTokens {
 
 impl Word {
     ghost use Rattle.std.specs.Prelude.{◌==◌};
-    ghost use Rattle.arc_owners.specs.count.Steps.{IsHeld, IsOf, IsNext, IsOpened, SamePass, Wrote, FullIf, RaisedIf, Ends, Claimed, IsLodged};
+    ghost use Rattle.arc_owners.specs.count.Steps.{IsHeld, IsOf, IsNext, IsOpened, SamePass, Wrote};
+    ghost use Rattle.arc_owners.specs.count.Steps.{FullIf, RaisedIf, Ends, Claimed, IsLodged};
     ghost use Rattle.std.specs.Prelude.{◌≢◌, ◌≤◌, []};
 
     /// The word of a new block with one owner, to whom it is lent or not, its right, and a pass.
@@ -111,7 +120,8 @@ impl Word {
     /// Reads the number, which tells whether the owner is alone.
     pub(crate) fn load(&self, by: &OwnerToken, pass: &mut PassState) -> u64
         requires { IsHeld self.now by.now × IsOf self.now pass.old }
-        ensures { SamePass self.now pass.old pass.new × Wrote self.now pass.old pass.new (Alone by.now.owner (result == 1)) }
+        ensures { SamePass self.now pass.old pass.new
+            × Wrote self.now pass.old pass.new (Alone by.now.owner (result == 1)) }
     {
         unsafe { raw::load::<Brand>(self as *const Self as *const u64, SeqCst) }
     }
@@ -119,7 +129,8 @@ impl Word {
     /// Reads the number. It is an entry where it is the greatest.
     pub(crate) fn load_for_raise(&self, by: &OwnerToken, pass: &mut PassState) -> u64
         requires { IsHeld self.now by.now × IsOf self.now pass.old }
-        ensures { SamePass self.now pass.old pass.new × FullIf self.now pass.old pass.new by.now (result == self.now.most) }
+        ensures { SamePass self.now pass.old pass.new
+            × FullIf self.now pass.old pass.new by.now (result == self.now.most) }
     {
         unsafe { raw::load::<Brand>(self as *const Self as *const u64, SeqCst) }
     }
@@ -133,8 +144,10 @@ impl Word {
         old: u64,
         next: u64,
     ) -> u64
-        requires { IsHeld self.now by.now × IsOf self.now pass.old × (old ≢ self.now.most) × IsNext old next }
-        ensures { SamePass self.now pass.old pass.new × RaisedIf self.now pass.old pass.new by.now new.new (result == old) }
+        requires { IsHeld self.now by.now × IsOf self.now pass.old × (old ≢ self.now.most)
+            × IsNext old next }
+        ensures { SamePass self.now pass.old pass.new
+            × RaisedIf self.now pass.old pass.new by.now new.new (result == old) }
     {
         unsafe { exchange::<Brand>(self as *const Self as *const u64, old, next) }
     }
@@ -147,12 +160,15 @@ impl Word {
         last: &mut EndTokens,
     ) -> u64
         requires { IsHeld self.now own.old × IsOf self.now pass.old }
-        ensures { SamePass self.now pass.old pass.new × Ends self.now pass.old pass.new own.old.owner (result == 1) × (own.new.held ≡ false) × (last.new.last ≡ (result == 1)) × (last.new.lease ≡ own.old.lease) }
+        ensures { SamePass self.now pass.old pass.new
+            × Ends self.now pass.old pass.new own.old.owner (result == 1) × (own.new.held ≡ false)
+            × (last.new.last ≡ (result == 1)) × (last.new.lease ≡ own.old.lease) }
     {
         unsafe { raw::fetch_sub::<Brand>(self as *const Self as *const u64, 1, SeqCst) }
     }
 
-    /// The same on the place of a word that lies there for as long as the block is lent, and that may be gone afterwards.
+    /// The same on the place of a word that lies there for as long as the block is lent, and that
+    /// may be gone afterwards.
     pub(crate) unsafe fn subtract_raw(
         place: *const u64,
         lodging: &WordBorrow,
@@ -160,8 +176,12 @@ impl Word {
         pass: &mut PassState,
         last: &mut EndTokens,
     ) -> u64
-        requires { IsHeld lodging.now.block own.old × IsOf lodging.now.block pass.old × IsLodged lodging.now place own.old.lease }
-        ensures { SamePass lodging.now.block pass.old pass.new × Ends lodging.now.block pass.old pass.new own.old.owner (result == 1) × (own.new.held ≡ false) × (last.new.last ≡ (result == 1)) × (last.new.lease ≡ own.old.lease) }
+        requires { IsHeld lodging.now.block own.old × IsOf lodging.now.block pass.old
+            × IsLodged lodging.now place own.old.lease }
+        ensures { SamePass lodging.now.block pass.old pass.new
+            × Ends lodging.now.block pass.old pass.new own.old.owner (result == 1)
+            × (own.new.held ≡ false) × (last.new.last ≡ (result == 1))
+            × (last.new.lease ≡ own.old.lease) }
     {
         unsafe { raw::fetch_sub::<Brand>(place, 1, SeqCst) }
     }
@@ -174,7 +194,10 @@ impl Word {
         last: &mut EndTokens,
     ) -> u64
         requires { IsHeld self.now own.old × IsOf self.now pass.old }
-        ensures { SamePass self.now pass.old pass.new × Wrote self.now pass.old pass.new (Alone own.old.owner (result == 1)) × Claimed self.now own.old own.new (result == 1) × (last.new.last ≡ (result == 1)) × (last.new.lease ≡ own.old.lease) }
+        ensures { SamePass self.now pass.old pass.new
+            × Wrote self.now pass.old pass.new (Alone own.old.owner (result == 1))
+            × Claimed self.now own.old own.new (result == 1) × (last.new.last ≡ (result == 1))
+            × (last.new.lease ≡ own.old.lease) }
     {
         unsafe { raw::load::<Brand>(self as *const Self as *const u64, SeqCst) }
     }
@@ -187,8 +210,12 @@ impl Word {
         pass: &mut PassState,
         last: &mut EndTokens,
     ) -> u64
-        requires { IsHeld lodging.now.block own.old × IsOf lodging.now.block pass.old × IsLodged lodging.now place own.old.lease }
-        ensures { SamePass lodging.now.block pass.old pass.new × Wrote lodging.now.block pass.old pass.new (Alone own.old.owner (result == 1)) × Claimed lodging.now.block own.old own.new (result == 1) × (last.new.last ≡ (result == 1)) × (last.new.lease ≡ own.old.lease) }
+        requires { IsHeld lodging.now.block own.old × IsOf lodging.now.block pass.old
+            × IsLodged lodging.now place own.old.lease }
+        ensures { SamePass lodging.now.block pass.old pass.new
+            × Wrote lodging.now.block pass.old pass.new (Alone own.old.owner (result == 1))
+            × Claimed lodging.now.block own.old own.new (result == 1)
+            × (last.new.last ≡ (result == 1)) × (last.new.lease ≡ own.old.lease) }
     {
         unsafe { raw::load::<Brand>(place, SeqCst) }
     }
@@ -212,10 +239,12 @@ impl OwnerToken {
     /// A sole owner who has the block back ends, without a step.
     pub(crate) fn finish(&mut self, pass: &mut PassState)
         requires { IsSole self.old.block self.old × IsOf self.old.block pass.old }
-        ensures { SamePass self.old.block pass.old pass.new × Ends self.old.block pass.old pass.new self.old.owner true × (self.new.held ≡ false) }
+        ensures { SamePass self.old.block pass.old pass.new
+            × Ends self.old.block pass.old pass.new self.old.owner true × (self.new.held ≡ false) }
     {}
 
-    /// Shows a pass the block's whole history, in which a sole owner who has the block back lives alone.
+    /// Shows a pass the block's whole history, in which a sole owner who has the block back lives
+    /// alone.
     pub(crate) fn only(&self, pass: &mut PassState)
         requires { IsSole self.now.block self.now × IsOf self.now.block pass.old }
         ensures { SeesSole self.now pass.old pass.new }
@@ -224,13 +253,16 @@ impl OwnerToken {
     /// A sole owner who has the block back lends it anew.
     pub(crate) fn lend(&mut self)
         requires { (self.old.held ≡ true) × (self.old.lease.is_lent ≡ false) }
-        ensures { (self.new.held ≡ true) × (self.new.block ≡ self.old.block) × (self.new.owner ≡ self.old.owner) × (self.new.born ≡ self.old.born) × (self.new.lease.is_lent ≡ true) }
+        ensures { (self.new.held ≡ true) × (self.new.block ≡ self.old.block)
+            × (self.new.owner ≡ self.old.owner) × (self.new.born ≡ self.old.born)
+            × (self.new.lease.is_lent ≡ true) }
     {}
 
     /// A new pass of this owner's block.
     pub(crate) fn fork(&self) -> PassState
         requires { (self.now.held ≡ true) × (self.now.block.whole ≡ false) }
-        ensures { (result.bound ≡ true) × (result.block ≡ self.now.block) × (result.ready ≡ false) × IsPrefix self.now.born result.lines × (made_by result.number result.lines ≡ []) }
+        ensures { (result.bound ≡ true) × (result.block ≡ self.now.block) × (result.ready ≡ false)
+            × IsPrefix self.now.born result.lines × (made_by result.number result.lines ≡ []) }
     {
         PassState {
             marker: PhantomData,
@@ -256,13 +288,17 @@ impl PassState {
     /// What the pass has seen is a beginning of the block's history, and legal.
     pub(crate) fn attest(&self)
         ensures* reached { sem 𝓛 (told_of self.now.bound self.now.block self.now.lines) }
-        ensures legal { self.now.bound ≡ true → IsLegal self.now.block.most self.now.block.began (entries_of self.now.lines) }
+        ensures legal { self.now.bound ≡ true
+            → IsLegal self.now.block.most self.now.block.began (entries_of self.now.lines) }
     {}
 
     /// Afterwards it has seen what both had seen.
     pub(crate) fn learn(&mut self, other: &PassState)
-        requires { (self.old.bound ≡ true) × (other.now.bound ≡ true) × (other.now.block ≡ self.old.block) }
-        ensures { SamePass self.old.block self.old self.new × IsPrefix self.old.lines self.new.lines × IsPrefix other.now.lines self.new.lines × (made_by self.old.number self.new.lines ≡ made_by self.old.number self.old.lines) }
+        requires { (self.old.bound ≡ true) × (other.now.bound ≡ true)
+            × (other.now.block ≡ self.old.block) }
+        ensures { SamePass self.old.block self.old self.new × IsPrefix self.old.lines self.new.lines
+            × IsPrefix other.now.lines self.new.lines
+            × (made_by self.old.number self.new.lines ≡ made_by self.old.number self.old.lines) }
     {}
 }
 
@@ -271,9 +307,10 @@ impl WordBorrow {
     ///
     /// # Safety
     ///
-    /// The word lies at this place: the lodging says so.
+    /// The word lies at this place: the borrow says so.
     pub(crate) unsafe fn word<'a>(&'a self, place: *const u64, by: &'a OwnerToken) -> &'a Word
-        requires { (self.now.at ≡ place) × (by.now.held ≡ true) × (by.now.lease.is_lent ≡ true) × (by.now.lease.lifetime ≡ self.now.lifetime) }
+        requires { (self.now.at ≡ place) × (by.now.held ≡ true) × (by.now.lease.is_lent ≡ true)
+            × (by.now.lease.lifetime ≡ self.now.lifetime) }
         ensures { result.now ≡ self.now.block }
     {
         unsafe { &*(place as *const Word) }
@@ -281,7 +318,8 @@ impl WordBorrow {
 
     /// The same again.
     pub fn again(&self) -> WordBorrow
-        ensures { (result.block ≡ self.now.block) × (result.at ≡ self.now.at) × (result.lifetime ≡ self.now.lifetime) }
+        ensures { (result.block ≡ self.now.block) × (result.at ≡ self.now.at)
+            × (result.lifetime ≡ self.now.lifetime) }
     {
         WordBorrow {
             marker: PhantomData,

@@ -1,8 +1,8 @@
 //! The entries of an owner history.
 ghost use Rattle.std.specs.Prelude.{◌≡◌};
 
-/// One entry of the history of a block's owners (`IsLegal` in specs/ says which histories are legal). Owners are told
-/// apart by numbers, and the first owner of a block is 0.
+/// One entry of the history of a block's owners (`IsLegal` in specs/ says which histories are
+/// legal). Owners are told apart by numbers, and the first owner of a block is 0.
 #[derive(Clone, Copy, Debug, PartialEq, Eq)]
 pub enum Entry {
     /// The count was raised through the first owner for the second one.

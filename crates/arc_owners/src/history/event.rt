@@ -1,8 +1,9 @@
 //! The events of the word machine.
 
-/// One atomic step on a block's words, an event of the word machine (`Machine` in specs/). `thread` is the number of the
-/// thread that makes it, `by` that of the live owner through which it acts, `seen` the count that it found, and `new`
-/// the number of the owner that it makes, which was never live. Where it isn't allowed it changes nothing.
+/// One atomic step on a block's words, an event of the word machine (`Machine` in specs/). `thread`
+/// is the number of the thread that makes it, `by` that of the live owner through which it acts,
+/// `seen` the count that it found, and `new` the number of the owner that it makes, which was never
+/// live. Where it isn't allowed it changes nothing.
 #[derive(Clone, Copy, Debug, PartialEq, Eq)]
 pub enum Event {
     /// A load of the word. Where that is lone, the thread is ready from then on.
@@ -10,7 +11,8 @@ pub enum Event {
         thread: u64,
         by: u64,
     },
-    /// The promoting exchange of a ready thread found the word lone and put a count of 2 in its place.
+    /// The promoting exchange of a ready thread found the word lone and put a count of 2 in its
+    /// place.
     ExchangeWon {
         thread: u64,
         by: u64,

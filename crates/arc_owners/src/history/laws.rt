@@ -6,15 +6,17 @@ ghost use Rattle.arc_owners.specs.declared.history.event.Event.{Event as AnyEven
 ghost use Rattle.arc_owners.specs.history.Histories.{Beginning, Counted, live_owners, IsLegal};
 ghost use Rattle.arc_owners.specs.history.Machine.{after_events, run};
 ghost use Rattle.arc_owners.specs.history.Agreement.{RunAgrees, ended_by};
-ghost use Rattle.arc_owners.specs.history.Laws.{PromotedOnce, LosersAfterWinner, NothingAfterLast, ReleasedByLast, AloneIsExact};
+ghost use Rattle.arc_owners.specs.history.Laws.{PromotedOnce, LosersAfterWinner, NothingAfterLast};
+ghost use Rattle.arc_owners.specs.history.Laws.{ReleasedByLast, AloneIsExact};
 
 use super::entry::Entry;
 use super::event::Event;
 
-/// The law of every interleaving. Whatever these events are and whichever threads make them, the run of the word
-/// machine agrees with a legal history of owners, on a block that began with a count as on one that began as a lone
-/// vector. `MAX` is the greatest count. The contract is the whole of it: there is nothing to run, and no memory to take.
-/// The words are those of `Histories`, `Machine`, `Agreement` and `Laws` in specs/.
+/// The law of every interleaving. Whatever these events are and whichever threads make them, the
+/// run of the word machine agrees with a legal history of owners, on a block that began with a
+/// count as on one that began as a lone vector. `MAX` is the greatest count. The contract is the
+/// whole of it: there is nothing to run, and no memory to take. The words are those of `Histories`,
+/// `Machine`, `Agreement` and `Laws` in specs/.
 pub fn keeps<const MAX: u64>(events: &[Event])
     requires { 2 ≤ MAX }
     // The run agrees with the history of its entries.
@@ -41,7 +43,8 @@ pub fn keeps<const MAX: u64>(events: &[Event])
     ensures no_event_after_last { (began : Beginning) (later : List AnyEvent) →
         let m = after_events MAX began events.now in
         m.live ≡ [] → run MAX m later ≡ m }
-    // A sole owner may end the block without a step: the history with its Down agrees, and nobody lives after it.
+    // A sole owner may end the block without a step: the history with its Down agrees, and nobody
+    // lives after it.
     ensures sole_owner_ends { (began : Beginning) (owner : ℕ) →
         let m = after_events MAX began events.now in
         let history = m.entries ++ Down owner ∷ [] in
@@ -52,8 +55,9 @@ pub fn keeps<const MAX: u64>(events: &[Event])
         m.live ≡ owner ∷ [] → run MAX (ended_by owner m) later ≡ ended_by owner m }
 {}
 
-/// The converse for a word that begins with a count: each legal history is that of a run, so what a count writes with its
-/// steps is what some events write. There is nothing to run, and no memory to take.
+/// The converse for a word that begins with a count: each legal history is that of a run, so what a
+/// count writes with its steps is what some events write. There is nothing to run, and no memory to
+/// take.
 pub fn is_run<const MAX: u64>(history: &[Entry])
     requires { IsLegal MAX Counted history.now }
     ensures { (events : List AnyEvent) × RunAgrees MAX Counted events history.now }

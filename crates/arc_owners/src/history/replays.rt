@@ -9,10 +9,11 @@ use super::world::World;
 use crate::error::AllocError;
 use std::alloc::Allocator;
 
-/// What a block's word, its owners and its history are after these events, from a word with a count of 1 and owner 0:
-/// `after_events` in specs/. An event that isn't allowed where it comes changes nothing. `MAX` is the greatest count.
-/// It takes memory for the lists of the answer, and answers `AllocError` only where a request for memory was refused.
-/// Each event takes a look at the live owners, and one that makes an owner also at the entries so far.
+/// What a block's word, its owners and its history are after these events, from a word with a count
+/// of 1 and owner 0: `after_events` in specs/. An event that isn't allowed where it comes changes
+/// nothing. `MAX` is the greatest count. It takes memory for the lists of the answer, and answers
+/// `AllocError` only where a request for memory was refused. Each event takes a look at the live
+/// owners, and one that makes an owner also at the entries so far.
 pub fn replay<const MAX: u64, A: Allocator + Copy>(
     alloc: A,
     events: &[Event],

@@ -288,7 +288,8 @@ fn nothing_changes_on_a_lone_word(rt: HostRuntime) -> Result<(), Fail> {
     Ok(())
 }
 
-/// A heap of its own, larger each time: a run that the heap has no room for is refused, and one that fits is as ever.
+/// A heap of its own, larger each time: a run that the heap has no room for is refused, and one
+/// that fits is as ever.
 #[test]
 fn memory_refused(rt: HostRuntime) -> Result<(), Fail> {
     let wanted = replay_lone::<3, _>(rt.alloc(), &PROMOTION)?;

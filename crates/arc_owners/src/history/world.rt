@@ -3,15 +3,17 @@ ghost use Rattle.std.specs.Prelude.{◌≡◌, IsTrue, OnOk, IfOk, length};
 ghost use Rattle.std.specs.List.{list_any};
 ghost use Rattle.arc_owners.specs.history.Histories.{is_end_of};
 ghost use Rattle.arc_owners.specs.history.Worlds.{machine_of};
-ghost use Rattle.arc_owners.specs.history.Machine.{may_happen, changed, is_fresh, with_number, without_number, opening, beginning, step};
+ghost use Rattle.arc_owners.specs.history.Machine.{may_happen, changed, is_fresh, with_number};
+ghost use Rattle.arc_owners.specs.history.Machine.{without_number, opening, beginning, step};
 
 use super::entry::Entry;
 use super::event::Event;
 use crate::error::AllocError;
 use std::alloc::{Allocator, Global};
 
-/// The state of a block's word after a run of events, with the history that the run wrote: `Machine` in specs/, which
-/// `machine_of` reads off it. The former owners are those whose `Down` stands in the entries.
+/// The state of a block's word after a run of events, with the history that the run wrote:
+/// `Machine` in specs/, which `machine_of` reads off it. The former owners are those whose `Down`
+/// stands in the entries.
 #[derive(Drop)]
 pub struct World<A: Allocator = Global> {
     /// Whether the word has a count, or is still lone.

@@ -22,9 +22,11 @@ pub struct Housed<V: Drop, A: Allocator + Copy> {
     pub(crate) alloc: A,
 }
 
-/// One owner of a value that lies in memory of its own, next to the word that counts the owners. `MAX` is the greatest count.
+/// One owner of a value that lies in memory of its own, next to the word that counts the owners.
+/// `MAX` is the greatest count.
 ///
-/// Dropped, it ends with a new pass under the mark `Open`. Under `Whole` it is a forgotten owner: the memory stays for good.
+/// Dropped, it ends with a new pass under the mark `Open`. Under `Whole` it is a forgotten owner:
+/// the memory stays for good.
 pub struct CountedBox<V: Drop, A: Allocator + Copy, const MAX: u64, H: Mark = Open> {
     pub(crate) at: *const Inner<Housed<V, A>>,
     pub(crate) word: *const u64,
@@ -38,22 +40,28 @@ pub struct CountedBox<V: Drop, A: Allocator + Copy, const MAX: u64, H: Mark = Op
     ghost worded: { kept.value.word ≡ lodging.block },
     ghost lodged: { (lodging.at ≡ word) × (lodging.lifetime ≡ share.right.lease.lifetime) },
     ghost shown: { (loan.at ≡ value) × (loan.lifetime ≡ share.right.lease.lifetime) },
-    ghost comes_back: { (kept.at ≡ at) × (kept.alloc ≡ loan.value.alloc) × (kept.lease ≡ share.right.lease) × (kept.value.value ≡ loan.value) },
+    ghost comes_back: { (kept.at ≡ at) × (kept.alloc ≡ loan.value.alloc)
+        × (kept.lease ≡ share.right.lease) × (kept.value.value ≡ loan.value) },
 }
 
 impl<V: Drop, A: Allocator + Copy, const MAX: u64, H: Mark> CountedBox<V, A, MAX, H> {
-    ghost use Rattle.std.specs.Prelude.{◌≡◌, ◌≤◌, IfOk, IfErr, IfSome, is_some, is_ok, true, false, None};
-    ghost use Rattle.arc_owners.specs.count.Calls.{IsPassFor, IsPassOfNone, IsFirst, IsFreshPass, IsNewPass, Learns, Asks, FindsFull, MakesAnother, Leaves, TakesBlock, EndsByItself};
+    ghost use Rattle.std.specs.Prelude.{◌≡◌, ◌≤◌, IfOk, IfErr, IfSome, is_some, is_ok, true, false};
+    ghost use Rattle.std.specs.Prelude.{None};
+    ghost use Rattle.arc_owners.specs.count.Calls.{IsPassFor, IsPassOfNone, IsFirst, IsFreshPass};
+    ghost use Rattle.arc_owners.specs.count.Calls.{IsNewPass, Learns, Asks, FindsFull};
+    ghost use Rattle.arc_owners.specs.count.Calls.{MakesAnother, Leaves, TakesBlock, EndsByItself};
     ghost use Rattle.arc_owners.specs.memory.Boxes.{owner_in, value_of};
     ghost use Rattle.arc_owners.specs.memory.SoleBoxes.{sole_in, sole_value};
     ghost use Rattle.arc_owners.specs.count.Calls.{owner_of};
     ghost use Rattle.std_alloc.specs.Box.{box_allocator};
 
-    /// The first owner of a value, with a pass of its block. Takes memory, for the value and the count together; refused, the value
-    /// comes back. `MAX`, at least 2, is how many owners may live at once.
+    /// The first owner of a value, with a pass of its block. Takes memory, for the value and the
+    /// count together; refused, the value comes back. `MAX`, at least 2, is how many owners may
+    /// live at once.
     pub fn new(alloc: A, value: V) -> Result<(Self, Pass<H>), V>
         requires { 2 ≤ MAX }
-        ensures made { IfOk result (λ r. IsFirst MAX H.whole (owner_in r.0) × (value_of r.0 ≡ value)) }
+        ensures made { IfOk result (λ r. IsFirst MAX H.whole (owner_in r.0)
+            × (value_of r.0 ≡ value)) }
         ensures pass { IfOk result (λ r. IsFreshPass (owner_in r.0) r.1) }
         ensures refused { IfErr result (λ back. back ≡ value) }
     {
@@ -74,7 +82,8 @@ impl<V: Drop, A: Allocator + Copy, const MAX: u64, H: Mark> CountedBox<V, A, MAX
     pub(crate) fn settled(memory: Box<Inner<Housed<V, A>>, A>, share: Share<H>) -> Self
         requires count { (share.right.block ≡ memory.value.word) × (memory.value.word.most ≡ MAX) }
         requires memory { box_allocator memory ≡ memory.value.value.alloc }
-        ensures { (owner_in result ≡ owner_of share) × (value_of result ≡ memory.value.value.value) }
+        ensures { (owner_in result ≡ owner_of share)
+            × (value_of result ≡ memory.value.value.value) }
     {
         let mut right = share.right;
         let (at, _, lent, kept) = LentBox::of(BoxParts::of(memory), &right);
@@ -116,13 +125,15 @@ impl<V: Drop, A: Allocator + Copy, const MAX: u64, H: Mark> CountedBox<V, A, MAX
         unsafe { Owners::<MAX, H>::alone_raw(self.word, &self.lodging, &self.share, pass) }
     }
 
-    /// The memory back, with the value in it, where no other owner lives: the same owner has both. Else it is handed back. Adds Alone
-    /// with the answer. Takes no memory.
+    /// The memory back, with the value in it, where no other owner lives: the same owner has both.
+    /// Else it is handed back. Adds Alone with the answer. Takes no memory.
     pub fn try_into_sole_as(self, pass: &mut Pass<H>) -> Result<SoleBox<V, A, MAX, H>, Self>
         requires pass { IsPassFor (owner_in self) pass.old }
         ensures entry { Asks (owner_in self) pass.old pass.new (is_ok result) }
-        ensures sole { IfOk result (λ b. (sole_in b ≡ owner_in self) × (sole_value b ≡ value_of self)) }
-        ensures back { IfErr result (λ piece. (owner_in piece ≡ owner_in self) × (value_of piece ≡ value_of self)) }
+        ensures sole { IfOk result (λ b. (sole_in b ≡ owner_in self)
+            × (sole_value b ≡ value_of self)) }
+        ensures back { IfErr result (λ piece. (owner_in piece ≡ owner_in self)
+            × (value_of piece ≡ value_of self)) }
     {
         let alloc = self.housed().alloc;
         let CountedBox {
@@ -154,14 +165,16 @@ impl<V: Drop, A: Allocator + Copy, const MAX: u64, H: Mark> CountedBox<V, A, MAX
         }
     }
 
-    /// The value back, and the memory to its allocator, where no other owner lives: adds Alone, then the Down of this one. Else it is
-    /// handed back, and Alone was added with no. Takes no memory.
+    /// The value back, and the memory to its allocator, where no other owner lives: adds Alone,
+    /// then the Down of this one. Else it is handed back, and Alone was added with no. Takes no
+    /// memory.
     pub fn try_into_value_as(self, pass: &mut Pass<H>) -> Result<V, Self>
         requires pass { IsPassFor (owner_in self) pass.old }
         ensures alone { IfOk result (λ _. TakesBlock (owner_in self) pass.old pass.new) }
         ensures value { IfOk result (λ value. value ≡ value_of self) }
         ensures others { IfErr result (λ _. Asks (owner_in self) pass.old pass.new false) }
-        ensures back { IfErr result (λ piece. (owner_in piece ≡ owner_in self) × (value_of piece ≡ value_of self)) }
+        ensures back { IfErr result (λ piece. (owner_in piece ≡ owner_in self)
+            × (value_of piece ≡ value_of self)) }
     {
         let alloc = self.housed().alloc;
         let CountedBox {
@@ -192,7 +205,8 @@ impl<V: Drop, A: Allocator + Copy, const MAX: u64, H: Mark> CountedBox<V, A, MAX
         }
     }
 
-    /// Ends this owner by one subtraction. Adds its Down. The last one gives the memory back, and gets the value. Takes no memory.
+    /// Ends this owner by one subtraction. Adds its Down. The last one gives the memory back, and
+    /// gets the value. Takes no memory.
     pub fn release_as(self, pass: &mut Pass<H>) -> Option<V>
         requires pass { IsPassFor (owner_in self) pass.old }
         ensures entry { Leaves (owner_in self) pass.old pass.new (is_some result) }
@@ -218,9 +232,9 @@ impl<V: Drop, A: Allocator + Copy, const MAX: u64, H: Mark> CountedBox<V, A, MAX
         }
     }
 
-    /// What a drop does: under `Open` this owner ends with a new pass, and the last one gets the value; under `Whole` it is forgotten,
-    /// without a step. Takes no memory.
-    /// The pass is the one that the owner ended with; under `Whole` it is of no block.
+    /// What a drop does: under `Open` this owner ends with a new pass, and the last one gets the
+    /// value; under `Whole` it is forgotten, without a step. Takes no memory. The pass is the one
+    /// that the owner ended with; under `Whole` it is of no block.
     #[tactic(auto, using(crate::proofs::count::Calls::ended_by_itself))]
     pub fn let_go(self) -> (Option<V>, Pass<H>)
         ensures value { IfSome result.0 (λ value. value ≡ value_of self) }
@@ -250,7 +264,8 @@ impl<V: Drop, A: Allocator + Copy, const MAX: u64, H: Mark> CountedBox<V, A, MAX
         (Some(value.value), pass)
     }
 
-    /// Afterwards the first pass has seen at least what the other had. It adds no entry and takes no memory.
+    /// Afterwards the first pass has seen at least what the other had. It adds no entry and takes
+    /// no memory.
     pub fn learn(&self, pass: &mut Pass<H>, other: &Pass<H>)
         requires pass { IsPassFor (owner_in self.now) pass.old }
         requires other { IsPassFor (owner_in self.now) other.now }
@@ -261,17 +276,23 @@ impl<V: Drop, A: Allocator + Copy, const MAX: u64, H: Mark> CountedBox<V, A, MAX
 }
 
 impl<V: Drop, A: Allocator + Copy, const MAX: u64, H: Mark> CountedBox<V, A, MAX, H> {
-    ghost use Rattle.std.specs.Prelude.{◌≡◌, ◌≤◌, IfOk, IfErr, IfSome, is_some, is_ok, true, false, None};
-    ghost use Rattle.arc_owners.specs.count.Calls.{IsPassFor, IsPassOfNone, IsFirst, IsFreshPass, IsNewPass, Learns, Asks, FindsFull, MakesAnother, Leaves, TakesBlock, EndsByItself};
+    ghost use Rattle.std.specs.Prelude.{◌≡◌, ◌≤◌, IfOk, IfErr, IfSome, is_some, is_ok, true, false};
+    ghost use Rattle.std.specs.Prelude.{None};
+    ghost use Rattle.arc_owners.specs.count.Calls.{IsPassFor, IsPassOfNone, IsFirst, IsFreshPass};
+    ghost use Rattle.arc_owners.specs.count.Calls.{IsNewPass, Learns, Asks, FindsFull};
+    ghost use Rattle.arc_owners.specs.count.Calls.{MakesAnother, Leaves, TakesBlock, EndsByItself};
     ghost use Rattle.arc_owners.specs.memory.Boxes.{owner_in, value_of};
 
-    /// One owner more of the same value, through this one. Adds Up. Takes no memory, and copies nothing.
+    /// One owner more of the same value, through this one. Adds Up. Takes no memory, and copies
+    /// nothing.
     ///
-    /// `CountFull` exactly where `MAX` owners live, which adds Full. It takes `rt` since a raise that another thread disturbs is tried
-    /// again.
+    /// `CountFull` exactly where `MAX` owners live, which adds Full. It takes `rt` since a raise
+    /// that another thread disturbs is tried again.
     pub fn try_clone_as(&self, rt: &impl Wait, pass: &mut Pass<H>) -> Result<Self, CountFull>
         requires pass { IsPassFor (owner_in self.now) pass.old }
-        ensures made { IfOk result (λ piece. MakesAnother (owner_in self.now) pass.old pass.new (owner_in piece) × (value_of piece ≡ value_of self.now)) }
+        ensures made { IfOk result (λ piece.
+            MakesAnother (owner_in self.now) pass.old pass.new (owner_in piece)
+            × (value_of piece ≡ value_of self.now)) }
         ensures full { IfErr result (λ _. FindsFull (owner_in self.now) pass.old pass.new) }
     {
         let share = unsafe {
@@ -290,11 +311,15 @@ impl<V: Drop, A: Allocator + Copy, const MAX: u64, H: Mark> CountedBox<V, A, MAX
 }
 
 impl<V: Drop, A: Allocator + Copy, const MAX: u64, H: Stepping> CountedBox<V, A, MAX, H> {
-    ghost use Rattle.std.specs.Prelude.{◌≡◌, ◌≤◌, IfOk, IfErr, IfSome, is_some, is_ok, true, false, None};
-    ghost use Rattle.arc_owners.specs.count.Calls.{IsPassFor, IsPassOfNone, IsFirst, IsFreshPass, IsNewPass, Learns, Asks, FindsFull, MakesAnother, Leaves, TakesBlock, EndsByItself};
+    ghost use Rattle.std.specs.Prelude.{◌≡◌, ◌≤◌, IfOk, IfErr, IfSome, is_some, is_ok, true, false};
+    ghost use Rattle.std.specs.Prelude.{None};
+    ghost use Rattle.arc_owners.specs.count.Calls.{IsPassFor, IsPassOfNone, IsFirst, IsFreshPass};
+    ghost use Rattle.arc_owners.specs.count.Calls.{IsNewPass, Learns, Asks, FindsFull};
+    ghost use Rattle.arc_owners.specs.count.Calls.{MakesAnother, Leaves, TakesBlock, EndsByItself};
     ghost use Rattle.arc_owners.specs.memory.Boxes.{owner_in, value_of};
 
-    /// A new pass, which has seen at least the entry that made this owner, and made nothing. It adds no entry and takes no memory.
+    /// A new pass, which has seen at least the entry that made this owner, and made nothing. It
+    /// adds no entry and takes no memory.
     pub fn pass(&self) -> Pass<H>
         ensures { IsNewPass (owner_in self.now) result }
     {

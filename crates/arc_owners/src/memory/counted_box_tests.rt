@@ -60,7 +60,8 @@ fn fourth_owner_refused(rt: HostRuntime) -> Result<(), Fail> {
     Ok(())
 }
 
-/// The memory is taken once, stays while an owner lives, and is given back with the last one, in either order of ends.
+/// The memory is taken once, stays while an owner lives, and is given back with the last one, in
+/// either order of ends.
 #[test]
 fn memory_given_back_once(rt: HostRuntime) -> Result<(), Fail> {
     let heap = LocalHeap::new(rt.alloc(), 256)?;
@@ -120,7 +121,8 @@ fn memory_given_back_by_drop(rt: HostRuntime) -> Result<(), Fail> {
     Ok(())
 }
 
-/// Dropped under `Whole`, an owner is forgotten: no other one is alone, or the last, and the memory stays taken.
+/// Dropped under `Whole`, an owner is forgotten: no other one is alone, or the last, and the memory
+/// stays taken.
 #[test]
 fn memory_kept_by_forgotten_owner(rt: HostRuntime) -> Result<(), Fail> {
     let heap = LocalHeap::new(rt.alloc(), 256)?;
@@ -138,7 +140,8 @@ fn memory_kept_by_forgotten_owner(rt: HostRuntime) -> Result<(), Fail> {
     Ok(())
 }
 
-/// Two owners end in two threads, each with a pass of its own: one of them gets the value, whichever is later.
+/// Two owners end in two threads, each with a pass of its own: one of them gets the value,
+/// whichever is later.
 #[test]
 fn released_by_two_threads(rt: HostRuntime) -> Result<(), Fail> {
     for round in 0..64u64 {

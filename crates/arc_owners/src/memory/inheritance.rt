@@ -11,7 +11,8 @@ use crate::count::word::EndTokens;
 use std::alloc::Allocator;
 use std::marker::{Model, PhantomData};
 
-/// That what a box owns comes back at this place to whoever has the term of a lease. It has no bytes, and can be had again.
+/// That what a box owns comes back at this place to whoever has the end of a lease. It has no
+/// bytes, and can be had again.
 pub struct Inheritance<T, A: Allocator> {
     pub(crate) marker: PhantomData<(T, A)>,
     pub ghost value: { T },
@@ -21,15 +22,18 @@ pub struct Inheritance<T, A: Allocator> {
 }
 
 impl<T, A: Allocator> Model for Inheritance<T, A> {
-    ghost also_owns = { λ k. finv (kept_for (box_owns (A.dealloc_token k.alloc) T.row k.at k.value) k.lease) };
+    ghost also_owns = { λ k. finv
+        (kept_for (box_owns (A.dealloc_token k.alloc) T.row k.at k.value) k.lease) };
 
-    ghost also_shares = { λ k _ κ. finv (kept_for (box_owns (A.dealloc_token k.alloc) T.row k.at k.value) k.lease) };
+    ghost also_shares = { λ k _ κ. finv
+        (kept_for (box_owns (A.dealloc_token k.alloc) T.row k.at k.value) k.lease) };
 }
 
 impl<T, A: Allocator> Inheritance<T, A> {
     /// The same again.
     pub fn again(&self) -> Inheritance<T, A>
-        ensures { (result.value ≡ self.now.value) × (result.alloc ≡ self.now.alloc) × (result.at ≡ self.now.at) × (result.lease ≡ self.now.lease) }
+        ensures { (result.value ≡ self.now.value) × (result.alloc ≡ self.now.alloc)
+            × (result.at ≡ self.now.at) × (result.lease ≡ self.now.lease) }
     {
         Inheritance {
             marker: PhantomData,
@@ -51,7 +55,8 @@ impl<T, A: Allocator> Inheritance<T, A> {
 
     /// The same for what a term is made of, which is used up.
     unsafe fn take_by(&self, at: *mut T, alloc: A, spoils: &mut EndTokens) -> BoxParts<T, A>
-        requires { (at ≡ self.now.at) × (alloc ≡ self.now.alloc) × (spoils.old.last ≡ true) × (spoils.old.lease ≡ self.now.lease) }
+        requires { (at ≡ self.now.at) × (alloc ≡ self.now.alloc) × (spoils.old.last ≡ true)
+            × (spoils.old.lease ≡ self.now.lease) }
         ensures { (result.value ≡ self.now.value) × (result.at ≡ at) × (result.alloc ≡ alloc) }
     {
         BoxParts { at, alloc }

@@ -16,8 +16,8 @@ pub(crate) struct Inner<V> {
 }
 
 impl<V> Inner<V> {
-    /// The places of the word and of the value in memory that is lent for the lifetime of this owner's lease, and that they lie there
-    /// for as long.
+    /// The places of the word and of the value in memory that is lent for the lifetime of this
+    /// owner's lease, and that they lie there for as long.
     ///
     /// # Safety
     ///
@@ -27,9 +27,12 @@ impl<V> Inner<V> {
         at: *mut Inner<V>,
         by: &mut OwnerToken,
     ) -> (*const u64, WordBorrow, *const V, SharedBorrow<V>)
-        requires { (at ≡ lent.at) × InBlock at × (by.old.held ≡ true) × (by.old.lease.is_lent ≡ true) × (by.old.lease.lifetime ≡ lent.lifetime) }
-        ensures { (by.new ≡ by.old) × (result.1.block ≡ lent.value.word) × (result.1.at ≡ result.0) × (result.1.lifetime ≡ lent.lifetime)
-            × (result.3.value ≡ lent.value.value) × (result.3.at ≡ result.2) × (result.3.lifetime ≡ lent.lifetime) }
+        requires { (at ≡ lent.at) × InBlock at × (by.old.held ≡ true)
+            × (by.old.lease.is_lent ≡ true) × (by.old.lease.lifetime ≡ lent.lifetime) }
+        ensures { (by.new ≡ by.old) × (result.1.block ≡ lent.value.word) × (result.1.at ≡ result.0)
+            × (result.1.lifetime ≡ lent.lifetime)
+            × (result.3.value ≡ lent.value.value) × (result.3.at ≡ result.2)
+            × (result.3.lifetime ≡ lent.lifetime) }
     {
         let LentBox { marker: _ } = lent;
         let word = unsafe { &raw const (*at).word as *const u64 };

@@ -10,7 +10,8 @@ use crate::count::word::OwnerToken;
 use std::alloc::Allocator;
 use std::marker::{Model, PhantomData};
 
-/// A borrow of what a box owns, for the lifetime of a lease. It has no bytes, and is there once: it is cut into what the owners read.
+/// A borrow of what a box owns, for the lifetime of a lease. It has no bytes, and is there once: it
+/// is cut into what the owners read.
 pub(crate) struct LentBox<T, A: Allocator> {
     pub(crate) marker: PhantomData<(T, A)>,
     pub(crate) ghost value: { T },
@@ -20,18 +21,22 @@ pub(crate) struct LentBox<T, A: Allocator> {
 }
 
 impl<T, A: Allocator> Model for LentBox<T, A> {
-    ghost also_owns = { λ l. fbor (l.lifetime ∷ []) (box_owns (A.dealloc_token l.alloc) T.row l.at l.value) };
+    ghost also_owns = { λ l. fbor (l.lifetime ∷ [])
+        (box_owns (A.dealloc_token l.alloc) T.row l.at l.value) };
 }
 
 impl<T, A: Allocator> LentBox<T, A> {
-    /// A box, lent for the lifetime of this owner's lease: its place and its allocator, what is lent, and that it comes back.
+    /// A box, lent for the lifetime of this owner's lease: its place and its allocator, what is
+    /// lent, and that it comes back.
     pub(crate) fn of(
         bare: BoxParts<T, A>,
         by: &OwnerToken,
     ) -> (*mut T, A, LentBox<T, A>, Inheritance<T, A>)
         ensures { (result.0 ≡ bare.at) × InBlock result.0 × (result.1 ≡ bare.alloc)
-            × (result.2.value ≡ bare.value) × (result.2.alloc ≡ bare.alloc) × (result.2.at ≡ bare.at) × (result.2.lifetime ≡ by.now.lease.lifetime)
-            × (result.3.value ≡ bare.value) × (result.3.alloc ≡ bare.alloc) × (result.3.at ≡ bare.at) × (result.3.lease ≡ by.now.lease) }
+            × (result.2.value ≡ bare.value) × (result.2.alloc ≡ bare.alloc)
+            × (result.2.at ≡ bare.at) × (result.2.lifetime ≡ by.now.lease.lifetime)
+            × (result.3.value ≡ bare.value) × (result.3.alloc ≡ bare.alloc)
+            × (result.3.at ≡ bare.at) × (result.3.lease ≡ by.now.lease) }
     {
         let BoxParts { at, alloc } = bare;
         let lent = LentBox {

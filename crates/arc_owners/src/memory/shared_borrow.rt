@@ -6,7 +6,8 @@ ghost use denote.Struct.Lending.{lent_at};
 use crate::count::word::OwnerToken;
 use std::marker::{Model, PhantomData};
 
-/// That a value lies at a place for as long as a block is lent to its owners, for them to read. It has no bytes, and can be had again.
+/// That a value lies at a place for as long as a block is lent to its owners, for them to read. It
+/// has no bytes, and can be had again.
 pub struct SharedBorrow<T> {
     pub(crate) marker: PhantomData<T>,
     pub ghost value: { T },
@@ -23,7 +24,8 @@ impl<T> Model for SharedBorrow<T> {
 impl<T> SharedBorrow<T> {
     /// The same again.
     pub fn again(&self) -> SharedBorrow<T>
-        ensures { (result.value ≡ self.now.value) × (result.at ≡ self.now.at) × (result.lifetime ≡ self.now.lifetime) }
+        ensures { (result.value ≡ self.now.value) × (result.at ≡ self.now.at)
+            × (result.lifetime ≡ self.now.lifetime) }
     {
         SharedBorrow {
             marker: PhantomData,
@@ -34,9 +36,10 @@ impl<T> SharedBorrow<T> {
     ///
     /// # Safety
     ///
-    /// The value lies at this place: the loan says so.
+    /// The value lies at this place: the borrow says so.
     pub unsafe fn get<'a>(&'a self, place: *const T, by: &'a OwnerToken) -> &'a T
-        requires { (self.now.at ≡ place) × (by.now.held ≡ true) × (by.now.lease.is_lent ≡ true) × (by.now.lease.lifetime ≡ self.now.lifetime) }
+        requires { (self.now.at ≡ place) × (by.now.held ≡ true) × (by.now.lease.is_lent ≡ true)
+            × (by.now.lease.lifetime ≡ self.now.lifetime) }
         ensures { result.now ≡ self.now.value }
     {
         unsafe { &*place }

@@ -10,9 +10,11 @@ use std::alloc::Allocator;
 use std::marker::PhantomData;
 use std::mem::forget;
 
-/// The only owner of a value, who has the memory in which it lies, next to the word that counts the owners. `MAX` is the greatest count.
+/// The only owner of a value, who has the memory in which it lies, next to the word that counts the
+/// owners. `MAX` is the greatest count.
 ///
-/// Dropped, it ends with a new pass under the mark `Open`. Under `Whole` it is a forgotten owner: the memory stays for good.
+/// Dropped, it ends with a new pass under the mark `Open`. Under `Whole` it is a forgotten owner:
+/// the memory stays for good.
 pub struct SoleBox<V: Drop, A: Allocator + Copy, const MAX: u64, H: Mark = Open> {
     pub(crate) memory: Box<Inner<Housed<V, A>>, A>,
     pub(crate) sole: Sole<H>,
@@ -24,15 +26,19 @@ pub struct SoleBox<V: Drop, A: Allocator + Copy, const MAX: u64, H: Mark = Open>
 impl<V: Drop, A: Allocator + Copy, const MAX: u64, H: Mark> SoleBox<V, A, MAX, H> {
     ghost use Rattle.std.specs.Prelude.{◌≡◌, ◌≤◌, IfOk, IfErr, IfSome, is_some, true, false, None};
     ghost use Rattle.arc_owners.specs.history.Histories.{LivesAlone};
-    ghost use Rattle.arc_owners.specs.count.Calls.{IsPassFor, IsPassOfNone, IsFirst, IsFreshPass, Learns, Leaves, SeesAlone, EndsByItself, EndsWithoutStep, seen, history_of};
+    ghost use Rattle.arc_owners.specs.count.Calls.{IsPassFor, IsPassOfNone, IsFirst, IsFreshPass};
+    ghost use Rattle.arc_owners.specs.count.Calls.{Learns, Leaves, SeesAlone, EndsByItself};
+    ghost use Rattle.arc_owners.specs.count.Calls.{EndsWithoutStep, seen, history_of};
     ghost use Rattle.arc_owners.specs.memory.Boxes.{owner_in, value_of};
     ghost use Rattle.arc_owners.specs.memory.SoleBoxes.{sole_in, sole_value};
 
-    /// The first and only owner of a value, with a pass of its block. Takes memory, for the value and the count together; refused, the
-    /// value comes back. `MAX`, at least 2, is how many owners may live at once.
+    /// The first and only owner of a value, with a pass of its block. Takes memory, for the value
+    /// and the count together; refused, the value comes back. `MAX`, at least 2, is how many owners
+    /// may live at once.
     pub fn new(alloc: A, value: V) -> Result<(Self, Pass<H>), V>
         requires { 2 ≤ MAX }
-        ensures made { IfOk result (λ r. IsFirst MAX H.whole (sole_in r.0) × (sole_value r.0 ≡ value)) }
+        ensures made { IfOk result (λ r. IsFirst MAX H.whole (sole_in r.0)
+            × (sole_value r.0 ≡ value)) }
         ensures pass { IfOk result (λ r. IsFreshPass (sole_in r.0) r.1) }
         ensures alone { IfOk result (λ r. LivesAlone (sole_in r.0).number (seen r.1)) }
         ensures refused { IfErr result (λ back. back ≡ value) }
@@ -56,7 +62,8 @@ impl<V: Drop, A: Allocator + Copy, const MAX: u64, H: Mark> SoleBox<V, A, MAX, H
         &self.memory.as_ref().value.value
     }
 
-    /// Shows a pass the block's whole history so far, in which no other owner lives. It adds no entry and takes no memory.
+    /// Shows a pass the block's whole history so far, in which no other owner lives. It adds no
+    /// entry and takes no memory.
     pub fn only(&self, pass: &mut Pass<H>)
         requires pass { IsPassFor (sole_in self.now) pass.old }
         ensures { SeesAlone (sole_in self.now) pass.old pass.new }
@@ -64,7 +71,8 @@ impl<V: Drop, A: Allocator + Copy, const MAX: u64, H: Mark> SoleBox<V, A, MAX, H
         self.sole.only(pass);
     }
 
-    /// Lends the value anew, under the same history: the same owner of the same value. It adds no entry and takes no memory.
+    /// Lends the value anew, under the same history: the same owner of the same value. It adds no
+    /// entry and takes no memory.
     pub fn lend(self) -> CountedBox<V, A, MAX, H>
         ensures same { (owner_in result ≡ sole_in self) × (value_of result ≡ sole_value self) }
     {
@@ -72,7 +80,8 @@ impl<V: Drop, A: Allocator + Copy, const MAX: u64, H: Mark> SoleBox<V, A, MAX, H
         CountedBox::settled(memory, sole.lend())
     }
 
-    /// The value, and the memory to its allocator. Adds the Down of this owner, the last one, without a step. Takes no memory.
+    /// The value, and the memory to its allocator. Adds the Down of this owner, the last one,
+    /// without a step. Takes no memory.
     pub fn into_value_as(self, pass: &mut Pass<H>) -> V
         requires pass { IsPassFor (sole_in self) pass.old }
         ensures entry { Leaves (sole_in self) pass.old pass.new true }
@@ -85,14 +94,15 @@ impl<V: Drop, A: Allocator + Copy, const MAX: u64, H: Mark> SoleBox<V, A, MAX, H
         value.value
     }
 
-    /// What a drop does: under `Open` this owner ends with a new pass, and the value comes out; under `Whole` it is forgotten, with the
-    /// value and the memory. Takes no memory.
-    /// The pass is the one that the owner ended with; under `Whole` it is of no block.
+    /// What a drop does: under `Open` this owner ends with a new pass, and the value comes out;
+    /// under `Whole` it is forgotten, with the value and the memory. Takes no memory. The pass is
+    /// the one that the owner ended with; under `Whole` it is of no block.
     #[tactic(auto, using(crate::proofs::count::Calls::ended_by_itself))]
     pub fn let_go(self) -> (Option<V>, Pass<H>)
         ensures value { IfSome result.0 (λ value. value ≡ sole_value self) }
         ensures forgotten { H.whole ≡ true → (result.0 ≡ None) × IsPassOfNone result.1 }
-        ensures ended { H.whole ≡ false → (is_some result.0 ≡ true) × EndsByItself (sole_in self) result.1 true }
+        ensures ended { H.whole ≡ false → (is_some result.0 ≡ true)
+            × EndsByItself (sole_in self) result.1 true }
     {
         let SoleBox { memory, sole } = self;
         let (ended, trace) = H::let_go_sole(sole.right);
@@ -108,7 +118,8 @@ impl<V: Drop, A: Allocator + Copy, const MAX: u64, H: Mark> SoleBox<V, A, MAX, H
         (Some(value.value), pass)
     }
 
-    /// Afterwards the first pass has seen at least what the other had. It adds no entry and takes no memory.
+    /// Afterwards the first pass has seen at least what the other had. It adds no entry and takes
+    /// no memory.
     pub fn learn(&self, pass: &mut Pass<H>, other: &Pass<H>)
         requires pass { IsPassFor (sole_in self.now) pass.old }
         requires other { IsPassFor (sole_in self.now) other.now }
@@ -122,7 +133,8 @@ impl<V: Drop, A: Allocator + Copy, const MAX: u64, H: Stepping> SoleBox<V, A, MA
     ghost use Rattle.arc_owners.specs.count.Calls.{IsNewPass};
     ghost use Rattle.arc_owners.specs.memory.SoleBoxes.{sole_in};
 
-    /// A new pass, which has seen at least the entry that made this owner, and made nothing. It adds no entry and takes no memory.
+    /// A new pass, which has seen at least the entry that made this owner, and made nothing. It
+    /// adds no entry and takes no memory.
     pub fn pass(&self) -> Pass<H>
         ensures { IsNewPass (sole_in self.now) result }
     {

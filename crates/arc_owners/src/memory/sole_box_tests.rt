@@ -1,4 +1,5 @@
-//! A value whose only owner has its memory: taken back, lent anew, and given back once on each path.
+//! A value whose only owner has its memory: taken back, lent anew, and given back once on each
+//! path.
 use super::counted_box::CountedBox;
 use super::sole_box::SoleBox;
 use crate::error::AllocError;
@@ -7,7 +8,8 @@ use linked_list_allocator::LocalHeap;
 use std::test::Fail;
 use std::thread::join;
 
-/// Taken back beside another owner it is refused; alone it is the same value, lent anew, cloned and read.
+/// Taken back beside another owner it is refused; alone it is the same value, lent anew, cloned and
+/// read.
 #[test]
 fn taken_back_and_lent_anew(rt: HostRuntime) -> Result<(), Fail> {
     let heap = LocalHeap::new(rt.alloc(), 256)?;

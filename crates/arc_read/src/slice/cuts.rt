@@ -17,8 +17,8 @@ use std::mem;
 use std::sync::Wait;
 
 impl<S: Subsliceable, L: Layout, A: Allocator + Copy, H: Mark> ArcSlice<S, L, A, H> {
-    /// Whether the window may be cut at `at`. `OutOfRange` where that is past the length, else `NotBoundary` where the kind may not be cut
-    /// there.
+    /// Whether the window may be cut at `at`. `OutOfRange` where that is past the length, else
+    /// `NotBoundary` where the kind may not be cut there.
     pub fn check_at(&self, at: usize) -> Result<(), RangeError>
         ensures answer { result ≡ edge_answer S.boundary self.now.items at }
         ensures ok { IsOk result ↔ IsEdge S.boundary self.now.items at }
@@ -33,16 +33,20 @@ impl<S: Subsliceable, L: Layout, A: Allocator + Copy, H: Mark> ArcSlice<S, L, A,
         }
     }
 
-    /// Takes the first `n` items off the window, which stays on its block, also with no items. Takes no memory and adds nothing.
+    /// Takes the first `n` items off the window, which stays on its block, also with no items.
+    /// Takes no memory and adds nothing.
     pub fn advance(&mut self, n: usize)
         requires { IsEdge S.boundary self.old.items n }
-        ensures { self.new ≡ record { items = drop n self.old.items; place = moved n self.old.place } }
+        ensures { self.new ≡ record {
+          items = drop n self.old.items;
+          place = moved n self.old.place;
+        } }
     {
         self.start += n;
     }
 
-    /// Leaves the window's first `n` items, or all where it has no more. It stays on its block, also with no items. Takes no memory and
-    /// adds nothing.
+    /// Leaves the window's first `n` items, or all where it has no more. It stays on its block,
+    /// also with no items. Takes no memory and adds nothing.
     pub fn truncate(&mut self, n: usize)
         requires { n < length self.old.items → IsEdge S.boundary self.old.items n }
         ensures { self.new ≡ record { items = take n self.old.items; place = self.old.place } }
@@ -62,11 +66,13 @@ impl<S: Subsliceable, L: Layout, A: Allocator + Copy, H: Mark> ArcSlice<S, L, A,
         let _ = &self.block;
     }
 
-    /// Splits the window at `at`: it keeps the front, and the back is handed out. An owner more of the block has the part that is new: the
-    /// back, or for `at` of 0 the front, which then has no items. That part stands on nothing where it has no items and the layout has static
-    /// data; else Up is added, or Full where refused.
+    /// Splits the window at `at`: it keeps the front, and the back is handed out. An owner more of
+    /// the block has the part that is new: the back, or for `at` of 0 the front, which then has no
+    /// items. That part stands on nothing where it has no items and the layout has static data;
+    /// else Up is added, or Full where refused.
     ///
-    /// Takes no memory and copies no item. `CountFull` exactly where `MAX_OWNERS` owners live; the window is then as before.
+    /// Takes no memory and copies no item. `CountFull` exactly where `MAX_OWNERS` owners live; the
+    /// window is then as before.
     pub fn try_split_off_as(
         &mut self,
         rt: &impl Wait,
@@ -75,10 +81,12 @@ impl<S: Subsliceable, L: Layout, A: Allocator + Copy, H: Mark> ArcSlice<S, L, A,
     ) -> Result<Self, OwnerError>
         requires at { IsEdge S.boundary self.old.items at }
         requires pass { IsPassAt self.old.place pass.old }
-        ensures ok { IfOk result (λ back. SplitsOff L.STATIC self.old at pass.old pass.new self.new back) }
+        ensures ok { IfOk result (λ back.
+            SplitsOff L.STATIC self.old at pass.old pass.new self.new back) }
         ensures kept { IfErr result (λ _. self.new ≡ self.old) }
         ensures refused { IfErr result (λ e.
-            Refuses L.clone_wants (part_window L.STATIC self.old at (off_end self.old at)).place pass.old pass.new e) }
+            Refuses L.clone_wants
+            (part_window L.STATIC self.old at (off_end self.old at)).place pass.old pass.new e) }
     {
         self.has_edges();
         if at == 0 {
@@ -90,11 +98,13 @@ impl<S: Subsliceable, L: Layout, A: Allocator + Copy, H: Mark> ArcSlice<S, L, A,
         Ok(back)
     }
 
-    /// Splits the window at `at`: the front is handed out, and it keeps the back. An owner more of the block has the part that is new: the
-    /// front, or for `at` at the end the back, which then has no items. That part stands on nothing where it has no items and the layout has
-    /// static data; else Up is added, or Full where refused.
+    /// Splits the window at `at`: the front is handed out, and it keeps the back. An owner more of
+    /// the block has the part that is new: the front, or for `at` at the end the back, which then
+    /// has no items. That part stands on nothing where it has no items and the layout has static
+    /// data; else Up is added, or Full where refused.
     ///
-    /// Takes no memory and copies no item. `CountFull` exactly where `MAX_OWNERS` owners live; the window is then as before.
+    /// Takes no memory and copies no item. `CountFull` exactly where `MAX_OWNERS` owners live; the
+    /// window is then as before.
     pub fn try_split_to_as(
         &mut self,
         rt: &impl Wait,
@@ -103,10 +113,12 @@ impl<S: Subsliceable, L: Layout, A: Allocator + Copy, H: Mark> ArcSlice<S, L, A,
     ) -> Result<Self, OwnerError>
         requires at { IsEdge S.boundary self.old.items at }
         requires pass { IsPassAt self.old.place pass.old }
-        ensures ok { IfOk result (λ front. SplitsTo L.STATIC self.old at pass.old pass.new front self.new) }
+        ensures ok { IfOk result (λ front.
+            SplitsTo L.STATIC self.old at pass.old pass.new front self.new) }
         ensures kept { IfErr result (λ _. self.new ≡ self.old) }
         ensures refused { IfErr result (λ e.
-            Refuses L.clone_wants (part_window L.STATIC self.old (to_start self.old at) at).place pass.old pass.new e) }
+            Refuses L.clone_wants
+            (part_window L.STATIC self.old (to_start self.old at) at).place pass.old pass.new e) }
     {
         self.has_edges();
         if at == self.len() {
@@ -122,14 +134,17 @@ impl<S: Subsliceable, L: Layout, A: Allocator + Copy, H: Mark> ArcSlice<S, L, A,
 impl<S: Subsliceable, L: Layout, A: Allocator + Copy, H: Stepping> ArcSlice<S, L, A, H> {
     /// Splits the window at `at` and hands out the back: `try_split_off_as` with a new pass.
     ///
-    /// Takes no memory and copies no item. `CountFull` exactly where `MAX_OWNERS` owners live; the window is then as before.
+    /// Takes no memory and copies no item. `CountFull` exactly where `MAX_OWNERS` owners live; the
+    /// window is then as before.
     pub fn try_split_off(&mut self, rt: &impl Wait, at: usize) -> Result<Self, OwnerError>
         requires { IsEdge S.boundary self.old.items at }
         ensures ok { IfOk result (λ back. WithNewPass {H = H} H.real self.old.place (λ first last.
             SplitsOff L.STATIC self.old at first last self.new back)) }
         ensures kept { IfErr result (λ _. self.new ≡ self.old) }
-        ensures refused { IfErr result (λ e. WithNewPass {H = H} H.real self.old.place (λ first last.
-            Refuses L.clone_wants (part_window L.STATIC self.old at (off_end self.old at)).place first last e)) }
+        ensures refused { IfErr result (λ e.
+            WithNewPass {H = H} H.real self.old.place (λ first last.
+            Refuses L.clone_wants
+            (part_window L.STATIC self.old at (off_end self.old at)).place first last e)) }
     {
         let mut pass = self.pass();
         let made = self.try_split_off_as(rt, at, &mut pass);
@@ -139,14 +154,17 @@ impl<S: Subsliceable, L: Layout, A: Allocator + Copy, H: Stepping> ArcSlice<S, L
 
     /// Splits the window at `at` and hands out the front: `try_split_to_as` with a new pass.
     ///
-    /// Takes no memory and copies no item. `CountFull` exactly where `MAX_OWNERS` owners live; the window is then as before.
+    /// Takes no memory and copies no item. `CountFull` exactly where `MAX_OWNERS` owners live; the
+    /// window is then as before.
     pub fn try_split_to(&mut self, rt: &impl Wait, at: usize) -> Result<Self, OwnerError>
         requires { IsEdge S.boundary self.old.items at }
         ensures ok { IfOk result (λ front. WithNewPass {H = H} H.real self.old.place (λ first last.
             SplitsTo L.STATIC self.old at first last front self.new)) }
         ensures kept { IfErr result (λ _. self.new ≡ self.old) }
-        ensures refused { IfErr result (λ e. WithNewPass {H = H} H.real self.old.place (λ first last.
-            Refuses L.clone_wants (part_window L.STATIC self.old (to_start self.old at) at).place first last e)) }
+        ensures refused { IfErr result (λ e.
+            WithNewPass {H = H} H.real self.old.place (λ first last.
+            Refuses L.clone_wants
+            (part_window L.STATIC self.old (to_start self.old at) at).place first last e)) }
     {
         let mut pass = self.pass();
         let made = self.try_split_to_as(rt, at, &mut pass);

@@ -98,7 +98,8 @@ fn alone_or_not(rt: HostRuntime) -> Result<(), Fail> {
     Ok(())
 }
 
-/// Each call on windows that stand on no block, and makes none: the pass is as it was, as the contract says. The windows that were made.
+/// Each call on windows that stand on no block, and makes none: the pass is as it was, as the
+/// contract says. The windows that were made.
 fn called_on_no_block<R: Wait>(
     rt: &R,
     alloc: Global,
@@ -169,7 +170,8 @@ fn memory_given_back_once(rt: HostRuntime) -> Result<(), Fail> {
     Ok(())
 }
 
-/// What is taken back as an array gives its block back, and a window under `Whole` that is dropped keeps it for good.
+/// What is taken back as an array gives its block back, and a window under `Whole` that is dropped
+/// keeps it for good.
 #[test]
 fn memory_of_arrays_and_of_forgotten_windows(rt: HostRuntime) -> Result<(), Fail> {
     let heap = LocalHeap::new(rt.alloc(), 1024)?;
@@ -199,7 +201,8 @@ fn memory_of_arrays_and_of_forgotten_windows(rt: HostRuntime) -> Result<(), Fail
     Ok(())
 }
 
-/// With more and more memory filled beforehand each request is refused in turn, and what was taken is given back.
+/// With more and more memory filled beforehand each request is refused in turn, and what was taken
+/// is given back.
 #[test]
 fn memory_refused(rt: HostRuntime) -> Result<(), Fail> {
     let mut refused = 0u32;
@@ -249,7 +252,8 @@ fn ended(first: &ArcSlice<Plain<u32>>, window: ArcSlice<Plain<u32>>, pass: Pass<
     pass
 }
 
-/// A second thread ends a clone with a pass of its own, from which this one learns at the join that it is alone.
+/// A second thread ends a clone with a pass of its own, from which this one learns at the join that
+/// it is alone.
 #[test]
 fn ended_by_another_thread(rt: HostRuntime) -> Result<(), Fail> {
     let window: ArcSlice<Plain<u32>> = ArcSlice::try_from_slice(rt.alloc(), &[1, 2, 3])?;
@@ -373,8 +377,8 @@ fn text_from_bytes(rt: HostRuntime) -> Result<(), Fail> {
     Ok(())
 }
 
-/// Items that are dropped one by one, each once, with the last owner of their block: the language's own count tells how many clones of
-/// each item live.
+/// Items that are dropped one by one, each once, with the last owner of their block: the language's
+/// own count tells how many clones of each item live.
 #[test]
 fn owned_items_are_dropped_once(rt: HostRuntime) -> Result<(), Fail> {
     let a = Arc::new(rt.alloc(), b'a')?;

@@ -18,8 +18,9 @@ use std::str;
 use std::str::Utf8Error;
 
 impl<L: Layout, A: Allocator + Copy, H: Mark> ArcSlice<Text, L, A, H> {
-    /// A window over a copy of the text: no text stands on nothing where the layout has static data, else it stands on a new native block
-    /// with exactly a place for each byte. The pass, which is of no block, becomes the block's; the window is owner 0.
+    /// A window over a copy of the text: no text stands on nothing where the layout has static
+    /// data, else it stands on a new native block with exactly a place for each byte. The pass,
+    /// which is of no block, becomes the block's; the window is owner 0.
     ///
     /// Takes memory for a block; refused, the answer is `AllocError`, and the pass is as before.
     pub fn try_from_str_as(alloc: A, text: &str, pass: &mut Pass<H>) -> Result<Self, AllocError>
@@ -46,14 +47,15 @@ impl<L: Layout, A: Allocator + Copy, H: Mark> ArcSlice<Text, L, A, H> {
         self.into_kind()
     }
 
-    /// The same window, over text, exactly where its bytes are valid UTF-8: else the bytes come back, with what is wrong with them. Takes
-    /// no memory and adds nothing.
+    /// The same window, over text, exactly where its bytes are valid UTF-8: else the bytes come
+    /// back, with what is wrong with them. Takes no memory and adds nothing.
     pub fn try_from_arc_slice(
         bytes: ArcSlice<Plain<u8>, L, A, H>,
     ) -> Result<Self, (Utf8Error, ArcSlice<Plain<u8>, L, A, H>)>
         ensures ok { IfOk result (λ text. (text ≡ bytes) × IsUtf8 bytes.items) }
         ensures back { IfErr result (λ r. (r.1 ≡ bytes) × ¬ (IsUtf8 bytes.items)) }
-        ensures error { IfErr result (λ r. (valid_up_to r.0 ≡ utf8_valid_len bytes.items) × (error_len r.0 ≡ utf8_error_len (drop (valid_up_to r.0) bytes.items))) }
+        ensures error { IfErr result (λ r. (valid_up_to r.0 ≡ utf8_valid_len bytes.items)
+            × (error_len r.0 ≡ utf8_error_len (drop (valid_up_to r.0) bytes.items))) }
     {
         match Text::try_from_slice(bytes.as_slice()) {
             Ok(()) => Ok(bytes.into_kind()),

@@ -1,4 +1,5 @@
--- The clone stands on the same block, as another owner; or the block has as many owners as it may have.
+-- The clone stands on the same block, as another owner; or the block has as many owners as it may
+-- have.
 use Rattle.std.proofs.Common.{[], ◌∷◌, ◌++◌, Some, length, ap, sym, ◌∙◌}
 use Rattle.arcs.specs.Step.{with_row, cloned}
 use Rattle.arcs.proofs.Kept.{slice_in, behind, has-number, still-number, stand-pass, joined, stays-full, as-many, full-place}

@@ -1,4 +1,5 @@
--- The window stands on nothing, or as the first owner on a new block, whose pass is the one that was given.
+-- The window stands on nothing, or as the first owner on a new block, whose pass is the one that
+-- was given.
 use Rattle.std.proofs.Common.{◌==◌, Some, length, refl, ap, sym, ◌∙◌}
 use Rattle.arcs.proofs.Kept.{behind, made-nowhere, made-on_block, kept-in}
 use Rattle.arcs.proofs.Added.{block-added}

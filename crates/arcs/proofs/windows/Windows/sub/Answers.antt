@@ -1,4 +1,5 @@
--- The part stands on the same block, as another owner, or on nothing; or the block has as many owners as it may have.
+-- The part stands on the same block, as another owner, or on nothing; or the block has as many
+-- owners as it may have.
 use Rattle.std.proofs.Common.{[], ◌∷◌, ◌++◌, Some, length, slice_get, refl, ap, sym, subst, ◌∙◌}
 use Rattle.arc_buffer.specs.Slice.{IsRange, range_answer}
 use Rattle.arcs.specs.Script.{byte_setting}

@@ -50,7 +50,8 @@ learn_spec 𝓤 𝓛 𝓜 𝓡 wired =
     (lent_out 𝓛 PassState.struct (PassState.the_codes (marker.the_row unit).coded) PassState.the_heap PassState.the_lent κs.1.0 other b₁ o₁) $ split ! $ drop ! $ unhide ! $
     rewrite ! 0 (λ (k : Bool × BlockId). ‵ (trace_shares k.0 k.1 other.lines)) (λ i. (asked.1 i, asked.2 i)) refl $ fsplit ! $ drop ! $
     move ! (1 ∷ 2 ∷ 3 ∷ []) $ opens ! tt PassState.the_row b o (λ vs. move ! (1 ∷ []) $ fsplit ! $ move ! (1 ∷ []) $ rewrite ! 0 (λ (k : Bool). ‵ (trace_owns k t me.number me.ready me.lines)) asked.0 refl $
-    -- [this pass; its marker; its cell; the open borrow, in three; what the other has seen; the tokens]
+    -- [this pass; its marker; its cell; the open borrow, in three; what the other has seen; the
+    -- tokens]
     move ! (0 ∷ 6 ∷ []) $ use2 𝓛 (later (some (λ (ls : List Line). given (IsPrefix me.lines ls × IsPrefix other.lines ls × (made_by me.number ls ≡ made_by me.number me.lines)) (‵ (trace_owns true t me.number me.ready ls)))))
     (begins.learns 𝓛 t me.number me.ready me.lines other.lines) $ await ! tt $ pick ! (λ ls. learn ! (λ so. let after : PassState.the_row.Denot = record { marker = record {}; bound = true; block = t; number = me.number; ready = me.ready; lines = ls } in
     move ! (1 ∷ 0 ∷ []) $ fjoin ! $ move ! (1 ∷ 0 ∷ 2 ∷ 3 ∷ 4 ∷ []) $ closes ! tt PassState.the_row after vs b o $

@@ -56,7 +56,8 @@ claim_spec 𝓤 𝓛 𝓜 𝓡 wired =
     -- [the word's token; its way back; the word's invariant; two parts of each; three tokens]
     move ! (3 ∷ 4 ∷ 11 ∷ []) $ opens ! tt OwnerToken.the_row b₁ o₁ (λ ts. move ! (1 ∷ []) $ fsplit ! $ move ! (1 ∷ []) $
     rewrite ! 0 (λ (k : Bool × BlockId). ‵ (right_owns k.0 k.1 own.owner own.lease own.born)) (λ i. (asked.0.0 i, asked.0.1 i)) refl $ fsplit ! $ move ! (1 ∷ []) $ fsplit ! $
-    -- [the right; the stake; its invariant, marker, cell and open borrow; the word's token, way back and invariant; two parts of the pass and of the spoils; two tokens]
+    -- [the right; the stake; its invariant, marker, cell and open borrow; the word's token, way
+    -- back and invariant; two parts of the pass and of the spoils; two tokens]
     move ! (13 ∷ 14 ∷ 15 ∷ []) $ opens ! tt EndTokens.the_row b₃ o₃ (λ ws. move ! (1 ∷ []) $ fsplit ! $ move ! (1 ∷ []) $ drop ! $
     move ! (16 ∷ 17 ∷ 18 ∷ []) $ opens ! tt PassState.the_row b₂ o₂ (λ vs. move ! (1 ∷ []) $ fsplit ! $ move ! (1 ∷ []) $
     rewrite ! 0 (λ (k : Bool × BlockId). ‵ (trace_owns k.0 k.1 seen.number seen.ready seen.lines)) (λ i. (asked.1.0 i, asked.1.1 i)) refl $
@@ -74,7 +75,8 @@ claim_spec 𝓤 𝓛 𝓜 𝓡 wired =
     let lease : Lease = lease_after own.lease (eqb n 1) in let kept : OwnerToken.the_row.Denot = record { marker = record {}; held = true; block = me; owner = own.owner; lease = lease; born = own.born } in
     let left : EndTokens.the_row.Denot = record { marker = record {}; last = eqb n 1; lease = own.lease } in
     move ! (3 ∷ 0 ∷ []) $ fjoin ! $ move ! (3 ∷ 0 ∷ 4 ∷ 5 ∷ 6 ∷ []) $ closes ! tt PassState.the_row after vs b₂ o₂ $
-    -- [three of the pass; what the owner gains; a token; the spoils' marker, cell and open borrow; the owner's invariant, marker, cell and open borrow]
+    -- [three of the pass; what the owner gains; a token; the spoils' marker, cell and open borrow;
+    -- the owner's invariant, marker, cell and open borrow]
     move ! (3 ∷ []) $ fsplit ! $ move ! (1 ∷ []) $ fsplit ! $ move ! (2 ∷ 0 ∷ []) $ fjoin ! $ move ! (11 ∷ 0 ∷ []) $ fjoin ! $ use1 𝓛 (‵ (right_owns true me own.owner lease own.born)) (id⊢ 𝓤 _) $
     move ! (11 ∷ 0 ∷ []) $ fjoin ! $ move ! (11 ∷ 0 ∷ 12 ∷ 13 ∷ 14 ∷ []) $ closes ! tt OwnerToken.the_row kept ts b₁ o₁ $
     move ! (8 ∷ 3 ∷ []) $ fjoin ! $ move ! (8 ∷ 0 ∷ 9 ∷ 10 ∷ 11 ∷ []) $ closes ! tt EndTokens.the_row left ws b₃ o₃ $ move ! (3 ∷ 4 ∷ 5 ∷ []) $

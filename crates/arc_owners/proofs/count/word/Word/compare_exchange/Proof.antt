@@ -1,4 +1,5 @@
--- `raise` is one exchange, with the invariant, a share of an owner's right, the pass, and the right of the new owner.
+-- `raise` is one exchange, with the invariant, a share of an owner's right, the pass, and the right
+-- of the new owner.
 use Rattle.std.proofs.Common.{ℕ, ◌^◌, Bool, true, List, [], ◌∷◌, refl, w64}
 use mir.Syntax.{named}
 use mir.Val.{Val, vint, vptr}
@@ -57,16 +58,19 @@ compare_exchange_spec 𝓤 𝓛 𝓜 𝓡 wired =
     enter ! 𝓣.C 𝓣.Λ fn (vptr b o ∷ vptr a.1.0.ref_ptr.0 a.1.0.ref_ptr.1 ∷ vptr b₂ o₂ ∷ vptr b₃ o₃ ∷ vint w64 old ∷ vint w64 next ∷ []) Post $ alloc_all ! (λ l. pass_all ! refl ((tt, tt), ((tt, tt), ((tt, tt), ((tt, tt), ((tt, record { fits = are.1.1.1.1.0.1 }), ((tt, record { fits = are.1.1.1.1.1.0.1 }), tt)))))) $ let Ev = env fn.locals l in
     move ! (5 ∷ []) $ unhide ! $ fpick ! (λ z. fsplit3 ! $ move ! (1 ∷ []) $ fpick ! (λ past. drop ! $ move ! (0 ∷ 10 ∷ []) $
     use2 𝓛 (later (some (λ (s : Share). ‵ (flft z.0 s) ⊛ raw (wand 𝓤 (𝓛.A.lft z.0 s) (H.⇛ (𝓛.A.lft κs.0 qs.0)))))) (Lends-one 𝓛 𝓜 𝓡 κs.0 z.0 qs.0) $ await ! tt $ pick ! (λ s. split ! $
-    -- [the word's token; its way back; the word's invariant; two parts of the pass; two of the new right; the owner; three tokens]
+    -- [the word's token; its way back; the word's invariant; two parts of the pass; two of the new
+    -- right; the owner; three tokens]
     move ! (7 ∷ []) $ use1 𝓛 (‵ (hidden_shr (Token unit) κs.1.0 (record {}, tt) a.1.0.ref_ptr.0 a.1.0.ref_ptr.1) ⊛ ‵ (fhide (right_shares own.held own.block own.owner own.lease own.born κs.1.0)))
     (lent_out 𝓛 OwnerToken.struct (OwnerToken.the_codes (marker.the_row unit).coded) OwnerToken.the_heap OwnerToken.the_lent κs.1.0 own a.1.0.ref_ptr.0 a.1.0.ref_ptr.1) $ split ! $ drop ! $ unhide ! $
     rewrite ! 0 (λ (k : Bool × BlockId). ‵ (right_shares k.0 k.1 own.owner own.lease own.born κs.1.0)) (λ i. (asked.0.0 i, asked.0.1 i)) refl $ move ! (0 ∷ 10 ∷ []) $
     use2 𝓛 (later (some (λ (r : Share). ‵ (right me own.owner own.lease r) ⊛ raw (wand 𝓤 (sem 𝓛 (right me own.owner own.lease r)) (H.⇛ (𝓛.A.lft κs.1.0 qs.1.0)))))) (right_read 𝓛 me own.owner own.lease own.born κs.1.0 qs.1.0) $ await ! tt $ pick ! (λ r. split ! $
-    -- [the right; its way back; the word's token; its way back; the word's invariant; two parts of the pass; two of the new right; two tokens]
+    -- [the right; its way back; the word's token; its way back; the word's invariant; two parts of
+    -- the pass; two of the new right; two tokens]
     move ! (7 ∷ 8 ∷ 9 ∷ []) $ opens ! tt OwnerToken.the_row b₃ o₃ (λ ws. move ! (1 ∷ []) $ fsplit ! $ move ! (1 ∷ []) $ drop ! $
     move ! (10 ∷ 11 ∷ 12 ∷ []) $ opens ! tt PassState.the_row b₂ o₂ (λ vs. move ! (1 ∷ []) $ fsplit ! $ move ! (1 ∷ []) $
     rewrite ! 0 (λ (k : Bool × BlockId). ‵ (trace_owns k.0 k.1 seen.number seen.ready seen.lines)) (λ i. (asked.1.0 i, asked.1.1 i)) refl $
-    -- [the pass, its marker, cell, and open borrow in three; the new right's marker, cell and open borrow; the right; its way back; the word's token; its way back; the word's invariant]
+    -- [the pass, its marker, cell, and open borrow in three; the new right's marker, cell and open
+    -- borrow; the right; its way back; the word's token; its way back; the word's invariant]
     let out : ℕ → Fml = λ n. fsep (flft z.0 s) (fex (List Line × (Bool × ℕ)) (after_raise me seen.number seen.ready seen.lines own.owner own.lease r old n)) in
     first ! $ blocks ! $ sets ! (addr ! (through ! refl (stop !))) refl (tt, tt) $ sets ! (of_opd ! (get ! refl)) refl (tt, tt) $
     move ! (0 ∷ 11 ∷ []) $ group ! 2 $ move ! (14 ∷ 12 ∷ 0 ∷ []) $

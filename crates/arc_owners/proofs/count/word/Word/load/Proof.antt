@@ -56,15 +56,18 @@ load_spec 𝓤 𝓛 𝓜 𝓡 wired =
     enter ! 𝓣.C 𝓣.Λ fn (vptr b o ∷ vptr a.1.0.ref_ptr.0 a.1.0.ref_ptr.1 ∷ vptr b₂ o₂ ∷ []) Post $ alloc_all ! (λ l. pass_all ! refl ((tt, tt), ((tt, tt), ((tt, tt), tt))) $ let Ev = env fn.locals l in
     move ! (3 ∷ []) $ unhide ! $ fpick ! (λ z. fsplit3 ! $ move ! (1 ∷ []) $ fpick ! (λ past. drop ! $ move ! (0 ∷ 7 ∷ []) $
     use2 𝓛 (later (some (λ (s : Share). ‵ (flft z.0 s) ⊛ raw (wand 𝓤 (𝓛.A.lft z.0 s) (H.⇛ (𝓛.A.lft κs.0 qs.0)))))) (Lends-one 𝓛 𝓜 𝓡 κs.0 z.0 qs.0) $ await ! tt $ pick ! (λ s. split ! $
-    -- [the word's token; its way back; the word's invariant; two parts of the pass; the owner; two tokens]
+    -- [the word's token; its way back; the word's invariant; two parts of the pass; the owner; two
+    -- tokens]
     move ! (5 ∷ []) $ use1 𝓛 (‵ (hidden_shr (Token unit) κs.1.0 (record {}, tt) a.1.0.ref_ptr.0 a.1.0.ref_ptr.1) ⊛ ‵ (fhide (right_shares own.held own.block own.owner own.lease own.born κs.1.0)))
     (lent_out 𝓛 OwnerToken.struct (OwnerToken.the_codes (marker.the_row unit).coded) OwnerToken.the_heap OwnerToken.the_lent κs.1.0 own a.1.0.ref_ptr.0 a.1.0.ref_ptr.1) $ split ! $ drop ! $ unhide ! $
     rewrite ! 0 (λ (k : Bool × BlockId). ‵ (right_shares k.0 k.1 own.owner own.lease own.born κs.1.0)) (λ i. (asked.0.0 i, asked.0.1 i)) refl $ move ! (0 ∷ 7 ∷ []) $
     use2 𝓛 (later (some (λ (r : Share). ‵ (right me own.owner own.lease r) ⊛ raw (wand 𝓤 (sem 𝓛 (right me own.owner own.lease r)) (H.⇛ (𝓛.A.lft κs.1.0 qs.1.0)))))) (right_read 𝓛 me own.owner own.lease own.born κs.1.0 qs.1.0) $ await ! tt $ pick ! (λ r. split ! $
-    -- [the right; its way back; the word's token; its way back; the word's invariant; two parts of the pass; its token]
+    -- [the right; its way back; the word's token; its way back; the word's invariant; two parts of
+    -- the pass; its token]
     move ! (5 ∷ 6 ∷ 7 ∷ []) $ opens ! tt PassState.the_row b₂ o₂ (λ vs. move ! (1 ∷ []) $ fsplit ! $ move ! (1 ∷ []) $
     rewrite ! 0 (λ (k : Bool × BlockId). ‵ (trace_owns k.0 k.1 seen.number seen.ready seen.lines)) (λ i. (asked.1.0 i, asked.1.1 i)) refl $
-    -- [the pass; its marker; its cell; the open borrow, in three; the right; its way back; the word's token; its way back; the word's invariant]
+    -- [the pass; its marker; its cell; the open borrow, in three; the right; its way back; the
+    -- word's token; its way back; the word's invariant]
     let out : ℕ → Fml = λ n. fsep (flft z.0 s) (fex (List Line) (after_look me seen.number seen.ready seen.lines own.owner own.lease r n)) in
     first ! $ blocks ! $ sets ! (addr ! (through ! refl (stop !))) refl (tt, tt) $ sets ! (of_opd ! (get ! refl)) refl (tt, tt) $
     move ! (0 ∷ 6 ∷ []) $ group ! 2 $ move ! (9 ∷ 7 ∷ 0 ∷ []) $
@@ -75,7 +78,8 @@ load_spec 𝓤 𝓛 𝓜 𝓡 wired =
     exec ! 𝓣.C 𝓣.Λ Ev (tail fn.body) (at_ret Ev Post) $ sets ! (of_opd ! (get ! refl)) refl (tt, record { fits = fits }) $
     fsplit ! $ move ! (0 ∷ 8 ∷ []) $ use2 𝓛 (later (‵ (flft κs.0 qs.0))) (apply∗ 𝓤 (𝓛.A.lft z.0 s) (H.⇛ (𝓛.A.lft κs.0 qs.0))) $ await ! tt $
     move ! (1 ∷ []) $ fpick ! (λ ls. fsplit ! $ fpick ! (λ so. drop ! $ fsplit ! $
-    -- [the pass; the right; the word's token; its marker; its cell; the open borrow, in three; the right's way back]
+    -- [the pass; the right; the word's token; its marker; its cell; the open borrow, in three; the
+    -- right's way back]
     move ! (1 ∷ 8 ∷ []) $ use2 𝓛 (later (‵ (flft κs.1.0 qs.1.0))) (apply∗ 𝓤 (sem 𝓛 (right me own.owner own.lease r)) (H.⇛ (𝓛.A.lft κs.1.0 qs.1.0))) $ await ! tt $
     let after : PassState.the_row.Denot = record { marker = record {}; bound = true; block = me; number = seen.number; ready = seen.ready; lines = ls } in
     move ! (3 ∷ 1 ∷ []) $ fjoin ! $ move ! (3 ∷ 0 ∷ 4 ∷ 5 ∷ 6 ∷ []) $ closes ! tt PassState.the_row after vs b₂ o₂ $

@@ -1,4 +1,5 @@
--- `lower` is one subtraction, with the invariant, an owner's right, the pass, and what the end leaves.
+-- `lower` is one subtraction, with the invariant, an owner's right, the pass, and what the end
+-- leaves.
 use Rattle.std.proofs.Common.{ℕ, ◌^◌, Bool, true, false, eqb, List, [], ◌∷◌, refl, lit<, w64}
 use mir.Syntax.{named}
 use mir.Val.{Val, vint, vptr}
@@ -57,7 +58,8 @@ subtract_spec 𝓤 𝓛 𝓜 𝓡 wired =
     -- [the word's token; its way back; the word's invariant; two parts of each; three tokens]
     move ! (3 ∷ 4 ∷ 11 ∷ []) $ opens ! tt OwnerToken.the_row b₁ o₁ (λ ts. move ! (1 ∷ []) $ fsplit ! $ move ! (1 ∷ []) $
     rewrite ! 0 (λ (k : Bool × BlockId). ‵ (right_owns k.0 k.1 own.owner own.lease own.born)) (λ i. (asked.0.0 i, asked.0.1 i)) refl $ fsplit ! $ drop ! $ fsplit ! $
-    -- [the right; the stake; its marker, cell and open borrow; the word's token, way back and invariant; two parts of the pass and of the spoils; two tokens]
+    -- [the right; the stake; its marker, cell and open borrow; the word's token, way back and
+    -- invariant; two parts of the pass and of the spoils; two tokens]
     move ! (12 ∷ 13 ∷ 14 ∷ []) $ opens ! tt EndTokens.the_row b₃ o₃ (λ ws. move ! (1 ∷ []) $ fsplit ! $ move ! (1 ∷ []) $ drop ! $
     move ! (15 ∷ 16 ∷ 17 ∷ []) $ opens ! tt PassState.the_row b₂ o₂ (λ vs. move ! (1 ∷ []) $ fsplit ! $ move ! (1 ∷ []) $
     rewrite ! 0 (λ (k : Bool × BlockId). ‵ (trace_owns k.0 k.1 seen.number seen.ready seen.lines)) (λ i. (asked.1.0 i, asked.1.1 i)) refl $

@@ -53,14 +53,16 @@ subtract_raw_spec 𝓤 𝓛 𝓜 𝓡 wired =
     qed 𝓛 ((‵ toks ⊛ ‵ (owns (types_at f.ended.signature.params κs) a y.0.4)) ∷ given _ (‵ ftrue) ∷ []) ∵ keep ! (1 ∷ 0 ∷ []) $ learn ! (λ asked. drop ! $ split ! $
     fsplit ! $ move ! (1 ∷ []) $ fsplit ! $ move ! (1 ∷ []) $ fsplit ! $ move ! (1 ∷ []) $ fsplit ! $ move ! (5 ∷ []) $ fsplit ! $ drop ! $ fsplit ! $ fsplit ! $ move ! (2 ∷ []) $ fsplit ! $ fsplit3 ! $ move ! (3 ∷ []) $ fsplit ! $ fsplit3 ! $ move ! (3 ∷ []) $ fsplit ! $ fsplit3 ! $
     keep ! (11 ∷ 8 ∷ 9 ∷ 5 ∷ 6 ∷ 1 ∷ 2 ∷ 12 ∷ 14 ∷ 15 ∷ 16 ∷ []) $
-    -- [what says where the word lies; two parts of the owner, of the pass and of the spoils; the tokens, last first]
+    -- [what says where the word lies; two parts of the owner, of the pass and of the spoils; the
+    -- tokens, last first]
     enter ! 𝓣.C 𝓣.Λ fn (ptr_val place ∷ vptr b o ∷ vptr b₁ o₁ ∷ vptr b₂ o₂ ∷ vptr b₃ o₃ ∷ []) Post $ alloc_all ! (λ l. pass_all ! refl (Ptr-Good place, ((tt, tt), ((tt, tt), ((tt, tt), ((tt, tt), tt))))) $ let Ev = env fn.locals l in
     use1 𝓛 (‵ (hidden_shr (Token unit) κs.0 (record {}, tt) b o) ⊛ ‵ (fhide (lodged me g.at g.lifetime)))
     (lent_out 𝓛 WordBorrow.struct (WordBorrow.the_codes (marker.the_row unit).coded) WordBorrow.the_heap WordBorrow.the_lent κs.0 g b o) $ split ! $ drop ! $ unhide ! $
     rewrite ! 0 (λ (k : Ptr × ℕ). ‵ (lodged me k.0 k.1)) (λ i. (asked.2.0 i, asked.2.1 i)) refl $
     move ! (1 ∷ 2 ∷ 9 ∷ []) $ opens ! tt OwnerToken.the_row b₁ o₁ (λ ts. move ! (1 ∷ []) $ fsplit ! $ move ! (1 ∷ []) $
     rewrite ! 0 (λ (k : Bool × BlockId). ‵ (right_owns k.0 k.1 own.owner own.lease own.born)) (λ i. (asked.0.0 i, asked.0.1 i)) refl $ fsplit ! $ drop ! $ fsplit ! $
-    -- [the right; the stake; its marker, cell and open borrow; where the word lies; two parts of the pass and of the spoils; three tokens]
+    -- [the right; the stake; its marker, cell and open borrow; where the word lies; two parts of
+    -- the pass and of the spoils; three tokens]
     move ! (10 ∷ 11 ∷ 12 ∷ []) $ opens ! tt EndTokens.the_row b₃ o₃ (λ ws. move ! (1 ∷ []) $ fsplit ! $ move ! (1 ∷ []) $ drop ! $
     move ! (13 ∷ 14 ∷ 15 ∷ []) $ opens ! tt PassState.the_row b₂ o₂ (λ vs. move ! (1 ∷ []) $ fsplit ! $ move ! (1 ∷ []) $
     rewrite ! 0 (λ (k : Bool × BlockId). ‵ (trace_owns k.0 k.1 seen.number seen.ready seen.lines)) (λ i. (asked.1.0 i, asked.1.1 i)) refl $

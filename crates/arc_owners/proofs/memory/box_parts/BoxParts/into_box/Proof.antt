@@ -1,4 +1,5 @@
--- `into_box` makes the box again: what the `BoxParts` owns is its value and the right to free its block, as `Box::from_raw` asks, and its allocator.
+-- `into_box` makes the box again: what the `BoxParts` owns is its value and the right to free its
+-- block, as `Box::from_raw` asks, and its allocator.
 use Rattle.std.proofs.Common.{◌≡◌, List, [], ◌∷◌, ◌++◌, refl, sym, ap, subst}
 use mir.Syntax.{a_type, dcons, dnil}
 use mir.Val.{Val, vptr}
@@ -50,7 +51,8 @@ into_box_spec 𝓤 𝓛 𝓜 𝓡 wired T A L LA g d dt da allocator glue glued 
     use1 𝓛 (‵ ((B E).own_val (boxed E was) y.0.4.0)) (as_box E 𝓛 was y.0.4.0) $
     box_out E ! (boxed E was) y.0.4.0 (λ b o h at_b is fits. fjoin ! $ move ! (4 ∷ []) $
     use1 𝓛 (raw (fact 𝓤 (κs.0 ⊑ T.lives)) ⊛ raw (fact 𝓤 (κs.1.0 ⊑ A.lives)) ⊛ ‵ ftrue) (id⊢ 𝓤 _) $ split3 ! $
-    -- [two bounds; nothing; the value with the right to free it; the allocator; nothing; the tokens]
+    -- [two bounds; nothing; the value with the right to free it; the allocator; nothing; the
+    -- tokens]
     let v : Val = word E h b o in let typed = box_typed E h b o fits in
     let G = triple_of 𝓛 (callee.signature T A g d da) (callee.spec T A g d da 𝓛 𝓜.mem 𝓡.returns) in let z : G.Ghost = ((κs, qs, tt, (was.alloc, (block_ptr b o, tt)), (h ∷ [], (vptr b o ∷ [], tt))), was.value) in
     move ! (1 ∷ 3 ∷ []) $ join ! $ move ! (1 ∷ 0 ∷ []) $ join ! $ move ! (1 ∷ []) $ feq_i ! (List Val) (vptr b o ∷ []) (vptr b o ∷ []) refl $ fjoin ! $ move ! (2 ∷ 0 ∷ []) $ fjoin ! $ move ! (3 ∷ 0 ∷ 1 ∷ []) $ join ! $ join ! $

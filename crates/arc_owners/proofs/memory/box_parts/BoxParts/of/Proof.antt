@@ -1,4 +1,5 @@
--- `of` takes the box apart: what the pair of its pointer and its allocator owns with the value is what the `BoxParts` owns.
+-- `of` takes the box apart: what the pair of its pointer and its allocator owns with the value is
+-- what the `BoxParts` owns.
 use Rattle.std.proofs.Common.{◌≡◌, List, [], ◌∷◌, ◌++◌, refl, sym, ap, subst}
 use mir.Syntax.{a_type, dcons, dnil}
 use mir.Val.{Val}

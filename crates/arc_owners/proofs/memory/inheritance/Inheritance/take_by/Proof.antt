@@ -1,4 +1,5 @@
--- `take_by` ends the lifetime of the lease, for which what was kept comes back, and that is what the `BoxParts` owns.
+-- `take_by` ends the lifetime of the lease, for which what was kept comes back, and that is what
+-- the `BoxParts` owns.
 use Rattle.std.proofs.Common.{◌≡◌, Bool, true, false, List, [], ◌∷◌, ◌++◌, refl, sym, subst}
 use lib.Dec.{T as Yes}
 use mir.Syntax.{a_type, dcons, dnil}
@@ -67,13 +68,15 @@ take_by_spec 𝓤 𝓛 𝓜 𝓡 wired T A L LA g d da allocator glued =
     use1 𝓛 (‵ (hidden_shr (Token Both) κs.0 (me.marker, tt) b o) ⊛ ‵ (fhide (finv (kept_for Was me.lease))))
     (lent_out 𝓛 (Inheritance.struct (R E) (P E) g) (Inheritance.the_codes T.Denot A.Denot T.coded A.coded (marker.the_row Both).coded) (Inheritance.the_heap (R E) (P E) g) (Inheritance.the_lent (R E) (P E) g) κs.0 me b o) $ split ! $ drop ! $ unhide ! $
     move ! (1 ∷ []) $ fsplit ! $ feq_l ! (λ e₁. fsplit ! $ handle_tells E.al ! al vss.1.1.0 (λ h e₂ fits. move ! (1 ∷ []) $ fsplit ! $ fsplit3 ! $ feq_l ! (λ e₃.
-    -- [two parts of the spoils; no more parameters; the allocator; what is kept; the token of the spoils; the last two; its token]
+    -- [two parts of the spoils; no more parameters; the allocator; what is kept; the token of the
+    -- spoils; the last two; its token]
     let ws : List Val = vptr b o ∷ ptr_val place ∷ h ∷ vptr b₁ o₁ ∷ [] in
     suffices ! (Run ws) (subst (λ (us : List Val). ent 𝓤 (Run ws) (Run us)) (sym (λ i. e₀ i ++ (e₁ i ++ (e₂ i ++ (e₃ i ++ []))))) (id⊢ 𝓤 (Run ws))) $
     enter ! 𝓣.C 𝓣.Λ fn ws Post $ alloc_all ! (λ l. pass_all ! refl ((tt, tt), (Ptr-Good place, (fits, ((tt, tt), tt)))) $
     move ! (0 ∷ 1 ∷ 5 ∷ []) $ opens ! tt EndTokens.the_row b₁ o₁ (λ us. move ! (1 ∷ []) $ fsplit ! $ move ! (1 ∷ []) $
     rewrite ! 0 (λ (k : Bool × Lease). ‵ (spoils k.1 k.0)) (λ i. (asked.2 i, asked.3 i)) refl $
-    -- [the spoils; their marker, cell and open borrow; no more parameters; the allocator; what is kept; the last two tokens; its token]
+    -- [the spoils; their marker, cell and open borrow; no more parameters; the allocator; what is
+    -- kept; the last two tokens; its token]
     move ! (8 ∷ 0 ∷ []) $ use2 𝓛 (later (‵ Was)) (comes_back 𝓛 Was me.lease) $ await ! tt $
     rewrite ! 0 (λ (k : Ptr × A.Denot). ‵ (box_owns (token E.al k.1) (R E) k.0 me.value)) (sym (λ i. (asked.0 i, asked.1 i))) refl $
     in_a_block ! place (λ p. box_owns (token E.al al) (R E) p me.value) (fst∗ 𝓤 (never 𝓤) (sem 𝓛 (token E.al al (bare (τ E)) null_ptr))) (λ b₂ o₂ at_b. fsplit ! $
@@ -83,7 +86,8 @@ take_by_spec 𝓤 𝓛 𝓜 𝓡 wired T A L LA g d da allocator glued =
     rewrite ! 0 (λ (p : Ptr). ‵ ((B E).own_val (record { ptr = place; alloc = al; value = me.value }) (v p ∷ []))) (sym at_b) refl $ use1 𝓛 (‵ ((Row E).own_val now (v place ∷ []))) (as_bare E 𝓛 now (v place ∷ [])) $
     nothing ! $ move ! (2 ∷ 0 ∷ []) $ fjoin ! $ move ! (2 ∷ 0 ∷ 3 ∷ 4 ∷ 5 ∷ []) $ closes ! tt EndTokens.the_row left us b₁ o₁ $
     sets ! (of_opd ! (get ! refl)) refl fits $ sets ! (agg ! (and_then ! (get ! refl) (and_then ! (get ! refl) (no_more !)))) refl typed $
-    -- [two parts of the spoils; their token; the `BoxParts`; no more parameters; the last two tokens; its token]
+    -- [two parts of the spoils; their token; the `BoxParts`; no more parameters; the last two
+    -- tokens; its token]
     nothing ! $ feq_i ! (List Val) vss.1.1.1.0 (vptr b₁ o₁ ∷ []) e₃ $ move ! (0 ∷ 2 ∷ 3 ∷ []) $ fjoin3 ! $ fjoin ! $ nothing ! $ fjoin ! $ nothing ! $ fjoin ! $ nothing ! $ fjoin ! $
     move ! (1 ∷ 4 ∷ []) $ fjoin ! $ move ! (4 ∷ 0 ∷ []) $ fjoin ! $
     returns ! (look_at ! 0 refl) $ free_all ! refl $ keep ! (0 ∷ 1 ∷ 2 ∷ []) $

@@ -1,4 +1,5 @@
--- `settle` cuts what is lent of a block's memory: its word is lodged, and its value is there for the owners to read. It touches no memory.
+-- `settle` cuts what is lent of a block's memory: its word is lodged, and its value is there for
+-- the owners to read. It touches no memory.
 use Rattle.std.proofs.Common.{◌≡◌, ℕ, ◌+◌, Bool, true, List, [], ◌∷◌, ◌++◌, refl, sym, ap, ◌∙◌, subst}
 use mir.Syntax.{a_type, dcons, dnil}
 use mir.Raw.{raw as bare}
@@ -58,7 +59,8 @@ settle_spec 𝓤 𝓛 𝓜 𝓡 wired V A LV LA g d da allocator glued =
     qed 𝓛 ((‵ (fsep (flft κs.0 qs.0) (fsep (flft τ p) (fsep (flft κs.1.1.0 qs.1.1.0) ftrue))) ⊛ ‵ (owns (types_at En.signature.params κs) a vss)) ∷ raw (fact 𝓤 (τ ⊑ V.lives)) ∷ raw (fact 𝓤 (κs.1.1.0 ⊑ A.lives)) ∷ raw (fact 𝓤 Asked) ∷ []) ∵
     move ! (3 ∷ 1 ∷ []) $ heard ! Asked (λ asked. heard ! (τ ⊑ V.lives) (λ inc. keep ! (0 ∷ []) $ split ! $ fsplit ! $ move ! (1 ∷ []) $ fsplit ! $ move ! (3 ∷ []) $ fsplit ! $ fsplit ! $ drop ! $ move ! (1 ∷ []) $
     fsplit ! $ feq_l ! (λ e₁. fsplit ! $ fsplit3 ! $ feq_l ! (λ e₂.
-    -- [two parts of the owner; no more parameters; what is lent; the tokens of V and A, and of the owner]
+    -- [two parts of the owner; no more parameters; what is lent; the tokens of V and A, and of the
+    -- owner]
     let here : place ≡ block_ptr b o = at_block place asked.1 in let ws : List Val = token ∷ vptr b o ∷ vptr b₁ o₁ ∷ [] in let e₀ : vss.0 ≡ token ∷ [] = token_told (Tuple (Home ∷ Z ∷ [])) vss.0 are.0.0 in
     let e : vss.1.0 ≡ vptr b o ∷ [] = e₁ ∙ ap (λ (r : Ptr). ptr_val r ∷ []) here in
     suffices ! (Run ws) (subst (λ (us : List Val). ent 𝓤 (Run ws) (Run us)) (sym (λ i. e₀ i ++ (e i ++ (e₂ i ++ [])))) (id⊢ 𝓤 (Run ws))) $
@@ -66,14 +68,17 @@ settle_spec 𝓤 𝓛 𝓜 𝓡 wired V A LV LA g d da allocator glued =
     move ! (0 ∷ 1 ∷ 6 ∷ []) $ opens ! tt OwnerToken.the_row b₁ o₁ (λ us. move ! (1 ∷ []) $ fsplit ! $ move ! (1 ∷ []) $
     rewrite ! 0 (λ (k : Bool). ‵ (right_owns k own.block own.owner own.lease own.born)) asked.2 refl $ fsplit ! $ move ! (1 ∷ []) $ fsplit ! $ move ! (1 ∷ []) $ rewrite ! 0 (λ (k : Bool). ‵ (staked k own.lease)) asked.3 refl $
     fpick ! (λ s. fpick ! (λ one.
-    -- [a token of the lease; the right; the invariant; the marker, cell and open borrow (3); no more parameters; what is lent; the tokens of V and A]
+    -- [a token of the lease; the right; the invariant; the marker, cell and open borrow (3); no
+    -- more parameters; what is lent; the tokens of V and A]
     let Held : ℕ → Ptr → Fml = λ k q. fbor (k ∷ []) (box_owns (frees al was.alloc) Home q was.value) in let D : Fml = frees al was.alloc (bare (lone Home.mir)) (block_ptr b o) in let w : ℕ = o + word_at V in let v : ℕ = o + value_at V in
     rewrite ! 9 (λ (k : ℕ × Ptr). ‵ (Held k.0 k.1)) (λ i. (sym asked.4 i, (sym asked.0 ∙ here) i)) refl $ move ! (9 ∷ 0 ∷ 10 ∷ []) $
     use3 𝓛 (later (‵ (lodged_for was.value.word b w α) ⊛ ‵ (shared_of R was.value.value b v α) ⊛ ‵ (flft α s) ⊛ ‵ (flft τ p))) (settles V LV 𝓛 was.value.word was.value.value D b o n s τ p inc) $ await ! tt $ split3 ! $ move ! (2 ∷ []) $ split ! $
-    -- [both tokens; the lodging; the loan; the right; the invariant; the marker, cell and open borrow (3); no more parameters; the token of A]
+    -- [both tokens; the lodging; the loan; the right; the invariant; the marker, cell and open
+    -- borrow (3); no more parameters; the token of A]
     fpack ! (Counts 64 s 1) (λ _. flft α s) one $ fpack ! Share (λ r. fex (Counts 64 r 1) (λ _. flft α r)) s $ rewrite ! 0 (λ (k : Bool). ‵ (staked k own.lease)) (sym asked.3) refl $ move ! (4 ∷ 0 ∷ []) $ fjoin ! $ move ! (4 ∷ 0 ∷ []) $ fjoin ! $
     rewrite ! 0 (λ (k : Bool). ‵ (right_owns k own.block own.owner own.lease own.born)) (sym asked.2) refl $ move ! (4 ∷ 0 ∷ []) $ fjoin ! $ move ! (4 ∷ 0 ∷ 5 ∷ 6 ∷ 7 ∷ []) $ closes ! tt OwnerToken.the_row own us b₁ o₁ $
-    -- [two parts of the owner; its token; the token of V; the lodging; the loan; no more parameters; the token of A]
+    -- [two parts of the owner; its token; the token of V; the lodging; the loan; no more
+    -- parameters; the token of A]
     first ! $ blocks ! $ sets_last ! (addr ! (through ! refl (fld ! refl (stop !)))) refl (tt, tt) $ exec ! 𝓣.C 𝓣.Λ Ev (after 1 fn.body) (at_ret Ev Post) $ sets ! (of_opd ! (get ! refl)) refl (tt, tt) $
     first ! $ blocks ! $ sets_last ! (addr ! (through ! refl (fld ! refl (stop !)))) refl (tt, tt) $ exec ! 𝓣.C 𝓣.Λ Ev (after 3 fn.body) (at_ret Ev Post) $ sets ! (of_opd ! (get ! refl)) refl (tt, tt) $
     sets ! (agg ! (no_more !)) refl (tt, tt) $ sets ! (agg ! (and_then ! (get ! refl) (no_more !))) refl (tt, (tt, tt)) $ sets ! (agg ! (no_more !)) refl (tt, tt) $ sets ! (agg ! (and_then ! (get ! refl) (no_more !))) refl (tt, (tt, tt)) $
@@ -83,7 +88,8 @@ settle_spec 𝓤 𝓛 𝓜 𝓡 wired V A LV LA g d da allocator glued =
     move ! (5 ∷ []) $ nothing ! $ fjoin ! $ use0 𝓛 (‵ ((Token R).own_val (record {}, tt) (token ∷ []))) (token_made R 𝓛) $ fjoin ! $ nothing ! $ move ! (1 ∷ 0 ∷ []) $ fjoin ! $ feq_i ! (List Val) (vptr b v ∷ []) (vptr b v ∷ []) refl $ fjoin ! $
     use0 𝓛 (‵ ((Token unit).own_val (record {}, tt) (token ∷ []))) (token_made unit 𝓛) $ move ! (0 ∷ 6 ∷ []) $ fjoin ! $ fjoin ! $ feq_i ! (List Val) (vptr b w ∷ []) (vptr b w ∷ []) refl $ fjoin ! $ feq_i ! (List Val) (u ∷ []) (u ∷ []) refl $ fjoin ! $
     fpack ! (Valss Rs) (λ uss. fsep (feq (List Val) (u ∷ []) (vstruct (of_list (uss.0 ++ (uss.1.0 ++ (uss.1.1.0 ++ (uss.1.1.1.0 ++ []))))) ∷ [])) (owns Rs (block_ptr b w, (lodging, (block_ptr b v, (loan, tt)))) uss)) (vptr b w ∷ [], (token ∷ [], (vptr b v ∷ [], (token ∷ [], tt)))) $
-    -- [the result; two parts of the owner; its token; the token of V; no more parameters; the token of A]
+    -- [the result; two parts of the owner; its token; the token of V; no more parameters; the token
+    -- of A]
     move ! (1 ∷ 2 ∷ []) $ nothing ! $ feq_i ! (List Val) vss.1.1.0 (vptr b₁ o₁ ∷ []) e₂ $ move ! (0 ∷ 2 ∷ 3 ∷ []) $ fjoin3 ! $ fjoin ! $ nothing ! $ fjoin ! $ nothing ! $ fjoin ! $
     move ! (3 ∷ 5 ∷ []) $ fjoin ! $ move ! (3 ∷ 0 ∷ []) $ fjoin ! $ returns ! (look_at ! 0 refl) $ free_all ! refl $ keep ! (0 ∷ 1 ∷ 2 ∷ []) $
     by ! (ends 𝓛 En hs c y u (block_ptr b w, lodging, block_ptr b v, loan) (tt, (tt, (own, tt))) (tt, (tt, (tt, tt))) (fact_i 𝓤 _ (emp 𝓤) (refl, refl, refl, asked.4, refl, refl, asked.4))))))))))))
