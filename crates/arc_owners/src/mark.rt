@@ -3,10 +3,9 @@
 //! What the marks do differently, they do in methods of their own, so that a body which is generic
 //! in the mark is the same under both.
 ghost use Rattle.std.specs.Prelude.{◌≡◌, ◌≤◌, ℕ, Bool, true, false, List, refl};
-ghost use Rattle.arc_owners.specs.count.Invariant.{BlockId, Line, entries_of};
-ghost use Rattle.arc_owners.specs.history.Histories.{IsLegal};
+ghost use Rattle.arc_owners.specs.count.Invariant.{BlockId, Line};
 ghost use Rattle.arc_owners.specs.count.Steps.{IsHeld, IsSole, IsOf, IsLodged, IsOpened};
-ghost use Rattle.arc_owners.specs.count.Steps.{EndsWithNew};
+ghost use Rattle.arc_owners.specs.count.Steps.{EndsWithNew, IsFork};
 
 use crate::count::word::{EndTokens, OwnerToken, PassState, Word, WordBorrow};
 
@@ -21,22 +20,20 @@ pub trait Mark: sealed::Sealed {
     ghost whole: { Bool };
 
     // A pass of this block, with this number, has seen these lines. It holds at both marks, but a
-    // body that is generic in the mark gets it from `attest` alone, which takes a pass that is
+    // body that is generic in the mark gets it from `show` alone, which takes a pass that is
     // there.
     ghost real: { BlockId → ℕ → List Line → Type 0 };
 
     /// The word of a new block, its first owner's right and the first pass. The block is lent to
     /// that owner, or not.
-    fn open(most: u64, lent: bool) -> (Word, OwnerToken, PassState)
+    fn open(most: u64, lent: bool) -> (Word, OwnerToken<Self>, PassState)
         requires { 1 ≤ most }
         ensures { IsOpened most Self.whole lent result.0 result.1 result.2 };
 
-    /// What a pass has seen is legal, and that the pass is there.
-    fn attest(pass: &PassState)
-        ensures legal { pass.now.bound ≡ true
-            → IsLegal pass.now.block.most pass.now.block.began (entries_of pass.now.lines) }
-        ensures shown { pass.now.bound ≡ true
-            → Self.real pass.now.block pass.now.number pass.now.lines };
+    /// Shows that a pass is there, which has seen this. It is used up, so nothing is added with it
+    /// afterwards.
+    fn show(pass: PassState)
+        ensures { pass.bound ≡ true → Self.real pass.block pass.number pass.lines };
 
     /// What becomes of an owner that is dropped: whether it ended as the last one, and the pass
     /// that it ended with.
@@ -47,7 +44,7 @@ pub trait Mark: sealed::Sealed {
     unsafe fn let_go(
         place: *const u64,
         lodging: &WordBorrow,
-        own: OwnerToken,
+        own: OwnerToken<Self>,
     ) -> (bool, EndTokens, PassState)
         requires held { IsHeld lodging.now.block own }
         requires mark { own.block.whole ≡ Self.whole }
@@ -58,7 +55,7 @@ pub trait Mark: sealed::Sealed {
 
     /// What becomes of a sole owner that is dropped: whether it ended, and the pass that it ended
     /// with.
-    fn let_go_sole(own: OwnerToken) -> (bool, PassState)
+    fn let_go_sole(own: OwnerToken<Self>) -> (bool, PassState)
         requires held { IsSole own.block own }
         requires mark { own.block.whole ≡ Self.whole }
         ensures forgotten { Self.whole ≡ true → (result.0 ≡ false) × (result.1.bound ≡ false) }
@@ -67,6 +64,12 @@ pub trait Mark: sealed::Sealed {
 
 /// Marks under which a block has many passes, and each call may have a new one.
 pub trait Stepping: Mark {
+    /// A new pass of an owner's block, which has seen how the owner was made, and made nothing.
+    fn fork(own: &OwnerToken<Self>) -> PassState
+        requires held { own.now.held ≡ true }
+        requires mark { own.now.block.whole ≡ Self.Mark.whole }
+        ensures new { IsFork own.now result };
+
     ghost many: { Self.Mark.whole ≡ false };
 }
 
@@ -81,20 +84,26 @@ impl Mark for Open {
 
     ghost real = { λ _ _ _. Unit {0} };
 
-    fn open(most: u64, lent: bool) -> (Word, OwnerToken, PassState) {
+    fn open(most: u64, lent: bool) -> (Word, OwnerToken<Self>, PassState) {
         Word::open(most, false, lent)
     }
 
-    fn attest(pass: &PassState) {
-        pass.attest();
+    fn show(pass: PassState) {
+        drop(pass);
     }
 
     /// It ends with a new pass.
     unsafe fn let_go(
         place: *const u64,
         lodging: &WordBorrow,
-        own: OwnerToken,
-    ) -> (bool, EndTokens, PassState) {
+        own: OwnerToken<Self>,
+    ) -> (bool, EndTokens, PassState)
+        requires held { IsHeld lodging.now.block own }
+        requires mark { own.block.whole ≡ false }
+        requires place { IsLodged lodging.now place own.lease }
+        ensures last { result.0 ≡ true → (result.1.last ≡ true) × (result.1.lease ≡ own.lease) }
+        ensures ended { EndsWithNew own result.2 result.0 }
+    {
         let mut pass = own.fork();
         let mut last = EndTokens::none();
         let mut right = own;
@@ -103,7 +112,11 @@ impl Mark for Open {
     }
 
     /// It ends with a new pass, without a step.
-    fn let_go_sole(own: OwnerToken) -> (bool, PassState) {
+    fn let_go_sole(own: OwnerToken<Self>) -> (bool, PassState)
+        requires held { IsSole own.block own }
+        requires mark { own.block.whole ≡ false }
+        ensures ended { (result.0 ≡ true) × EndsWithNew own result.1 true }
+    {
         let mut pass = own.fork();
         let mut right = own;
         right.finish(&mut pass);
@@ -113,6 +126,14 @@ impl Mark for Open {
 
 impl Stepping for Open {
     ghost many = { refl };
+
+    fn fork(own: &OwnerToken<Self>) -> PassState
+        requires held { own.now.held ≡ true }
+        requires mark { own.now.block.whole ≡ false }
+        ensures new { IsFork own.now result }
+    {
+        own.fork()
+    }
 }
 
 /// The mark of a block with one pass, which has seen its whole history: nothing comes between two
@@ -127,20 +148,22 @@ impl Mark for Whole {
 
     ghost real = { λ _ _ _. Unit {0} };
 
-    fn open(most: u64, lent: bool) -> (Word, OwnerToken, PassState) {
+    fn open(most: u64, lent: bool) -> (Word, OwnerToken<Self>, PassState) {
         Word::open(most, true, lent)
     }
 
-    fn attest(pass: &PassState) {
-        pass.attest();
+    fn show(pass: PassState) {
+        drop(pass);
     }
 
     /// It is forgotten, without a step.
     unsafe fn let_go(
         place: *const u64,
         lodging: &WordBorrow,
-        own: OwnerToken,
-    ) -> (bool, EndTokens, PassState) {
+        own: OwnerToken<Self>,
+    ) -> (bool, EndTokens, PassState)
+        ensures forgotten { (result.0 ≡ false) × (result.2.bound ≡ false) }
+    {
         let _ = place;
         let _ = lodging;
         drop(own);
@@ -148,7 +171,9 @@ impl Mark for Whole {
     }
 
     /// It is forgotten.
-    fn let_go_sole(own: OwnerToken) -> (bool, PassState) {
+    fn let_go_sole(own: OwnerToken<Self>) -> (bool, PassState)
+        ensures forgotten { (result.0 ≡ false) × (result.1.bound ≡ false) }
+    {
         drop(own);
         (false, PassState::none())
     }

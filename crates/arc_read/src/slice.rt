@@ -488,7 +488,7 @@ impl<S: Slice, L: Layout, A: Allocator + Copy, H: Mark> ArcSlice<S, L, A, H> {
 }
 
 // The plain forms. They are generic over the marks under which a block has many passes, which
-// `Open` alone is: so a body can show a pass only by one that is there (`Pass::attest`), and none
+// `Open` alone is: so a body can show a pass only by one that is there (`Pass::show`), and none
 // that it made up.
 impl<S: Slice, L: Layout, A: Allocator + Copy, H: Stepping> ArcSlice<S, L, A, H> {
     /// A new pass of the window's block, which has seen at least how the window became an owner,
@@ -511,7 +511,7 @@ impl<S: Slice, L: Layout, A: Allocator + Copy, H: Stepping> ArcSlice<S, L, A, H>
     {
         let mut pass = self.pass();
         let found = self.is_unique_as(&mut pass);
-        pass.attest();
+        pass.show();
         found
     }
 
@@ -526,7 +526,7 @@ impl<S: Slice, L: Layout, A: Allocator + Copy, H: Stepping> ArcSlice<S, L, A, H>
     {
         let mut pass = self.pass();
         let taken = self.try_into_array_as(&mut pass);
-        pass.attest();
+        pass.show();
         taken
     }
 
@@ -537,7 +537,7 @@ impl<S: Slice, L: Layout, A: Allocator + Copy, H: Stepping> ArcSlice<S, L, A, H>
     {
         let mut pass = self.pass();
         self.drop_with_unique_hint_as(&mut pass);
-        pass.attest();
+        pass.show();
     }
 
     /// Another window with the same items at the same place: `try_clone_as` with a new pass.
@@ -554,7 +554,7 @@ impl<S: Slice, L: Layout, A: Allocator + Copy, H: Stepping> ArcSlice<S, L, A, H>
     {
         let mut pass = self.pass();
         let made = self.try_clone_as(rt, &mut pass);
-        pass.attest();
+        pass.show();
         made
     }
 
@@ -576,7 +576,7 @@ impl<S: Slice, L: Layout, A: Allocator + Copy, H: Stepping> ArcSlice<S, L, A, H>
     {
         let mut pass = self.pass();
         let made = self.try_subslice_as(rt, start, end, &mut pass);
-        pass.attest();
+        pass.show();
         made
     }
 }

@@ -54,7 +54,7 @@ module _ {H : Type 0} (o : Owner) (p r : Pass H) where
   full_of same (before, a) = record { middle = p; joined = inl refl; before = before; added = appends t p r (λ _. Full o.number) before same a; full = a.0.may.2 }
 
   -- a new owner was made where the word has a count
-  pub made_of : (by new : OwnerToken) → by.owner ≡ o.number → SamePass t p.trace r.trace → RaisedIf t p.trace r.trace by new true → MakesAnother o p r (record { block = new.block; number = new.owner; born = new.born })
+  pub made_of : (by new : OwnerToken H) → by.owner ≡ o.number → SamePass t p.trace r.trace → RaisedIf t p.trace r.trace by new true → MakesAnother o p r (record { block = new.block; number = new.owner; born = new.born })
   made_of by new is same raised = let before : List Line = raised.0.0 in let a = raised.0.1 in
       let n : ℕ = next_owner before in let here = appends t p r (λ h. Up by.owner (next_owner h)) before same a in record {
         middle = p;
@@ -80,11 +80,11 @@ module _ {H : Type 0} (t : BlockId) (p r : Pass H) where
   pub wrote_step : (e : Entry) → SamePass t p.trace r.trace × Wrote t p.trace r.trace e → EndsInOneStep t (history_of r)
   wrote_step e (same, (before, a)) = legal_step t r.trace.lines (subst (λ (ls : List Line). IsLegal t.most t.began (entries_of ls)) (sym a.1) a.0.legal)
 
-  pub filled_step : (by : OwnerToken) (b : Bool) → b ≡ true → SamePass t p.trace r.trace × FullIf t p.trace r.trace by b → EndsInOneStep t (history_of r)
+  pub filled_step : (by : OwnerToken H) (b : Bool) → b ≡ true → SamePass t p.trace r.trace × FullIf t p.trace r.trace by b → EndsInOneStep t (history_of r)
   filled_step by true k so = wrote_step (Full by.owner) so
   filled_step by false k so = absurd (false≢true k)
 
-  pub raised_step : (by new : OwnerToken) (b : Bool) → b ≡ true → SamePass t p.trace r.trace × RaisedIf t p.trace r.trace by new b → EndsInOneStep t (history_of r)
+  pub raised_step : (by new : OwnerToken H) (b : Bool) → b ≡ true → SamePass t p.trace r.trace × RaisedIf t p.trace r.trace by new b → EndsInOneStep t (history_of r)
   raised_step by new false k so = absurd (false≢true k)
   raised_step by new true k (same, raised) = let a = raised.0.1 in legal_step t r.trace.lines (subst (λ (ls : List Line). IsLegal t.most t.began (entries_of ls)) (sym a.1) a.0.legal)
 
@@ -110,7 +110,7 @@ unfolding is_counted
 counted-first = refl
 
 -- the first owner of a new block
-pub first_of : (most : ℕ) (whole lent : Bool) (t : BlockId) (r : OwnerToken) (p : PassState) → IsOpened most whole lent t r p → IsFirst most whole (record { block = r.block; number = r.owner; born = r.born })
+pub first_of : {K : Type 0} (most : ℕ) (whole lent : Bool) (t : BlockId) (r : OwnerToken K) (p : PassState) → IsOpened most whole lent t r p → IsFirst most whole (record { block = r.block; number = r.owner; born = r.born })
 first_of most whole lent t r p so = let same : r.block ≡ t = so.3.1 in record {
   number = so.5;
   born = so.6;
@@ -120,7 +120,7 @@ first_of most whole lent t r p so = let same : r.block ≡ t = so.3.1 in record 
 }
 
 -- a sole owner showed the pass the whole history
-pub sees_alone : {H : Type 0} (own : OwnerToken) (p r : Pass H) → SeesSole own p.trace r.trace → SeesAlone (record { block = own.block; number = own.owner; born = own.born }) p r
+pub sees_alone : {H : Type 0} (own : OwnerToken H) (p r : Pass H) → SeesSole own p.trace r.trace → SeesAlone (record { block = own.block; number = own.owner; born = own.born }) p r
 sees_alone own p r so = record {
   same = ((so.0.0, so.0.1), so.0.2, λ (is : p.trace.ready ≡ true). so.0.3 ∙ is);
   kept = so.1;
@@ -130,12 +130,12 @@ sees_alone own p r so = record {
 }
 
 -- the first owner lives alone after nothing
-pub alone_first : (most : ℕ) (whole lent : Bool) (t : BlockId) (r : OwnerToken) (p : PassState) → IsOpened most whole lent t r p → LivesAlone r.owner (entries_of p.lines)
+pub alone_first : {K : Type 0} (most : ℕ) (whole lent : Bool) (t : BlockId) (r : OwnerToken K) (p : PassState) → IsOpened most whole lent t r p → LivesAlone r.owner (entries_of p.lines)
 unfolding live_owners owners_ever owners_ended
 alone_first most whole lent t r p so = ap (λ (ls : List Line). live_owners (entries_of ls)) so.9 ∙ ap (λ (n : ℕ). n ∷ []) (sym so.5)
 
 -- an owner that was dropped, where the mark has many passes
-pub ended_by_itself : {H : Type 0} (own : OwnerToken) (r : Pass H) (last : Bool) → EndsWithNew own r.trace last → EndsByItself (record { block = own.block; number = own.owner; born = own.born }) r last
+pub ended_by_itself : {H : Type 0} (own : OwnerToken H) (r : Pass H) (last : Bool) → EndsWithNew own r.trace last → EndsByItself (record { block = own.block; number = own.owner; born = own.born }) r last
 ended_by_itself own r last so = let o : Owner = record { block = own.block; number = own.owner; born = own.born } in let new : Pass _ = record { trace = so.new; mark = r.mark } in record {
   new = new;
   made = (so.made.0, so.made.2, so.made.3);
@@ -150,7 +150,7 @@ pub same_pass : {H : Type 0} (t : BlockId) (p r : Pass H) → IsOf t p.trace →
 same_pass t p r was same lines marks = let e : r.trace ≡ p.trace = same_trace t p.trace r.trace was same lines in λ i. record { trace = e i; mark = marks i }
 
 -- a raise whose exchange was lost leaves the pass as it was
-pub not_raised : {H : Type 0} (t : BlockId) (p m r : Pass H) (by new : OwnerToken) (b c : Bool) → b ≡ false → c ≡ false → IsOf t p.trace → SamePass t p.trace m.trace × FullIf t p.trace m.trace by b
+pub not_raised : {H : Type 0} (t : BlockId) (p m r : Pass H) (by new : OwnerToken H) (b c : Bool) → b ≡ false → c ≡ false → IsOf t p.trace → SamePass t p.trace m.trace × FullIf t p.trace m.trace by b
     → SamePass t m.trace r.trace × RaisedIf t m.trace r.trace by new c → m.mark ≡ p.mark → r.mark ≡ m.mark → r ≡ p
 not_raised t p m r by new true c k k' was looked raised e e' = absurd (false≢true (sym k))
 not_raised t p m r by new false true k k' was looked raised e e' = absurd (false≢true (sym k'))

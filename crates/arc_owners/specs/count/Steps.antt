@@ -12,11 +12,11 @@ use Rattle.arc_owners.specs.count.Invariant.{BlockId, Line, Written, Filled, Mad
 use Rattle.arc_owners.specs.count.Invariant.{entries_of, made_by, Lease, lease_after}
 
 -- the right is held, by an owner of this block, to whom the block is lent
-abbrev pub IsHeld : BlockId → OwnerToken → Type 0
+abbrev pub IsHeld : {H : Type 0} → BlockId → OwnerToken H → Type 0
 IsHeld t r = (r.held ≡ true) × (r.block ≡ t) × (r.lease.is_lent ≡ true)
 
 -- the right is held, by an owner of this block who has it to itself
-abbrev pub IsSole : BlockId → OwnerToken → Type 0
+abbrev pub IsSole : {H : Type 0} → BlockId → OwnerToken H → Type 0
 IsSole t r = (r.held ≡ true) × (r.block ≡ t) × (r.lease.is_lent ≡ false)
 
 -- the pass is of this block
@@ -25,7 +25,8 @@ IsOf t p = (p.bound ≡ true) × (p.block ≡ t)
 
 -- the word of a new block, its first owner, to whom it is lent or not, and a pass that has seen
 -- nothing
-abbrev pub IsOpened : ℕ → Bool → Bool → BlockId → OwnerToken → PassState → Type 0
+abbrev pub IsOpened : {H : Type 0} → ℕ → Bool → Bool → BlockId → OwnerToken H → PassState
+    → Type 0
 IsOpened most whole lent t r p =
     (t.most ≡ most) × (t.began ≡ Counted) × (t.whole ≡ whole)
     × ((r.held ≡ true) × (r.block ≡ t) × (r.lease.is_lent ≡ lent)) × IsOf t p × (r.owner ≡ 0)
@@ -41,11 +42,12 @@ abbrev pub Wrote : BlockId → PassState → PassState → Entry → Type 0
 Wrote t p r e = Written t p.number p.lines e r.lines
 
 -- the pass found the count at its greatest, or is as it was
-abbrev pub FullIf : BlockId → PassState → PassState → OwnerToken → Bool → Type 0
+abbrev pub FullIf : {H : Type 0} → BlockId → PassState → PassState → OwnerToken H → Bool → Type 0
 FullIf t p r by b = Filled t p.number p.lines by.owner b r.lines
 
 -- a new owner was made through this one, or nothing was done
-abbrev pub RaisedIf : BlockId → PassState → PassState → OwnerToken → OwnerToken → Bool → Type 0
+abbrev pub RaisedIf : {H : Type 0} → BlockId → PassState → PassState → OwnerToken H → OwnerToken H
+    → Bool → Type 0
 RaisedIf t p r by new b = MadeOne t p.number p.lines by.owner b r.lines (new.held, new.owner)
     × (new.block ≡ t) × (new.lease ≡ by.lease) × (new.born ≡ r.lines)
 
@@ -55,7 +57,7 @@ IsLodged g place l = (g.at ≡ place) × (g.lifetime ≡ l.lifetime)
 
 -- an owner asked for the block back: it is the same one, and where it was found alone the block is
 -- its own
-abbrev pub Claimed : BlockId → OwnerToken → OwnerToken → Bool → Type 0
+abbrev pub Claimed : {H : Type 0} → BlockId → OwnerToken H → OwnerToken H → Bool → Type 0
 Claimed t own new found = (new.held ≡ true) × (new.block ≡ t) × (new.owner ≡ own.owner)
     × (new.born ≡ own.born) × (new.lease ≡ lease_after own.lease found)
 
@@ -69,19 +71,20 @@ Ends t p r o last = (before : List Line) × AddedTo t p.number p.lines (λ _. Do
 
 -- the pass sees the block's whole history, in which this owner lives alone; it added nothing, and
 -- under `Whole` it had seen it all
-abbrev pub SeesSole : OwnerToken → PassState → PassState → Type 0
+abbrev pub SeesSole : {H : Type 0} → OwnerToken H → PassState → PassState → Type 0
 SeesSole own p r =
     SamePass own.block p r × IsPrefix p.lines r.lines
     × (made_by p.number r.lines ≡ made_by p.number p.lines)
     × (own.block.whole ≡ true → r.lines ≡ p.lines) × LivesAlone own.owner (entries_of r.lines)
 
 -- a new pass of an owner's block: it has seen how the owner was made, and made nothing
-abbrev pub IsFork : OwnerToken → PassState → Type 0
+abbrev pub IsFork : {H : Type 0} → OwnerToken H → PassState → Type 0
 IsFork own new = IsOf own.block new × (new.ready ≡ false) × IsPrefix own.born new.lines
     × (made_by new.number new.lines ≡ [])
 
 -- this owner ended with a new pass, which this one is afterwards, and whether it was the last one
-pub record EndsWithNew (own : OwnerToken) (after : PassState) (last : Bool) : Type 0 where
+pub record EndsWithNew {H : Type 0} (own : OwnerToken H) (after : PassState)
+    (last : Bool) : Type 0 where
   pub new : PassState
   pub made : IsFork own new
   pub same : SamePass own.block new after

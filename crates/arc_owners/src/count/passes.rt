@@ -20,14 +20,21 @@ impl<H: Mark> Pass<H> {
         }
     }
 
-    /// What a pass of a block has seen is legal, and that the pass is there.
+    /// What a pass of a block has seen is legal.
     pub fn attest(&self)
         ensures legal { IsOfBlock self.now
             → IsLegal (pass_block self.now).most (pass_block self.now).began (seen self.now) }
-        ensures shown { IsOfBlock self.now
-            → H.real (pass_block self.now) (pass_number self.now) (history_of self.now) }
     {
-        H::attest(&self.trace);
+        self.trace.attest();
+    }
+
+    /// Shows that a pass is there, which has seen this: a body that is generic in the mark can say
+    /// so by no other call. The pass is used up, so nothing is added with it afterwards.
+    pub fn show(self)
+        ensures { IsOfBlock self
+            → H.real (pass_block self) (pass_number self) (history_of self) }
+    {
+        H::show(self.trace);
     }
 
     /// Afterwards the pass has seen at least what another of the same block had. It adds no entry
@@ -48,7 +55,7 @@ impl<H: Stepping> Share<H> {
         ensures { IsNewPass (owner_of self.now) result }
     {
         Pass {
-            trace: self.right.fork(),
+            trace: H::fork(&self.right),
             mark: PhantomData,
         }
     }
@@ -61,7 +68,7 @@ impl<H: Stepping> Sole<H> {
         ensures { IsNewPass (sole_owner self.now) result }
     {
         Pass {
-            trace: self.right.fork(),
+            trace: H::fork(&self.right),
             mark: PhantomData,
         }
     }

@@ -14,7 +14,7 @@ use std::marker::PhantomData;
 /// What an owner has that asked for the block back, and found this number.
 pub(crate) fn claimed<H: Mark>(
     found: u64,
-    right: OwnerToken,
+    right: OwnerToken<H>,
     last: EndTokens,
 ) -> Result<(Sole<H>, LifetimeEnd), Share<H>>
     requires right { (right.held ≡ true) × (right.block.whole ≡ H.whole) }

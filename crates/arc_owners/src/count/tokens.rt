@@ -20,7 +20,7 @@ pub struct Owners<const MAX: u64, H: Mark = Open> {
 /// good.
 #[derive(Drop)]
 pub struct Share<H: Mark = Open> {
-    pub(crate) right: OwnerToken,
+    pub(crate) right: OwnerToken<H>,
     pub(crate) mark: PhantomData<H>,
     ghost held: { right.held ≡ true },
     ghost lent: { right.lease.is_lent ≡ true },
@@ -31,7 +31,7 @@ pub struct Share<H: Mark = Open> {
 /// lends it, or ends. It has no bytes. Dropped, it stays the owner for good.
 #[derive(Drop)]
 pub struct Sole<H: Mark = Open> {
-    pub(crate) right: OwnerToken,
+    pub(crate) right: OwnerToken<H>,
     pub(crate) mark: PhantomData<H>,
     ghost held: { right.held ≡ true },
     ghost taken: { right.lease.is_lent ≡ false },

@@ -11,6 +11,7 @@ ghost use Rattle.arc_owners.specs.count.Invariant.{Lease, lease_coded, behind, w
 ghost use Rattle.arc_owners.specs.count.Invariant.{right_owns, right_shares, trace_owns};
 ghost use Rattle.arc_owners.specs.count.Invariant.{trace_shares, spoils, lodged};
 
+use crate::mark::Open;
 use atomic_table::exchange;
 use std::marker::{Brand, Model, Move, Owns, PhantomData};
 use std::sync::atomic::Ordering::SeqCst;
@@ -34,9 +35,12 @@ impl Move for Word {
         fsep (Fields.own_val (record { bits = n }) vs) (behind t n)) };
 }
 
-/// The right of one owner, where it is held. It has no bytes.
-pub struct OwnerToken {
-    marker: PhantomData<()>,
+/// The right of one owner of a block under the mark `H`, where it is held. It has no bytes.
+///
+/// The mark is in its type, so that a body which is generic in the mark can't ask for what one mark
+/// alone allows: whatever such a body finds out at run time, it is no bound on a type.
+pub struct OwnerToken<H> {
+    marker: PhantomData<H>,
     pub(crate) ghost held: { Bool },
     pub(crate) ghost block: { BlockId } by { block_id_coded },
     pub(crate) ghost owner: { ℕ },
@@ -44,7 +48,7 @@ pub struct OwnerToken {
     pub(crate) ghost born: { List Line } by { coded_list line_coded },
 }
 
-impl Model for OwnerToken {
+impl<H> Model for OwnerToken<H> {
     ghost also_owns = { λ r. right_owns r.held r.block r.owner r.lease r.born };
 
     ghost also_shares = { λ r _ κ. right_shares r.held r.block r.owner r.lease r.born κ };
@@ -101,7 +105,7 @@ impl Word {
     ghost use Rattle.std.specs.Prelude.{◌≢◌, ◌≤◌, []};
 
     /// The word of a new block with one owner, to whom it is lent or not, its right, and a pass.
-    pub(crate) fn open(most: u64, whole: bool, lent: bool) -> (Word, OwnerToken, PassState)
+    pub(crate) fn open<H>(most: u64, whole: bool, lent: bool) -> (Word, OwnerToken<H>, PassState)
         requires { 1 ≤ most }
         ensures { IsOpened most whole lent result.0 result.1 result.2 }
     {
@@ -118,7 +122,7 @@ impl Word {
     }
 
     /// Reads the number, which tells whether the owner is alone.
-    pub(crate) fn load(&self, by: &OwnerToken, pass: &mut PassState) -> u64
+    pub(crate) fn load<H>(&self, by: &OwnerToken<H>, pass: &mut PassState) -> u64
         requires { IsHeld self.now by.now × IsOf self.now pass.old }
         ensures { SamePass self.now pass.old pass.new
             × Wrote self.now pass.old pass.new (Alone by.now.owner (result == 1)) }
@@ -127,7 +131,7 @@ impl Word {
     }
 
     /// Reads the number. It is an entry where it is the greatest.
-    pub(crate) fn load_for_raise(&self, by: &OwnerToken, pass: &mut PassState) -> u64
+    pub(crate) fn load_for_raise<H>(&self, by: &OwnerToken<H>, pass: &mut PassState) -> u64
         requires { IsHeld self.now by.now × IsOf self.now pass.old }
         ensures { SamePass self.now pass.old pass.new
             × FullIf self.now pass.old pass.new by.now (result == self.now.most) }
@@ -136,11 +140,11 @@ impl Word {
     }
 
     /// The number found, which has become `next` if it was `old`, and then there is a new owner.
-    pub(crate) fn compare_exchange(
+    pub(crate) fn compare_exchange<H>(
         &self,
-        by: &OwnerToken,
+        by: &OwnerToken<H>,
         pass: &mut PassState,
-        new: &mut OwnerToken,
+        new: &mut OwnerToken<H>,
         old: u64,
         next: u64,
     ) -> u64
@@ -153,9 +157,9 @@ impl Word {
     }
 
     /// The number found, which is one less now, and this owner has ended.
-    pub(crate) fn subtract(
+    pub(crate) fn subtract<H>(
         &self,
-        own: &mut OwnerToken,
+        own: &mut OwnerToken<H>,
         pass: &mut PassState,
         last: &mut EndTokens,
     ) -> u64
@@ -169,10 +173,10 @@ impl Word {
 
     /// The same on the place of a word that lies there for as long as the block is lent, and that
     /// may be gone afterwards.
-    pub(crate) unsafe fn subtract_raw(
+    pub(crate) unsafe fn subtract_raw<H>(
         place: *const u64,
         lodging: &WordBorrow,
-        own: &mut OwnerToken,
+        own: &mut OwnerToken<H>,
         pass: &mut PassState,
         last: &mut EndTokens,
     ) -> u64
@@ -187,9 +191,9 @@ impl Word {
     }
 
     /// Reads the number. An owner that finds itself alone takes the block back whole.
-    pub(crate) fn claim(
+    pub(crate) fn claim<H>(
         &self,
-        own: &mut OwnerToken,
+        own: &mut OwnerToken<H>,
         pass: &mut PassState,
         last: &mut EndTokens,
     ) -> u64
@@ -203,10 +207,10 @@ impl Word {
     }
 
     /// The same on the place of a word that lies there for as long as the block is lent.
-    pub(crate) unsafe fn claim_raw(
+    pub(crate) unsafe fn claim_raw<H>(
         place: *const u64,
         lodging: &WordBorrow,
-        own: &mut OwnerToken,
+        own: &mut OwnerToken<H>,
         pass: &mut PassState,
         last: &mut EndTokens,
     ) -> u64
@@ -221,14 +225,14 @@ impl Word {
     }
 }
 
-impl OwnerToken {
+impl<H> OwnerToken<H> {
     ghost use mathlib.Core.List.{IsPrefix};
     ghost use Rattle.std.specs.Prelude.{[]};
     ghost use Rattle.arc_owners.specs.count.Invariant.{made_by};
     ghost use Rattle.arc_owners.specs.count.Steps.{IsSole, IsOf, SamePass, Ends, SeesSole};
 
     /// No right.
-    pub(crate) fn none() -> OwnerToken
+    pub(crate) fn none() -> OwnerToken<H>
         ensures { result.held ≡ false }
     {
         OwnerToken {
@@ -257,12 +261,19 @@ impl OwnerToken {
             × (self.new.owner ≡ self.old.owner) × (self.new.born ≡ self.old.born)
             × (self.new.lease.is_lent ≡ true) }
     {}
+}
 
-    /// A new pass of this owner's block.
+impl OwnerToken<Open> {
+    ghost use mathlib.Core.List.{IsPrefix};
+    ghost use Rattle.std.specs.Prelude.{[]};
+    ghost use Rattle.arc_owners.specs.count.Invariant.{made_by};
+    ghost use Rattle.arc_owners.specs.count.Steps.{IsFork};
+
+    /// A new pass of this owner's block. A right under `Open` alone gives one, so a body that is
+    /// generic in the mark has none but those that it was given.
     pub(crate) fn fork(&self) -> PassState
         requires { (self.now.held ≡ true) × (self.now.block.whole ≡ false) }
-        ensures { (result.bound ≡ true) × (result.block ≡ self.now.block) × (result.ready ≡ false)
-            × IsPrefix self.now.born result.lines × (made_by result.number result.lines ≡ []) }
+        ensures { IsFork self.now result }
     {
         PassState {
             marker: PhantomData,
@@ -308,7 +319,7 @@ impl WordBorrow {
     /// # Safety
     ///
     /// The word lies at this place: the borrow says so.
-    pub(crate) unsafe fn word<'a>(&'a self, place: *const u64, by: &'a OwnerToken) -> &'a Word
+    pub(crate) unsafe fn word<'a, H>(&'a self, place: *const u64, by: &'a OwnerToken<H>) -> &'a Word
         requires { (self.now.at ≡ place) × (by.now.held ≡ true) × (by.now.lease.is_lent ≡ true)
             × (by.now.lease.lifetime ≡ self.now.lifetime) }
         ensures { result.now ≡ self.now.block }
@@ -344,7 +355,7 @@ impl Drop for Word {
     }
 }
 
-impl Drop for OwnerToken {
+impl<H> Drop for OwnerToken<H> {
     fn drop(self) {
         let Self { marker: _ } = self;
     }
@@ -372,9 +383,9 @@ unsafe impl Send for Word {}
 
 unsafe impl Sync for Word {}
 
-unsafe impl Send for OwnerToken {}
+unsafe impl<H> Send for OwnerToken<H> {}
 
-unsafe impl Sync for OwnerToken {}
+unsafe impl<H> Sync for OwnerToken<H> {}
 
 unsafe impl Send for PassState {}
 

@@ -22,10 +22,10 @@ impl<V> Inner<V> {
     /// # Safety
     ///
     /// The memory lies at this place.
-    pub(crate) unsafe fn settle<A: Allocator>(
+    pub(crate) unsafe fn settle<A: Allocator, H>(
         lent: LentBox<Inner<V>, A>,
         at: *mut Inner<V>,
-        by: &mut OwnerToken,
+        by: &mut OwnerToken<H>,
     ) -> (*const u64, WordBorrow, *const V, SharedBorrow<V>)
         requires { (at ≡ lent.at) × InBlock at × (by.old.held ≡ true)
             × (by.old.lease.is_lent ≡ true) × (by.old.lease.lifetime ≡ lent.lifetime) }

@@ -28,9 +28,9 @@ impl<T, A: Allocator> Model for LentBox<T, A> {
 impl<T, A: Allocator> LentBox<T, A> {
     /// A box, lent for the lifetime of this owner's lease: its place and its allocator, what is
     /// lent, and that it comes back.
-    pub(crate) fn of(
+    pub(crate) fn of<H>(
         bare: BoxParts<T, A>,
-        by: &OwnerToken,
+        by: &OwnerToken<H>,
     ) -> (*mut T, A, LentBox<T, A>, Inheritance<T, A>)
         ensures { (result.0 ≡ bare.at) × InBlock result.0 × (result.1 ≡ bare.alloc)
             × (result.2.value ≡ bare.value) × (result.2.alloc ≡ bare.alloc)

@@ -148,7 +148,7 @@ impl<S: Subsliceable, L: Layout, A: Allocator + Copy, H: Stepping> ArcSlice<S, L
     {
         let mut pass = self.pass();
         let made = self.try_split_off_as(rt, at, &mut pass);
-        pass.attest();
+        pass.show();
         made
     }
 
@@ -168,7 +168,7 @@ impl<S: Subsliceable, L: Layout, A: Allocator + Copy, H: Stepping> ArcSlice<S, L
     {
         let mut pass = self.pass();
         let made = self.try_split_to_as(rt, at, &mut pass);
-        pass.attest();
+        pass.show();
         made
     }
 }

@@ -1,9 +1,10 @@
+use denote.RattleType.{RattleType}
 use denote.Param.Send.{IsSync, sendable}
 use denote.Struct.Struct.{Struct}
 use denote.Struct.Owning.{shape}
 use Rattle.arc_owners.specs.contracts.count.word.OwnerToken.{the_row, the_type}
 use Rattle.arc_owners.proofs.count.Shared.{right_shared_keyless}
 
-pub sync : IsSync the_row
-sync = let fields : IsSync (Struct (shape the_type)) = search sendable depth 20 in
+pub sync : (T : RattleType) → IsSync (the_row T)
+sync T = let fields : IsSync (Struct (shape (the_type T))) = search sendable depth 20 in
     record { shared = λ d b o ν. (fields.shared (tt, tt) b o ν, right_shared_keyless d.held d.block d.owner d.lease d.born ν) }

@@ -1,6 +1,9 @@
 -- `only` opens the invariant for a look at its history, in which a sole owner lives alone.
+use contract.BorrowLft.{◌⊑◌}
+use denote.Param.{param, layouts}
+use mir.MapTy.{inst_fn}
 use Rattle.std.proofs.Common.{◌≡◌, Bool, true, List, [], ◌∷◌, refl}
-use mir.Syntax.{named}
+use mir.Syntax.{named, a_type}
 use mir.Val.{Val, vunit, vptr}
 use base.Logic.{SProp, emp, wand, apply∗}
 use base.Fml.{Fml, Share, ftrue, fsep, flft, fhide}
@@ -8,16 +11,16 @@ use types.Logic.{sem}
 use types.Kit.{‵, raw, ◌⊛◌, some, given, later, ◌$◌, ◌∵◌, !, qed, by, move, keep, drop, split, fsplit, fsplit3, fjoin, fjoin3, pick, learn, use1, use2, await, rewrite, feq_i}
 use types.Run.{unit_lit, of_opd, returns, enter}
 use types.ByLocal.{alloc_all, pass_all, free_all, look_at, sets}
-use contract.Monad.{fact_i}
+use contract.Monad.{fact_i, fact}
 use contract.Running.{tables}
 use denote.Exit.{yes}
-use denote.RattleType.{owns}
+use denote.RattleType.{owns, RattleType}
 use denote.Signature.{types_at, plain}
 use denote.Builtin.{RefOf, unit}
 use denote.Ref.{mut_vals, mut_Tells, shr_vals, shr_Tells}
 use denote.Memory.{hidden_shr}
 use denote.Opens.{unhide}
-use denote.Steps.{nothing, opens, closes}
+use denote.Steps.{nothing, opens, closes, heard}
 use denote.Struct.Lending.{lent_out}
 use denote.Triple.Walked.{Stays, stay_dropped, stay_ref, walk_of, Goes-dropped, Goes-ref}
 use Rattle.core.specs.contracts.marker.PhantomData as marker
@@ -34,23 +37,21 @@ use Rattle.arc_owners.specs.contracts.count.word.OwnerToken.only as f
 use Rattle.arc_owners.proofs.count.word.OwnerToken.only.Statement.{statement}
 use Rattle.arc_owners.proofs.count.word.OwnerToken.only.Code as code
 
-abbrev stayed : Stays f.ended.signature.params f.ended.kept
-stayed = (stay_dropped (RefOf (0 ∷ []) tt (plain (λ _. OwnerToken.the_row)) (λ _. tt)) yes, (stay_ref (1 ∷ []) tt (plain (λ _. PassState.the_row)), tt))
-
 pub only_spec : {M : Type 1} → statement M
-only_spec 𝓤 𝓛 𝓜 𝓡 wired =
-    let H = 𝓛.H in let 𝓣 = tables 𝓤 H 𝓜 𝓡 𝓡.env in let fn = code.function in let c = f.clauses 𝓛 𝓜.mem 𝓡.returns in
-    proved 𝓛 f.ended stayed c 𝓜 𝓡 (Goes-dropped 𝓛 2 (RefOf (0 ∷ []) tt (plain (λ _. OwnerToken.the_row)) (λ _. tt)) yes (λ κs x w. refl), (Goes-ref 𝓛 2 1 tt (plain (λ _. PassState.the_row)), tt)) f.Key.name fn (code.unfolded 𝓤 H 𝓜 𝓡 wired)
-    (λ κs. (shr_vals, (mut_vals, tt))) (λ κs. (shr_Tells (named 0) κs.0 OwnerToken.the_row, (mut_Tells (named 1) κs.1.0 PassState.the_row, tt))) (λ κs qs bounds a gh are.
+only_spec 𝓤 𝓛 𝓜 𝓡 wired T L =
+    let H = 𝓛.H in let 𝓣 = tables 𝓤 H 𝓜 𝓡 𝓡.env in let R : RattleType = param 0 T in let Own : RattleType = OwnerToken.the_row R in let En = f.ended T in let c = f.clauses T 𝓛 𝓜.mem 𝓡.returns in
+    let inst = layouts (a_type ∷ []) (T, tt) in let fn = inst_fn inst code.function in let hs : Stays En.signature.params En.kept = (stay_dropped (RefOf (0 ∷ []) tt (plain (λ _. Own)) (λ _. tt)) yes, (stay_ref (1 ∷ []) tt (plain (λ _. PassState.the_row)), tt)) in
+    proved 𝓛 En hs c 𝓜 𝓡 (Goes-dropped 𝓛 3 (RefOf (0 ∷ []) tt (plain (λ _. Own)) (λ _. tt)) yes (λ κs x w. refl), (Goes-ref 𝓛 3 1 tt (plain (λ _. PassState.the_row)), tt)) (f.Key.name inst) fn (code.unfolded 𝓤 H 𝓜 𝓡 wired (T, tt))
+    (λ κs. (shr_vals, (mut_vals, tt))) (λ κs. (shr_Tells (named 0) κs.0 Own, (mut_Tells (named 1) κs.1.0 PassState.the_row, tt))) (λ κs qs bounds a gh are.
     let own = a.0.now in let me = own.block in let seen = a.1.0.now in let b₁ = a.0.ref_ptr.0 in let o₁ = a.0.ref_ptr.1 in let b = a.1.0.ref_ptr.0 in let o = a.1.0.ref_ptr.1 in
-    let y : (walk_of 𝓛 f.ended stayed c).Ghost = ((κs, qs, bounds, a, (vptr b₁ o₁ ∷ [], (vptr b o ∷ [], tt))), gh) in let Post : Val → SProp 𝓤 = (walk_of 𝓛 f.ended stayed c).post y in
-    let toks : Fml = fsep (flft κs.0 qs.0) (fsep (flft κs.1.0 qs.1.0) ftrue) in
-    qed 𝓛 ((‵ toks ⊛ ‵ (owns (types_at f.ended.signature.params κs) a y.0.4)) ∷ given _ (‵ ftrue) ∷ []) ∵ keep ! (1 ∷ 0 ∷ []) $ learn ! (λ asked. drop ! $ split ! $
-    fsplit ! $ move ! (1 ∷ []) $ fsplit ! $ move ! (3 ∷ []) $ fsplit ! $ fsplit ! $ move ! (2 ∷ []) $ fsplit ! $ fsplit3 ! $ keep ! (1 ∷ 2 ∷ 5 ∷ 6 ∷ 8 ∷ []) $
+    let y : (walk_of 𝓛 En hs c).Ghost = ((κs, qs, bounds, a, (vptr b₁ o₁ ∷ [], (vptr b o ∷ [], tt))), gh) in let Post : Val → SProp 𝓤 = (walk_of 𝓛 En hs c).post y in
+    let toks : Fml = fsep (flft κs.0 qs.0) (fsep (flft κs.1.0 qs.1.0) (fsep (flft κs.1.1.0 qs.1.1.0) ftrue)) in
+    qed 𝓛 ((‵ toks ⊛ ‵ (owns (types_at En.signature.params κs) a y.0.4)) ∷ raw (fact 𝓤 (κs.1.1.0 ⊑ T.lives)) ∷ raw (fact 𝓤 _) ∷ []) ∵ move ! (2 ∷ []) $ heard ! _ (λ asked. keep ! (0 ∷ []) $ split ! $
+    fsplit ! $ move ! (1 ∷ []) $ fsplit ! $ move ! (3 ∷ []) $ fsplit ! $ fsplit ! $ move ! (2 ∷ []) $ fsplit ! $ fsplit3 ! $ keep ! (1 ∷ 2 ∷ 5 ∷ 6 ∷ 8 ∷ 7 ∷ []) $
     -- [two parts of the pass; the owner; the tokens, last first]
     enter ! 𝓣.C 𝓣.Λ fn (vptr b₁ o₁ ∷ vptr b o ∷ []) Post $ alloc_all ! (λ l. pass_all ! refl ((tt, tt), ((tt, tt), tt)) $
-    move ! (2 ∷ []) $ use1 𝓛 (‵ (hidden_shr (Token unit) κs.0 (record {}, tt) b₁ o₁) ⊛ ‵ (fhide (right_shares own.held me own.owner own.lease own.born κs.0)))
-    (lent_out 𝓛 OwnerToken.struct (OwnerToken.the_codes (marker.the_row unit).coded) OwnerToken.the_heap OwnerToken.the_lent κs.0 own b₁ o₁) $ split ! $ drop ! $ unhide ! $
+    move ! (2 ∷ []) $ use1 𝓛 (‵ (hidden_shr (Token R) κs.0 (own.marker, tt) b₁ o₁) ⊛ ‵ (fhide (right_shares own.held me own.owner own.lease own.born κs.0)))
+    (lent_out 𝓛 (OwnerToken.struct R) (OwnerToken.the_codes R.Denot R.coded (marker.the_row R).coded) (OwnerToken.the_heap R) (OwnerToken.the_lent R) κs.0 own b₁ o₁) $ split ! $ drop ! $ unhide ! $
     rewrite ! 0 (λ (k : Bool). ‵ (right_shares k me own.owner own.lease own.born κs.0)) asked.0.0 refl $ move ! (0 ∷ 4 ∷ []) $
     use2 𝓛 (later (some (λ (r : Share). ‵ (right me own.owner own.lease r) ⊛ raw (wand 𝓤 (sem 𝓛 (right me own.owner own.lease r)) (H.⇛ (𝓛.A.lft κs.0 qs.0)))))) (right_read 𝓛 me own.owner own.lease own.born κs.0 qs.0) $ await ! tt $ pick ! (λ r. split ! $
     -- [the right; its way back; two parts of the pass; its token]
@@ -66,7 +67,7 @@ only_spec 𝓤 𝓛 𝓜 𝓡 wired =
     move ! (2 ∷ 1 ∷ []) $ fjoin ! $ move ! (2 ∷ 0 ∷ 3 ∷ 4 ∷ 5 ∷ []) $ closes ! tt PassState.the_row after vs b o $
     -- [two parts of the pass; the tokens, last first]
     sets ! (of_opd ! (unit_lit !)) refl (tt, tt) $ feq_i ! (List Val) (vunit ∷ []) (vunit ∷ []) refl $
-    nothing ! $ move ! (4 ∷ 0 ∷ []) $ fjoin ! $ move ! (4 ∷ 0 ∷ []) $ fjoin ! $
+    move ! (5 ∷ []) $ move ! (4 ∷ 0 ∷ []) $ fjoin ! $ move ! (4 ∷ 0 ∷ []) $ fjoin ! $
     nothing ! $ feq_i ! (List Val) (vptr b o ∷ []) (vptr b o ∷ []) refl $ move ! (0 ∷ 4 ∷ 5 ∷ []) $ fjoin3 ! $ fjoin ! $ nothing ! $ fjoin ! $
     returns ! (look_at ! 0 refl) $ free_all ! refl $ keep ! (1 ∷ 0 ∷ 2 ∷ []) $
-    by ! (ends 𝓛 f.ended stayed c y vunit tt (tt, (after, tt)) (tt, (tt, tt)) (fact_i 𝓤 _ (emp 𝓤) ((refl, refl, refl, refl), so.0, so.1, so.2, so.3))))))))))
+    by ! (ends 𝓛 En hs c y vunit tt (tt, (after, tt)) (tt, (tt, tt)) (fact_i 𝓤 _ (emp 𝓤) ((refl, refl, refl, refl), so.0, so.1, so.2, so.3))))))))))

@@ -1,27 +1,29 @@
 -- `word` shows the word that is lodged, for as long as an owner is borrowed.
+use denote.Param.{param, layouts}
+use mir.MapTy.{inst_fn}
 use Rattle.std.proofs.Common.{◌≡◌, Bool, ℕ, List, [], ◌∷◌, ◌++◌, refl, sym, ap, ◌∙◌, subst}
-use mir.Syntax.{named}
+use mir.Syntax.{named, a_type}
 use mir.Val.{Val, vptr}
 use base.Logic.{SProp, ent, emp, never, id⊢}
 use base.Fml.{Lft, ftrue, fsep, flft, fhide, fshr_bor}
 use prog.Wp.{WpFn}
-use types.Kit.{‵, ◌⊛◌, given, at_ret, ◌$◌, ◌∵◌, !, qed, by, move, keep, drop, split, fsplit, fjoin, fpick, fpack, learn, suffices, use0, use1, use2, rewrite, feq_i}
+use types.Kit.{‵, ◌⊛◌, at_ret, ◌$◌, ◌∵◌, !, qed, by, move, keep, drop, split, fsplit, fjoin, fpick, fpack, suffices, use0, use1, use2, rewrite, feq_i, raw}
 use types.Run.{stop, addr, of_opd, first, blocks, exec, returns, enter}
 use types.ByLocal.{alloc_all, pass_all, free_all, look_at, get, through, sets, sets_last, env}
-use contract.Monad.{fact_i}
-use contract.BorrowLft.{meet_⊑_left}
+use contract.Monad.{fact_i, fact}
+use contract.BorrowLft.{meet_⊑_left, ◌⊑◌}
 use base.Before.{before}
 use types.Na.{before-Incl, before_lent}
 use contract.Running.{tables}
 use denote.Exit.{yes}
-use denote.RattleType.{owns}
+use denote.RattleType.{owns, RattleType}
 use denote.Signature.{types_at, plain}
 use denote.Builtin.{RefOf, unit}
 use denote.Ref.{shr_vals, shr_Tells}
 use denote.Memory.{hidden_shr}
 use denote.Opens.{unhide, hide}
 use denote.RawPtr.{Ptr, RawPtr, block_ptr, ptr_val, in_a_block, rawptr_vals, rawptr_Tells}
-use denote.Steps.{nothing}
+use denote.Steps.{nothing, heard}
 use denote.Struct.Lending.{lent_out}
 use denote.Triple.Walked.{Stays, stay_dropped, walk_of, Goes-dropped}
 use Rattle.core.specs.contracts.marker.PhantomData as marker
@@ -36,20 +38,21 @@ use Rattle.arc_owners.proofs.count.word.WordBorrow.word.Statement.{statement}
 use Rattle.arc_owners.proofs.count.word.WordBorrow.word.Code as code
 
 pub word_spec : {M : Type 1} → statement M
-word_spec 𝓤 𝓛 𝓜 𝓡 wired =
-    let H = 𝓛.H in let 𝓣 = tables 𝓤 H 𝓜 𝓡 𝓡.env in let fn = code.function in let En = f.ended in let c = f.clauses 𝓛 𝓜.mem 𝓡.returns in
-    let hs : Stays En.signature.params En.kept = (stay_dropped (RefOf (0 ∷ []) tt (plain (λ _. WordBorrow.the_row)) (λ _. tt)) yes, (stay_dropped (plain (λ _. RawPtr)) yes, (stay_dropped (RefOf (0 ∷ []) tt (plain (λ _. OwnerToken.the_row)) (λ _. tt)) yes, tt))) in
-    proved 𝓛 En hs c 𝓜 𝓡 (Goes-dropped 𝓛 1 (RefOf (0 ∷ []) tt (plain (λ _. WordBorrow.the_row)) (λ _. tt)) yes (λ κs x w. refl), (Goes-dropped 𝓛 1 (plain (λ _. RawPtr)) yes (λ κs x w. refl), (Goes-dropped 𝓛 1 (RefOf (0 ∷ []) tt (plain (λ _. OwnerToken.the_row)) (λ _. tt)) yes (λ κs x w. refl), tt))) f.Key.name fn (code.unfolded 𝓤 H 𝓜 𝓡 wired)
-    (λ κs. (shr_vals, (rawptr_vals, (shr_vals, tt)))) (λ κs. (shr_Tells (named 0) κs.0 WordBorrow.the_row, (rawptr_Tells, (shr_Tells (named 0) κs.0 OwnerToken.the_row, tt)))) (λ κs qs bounds a gh are.
+word_spec 𝓤 𝓛 𝓜 𝓡 wired T L =
+    let H = 𝓛.H in let 𝓣 = tables 𝓤 H 𝓜 𝓡 𝓡.env in let R : RattleType = param 0 T in let Own : RattleType = OwnerToken.the_row R in let En = f.ended T in let c = f.clauses T 𝓛 𝓜.mem 𝓡.returns in
+    let inst = layouts (a_type ∷ []) (T, tt) in let fn = inst_fn inst code.function in
+    let hs : Stays En.signature.params En.kept = (stay_dropped (RefOf (0 ∷ []) tt (plain (λ _. WordBorrow.the_row)) (λ _. tt)) yes, (stay_dropped (plain (λ _. RawPtr)) yes, (stay_dropped (RefOf (0 ∷ []) tt (plain (λ _. Own)) (λ _. tt)) yes, tt))) in
+    proved 𝓛 En hs c 𝓜 𝓡 (Goes-dropped 𝓛 2 (RefOf (0 ∷ []) tt (plain (λ _. WordBorrow.the_row)) (λ _. tt)) yes (λ κs x w. refl), (Goes-dropped 𝓛 2 (plain (λ _. RawPtr)) yes (λ κs x w. refl), (Goes-dropped 𝓛 2 (RefOf (0 ∷ []) tt (plain (λ _. Own)) (λ _. tt)) yes (λ κs x w. refl), tt))) (f.Key.name inst) fn (code.unfolded 𝓤 H 𝓜 𝓡 wired (T, tt))
+    (λ κs. (shr_vals, (rawptr_vals, (shr_vals, tt)))) (λ κs. (shr_Tells (named 0) κs.0 WordBorrow.the_row, (rawptr_Tells, (shr_Tells (named 0) κs.0 Own, tt)))) (λ κs qs bounds a gh are.
     let me = a.0.now in let b = a.0.ref_ptr.0 in let o = a.0.ref_ptr.1 in let place : Ptr = a.1.0 in let own = a.1.1.0.now in let b₂ = a.1.1.0.ref_ptr.0 in let o₂ = a.1.1.0.ref_ptr.1 in let κ : Lft = κs.0 in let α : Lft = me.lifetime ∷ [] in
     let y : (walk_of 𝓛 En hs c).Ghost = ((κs, qs, bounds, a, (vptr b o ∷ [], (rawptr_vals place, (vptr b₂ o₂ ∷ [], tt)))), gh) in let Post : Val → SProp 𝓤 = (walk_of 𝓛 En hs c).post y in let Run : List Val → SProp 𝓤 = λ ws. WpFn 𝓤 H 𝓣.C 𝓣.Λ fn ws Post in
-    qed 𝓛 ((‵ (fsep (flft κs.0 qs.0) ftrue) ⊛ ‵ (owns (types_at En.signature.params κs) a y.0.4)) ∷ given _ (‵ ftrue) ∷ []) ∵ keep ! (1 ∷ 0 ∷ []) $ learn ! (λ asked. drop ! $ split ! $
+    qed 𝓛 ((‵ (fsep (flft κs.0 qs.0) (fsep (flft κs.1.0 qs.1.0) ftrue)) ⊛ ‵ (owns (types_at En.signature.params κs) a y.0.4)) ∷ raw (fact 𝓤 (κs.1.0 ⊑ T.lives)) ∷ raw (fact 𝓤 _) ∷ []) ∵ move ! (2 ∷ []) $ heard ! _ (λ asked. keep ! (0 ∷ []) $ split ! $
     move ! (1 ∷ []) $ fsplit ! $ fsplit ! $ move ! (2 ∷ []) $ fsplit ! $ drop ! $ fsplit ! $ fsplit ! $ keep ! (4 ∷ 1 ∷ 5 ∷ []) $
     -- [what is lent of the lodging, and of the owner; the tokens]
     use1 𝓛 (‵ (hidden_shr (Token unit) κ (record {}, tt) b o) ⊛ ‵ (fhide (lodged me.block me.at me.lifetime)))
     (lent_out 𝓛 WordBorrow.struct (WordBorrow.the_codes (marker.the_row unit).coded) WordBorrow.the_heap WordBorrow.the_lent κ me b o) $ split ! $ drop ! $ unhide ! $ move ! (1 ∷ []) $
-    use1 𝓛 (‵ (hidden_shr (Token unit) κ (record {}, tt) b₂ o₂) ⊛ ‵ (fhide (right_shares own.held own.block own.owner own.lease own.born κ)))
-    (lent_out 𝓛 OwnerToken.struct (OwnerToken.the_codes (marker.the_row unit).coded) OwnerToken.the_heap OwnerToken.the_lent κ own b₂ o₂) $ split ! $ drop ! $ unhide ! $
+    use1 𝓛 (‵ (hidden_shr (Token R) κ (own.marker, tt) b₂ o₂) ⊛ ‵ (fhide (right_shares own.held own.block own.owner own.lease own.born κ)))
+    (lent_out 𝓛 (OwnerToken.struct R) (OwnerToken.the_codes R.Denot R.coded (marker.the_row R).coded) (OwnerToken.the_heap R) (OwnerToken.the_lent R) κ own b₂ o₂) $ split ! $ drop ! $ unhide ! $
     rewrite ! 0 (λ (k : Bool). ‵ (right_shares k own.block own.owner own.lease own.born κ)) asked.1 refl $ fsplit ! $ drop ! $ fsplit ! $ drop ! $
     rewrite ! 0 (λ (k : Bool). ‵ (tokens k own.lease κ)) asked.2 refl $ rewrite ! 0 (λ (k : ℕ). ‵ (fshr_bor κ (λ q. flft (k ∷ []) q))) asked.3 refl $
     use0 𝓛 (‵ (before (α ++ κ) α)) (before-Incl 𝓛 (α ++ κ) α (meet_⊑_left α κ)) $ move ! (1 ∷ 0 ∷ []) $ use2 𝓛 (‵ (before κ α)) (before_lent 𝓛 κ α α) $ move ! (1 ∷ []) $

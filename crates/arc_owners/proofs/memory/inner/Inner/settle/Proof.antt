@@ -43,21 +43,21 @@ use Rattle.arc_owners.proofs.memory.inner.Inner.settle.Statement.{statement}
 use Rattle.arc_owners.proofs.memory.inner.Inner.settle.Code as code
 
 pub settle_spec : {M : Type 1} → statement M
-settle_spec 𝓤 𝓛 𝓜 𝓡 wired V A LV LA g d da allocator glued =
+settle_spec 𝓤 𝓛 𝓜 𝓡 wired V A K LV LA LK g d da allocator glued =
     let H = 𝓛.H in let 𝓣 = tables 𝓤 H 𝓜 𝓡 𝓡.env in let R : RattleType = param 0 V in let Z : RattleType = param 1 A in let Home : RattleType = Inner.the_row R in let N : RattleType = LentBox.the_row Home Z g in
-    let al : Al = record { row = A; laws = LA; g = g; d = d; drops = da } in
-    let En = f.ended V A g d da in let c = f.clauses V A g d da 𝓛 𝓜.mem 𝓡.returns in
-    let inst = bounded (a_type ∷ a_type ∷ []) (V, (A, tt)) (dcons d (dcons da dnil)) in let fn = inst_fn inst code.function in
-    let hs : Stays En.signature.params En.kept = (stay_dropped (plain (λ _. N)) no, (stay_dropped (plain (λ _. RawPtr)) yes, (stay_ref (0 ∷ []) tt (plain (λ _. OwnerToken.the_row)), tt))) in
+    let Own : RattleType = OwnerToken.the_row (param 2 K) in let al : Al = record { row = A; laws = LA; g = g; d = d; drops = da } in
+    let En = f.ended V A K g d da in let c = f.clauses V A K g d da 𝓛 𝓜.mem 𝓡.returns in
+    let inst = bounded (a_type ∷ a_type ∷ a_type ∷ []) (V, (A, (K, tt))) (dcons d (dcons da dnil)) in let fn = inst_fn inst code.function in
+    let hs : Stays En.signature.params En.kept = (stay_dropped (plain (λ _. N)) no, (stay_dropped (plain (λ _. RawPtr)) yes, (stay_ref (0 ∷ []) tt (plain (λ _. Own)), tt))) in
     proved_at 𝓛 En hs c 𝓜 𝓡
-    (Goes-blank 𝓛 3 (plain (λ _. N)) no (λ κs x w. tt), (Goes-dropped 𝓛 3 (plain (λ _. RawPtr)) yes (λ κs x w. refl), (Goes-ref 𝓛 3 0 tt (plain (λ _. OwnerToken.the_row)), tt)))
-    (f.Key.name inst) fn (code.unfolded 𝓤 H 𝓜 𝓡 wired (V, (A, tt)) d da) (λ y are.
-    let κs = y.0.0 in let qs = y.0.1 in let a = y.0.3 in let vss = y.0.4 in let was : N.Denot = a.0 in let place : Ptr = a.1.0 in let own : OwnerToken.the_row.Denot = a.1.1.0.now in let b₁ = a.1.1.0.ref_ptr.0 in let o₁ = a.1.1.0.ref_ptr.1 in
+    (Goes-blank 𝓛 4 (plain (λ _. N)) no (λ κs x w. tt), (Goes-dropped 𝓛 4 (plain (λ _. RawPtr)) yes (λ κs x w. refl), (Goes-ref 𝓛 4 0 tt (plain (λ _. Own)), tt)))
+    (f.Key.name inst) fn (code.unfolded 𝓤 H 𝓜 𝓡 wired (V, (A, (K, tt))) d da) (λ y are.
+    let κs = y.0.0 in let qs = y.0.1 in let a = y.0.3 in let vss = y.0.4 in let was : N.Denot = a.0 in let place : Ptr = a.1.0 in let own : Own.Denot = a.1.1.0.now in let b₁ = a.1.1.0.ref_ptr.0 in let o₁ = a.1.1.0.ref_ptr.1 in
     let n : ℕ = own.lease.lifetime in let α : Lft = n ∷ [] in let τ : Lft = κs.1.0 in let p : Share = qs.1.0 in let b : ℕ = block_of place in let o : ℕ = count_of place in
     let Post : Val → SProp 𝓤 = (walk_of 𝓛 En hs c).post y in let Run : List Val → SProp 𝓤 = λ ws. WpFn 𝓤 H 𝓣.C 𝓣.Λ fn ws Post in
     let Asked : Type 0 = (place ≡ was.at) × InBlock place × (own.held ≡ true) × (own.lease.is_lent ≡ true) × (n ≡ was.lifetime) in
-    qed 𝓛 ((‵ (fsep (flft κs.0 qs.0) (fsep (flft τ p) (fsep (flft κs.1.1.0 qs.1.1.0) ftrue))) ⊛ ‵ (owns (types_at En.signature.params κs) a vss)) ∷ raw (fact 𝓤 (τ ⊑ V.lives)) ∷ raw (fact 𝓤 (κs.1.1.0 ⊑ A.lives)) ∷ raw (fact 𝓤 Asked) ∷ []) ∵
-    move ! (3 ∷ 1 ∷ []) $ heard ! Asked (λ asked. heard ! (τ ⊑ V.lives) (λ inc. keep ! (0 ∷ []) $ split ! $ fsplit ! $ move ! (1 ∷ []) $ fsplit ! $ move ! (3 ∷ []) $ fsplit ! $ fsplit ! $ drop ! $ move ! (1 ∷ []) $
+    qed 𝓛 ((‵ (fsep (flft κs.0 qs.0) (fsep (flft τ p) (fsep (flft κs.1.1.0 qs.1.1.0) (fsep (flft κs.1.1.1.0 qs.1.1.1.0) ftrue)))) ⊛ ‵ (owns (types_at En.signature.params κs) a vss)) ∷ raw (fact 𝓤 (τ ⊑ V.lives)) ∷ raw (fact 𝓤 (κs.1.1.0 ⊑ A.lives)) ∷ raw (fact 𝓤 (κs.1.1.1.0 ⊑ K.lives)) ∷ raw (fact 𝓤 Asked) ∷ []) ∵
+    move ! (4 ∷ 1 ∷ []) $ heard ! Asked (λ asked. heard ! (τ ⊑ V.lives) (λ inc. keep ! (0 ∷ []) $ split ! $ fsplit ! $ move ! (1 ∷ []) $ fsplit ! $ move ! (3 ∷ []) $ fsplit ! $ fsplit ! $ drop ! $ move ! (1 ∷ []) $
     fsplit ! $ feq_l ! (λ e₁. fsplit ! $ fsplit3 ! $ feq_l ! (λ e₂.
     -- [two parts of the owner; no more parameters; what is lent; the tokens of V and A, and of the
     -- owner]
@@ -65,7 +65,7 @@ settle_spec 𝓤 𝓛 𝓜 𝓡 wired V A LV LA g d da allocator glued =
     let e : vss.1.0 ≡ vptr b o ∷ [] = e₁ ∙ ap (λ (r : Ptr). ptr_val r ∷ []) here in
     suffices ! (Run ws) (subst (λ (us : List Val). ent 𝓤 (Run ws) (Run us)) (sym (λ i. e₀ i ++ (e i ++ (e₂ i ++ [])))) (id⊢ 𝓤 (Run ws))) $
     enter ! 𝓣.C 𝓣.Λ fn ws Post $ alloc_all ! (λ ls. pass_all ! refl ((tt, (tt, tt)), ((tt, tt), ((tt, tt), tt))) $ let Ev = env fn.locals ls in
-    move ! (0 ∷ 1 ∷ 6 ∷ []) $ opens ! tt OwnerToken.the_row b₁ o₁ (λ us. move ! (1 ∷ []) $ fsplit ! $ move ! (1 ∷ []) $
+    move ! (0 ∷ 1 ∷ 6 ∷ []) $ opens ! tt Own b₁ o₁ (λ us. move ! (1 ∷ []) $ fsplit ! $ move ! (1 ∷ []) $
     rewrite ! 0 (λ (k : Bool). ‵ (right_owns k own.block own.owner own.lease own.born)) asked.2 refl $ fsplit ! $ move ! (1 ∷ []) $ fsplit ! $ move ! (1 ∷ []) $ rewrite ! 0 (λ (k : Bool). ‵ (staked k own.lease)) asked.3 refl $
     fpick ! (λ s. fpick ! (λ one.
     -- [a token of the lease; the right; the invariant; the marker, cell and open borrow (3); no
@@ -76,7 +76,7 @@ settle_spec 𝓤 𝓛 𝓜 𝓡 wired V A LV LA g d da allocator glued =
     -- [both tokens; the lodging; the loan; the right; the invariant; the marker, cell and open
     -- borrow (3); no more parameters; the token of A]
     fpack ! (Counts 64 s 1) (λ _. flft α s) one $ fpack ! Share (λ r. fex (Counts 64 r 1) (λ _. flft α r)) s $ rewrite ! 0 (λ (k : Bool). ‵ (staked k own.lease)) (sym asked.3) refl $ move ! (4 ∷ 0 ∷ []) $ fjoin ! $ move ! (4 ∷ 0 ∷ []) $ fjoin ! $
-    rewrite ! 0 (λ (k : Bool). ‵ (right_owns k own.block own.owner own.lease own.born)) (sym asked.2) refl $ move ! (4 ∷ 0 ∷ []) $ fjoin ! $ move ! (4 ∷ 0 ∷ 5 ∷ 6 ∷ 7 ∷ []) $ closes ! tt OwnerToken.the_row own us b₁ o₁ $
+    rewrite ! 0 (λ (k : Bool). ‵ (right_owns k own.block own.owner own.lease own.born)) (sym asked.2) refl $ move ! (4 ∷ 0 ∷ []) $ fjoin ! $ move ! (4 ∷ 0 ∷ 5 ∷ 6 ∷ 7 ∷ []) $ closes ! tt Own own us b₁ o₁ $
     -- [two parts of the owner; its token; the token of V; the lodging; the loan; no more
     -- parameters; the token of A]
     first ! $ blocks ! $ sets_last ! (addr ! (through ! refl (fld ! refl (stop !)))) refl (tt, tt) $ exec ! 𝓣.C 𝓣.Λ Ev (after 1 fn.body) (at_ret Ev Post) $ sets ! (of_opd ! (get ! refl)) refl (tt, tt) $

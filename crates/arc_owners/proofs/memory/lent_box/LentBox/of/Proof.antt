@@ -19,7 +19,7 @@ use denote.Signature.{types_at, plain}
 use denote.Builtin.{RefOf}
 use denote.RawPtr.{Ptr, RawPtr, block_ptr, InBlock}
 use denote.Steps.{nothing}
-use denote.Param.{bounded}
+use denote.Param.{bounded, param}
 use denote.Struct.Tuple.{Tuple}
 use denote.Triple.Walked.{Stays, stay_dropped, walk_of, Goes-dropped}
 use Rattle.core.proofs.alloc.Calls.{Goes-blank, token as frees}
@@ -39,18 +39,18 @@ use Rattle.arc_owners.proofs.memory.lent_box.LentBox.of.Statement.{statement}
 use Rattle.arc_owners.proofs.memory.lent_box.LentBox.of.Code as code
 
 pub of_spec : {M : Type 1} → statement M
-of_spec 𝓤 𝓛 𝓜 𝓡 wired T A L LA g d da allocator glued =
+of_spec 𝓤 𝓛 𝓜 𝓡 wired T A Q L LA LQ g d da allocator glued =
     let H = 𝓛.H in let 𝓣 = tables 𝓤 H 𝓜 𝓡 𝓡.env in let E : Bx = record { row = T; laws = L; al = record { row = A; laws = LA; g = g; d = d; drops = da } } in
-    let En = f.ended T A g d da in let c = f.clauses T A g d da 𝓛 𝓜.mem 𝓡.returns in
-    let inst = bounded (a_type ∷ a_type ∷ []) (T, (A, tt)) (dcons d (dcons da dnil)) in let fn = inst_fn inst code.function in
+    let Own : RattleType = OwnerToken.the_row (param 2 Q) in let En = f.ended T A Q g d da in let c = f.clauses T A Q g d da 𝓛 𝓜.mem 𝓡.returns in
+    let inst = bounded (a_type ∷ a_type ∷ a_type ∷ []) (T, (A, (Q, tt))) (dcons d (dcons da dnil)) in let fn = inst_fn inst code.function in
     let Both : RattleType = Tuple (R E ∷ P E ∷ []) in let K : RattleType = Inheritance.the_row (R E) (P E) g in let N : RattleType = LentBox.the_row (R E) (P E) g in
-    let hs : Stays En.signature.params En.kept = (stay_dropped (plain (λ _. Row E)) no, (stay_dropped (RefOf (0 ∷ []) tt (plain (λ _. OwnerToken.the_row)) (λ _. tt)) yes, tt)) in
+    let hs : Stays En.signature.params En.kept = (stay_dropped (plain (λ _. Row E)) no, (stay_dropped (RefOf (0 ∷ []) tt (plain (λ _. Own)) (λ _. tt)) yes, tt)) in
     proved_at 𝓛 En hs c 𝓜 𝓡
-    (Goes-blank 𝓛 3 (plain (λ _. Row E)) no (λ κs x w. tt), (Goes-dropped 𝓛 3 (RefOf (0 ∷ []) tt (plain (λ _. OwnerToken.the_row)) (λ _. tt)) yes (λ κs x w. refl), tt))
-    (f.Key.name inst) fn (code.unfolded 𝓤 H 𝓜 𝓡 wired (T, (A, tt)) d da) (λ y are.
+    (Goes-blank 𝓛 4 (plain (λ _. Row E)) no (λ κs x w. tt), (Goes-dropped 𝓛 4 (RefOf (0 ∷ []) tt (plain (λ _. Own)) (λ _. tt)) yes (λ κs x w. refl), tt))
+    (f.Key.name inst) fn (code.unfolded 𝓤 H 𝓜 𝓡 wired (T, (A, (Q, tt))) d da) (λ y are.
     let κs = y.0.0 in let qs = y.0.1 in let a = y.0.3 in let vss = y.0.4 in let was : (Row E).Denot = a.0 in let own = a.1.0.now in let b₁ = a.1.0.ref_ptr.0 in let o₁ = a.1.0.ref_ptr.1 in let l : Lease = own.lease in let α : Lft = l.lifetime ∷ [] in
     let Post : Val → SProp 𝓤 = (walk_of 𝓛 En hs c).post y in let Run : List Val → SProp 𝓤 = λ ws. WpFn 𝓤 H 𝓣.C 𝓣.Λ fn ws Post in
-    qed 𝓛 ((‵ (fsep (flft κs.0 qs.0) (fsep (flft κs.1.0 qs.1.0) (fsep (flft κs.1.1.0 qs.1.1.0) ftrue))) ⊛ ‵ (owns (types_at En.signature.params κs) a vss)) ∷ raw ((c κs a).requires y.1) ∷ []) ∵
+    qed 𝓛 ((‵ (fsep (flft κs.0 qs.0) (fsep (flft κs.1.0 qs.1.0) (fsep (flft κs.1.1.0 qs.1.1.0) (fsep (flft κs.1.1.1.0 qs.1.1.1.0) ftrue)))) ⊛ ‵ (owns (types_at En.signature.params κs) a vss)) ∷ raw ((c κs a).requires y.1) ∷ []) ∵
     keep ! (0 ∷ []) $ split ! $ move ! (1 ∷ []) $ fsplit ! $ move ! (1 ∷ []) $ fsplit ! $ fsplit ! $ feq_l ! (λ e₁. drop ! $ drop ! $
     -- [the box; the tokens]
     use1 𝓛 (‵ ((B E).own_val (boxed E was) vss.0)) (as_box E 𝓛 was vss.0) $ box_out E ! (boxed E was) vss.0 (λ b o h at_b is fits. fjoin ! $

@@ -38,23 +38,23 @@ use Rattle.arc_owners.proofs.memory.shared_borrow.SharedBorrow.get.Statement.{st
 use Rattle.arc_owners.proofs.memory.shared_borrow.SharedBorrow.get.Code as code
 
 pub get_spec : {M : Type 1} → statement M
-get_spec 𝓤 𝓛 𝓜 𝓡 wired T L =
-    let H = 𝓛.H in let 𝓣 = tables 𝓤 H 𝓜 𝓡 𝓡.env in let R : RattleType = param 0 T in let LR = param_laws 0 T L in let En = f.ended T in let c = f.clauses T 𝓛 𝓜.mem 𝓡.returns in
-    let inst = layouts (a_type ∷ []) (T, tt) in let fn = inst_fn inst code.function in let Row : RattleType = SharedBorrow.the_row R in
-    let hs : Stays En.signature.params En.kept = (stay_dropped (RefOf (0 ∷ []) tt (plain (λ _. Row)) (λ _. tt)) yes, (stay_dropped (plain (λ _. RawPtr)) yes, (stay_dropped (RefOf (0 ∷ []) tt (plain (λ _. OwnerToken.the_row)) (λ _. tt)) yes, tt))) in
-    proved 𝓛 En hs c 𝓜 𝓡 (Goes-dropped 𝓛 2 (RefOf (0 ∷ []) tt (plain (λ _. Row)) (λ _. tt)) yes (λ κs x w. refl), (Goes-dropped 𝓛 2 (plain (λ _. RawPtr)) yes (λ κs x w. refl), (Goes-dropped 𝓛 2 (RefOf (0 ∷ []) tt (plain (λ _. OwnerToken.the_row)) (λ _. tt)) yes (λ κs x w. refl), tt))) (f.Key.name inst) fn (code.unfolded 𝓤 H 𝓜 𝓡 wired (T, tt))
-    (λ κs. (shr_vals, (rawptr_vals, (shr_vals, tt)))) (λ κs. (shr_Tells (named 0) κs.0 Row, (rawptr_Tells, (shr_Tells (named 0) κs.0 OwnerToken.the_row, tt)))) (λ κs qs bounds a gh are.
+get_spec 𝓤 𝓛 𝓜 𝓡 wired T K L LK =
+    let H = 𝓛.H in let 𝓣 = tables 𝓤 H 𝓜 𝓡 𝓡.env in let R : RattleType = param 0 T in let LR = param_laws 0 T L in let Q : RattleType = param 1 K in let Own : RattleType = OwnerToken.the_row Q in let En = f.ended T K in let c = f.clauses T K 𝓛 𝓜.mem 𝓡.returns in
+    let inst = layouts (a_type ∷ a_type ∷ []) (T, (K, tt)) in let fn = inst_fn inst code.function in let Row : RattleType = SharedBorrow.the_row R in
+    let hs : Stays En.signature.params En.kept = (stay_dropped (RefOf (0 ∷ []) tt (plain (λ _. Row)) (λ _. tt)) yes, (stay_dropped (plain (λ _. RawPtr)) yes, (stay_dropped (RefOf (0 ∷ []) tt (plain (λ _. Own)) (λ _. tt)) yes, tt))) in
+    proved 𝓛 En hs c 𝓜 𝓡 (Goes-dropped 𝓛 3 (RefOf (0 ∷ []) tt (plain (λ _. Row)) (λ _. tt)) yes (λ κs x w. refl), (Goes-dropped 𝓛 3 (plain (λ _. RawPtr)) yes (λ κs x w. refl), (Goes-dropped 𝓛 3 (RefOf (0 ∷ []) tt (plain (λ _. Own)) (λ _. tt)) yes (λ κs x w. refl), tt))) (f.Key.name inst) fn (code.unfolded 𝓤 H 𝓜 𝓡 wired (T, (K, tt)))
+    (λ κs. (shr_vals, (rawptr_vals, (shr_vals, tt)))) (λ κs. (shr_Tells (named 0) κs.0 Row, (rawptr_Tells, (shr_Tells (named 0) κs.0 Own, tt)))) (λ κs qs bounds a gh are.
     let me = a.0.now in let b = a.0.ref_ptr.0 in let o = a.0.ref_ptr.1 in let place : Ptr = a.1.0 in let own = a.1.1.0.now in let b₂ = a.1.1.0.ref_ptr.0 in let o₂ = a.1.1.0.ref_ptr.1 in let κ : Lft = κs.0 in
     let Had : Fml = lent_at R me.at me.value (me.lifetime ∷ []) in let pb = block_of me.at in let po = count_of me.at in
     let y : (walk_of 𝓛 En hs c).Ghost = ((κs, qs, bounds, a, (vptr b o ∷ [], (rawptr_vals place, (vptr b₂ o₂ ∷ [], tt)))), gh) in let Post : Val → SProp 𝓤 = (walk_of 𝓛 En hs c).post y in let Run : List Val → SProp 𝓤 = λ ws. WpFn 𝓤 H 𝓣.C 𝓣.Λ fn ws Post in
     let Asked : Type 0 = (me.at ≡ place) × (own.held ≡ true) × (own.lease.is_lent ≡ true) × (own.lease.lifetime ≡ me.lifetime) in
-    qed 𝓛 ((‵ (fsep (flft κs.0 qs.0) (fsep (flft κs.1.0 qs.1.0) ftrue)) ⊛ ‵ (owns (types_at En.signature.params κs) a y.0.4)) ∷ raw (fact 𝓤 (κs.1.0 ⊑ T.lives)) ∷ raw (fact 𝓤 Asked) ∷ []) ∵
-    move ! (2 ∷ []) $ heard ! Asked (λ asked. keep ! (0 ∷ []) $ split ! $ move ! (1 ∷ []) $ fsplit ! $ fsplit ! $ move ! (2 ∷ []) $ fsplit ! $ drop ! $ fsplit ! $ fsplit ! $ keep ! (4 ∷ 1 ∷ 5 ∷ []) $
+    qed 𝓛 ((‵ (fsep (flft κs.0 qs.0) (fsep (flft κs.1.0 qs.1.0) (fsep (flft κs.1.1.0 qs.1.1.0) ftrue))) ⊛ ‵ (owns (types_at En.signature.params κs) a y.0.4)) ∷ raw (fact 𝓤 (κs.1.0 ⊑ T.lives)) ∷ raw (fact 𝓤 (κs.1.1.0 ⊑ K.lives)) ∷ raw (fact 𝓤 Asked) ∷ []) ∵
+    move ! (3 ∷ []) $ heard ! Asked (λ asked. keep ! (0 ∷ []) $ split ! $ move ! (1 ∷ []) $ fsplit ! $ fsplit ! $ move ! (2 ∷ []) $ fsplit ! $ drop ! $ fsplit ! $ fsplit ! $ keep ! (4 ∷ 1 ∷ 5 ∷ []) $
     -- [what is lent of the loan, and of the owner; the tokens]
     use1 𝓛 (‵ (hidden_shr (Token R) κ (me.marker, tt) b o) ⊛ ‵ (fhide Had))
     (lent_out 𝓛 (SharedBorrow.struct R) (SharedBorrow.the_codes R.Denot R.coded (marker.the_row R).coded) (SharedBorrow.the_heap R) (SharedBorrow.the_lent R) κ me b o) $ split ! $ drop ! $ unhide ! $ move ! (1 ∷ []) $
-    use1 𝓛 (‵ (hidden_shr (Token unit) κ (record {}, tt) b₂ o₂) ⊛ ‵ (fhide (right_shares own.held own.block own.owner own.lease own.born κ)))
-    (lent_out 𝓛 OwnerToken.struct (OwnerToken.the_codes (marker.the_row unit).coded) OwnerToken.the_heap OwnerToken.the_lent κ own b₂ o₂) $ split ! $ drop ! $ unhide ! $
+    use1 𝓛 (‵ (hidden_shr (Token Q) κ (own.marker, tt) b₂ o₂) ⊛ ‵ (fhide (right_shares own.held own.block own.owner own.lease own.born κ)))
+    (lent_out 𝓛 (OwnerToken.struct Q) (OwnerToken.the_codes Q.Denot Q.coded (marker.the_row Q).coded) (OwnerToken.the_heap Q) (OwnerToken.the_lent Q) κ own b₂ o₂) $ split ! $ drop ! $ unhide ! $
     rewrite ! 0 (λ (k : Bool). ‵ (right_shares k own.block own.owner own.lease own.born κ)) asked.1 refl $ fsplit ! $ drop ! $ fsplit ! $ drop ! $
     rewrite ! 0 (λ (k : Bool). ‵ (tokens k own.lease κ)) asked.2 refl $ rewrite ! 0 (λ (k : ℕ). ‵ (fshr_bor κ (λ q. flft (k ∷ []) q))) asked.3 refl $ move ! (1 ∷ 0 ∷ []) $
     use2 𝓛 (‵ (lent_at R me.at me.value κ)) (loan_seen R LR me.at me.value me.lifetime 𝓛 κ) $ fsplit ! $
