@@ -1,5 +1,5 @@
 -- What a step of the word leaves, as contracts say it.
-use Rattle.std.proofs.Common.{inl, inr, ◌≡◌, ℕ, Bool, true, false, List, [], ◌∷◌, ◌++◌, refl, sym, ap, ◌∙◌, subst}
+use Rattle.std.proofs.Common.{if◌then◌else◌, inl, inr, ◌≡◌, ℕ, Bool, true, false, List, [], ◌∷◌, ◌++◌, refl, sym, ap, ◌∙◌, subst}
 use Rattle.std.proofs.lemmas.Bool.{false≢true}
 use Rattle.std.proofs.lemmas.List.{same_from_push}
 use Rattle.arc_owners.specs.declared.history.entry.Entry.{Entry}
@@ -11,7 +11,7 @@ use Rattle.arc_owners.specs.count.Invariant.{BlockId, Line, entries_of, made_by,
 use Rattle.arc_owners.specs.history.Histories.{Beginning, Counted, LivesAlone, owners_ever, owners_ended, live_owners, is_counted, IsLegal}
 use Rattle.arc_owners.specs.history.Agreement.{Tells, Agrees}
 use Rattle.arc_owners.specs.count.Steps.{IsOf, SamePass, Wrote, FullIf, RaisedIf, Ends, IsOpened, EndsWithNew, SeesSole}
-use Rattle.arc_owners.specs.count.Calls.{Owner, Appends, Asks, MakesAnother, FindsFull, Leaves, SeesAlone, EndsInOneStep, EndsWithoutStep, EndsByItself, IsFirst, making, reading, history_of}
+use Rattle.arc_owners.specs.count.Calls.{Owner, Appends, Asks, MakesAnother, FindsFull, Leaves, SeesAlone, EndsInOneStep, EndsWithoutStep, EndsByItself, IsFirst, making, history_of}
 use Rattle.arc_owners.proofs.history.Legality.{legal-front, legal-at}
 use Rattle.arc_owners.proofs.count.Rolls.{entries-append}
 use Rattle.arc_owners.proofs.history.Events.{one_step}
@@ -45,7 +45,7 @@ module _ {H : Type 0} (o : Owner) (p r : Pass H) where
   pub asks_of : (b : Bool) → SamePass t p.trace r.trace → Wrote t p.trace r.trace (Alone o.number b) → Asks o p r b
   asks_of b same (before, a) = record {
     before = before;
-    added = subst (λ (c : Bool). Appends t p r before (reading c o.number b)) (sym a.0.may.1) (appends t p r (λ _. Alone o.number b) before same a);
+    added = subst (λ (c : Bool). Appends t p r before (if c then Alone o.number b ∷ [] else [])) (sym a.0.may.1) (appends t p r (λ _. Alone o.number b) before same a);
     exact = a.0.may.2;
   }
 

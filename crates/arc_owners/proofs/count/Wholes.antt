@@ -1,7 +1,7 @@
 -- What a call's record says of the history before it, where the word has a count; what a pass has
 -- seen under `Whole`, where nothing comes between two calls of the one pass; and who lives then.
 use Rattle.std.proofs.Common.{inl, inr, ◌≡◌, ℕ, Bool, true, false, List, [], ◌∷◌, ◌++◌, length, Some, None, refl, sym, ap, ◌∙◌, subst, append-nil, append_assoc, eqb}
-use Rattle.std.specs.Prelude.{IsTrue, ◌↔◌, map, IfOk, IfErr, Result, Ok, Err}
+use Rattle.std.specs.Prelude.{if◌then◌else◌, IsTrue, ◌↔◌, map, IfOk, IfErr, Result, Ok, Err}
 use Rattle.std.proofs.lemmas.Bool.{cases_Bool, eq-eqb, false≢true}
 use Rattle.arc_owners.specs.declared.history.entry.Entry.{Entry}
 use Rattle.arc_owners.specs.declared.history.entry.Entry.TheVariants.{Up, Full, Alone, Joined}
@@ -11,7 +11,7 @@ use Rattle.arc_owners.specs.declared.count.tokens.Share.{Share}
 use Rattle.arc_owners.specs.count.Invariant.{BlockId, Line, entries_of, made_by, next_owner}
 use Rattle.arc_owners.specs.history.Histories.{Beginning, LivesAlone, NeverLived, owner_made, owner_ended, owners_ever, live_owners, is_counted, is_in, MayFollow}
 use Rattle.arc_owners.specs.history.Machine.{without_number}
-use Rattle.arc_owners.specs.count.Calls.{Owner, Appends, Asks, MayJoin, MakesAnother, FindsFull, Leaves, HasCountIn, IsFirst, IsFreshPass, IsPassOf, IsNewPass, IsSamePass, owner_of, making, reading, mine, seen}
+use Rattle.arc_owners.specs.count.Calls.{Owner, Appends, Asks, MayJoin, MakesAnother, FindsFull, Leaves, HasCountIn, IsFirst, IsFreshPass, IsPassOf, IsNewPass, IsSamePass, owner_of, making, mine, seen}
 use Rattle.arc_owners.proofs.history.Legality.{legal-at, legal-front}
 use Rattle.arc_owners.proofs.history.Owned.{live-same, live-ended, ever-append}
 use Rattle.arc_owners.proofs.history.Steps.{counted-more}
@@ -87,7 +87,7 @@ unjoined o c (inr joined) = absurd (false≢true (sym joined.1 ∙ c))
 -- joined
 module _ {H : Type 0} {o : Owner} {old new : Pass H} (c : HasCountIn o.block (seen old)) where
   pub counted-asks : {found : Bool} → Asks o old new found → (before : List Line) × Appends o.block old new before (Alone o.number found ∷ []) × (IsTrue found ↔ LivesAlone o.number (entries_of before))
-  counted-asks {found = found} asks = (asks.before, subst (λ (b : Bool). Appends o.block old new asks.before (reading b o.number found)) (counted-before asks.added c) asks.added, asks.exact)
+  counted-asks {found = found} asks = (asks.before, subst (λ (b : Bool). Appends o.block old new asks.before (if b then Alone o.number found ∷ [] else [])) (counted-before asks.added c) asks.added, asks.exact)
 
   pub counted-makes : {other : Owner} → MakesAnother o old new other
       → (before : List Line) × Appends o.block old new before (Up o.number (next_owner before) ∷ []) × (other.block ≡ o.block) × (other.number ≡ next_owner before)
@@ -178,7 +178,7 @@ pub counted_forked : {H : Type 0} {most : ℕ} {whole : Bool} {o : Owner} (p : P
 counted_forked {o = o} p first new = counted-new o p (subst (λ (ls : List Line). HasCountIn o.block (entries_of ls)) (sym first.born) first.counted) new
 
 -- who was found alone lives alone in what the pass has seen since
-alone-read : {H : Type 0} {t : BlockId} {old new : Pass H} {before : List Line} (by : ℕ) (c : Bool) → Appends t old new before (reading c by true) → LivesAlone by (entries_of before) → LivesAlone by (seen new)
+alone-read : {H : Type 0} {t : BlockId} {old new : Pass H} {before : List Line} (by : ℕ) (c : Bool) → Appends t old new before (if c then Alone by true ∷ [] else []) → LivesAlone by (entries_of before) → LivesAlone by (seen new)
 alone-read {before = before} by true a alone = ap live_owners (seen-after a) ∙ (live-same (entries_of before) (Alone by true) refl refl ∙ alone)
 alone-read {before = before} by false a alone = ap live_owners (seen-after a ∙ append-nil (entries_of before)) ∙ alone
 
@@ -203,7 +203,7 @@ module _ {H : Type 0} {t : BlockId} {old new : Pass H} (whole : t.whole ≡ true
   lives-same : (e : Entry) → owner_made e ≡ None → owner_ended e ≡ None → Appends t old new before (e ∷ []) → live_owners (seen new) ≡ live_owners (seen old)
   lives-same e made ends a = ap live_owners (seen-more a whole) ∙ live-same (seen old) e made ends
 
-  lives-read : (by : ℕ) (c : Bool) (found : Bool) → Appends t old new before (reading c by found) → live_owners (seen new) ≡ live_owners (seen old)
+  lives-read : (by : ℕ) (c : Bool) (found : Bool) → Appends t old new before (if c then Alone by found ∷ [] else []) → live_owners (seen new) ≡ live_owners (seen old)
   lives-read by true found a = lives-same (Alone by found) refl refl a
   lives-read by false found a = ap live_owners (seen-more a whole ∙ append-nil (seen old))
 

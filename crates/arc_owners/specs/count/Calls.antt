@@ -1,7 +1,7 @@
 -- What contracts read in a count, in an owner and in a pass, and what a call adds to a block's
 -- history.
 use Rattle.std.specs.Prelude.{◌≡◌, ℕ, Bool, true, false, List, [], ◌∷◌, ◌++◌, length, map, IsTrue}
-use Rattle.std.specs.Prelude.{◌↔◌, ◌⊎◌}
+use Rattle.std.specs.Prelude.{◌↔◌, ◌⊎◌, if◌then◌else◌}
 use mathlib.Core.List.{IsPrefix}
 use Rattle.arc_owners.specs.declared.mark.Mark.{Ghosts}
 use Rattle.arc_owners.specs.declared.history.entry.Entry.{Entry}
@@ -46,11 +46,6 @@ pub record EndsWithoutStep (t : BlockId) (lines : List Line) : Type 0 where
 abbrev pub making : Bool → ℕ → ℕ → Entry
 making true by new = Up by new
 making false by new = Promote by new
-
--- the entries by which uniqueness is read: none on a lone word
-abbrev pub reading : Bool → ℕ → Bool → List Entry
-reading true by found = Alone by found ∷ []
-reading false by found = []
 
 module _ {H : Type 0} where
   -- what a pass has seen, with the pass that made each entry
@@ -133,7 +128,7 @@ module _ {H : Type 0} where
   pub record Asks (o : Owner) (old new : Pass H) (found : Bool) : Type 0 where
     pub before : List Line
     pub added : Appends o.block old new before
-        (reading (is_counted o.block.began (entries_of before)) o.number found)
+        (if is_counted o.block.began (entries_of before) then Alone o.number found ∷ [] else [])
     pub exact : IsTrue found ↔ LivesAlone o.number (entries_of before)
 
   -- nothing was done yet, or the exchange was lost that was to promote a word which the pass didn't
