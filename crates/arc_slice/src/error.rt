@@ -1,0 +1,3 @@
+//! Refusals.
+
+pub use arc_owners::error::{AllocError, CountFull, OwnerError, RangeError, TryReserveError};

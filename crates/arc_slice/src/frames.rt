@@ -1,0 +1,58 @@
+//! An example: a codec of frames, each a payload behind two bytes of its length. Frames are taken
+//! off a buffer without a copy.
+ghost use Rattle.std.specs.Prelude.{◌≡◌, IfOk, OnErr, MatchOption};
+ghost use Rattle.arc_slice.specs.Frames.{IsFrame, HasNoFrame, EndsAt};
+
+use crate::ArcBytes;
+use crate::error::OwnerError;
+use std::sync::Wait;
+use std::test::Fail;
+
+/// Where the first frame ends, if all of it is there.
+#[tactic(auto, using(crate::proofs::Ends::no_head, crate::proofs::Ends::cut_short, crate::proofs::Ends::ends_at))]
+fn frame_end(bytes: &[u8]) -> Option<usize>
+    ensures { MatchOption result (HasNoFrame bytes.now) (EndsAt bytes.now) }
+{
+    let [high, low, more @ ..] = bytes else {
+        return None;
+    };
+    let len = 256 * *high as usize + *low as usize;
+    if more.len() < len {
+        return None;
+    }
+    Some(2 + len)
+}
+
+/// Takes the payload of the first frame off a buffer, as a window on the same block. Where the
+/// buffer has no whole frame it is as before, and so it is where a window is refused.
+fn take_frame(rt: &impl Wait, buffer: &mut ArcBytes) -> Result<Option<ArcBytes>, OwnerError>
+    ensures taken { IfOk result (λ frame. MatchOption frame
+        (HasNoFrame buffer.old.items × (buffer.new ≡ buffer.old))
+        (λ payload. IsFrame buffer.old.items payload.items buffer.new.items)) }
+    ensures refused { OnErr result (buffer.new ≡ buffer.old) }
+{
+    let Some(end) = frame_end(buffer.as_slice()) else {
+        return Ok(None);
+    };
+    let mut frame = buffer.try_split_to(rt, end)?;
+    frame.advance(2);
+    Ok(Some(frame))
+}
+
+#[test]
+fn frames_taken_off(rt: HostRuntime) -> Result<(), Fail> {
+    let mut buffer = ArcBytes::try_from_slice(rt.alloc(), b"\x00\x05Hello\x00\x00\x01\x00short")?;
+    let Some(first) = take_frame(&rt, &mut buffer)? else {
+        return Err("no first frame".into());
+    };
+    let Some(second) = take_frame(&rt, &mut buffer)? else {
+        return Err("no second frame".into());
+    };
+    assert_eq!(rt; first.as_slice(), b"Hello".as_slice());
+    assert!(rt; second.is_empty());
+    assert!(rt; take_frame(&rt, &mut buffer)?.is_none());
+    assert_eq!(rt; buffer.len(), 7);
+    drop(buffer);
+    assert_eq!(rt; first.as_slice(), b"Hello".as_slice());
+    Ok(())
+}

@@ -1,0 +1,17 @@
+//! Windows into memory that is shared: cut and cloned without a copy. These are the names that a
+//! user imports, at the paths of the Rust crate.
+#![tactic(auto)]
+
+pub use arc_owners::mark::{Mark, Open, Whole};
+pub use arc_owners::owners::Pass;
+pub use arc_read::slice::ArcSlice;
+pub use slice::{ArcByteText, ArcBytes, ArcStr};
+
+pub mod buffer;
+pub mod error;
+#[cfg(test)]
+mod frames;
+pub mod layout;
+#[cfg(test)]
+mod readme;
+mod slice;

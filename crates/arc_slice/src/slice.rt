@@ -1,0 +1,16 @@
+//! Short names of windows.
+
+use arc_block::layout::DefaultLayout;
+use arc_buffer::kinds::{ByteText, Plain, Text};
+use arc_owners::mark::Open;
+use arc_read::slice::ArcSlice;
+use std::alloc::Global;
+
+/// A window over bytes.
+pub type ArcBytes<L = DefaultLayout, A = Global, H = Open> = ArcSlice<Plain<u8>, L, A, H>;
+
+/// A window over text, which is always valid UTF-8.
+pub type ArcStr<L = DefaultLayout, A = Global, H = Open> = ArcSlice<Text, L, A, H>;
+
+/// A window over bytes that are text by convention.
+pub type ArcByteText<L = DefaultLayout, A = Global, H = Open> = ArcSlice<ByteText, L, A, H>;
