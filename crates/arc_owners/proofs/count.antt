@@ -3,9 +3,9 @@ pub mod Calls
 pub mod Cells
 pub mod Ends
 pub mod Fields
-pub mod Lodged
 pub mod Moves
 pub mod Opened
+pub mod Operations
 pub mod Parts
 pub mod Places
 pub mod Returns
@@ -15,3 +15,4 @@ pub mod Shared
 pub mod Stakes
 pub mod States
 pub mod Wholes
+pub mod WordBorrows

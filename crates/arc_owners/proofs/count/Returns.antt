@@ -7,8 +7,9 @@ use base.Fml.{Fml, flent, finv}
 use types.Logic.{Logic, sem}
 use types.Keyed.{ticket, ticket_once}
 use types.Tokens.{lft_end, lent_back}
-use types.Kit.{‵, later, ◌$◌, ◌∵◌, !, qed, by, move, fsplit, fpick, fpack, frame, assume, suffices, updating, await, now, done, use2}
-use Rattle.arc_owners.specs.count.Invariant.{Lease, kept_if, kept_for, spoils}
+use types.Kit.{‵, later, ◌$◌, ◌∵◌, !, qed, by, move, fsplit, fpick, fpack, frame, assume, suffices}
+use types.Kit.{updating, await, now, done, use2}
+use Rattle.arc_owners.specs.count.Invariant.{Lease, kept_if, kept_for, end_tokens}
 
 module _ {M : Type 1} {𝓤 : Ura M} (𝓛 : Logic 𝓤) (P : Fml) (l : Lease) where
   open 𝓛 use {H}
@@ -38,14 +39,21 @@ module _ {M : Type 1} {𝓤 : Ura M} (𝓛 : Logic 𝓤) (P : Fml) (l : Lease) w
   keeps = qed 𝓛 (‵ LentBox ∷ []) ∵ fpack ! Bool (kept_if P l) true $ by ! (𝓛.invs.inv_new K)
 
   swaps : (y : Bool) → ⟦ kept_if P l y ⟧ ∗ ⟦ ticket l.key 0 ⟧ ⊢ upd 𝓤 (⟦ K ⟧ ∗ ⟦ LentBox ⟧)
-  swaps true = qed 𝓛 (‵ LentBox ∷ ‵ (ticket l.key 0) ∷ []) ∵ suffices ! _ (upd_i 𝓤 (⟦ K ⟧ ∗ ⟦ LentBox ⟧)) $ move ! (1 ∷ []) $ fpack ! Bool (kept_if P l) false $ done !
-  swaps false = via 𝓤 (base.Logic.never 𝓤) (ticket_once 𝓛 l.key 0) (never_e 𝓤 (upd 𝓤 (⟦ K ⟧ ∗ ⟦ LentBox ⟧)))
+  swaps true = qed 𝓛 (‵ LentBox ∷ ‵ (ticket l.key 0) ∷ []) ∵
+      suffices ! _ (upd_i 𝓤 (⟦ K ⟧ ∗ ⟦ LentBox ⟧)) $ move ! (1 ∷ []) $
+      fpack ! Bool (kept_if P l) false $ done !
+  swaps false = via 𝓤 (base.Logic.never 𝓤) (ticket_once 𝓛 l.key 0)
+      (never_e 𝓤 (upd 𝓤 (⟦ K ⟧ ∗ ⟦ LentBox ⟧)))
 
   redeems : ⟦ finv K ⟧ ∗ ⟦ ticket l.key 0 ⟧ ⊢ H.⇛ ⟦ LentBox ⟧
-  redeems = qed 𝓛 (‵ (finv K) ∷ ‵ (ticket l.key 0) ∷ []) ∵ suffices ! _ (𝓛.invs.inv_acc K ⟦ LentBox ⟧) $ frame ! $ assume ! (‵ K) $ fpick ! (λ y. by ! (swaps y))
+  redeems = qed 𝓛 (‵ (finv K) ∷ ‵ (ticket l.key 0) ∷ []) ∵
+      suffices ! _ (𝓛.invs.inv_acc K ⟦ LentBox ⟧) $ frame ! $ assume ! (‵ K) $
+      fpick ! (λ y. by ! (swaps y))
 
   -- whoever ends the lifetime has it back
-  pub returns : ⟦ finv K ⟧ ∗ ⟦ spoils l true ⟧ ⊢ H.⇛ ⟦ P ⟧
-  returns = qed 𝓛 (‵ (finv K) ∷ ‵ (spoils l true) ∷ []) ∵ updating ! $ move ! (1 ∷ []) $ fsplit ! $ lft_end ! tt $
+  pub returns : ⟦ finv K ⟧ ∗ ⟦ end_tokens l true ⟧ ⊢ H.⇛ ⟦ P ⟧
+  returns = qed 𝓛 (‵ (finv K) ∷ ‵ (end_tokens l true) ∷ []) ∵ updating ! $ move ! (1 ∷ []) $
+      fsplit ! $ lft_end ! tt $
       -- [the end; the ticket; what is kept]
-      move ! (2 ∷ 1 ∷ []) $ use2 𝓛 (later (‵ LentBox)) redeems $ await ! tt $ move ! (1 ∷ 0 ∷ []) $ lent_back ! tt $ now ! $ done !
+      move ! (2 ∷ 1 ∷ []) $ use2 𝓛 (later (‵ LentBox)) redeems $ await ! tt $ move ! (1 ∷ 0 ∷ []) $
+      lent_back ! tt $ now ! $ done !

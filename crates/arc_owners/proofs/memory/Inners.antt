@@ -24,11 +24,11 @@ use denote.Param.Laws.{Laws, param_laws}
 use denote.Steps.{nothing}
 use denote.Struct.Members.{Member, rows_of, parts_at}
 use denote.Struct.Parts.{shape_of, PartsBack, Struct-parts}
-use Rattle.arc_owners.specs.count.Invariant.{BlockId, lodged_for}
+use Rattle.arc_owners.specs.count.Invariant.{BlockId, word_borrow_for}
 use Rattle.arc_owners.specs.contracts.count.word.Word as Word
 use Rattle.arc_owners.specs.contracts.memory.inner.Inner as Inner
 use Rattle.arc_owners.proofs.count.word.Word.TheLaws.{the_row_laws as word_laws}
-use Rattle.arc_owners.proofs.count.Lodged.{lodges}
+use Rattle.arc_owners.proofs.count.WordBorrows.{borrows_word}
 
 module _ (T : RattleType) where
   abbrev pub R : RattleType
@@ -134,7 +134,7 @@ module _ (T : RattleType) (L : Laws T) {M : Type 1} {𝓤 : Ura M} (𝓛 : Logic
     α = a ∷ []
 
     -- lent for the lifetime a, with tokens of it and of the value's type
-    pub settles : At.bor α memory ∗ At.lft α s ∗ At.lft τ p ⊢ H.⇛ (⟦ lodged_for t b (o + word_at T) α ⟧ ∗ ⟦ shared_of (R T) v b (o + value_at T) α ⟧ ∗ At.lft α s ∗ At.lft τ p)
+    pub settles : At.bor α memory ∗ At.lft α s ∗ At.lft τ p ⊢ H.⇛ (⟦ word_borrow_for t b (o + word_at T) α ⟧ ∗ ⟦ shared_of (R T) v b (o + value_at T) α ⟧ ∗ At.lft α s ∗ At.lft τ p)
     unfolding fseps
     settles = qed 𝓛 (‵ (fbor α memory) ∷ ‵ (flft α s) ∷ ‵ (flft τ p) ∷ []) ∵ updating ! $ bor_open ! tt $ move ! (1 ∷ []) $ fsplit ! $
         use1 𝓛 (‵ (parts_at full_share ms zero vs b o) ⊛ raw Back) apart $ split ! $ fsplit ! $ use1 𝓛 (‵ TheWord) (word_bare 𝓛 t b (o + word_at T)) $ move ! (1 ∷ []) $ fsplit ! $
@@ -143,7 +143,7 @@ module _ (T : RattleType) (L : Laws T) {M : Type 1} {𝓤 : Ura M} (𝓛 : Logic
         move ! (3 ∷ 4 ∷ []) $ use2 𝓛 (‵ (fwand (fsep (fdead α) (fseps (TheWord ∷ TheValue ∷ []))) (fupd memory))) (way_back α) $ move ! (1 ∷ 2 ∷ []) $ fjoin ! $ move ! (2 ∷ 0 ∷ []) $ fjoin ! $
         move ! (2 ∷ 0 ∷ 1 ∷ []) $ obor_alter ! tt (TheWord ∷ TheValue ∷ []) $ use1 𝓛 (‵ (fbor α TheWord) ⊛ ‵ (fbor α TheValue) ⊛ ‵ ftrue) (id⊢ 𝓤 _) $ split3 ! $
         -- [two borrows; nothing; the tokens]
-        move ! (0 ∷ 3 ∷ []) $ use2 𝓛 (later (‵ (lodged_for t b (o + word_at T) α) ⊛ ‵ (flft α s))) (lodges 𝓛 t b (o + word_at T) α s) $ await ! tt $ split ! $
+        move ! (0 ∷ 3 ∷ []) $ use2 𝓛 (later (‵ (word_borrow_for t b (o + word_at T) α) ⊛ ‵ (flft α s))) (borrows_word 𝓛 t b (o + word_at T) α s) $ await ! tt $ split ! $
         move ! (1 ∷ 4 ∷ []) $ join ! $ move ! (2 ∷ 0 ∷ []) $
         use2 𝓛 (later (‵ (shared_of (R T) v b (o + value_at T) α) ⊛ ‵ (flft α s) ⊛ ‵ (flft τ p)))
         ((param_laws 0 T L).shares 𝓛 v α ((α, s) ∷ (τ, p) ∷ []) b (o + value_at T) (Incl-trans (meet_⊑_right α τ) inc) (meet_⊑_left α τ)) $ await ! tt $ split3 ! $

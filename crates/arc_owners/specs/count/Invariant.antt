@@ -19,7 +19,7 @@ use types.RcWeak.{part, rest}
 use denote.RawPtr.{Ptr, block_ptr, null_ptr}
 use Rattle.core.specs.Sync.RawAtomic.{word}
 use Rattle.arc_owners.specs.declared.history.entry.Entry.{Entry}
-use Rattle.arc_owners.specs.declared.history.entry.Entry.TheVariants.{Up, Full, Down, Alone}
+use Rattle.arc_owners.specs.declared.history.entry.Entry.TheVariants.{Up, Full}
 use Rattle.arc_owners.specs.contracts.history.entry.Entry as entry_type
 use Rattle.arc_owners.specs.history.Histories.{Beginning, Lone, Counted, live_owners, owners_ever}
 use Rattle.arc_owners.specs.history.Histories.{is_counted, MayFollow, IsLegal}
@@ -295,43 +295,14 @@ pub record Adds (t : BlockId) (p : ℕ) (seen before : List Line) (e : Entry) : 
   pub may : MayFollow t.most t.began (entries_of before) e
   pub legal : IsLegal t.most t.began (entries_of (before ++ (p, e) ∷ []))
 
--- what a call leaves that added an entry to the history before it: the pass, with what it has seen
--- since
-abbrev pub left_by : BlockId → ℕ → Bool → List Line → (List Line → Entry) → (List Line → Fml)
-    → List Line → Fml
-left_by t p ready seen e gain before = fsep (told (Adds t p seen before (e before)))
-    (fsep (pass_holds t p ready (before ++ (p, e before) ∷ [])) (gain before))
-
-abbrev pub added : BlockId → ℕ → Bool → List Line → (List Line → Entry) → (List Line → Fml) → Fml
-added t p ready seen e gain = fex (List Line) (left_by t p ready seen e gain)
-
 -- the number of the next owner of a running call: how many owners the history had
 abbrev pub next_owner : List Line → ℕ
 next_owner ls = length (owners_ever (entries_of ls))
 
--- a look at the number of the word
-abbrev pub looked : BlockId → ℕ → Bool → List Line → ℕ → Lease → Share → ℕ → Fml
-looked t p ready seen o l q n = added t p ready seen (λ _. Alone o (n == 1)) (λ _. right t o l q)
-
--- a look that adds an entry where the number is the greatest
-abbrev pub glanced_at : BlockId → ℕ → Bool → List Line → ℕ → Lease → Share → Bool → Fml
-glanced_at t p ready seen o l q true = added t p ready seen (λ _. Full o) (λ _. right t o l q)
-glanced_at t p ready seen o l q false = fsep (pass_holds t p ready seen) (right t o l q)
-
-abbrev pub glanced : BlockId → ℕ → Bool → List Line → ℕ → Lease → Share → ℕ → Fml
-glanced t p ready seen o l q n = glanced_at t p ready seen o l q (n == t.most)
-
--- an exchange, which makes an owner where it wins
-abbrev pub raised_by : BlockId → ℕ → Bool → List Line → ℕ → Lease → Share → Bool → Fml
-raised_by t p ready seen o l q true = added t p ready seen
-    (λ before. Up o (next_owner before))
-    (λ before. fsep (right t o l q) (fsep (right t (next_owner before) l quarter) (stake l)))
-raised_by t p ready seen o l q false = fsep (pass_holds t p ready seen) (right t o l q)
-
 -- what the last owner has from its end: the whole token of the lifetime, and the ticket
-abbrev pub spoils : Lease → Bool → Fml
-spoils l true = fsep (flft (l.lifetime ∷ []) full_share) (ticket l.key 0)
-spoils l false = ftrue
+abbrev pub end_tokens : Lease → Bool → Fml
+end_tokens l true = fsep (flft (l.lifetime ∷ []) full_share) (ticket l.key 0)
+end_tokens l false = ftrue
 
 -- what is lent for the lifetime of a lease comes back for its ticket, once
 abbrev pub kept_if : Fml → Lease → Bool → Fml
@@ -345,10 +316,6 @@ kept_for P l = fex Bool (kept_if P l)
 abbrev pub how_many_live : List Line → ℕ
 how_many_live ls = length (live_owners (entries_of ls))
 
-abbrev pub lowered_by : BlockId → ℕ → Bool → List Line → ℕ → Lease → ℕ → Fml
-lowered_by t p ready seen o l n = added t p ready seen (λ _. Down o)
-    (λ before. fsep (told (n ≡ how_many_live before)) (spoils l (n == 1)))
-
 -- the lease of an owner who asked for the block back: taken where it was found alone
 abbrev pub taken : Lease → Lease
 taken l = record { is_lent = false; lifetime = l.lifetime; key = l.key }
@@ -360,16 +327,7 @@ lease_after l false = l
 -- what such an owner has: its right, and the end of the lifetime or its part of it
 abbrev pub claim_gain : BlockId → ℕ → Lease → Bool → Fml
 claim_gain t o l y = fsep (right t o (lease_after l y) quarter)
-    (fsep (stake (lease_after l y)) (spoils l y))
-
-abbrev pub claimed_by : BlockId → ℕ → Bool → List Line → ℕ → Lease → ℕ → Fml
-claimed_by t p ready seen o l n = added t p ready seen (λ _. Alone o (n == 1))
-    (λ _. claim_gain t o l (n == 1))
-
--- a sole owner's end, without a step
-abbrev pub finished_by : BlockId → ℕ → Bool → List Line → ℕ → Fml
-finished_by t p ready seen o = added t p ready seen (λ _. Down o)
-    (λ before. told (1 ≡ how_many_live before))
+    (fsep (stake (lease_after l y)) (end_tokens l y))
 
 -- a `&` to the word: an invariant over a borrow of it, whose number is past the invariant's
 abbrev pub lent : BlockId → ℕ → ℕ → Lft → Lft × ℕ → Fml
@@ -381,16 +339,16 @@ word_shares t (block_ptr b o) κ = fex (Lft × ℕ) (lent t b o κ)
 word_shares t null_ptr κ = ffalse
 
 -- a borrow of the word stands behind an invariant whose number is past the invariant's
-abbrev pub lodged_as : BlockId → ℕ → ℕ → Lft → ℕ → Fml
-lodged_as t b o κ j = fsep (told (t.number < j)) (fnamed j (fbor κ (counting t b o)))
+abbrev pub word_borrow_as : BlockId → ℕ → ℕ → Lft → ℕ → Fml
+word_borrow_as t b o κ j = fsep (told (t.number < j)) (fnamed j (fbor κ (counting t b o)))
 
-abbrev pub lodged_for : BlockId → ℕ → ℕ → Lft → Fml
-lodged_for t b o κ = fex ℕ (lodged_as t b o κ)
+abbrev pub word_borrow_for : BlockId → ℕ → ℕ → Lft → Fml
+word_borrow_for t b o κ = fex ℕ (word_borrow_as t b o κ)
 
 -- the word lies at this place for as long as the block is lent
-abbrev pub lodged : BlockId → Ptr → ℕ → Fml
-lodged t (block_ptr b o) a = lodged_for t b o (a ∷ [])
-lodged t null_ptr a = ffalse
+abbrev pub word_borrow : BlockId → Ptr → ℕ → Fml
+word_borrow t (block_ptr b o) a = word_borrow_for t b o (a ∷ [])
+word_borrow t null_ptr a = ffalse
 
 -- an owner's right that is held, or none
 abbrev pub right_owns : Bool → BlockId → ℕ → Lease → List Line → Fml
@@ -425,19 +383,10 @@ AddedTo t p seen e before ls = Adds t p seen before (e before) × (ls ≡ before
 abbrev pub Written : BlockId → ℕ → List Line → Entry → List Line → Type 0
 Written t p seen e ls = (before : List Line) × AddedTo t p seen (λ _. e) before ls
 
--- what a look leaves
-abbrev pub after_look : BlockId → ℕ → Bool → List Line → ℕ → Lease → Share → ℕ → List Line → Fml
-after_look t p ready seen o l q n ls = fsep (told (Written t p seen (Alone o (n == 1)) ls))
-    (fsep (trace_owns true t p ready ls) (right t o l q))
-
 -- the count was found at its greatest, which is an entry, or the pass is as it was
 abbrev pub Filled : BlockId → ℕ → List Line → ℕ → Bool → List Line → Type 0
 Filled t p seen o true ls = Written t p seen (Full o) ls
 Filled t p seen o false ls = ls ≡ seen
-
-abbrev pub after_glance : BlockId → ℕ → Bool → List Line → ℕ → Lease → Share → ℕ → List Line → Fml
-after_glance t p ready seen o l q n ls = fsep (told (Filled t p seen o (n == t.most) ls))
-    (fsep (trace_owns true t p ready ls) (right t o l q))
 
 -- a new owner, by its number and the history in which it was made, or none
 abbrev pub MadeOne : BlockId → ℕ → List Line → ℕ → Bool → List Line → Bool × ℕ → Type 0
@@ -445,25 +394,3 @@ MadeOne t p seen o true ls new = (before : List Line)
     × AddedTo t p seen (λ h. Up o (next_owner h)) before ls × (new.0 ≡ true)
     × (new.1 ≡ next_owner before)
 MadeOne t p seen o false ls new = (ls ≡ seen) × (new.0 ≡ false)
-
-abbrev pub after_raise : BlockId → ℕ → Bool → List Line → ℕ → Lease → Share → ℕ → ℕ
-    → List Line × (Bool × ℕ) → Fml
-after_raise t p ready seen o l q old n u = fsep (told (MadeOne t p seen o (n == old) u.0 u.1))
-    (fsep (trace_owns true t p ready u.0) (fsep (right t o l q) (right_owns u.1.0 t u.1.1 l u.0)))
-
--- an owner ended, where the word counted so many
-abbrev pub Lowered : BlockId → ℕ → List Line → ℕ → ℕ → List Line → Type 0
-Lowered t p seen o n ls = (before : List Line) × AddedTo t p seen (λ _. Down o) before ls
-    × (n ≡ how_many_live before)
-
-abbrev pub after_claim : BlockId → ℕ → Bool → List Line → ℕ → Lease → ℕ → List Line → Fml
-after_claim t p ready seen o l n ls = fsep (told (Written t p seen (Alone o (n == 1)) ls))
-    (fsep (trace_owns true t p ready ls) (claim_gain t o l (n == 1)))
-
-abbrev pub after_finish : BlockId → ℕ → Bool → List Line → ℕ → List Line → Fml
-after_finish t p ready seen o ls = fsep (told (Lowered t p seen o 1 ls))
-    (trace_owns true t p ready ls)
-
-abbrev pub after_lower : BlockId → ℕ → Bool → List Line → ℕ → Lease → ℕ → List Line → Fml
-after_lower t p ready seen o l n ls = fsep (told (Lowered t p seen o n ls))
-    (fsep (trace_owns true t p ready ls) (spoils l (n == 1)))

@@ -9,7 +9,7 @@ ghost use Rattle.arc_owners.specs.declared.history.entry.Entry.TheVariants.{Alon
 ghost use Rattle.arc_owners.specs.count.Invariant.{BlockId, block_id_coded, Line, line_coded};
 ghost use Rattle.arc_owners.specs.count.Invariant.{Lease, lease_coded, behind, word_shares};
 ghost use Rattle.arc_owners.specs.count.Invariant.{right_owns, right_shares, trace_owns};
-ghost use Rattle.arc_owners.specs.count.Invariant.{trace_shares, spoils, lodged};
+ghost use Rattle.arc_owners.specs.count.Invariant.{trace_shares, end_tokens, word_borrow};
 
 use crate::mark::Open;
 use atomic_table::exchange;
@@ -81,9 +81,9 @@ pub struct WordBorrow {
 }
 
 impl Model for WordBorrow {
-    ghost also_owns = { λ l. lodged l.block l.at l.lifetime };
+    ghost also_owns = { λ l. word_borrow l.block l.at l.lifetime };
 
-    ghost also_shares = { λ l _ κ. lodged l.block l.at l.lifetime };
+    ghost also_shares = { λ l _ κ. word_borrow l.block l.at l.lifetime };
 }
 
 /// What an owner's end leaves: of the last owner, the right to end the lifetime for which the block
@@ -95,7 +95,7 @@ pub struct EndTokens {
 }
 
 impl Model for EndTokens {
-    ghost also_owns = { λ s. spoils s.lease s.last };
+    ghost also_owns = { λ s. end_tokens s.lease s.last };
 }
 
 impl Word {

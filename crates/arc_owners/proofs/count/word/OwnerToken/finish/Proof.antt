@@ -2,12 +2,13 @@
 use contract.BorrowLft.{◌⊑◌}
 use denote.Param.{param, layouts}
 use mir.MapTy.{inst_fn}
-use Rattle.std.proofs.Common.{Bool, true, false, List, [], ◌∷◌, refl}
+use Rattle.std.proofs.Common.{Bool, true, false, List, [], ◌∷◌, ◌++◌, refl}
+use mathlib.Core.Option.{some as just}
 use mir.Syntax.{named, a_type}
 use mir.Val.{Val, vunit, vptr}
 use base.Logic.{SProp, emp}
 use base.Fml.{ftrue, fsep, flft}
-use types.Kit.{‵, ◌⊛◌, some, later, ◌$◌, ◌∵◌, !, qed, by, move, keep, drop, split, fsplit, fsplit3, fjoin, fjoin3, fpick, pick, use2, await, rewrite, feq_i, raw}
+use types.Kit.{‵, ◌⊛◌, later, ◌$◌, ◌∵◌, !, qed, by, move, keep, drop, split, fsplit, fsplit3, fjoin, fjoin3, fpick, use2, await, rewrite, feq_i, raw}
 use types.Run.{unit_lit, of_opd, returns, enter}
 use types.ByLocal.{alloc_all, pass_all, free_all, look_at, sets}
 use contract.Monad.{fact_i, fact}
@@ -20,7 +21,9 @@ use denote.Triple.Walked.{Stays, stay_ref, walk_of, Goes-ref}
 use Rattle.std.proofs.raw_atomic.Walks.{proved}
 use Rattle.arc_owners.proofs.count.Ends.{ends_when}
 use Rattle.logbook.proofs.Fields.{ends}
-use Rattle.arc_owners.specs.count.Invariant.{BlockId, Line, right_owns, trace_owns, after_finish}
+use Rattle.arc_owners.specs.declared.history.entry.Entry.TheVariants.{Down}
+use Rattle.arc_owners.specs.count.Invariant.{BlockId, right_owns, trace_owns}
+use Rattle.arc_owners.proofs.count.Operations.{left}
 use Rattle.arc_owners.specs.contracts.count.word.OwnerToken as OwnerToken
 use Rattle.arc_owners.specs.contracts.count.word.PassState as PassState
 use Rattle.arc_owners.proofs.count.Begins as begins
@@ -46,9 +49,9 @@ finish_spec 𝓤 𝓛 𝓜 𝓡 wired T L =
     move ! (6 ∷ 7 ∷ 8 ∷ []) $ opens ! tt PassState.the_row b₂ o₂ (λ vs. move ! (1 ∷ []) $ fsplit ! $ move ! (1 ∷ []) $
     rewrite ! 0 (λ (k : Bool × BlockId). ‵ (trace_owns k.0 k.1 seen.number seen.ready seen.lines)) (λ i. (asked.1.0 i, asked.1.1 i)) refl $
     -- [the pass; its marker, cell and open borrow; the right; its marker, cell and open borrow]
-    move ! (0 ∷ 6 ∷ []) $ use2 𝓛 (later (some (λ (ls : List Line). ‵ (after_finish me seen.number seen.ready seen.lines own.owner ls)))) (begins.finishes_by 𝓛 me seen.number seen.ready seen.lines own.owner own.lease asked.0.2) $
-    await ! tt $ pick ! (λ ls. fsplit ! $ fpick ! (λ so. drop ! $
-    let after : PassState.the_row.Denot = record { marker = record {}; bound = true; block = me; number = seen.number; ready = seen.ready; lines = ls } in
+    move ! (0 ∷ 6 ∷ []) $ use2 𝓛 (later (‵ (left me seen.number seen.lines (λ ls. trace_owns true me seen.number seen.ready ls) 1 (λ _. just (Down own.owner)) (λ _. ftrue)))) (begins.finishes_by 𝓛 me seen.number seen.ready seen.lines own.owner own.lease asked.0.2) $
+    await ! tt $ fpick ! (λ before. fsplit ! $ fpick ! (λ so. drop ! $ fsplit ! $ move ! (1 ∷ []) $ drop ! $
+    let after : PassState.the_row.Denot = record { marker = record {}; bound = true; block = me; number = seen.number; ready = seen.ready; lines = before ++ (seen.number, Down own.owner) ∷ [] } in
     let gone : Own.Denot = record { marker = record {}; held = false; block = me; owner = own.owner; lease = own.lease; born = own.born } in
     move ! (1 ∷ 0 ∷ []) $ fjoin ! $ move ! (1 ∷ 0 ∷ 2 ∷ 3 ∷ 4 ∷ []) $ closes ! tt PassState.the_row after vs b₂ o₂ $
     nothing ! $ move ! (4 ∷ 0 ∷ []) $ fjoin ! $ move ! (4 ∷ 0 ∷ 5 ∷ 6 ∷ 7 ∷ []) $ closes ! tt Own gone ts b₁ o₁ $
@@ -57,4 +60,4 @@ finish_spec 𝓤 𝓛 𝓜 𝓡 wired T L =
     move ! (7 ∷ []) $ move ! (7 ∷ 0 ∷ []) $ fjoin ! $ move ! (4 ∷ 0 ∷ []) $ fjoin ! $
     nothing ! $ feq_i ! (List Val) (vptr b₂ o₂ ∷ []) (vptr b₂ o₂ ∷ []) refl $ move ! (0 ∷ 6 ∷ 7 ∷ []) $ fjoin3 ! $ fjoin ! $ feq_i ! (List Val) (vptr b₁ o₁ ∷ []) (vptr b₁ o₁ ∷ []) refl $ move ! (0 ∷ 4 ∷ 5 ∷ []) $ fjoin3 ! $ fjoin ! $
     returns ! (look_at ! 0 refl) $ free_all ! refl $ keep ! (1 ∷ 0 ∷ 2 ∷ []) $
-    by ! (ends 𝓛 En hs c y vunit tt (gone, (after, tt)) (tt, (tt, tt)) (fact_i 𝓤 _ (emp 𝓤) ((refl, refl, refl, refl), ends_when me seen.number seen.lines own.owner 1 ls true refl so, refl))))))))))
+    by ! (ends 𝓛 En hs c y vunit tt (gone, (after, tt)) (tt, (tt, tt)) (fact_i 𝓤 _ (emp 𝓤) ((refl, refl, refl, refl), ends_when me seen.number seen.lines own.owner 1 before true refl so, refl))))))))))

@@ -1,4 +1,4 @@
--- `only` opens the invariant for a look at its history, in which a sole owner lives alone.
+-- `only` opens the invariant and reads its history, in which a sole owner lives alone.
 use contract.BorrowLft.{◌⊑◌}
 use denote.Param.{param, layouts}
 use mir.MapTy.{inst_fn}

@@ -1,4 +1,4 @@
--- `attest` opens the invariant for a look at its history, which is past the pass.
+-- `attest` opens the invariant and reads its history, which is past the pass.
 use Rattle.std.proofs.Common.{◌≡◌, true, List, [], ◌∷◌, refl}
 use mir.Syntax.{named}
 use mir.Val.{Val, vunit, vptr}

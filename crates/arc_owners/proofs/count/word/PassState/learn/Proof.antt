@@ -1,4 +1,4 @@
--- `learn` opens the invariant for a look at its history, which is past both passes.
+-- `learn` opens the invariant and reads its history, which is past both passes.
 use Rattle.std.proofs.Common.{◌≡◌, Bool, true, List, [], ◌∷◌, refl}
 use mir.Syntax.{named}
 use mir.Val.{Val, vunit, vptr}

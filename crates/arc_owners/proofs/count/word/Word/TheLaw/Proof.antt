@@ -13,8 +13,8 @@ use denote.Memory.{part_at}
 use denote.Steps.{nothing}
 use denote.SharingLaws.{ends_shr_laws}
 use Rattle.core.proofs.cell.Borrows.{by_one}
-use Rattle.arc_owners.specs.count.Invariant.{BlockId, counting, lent, lodged_for}
-use Rattle.arc_owners.proofs.count.Lodged.{lodges}
+use Rattle.arc_owners.specs.count.Invariant.{BlockId, counting, lent, word_borrow_for}
+use Rattle.arc_owners.proofs.count.WordBorrows.{borrows_word}
 use Rattle.arc_owners.specs.contracts.count.word.Word as C
 use Rattle.arc_owners.proofs.count.word.Word.TheLaw.Statement.{statement}
 
@@ -42,7 +42,7 @@ module _ {M : Type 1} {𝓤 : Ura M} (𝓛 : Logic 𝓤) (t : BlockId) (b o : �
   Whole = part_at C.the_written full_share t b o
 
   shared : (κ : Lft) (q : Share) → At.bor κ Whole ∗ At.lft κ q ⊢ H.⇛ (⟦ fex (Lft × ℕ) (lent t b o κ) ⟧ ∗ At.lft κ q)
-  shared κ q = qed 𝓛 (‵ (fbor κ Whole) ∷ ‵ (flft κ q) ∷ []) ∵ updating ! $ use2 𝓛 (later (‵ (lodged_for t b o κ) ⊛ ‵ (flft κ q))) (lodges 𝓛 t b o κ q) $ await ! tt $ split ! $
+  shared κ q = qed 𝓛 (‵ (fbor κ Whole) ∷ ‵ (flft κ q) ∷ []) ∵ updating ! $ use2 𝓛 (later (‵ (word_borrow_for t b o κ) ⊛ ‵ (flft κ q))) (borrows_word 𝓛 t b o κ q) $ await ! tt $ split ! $
       fpick ! (λ j. use0 𝓛 (‵ (before κ κ)) (before-Incl 𝓛 κ κ (Incl-refl κ)) $ fjoin ! $ fpack ! (Lft × ℕ) (lent t b o κ) (κ, j) $ now ! $ done !)
 
   abbrev Shared : Lft → Fml

@@ -6,7 +6,8 @@ use Rattle.std.proofs.Common.{ℕ, ◌^◌, Bool, true, eqb, List, [], ◌∷◌
 use mir.Syntax.{named, a_type}
 use mir.Val.{Val, vint, vptr}
 use base.Logic.{SProp, wand, emp, via, id⊢, apply∗}
-use base.Fml.{Share, Fml, ftrue, fsep, fex, flft}
+use base.Share.{quarter}
+use base.Fml.{Share, Fml, ftrue, fsep, flft}
 use types.Kit.{‵, raw, ◌⊛◌, some, later, mean, at_ret, ◌$◌, ◌∵◌, !, qed, by, move, keep, drop, split, group, fsplit, fsplit3, fjoin, fjoin3, fpick, pick, use1, use2, use3, await, rewrite, feq_i, flt_i}
 use types.Run.{stop, addr, lit, of_opd, no_more, and_then, first, blocks, exec, Calls-last, returns, enter}
 use types.ByLocal.{alloc_all, pass_all, free_all, look_at, get, through, sets, lands_last, env}
@@ -27,11 +28,13 @@ use Rattle.core.proofs.atomic.Steps.{tail}
 use Rattle.std.proofs.raw_atomic.Walks.{proved}
 use Rattle.std.proofs.raw_atomic.Calls.{fm, found, finds, loads, seq_cst}
 use Rattle.logbook.proofs.Fields.{ends}
-use Rattle.arc_owners.specs.count.Invariant.{BlockId, Line, Lease, lease_after, right_owns, trace_owns, after_claim}
+use Rattle.arc_owners.specs.count.Invariant.{BlockId, Lease, lease_after, right_owns, trace_owns, stake}
 use Rattle.arc_owners.specs.contracts.count.word.Word as Word
 use Rattle.arc_owners.specs.contracts.count.word.OwnerToken as OwnerToken
 use Rattle.arc_owners.specs.contracts.count.word.PassState as PassState
 use Rattle.arc_owners.specs.contracts.count.word.EndTokens as EndTokens
+use Rattle.arc_owners.proofs.count.Operations.{Operation, claim, with_entry}
+use Rattle.arc_owners.proofs.count.Moves as moves
 use Rattle.arc_owners.proofs.count.Places as places
 use Rattle.arc_owners.specs.contracts.count.word.Word.claim as f
 use Rattle.arc_owners.proofs.count.word.Word.claim.Statement.{statement}
@@ -50,7 +53,7 @@ claim_spec 𝓤 𝓛 𝓜 𝓡 wired T L =
     qed 𝓛 ((‵ toks ⊛ ‵ (owns (types_at En.signature.params κs) a y.0.4)) ∷ raw (fact 𝓤 (κs.1.1.1.1.0 ⊑ T.lives)) ∷ raw (fact 𝓤 _) ∷ []) ∵ move ! (2 ∷ []) $ heard ! _ (λ asked. keep ! (0 ∷ []) $ split ! $
     fsplit ! $ move ! (1 ∷ []) $ fsplit ! $ move ! (1 ∷ []) $ fsplit ! $ move ! (1 ∷ []) $ fsplit ! $ move ! (5 ∷ []) $ fsplit ! $ fsplit ! $ move ! (2 ∷ []) $ fsplit ! $ fsplit3 ! $ move ! (3 ∷ []) $ fsplit ! $ fsplit3 ! $ move ! (3 ∷ []) $ fsplit ! $ fsplit3 ! $
     keep ! (8 ∷ 9 ∷ 5 ∷ 6 ∷ 1 ∷ 2 ∷ 11 ∷ 12 ∷ 14 ∷ 15 ∷ 16 ∷ 13 ∷ []) $
-    -- [two parts of the owner, of the pass and of the spoils; the word; the tokens, last first]
+    -- [two parts of the owner, of the pass and of the end tokens; the word; the tokens, last first]
     enter ! 𝓣.C 𝓣.Λ fn (vptr b o ∷ vptr b₁ o₁ ∷ vptr b₂ o₂ ∷ vptr b₃ o₃ ∷ []) Post $ alloc_all ! (λ l. pass_all ! refl ((tt, tt), ((tt, tt), ((tt, tt), ((tt, tt), tt)))) $ let Ev = env fn.locals l in
     move ! (6 ∷ []) $ unhide ! $ fpick ! (λ z. fsplit3 ! $ move ! (1 ∷ []) $ fpick ! (λ past. drop ! $ move ! (0 ∷ 11 ∷ []) $
     use2 𝓛 (later (some (λ (s : Share). ‵ (flft z.0 s) ⊛ raw (wand 𝓤 (𝓛.A.lft z.0 s) (H.⇛ (𝓛.A.lft κs.0 qs.0)))))) (Lends-one 𝓛 𝓜 𝓡 κs.0 z.0 qs.0) $ await ! tt $ pick ! (λ s. split ! $
@@ -58,25 +61,25 @@ claim_spec 𝓤 𝓛 𝓜 𝓡 wired T L =
     move ! (3 ∷ 4 ∷ 11 ∷ []) $ opens ! tt Own b₁ o₁ (λ ts. move ! (1 ∷ []) $ fsplit ! $ move ! (1 ∷ []) $
     rewrite ! 0 (λ (k : Bool × BlockId). ‵ (right_owns k.0 k.1 own.owner own.lease own.born)) (λ i. (asked.0.0 i, asked.0.1 i)) refl $ fsplit ! $ move ! (1 ∷ []) $ fsplit ! $
     -- [the right; the stake; its invariant, marker, cell and open borrow; the word's token, way
-    -- back and invariant; two parts of the pass and of the spoils; two tokens]
+    -- back and invariant; two parts of the pass and of the end tokens; two tokens]
     move ! (13 ∷ 14 ∷ 15 ∷ []) $ opens ! tt EndTokens.the_row b₃ o₃ (λ ws. move ! (1 ∷ []) $ fsplit ! $ move ! (1 ∷ []) $ drop ! $
     move ! (16 ∷ 17 ∷ 18 ∷ []) $ opens ! tt PassState.the_row b₂ o₂ (λ vs. move ! (1 ∷ []) $ fsplit ! $ move ! (1 ∷ []) $
     rewrite ! 0 (λ (k : Bool × BlockId). ‵ (trace_owns k.0 k.1 seen.number seen.ready seen.lines)) (λ i. (asked.1.0 i, asked.1.1 i)) refl $
-    let out : ℕ → Fml = λ n. fsep (flft z.0 s) (fex (List Line) (after_claim me seen.number seen.ready seen.lines own.owner own.lease n)) in
+    let op : Operation = claim me own.owner own.lease in let out : ℕ → Fml = λ n. fsep (flft z.0 s) (places.after 𝓛 me seen.number seen.ready seen.lines op n) in
     first ! $ blocks ! $ sets ! (addr ! (through ! refl (stop !))) refl (tt, tt) $ sets ! (of_opd ! (get ! refl)) refl (tt, tt) $
     move ! (0 ∷ 11 ∷ 12 ∷ []) $ group ! 3 $ move ! (19 ∷ 17 ∷ 0 ∷ []) $
     use3 𝓛 (raw (𝓣.C _ (vptr b o ∷ seq_cst ∷ []) (λ u. mean 𝓛 (found out u))))
-    (via 𝓤 _ (places.at_claim 𝓛 me z.0 s z.1 b o past seen.number seen.ready seen.lines own.owner own.lease asked.0.2) (loads 𝓛 𝓜 𝓡 (code.calls-core::raw_atomic::load 𝓡.env wired) (block_ptr b o) out)) $
+    (via 𝓤 _ (places.by_reference 𝓛 me seen.number seen.ready seen.lines own.owner own.lease quarter (stake own.lease) op (moves.claims 𝓛 me seen.number seen.ready seen.lines own.owner own.lease asked.0.2) z.0 s z.1 b o past) (loads 𝓛 𝓜 𝓡 (code.calls-core::raw_atomic::load 𝓡.env wired) (block_ptr b o) out)) $
     sets ! (agg ! (and_then ! (lit ! tt) (no_more !))) refl (tt, (record { fits = lit< tt }, tt)) $
     Calls-last ! (fm 𝓛 𝓜 𝓡) (found out) (and_then ! (get ! refl) (and_then ! (get ! refl) (no_more !))) (λ u. finds ! out (λ n fits. lands_last ! refl (tt, record { fits = fits }) $
     exec ! 𝓣.C 𝓣.Λ Ev (tail fn.body) (at_ret Ev Post) $ sets ! (of_opd ! (get ! refl)) refl (tt, record { fits = fits }) $
     fsplit ! $ move ! (0 ∷ 18 ∷ []) $ use2 𝓛 (later (‵ (flft κs.0 qs.0))) (apply∗ 𝓤 (𝓛.A.lft z.0 s) (H.⇛ (𝓛.A.lft κs.0 qs.0))) $ await ! tt $
-    move ! (1 ∷ []) $ fpick ! (λ ls. fsplit ! $ fpick ! (λ so. drop ! $ fsplit ! $
-    let after : PassState.the_row.Denot = record { marker = record {}; bound = true; block = me; number = seen.number; ready = seen.ready; lines = ls } in
+    move ! (1 ∷ []) $ fpick ! (λ before. fsplit ! $ fpick ! (λ so. drop ! $ fsplit ! $
+    let after : PassState.the_row.Denot = record { marker = record {}; bound = true; block = me; number = seen.number; ready = seen.ready; lines = with_entry seen.number before (op.entry n before) } in
     let lease : Lease = lease_after own.lease (eqb n 1) in let kept : Own.Denot = record { marker = record {}; held = true; block = me; owner = own.owner; lease = lease; born = own.born } in
     let left : EndTokens.the_row.Denot = record { marker = record {}; last = eqb n 1; lease = own.lease } in
     move ! (3 ∷ 0 ∷ []) $ fjoin ! $ move ! (3 ∷ 0 ∷ 4 ∷ 5 ∷ 6 ∷ []) $ closes ! tt PassState.the_row after vs b₂ o₂ $
-    -- [three of the pass; what the owner gains; a token; the spoils' marker, cell and open borrow;
+    -- [three of the pass; what the owner gains; a token; the end tokens' marker, cell and open borrow;
     -- the owner's invariant, marker, cell and open borrow]
     move ! (3 ∷ []) $ fsplit ! $ move ! (1 ∷ []) $ fsplit ! $ move ! (2 ∷ 0 ∷ []) $ fjoin ! $ move ! (11 ∷ 0 ∷ []) $ fjoin ! $ use1 𝓛 (‵ (right_owns true me own.owner lease own.born)) (id⊢ 𝓤 _) $
     move ! (11 ∷ 0 ∷ []) $ fjoin ! $ move ! (11 ∷ 0 ∷ 12 ∷ 13 ∷ 14 ∷ []) $ closes ! tt Own kept ts b₁ o₁ $
@@ -86,4 +89,4 @@ claim_spec 𝓤 𝓛 𝓜 𝓡 wired T L =
     nothing ! $ feq_i ! (List Val) (vptr b₃ o₃ ∷ []) (vptr b₃ o₃ ∷ []) refl $ move ! (0 ∷ 6 ∷ 7 ∷ []) $ fjoin3 ! $ fjoin ! $ feq_i ! (List Val) (vptr b₂ o₂ ∷ []) (vptr b₂ o₂ ∷ []) refl $ move ! (0 ∷ 6 ∷ 7 ∷ []) $ fjoin3 ! $ fjoin ! $
     feq_i ! (List Val) (vptr b₁ o₁ ∷ []) (vptr b₁ o₁ ∷ []) refl $ move ! (0 ∷ 4 ∷ 5 ∷ []) $ fjoin3 ! $ fjoin ! $ nothing ! $ fjoin ! $
     returns ! (look_at ! 0 refl) $ free_all ! refl $ keep ! (1 ∷ 0 ∷ 2 ∷ []) $
-    by ! (ends 𝓛 En hs c y (vint w64 n) n (tt, (kept, (after, (left, tt)))) (tt, (tt, (tt, (tt, tt)))) (fact_i 𝓤 _ (emp 𝓤) ((refl, refl, refl, refl), so, (refl, refl, refl, refl, refl), refl, refl))))))))))))))))
+    by ! (ends 𝓛 En hs c y (vint w64 n) n (tt, (kept, (after, (left, tt)))) (tt, (tt, (tt, (tt, tt)))) (fact_i 𝓤 _ (emp 𝓤) ((refl, refl, refl, refl), (before, (so.0, refl)), (refl, refl, refl, refl, refl), refl, refl))))))))))))))))

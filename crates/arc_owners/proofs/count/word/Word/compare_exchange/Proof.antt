@@ -1,13 +1,13 @@
--- `raise` is one exchange, with the invariant, a share of an owner's right, the pass, and the right
+-- `compare_exchange` is one exchange, with the invariant, a share of an owner's right, the pass, and the right
 -- of the new owner.
 use contract.BorrowLft.{◌⊑◌}
 use denote.Param.{param, layouts}
 use mir.MapTy.{inst_fn}
-use Rattle.std.proofs.Common.{ℕ, ◌^◌, Bool, true, List, [], ◌∷◌, refl, w64}
+use Rattle.std.proofs.Common.{ℕ, ◌^◌, Bool, true, eqb, List, [], ◌∷◌, refl, w64}
 use mir.Syntax.{named, a_type}
 use mir.Val.{Val, vint, vptr}
 use base.Logic.{SProp, wand, emp, via, apply∗}
-use base.Fml.{Share, Fml, ftrue, fsep, fex, flft, fhide}
+use base.Fml.{Share, Fml, ftrue, fsep, flft, fhide}
 use types.Logic.{sem}
 use types.Kit.{‵, raw, ◌⊛◌, some, later, mean, at_ret, ◌$◌, ◌∵◌, !, qed, by, move, keep, drop, split, group, fsplit, fsplit3, fjoin, fjoin3, fpick, pick, use1, use2, use3, await, rewrite, feq_i, flt_i}
 use types.Run.{stop, addr, of_opd, no_more, and_then, first, blocks, exec, Calls-last, returns, enter}
@@ -32,11 +32,13 @@ use Rattle.core.proofs.atomic.Steps.{tail}
 use Rattle.std.proofs.raw_atomic.Walks.{proved}
 use Rattle.atomic_table.proofs.Calls.{fm, found, finds, exchanges}
 use Rattle.logbook.proofs.Fields.{Token, ends}
-use Rattle.arc_owners.specs.count.Invariant.{BlockId, Line, right, right_shares, trace_owns, after_raise}
+use Rattle.arc_owners.specs.count.Invariant.{BlockId, Line, right, right_shares, right_owns, trace_owns, next_owner}
 use Rattle.arc_owners.specs.contracts.count.word.Word as Word
 use Rattle.arc_owners.specs.contracts.count.word.OwnerToken as OwnerToken
 use Rattle.arc_owners.specs.contracts.count.word.PassState as PassState
 use Rattle.arc_owners.proofs.count.Shared.{right_read}
+use Rattle.arc_owners.proofs.count.Operations.{Operation, compare_exchange, with_entry, made_one}
+use Rattle.arc_owners.proofs.count.Moves as moves
 use Rattle.arc_owners.proofs.count.Places as places
 use Rattle.arc_owners.specs.contracts.count.word.Word.compare_exchange as f
 use Rattle.arc_owners.proofs.count.word.Word.compare_exchange.Statement.{statement}
@@ -72,18 +74,21 @@ compare_exchange_spec 𝓤 𝓛 𝓜 𝓡 wired T L =
     rewrite ! 0 (λ (k : Bool × BlockId). ‵ (trace_owns k.0 k.1 seen.number seen.ready seen.lines)) (λ i. (asked.1.0 i, asked.1.1 i)) refl $
     -- [the pass, its marker, cell, and open borrow in three; the new right's marker, cell and open
     -- borrow; the right; its way back; the word's token; its way back; the word's invariant]
-    let out : ℕ → Fml = λ n. fsep (flft z.0 s) (fex (List Line × (Bool × ℕ)) (after_raise me seen.number seen.ready seen.lines own.owner own.lease r old n)) in
+    let op : Operation = compare_exchange me own.owner own.lease r old next in let out : ℕ → Fml = λ n. fsep (flft z.0 s) (places.after 𝓛 me seen.number seen.ready seen.lines op n) in
     first ! $ blocks ! $ sets ! (addr ! (through ! refl (stop !))) refl (tt, tt) $ sets ! (of_opd ! (get ! refl)) refl (tt, tt) $
-    move ! (0 ∷ 11 ∷ []) $ group ! 2 $ move ! (14 ∷ 12 ∷ 0 ∷ []) $
+    nothing ! $ move ! (1 ∷ 12 ∷ 0 ∷ []) $ group ! 3 $ move ! (14 ∷ 12 ∷ 0 ∷ []) $
     use3 𝓛 (raw (𝓣.C _ (vptr b o ∷ vint w64 old ∷ vint w64 next ∷ []) (λ u. mean 𝓛 (found out u))))
-    (via 𝓤 _ (places.at_raise 𝓛 me z.0 s z.1 b o past seen.number seen.ready seen.lines own.owner own.lease asked.0.2 r old next asked.2 asked.3) (exchanges 𝓛 𝓜 𝓡 (code.calls-atomic_table::exchange 𝓡.env wired) (block_ptr b o) old next are.1.1.1.1.0.1 are.1.1.1.1.1.0.1 out)) $
+    (via 𝓤 _ (places.by_reference 𝓛 me seen.number seen.ready seen.lines own.owner own.lease r ftrue op (moves.exchanges 𝓛 me seen.number seen.ready seen.lines own.owner own.lease asked.0.2 r old next asked.2 asked.3) z.0 s z.1 b o past) (exchanges 𝓛 𝓜 𝓡 (code.calls-atomic_table::exchange 𝓡.env wired) (block_ptr b o) old next are.1.1.1.1.0.1 are.1.1.1.1.1.0.1 out)) $
     Calls-last ! (fm 𝓛 𝓜 𝓡) (found out) (and_then ! (get ! refl) (and_then ! (get ! refl) (and_then ! (get ! refl) (no_more !)))) (λ u. finds ! out (λ n fits. lands_last ! refl (tt, record { fits = fits }) $
     exec ! 𝓣.C 𝓣.Λ Ev (tail fn.body) (at_ret Ev Post) $ sets ! (of_opd ! (get ! refl)) refl (tt, record { fits = fits }) $
     fsplit ! $ move ! (0 ∷ 13 ∷ []) $ use2 𝓛 (later (‵ (flft κs.0 qs.0))) (apply∗ 𝓤 (𝓛.A.lft z.0 s) (H.⇛ (𝓛.A.lft κs.0 qs.0))) $ await ! tt $
-    move ! (1 ∷ []) $ fpick ! (λ u'. fsplit ! $ fpick ! (λ so. drop ! $ fsplit3 ! $
+    move ! (1 ∷ []) $ fpick ! (λ before. fsplit ! $ fpick ! (λ so. drop ! $ fsplit3 ! $
+    let ls : List Line = with_entry seen.number before (op.entry n before) in let new : ℕ = next_owner before in
+    move ! (0 ∷ 2 ∷ []) $ use2 𝓛 (‵ (trace_owns true me seen.number seen.ready ls) ⊛ ‵ (right_owns (eqb n old) me new own.lease ls))
+    (places.new_owner 𝓛 me seen.number seen.ready seen.lines own.lease (eqb n old) ls new) $ split ! $ move ! (0 ∷ 2 ∷ []) $
     move ! (1 ∷ 14 ∷ []) $ use2 𝓛 (later (‵ (flft κs.1.0 qs.1.0))) (apply∗ 𝓤 (sem 𝓛 (right me own.owner own.lease r)) (H.⇛ (𝓛.A.lft κs.1.0 qs.1.0))) $ await ! tt $
-    let after : PassState.the_row.Denot = record { marker = record {}; bound = true; block = me; number = seen.number; ready = seen.ready; lines = u'.0 } in
-    let made : Own.Denot = record { marker = record {}; held = u'.1.0; block = me; owner = u'.1.1; lease = own.lease; born = u'.0 } in
+    let after : PassState.the_row.Denot = record { marker = record {}; bound = true; block = me; number = seen.number; ready = seen.ready; lines = ls } in
+    let made : Own.Denot = record { marker = record {}; held = eqb n old; block = me; owner = new; lease = own.lease; born = ls } in
     move ! (4 ∷ 1 ∷ []) $ fjoin ! $ move ! (4 ∷ 0 ∷ 5 ∷ 6 ∷ 7 ∷ []) $ closes ! tt PassState.the_row after vs b₂ o₂ $
     move ! (6 ∷ 4 ∷ []) $ fjoin ! $ move ! (6 ∷ 0 ∷ 7 ∷ 8 ∷ 9 ∷ []) $ closes ! tt Own made ws b₃ o₃ $
     -- [two parts of the new right; its token; two parts of the pass; the tokens, last first]
@@ -92,4 +97,4 @@ compare_exchange_spec 𝓤 𝓛 𝓜 𝓡 wired T L =
     nothing ! $ nothing ! $ fjoin ! $ nothing ! $ fjoin ! $ feq_i ! (List Val) (vptr b₃ o₃ ∷ []) (vptr b₃ o₃ ∷ []) refl $ move ! (0 ∷ 4 ∷ 5 ∷ []) $ fjoin3 ! $ fjoin ! $
     feq_i ! (List Val) (vptr b₂ o₂ ∷ []) (vptr b₂ o₂ ∷ []) refl $ move ! (0 ∷ 4 ∷ 5 ∷ []) $ fjoin3 ! $ fjoin ! $ nothing ! $ fjoin ! $ nothing ! $ fjoin ! $
     returns ! (look_at ! 0 refl) $ free_all ! refl $ keep ! (1 ∷ 0 ∷ 2 ∷ []) $
-    by ! (ends 𝓛 En hs c y (vint w64 n) n (tt, (tt, (after, (made, (tt, (tt, tt)))))) (tt, (tt, (tt, (tt, (tt, (tt, tt)))))) (fact_i 𝓤 _ (emp 𝓤) ((refl, refl, refl, refl), (so, refl, refl, refl)))))))))))))))))
+    by ! (ends 𝓛 En hs c y (vint w64 n) n (tt, (tt, (after, (made, (tt, (tt, tt)))))) (tt, (tt, (tt, (tt, (tt, (tt, tt)))))) (fact_i 𝓤 _ (emp 𝓤) ((refl, refl, refl, refl), (made_one me seen.number seen.lines own.owner n before (eqb n old) so, refl, refl, refl)))))))))))))))))

@@ -1,4 +1,4 @@
--- `look` is one load, with the invariant, a share of an owner's right and the pass.
+-- `load` is one atomic load, with the invariant, a share of an owner's right and the pass.
 use contract.BorrowLft.{◌⊑◌}
 use denote.Param.{param, layouts}
 use mir.MapTy.{inst_fn}
@@ -6,7 +6,7 @@ use Rattle.std.proofs.Common.{ℕ, ◌^◌, Bool, true, List, [], ◌∷◌, ref
 use mir.Syntax.{named, a_type}
 use mir.Val.{Val, vint, vptr}
 use base.Logic.{SProp, wand, emp, via, apply∗}
-use base.Fml.{Share, Fml, ftrue, fsep, fex, flft, fhide}
+use base.Fml.{Share, Fml, ftrue, fsep, flft, fhide}
 use types.Logic.{sem}
 use types.Kit.{‵, raw, ◌⊛◌, some, later, mean, at_ret, ◌$◌, ◌∵◌, !, qed, by, move, keep, drop, split, group, fsplit, fsplit3, fjoin, fjoin3, fpick, pick, use1, use2, use3, await, rewrite, feq_i, flt_i}
 use types.Run.{stop, addr, lit, of_opd, no_more, and_then, first, blocks, exec, Calls-last, returns, enter}
@@ -31,11 +31,13 @@ use Rattle.core.proofs.atomic.Steps.{tail}
 use Rattle.std.proofs.raw_atomic.Walks.{proved}
 use Rattle.std.proofs.raw_atomic.Calls.{fm, found, finds, loads, seq_cst}
 use Rattle.logbook.proofs.Fields.{Token, ends}
-use Rattle.arc_owners.specs.count.Invariant.{BlockId, Line, right, right_shares, trace_owns, after_look}
+use Rattle.arc_owners.specs.count.Invariant.{BlockId, right, right_shares, trace_owns}
 use Rattle.arc_owners.specs.contracts.count.word.Word as Word
 use Rattle.arc_owners.specs.contracts.count.word.OwnerToken as OwnerToken
 use Rattle.arc_owners.specs.contracts.count.word.PassState as PassState
 use Rattle.arc_owners.proofs.count.Shared.{right_read}
+use Rattle.arc_owners.proofs.count.Operations.{Operation, load, with_entry}
+use Rattle.arc_owners.proofs.count.Moves as moves
 use Rattle.arc_owners.proofs.count.Places as places
 use Rattle.arc_owners.specs.contracts.count.word.Word.load as f
 use Rattle.arc_owners.proofs.count.word.Word.load.Statement.{statement}
@@ -69,24 +71,24 @@ load_spec 𝓤 𝓛 𝓜 𝓡 wired T L =
     rewrite ! 0 (λ (k : Bool × BlockId). ‵ (trace_owns k.0 k.1 seen.number seen.ready seen.lines)) (λ i. (asked.1.0 i, asked.1.1 i)) refl $
     -- [the pass; its marker; its cell; the open borrow, in three; the right; its way back; the
     -- word's token; its way back; the word's invariant]
-    let out : ℕ → Fml = λ n. fsep (flft z.0 s) (fex (List Line) (after_look me seen.number seen.ready seen.lines own.owner own.lease r n)) in
+    let op : Operation = load me own.owner own.lease r in let out : ℕ → Fml = λ n. fsep (flft z.0 s) (places.after 𝓛 me seen.number seen.ready seen.lines op n) in
     first ! $ blocks ! $ sets ! (addr ! (through ! refl (stop !))) refl (tt, tt) $ sets ! (of_opd ! (get ! refl)) refl (tt, tt) $
-    move ! (0 ∷ 6 ∷ []) $ group ! 2 $ move ! (9 ∷ 7 ∷ 0 ∷ []) $
+    nothing ! $ move ! (1 ∷ 7 ∷ 0 ∷ []) $ group ! 3 $ move ! (9 ∷ 7 ∷ 0 ∷ []) $
     use3 𝓛 (raw (𝓣.C _ (vptr b o ∷ seq_cst ∷ []) (λ u. mean 𝓛 (found out u))))
-    (via 𝓤 _ (places.at_look 𝓛 me z.0 s z.1 b o past seen.number seen.ready seen.lines own.owner own.lease r) (loads 𝓛 𝓜 𝓡 (code.calls-core::raw_atomic::load 𝓡.env wired) (block_ptr b o) out)) $
+    (via 𝓤 _ (places.by_reference 𝓛 me seen.number seen.ready seen.lines own.owner own.lease r ftrue op (moves.loads 𝓛 me seen.number seen.ready seen.lines own.owner own.lease r) z.0 s z.1 b o past) (loads 𝓛 𝓜 𝓡 (code.calls-core::raw_atomic::load 𝓡.env wired) (block_ptr b o) out)) $
     sets ! (agg ! (and_then ! (lit ! tt) (no_more !))) refl (tt, (record { fits = lit< tt }, tt)) $
     Calls-last ! (fm 𝓛 𝓜 𝓡) (found out) (and_then ! (get ! refl) (and_then ! (get ! refl) (no_more !))) (λ u. finds ! out (λ n fits. lands_last ! refl (tt, record { fits = fits }) $
     exec ! 𝓣.C 𝓣.Λ Ev (tail fn.body) (at_ret Ev Post) $ sets ! (of_opd ! (get ! refl)) refl (tt, record { fits = fits }) $
     fsplit ! $ move ! (0 ∷ 8 ∷ []) $ use2 𝓛 (later (‵ (flft κs.0 qs.0))) (apply∗ 𝓤 (𝓛.A.lft z.0 s) (H.⇛ (𝓛.A.lft κs.0 qs.0))) $ await ! tt $
-    move ! (1 ∷ []) $ fpick ! (λ ls. fsplit ! $ fpick ! (λ so. drop ! $ fsplit ! $
+    move ! (1 ∷ []) $ fpick ! (λ before. fsplit ! $ fpick ! (λ so. drop ! $ fsplit ! $
     -- [the pass; the right; the word's token; its marker; its cell; the open borrow, in three; the
     -- right's way back]
     move ! (1 ∷ 8 ∷ []) $ use2 𝓛 (later (‵ (flft κs.1.0 qs.1.0))) (apply∗ 𝓤 (sem 𝓛 (right me own.owner own.lease r)) (H.⇛ (𝓛.A.lft κs.1.0 qs.1.0))) $ await ! tt $
-    let after : PassState.the_row.Denot = record { marker = record {}; bound = true; block = me; number = seen.number; ready = seen.ready; lines = ls } in
+    let after : PassState.the_row.Denot = record { marker = record {}; bound = true; block = me; number = seen.number; ready = seen.ready; lines = with_entry seen.number before (op.entry n before) } in
     move ! (3 ∷ 1 ∷ []) $ fjoin ! $ move ! (3 ∷ 0 ∷ 4 ∷ 5 ∷ 6 ∷ []) $ closes ! tt PassState.the_row after vs b₂ o₂ $
     -- [two parts of the pass; the tokens, last first]
     flt_i ! n (2 ^ 64) fits $ feq_i ! (List Val) (vint w64 n ∷ []) (vint w64 n ∷ []) refl $ fjoin ! $
     move ! (6 ∷ []) $ move ! (4 ∷ 0 ∷ []) $ fjoin ! $ move ! (4 ∷ 0 ∷ []) $ fjoin ! $ move ! (4 ∷ 0 ∷ []) $ fjoin ! $
     nothing ! $ feq_i ! (List Val) (vptr b₂ o₂ ∷ []) (vptr b₂ o₂ ∷ []) refl $ move ! (0 ∷ 4 ∷ 5 ∷ []) $ fjoin3 ! $ fjoin ! $ nothing ! $ fjoin ! $ nothing ! $ fjoin ! $
     returns ! (look_at ! 0 refl) $ free_all ! refl $ keep ! (1 ∷ 0 ∷ 2 ∷ []) $
-    by ! (ends 𝓛 En hs c y (vint w64 n) n (tt, (tt, (after, tt))) (tt, (tt, (tt, tt))) (fact_i 𝓤 _ (emp 𝓤) ((refl, refl, refl, refl), so)))))))))))))))
+    by ! (ends 𝓛 En hs c y (vint w64 n) n (tt, (tt, (after, tt))) (tt, (tt, (tt, tt))) (fact_i 𝓤 _ (emp 𝓤) ((refl, refl, refl, refl), (before, (so.0, refl)))))))))))))))))

@@ -1,4 +1,4 @@
--- `lower_raw` is `lower` on a word's place, opened with the owner's own part of the lifetime.
+-- `subtract_raw` is `subtract` on a word's place, opened with the owner's own part of the lifetime.
 use contract.BorrowLft.{◌⊑◌}
 use denote.Param.{param, layouts}
 use mir.MapTy.{inst_fn}
@@ -6,7 +6,7 @@ use Rattle.std.proofs.Common.{ℕ, ◌^◌, Bool, true, false, eqb, List, [], �
 use mir.Syntax.{named, a_type}
 use mir.Val.{Val, vint, vptr}
 use base.Logic.{SProp, emp, via}
-use base.Fml.{Fml, ftrue, fsep, fex, flft, fhide}
+use base.Fml.{Fml, ftrue, fsep, flft, fhide}
 use types.Kit.{‵, raw, ◌⊛◌, mean, at_ret, ◌$◌, ◌∵◌, !, qed, by, move, keep, drop, split, group, fsplit, fsplit3, fjoin, fjoin3, fpick, use1, use2, rewrite, feq_i, flt_i}
 use types.Run.{lit, of_opd, no_more, and_then, first, blocks, exec, Calls-last, returns, enter}
 use types.ByLocal.{alloc_all, pass_all, free_all, look_at, get, sets, lands_last, env}
@@ -30,11 +30,14 @@ use Rattle.std.proofs.raw_atomic.Calls.{fm, found, finds, subs, seq_cst}
 use Rattle.arc_owners.proofs.count.Ends.{ends_when}
 use Rattle.logbook.proofs.Fields.{Token, ends}
 use Rattle.core.specs.contracts.marker.PhantomData as marker
-use Rattle.arc_owners.specs.count.Invariant.{BlockId, Line, lodged, right_owns, trace_owns, after_lower}
+use Rattle.arc_owners.specs.count.Invariant.{BlockId, word_borrow, right_owns, trace_owns}
 use Rattle.arc_owners.specs.contracts.count.word.WordBorrow as WordBorrow
 use Rattle.arc_owners.specs.contracts.count.word.OwnerToken as OwnerToken
 use Rattle.arc_owners.specs.contracts.count.word.PassState as PassState
 use Rattle.arc_owners.specs.contracts.count.word.EndTokens as EndTokens
+use Rattle.arc_owners.proofs.count.Operations.{Operation, subtract, with_entry}
+use Rattle.arc_owners.proofs.count.Moves as moves
+use Rattle.arc_owners.proofs.count.Places as places
 use Rattle.arc_owners.proofs.count.Stakes as stakes
 use Rattle.arc_owners.specs.contracts.count.word.Word.subtract_raw as f
 use Rattle.arc_owners.proofs.count.word.Word.subtract_raw.Statement.{statement}
@@ -54,29 +57,29 @@ subtract_raw_spec 𝓤 𝓛 𝓜 𝓡 wired T L =
     qed 𝓛 ((‵ toks ⊛ ‵ (owns (types_at En.signature.params κs) a y.0.4)) ∷ raw (fact 𝓤 (κs.1.1.1.1.0 ⊑ T.lives)) ∷ raw (fact 𝓤 _) ∷ []) ∵ move ! (2 ∷ []) $ heard ! _ (λ asked. keep ! (0 ∷ []) $ split ! $
     fsplit ! $ move ! (1 ∷ []) $ fsplit ! $ move ! (1 ∷ []) $ fsplit ! $ move ! (1 ∷ []) $ fsplit ! $ move ! (5 ∷ []) $ fsplit ! $ drop ! $ fsplit ! $ fsplit ! $ move ! (2 ∷ []) $ fsplit ! $ fsplit3 ! $ move ! (3 ∷ []) $ fsplit ! $ fsplit3 ! $ move ! (3 ∷ []) $ fsplit ! $ fsplit3 ! $
     keep ! (11 ∷ 8 ∷ 9 ∷ 5 ∷ 6 ∷ 1 ∷ 2 ∷ 12 ∷ 14 ∷ 15 ∷ 16 ∷ 13 ∷ []) $
-    -- [what says where the word lies; two parts of the owner, of the pass and of the spoils; the
+    -- [what says where the word lies; two parts of the owner, of the pass and of the end tokens; the
     -- tokens, last first]
     enter ! 𝓣.C 𝓣.Λ fn (ptr_val place ∷ vptr b o ∷ vptr b₁ o₁ ∷ vptr b₂ o₂ ∷ vptr b₃ o₃ ∷ []) Post $ alloc_all ! (λ l. pass_all ! refl (Ptr-Good place, ((tt, tt), ((tt, tt), ((tt, tt), ((tt, tt), tt))))) $ let Ev = env fn.locals l in
-    use1 𝓛 (‵ (hidden_shr (Token unit) κs.0 (record {}, tt) b o) ⊛ ‵ (fhide (lodged me g.at g.lifetime)))
+    use1 𝓛 (‵ (hidden_shr (Token unit) κs.0 (record {}, tt) b o) ⊛ ‵ (fhide (word_borrow me g.at g.lifetime)))
     (lent_out 𝓛 WordBorrow.struct (WordBorrow.the_codes (marker.the_row unit).coded) WordBorrow.the_heap WordBorrow.the_lent κs.0 g b o) $ split ! $ drop ! $ unhide ! $
-    rewrite ! 0 (λ (k : Ptr × ℕ). ‵ (lodged me k.0 k.1)) (λ i. (asked.2.0 i, asked.2.1 i)) refl $
+    rewrite ! 0 (λ (k : Ptr × ℕ). ‵ (word_borrow me k.0 k.1)) (λ i. (asked.2.0 i, asked.2.1 i)) refl $
     move ! (1 ∷ 2 ∷ 9 ∷ []) $ opens ! tt Own b₁ o₁ (λ ts. move ! (1 ∷ []) $ fsplit ! $ move ! (1 ∷ []) $
     rewrite ! 0 (λ (k : Bool × BlockId). ‵ (right_owns k.0 k.1 own.owner own.lease own.born)) (λ i. (asked.0.0 i, asked.0.1 i)) refl $ fsplit ! $ drop ! $ fsplit ! $
     -- [the right; the stake; its marker, cell and open borrow; where the word lies; two parts of
-    -- the pass and of the spoils; three tokens]
+    -- the pass and of the end tokens; three tokens]
     move ! (10 ∷ 11 ∷ 12 ∷ []) $ opens ! tt EndTokens.the_row b₃ o₃ (λ ws. move ! (1 ∷ []) $ fsplit ! $ move ! (1 ∷ []) $ drop ! $
     move ! (13 ∷ 14 ∷ 15 ∷ []) $ opens ! tt PassState.the_row b₂ o₂ (λ vs. move ! (1 ∷ []) $ fsplit ! $ move ! (1 ∷ []) $
     rewrite ! 0 (λ (k : Bool × BlockId). ‵ (trace_owns k.0 k.1 seen.number seen.ready seen.lines)) (λ i. (asked.1.0 i, asked.1.1 i)) refl $
-    let out : ℕ → Fml = λ n. fex (List Line) (after_lower me seen.number seen.ready seen.lines own.owner own.lease n) in
+    let op : Operation = subtract own.owner own.lease in let out : ℕ → Fml = λ n. places.after 𝓛 me seen.number seen.ready seen.lines op n in
     first ! $ blocks ! $
     move ! (0 ∷ 11 ∷ 12 ∷ []) $ group ! 3 $ move ! (16 ∷ 0 ∷ []) $
     use2 𝓛 (raw (𝓣.C _ (ptr_val place ∷ vint w64 1 ∷ seq_cst ∷ []) (λ u. mean 𝓛 (found out u))))
-    (via 𝓤 _ (stakes.ends_at 𝓛 me seen.number seen.ready seen.lines own.owner own.lease asked.0.2 place) (subs 𝓛 𝓜 𝓡 (code.calls-core::raw_atomic::fetch_sub 𝓡.env wired) place 1 (lit< tt) out)) $
+    (via 𝓤 _ (stakes.by_place 𝓛 me seen.number seen.ready seen.lines own.owner own.lease asked.0.2 op (moves.subtracts 𝓛 me seen.number seen.ready seen.lines own.owner own.lease asked.0.2) place) (subs 𝓛 𝓜 𝓡 (code.calls-core::raw_atomic::fetch_sub 𝓡.env wired) place 1 (lit< tt) out)) $
     sets ! (agg ! (and_then ! (lit ! tt) (no_more !))) refl (tt, (record { fits = lit< tt }, tt)) $
     Calls-last ! (fm 𝓛 𝓜 𝓡) (found out) (and_then ! (get ! refl) (and_then ! (lit ! tt) (and_then ! (get ! refl) (no_more !)))) (λ u. finds ! out (λ n fits. lands_last ! refl (tt, record { fits = fits }) $
     exec ! 𝓣.C 𝓣.Λ Ev (tail fn.body) (at_ret Ev Post) $ sets ! (of_opd ! (get ! refl)) refl (tt, record { fits = fits }) $
-    fpick ! (λ ls. fsplit ! $ fpick ! (λ so. drop ! $ fsplit ! $ move ! (0 ∷ 1 ∷ 17 ∷ []) $
-    let after : PassState.the_row.Denot = record { marker = record {}; bound = true; block = me; number = seen.number; ready = seen.ready; lines = ls } in
+    fpick ! (λ before. fsplit ! $ fpick ! (λ so. drop ! $ fsplit ! $ move ! (0 ∷ 1 ∷ 17 ∷ []) $
+    let after : PassState.the_row.Denot = record { marker = record {}; bound = true; block = me; number = seen.number; ready = seen.ready; lines = with_entry seen.number before (op.entry n before) } in
     let gone : Own.Denot = record { marker = record {}; held = false; block = me; owner = own.owner; lease = own.lease; born = own.born } in
     let left : EndTokens.the_row.Denot = record { marker = record {}; last = eqb n 1; lease = own.lease } in
     move ! (3 ∷ 0 ∷ []) $ fjoin ! $ move ! (3 ∷ 0 ∷ 4 ∷ 5 ∷ 6 ∷ []) $ closes ! tt PassState.the_row after vs b₂ o₂ $
@@ -87,4 +90,4 @@ subtract_raw_spec 𝓤 𝓛 𝓜 𝓡 wired T L =
     nothing ! $ feq_i ! (List Val) (vptr b₃ o₃ ∷ []) (vptr b₃ o₃ ∷ []) refl $ move ! (0 ∷ 6 ∷ 7 ∷ []) $ fjoin3 ! $ fjoin ! $ feq_i ! (List Val) (vptr b₂ o₂ ∷ []) (vptr b₂ o₂ ∷ []) refl $ move ! (0 ∷ 6 ∷ 7 ∷ []) $ fjoin3 ! $ fjoin ! $
     feq_i ! (List Val) (vptr b₁ o₁ ∷ []) (vptr b₁ o₁ ∷ []) refl $ move ! (0 ∷ 4 ∷ 5 ∷ []) $ fjoin3 ! $ fjoin ! $ nothing ! $ fjoin ! $ nothing ! $ fjoin ! $
     returns ! (look_at ! 0 refl) $ free_all ! refl $ keep ! (1 ∷ 0 ∷ 2 ∷ []) $
-    by ! (ends 𝓛 En hs c y (vint w64 n) n (tt, (tt, (gone, (after, (left, tt))))) (tt, (tt, (tt, (tt, (tt, tt))))) (fact_i 𝓤 _ (emp 𝓤) ((refl, refl, refl, refl), ends_when me seen.number seen.lines own.owner n ls (eqb n 1) refl so, refl, refl, refl)))))))))))))
+    by ! (ends 𝓛 En hs c y (vint w64 n) n (tt, (tt, (gone, (after, (left, tt))))) (tt, (tt, (tt, (tt, (tt, tt))))) (fact_i 𝓤 _ (emp 𝓤) ((refl, refl, refl, refl), ends_when me seen.number seen.lines own.owner n before (eqb n 1) refl so, refl, refl, refl)))))))))))))

@@ -2,8 +2,8 @@ use denote.Param.Send.{IsSync, sendable}
 use denote.Struct.Struct.{Struct}
 use denote.Struct.Owning.{shape}
 use Rattle.arc_owners.specs.contracts.count.word.WordBorrow.{the_row, the_type}
-use Rattle.arc_owners.proofs.count.Shared.{lodged_keyless}
+use Rattle.arc_owners.proofs.count.Shared.{word_borrow_keyless}
 
 pub sync : IsSync the_row
 sync = let fields : IsSync (Struct (shape the_type)) = search sendable depth 20 in
-    record { shared = λ d b o ν. (fields.shared (tt, tt) b o ν, lodged_keyless d.block d.at d.lifetime) }
+    record { shared = λ d b o ν. (fields.shared (tt, tt) b o ν, word_borrow_keyless d.block d.at d.lifetime) }

@@ -23,7 +23,7 @@ use denote.Triple.Walked.{Stays, stay_dropped, walk_of, Goes-dropped}
 use Rattle.core.specs.contracts.marker.PhantomData as marker
 use Rattle.std.proofs.raw_atomic.Walks.{proved}
 use Rattle.logbook.proofs.Fields.{token, Token, token_made, ends}
-use Rattle.arc_owners.specs.count.Invariant.{lodged}
+use Rattle.arc_owners.specs.count.Invariant.{word_borrow}
 use Rattle.arc_owners.specs.contracts.count.word.WordBorrow as WordBorrow
 use Rattle.arc_owners.specs.contracts.count.word.WordBorrow.again as f
 use Rattle.arc_owners.proofs.count.word.WordBorrow.again.Statement.{statement}
@@ -43,7 +43,7 @@ again_spec 𝓤 𝓛 𝓜 𝓡 wired =
     move ! (1 ∷ []) $ fsplit ! $ fsplit ! $ keep ! (1 ∷ 3 ∷ []) $
     -- [what is lent of it; the tokens]
     enter ! 𝓣.C 𝓣.Λ fn (vptr a.0.ref_ptr.0 a.0.ref_ptr.1 ∷ []) Post $ alloc_all ! (λ l. pass_all ! refl ((tt, tt), tt) $
-    use1 𝓛 (‵ (hidden_shr (Token unit) κs.0 (record {}, tt) a.0.ref_ptr.0 a.0.ref_ptr.1) ⊛ ‵ (fhide (lodged me.block me.at me.lifetime)))
+    use1 𝓛 (‵ (hidden_shr (Token unit) κs.0 (record {}, tt) a.0.ref_ptr.0 a.0.ref_ptr.1) ⊛ ‵ (fhide (word_borrow me.block me.at me.lifetime)))
     (lent_out 𝓛 WordBorrow.struct (WordBorrow.the_codes (marker.the_row unit).coded) WordBorrow.the_heap WordBorrow.the_lent κs.0 me a.0.ref_ptr.0 a.0.ref_ptr.1) $ split ! $ drop ! $ unhide ! $
     sets ! (agg ! (no_more !)) refl (tt, tt) $ sets ! (agg ! (and_then ! (get ! refl) (no_more !))) refl (tt, (tt, tt)) $
     use0 𝓛 (‵ ((Token unit).own_val (record {}, tt) (token ∷ []))) (token_made unit 𝓛) $ fjoin ! $ nothing ! $ nothing ! $ fjoin ! $

@@ -1,4 +1,4 @@
--- `word` shows the word that is lodged, for as long as an owner is borrowed.
+-- `word` shows the word that is borrowed, for as long as an owner is borrowed.
 use denote.Param.{param, layouts}
 use mir.MapTy.{inst_fn}
 use Rattle.std.proofs.Common.{◌≡◌, Bool, ℕ, List, [], ◌∷◌, ◌++◌, refl, sym, ap, ◌∙◌, subst}
@@ -30,7 +30,7 @@ use Rattle.core.specs.contracts.marker.PhantomData as marker
 use Rattle.core.proofs.alloc.Shapes.{after}
 use Rattle.std.proofs.raw_atomic.Walks.{proved}
 use Rattle.logbook.proofs.Fields.{Token, ends}
-use Rattle.arc_owners.specs.count.Invariant.{right_shares, tokens, lodged, lent}
+use Rattle.arc_owners.specs.count.Invariant.{right_shares, tokens, word_borrow, lent}
 use Rattle.arc_owners.specs.contracts.count.word.OwnerToken as OwnerToken
 use Rattle.arc_owners.specs.contracts.count.word.WordBorrow as WordBorrow
 use Rattle.arc_owners.specs.contracts.count.word.WordBorrow.word as f
@@ -48,15 +48,15 @@ word_spec 𝓤 𝓛 𝓜 𝓡 wired T L =
     let y : (walk_of 𝓛 En hs c).Ghost = ((κs, qs, bounds, a, (vptr b o ∷ [], (rawptr_vals place, (vptr b₂ o₂ ∷ [], tt)))), gh) in let Post : Val → SProp 𝓤 = (walk_of 𝓛 En hs c).post y in let Run : List Val → SProp 𝓤 = λ ws. WpFn 𝓤 H 𝓣.C 𝓣.Λ fn ws Post in
     qed 𝓛 ((‵ (fsep (flft κs.0 qs.0) (fsep (flft κs.1.0 qs.1.0) ftrue)) ⊛ ‵ (owns (types_at En.signature.params κs) a y.0.4)) ∷ raw (fact 𝓤 (κs.1.0 ⊑ T.lives)) ∷ raw (fact 𝓤 _) ∷ []) ∵ move ! (2 ∷ []) $ heard ! _ (λ asked. keep ! (0 ∷ []) $ split ! $
     move ! (1 ∷ []) $ fsplit ! $ fsplit ! $ move ! (2 ∷ []) $ fsplit ! $ drop ! $ fsplit ! $ fsplit ! $ keep ! (4 ∷ 1 ∷ 5 ∷ []) $
-    -- [what is lent of the lodging, and of the owner; the tokens]
-    use1 𝓛 (‵ (hidden_shr (Token unit) κ (record {}, tt) b o) ⊛ ‵ (fhide (lodged me.block me.at me.lifetime)))
+    -- [what is lent of the word borrow, and of the owner; the tokens]
+    use1 𝓛 (‵ (hidden_shr (Token unit) κ (record {}, tt) b o) ⊛ ‵ (fhide (word_borrow me.block me.at me.lifetime)))
     (lent_out 𝓛 WordBorrow.struct (WordBorrow.the_codes (marker.the_row unit).coded) WordBorrow.the_heap WordBorrow.the_lent κ me b o) $ split ! $ drop ! $ unhide ! $ move ! (1 ∷ []) $
     use1 𝓛 (‵ (hidden_shr (Token R) κ (own.marker, tt) b₂ o₂) ⊛ ‵ (fhide (right_shares own.held own.block own.owner own.lease own.born κ)))
     (lent_out 𝓛 (OwnerToken.struct R) (OwnerToken.the_codes R.Denot R.coded (marker.the_row R).coded) (OwnerToken.the_heap R) (OwnerToken.the_lent R) κ own b₂ o₂) $ split ! $ drop ! $ unhide ! $
     rewrite ! 0 (λ (k : Bool). ‵ (right_shares k own.block own.owner own.lease own.born κ)) asked.1 refl $ fsplit ! $ drop ! $ fsplit ! $ drop ! $
     rewrite ! 0 (λ (k : Bool). ‵ (tokens k own.lease κ)) asked.2 refl $ rewrite ! 0 (λ (k : ℕ). ‵ (fshr_bor κ (λ q. flft (k ∷ []) q))) asked.3 refl $
     use0 𝓛 (‵ (before (α ++ κ) α)) (before-Incl 𝓛 (α ++ κ) α (meet_⊑_left α κ)) $ move ! (1 ∷ 0 ∷ []) $ use2 𝓛 (‵ (before κ α)) (before_lent 𝓛 κ α α) $ move ! (1 ∷ []) $
-    in_a_block ! me.at (λ q. lodged me.block q me.lifetime) (id⊢ 𝓤 (never 𝓤)) (λ pb po e. fpick ! (λ j. move ! (1 ∷ 0 ∷ []) $ fjoin ! $ fpack ! (Lft × ℕ) (lent me.block pb po κ) (α, j) $ hide ! $
+    in_a_block ! me.at (λ q. word_borrow me.block q me.lifetime) (id⊢ 𝓤 (never 𝓤)) (λ pb po e. fpick ! (λ j. move ! (1 ∷ 0 ∷ []) $ fjoin ! $ fpack ! (Lft × ℕ) (lent me.block pb po κ) (α, j) $ hide ! $
     let here : place ≡ block_ptr pb po = sym asked.0 ∙ e in
     suffices ! (Run (vptr b o ∷ vptr pb po ∷ vptr b₂ o₂ ∷ [])) (subst (λ (us : List Val). ent 𝓤 (Run (vptr b o ∷ vptr pb po ∷ vptr b₂ o₂ ∷ [])) (Run us)) (sym (ap (λ (r : Ptr). vptr b o ∷ ptr_val r ∷ vptr b₂ o₂ ∷ []) here)) (id⊢ 𝓤 (Run (vptr b o ∷ vptr pb po ∷ vptr b₂ o₂ ∷ [])))) $
     enter ! 𝓣.C 𝓣.Λ fn (vptr b o ∷ vptr pb po ∷ vptr b₂ o₂ ∷ []) Post $ alloc_all ! (λ l. pass_all ! refl ((tt, tt), ((tt, tt), ((tt, tt), tt))) $ let Ev = env fn.locals l in

@@ -37,7 +37,7 @@ use Rattle.std_alloc.specs.Box.Ownership.{box_owns}
 use Rattle.std_alloc.proofs.BoxSteps.Form.{Bx, R, P, τ, B, box_ty, box_typed}
 use Rattle.std_alloc.proofs.BoxSteps.Steps.{box_in}
 use Rattle.logbook.proofs.Fields.{Token, ends}
-use Rattle.arc_owners.specs.count.Invariant.{Lease, kept_for, spoils}
+use Rattle.arc_owners.specs.count.Invariant.{Lease, kept_for, end_tokens}
 use Rattle.arc_owners.proofs.memory.Boxes.{Row, as_bare}
 use Rattle.arc_owners.proofs.count.Returns.{returns as comes_back}
 use Rattle.arc_owners.specs.contracts.count.word.EndTokens as EndTokens
@@ -74,7 +74,7 @@ take_by_spec 𝓤 𝓛 𝓜 𝓡 wired T A L LA g d da allocator glued =
     suffices ! (Run ws) (subst (λ (us : List Val). ent 𝓤 (Run ws) (Run us)) (sym (λ i. e₀ i ++ (e₁ i ++ (e₂ i ++ (e₃ i ++ []))))) (id⊢ 𝓤 (Run ws))) $
     enter ! 𝓣.C 𝓣.Λ fn ws Post $ alloc_all ! (λ l. pass_all ! refl ((tt, tt), (Ptr-Good place, (fits, ((tt, tt), tt)))) $
     move ! (0 ∷ 1 ∷ 5 ∷ []) $ opens ! tt EndTokens.the_row b₁ o₁ (λ us. move ! (1 ∷ []) $ fsplit ! $ move ! (1 ∷ []) $
-    rewrite ! 0 (λ (k : Bool × Lease). ‵ (spoils k.1 k.0)) (λ i. (asked.2 i, asked.3 i)) refl $
+    rewrite ! 0 (λ (k : Bool × Lease). ‵ (end_tokens k.1 k.0)) (λ i. (asked.2 i, asked.3 i)) refl $
     -- [the spoils; their marker, cell and open borrow; no more parameters; the allocator; what is
     -- kept; the last two tokens; its token]
     move ! (8 ∷ 0 ∷ []) $ use2 𝓛 (later (‵ Was)) (comes_back 𝓛 Was me.lease) $ await ! tt $

@@ -31,7 +31,7 @@ use Rattle.core.proofs.alloc.Calls.{Al, Goes-blank, token as frees}
 use Rattle.std.proofs.raw_atomic.Walks.{proved_at}
 use Rattle.std_alloc.specs.Box.Ownership.{box_owns}
 use Rattle.logbook.proofs.Fields.{token, token_told, Token, token_made, ends}
-use Rattle.arc_owners.specs.count.Invariant.{lodged_for, right_owns, staked}
+use Rattle.arc_owners.specs.count.Invariant.{word_borrow_for, right_owns, staked}
 use Rattle.arc_owners.proofs.memory.Inners.{word_at, value_at, settles}
 use Rattle.arc_owners.specs.contracts.count.word.OwnerToken as OwnerToken
 use Rattle.arc_owners.specs.contracts.count.word.WordBorrow as WordBorrow
@@ -72,7 +72,7 @@ settle_spec 𝓤 𝓛 𝓜 𝓡 wired V A K LV LA LK g d da allocator glued =
     -- more parameters; what is lent; the tokens of V and A]
     let Held : ℕ → Ptr → Fml = λ k q. fbor (k ∷ []) (box_owns (frees al was.alloc) Home q was.value) in let D : Fml = frees al was.alloc (bare (lone Home.mir)) (block_ptr b o) in let w : ℕ = o + word_at V in let v : ℕ = o + value_at V in
     rewrite ! 9 (λ (k : ℕ × Ptr). ‵ (Held k.0 k.1)) (λ i. (sym asked.4 i, (sym asked.0 ∙ here) i)) refl $ move ! (9 ∷ 0 ∷ 10 ∷ []) $
-    use3 𝓛 (later (‵ (lodged_for was.value.word b w α) ⊛ ‵ (shared_of R was.value.value b v α) ⊛ ‵ (flft α s) ⊛ ‵ (flft τ p))) (settles V LV 𝓛 was.value.word was.value.value D b o n s τ p inc) $ await ! tt $ split3 ! $ move ! (2 ∷ []) $ split ! $
+    use3 𝓛 (later (‵ (word_borrow_for was.value.word b w α) ⊛ ‵ (shared_of R was.value.value b v α) ⊛ ‵ (flft α s) ⊛ ‵ (flft τ p))) (settles V LV 𝓛 was.value.word was.value.value D b o n s τ p inc) $ await ! tt $ split3 ! $ move ! (2 ∷ []) $ split ! $
     -- [both tokens; the lodging; the loan; the right; the invariant; the marker, cell and open
     -- borrow (3); no more parameters; the token of A]
     fpack ! (Counts 64 s 1) (λ _. flft α s) one $ fpack ! Share (λ r. fex (Counts 64 r 1) (λ _. flft α r)) s $ rewrite ! 0 (λ (k : Bool). ‵ (staked k own.lease)) (sym asked.3) refl $ move ! (4 ∷ 0 ∷ []) $ fjoin ! $ move ! (4 ∷ 0 ∷ []) $ fjoin ! $
