@@ -173,7 +173,7 @@ fn decoded<A: Allocator>(alloc: A, hex: Hex) -> Result<Vec<u8, A>, AllocError>
     let mut rest = hex.digits;
     let mut items = Vec::with_capacity(alloc, rest.len() / 2)?;
     while let [high, low, behind @ ..] = rest {
-        items.push(16 * value_of(*high) + value_of(*low))?;
+        items.push_reserved(16 * value_of(*high) + value_of(*low));
         rest = behind;
     }
     Ok(items)

@@ -53,13 +53,15 @@ fn push_number<A: Allocator>(out: &mut Vec<u8, A>, number: usize) -> Result<(), 
     Ok(())
 }
 
-/// Appends two hex digits an item.
+/// Appends two hex digits an item. Room for all of them is asked for at once.
 fn push_hex<A: Allocator>(out: &mut Vec<u8, A>, items: &[u8]) -> Result<(), AllocError>
     ensures ok { OnOk result (out.new.items ≡ out.old.items ++ hex items.now) }
     ensures err { OnErr result (Extends out.old.items out.new.items) }
 {
+    out.reserve(2 * items.len())?;
     for item in items {
-        out.extend_from_slice(&[digit_of(item / 16), digit_of(item % 16)])?;
+        out.push_reserved(digit_of(item / 16));
+        out.push_reserved(digit_of(item % 16));
     }
     Ok(())
 }
