@@ -6,7 +6,7 @@ use Rattle.arcs.proofs.Devices.{gives_nothing, gives_on, gives_all, takes_nothin
 use Rattle.arcs.proofs.script.Engine.run.Goals as goal
 
 pub returns-in_err-piece-clause-begun : goal.returns-in_err-piece-clause-begun
-returns-in_err-piece-clause-begun g c = on_err c.from_residual.result (nothing_exchanged _ _)
+returns-in_err-piece-clause-begun g c = on_err c.from_residual.result (nothing_exchanged _ _ _ c.requires.windows)
 
 pub pieces-init : goal.pieces-init
 pieces-init g c = record {
@@ -20,7 +20,9 @@ pieces-init g c = record {
 pub returns-then-not-branch-clause-ok : goal.returns-then-not-branch-clause-ok
 returns-then-not-branch-clause-ok g c =
     let run = c.in_ok-take_piece.ensures.ok _ _ c.pieces.invariant.running in
-    on_ok_then c.finish.result c.finish.ensures.ok (λ h. exchange_answered _ _ (g.W.Sink.traffic c.args.writer.now) _ run.input run.given (h (g.W.Sink.traffic c.args.writer.now).bytes run.input run.read))
+    let w = g.W.Sink.traffic c.args.writer.now in
+    on_ok_then c.finish.result c.finish.ensures.ok (λ h.
+    exchange_answered _ _ w _ _ run.input run.given (h w.bytes run.input run.read))
 
 pub returns-then-not-branch-clause-clean : goal.returns-then-not-branch-clause-clean
 returns-then-not-branch-clause-clean g c =
@@ -30,7 +32,9 @@ returns-then-not-branch-clause-clean g c =
 pub returns-then-not-branch-clause-begun : goal.returns-then-not-branch-clause-begun
 returns-then-not-branch-clause-begun g c =
     let run = c.in_ok-take_piece.ensures.ok _ _ c.pieces.invariant.running in
-    on_err_then c.finish.result c.finish.ensures.err (λ h. exchange_begun _ _ (g.W.Sink.traffic c.args.writer.now) _ run.input run.given (h (g.W.Sink.traffic c.args.writer.now).bytes run.input run.read))
+    let w = g.W.Sink.traffic c.args.writer.now in
+    on_err_then c.finish.result c.finish.ensures.err (λ h.
+    exchange_begun _ _ w _ _ run.input run.given (h w.bytes run.input run.read))
 
 pub returns-then-not-branch-clause-fault : goal.returns-then-not-branch-clause-fault
 returns-then-not-branch-clause-fault g c =
@@ -71,3 +75,8 @@ pub returns-then-not-branch-clause-taken : goal.returns-then-not-branch-clause-t
 returns-then-not-branch-clause-taken g c =
     let taken = takes_on c.pieces.invariant.taken c.in_ok-take_piece.ensures.taken in
     takes_on taken c.finish.ensures.taken
+
+pub returns-in_err-take_piece-clause-begun : goal.returns-in_err-take_piece-clause-begun
+returns-in_err-take_piece-clause-begun g c =
+    on_err c.from_residual-in_err-take_piece.result
+    (c.in_err-take_piece.ensures.begun _ _ c.pieces.invariant.running)
