@@ -245,12 +245,14 @@ pub on_err_then : {T E P Q : Type 0} (r : Result T E) → OnErr r P → (P → Q
 on_err_then (Ok x) p f = tt
 on_err_then (Err e) p f = f p
 
-pub if_err_then : {T E : Type 0} {P Q : E → Type 0} (r : Result T E) → IfErr r P → ((e : E) → P e → Q e) → IfErr r Q
+pub if_err_then : {T E : Type 0} {P Q : E → Type 0} (r : Result T E) → IfErr r P
+    → ((e : E) → P e → Q e) → IfErr r Q
 if_err_then (Ok x) p f = tt
 if_err_then (Err e) p f = f e p
 
 -- why the engine stopped is the cause of the run's fault
-pub why_is_cause : (r r' w w1 w2 : Traffic) → r'.failures ≡ r.failures → NoFault w w1 → (e : ScriptError) → IsWhy w1 w2 e → IsCause r r' w w2 e
+pub why_is_cause : (r r' w w1 w2 : Traffic) → r'.failures ≡ r.failures → NoFault w w1
+    → (e : ScriptError) → IsWhy w1 w2 e → IsCause r r' w w2 e
 why_is_cause r r' w w1 w2 same clean Read why = absurd why
 why_is_cause r r' w w1 w2 same clean Write why = (same, omega (arith, why, clean.0, clean.1))
 why_is_cause r r' w w1 w2 same clean Alloc why = (same, (why.0 ∙ clean.0, why.1 ∙ clean.1))

@@ -4,13 +4,12 @@ use Rattle.std.proofs.Common.{ap, sym, ◌∙◌, subst, arith}
 use Rattle.std.proofs.lemmas.List.{append-nil}
 use Rattle.std.proofs.lemmas.List.FromFn.{map-range_with_len_more}
 use Rattle.std.specs.Option.{option_map}
-use Rattle.arc_block.specs.Table.{row_at}
 use Rattle.arcs.specs.RunOf.{RunOf}
 use Rattle.arcs.specs.Script.{AreLines, Answers, IsReplyText, BeginsReplyText}
 use Rattle.arcs.specs.Seen.{IsReadAs, seen_command}
-use Rattle.arcs.specs.State.{State, empty_state, CarriesOut, CarriesOutSaid, drops}
+use Rattle.arcs.specs.State.{State, empty_state, CarriesOut, CarriesOutSaid, AnswersLine, drops}
 use Rattle.arcs.specs.Traffic.{Traffic, Exchanges}
-use Rattle.arcs.specs.Underway.{AnswersLine, HasRun, IsThrough, IsBrokenOff}
+use Rattle.arcs.specs.Underway.{IsThrough, IsBrokenOff}
 use Rattle.arcs.specs.declared.command.Command.{Command}
 use Rattle.arcs.specs.declared.command.Command.TheVariants.{Drop}
 use Rattle.arcs.specs.declared.command.Reply.{Reply}

@@ -6,11 +6,11 @@ use Rattle.std.proofs.lemmas.Grind.{flat_map-append}
 use Rattle.std.specs.List.{AllByRecursion}
 use Rattle.arc_block.specs.Table.{empty_table}
 use Rattle.arcs.specs.RunOf.{RunOf}
-use Rattle.arcs.specs.State.{State, empty_state}
+use Rattle.arcs.specs.State.{State, empty_state, AnswersLine}
 use Rattle.arcs.specs.Text.{line_feed}
 use Rattle.arcs.specs.Script.{HasNoFeed, AreLines, ended, last_line, answer_text, IsReplyText}
 use Rattle.arcs.specs.Traffic.{Traffic, TakesFront}
-use Rattle.arcs.specs.Underway.{AnswersLine, AnswersHeld, HasRun, Holds, IsUnderway, IsAnswered}
+use Rattle.arcs.specs.Underway.{AnswersHeld, HasRun, Holds, IsUnderway, IsAnswered}
 use Rattle.arcs.specs.Underway.{IsBegun, Ends, MayEnd}
 use Rattle.arcs.specs.declared.command.Reply.{Reply}
 use Rattle.arcs.proofs.Runs.{run_push}
@@ -21,16 +21,20 @@ use Rattle.arcs.proofs.Splits.{split_exists, empty_has_no_feed, no_feed-append, 
 ended-append : (xs ys : List (List ℕ)) → ended (xs ++ ys) ≡ ended xs ++ ended ys
 ended-append = flat_map-append (λ line. line ++ line_feed ∷ [])
 
--- the texts of more answers stand behind those so far
-texts-append : (xs ys : List (Option (Reply (List ℕ)))) → ended (map answer_text (xs ++ ys)) ≡ ended (map answer_text xs) ++ ended (map answer_text ys)
-texts-append xs ys = ap ended (map-append answer_text xs ys) ∙ ended-append (map answer_text xs) (map answer_text ys)
+-- the texts of one answer more stand behind those so far
+texts-push : (xs : List (Option (Reply (List ℕ)))) (x : Option (Reply (List ℕ)))
+    → ended (map answer_text (xs ++ x ∷ []))
+    ≡ ended (map answer_text xs) ++ (answer_text x ++ line_feed ∷ [])
+texts-push xs x =
+    ap ended (map-append answer_text xs (x ∷ []))
+    ∙ ended-append (map answer_text xs) (answer_text x ∷ [])
+    ∙ ap (λ zs. ended (map answer_text xs) ++ zs) (append-nil (answer_text x ++ line_feed ∷ []))
 
--- one line more, or one answer more
-ended-push : (xs : List (List ℕ)) (x : List ℕ) → ended (xs ++ x ∷ []) ≡ ended xs ++ (x ++ line_feed ∷ [])
-ended-push xs x = ended-append xs (x ∷ []) ∙ ap (λ zs. ended xs ++ zs) (append-nil (x ++ line_feed ∷ []))
-
-texts-push : (xs : List (Option (Reply (List ℕ)))) (x : Option (Reply (List ℕ))) → ended (map answer_text (xs ++ x ∷ [])) ≡ ended (map answer_text xs) ++ (answer_text x ++ line_feed ∷ [])
-texts-push xs x = texts-append xs (x ∷ []) ∙ ap (λ zs. ended (map answer_text xs) ++ zs) (append-nil (answer_text x ++ line_feed ∷ []))
+-- one line more
+ended-push : (xs : List (List ℕ)) (x : List ℕ)
+    → ended (xs ++ x ∷ []) ≡ ended xs ++ (x ++ line_feed ∷ [])
+ended-push xs x =
+    ended-append xs (x ∷ []) ∙ ap (λ zs. ended xs ++ zs) (append-nil (x ++ line_feed ∷ []))
 
 -- whatever stands behind whole lines, they are the first ones
 cut_behind : (whole : List (List ℕ)) (line more input : List ℕ) → AllByRecursion HasNoFeed whole

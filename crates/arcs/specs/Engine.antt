@@ -15,8 +15,8 @@ abbrev pub Reads : {A : Type 0} → List ℕ → Traffic → Traffic → Engine 
 Reads bytes writer writer' old new = (start input : List ℕ) → HasRead start input writer old
     → HasRead start (input ++ bytes) writer' new
 
--- Within these bytes it had to stop: whatever follows them, some first lines were answered, and what
--- was written begins the replies.
+-- Within these bytes it had to stop: whatever follows them, some first lines were answered, and
+-- what was written begins the replies.
 abbrev pub Stops : {A : Type 0} → List ℕ → Traffic → Traffic → Engine A → Engine A → Type 0
 Stops bytes writer writer' old new = (start input more : List ℕ) → HasRead start input writer old
     → IsBegun start (input ++ (bytes ++ more)) writer' (state_of new.windows)

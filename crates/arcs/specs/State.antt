@@ -6,7 +6,7 @@ use Rattle.arc_owners.specs.declared.mark.Whole.{Whole}
 use Rattle.arc_block.specs.Table.{empty_table, row_at}
 use Rattle.arcs.specs.RunOf.{RunOf}
 use Rattle.arcs.specs.Additions.{Standing, Adds}
-use Rattle.arcs.specs.Script.{ByteTable, byte_setting}
+use Rattle.arcs.specs.Script.{ByteTable, byte_setting, AnswersBy}
 use Rattle.arcs.specs.Step.{Step}
 use Rattle.arcs.specs.declared.command.Command.{Command}
 use Rattle.arcs.specs.declared.command.Command.TheVariants.{Drop}
@@ -32,6 +32,10 @@ abbrev pub CarriesOutSaid : State → Option (Command (List ℕ)) → Option (Re
 CarriesOutSaid old (Some c) (Some reply) new = CarriesOut old c reply new
 CarriesOutSaid old None None new = new ≡ old
 CarriesOutSaid old said answer new = ⊥
+
+-- what a line is answered, where the command that it says is carried out
+abbrev pub AnswersLine : State → List ℕ → Option (Reply (List ℕ)) → State → Type 0
+AnswersLine old line answer new = AnswersBy CarriesOut old line answer new
 
 -- the end of each window of so many, in the order of their numbers
 abbrev pub drops : ℕ → List (Command (List ℕ))

@@ -6,15 +6,11 @@ use Rattle.std.specs.List.{AllByRecursion}
 use Rattle.arc_owners.specs.declared.count.tokens.Pass.{Pass}
 use Rattle.arc_owners.specs.declared.mark.Whole.{Whole}
 use Rattle.arcs.specs.RunOf.{RunOf}
-use Rattle.arcs.specs.State.{State, empty_state, CarriesOut, EndsWith}
+use Rattle.arcs.specs.State.{State, empty_state, AnswersLine, EndsWith}
 use Rattle.arcs.specs.Text.{longest_line, line_feed}
-use Rattle.arcs.specs.Script.{AreLines, HasNoFeed, AnswersBy, ended, answer_text}
+use Rattle.arcs.specs.Script.{AreLines, HasNoFeed, ended, answer_text}
 use Rattle.arcs.specs.Traffic.{Traffic}
 use Rattle.arcs.specs.declared.command.Reply.{Reply}
-
--- what a line is answered, where the command that it says is carried out
-abbrev pub AnswersLine : State → List ℕ → Option (Reply (List ℕ)) → State → Type 0
-AnswersLine old line answer new = AnswersBy CarriesOut old line answer new
 
 -- From no window on, a run over the lines of the input, but for those that are left, led to this
 -- state. Its replies are the text and what is unwritten.

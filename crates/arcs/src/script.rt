@@ -4,6 +4,8 @@ ghost use Rattle.std.specs.Prelude.{take, drop, OnOk, OnErr, IfOk, IfErr, IfSome
 ghost use Rattle.std.specs.Prelude.{vec_len};
 ghost use Rattle.arcs.specs.Text.{line_feed};
 ghost use Rattle.arcs.specs.Script.{AreLines, BeginsReplyText, HasNoFeed, IsReplyText};
+ghost use Rattle.arc_block.specs.Owned.{IsKept};
+ghost use Rattle.arc_block.specs.declared.block.TheConstants.{MAX_OWNERS};
 ghost use Rattle.arcs.specs.Underway.{IsBrokenOff, IsThrough, ThenEnds};
 ghost use Rattle.std.specs.Io.KnownBytes.{IsAtEnd};
 ghost use Rattle.arcs.specs.Traffic.{Exchanges, Gives, GivesAll, NoFault, Takes, TakesFront};
@@ -403,6 +405,7 @@ fn run_to_end<R: Source, W: Sink, A: Allocator + Copy>(
     ensures clean { OnOk result.0
         (((R.traffic reader.new).failures ≡ (R.traffic reader.old).failures)
         × NoFault (W.traffic writer.old) (W.traffic writer.new)) }
+    ensures ended { IsKept MAX_OWNERS [] result.1.of_blocks.items }
     ensures begun { OnErr result.0
         (Exchanges (ThenEnds IsBrokenOff result.1.of_blocks.items) (R.traffic reader.old)
         (R.traffic reader.new) (W.traffic writer.old) (W.traffic writer.new)) }

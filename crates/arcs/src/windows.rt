@@ -106,8 +106,9 @@ impl<A: Allocator + Copy> Windows<A> {
         }
     }
 
-    /// Ends the table: every window that is left is released, in the order of their numbers, so that
-    /// each block is given back. Answers the passes of the blocks, none of which has a live owner.
+    /// Ends the table: every window that is left is released, in the order of their numbers, so
+    /// that each block is given back. Answers the passes of the blocks, none of which has a live
+    /// owner.
     pub fn end(mut self) -> Passes<A>
         ensures ended { IsKept MAX_OWNERS [] result.of_blocks.items }
         ensures blocks { length result.of_blocks.items ≡ (table_of self).blocks }
