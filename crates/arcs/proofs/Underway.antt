@@ -10,7 +10,7 @@ use Rattle.arcs.specs.State.{State, empty_state, AnswersLine}
 use Rattle.arcs.specs.Text.{line_feed}
 use Rattle.arcs.specs.Script.{HasNoFeed, AreLines, ended, last_line, answer_text, IsReplyText}
 use Rattle.arcs.specs.Traffic.{Traffic, TakesFront}
-use Rattle.arcs.specs.Underway.{AnswersHeld, HasRun, Holds, IsUnderway, IsAnswered}
+use Rattle.arcs.specs.Underway.{AnswersHeld, Holds, IsUnderway, IsAnswered}
 use Rattle.arcs.specs.Underway.{IsBegun, Ends, MayEnd}
 use Rattle.arcs.specs.declared.command.Reply.{Reply}
 use Rattle.arcs.proofs.Runs.{run_push}

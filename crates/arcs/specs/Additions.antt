@@ -1,6 +1,6 @@
 -- What each command adds to the histories of the blocks: by which call, and through the pass of
 -- which block. All other passes stay.
-use Rattle.std.specs.Prelude.{◌≡◌, ℕ, Bool, true, false, List, [], ◌∷◌, ◌++◌, length, Option, Some}
+use Rattle.std.specs.Prelude.{◌≡◌, ℕ, Bool, true, false, List, [], ◌∷◌, ◌++◌, length, Some}
 use Rattle.std.specs.Prelude.{None, slice_get, slice_set}
 use Rattle.std.specs.Option.{option_flatten}
 use Rattle.arc_owners.specs.declared.count.tokens.Pass.{Pass}

@@ -1,5 +1,5 @@
 -- The answer is the one that the windows gave to what was read.
-use Rattle.std.proofs.Common.{inl, inr, refl}
+use Rattle.std.proofs.Common.{inr}
 use Rattle.std.specs.Option.{option_map}
 use Rattle.arcs.specs.Seen.{seen_reply}
 use Rattle.arcs.specs.Rows.{state_of}

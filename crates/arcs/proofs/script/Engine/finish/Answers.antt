@@ -1,6 +1,5 @@
 -- All lines are answered, and the replies go out, or a front of them.
 use Rattle.std.proofs.Common.{[], sym, subst}
-use Rattle.arcs.specs.Rows.{state_of}
 use Rattle.arcs.specs.Underway.{IsAnswered, IsBegun}
 use Rattle.arcs.proofs.Going.{on_err}
 use Rattle.arcs.proofs.Underway.{all_out, end_begun}
