@@ -46,11 +46,10 @@ fn end_entries<A: Allocator + Copy>(mut entries: Vec<Option<Slot<A>>, A>)
 }
 
 impl<A: Allocator + Copy> Windows<A> {
-    ghost use Rattle.std.specs.Prelude.{◌≡◌, ℕ, List, [], Some, None, MatchOption, length};
-    ghost use Rattle.std.specs.Prelude.{slice_get, slice_set};
-    ghost use Rattle.std.specs.Option.{option_map, option_flatten};
+    ghost use Rattle.std.specs.Prelude.{◌≡◌, [], length, slice_set};
+    ghost use Rattle.std.specs.Option.{option_map};
     ghost use Rattle.arcs.specs.Step.{Step};
-    ghost use Rattle.arcs.specs.Script.{ByteTable, byte_setting};
+    ghost use Rattle.arcs.specs.Script.{byte_setting};
     ghost use Rattle.arcs.specs.Seen.{seen_command, seen_reply};
     ghost use Rattle.arcs.specs.Rows.{table_of, standing_of, state_of};
     ghost use Rattle.arcs.specs.Additions.{Adds};
