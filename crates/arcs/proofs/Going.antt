@@ -1,18 +1,21 @@
 -- How the engine's calls follow one another.
-use Rattle.std.proofs.Common.{◌≡◌, ℕ, Bool, false, List, [], ◌∷◌, ◌++◌, Result, Ok, Err, OnErr, OnOk, IfErr, refl, sym, ap, ◌∙◌, subst, append_assoc, arith}
+use Rattle.std.proofs.Common.{◌≡◌, ℕ, Bool, false, List, [], ◌∷◌, ◌++◌, Result, Ok, Err, OnErr}
+use Rattle.std.proofs.Common.{OnOk, IfErr, refl, sym, ap, ◌∙◌, subst, append_assoc, arith}
 use Rattle.std.proofs.lemmas.List.{append-nil}
-use Rattle.arc_block.specs.Table.{empty_table}
+use Rattle.arcs.specs.State.{State, empty_state}
 use Rattle.arcs.specs.Text.{line_feed}
-use Rattle.arcs.specs.Script.{ByteTable, HasNoFeed, IsReplyText, BeginsReplyText}
+use Rattle.arcs.specs.Script.{HasNoFeed}
 use Rattle.arcs.specs.Traffic.{Traffic, Exchanges, NoFault, TakesFront}
-use Rattle.arcs.specs.Rows.{table_of}
-use Rattle.arcs.specs.Underway.{Holds, Ends, IsUnderway, IsAnswered, IsBegun}
+use Rattle.arcs.specs.Rows.{state_of}
+use Rattle.arcs.specs.Underway.{Holds, Ends, MayEnd, IsUnderway, IsAnswered, IsBegun}
+use Rattle.arcs.specs.Underway.{IsThrough, IsBrokenOff}
 use Rattle.arcs.specs.Engine.{HasRead, IsRunning, Reads, Stops}
 use Rattle.arcs.specs.Faults.{IsWhy, IsCause}
 use Rattle.arcs.specs.declared.script.Engine.{Engine}
 use Rattle.arcs.specs.declared.script.ScriptError.{ScriptError}
 use Rattle.arcs.specs.declared.script.ScriptError.TheVariants.{Read, Write, Alloc}
-use Rattle.arcs.proofs.Underway.{nothing_read, more_held, line_ended, went_out, begun, begun_nothing}
+use Rattle.arcs.proofs.Underway.{nothing_read, more_held, line_ended, went_out, begun}
+use Rattle.arcs.proofs.Underway.{still_begun, line_broken, begun_nothing}
 
 -- what holds whatever is answered
 pub on_err : {T E P : Type 0} (r : Result T E) → P → OnErr r P
@@ -23,134 +26,215 @@ pub on_ok : {T E P : Type 0} (r : Result T E) → P → OnOk r P
 on_ok (Ok x) p = p
 on_ok (Err e) p = tt
 
--- nothing was written
-pub none_taken : (bytes : List ℕ) (writer : Traffic) → TakesFront bytes writer writer
-none_taken bytes writer = record { sent = []; rest = bytes; parts = refl; taken = sym (append-nil writer.bytes) }
+module _ {A : Type 0} where
+  -- the same windows, out, line and flag make the same state
+  pub same_state : (start input : List ℕ) (w : Traffic) (e : Engine A) (out held : List ℕ)
+      (state : State) (too_long : Bool) → e.out.items ≡ out → state_of e.windows ≡ state
+      → e.line.items ≡ held → e.too_long ≡ too_long
+      → IsUnderway start input w out state held too_long → HasRead start input w e
+  same_state start input w e out held state too_long same_out same_windows same_line same_flag u =
+      subst
+      (λ f. IsUnderway start input w e.out.items (state_of e.windows) e.line.items f)
+      (sym same_flag)
+      (subst (λ l. IsUnderway start input w e.out.items (state_of e.windows) l too_long)
+      (sym same_line)
+      (subst (λ s. IsUnderway start input w e.out.items s held too_long) (sym same_windows)
+      (subst (λ o. IsUnderway start input w o state held too_long) (sym same_out) u)))
 
--- it stops before it has written more
-pub stops_now : {A : Type 0} (bytes : List ℕ) (writer : Traffic) (engine : Engine A) → Stops bytes writer writer engine
-stops_now bytes writer engine start input more read = begun (bytes ++ more) writer read (none_taken engine.out.items writer)
+  -- it stops before it has written more
+  pub stops_now : (bytes : List ℕ) (w : Traffic) (e e1 : Engine A)
+      → state_of e1.windows ≡ state_of e.windows → Stops bytes w w e e1
+  stops_now bytes w e e1 same start input more read =
+      subst (IsBegun start (input ++ (bytes ++ more)) w) (sym same)
+      (still_begun read (bytes ++ more))
 
--- it has read some bytes, and stops within others
-pub stops_later : {A : Type 0} (piece front rest : List ℕ) (w w1 w2 : Traffic) (e e1 : Engine A) → piece ≡ front ++ rest → Reads front w w1 e e1 → Stops rest w1 w2 e1 → Stops piece w w2 e
-stops_later piece front rest w w1 w2 e e1 parts reads stops start input more read =
-    subst (λ xs. IsBegun start xs w2)
-    (append_assoc input front (rest ++ more) ∙ ap (λ xs. input ++ xs) (sym (append_assoc front rest more) ∙ ap (λ xs. xs ++ more) (sym parts)))
-    (stops start (input ++ front) more (reads start input read))
+  -- it stops while its replies go out
+  pub stops_out : (bytes : List ℕ) (w w' : Traffic) (e e1 : Engine A)
+      → TakesFront e.out.items w w' → state_of e1.windows ≡ state_of e.windows
+      → Stops bytes w w' e e1
+  stops_out bytes w w' e e1 front same start input more read =
+      subst (IsBegun start (input ++ (bytes ++ more)) w') (sym same)
+      (begun read (bytes ++ more) w' front)
 
--- it stops within the front of some bytes
-pub stops_longer : {A : Type 0} (piece front rest : List ℕ) (w w' : Traffic) (e : Engine A) → piece ≡ front ++ rest → Stops front w w' e → Stops piece w w' e
-stops_longer piece front rest w w' e parts stops start input more read =
-    subst (λ xs. IsBegun start (input ++ xs) w') (sym (append_assoc front rest more) ∙ ap (λ xs. xs ++ more) (sym parts)) (stops start input (rest ++ more) read)
+  -- it stops at a line feed
+  pub stops_at_line : (w : Traffic) (e e1 : Engine A)
+      → MayEnd e.line.items e.too_long (state_of e.windows) (state_of e1.windows)
+      → Stops (line_feed ∷ []) w w e e1
+  stops_at_line w e e1 may start input more read =
+      line_broken read (state_of e1.windows) more may
 
--- it has read some bytes, and then others
-pub reads_on : {A : Type 0} (front more : List ℕ) (w w1 w2 : Traffic) (e e1 e2 : Engine A) → Reads front w w1 e e1 → Reads more w1 w2 e1 e2 → Reads (front ++ more) w w2 e e2
-reads_on front more w w1 w2 e e1 e2 one other start input read =
-    subst (λ xs. HasRead start xs w2 e2) (append_assoc input front more) (other start (input ++ front) (one start input read))
+  -- it has read some bytes, and stops within others
+  pub stops_later : (piece front rest : List ℕ) (w w1 w2 : Traffic) (e e1 e2 : Engine A)
+      → piece ≡ front ++ rest → Reads front w w1 e e1 → Stops rest w1 w2 e1 e2
+      → Stops piece w w2 e e2
+  stops_later piece front rest w w1 w2 e e1 e2 parts reads stops start input more read =
+      subst (λ xs. IsBegun start xs w2 (state_of e2.windows))
+      (append_assoc input front (rest ++ more) ∙ ap (λ xs. input ++ xs)
+      (sym (append_assoc front rest more) ∙ ap (λ xs. xs ++ more) (sym parts)))
+      (stops start (input ++ front) more (reads start input read))
 
--- it has read nothing more
-pub reads_nothing : {A : Type 0} (w : Traffic) (e : Engine A) → Reads [] w w e e
-reads_nothing w e start input read = subst (λ xs. HasRead start xs w e) (sym (append-nil input)) read
+  -- it stops within the front of some bytes
+  pub stops_longer : (piece front rest : List ℕ) (w w' : Traffic) (e e1 : Engine A)
+      → piece ≡ front ++ rest → Stops front w w' e e1 → Stops piece w w' e e1
+  stops_longer piece front rest w w' e e1 parts stops start input more read =
+      subst (λ xs. IsBegun start (input ++ xs) w' (state_of e1.windows))
+      (sym (append_assoc front rest more) ∙ ap (λ xs. xs ++ more) (sym parts))
+      (stops start input (rest ++ more) read)
 
--- the same windows, out, line and flag make the same state
-pub same_state : {A : Type 0} (start input : List ℕ) (w : Traffic) (e : Engine A) (out held : List ℕ) (table : ByteTable) (too_long : Bool) → e.out.items ≡ out → table_of e.windows ≡ table → e.line.items ≡ held → e.too_long ≡ too_long
-    → IsUnderway start input w out table held too_long → HasRead start input w e
-same_state start input w e out held table too_long same_out same_table same_line same_flag u =
-    subst (λ f. IsUnderway start input w e.out.items (table_of e.windows) e.line.items f) (sym same_flag)
-    (subst (λ l. IsUnderway start input w e.out.items (table_of e.windows) l too_long) (sym same_line)
-    (subst (λ t. IsUnderway start input w e.out.items t held too_long) (sym same_table)
-    (subst (λ o. IsUnderway start input w o table held too_long) (sym same_out) u)))
+  -- it has read some bytes, and then others
+  pub reads_on : (front more : List ℕ) (w w1 w2 : Traffic) (e e1 e2 : Engine A)
+      → Reads front w w1 e e1 → Reads more w1 w2 e1 e2 → Reads (front ++ more) w w2 e e2
+  reads_on front more w w1 w2 e e1 e2 one other start input read =
+      subst (λ xs. HasRead start xs w2 e2) (append_assoc input front more)
+      (other start (input ++ front) (one start input read))
 
--- it holds more of a line
-pub reads_held : {A : Type 0} (w : Traffic) (e e1 : Engine A) (bytes : List ℕ) → HasNoFeed bytes → ((line : List ℕ) → Holds e.line.items e.too_long line → Holds e1.line.items e1.too_long (line ++ bytes)) → table_of e1.windows ≡ table_of e.windows → e1.out.items ≡ e.out.items
-    → Reads bytes w w e e1
-reads_held w e e1 bytes plain holds same_table same_out start input read =
-    same_state start (input ++ bytes) w e1 _ _ _ _ same_out same_table refl refl (more_held e1.line.items e1.too_long bytes read plain holds)
+  -- it has read nothing more
+  pub reads_nothing : (w : Traffic) (e : Engine A) → Reads [] w w e e
+  reads_nothing w e start input read =
+      subst (λ xs. HasRead start xs w e) (sym (append-nil input)) read
 
--- it answers the line
-pub reads_feed : {A : Type 0} (w : Traffic) (e e1 : Engine A) → Ends e.line.items e.too_long (table_of e.windows) (table_of e1.windows) e.out.items e1.out.items → (e1.line.items ≡ []) × (e1.too_long ≡ false) → Reads (line_feed ∷ []) w w e e1
-reads_feed w e e1 ends empty start input read =
-    same_state start (input ++ line_feed ∷ []) w e1 _ _ _ _ refl refl empty.0 empty.1 (line_ended (table_of e1.windows) e1.out.items read ends)
+  -- it holds more of a line
+  pub reads_held : (w : Traffic) (e e1 : Engine A) (bytes : List ℕ) → HasNoFeed bytes
+      → ((line : List ℕ) → Holds e.line.items e.too_long line
+      → Holds e1.line.items e1.too_long (line ++ bytes))
+      → state_of e1.windows ≡ state_of e.windows → e1.out.items ≡ e.out.items
+      → Reads bytes w w e e1
+  reads_held w e e1 bytes plain holds same_windows same_out start input read =
+      same_state start (input ++ bytes) w e1 _ _ _ _ same_out same_windows refl refl
+      (more_held read e1.line.items e1.too_long bytes plain holds)
 
--- its replies have gone out
-pub reads_out : {A : Type 0} (w w' : Traffic) (e e1 : Engine A) → (w'.bytes ≡ w.bytes ++ e.out.items) × (e1.out.items ≡ []) → table_of e1.windows ≡ table_of e.windows → (e1.line.items ≡ e.line.items) × (e1.too_long ≡ e.too_long) → Reads [] w w' e e1
-reads_out w w' e e1 out same_table same_line start input read =
-    subst (λ xs. HasRead start xs w' e1) (sym (append-nil input)) (same_state start input w' e1 _ _ _ _ out.1 same_table same_line.0 same_line.1 (went_out w' read out.0))
+  -- it answers the line
+  pub reads_feed : (w : Traffic) (e e1 : Engine A)
+      → Ends e.line.items e.too_long (state_of e.windows) (state_of e1.windows) e.out.items
+      e1.out.items
+      → (e1.line.items ≡ []) × (e1.too_long ≡ false) → Reads (line_feed ∷ []) w w e e1
+  reads_feed w e e1 ends empty start input read =
+      same_state start (input ++ line_feed ∷ []) w e1 _ _ _ _ refl refl empty.0 empty.1
+      (line_ended read (state_of e1.windows) e1.out.items ends)
 
--- it stops while its replies go out
-pub stops_out : {A : Type 0} (bytes : List ℕ) (w w' : Traffic) (e : Engine A) → TakesFront e.out.items w w' → Stops bytes w w' e
-stops_out bytes w w' e front start input more read = begun (bytes ++ more) w' read front
+  -- its replies have gone out
+  pub reads_out : (w w' : Traffic) (e e1 : Engine A)
+      → (w'.bytes ≡ w.bytes ++ e.out.items) × (e1.out.items ≡ [])
+      → state_of e1.windows ≡ state_of e.windows
+      → (e1.line.items ≡ e.line.items) × (e1.too_long ≡ e.too_long) → Reads [] w w' e e1
+  reads_out w w' e e1 out same_windows same_line start input read =
+      subst (λ xs. HasRead start xs w' e1) (sym (append-nil input))
+      (same_state start input w' e1 _ _ _ _ out.1 same_windows same_line.0 same_line.1
+      (went_out read w' out.0))
 
--- it holds the end of a line, and answers it
-pub reads_line : {A : Type 0} (w : Traffic) (e e1 e2 : Engine A) (bytes : List ℕ) → HasNoFeed bytes → ((line : List ℕ) → Holds e.line.items e.too_long line → Holds e1.line.items e1.too_long (line ++ bytes)) → table_of e1.windows ≡ table_of e.windows → e1.out.items ≡ e.out.items
-    → Ends e1.line.items e1.too_long (table_of e1.windows) (table_of e2.windows) e1.out.items e2.out.items → (e2.line.items ≡ []) × (e2.too_long ≡ false) → Reads (bytes ++ line_feed ∷ []) w w e e2
-reads_line w e e1 e2 bytes plain holds same_table same_out ends empty =
-    reads_on bytes (line_feed ∷ []) w w w e e1 e2 (reads_held w e e1 bytes plain holds same_table same_out) (reads_feed w e1 e2 ends empty)
+  -- it holds the end of a line, and answers it
+  pub reads_line : (w : Traffic) (e e1 e2 : Engine A) (bytes : List ℕ) → Reads bytes w w e e1
+      → Ends e1.line.items e1.too_long (state_of e1.windows) (state_of e2.windows) e1.out.items
+      e2.out.items
+      → (e2.line.items ≡ []) × (e2.too_long ≡ false)
+      → Reads (bytes ++ line_feed ∷ []) w w e e2
+  reads_line w e e1 e2 bytes held ends empty =
+      reads_on bytes (line_feed ∷ []) w w w e e1 e2 held (reads_feed w e1 e2 ends empty)
 
--- and then its replies go out, or a front of them
-pub reads_and_out : {A : Type 0} (bytes : List ℕ) (w w1 w' : Traffic) (e e1 e2 : Engine A) → Reads bytes w w1 e e1 → (w'.bytes ≡ w1.bytes ++ e1.out.items) × (e2.out.items ≡ []) → table_of e2.windows ≡ table_of e1.windows → (e2.line.items ≡ e1.line.items) × (e2.too_long ≡ e1.too_long) → Reads bytes w w' e e2
-reads_and_out bytes w w1 w' e e1 e2 reads out same_table same_line =
-    subst (λ xs. Reads xs w w' e e2) (append-nil bytes) (reads_on bytes [] w w1 w' e e1 e2 reads (reads_out w1 w' e1 e2 out same_table same_line))
+  -- and then its replies go out, or a front of them
+  pub reads_and_out : (bytes : List ℕ) (w w1 w' : Traffic) (e e1 e2 : Engine A)
+      → Reads bytes w w1 e e1 → (w'.bytes ≡ w1.bytes ++ e1.out.items) × (e2.out.items ≡ [])
+      → state_of e2.windows ≡ state_of e1.windows
+      → (e2.line.items ≡ e1.line.items) × (e2.too_long ≡ e1.too_long) → Reads bytes w w' e e2
+  reads_and_out bytes w w1 w' e e1 e2 reads out same_windows same_line =
+      subst (λ xs. Reads xs w w' e e2) (append-nil bytes)
+      (reads_on bytes [] w w1 w' e e1 e2 reads (reads_out w1 w' e1 e2 out same_windows same_line))
 
-pub reads_then_stops : {A : Type 0} (bytes : List ℕ) (w w1 w' : Traffic) (e e1 : Engine A) → Reads bytes w w1 e e1 → TakesFront e1.out.items w1 w' → Stops bytes w w' e
-reads_then_stops bytes w w1 w' e e1 reads front = stops_later bytes bytes [] w w1 w' e e1 (sym (append-nil bytes)) reads (stops_out [] w1 w' e1 front)
+  pub reads_then_stops : (bytes : List ℕ) (w w1 w' : Traffic) (e e1 e2 : Engine A)
+      → Reads bytes w w1 e e1 → TakesFront e1.out.items w1 w'
+      → state_of e2.windows ≡ state_of e1.windows → Stops bytes w w' e e2
+  reads_then_stops bytes w w1 w' e e1 e2 reads front same =
+      stops_later bytes bytes [] w w1 w' e e1 e2 (sym (append-nil bytes)) reads
+      (stops_out [] w1 w' e1 e2 front same)
 
--- it stops at the end, before it has written more
-pub begun_at_end : {A : Type 0} (w : Traffic) (e : Engine A) (start input : List ℕ) → HasRead start input w e → IsBegun start input w
-begun_at_end w e start input read = subst (λ xs. IsBegun start xs w) (append-nil input) (stops_now [] w e start input [] read)
+  -- it stops at the end, before it has written more
+  pub begun_at_end : (w : Traffic) (e : Engine A) (start input : List ℕ) → HasRead start input w e
+      → IsBegun start input w (state_of e.windows)
+  begun_at_end w e start input read =
+      subst (λ xs. IsBegun start xs w (state_of e.windows)) (append-nil input)
+      (still_begun read [])
 
--- it has read a piece in two parts
-pub reads_whole : {A : Type 0} (piece front rest : List ℕ) (w w1 w2 : Traffic) (e e1 e2 : Engine A) → piece ≡ front ++ rest → Reads front w w1 e e1 → Reads rest w1 w2 e1 e2 → Reads piece w w2 e e2
-reads_whole piece front rest w w1 w2 e e1 e2 parts one other = subst (λ xs. Reads xs w w2 e e2) (sym parts) (reads_on front rest w w1 w2 e e1 e2 one other)
+  -- it has read a piece in two parts
+  pub reads_whole : (piece front rest : List ℕ) (w w1 w2 : Traffic) (e e1 e2 : Engine A)
+      → piece ≡ front ++ rest → Reads front w w1 e e1 → Reads rest w1 w2 e1 e2
+      → Reads piece w w2 e e2
+  reads_whole piece front rest w w1 w2 e e1 e2 parts one other =
+      subst (λ xs. Reads xs w w2 e e2) (sym parts)
+      (reads_on front rest w w1 w2 e e1 e2 one other)
 
 -- a line, its line feed, and what stands behind them
-pub line_parts : (line behind rest : List ℕ) → rest ≡ line ++ line_feed ∷ behind → rest ≡ (line ++ line_feed ∷ []) ++ behind
+pub line_parts : (line behind rest : List ℕ) → rest ≡ line ++ line_feed ∷ behind
+    → rest ≡ (line ++ line_feed ∷ []) ++ behind
 line_parts line behind rest cut = cut ∙ sym (append_assoc line (line_feed ∷ []) behind)
 
-pub more_parts : (piece front rest line behind : List ℕ) → piece ≡ front ++ rest → rest ≡ line ++ line_feed ∷ behind → piece ≡ (front ++ (line ++ line_feed ∷ [])) ++ behind
-more_parts piece front rest line behind parts cut = parts ∙ ap (λ xs. front ++ xs) (line_parts line behind rest cut) ∙ sym (append_assoc front (line ++ line_feed ∷ []) behind)
+pub more_parts : (piece front rest line behind : List ℕ) → piece ≡ front ++ rest
+    → rest ≡ line ++ line_feed ∷ behind → piece ≡ (front ++ (line ++ line_feed ∷ [])) ++ behind
+more_parts piece front rest line behind parts cut =
+    parts ∙ ap (λ xs. front ++ xs) (line_parts line behind rest cut)
+    ∙ sym (append_assoc front (line ++ line_feed ∷ []) behind)
 
 -- what was read and what was written go together
-pub exchange_begun : (r r' w w' : Traffic) (input : List ℕ) → r'.bytes ≡ r.bytes ++ input → IsBegun w.bytes input w' → Exchanges BeginsReplyText r r' w w'
-exchange_begun r r' w w' input given b = record { input = input; text = b.text; given = given; taken = b.taken; fit = b.begins }
+pub exchange_begun : (r r' w w' : Traffic) (state : State) (input : List ℕ)
+    → r'.bytes ≡ r.bytes ++ input → IsBegun w.bytes input w' state
+    → Exchanges (IsBrokenOff state) r r' w w'
+exchange_begun r r' w w' state input given b =
+    record { input = input; text = b.text; given = given; taken = b.taken; fit = b.begins }
 
--- a run that stops without reading more
-pub run_stops_now : {A : Type 0} (r r1 r2 w w1 : Traffic) (e : Engine A) → IsRunning r r1 w w1 e → r2.bytes ≡ r1.bytes → Exchanges BeginsReplyText r r2 w w1
-run_stops_now r r1 r2 w w1 e run same = exchange_begun r r2 w w1 run.input (same ∙ run.given) (begun_at_end w1 e w.bytes run.input run.read)
+module _ {A : Type 0} where
+  -- a run that stops without reading more
+  pub run_stops_now : (r r1 r2 w w1 : Traffic) (e : Engine A) → IsRunning r r1 w w1 e
+      → r2.bytes ≡ r1.bytes → Exchanges (IsBrokenOff (state_of e.windows)) r r2 w w1
+  run_stops_now r r1 r2 w w1 e run same =
+      exchange_begun r r2 w w1 (state_of e.windows) run.input (same ∙ run.given)
+      (begun_at_end w1 e w.bytes run.input run.read)
 
--- a run that stops within the bytes that it has read
-pub run_stops : {A : Type 0} (r r1 r2 w w1 w2 : Traffic) (e : Engine A) (bytes : List ℕ) → IsRunning r r1 w w1 e → r2.bytes ≡ r1.bytes ++ bytes → Stops bytes w1 w2 e → Exchanges BeginsReplyText r r2 w w2
-run_stops r r1 r2 w w1 w2 e bytes run more stops =
-    exchange_begun r r2 w w2 (run.input ++ bytes) (more ∙ ap (λ xs. xs ++ bytes) run.given ∙ append_assoc r.bytes run.input bytes)
-    (subst (λ xs. IsBegun w.bytes (run.input ++ xs) w2) (append-nil bytes) (stops w.bytes run.input [] run.read))
+  -- a run that stops within the bytes that it has read
+  pub run_stops : (r r1 r2 w w1 w2 : Traffic) (e e1 : Engine A) (bytes : List ℕ)
+      → IsRunning r r1 w w1 e → r2.bytes ≡ r1.bytes ++ bytes → Stops bytes w1 w2 e e1
+      → Exchanges (IsBrokenOff (state_of e1.windows)) r r2 w w2
+  run_stops r r1 r2 w w1 w2 e e1 bytes run more stops =
+      exchange_begun r r2 w w2 (state_of e1.windows) (run.input ++ bytes)
+      (more ∙ ap (λ xs. xs ++ bytes) run.given ∙ append_assoc r.bytes run.input bytes)
+      (subst (λ xs. IsBegun w.bytes (run.input ++ xs) w2 (state_of e1.windows)) (append-nil bytes)
+      (stops w.bytes run.input [] run.read))
 
--- a run that goes on
-pub run_goes_on : {A : Type 0} (r r1 r2 w w1 w2 : Traffic) (e e1 : Engine A) (bytes : List ℕ) → IsRunning r r1 w w1 e → r2.bytes ≡ r1.bytes ++ bytes → r2.failures ≡ r1.failures → NoFault w1 w2 → Reads bytes w1 w2 e e1 → IsRunning r r2 w w2 e1
-run_goes_on r r1 r2 w w1 w2 e e1 bytes run more failures clean reads = record {
-  input = run.input ++ bytes;
-  given = more ∙ ap (λ xs. xs ++ bytes) run.given ∙ append_assoc r.bytes run.input bytes;
-  read = reads w.bytes run.input run.read;
-  failures = failures ∙ run.failures;
-  clean = (clean.0 ∙ run.clean.0, clean.1 ∙ run.clean.1);
-}
+  -- a run that goes on
+  pub run_goes_on : (r r1 r2 w w1 w2 : Traffic) (e e1 : Engine A) (bytes : List ℕ)
+      → IsRunning r r1 w w1 e → r2.bytes ≡ r1.bytes ++ bytes → r2.failures ≡ r1.failures
+      → NoFault w1 w2 → Reads bytes w1 w2 e e1 → IsRunning r r2 w w2 e1
+  run_goes_on r r1 r2 w w1 w2 e e1 bytes run more failures clean reads = record {
+    input = run.input ++ bytes;
+    given = more ∙ ap (λ xs. xs ++ bytes) run.given ∙ append_assoc r.bytes run.input bytes;
+    read = reads w.bytes run.input run.read;
+    failures = failures ∙ run.failures;
+    clean = (clean.0 ∙ run.clean.0, clean.1 ∙ run.clean.1);
+  }
 
--- a run begins with an engine that has read nothing
-pub run_begins : {A : Type 0} (r w : Traffic) (e : Engine A) → table_of e.windows ≡ empty_table → (e.line.items ≡ []) × (e.too_long ≡ false) → e.out.items ≡ [] → IsRunning r r w w e
-run_begins r w e none_made none_held none_out = record {
-  input = [];
-  given = sym (append-nil r.bytes);
-  read = same_state w.bytes [] w e [] [] (table_of e.windows) false none_out refl none_held.0 none_held.1 (nothing_read w (table_of e.windows) none_made);
-  failures = refl;
-  clean = (refl, refl);
-}
+  -- a run begins with an engine that has read nothing
+  pub run_begins : (r w : Traffic) (e : Engine A) → state_of e.windows ≡ empty_state
+      → (e.line.items ≡ []) × (e.too_long ≡ false) → e.out.items ≡ [] → IsRunning r r w w e
+  run_begins r w e none_made none_held none_out = record {
+    input = [];
+    given = sym (append-nil r.bytes);
+    read =
+        same_state w.bytes [] w e [] [] (state_of e.windows) false none_out refl none_held.0
+        none_held.1 (nothing_read w (state_of e.windows) none_made);
+    failures = refl;
+    clean = (refl, refl);
+  }
 
 -- nothing was read and nothing written
-pub nothing_exchanged : (r w : Traffic) → Exchanges BeginsReplyText r r w w
-nothing_exchanged r w = exchange_begun r r w w [] (sym (append-nil r.bytes)) (begun_nothing w)
+pub nothing_exchanged : (r w : Traffic) (state : State) → state ≡ empty_state
+    → Exchanges (IsBrokenOff state) r r w w
+nothing_exchanged r w state empty =
+    exchange_begun r r w w state [] (sym (append-nil r.bytes)) (begun_nothing w state empty)
 
 -- a run that has answered all
-pub exchange_answered : (r r' w w' : Traffic) (input : List ℕ) → r'.bytes ≡ r.bytes ++ input → IsAnswered w.bytes input w' [] → Exchanges IsReplyText r r' w w'
-exchange_answered r r' w w' input given a = record { input = input; text = a.text; given = given; taken = a.taken; fit = subst (IsReplyText input) (append-nil a.text) a.all }
+pub exchange_answered : (r r' w w' : Traffic) (state : State) (input : List ℕ)
+    → r'.bytes ≡ r.bytes ++ input → IsAnswered w.bytes input w' [] state
+    → Exchanges (IsThrough state) r r' w w'
+exchange_answered r r' w w' state input given a =
+    record { input = input; text = a.text; given = given; taken = a.taken; fit = a.all }
 
 -- what follows from what holds at an end
 pub on_ok_then : {T E P Q : Type 0} (r : Result T E) → OnOk r P → (P → Q) → OnOk r Q
@@ -161,12 +245,14 @@ pub on_err_then : {T E P Q : Type 0} (r : Result T E) → OnErr r P → (P → Q
 on_err_then (Ok x) p f = tt
 on_err_then (Err e) p f = f p
 
-pub if_err_then : {T E : Type 0} {P Q : E → Type 0} (r : Result T E) → IfErr r P → ((e : E) → P e → Q e) → IfErr r Q
+pub if_err_then : {T E : Type 0} {P Q : E → Type 0} (r : Result T E) → IfErr r P
+    → ((e : E) → P e → Q e) → IfErr r Q
 if_err_then (Ok x) p f = tt
 if_err_then (Err e) p f = f e p
 
 -- why the engine stopped is the cause of the run's fault
-pub why_is_cause : (r r' w w1 w2 : Traffic) → r'.failures ≡ r.failures → NoFault w w1 → (e : ScriptError) → IsWhy w1 w2 e → IsCause r r' w w2 e
+pub why_is_cause : (r r' w w1 w2 : Traffic) → r'.failures ≡ r.failures → NoFault w w1
+    → (e : ScriptError) → IsWhy w1 w2 e → IsCause r r' w w2 e
 why_is_cause r r' w w1 w2 same clean Read why = absurd why
 why_is_cause r r' w w1 w2 same clean Write why = (same, omega (arith, why, clean.0, clean.1))
 why_is_cause r r' w w1 w2 same clean Alloc why = (same, (why.0 ∙ clean.0, why.1 ∙ clean.1))

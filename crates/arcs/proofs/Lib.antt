@@ -6,6 +6,7 @@ pub mod Texts
 pub mod Tables
 pub mod Empty
 pub mod Splits
+pub mod States
 pub mod Underway
 pub mod Going
 pub mod Devices

@@ -1,6 +1,6 @@
 -- What each command adds to the histories of the blocks: by which call, and through the pass of
 -- which block. All other passes stay.
-use Rattle.std.specs.Prelude.{◌≡◌, ℕ, Bool, true, false, List, [], ◌∷◌, ◌++◌, length, Option, Some}
+use Rattle.std.specs.Prelude.{◌≡◌, ℕ, Bool, true, false, List, [], ◌∷◌, ◌++◌, length, Some}
 use Rattle.std.specs.Prelude.{None, slice_get, slice_set}
 use Rattle.std.specs.Option.{option_flatten}
 use Rattle.arc_owners.specs.declared.count.tokens.Pass.{Pass}
@@ -86,9 +86,3 @@ module _ {H : Type 0} where
   Adds old (Uniq i) reply.No new = Calls old i new (λ o p q. Asks o p q false)
   Adds old (Drop i) reply.Ok new = Ends old i new
   Adds old command reply new = new ≡ old
-
-  -- what a line adds, by the command that it says, if it says one
-  abbrev pub AddsFor : Standing H → Option (Command (List ℕ)) → Option (Reply (List ℕ)) → Standing H
-      → Type 0
-  AddsFor old (Some command) (Some reply) new = Adds old command reply new
-  AddsFor old said reply new = new ≡ old

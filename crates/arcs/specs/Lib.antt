@@ -8,6 +8,7 @@ pub mod Writing
 pub mod Stands
 pub mod Slots
 pub mod Additions
+pub mod State
 pub mod Rows
 pub mod Traffic
 pub mod Underway

@@ -44,10 +44,15 @@ IsBad line = (c : Command (List ℕ)) → ¬ Says line c
 
 -- what a line is answered: one step of the command that it says, or None where it says none and
 -- nothing changes
+abbrev pub AnswersBy : {S : Type 0} → (S → Command (List ℕ) → Reply (List ℕ) → S → Type 0)
+    → S → List ℕ → Option (Reply (List ℕ)) → S → Type 0
+AnswersBy step old line (Some reply) new = (c : Command (List ℕ)) × Says line c
+    × step old c reply new
+AnswersBy step old line None new = IsBad line × (new ≡ old)
+
+-- of a table
 abbrev pub Answers : ByteTable → List ℕ → Option (Reply (List ℕ)) → ByteTable → Type 0
-Answers old line (Some reply) new = (c : Command (List ℕ)) × Says line c
-    × Step byte_setting old c reply new
-Answers old line None new = IsBad line × (new ≡ old)
+Answers old line answer new = AnswersBy (Step byte_setting) old line answer new
 
 abbrev pub answer_text : Option (Reply (List ℕ)) → List ℕ
 answer_text (Some reply) = reply_text reply

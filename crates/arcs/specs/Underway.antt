@@ -1,14 +1,40 @@
--- A script that is being run: what was read and written so far, and what is still held.
+-- A script that is being run: what was read and written so far, what is still held, and what the
+-- commands did to the windows and to the histories of their blocks.
 use Rattle.std.specs.Prelude.{◌≡◌, ℕ, ◌<◌, Bool, true, false, List, [], ◌∷◌, ◌++◌, map, length}
-use Rattle.std.specs.Prelude.{Option}
+use Rattle.std.specs.Prelude.{Option, ◌⊎◌}
 use Rattle.std.specs.List.{AllByRecursion}
-use Rattle.arc_block.specs.Table.{empty_table}
+use Rattle.arc_owners.specs.declared.count.tokens.Pass.{Pass}
+use Rattle.arc_owners.specs.declared.mark.Whole.{Whole}
 use Rattle.arcs.specs.RunOf.{RunOf}
+use Rattle.arcs.specs.State.{State, empty_state, AnswersLine, EndsWith}
 use Rattle.arcs.specs.Text.{longest_line, line_feed}
-use Rattle.arcs.specs.Script.{ByteTable, HasNoFeed, Answers, ended, answer_text, IsReplyText}
-use Rattle.arcs.specs.Script.{BeginsReplyText}
+use Rattle.arcs.specs.Script.{AreLines, HasNoFeed, ended, answer_text}
 use Rattle.arcs.specs.Traffic.{Traffic}
 use Rattle.arcs.specs.declared.command.Reply.{Reply}
+
+-- From no window on, a run over the lines of the input, but for those that are left, led to this
+-- state. Its replies are the text and what is unwritten.
+pub record HasRun (state : State) (input text : List ℕ) (left : List (List ℕ))
+    (unwritten : List ℕ) : Type 0 where
+  pub lines : List (List ℕ)
+  pub replies : List (Option (Reply (List ℕ)))
+  pub cut : AreLines input (lines ++ left)
+  pub run : RunOf AnswersLine empty_state lines replies state
+  pub written : text ++ unwritten ≡ ended (map answer_text replies)
+
+-- the run went to its end, and all was written
+abbrev pub IsThrough : State → List ℕ → List ℕ → Type 0
+IsThrough state input text = HasRun state input text [] []
+
+-- it was broken off
+abbrev pub IsBrokenOff : State → List ℕ → List ℕ → Type 0
+IsBrokenOff state input text =
+    (left : List (List ℕ)) × (unwritten : List ℕ) × HasRun state input text left unwritten
+
+-- after such a run every window that was left ended, and these are the passes of the blocks
+abbrev pub ThenEnds : (State → List ℕ → List ℕ → Type 0) → List (Pass Whole) → List ℕ → List ℕ
+    → Type 0
+ThenEnds ran passes input text = (state : State) × ran state input text × EndsWith state passes
 
 -- what is held of the line that is coming: all of it, or only that it is too long
 abbrev pub Holds : List ℕ → Bool → List ℕ → Type 0
@@ -17,7 +43,7 @@ Holds held true line = longest_line < length line
 
 -- Since the writer had taken start, this input was read. Each of its whole lines is answered: the
 -- replies were taken, but for those in out. Behind the whole lines stands what came of the next.
-pub record IsUnderway (start input : List ℕ) (writer : Traffic) (out : List ℕ) (table : ByteTable)
+pub record IsUnderway (start input : List ℕ) (writer : Traffic) (out : List ℕ) (state : State)
     (held : List ℕ) (too_long : Bool) : Type 0 where
   pub text : List ℕ
   pub whole : List (List ℕ)
@@ -28,25 +54,37 @@ pub record IsUnderway (start input : List ℕ) (writer : Traffic) (out : List �
   pub each : AllByRecursion HasNoFeed whole
   pub last : HasNoFeed line
   pub holds : Holds held too_long line
-  pub run : RunOf Answers empty_table whole replies table
+  pub run : RunOf AnswersLine empty_state whole replies state
   pub written : text ++ out ≡ ended (map answer_text replies)
 
 -- Since the writer had taken start, this input was read to its end, and all lines are answered: the
 -- replies were taken, but for those in out.
-pub record IsAnswered (start input : List ℕ) (writer : Traffic) (out : List ℕ) : Type 0 where
+pub record IsAnswered (start input : List ℕ) (writer : Traffic) (out : List ℕ) (state : State)
+    : Type 0 where
   pub text : List ℕ
   pub taken : writer.bytes ≡ start ++ text
-  pub all : IsReplyText input (text ++ out)
+  pub all : HasRun state input text [] out
 
--- Since the writer had taken start, this input was read, and a beginning of its replies was taken.
-pub record IsBegun (start input : List ℕ) (writer : Traffic) : Type 0 where
+-- Since the writer had taken start, this input was read, some first lines were answered, and a
+-- beginning of the replies was taken.
+pub record IsBegun (start input : List ℕ) (writer : Traffic) (state : State) : Type 0 where
   pub text : List ℕ
   pub taken : writer.bytes ≡ start ++ text
-  pub begins : BeginsReplyText input text
+  pub begins : IsBrokenOff state input text
 
--- The line that was held is answered, in out too, and nothing is held.
-pub record Ends (held : List ℕ) (too_long : Bool) (old new : ByteTable)
+-- whatever line was held, it is answered so
+abbrev pub AnswersHeld : List ℕ → Bool → State → Option (Reply (List ℕ)) → State → Type 0
+AnswersHeld held too_long old answer new =
+    (line : List ℕ) → Holds held too_long line → AnswersLine old line answer new
+
+-- The line that was held is answered, in out too.
+pub record Ends (held : List ℕ) (too_long : Bool) (old new : State)
     (out out' : List ℕ) : Type 0 where
   pub answer : Option (Reply (List ℕ))
-  pub answered : (line : List ℕ) → Holds held too_long line → Answers old line answer new
+  pub answered : AnswersHeld held too_long old answer new
   pub appended : out' ≡ out ++ (answer_text answer ++ line_feed ∷ [])
+
+-- The line that was held isn't answered, or is, but not in out.
+abbrev pub MayEnd : List ℕ → Bool → State → State → Type 0
+MayEnd held too_long old new =
+    (new ≡ old) ⊎ ((answer : Option (Reply (List ℕ))) × AnswersHeld held too_long old answer new)

@@ -4,6 +4,9 @@ ghost use Rattle.std.specs.Prelude.{take, drop, OnOk, OnErr, IfOk, IfErr, IfSome
 ghost use Rattle.std.specs.Prelude.{vec_len};
 ghost use Rattle.arcs.specs.Text.{line_feed};
 ghost use Rattle.arcs.specs.Script.{AreLines, BeginsReplyText, HasNoFeed, IsReplyText};
+ghost use Rattle.arc_block.specs.Owned.{IsKept};
+ghost use Rattle.arc_block.specs.declared.block.TheConstants.{MAX_OWNERS};
+ghost use Rattle.arcs.specs.Underway.{IsBrokenOff, IsThrough, ThenEnds};
 ghost use Rattle.std.specs.Io.KnownBytes.{IsAtEnd};
 ghost use Rattle.arcs.specs.Traffic.{Exchanges, Gives, GivesAll, NoFault, Takes, TakesFront};
 ghost use Rattle.arcs.specs.Traffic.{Traffic, faults};
@@ -91,16 +94,16 @@ struct Engine<A: Allocator + Copy> {
 impl<A: Allocator + Copy> Engine<A> {
     ghost use Rattle.std.specs.Prelude.{◌≡◌};
     ghost use Rattle.arc_block.specs.Owned.{IsKept};
-    ghost use Rattle.arc_block.specs.Table.{empty_table};
     ghost use Rattle.arc_block.specs.declared.block.TheConstants.{MAX_OWNERS};
-    ghost use Rattle.arcs.specs.Rows.{table_of};
+    ghost use Rattle.arcs.specs.Rows.{table_of, state_of};
     ghost use Rattle.arcs.specs.Seen.{IsReadAs};
-    ghost use Rattle.arcs.specs.Underway.{Holds, Ends, IsAnswered, IsBegun};
+    ghost use Rattle.arcs.specs.State.{EndsWith, empty_state};
+    ghost use Rattle.arcs.specs.Underway.{Holds, Ends, MayEnd, IsAnswered, IsBegun};
     ghost use Rattle.arcs.specs.Script.{HasNoFeed};
     ghost use Rattle.arcs.specs.Engine.{HasRead, IsRunning, Reads, Stops};
 
     fn new(alloc: A) -> Self
-        ensures windows { table_of result.windows ≡ empty_table }
+        ensures windows { state_of result.windows ≡ empty_state }
         ensures line { (result.line.items ≡ []) × (result.too_long ≡ false) }
         ensures out { result.out.items ≡ [] }
     {
@@ -117,7 +120,7 @@ impl<A: Allocator + Copy> Engine<A> {
     fn hold(&mut self, bytes: &[u8]) -> Result<(), AllocError>
         ensures ok { OnOk result ((line : List ℕ) → Holds self.old.line.items self.old.too_long line
             → Holds self.new.line.items self.new.too_long (line ++ bytes.now)) }
-        ensures windows { table_of self.new.windows ≡ table_of self.old.windows }
+        ensures windows { state_of self.new.windows ≡ state_of self.old.windows }
         ensures out { self.new.out.items ≡ self.old.out.items }
     {
         if self.too_long || bytes.len() > LONGEST_LINE - self.line.len() {
@@ -143,10 +146,13 @@ impl<A: Allocator + Copy> Engine<A> {
     /// Answers the line that has come.
     fn end_line(&mut self, rt: &impl Wait) -> Result<(), AllocError>
         ensures ok { OnOk result
-            (Ends self.old.line.items self.old.too_long (table_of self.old.windows)
-            (table_of self.new.windows) self.old.out.items self.new.out.items) }
+            (Ends self.old.line.items self.old.too_long (state_of self.old.windows)
+            (state_of self.new.windows) self.old.out.items self.new.out.items) }
         ensures line { OnOk result ((self.new.line.items ≡ []) × (self.new.too_long ≡ false)) }
         ensures err { OnErr result (self.new.out.items ≡ self.old.out.items) }
+        ensures broken { OnErr result
+            (MayEnd self.old.line.items self.old.too_long (state_of self.old.windows)
+            (state_of self.new.windows)) }
     {
         let said = self.read_line()?;
         let answer = self.windows.answer(rt, said);
@@ -161,7 +167,7 @@ impl<A: Allocator + Copy> Engine<A> {
         ensures ok { OnOk result
             (((W.traffic writer.new).bytes ≡ (W.traffic writer.old).bytes ++ self.old.out.items)
             × (self.new.out.items ≡ [])) }
-        ensures windows { table_of self.new.windows ≡ table_of self.old.windows }
+        ensures windows { state_of self.new.windows ≡ state_of self.old.windows }
         ensures line { (self.new.line.items ≡ self.old.line.items)
             × (self.new.too_long ≡ self.old.too_long) }
         ensures taken { Takes (W.traffic writer.old) (W.traffic writer.new)
@@ -193,7 +199,7 @@ impl<A: Allocator + Copy> Engine<A> {
         ensures clean { OnOk result (NoFault (W.traffic writer.old) (W.traffic writer.new)) }
         ensures err { OnErr result
             (Stops (bytes.now ++ line_feed ∷ []) (W.traffic writer.old)
-            (W.traffic writer.new) self.old) }
+            (W.traffic writer.new) self.old self.new) }
         ensures fault { IfErr result (IsWhy (W.traffic writer.old) (W.traffic writer.new)) }
     {
         self.hold(bytes)?;
@@ -217,7 +223,7 @@ impl<A: Allocator + Copy> Engine<A> {
             (W.contents writer.old) (W.contents writer.new) }
         ensures clean { OnOk result (NoFault (W.traffic writer.old) (W.traffic writer.new)) }
         ensures err { OnErr result
-            (Stops piece.now (W.traffic writer.old) (W.traffic writer.new) self.old) }
+            (Stops piece.now (W.traffic writer.old) (W.traffic writer.new) self.old self.new) }
         ensures fault { IfErr result (IsWhy (W.traffic writer.old) (W.traffic writer.new)) }
     {
         let mut rest = piece;
@@ -252,7 +258,8 @@ impl<A: Allocator + Copy> Engine<A> {
         ensures drained { IfOk result (λ more. more ≡ false → IsAtEnd (R.remaining reader.new)) }
         ensures begun { OnErr result ((r w : Traffic)
             → IsRunning r (R.traffic reader.old) w (W.traffic writer.old) self.old
-            → Exchanges BeginsReplyText r (R.traffic reader.new) w (W.traffic writer.new)) }
+            → Exchanges (IsBrokenOff (state_of self.new.windows)) r (R.traffic reader.new)
+            w (W.traffic writer.new)) }
         ensures fault { IfErr result
             (IsCause (R.traffic reader.old) (R.traffic reader.new) (W.traffic writer.old)
             (W.traffic writer.new)) }
@@ -272,7 +279,10 @@ impl<A: Allocator + Copy> Engine<A> {
     fn answer_rest(&mut self, rt: &impl Wait) -> Result<(), AllocError>
         ensures ok { OnOk result ((start input : List ℕ) (writer : Traffic)
             → HasRead start input writer self.old
-            → IsAnswered start input writer self.new.out.items) }
+            → IsAnswered start input writer self.new.out.items (state_of self.new.windows)) }
+        ensures err { OnErr result ((start input : List ℕ) (writer : Traffic)
+            → HasRead start input writer self.old
+            → IsBegun start input writer (state_of self.new.windows)) }
     {
         if !self.too_long && self.line.is_empty() {
             return Ok(());
@@ -285,13 +295,13 @@ impl<A: Allocator + Copy> Engine<A> {
     fn finish<W: Sink>(&mut self, rt: &impl Wait, writer: &mut W) -> Result<(), ScriptError>
         ensures ok { OnOk result ((start input : List ℕ)
             → HasRead start input (W.traffic writer.old) self.old
-            → IsAnswered start input (W.traffic writer.new) []) }
+            → IsAnswered start input (W.traffic writer.new) [] (state_of self.new.windows)) }
         ensures taken { Takes (W.traffic writer.old) (W.traffic writer.new)
             (W.contents writer.old) (W.contents writer.new) }
         ensures clean { OnOk result (NoFault (W.traffic writer.old) (W.traffic writer.new)) }
         ensures err { OnErr result ((start input : List ℕ)
             → HasRead start input (W.traffic writer.old) self.old
-            → IsBegun start input (W.traffic writer.new)) }
+            → IsBegun start input (W.traffic writer.new) (state_of self.new.windows)) }
         ensures fault { IfErr result (IsWhy (W.traffic writer.old) (W.traffic writer.new)) }
     {
         self.answer_rest(rt)?;
@@ -307,12 +317,12 @@ impl<A: Allocator + Copy> Engine<A> {
         reader: &mut R,
         writer: &mut W,
     ) -> Result<(), ScriptError>
-        requires windows { table_of self.old.windows ≡ empty_table }
+        requires windows { state_of self.old.windows ≡ empty_state }
         requires line { (self.old.line.items ≡ []) × (self.old.too_long ≡ false) }
         requires out { self.old.out.items ≡ [] }
         ensures ok { OnOk result
-            (Exchanges IsReplyText (R.traffic reader.old) (R.traffic reader.new)
-            (W.traffic writer.old) (W.traffic writer.new)) }
+            (Exchanges (IsThrough (state_of self.new.windows)) (R.traffic reader.old)
+            (R.traffic reader.new) (W.traffic writer.old) (W.traffic writer.new)) }
         ensures end { OnOk result
             ((R.traffic reader.old).empties < (R.traffic reader.new).empties) }
         ensures given { Gives (R.traffic reader.old) (R.traffic reader.new)
@@ -325,8 +335,8 @@ impl<A: Allocator + Copy> Engine<A> {
             (((R.traffic reader.new).failures ≡ (R.traffic reader.old).failures)
             × NoFault (W.traffic writer.old) (W.traffic writer.new)) }
         ensures begun { OnErr result
-            (Exchanges BeginsReplyText (R.traffic reader.old) (R.traffic reader.new)
-            (W.traffic writer.old) (W.traffic writer.new)) }
+            (Exchanges (IsBrokenOff (state_of self.new.windows)) (R.traffic reader.old)
+            (R.traffic reader.new) (W.traffic writer.old) (W.traffic writer.new)) }
         ensures fault { IfErr result
             (IsCause (R.traffic reader.old) (R.traffic reader.new) (W.traffic writer.old)
             (W.traffic writer.new)) }
@@ -345,6 +355,7 @@ impl<A: Allocator + Copy> Engine<A> {
     fn end(self) -> Passes<A>
         ensures ended { IsKept MAX_OWNERS [] result.of_blocks.items }
         ensures blocks { length result.of_blocks.items ≡ (table_of self.windows).blocks }
+        ensures passes { EndsWith (state_of self.windows) result.of_blocks.items }
     {
         let Engine {
             windows,
@@ -371,6 +382,40 @@ fn room<A: Allocator>(alloc: A) -> Result<Vec<u8, A>, AllocError>
     ensures { IfOk result (λ piece. vec_len piece ≡ PIECE) }
 {
     Ok(vec![in alloc; 0u8; PIECE]?)
+}
+
+/// Runs a script as `run_script` says, ends every window that is left, and answers with the result
+/// the passes of the blocks, which tell all that was done to them.
+fn run_to_end<R: Source, W: Sink, A: Allocator + Copy>(
+    rt: &impl Wait,
+    alloc: A,
+    reader: &mut R,
+    writer: &mut W,
+) -> (Result<(), ScriptError>, Passes<A>)
+    ensures ok { OnOk result.0
+        (Exchanges (ThenEnds IsThrough result.1.of_blocks.items) (R.traffic reader.old)
+        (R.traffic reader.new) (W.traffic writer.old) (W.traffic writer.new)) }
+    ensures end { OnOk result.0 ((R.traffic reader.old).empties < (R.traffic reader.new).empties) }
+    ensures given { Gives (R.traffic reader.old) (R.traffic reader.new)
+        (R.remaining reader.old) (R.remaining reader.new) }
+    ensures taken { Takes (W.traffic writer.old) (W.traffic writer.new)
+        (W.contents writer.old) (W.contents writer.new) }
+    ensures drained { OnOk result.0
+        (GivesAll (R.traffic reader.old) (R.traffic reader.new) (R.remaining reader.old)) }
+    ensures clean { OnOk result.0
+        (((R.traffic reader.new).failures ≡ (R.traffic reader.old).failures)
+        × NoFault (W.traffic writer.old) (W.traffic writer.new)) }
+    ensures ended { IsKept MAX_OWNERS [] result.1.of_blocks.items }
+    ensures begun { OnErr result.0
+        (Exchanges (ThenEnds IsBrokenOff result.1.of_blocks.items) (R.traffic reader.old)
+        (R.traffic reader.new) (W.traffic writer.old) (W.traffic writer.new)) }
+    ensures fault { IfErr result.0
+        (IsCause (R.traffic reader.old) (R.traffic reader.new) (W.traffic writer.old)
+        (W.traffic writer.new)) }
+{
+    let mut engine = Engine::new(alloc);
+    let result = engine.run(rt, reader, writer);
+    (result, engine.end())
 }
 
 /// Runs a script: each line of the input is answered by one line of the output, and the windows go
@@ -408,9 +453,7 @@ pub fn run_script<R: Source, W: Sink, A: Allocator + Copy>(
         (W.traffic writer.new)) }
 {
     let ScriptLayout::Arc = layout;
-    let mut engine = Engine::new(alloc);
-    let result = engine.run(rt, reader, writer);
-    let _ = engine.end();
+    let (result, _) = run_to_end(rt, alloc, reader, writer);
     result
 }
 

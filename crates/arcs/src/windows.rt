@@ -46,20 +46,19 @@ fn end_entries<A: Allocator + Copy>(mut entries: Vec<Option<Slot<A>>, A>)
 }
 
 impl<A: Allocator + Copy> Windows<A> {
-    ghost use Rattle.std.specs.Prelude.{◌≡◌, ℕ, List, [], Some, None, MatchOption, length};
-    ghost use Rattle.std.specs.Prelude.{slice_get, slice_set};
-    ghost use Rattle.std.specs.Option.{option_map, option_flatten};
-    ghost use Rattle.arc_block.specs.Table.{empty_table, row_at};
+    ghost use Rattle.std.specs.Prelude.{◌≡◌, [], length, slice_set};
+    ghost use Rattle.std.specs.Option.{option_map};
     ghost use Rattle.arcs.specs.Step.{Step};
-    ghost use Rattle.arcs.specs.Script.{Answers, ByteTable, byte_setting};
-    ghost use Rattle.arcs.specs.Seen.{IsReadAs, seen_command, seen_reply};
-    ghost use Rattle.arcs.specs.Rows.{table_of, standing_of};
-    ghost use Rattle.arcs.specs.Additions.{Adds, AddsFor};
+    ghost use Rattle.arcs.specs.Script.{byte_setting};
+    ghost use Rattle.arcs.specs.Seen.{seen_command, seen_reply};
+    ghost use Rattle.arcs.specs.Rows.{table_of, standing_of, state_of};
+    ghost use Rattle.arcs.specs.Additions.{Adds};
+    ghost use Rattle.arcs.specs.State.{CarriesOutSaid, EndsAll, EndsWith, empty_state};
     ghost use Rattle.arcs.specs.declared.command.Command.TheVariants as command;
 
     /// No window yet. Takes no memory.
     pub fn new(alloc: A) -> Self
-        ensures { table_of result ≡ empty_table }
+        ensures { state_of result ≡ empty_state }
     {
         Windows {
             entries: Vec::new(alloc),
@@ -97,10 +96,8 @@ impl<A: Allocator + Copy> Windows<A> {
         rt: &impl Wait,
         said: Option<Command<Vec<u8, A>>>,
     ) -> Option<Reply<Vec<u8, A>>>
-        ensures rows { (line : List ℕ) → IsReadAs line said
-            → Answers (table_of self.old) line (option_map seen_reply result) (table_of self.new) }
-        ensures passes { AddsFor (standing_of self.old) (option_map seen_command said)
-            (option_map seen_reply result) (standing_of self.new) }
+        ensures { CarriesOutSaid (state_of self.old) (option_map seen_command said)
+            (option_map seen_reply result) (state_of self.new) }
     {
         match said {
             Some(command) => Some(self.step(rt, command)),
@@ -108,11 +105,13 @@ impl<A: Allocator + Copy> Windows<A> {
         }
     }
 
-    /// Ends the table: every window that is left is released, so that each block is given back.
-    /// Answers the passes of the blocks, none of which has a live owner.
+    /// Ends the table: every window that is left is released, in the order of their numbers, so
+    /// that each block is given back. Answers the passes of the blocks, none of which has a live
+    /// owner.
     pub fn end(mut self) -> Passes<A>
         ensures ended { IsKept MAX_OWNERS [] result.of_blocks.items }
         ensures blocks { length result.of_blocks.items ≡ (table_of self).blocks }
+        ensures passes { EndsWith (state_of self) result.of_blocks.items }
     {
         self.release_all();
         let Windows {
@@ -124,9 +123,9 @@ impl<A: Allocator + Copy> Windows<A> {
         passes
     }
 
-    /// Releases every window that is left. The passes stay.
+    /// Releases every window that is left, in the order of their numbers.
     fn release_all(&mut self)
-        ensures gone { (i : ℕ) → row_at (table_of self.new) i ≡ None }
+        ensures passes { EndsAll (state_of self.old) (state_of self.new) }
         ensures blocks { (table_of self.new).blocks ≡ (table_of self.old).blocks }
     {
         for i in 0..self.entries.len() {

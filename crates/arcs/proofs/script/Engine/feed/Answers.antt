@@ -1,39 +1,59 @@
 -- Line after line is read, and then what stands behind the last line feed of the piece.
 use Rattle.std.proofs.Common.{◌++◌, ◌∷◌, [], ◌∙◌}
 use Rattle.arcs.specs.Text.{line_feed}
-use Rattle.arcs.proofs.Going.{on_err, stops_now, stops_later, stops_longer, reads_on, reads_held, reads_whole, line_parts, more_parts}
+use Rattle.arcs.proofs.Going.{on_err, stops_now, stops_later, stops_longer, reads_on, reads_held}
+use Rattle.arcs.proofs.Going.{reads_whole, line_parts, more_parts}
 use Rattle.arcs.proofs.Devices.{takes_on}
 use Rattle.arcs.proofs.script.Engine.feed.Goals as goal
 
 pub returns-in_err-take_line-clause-err : goal.returns-in_err-take_line-clause-err
 returns-in_err-take_line-clause-err g c =
     let front = c.lines.invariant.front in
-    on_err c.from_residual.result (stops_later c.args.piece.now front.0 c.lines.rest.now _ (g.W.Sink.traffic c.lines.writer) _ c.args.self.now c.lines.self front.1 front.2
-    (stops_longer c.lines.rest.now (c.in-Some.line.now ++ line_feed ∷ []) c.in-Some.behind.now _ _ c.lines.self (line_parts c.in-Some.line.now c.in-Some.behind.now c.lines.rest.now c.in-Some.ensures.1) c.in_err-take_line.ensures.err))
+    let e = c.lines.self in
+    let e1 = c.take_line.new.self in
+    let line = c.in-Some.line.now in
+    let behind = c.in-Some.behind.now in
+    let rest = c.lines.rest.now in
+    on_err c.from_residual.result
+    (stops_later c.args.piece.now front.0 rest _ (g.W.Sink.traffic c.lines.writer) _ c.args.self.now
+    e e1 front.1 front.2
+    (stops_longer rest (line ++ line_feed ∷ []) behind _ _ e e1
+    (line_parts line behind rest c.in-Some.ensures.1) c.in_err-take_line.ensures.err))
 
 pub lines-preserved : goal.lines-preserved
 lines-preserved g c =
     let front = c.lines.invariant.front in
+    let line = c.in-Some.line.now in
+    let took = c.in_ok-take_line.ensures in
+    let clean = c.lines.invariant.clean in
     record {
       front = (
-        front.0 ++ (c.in-Some.line.now ++ line_feed ∷ []),
-        more_parts c.args.piece.now front.0 c.lines.rest.now c.in-Some.line.now c.in-Some.behind.now front.1 c.in-Some.ensures.1,
-        reads_on front.0 (c.in-Some.line.now ++ line_feed ∷ []) _ (g.W.Sink.traffic c.lines.writer) _ c.args.self.now c.lines.self c.take_line.new.self front.2 c.in_ok-take_line.ensures.ok,
+        front.0 ++ (line ++ line_feed ∷ []),
+        more_parts c.args.piece.now front.0 c.lines.rest.now line c.in-Some.behind.now front.1
+            c.in-Some.ensures.1,
+        reads_on front.0 (line ++ line_feed ∷ []) _ (g.W.Sink.traffic c.lines.writer) _
+            c.args.self.now c.lines.self c.take_line.new.self front.2 took.ok,
       );
-      clean = (c.in_ok-take_line.ensures.clean.0 ∙ c.lines.invariant.clean.0, c.in_ok-take_line.ensures.clean.1 ∙ c.lines.invariant.clean.1);
-      taken = takes_on c.lines.invariant.taken c.in_ok-take_line.ensures.taken;
+      clean = (took.clean.0 ∙ clean.0, took.clean.1 ∙ clean.1);
+      taken = takes_on c.lines.invariant.taken took.taken;
     }
 
 pub returns-in_err-hold-clause-err : goal.returns-in_err-hold-clause-err
 returns-in_err-hold-clause-err g c =
     let front = c.lines.invariant.front in
-    on_err c.from_residual-in_err-hold.result (stops_later c.args.piece.now front.0 c.lines.rest.now _ (g.W.Sink.traffic c.lines.writer) _ c.args.self.now c.lines.self front.1 front.2 (stops_now c.lines.rest.now _ c.lines.self))
+    on_err c.from_residual-in_err-hold.result
+    (stops_later c.args.piece.now front.0 c.lines.rest.now _ (g.W.Sink.traffic c.lines.writer) _
+    c.args.self.now c.lines.self c.hold.new.self front.1 front.2
+    (stops_now c.lines.rest.now _ c.lines.self c.hold.new.self c.in_err-hold.ensures.windows))
 
 pub returns-clause-ok : goal.returns-clause-ok
 returns-clause-ok g c =
     let front = c.lines.invariant.front in
-    reads_whole c.args.piece.now front.0 c.lines.rest.now _ (g.W.Sink.traffic c.lines.writer) _ c.args.self.now c.lines.self c.hold.new.self front.1 front.2
-    (reads_held _ c.lines.self c.hold.new.self c.lines.rest.now c.in_default.ensures c.in_ok-hold.ensures.ok c.in_ok-hold.ensures.windows c.in_ok-hold.ensures.out)
+    let hold = c.in_ok-hold.ensures in
+    reads_whole c.args.piece.now front.0 c.lines.rest.now _ (g.W.Sink.traffic c.lines.writer) _
+    c.args.self.now c.lines.self c.hold.new.self front.1 front.2
+    (reads_held _ c.lines.self c.hold.new.self c.lines.rest.now c.in_default.ensures hold.ok
+    hold.windows hold.out)
 
 pub returns-in_err-take_line-clause-taken : goal.returns-in_err-take_line-clause-taken
 returns-in_err-take_line-clause-taken g c =

@@ -9,7 +9,9 @@ invariant-lines g l =
     let told = g.W.Sink.traffic in
     let held = g.W.Sink.contents in
     record {
-      front : (front : List ℕ) × (l.piece ≡ front ++ l.rest) × Reads front (told l.fn.writer) (told l.writer) l.fn.self l.self;
+      front :
+          (front : List ℕ) × (l.piece ≡ front ++ l.rest)
+          × Reads front (told l.fn.writer) (told l.writer) l.fn.self l.self;
       clean : NoFault (told l.fn.writer) (told l.writer);
       taken : Takes (told l.fn.writer) (told l.writer) (held l.fn.writer) (held l.writer);
     }

@@ -6,7 +6,8 @@ use Rattle.arcs.proofs.Devices.{gives_nothing, gives_on, gives_all, takes_nothin
 use Rattle.arcs.proofs.script.Engine.run.Goals as goal
 
 pub returns-in_err-piece-clause-begun : goal.returns-in_err-piece-clause-begun
-returns-in_err-piece-clause-begun g c = on_err c.from_residual.result (nothing_exchanged _ _)
+returns-in_err-piece-clause-begun g c =
+    on_err c.from_residual.result (nothing_exchanged _ _ _ c.requires.windows)
 
 pub pieces-init : goal.pieces-init
 pieces-init g c = record {
@@ -20,22 +21,31 @@ pieces-init g c = record {
 pub returns-then-not-branch-clause-ok : goal.returns-then-not-branch-clause-ok
 returns-then-not-branch-clause-ok g c =
     let run = c.in_ok-take_piece.ensures.ok _ _ c.pieces.invariant.running in
-    on_ok_then c.finish.result c.finish.ensures.ok (λ h. exchange_answered _ _ (g.W.Sink.traffic c.args.writer.now) _ run.input run.given (h (g.W.Sink.traffic c.args.writer.now).bytes run.input run.read))
+    let w = g.W.Sink.traffic c.args.writer.now in
+    on_ok_then c.finish.result c.finish.ensures.ok (λ h.
+    exchange_answered _ _ w _ _ run.input run.given (h w.bytes run.input run.read))
 
 pub returns-then-not-branch-clause-clean : goal.returns-then-not-branch-clause-clean
 returns-then-not-branch-clause-clean g c =
     let run = c.in_ok-take_piece.ensures.ok _ _ c.pieces.invariant.running in
-    on_ok_then c.finish.result c.finish.ensures.clean (λ h. (run.failures, (h.0 ∙ run.clean.0, h.1 ∙ run.clean.1)))
+    on_ok_then c.finish.result c.finish.ensures.clean (λ h.
+    (run.failures, (h.0 ∙ run.clean.0, h.1 ∙ run.clean.1)))
 
 pub returns-then-not-branch-clause-begun : goal.returns-then-not-branch-clause-begun
 returns-then-not-branch-clause-begun g c =
     let run = c.in_ok-take_piece.ensures.ok _ _ c.pieces.invariant.running in
-    on_err_then c.finish.result c.finish.ensures.err (λ h. exchange_begun _ _ (g.W.Sink.traffic c.args.writer.now) _ run.input run.given (h (g.W.Sink.traffic c.args.writer.now).bytes run.input run.read))
+    let w = g.W.Sink.traffic c.args.writer.now in
+    on_err_then c.finish.result c.finish.ensures.err (λ h.
+    exchange_begun _ _ w _ _ run.input run.given (h w.bytes run.input run.read))
 
 pub returns-then-not-branch-clause-fault : goal.returns-then-not-branch-clause-fault
 returns-then-not-branch-clause-fault g c =
     let run = c.in_ok-take_piece.ensures.ok _ _ c.pieces.invariant.running in
-    if_err_then c.finish.result c.finish.ensures.fault (why_is_cause (g.R.Source.traffic c.args.reader.now) (g.R.Source.traffic c.take_piece.new.reader) (g.W.Sink.traffic c.args.writer.now) (g.W.Sink.traffic c.take_piece.new.writer) (g.W.Sink.traffic c.finish.new.writer) run.failures run.clean)
+    let r = g.R.Source.traffic in
+    let w = g.W.Sink.traffic in
+    if_err_then c.finish.result c.finish.ensures.fault
+    (why_is_cause (r c.args.reader.now) (r c.take_piece.new.reader) (w c.args.writer.now)
+    (w c.take_piece.new.writer) (w c.finish.new.writer) run.failures run.clean)
 
 pub pieces-preserved : goal.pieces-preserved
 pieces-preserved g c = record {
@@ -71,3 +81,8 @@ pub returns-then-not-branch-clause-taken : goal.returns-then-not-branch-clause-t
 returns-then-not-branch-clause-taken g c =
     let taken = takes_on c.pieces.invariant.taken c.in_ok-take_piece.ensures.taken in
     takes_on taken c.finish.ensures.taken
+
+pub returns-in_err-take_piece-clause-begun : goal.returns-in_err-take_piece-clause-begun
+returns-in_err-take_piece-clause-begun g c =
+    on_err c.from_residual-in_err-take_piece.result
+    (c.in_err-take_piece.ensures.begun _ _ c.pieces.invariant.running)

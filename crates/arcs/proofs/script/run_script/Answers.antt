@@ -1,0 +1,20 @@
+-- What was written is the text that the tables of the run say.
+use Rattle.arcs.specs.Script.{IsReplyText, BeginsReplyText}
+use Rattle.arcs.specs.Underway.{IsThrough, IsBrokenOff, ThenEnds}
+use Rattle.arcs.proofs.Going.{on_ok_then, on_err_then}
+use Rattle.arcs.proofs.States.{exchange_as, through_text, broken_text}
+use Rattle.arcs.proofs.script.run_script.Goals as goal
+
+pub returns-clause-ok : goal.returns-clause-ok
+returns-clause-ok g c =
+    let ran = c.run_to_end-result in
+    on_ok_then ran.result.0 ran.ensures.ok
+    (exchange_as (ThenEnds IsThrough ran.result.1.of_blocks.items) IsReplyText _ _ _ _
+    (λ input text h. through_text h.0 input text h.1))
+
+pub returns-clause-begun : goal.returns-clause-begun
+returns-clause-begun g c =
+    let ran = c.run_to_end-result in
+    on_err_then ran.result.0 ran.ensures.begun
+    (exchange_as (ThenEnds IsBrokenOff ran.result.1.of_blocks.items) BeginsReplyText _ _ _ _
+    (λ input text h. broken_text h.0 input text h.1))
