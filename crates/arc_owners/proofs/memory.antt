@@ -1,4 +1,5 @@
 pub mod Borrows
+pub mod BoxPlaces
 pub mod Boxes
 pub mod Inheritances
 pub mod Inners

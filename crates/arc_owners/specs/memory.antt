@@ -1,2 +1,3 @@
+pub mod BoxPlaces
 pub mod Boxes
 pub mod SoleBoxes

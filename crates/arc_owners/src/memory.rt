@@ -1,6 +1,7 @@
 //! A value beside the count of its owners, and what is lent to the owners for as long as one lives.
 
 mod box_parts;
+mod box_place;
 mod counted_box;
 mod inheritance;
 mod inner;

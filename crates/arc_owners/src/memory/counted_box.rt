@@ -53,7 +53,6 @@ impl<V: Drop, A: Allocator + Copy, const MAX: u64, H: Mark> CountedBox<V, A, MAX
     ghost use Rattle.arc_owners.specs.memory.Boxes.{owner_in, value_of};
     ghost use Rattle.arc_owners.specs.memory.SoleBoxes.{sole_in, sole_value};
     ghost use Rattle.arc_owners.specs.count.Calls.{owner_of};
-    ghost use Rattle.std_alloc.specs.Box.{box_allocator};
 
     /// The first owner of a value, with a pass of its block. Takes memory, for the value and the
     /// count together; refused, the value comes back. `MAX`, at least 2, is how many owners may
@@ -75,18 +74,18 @@ impl<V: Drop, A: Allocator + Copy, const MAX: u64, H: Mark> CountedBox<V, A, MAX
                 return Err(value.value);
             }
         };
-        Ok((CountedBox::settled(memory, share), pass))
+        Ok((CountedBox::settled(BoxParts::of(memory), share), pass))
     }
 
     /// The owner of the value that lies in this memory, which is lent to it.
-    pub(crate) fn settled(memory: Box<Inner<Housed<V, A>>, A>, share: Share<H>) -> Self
+    pub(crate) fn settled(memory: BoxParts<Inner<Housed<V, A>>, A>, share: Share<H>) -> Self
         requires count { (share.right.block ≡ memory.value.word) × (memory.value.word.most ≡ MAX) }
-        requires memory { box_allocator memory ≡ memory.value.value.alloc }
+        requires memory { memory.alloc ≡ memory.value.value.alloc }
         ensures { (owner_in result ≡ owner_of share)
             × (value_of result ≡ memory.value.value.value) }
     {
         let mut right = share.right;
-        let (at, _, lent, kept) = LentBox::of(BoxParts::of(memory), &right);
+        let (at, _, lent, kept) = LentBox::of(memory, &right);
         let (word, lodging, value, loan) = unsafe { Inner::settle(lent, at, &mut right) };
         let share = Share {
             right,
@@ -148,10 +147,7 @@ impl<V: Drop, A: Allocator + Copy, const MAX: u64, H: Mark> CountedBox<V, A, MAX
         match unsafe { Owners::<MAX, H>::claim_raw(word, &lodging, share, pass) } {
             Ok((sole, term)) => {
                 let memory = unsafe { kept.take(at.cast_mut(), alloc, term) };
-                Ok(SoleBox {
-                    memory: memory.into_box(),
-                    sole,
-                })
+                Ok(SoleBox::settled(memory, sole))
             }
             Err(share) => Err(CountedBox {
                 at,
