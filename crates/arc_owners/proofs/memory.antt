@@ -3,3 +3,4 @@ pub mod BoxPlaces
 pub mod Boxes
 pub mod Inheritances
 pub mod Inners
+pub mod SoleBoxes

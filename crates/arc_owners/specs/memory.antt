@@ -1,3 +1,4 @@
 pub mod BoxPlaces
 pub mod Boxes
+pub mod Inners
 pub mod SoleBoxes

@@ -3,7 +3,7 @@
 use Rattle.std.proofs.Common.{◌≡◌, ℕ, ◌+◌, List, [], ◌∷◌, refl, sym, ap, ◌∙◌}
 use seplogic.Ra.Ura.{Ura}
 use mir.Raw.{raw as bare}
-use mir.Val.{Val, vptr, vstruct, vcons, vnil}
+use mir.Val.{Val, vstruct, vcons, vnil}
 use base.Fraction.{full_share}
 use base.Logic.{ent, sep, emp, never, fst∗}
 use base.Fml.{Lft, Fml}
@@ -25,7 +25,7 @@ use Rattle.core.proofs.alloc.Calls.{token}
 use Rattle.std_alloc.specs.Box.Ownership.{box_owns}
 use Rattle.std_alloc.proofs.BoxSteps.Form.{Bx, X, R, P, τ}
 use Rattle.arc_owners.specs.contracts.memory.box_place.BoxPlace as BoxPlace
-use Rattle.arc_owners.proofs.memory.box_place.BoxPlace.TheLaws.{lowered, lowers}
+use Rattle.arc_owners.proofs.memory.box_place.BoxPlace.TheLaws.{lowers}
 
 module _ (E : Bx) where
   abbrev pub Row : RattleType

@@ -41,7 +41,8 @@ impl<V: Drop, A: Allocator + Copy, const MAX: u64, H: Mark> SoleBox<V, A, MAX, H
     ghost use Rattle.arc_owners.specs.count.Calls.{Learns, Leaves, SeesAlone, EndsByItself};
     ghost use Rattle.arc_owners.specs.count.Calls.{EndsWithoutStep, seen, history_of, sole_owner};
     ghost use Rattle.arc_owners.specs.memory.Boxes.{owner_in, value_of};
-    ghost use Rattle.arc_owners.specs.memory.SoleBoxes.{sole_in, sole_value};
+    ghost use Rattle.arc_owners.specs.memory.SoleBoxes.{sole_in, sole_value, LendsSoleValue};
+    ghost use types.Logic.{sem};
 
     /// The first and only owner of a value, with a pass of its block. Takes memory, for the value
     /// and the count together; refused, the value comes back. `MAX`, at least 2, is how many owners
@@ -82,6 +83,17 @@ impl<V: Drop, A: Allocator + Copy, const MAX: u64, H: Mark> SoleBox<V, A, MAX, H
         ensures { result.now ≡ sole_value self.now }
     {
         &self.memory.get().value.value
+    }
+
+    /// The value, to be changed: the same owner has what was last written through the borrow. It
+    /// adds no entry and takes no memory.
+    pub fn get_mut(&mut self) -> &mut V
+        ensures* writes_back { sem 𝓛 (LendsSoleValue V.row A.row MAX.row H.row H.Mark A.Allocator
+            self.entry result) }
+        ensures value { result.now ≡ sole_value self.old }
+    {
+        let inner = self.memory.get_mut();
+        inner.value_mut().value_mut()
     }
 
     /// Shows a pass the block's whole history so far, in which no other owner lives. It adds no

@@ -1,5 +1,5 @@
 -- `get` shows what lies at the place: a `&` to the place has a `&` to it.
-use Rattle.std.proofs.Common.{◌≡◌, ℕ, ◌+◌, List, [], ◌∷◌, refl, sym, ap}
+use Rattle.std.proofs.Common.{ℕ, ◌+◌, List, [], ◌∷◌, refl}
 use mir.Syntax.{a_type, named, dcons, dnil}
 use mir.Val.{Val, vptr}
 use mir.MapTy.{inst_fn}
@@ -16,8 +16,8 @@ use denote.Signature.{types_at, plain}
 use denote.Builtin.{RefOf}
 use denote.Ref.{shr_vals, shr_Tells}
 use denote.Memory.{hidden_shr}
-use denote.Opens.{shr_dup, unhide, hide}
-use denote.RawPtr.{Ptr, RawPtr, block_of, count_of, InBlock, ptr_row_laws}
+use denote.Opens.{unhide, hide}
+use denote.RawPtr.{block_of, count_of, InBlock}
 use denote.Steps.{nothing, heard}
 use denote.Param.{bounded}
 use denote.Struct.Lending.{lent_out, in_block_says}

@@ -1,5 +1,5 @@
 -- `get_mut` lends what lies at the place, and the place follows it.
-use Rattle.std.proofs.Common.{◌≡◌, ℕ, List, [], ◌∷◌, refl, sym, ap}
+use Rattle.std.proofs.Common.{◌≡◌, ℕ, List, [], ◌∷◌, refl}
 use seplogic.Ra.Ura.{Ura}
 use mir.Syntax.{a_type, named, dcons, dnil}
 use mir.Val.{Val, vptr}
