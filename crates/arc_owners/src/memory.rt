@@ -6,17 +6,19 @@ mod counted_box;
 mod inheritance;
 mod inner;
 mod lent_box;
+mod lent_value;
 mod shared_borrow;
 mod sole_box;
 
 pub use counted_box::CountedBox;
-pub use inheritance::Inheritance;
-pub use shared_borrow::SharedBorrow;
+pub use lent_value::LentValue;
 pub use sole_box::SoleBox;
 
 #[cfg(test)]
 mod counted_box_tests;
 #[cfg(test)]
 mod forget_tests;
+#[cfg(test)]
+mod lent_value_tests;
 #[cfg(test)]
 mod sole_box_tests;
