@@ -1,2 +1,5 @@
+pub mod BoxPlaces
 pub mod Boxes
+pub mod Inners
+pub mod LentValues
 pub mod SoleBoxes

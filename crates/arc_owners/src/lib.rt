@@ -4,6 +4,7 @@
 mod count;
 pub mod error;
 mod history;
+pub mod lend;
 pub mod mark;
 mod memory;
 pub mod owners;

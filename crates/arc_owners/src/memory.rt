@@ -1,21 +1,24 @@
 //! A value beside the count of its owners, and what is lent to the owners for as long as one lives.
 
 mod box_parts;
+mod box_place;
 mod counted_box;
 mod inheritance;
 mod inner;
 mod lent_box;
+mod lent_value;
 mod shared_borrow;
 mod sole_box;
 
 pub use counted_box::CountedBox;
-pub use inheritance::Inheritance;
-pub use shared_borrow::SharedBorrow;
+pub use lent_value::LentValue;
 pub use sole_box::SoleBox;
 
 #[cfg(test)]
 mod counted_box_tests;
 #[cfg(test)]
 mod forget_tests;
+#[cfg(test)]
+mod lent_value_tests;
 #[cfg(test)]
 mod sole_box_tests;

@@ -2,4 +2,4 @@
 
 pub use crate::count::{LifetimeEnd, OwnerToken, Owners, Pass, Release, Share, Sole, WordBorrow};
 pub use crate::history::{Entry, Event, World, is_run, keeps, replay, replay_lone};
-pub use crate::memory::{CountedBox, Inheritance, SharedBorrow, SoleBox};
+pub use crate::memory::{CountedBox, SoleBox};

@@ -159,6 +159,7 @@ impl<const MAX: u64, H: Mark> Owners<MAX, H> {
         requires counted { HasCountIn (block_of self.now) (seen pass.old) }
         ensures made { IfOk result (λ s.
             MakesAnother (owner_of by.now) pass.old pass.new (owner_of s)) }
+        ensures lent { IfOk result (λ s. lease_of s ≡ lease_of by.now) }
         ensures full { IfErr result (λ _. FindsFull (owner_of by.now) pass.old pass.new) }
         ensures step { EndsInOneStep (block_of self.now) (history_of pass.new) }
     {

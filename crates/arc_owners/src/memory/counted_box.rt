@@ -22,6 +22,42 @@ pub struct Housed<V: Drop, A: Allocator + Copy> {
     pub(crate) alloc: A,
 }
 
+impl<V: Drop, A: Allocator + Copy> Housed<V, A> {
+    ghost use types.Logic.{sem};
+    ghost use Rattle.arc_owners.specs.memory.Inners.{LendsHoused};
+
+    /// The value, to be changed.
+    pub(crate) fn value_mut(&mut self) -> &mut V
+        ensures* writes_back { sem 𝓛 (LendsHoused V.row A.row self.entry result) }
+        ensures value { result.now ≡ self.old.value }
+    {
+        &mut self.value
+    }
+}
+
+/// The memory that comes back to the last owner, with its allocator.
+#[derive(Drop)]
+struct KeptMemory<V: Drop, A: Allocator + Copy> {
+    at: *const Inner<Housed<V, A>>,
+    alloc: A,
+    kept: Inheritance<Inner<Housed<V, A>>, A>,
+    ghost place: { kept.at ≡ at },
+    ghost home: { kept.alloc ≡ alloc },
+}
+
+impl<V: Drop, A: Allocator + Copy> KeptMemory<V, A> {
+    /// The value, for the end of the lease; the memory goes to its allocator.
+    fn take(self, term: LifetimeEnd) -> V
+        requires { term.spoils.lease ≡ self.kept.lease }
+        ensures { result ≡ self.kept.value.value.value }
+    {
+        let KeptMemory { at, alloc, kept } = self;
+        let memory = unsafe { kept.take(at.cast_mut(), alloc, term) };
+        let Inner { word: _, value } = Box::into_inner(memory.into_box());
+        value.value
+    }
+}
+
 /// One owner of a value that lies in memory of its own, next to the word that counts the owners.
 /// `MAX` is the greatest count.
 ///
@@ -53,7 +89,6 @@ impl<V: Drop, A: Allocator + Copy, const MAX: u64, H: Mark> CountedBox<V, A, MAX
     ghost use Rattle.arc_owners.specs.memory.Boxes.{owner_in, value_of};
     ghost use Rattle.arc_owners.specs.memory.SoleBoxes.{sole_in, sole_value};
     ghost use Rattle.arc_owners.specs.count.Calls.{owner_of};
-    ghost use Rattle.std_alloc.specs.Box.{box_allocator};
 
     /// The first owner of a value, with a pass of its block. Takes memory, for the value and the
     /// count together; refused, the value comes back. `MAX`, at least 2, is how many owners may
@@ -75,18 +110,18 @@ impl<V: Drop, A: Allocator + Copy, const MAX: u64, H: Mark> CountedBox<V, A, MAX
                 return Err(value.value);
             }
         };
-        Ok((CountedBox::settled(memory, share), pass))
+        Ok((CountedBox::settled(BoxParts::of(memory), share), pass))
     }
 
     /// The owner of the value that lies in this memory, which is lent to it.
-    pub(crate) fn settled(memory: Box<Inner<Housed<V, A>>, A>, share: Share<H>) -> Self
+    pub(crate) fn settled(memory: BoxParts<Inner<Housed<V, A>>, A>, share: Share<H>) -> Self
         requires count { (share.right.block ≡ memory.value.word) × (memory.value.word.most ≡ MAX) }
-        requires memory { box_allocator memory ≡ memory.value.value.alloc }
+        requires memory { memory.alloc ≡ memory.value.value.alloc }
         ensures { (owner_in result ≡ owner_of share)
             × (value_of result ≡ memory.value.value.value) }
     {
         let mut right = share.right;
-        let (at, _, lent, kept) = LentBox::of(BoxParts::of(memory), &right);
+        let (at, _, lent, kept) = LentBox::of(memory, &right);
         let (word, lodging, value, loan) = unsafe { Inner::settle(lent, at, &mut right) };
         let share = Share {
             right,
@@ -148,10 +183,7 @@ impl<V: Drop, A: Allocator + Copy, const MAX: u64, H: Mark> CountedBox<V, A, MAX
         match unsafe { Owners::<MAX, H>::claim_raw(word, &lodging, share, pass) } {
             Ok((sole, term)) => {
                 let memory = unsafe { kept.take(at.cast_mut(), alloc, term) };
-                Ok(SoleBox {
-                    memory: memory.into_box(),
-                    sole,
-                })
+                Ok(SoleBox::settled(memory, sole))
             }
             Err(share) => Err(CountedBox {
                 at,
@@ -176,41 +208,16 @@ impl<V: Drop, A: Allocator + Copy, const MAX: u64, H: Mark> CountedBox<V, A, MAX
         ensures back { IfErr result (λ piece. (owner_in piece ≡ owner_in self)
             × (value_of piece ≡ value_of self)) }
     {
-        let alloc = self.housed().alloc;
-        let CountedBox {
-            at,
-            word,
-            value,
-            lodging,
-            loan,
-            kept,
-            share,
-        } = self;
-        match unsafe { Owners::<MAX, H>::claim_raw(word, &lodging, share, pass) } {
-            Ok((sole, term)) => {
-                let memory = unsafe { kept.take(at.cast_mut(), alloc, term) };
-                let Inner { word: _, value } = Box::into_inner(memory.into_box());
-                sole.end_as(pass);
-                Ok(value.value)
-            }
-            Err(share) => Err(CountedBox {
-                at,
-                word,
-                value,
-                lodging,
-                loan,
-                kept,
-                share,
-            }),
-        }
+        let sole = self.try_into_sole_as(pass)?;
+        Ok(sole.into_value_as(pass))
     }
 
-    /// Ends this owner by one subtraction. Adds its Down. The last one gives the memory back, and
-    /// gets the value. Takes no memory.
-    pub fn release_as(self, pass: &mut Pass<H>) -> Option<V>
-        requires pass { IsPassFor (owner_in self) pass.old }
-        ensures entry { Leaves (owner_in self) pass.old pass.new (is_some result) }
-        ensures value { IfSome result (λ value. value ≡ value_of self) }
+    /// This owner's share, the place of the word, and what the last owner gets.
+    fn parted(self) -> (Share<H>, *const u64, WordBorrow, KeptMemory<V, A>)
+        ensures share { result.0 ≡ self.share }
+        ensures word { (result.1 ≡ self.word) × (result.2 ≡ self.lodging) }
+        ensures memory { (result.3.kept.value.value ≡ self.loan.value)
+            × (result.3.kept.lease ≡ self.share.right.lease) }
     {
         let alloc = self.housed().alloc;
         let CountedBox {
@@ -222,12 +229,19 @@ impl<V: Drop, A: Allocator + Copy, const MAX: u64, H: Mark> CountedBox<V, A, MAX
             kept,
             share,
         } = self;
+        (share, word, lodging, KeptMemory { at, alloc, kept })
+    }
+
+    /// Ends this owner by one subtraction. Adds its Down. The last one gives the memory back, and
+    /// gets the value. Takes no memory.
+    pub fn release_as(self, pass: &mut Pass<H>) -> Option<V>
+        requires pass { IsPassFor (owner_in self) pass.old }
+        ensures entry { Leaves (owner_in self) pass.old pass.new (is_some result) }
+        ensures value { IfSome result (λ value. value ≡ value_of self) }
+    {
+        let (share, word, lodging, memory) = self.parted();
         match unsafe { Owners::<MAX, H>::down_raw(word, &lodging, share, pass) } {
-            Release::Last(term) => {
-                let memory = unsafe { kept.take(at.cast_mut(), alloc, term) };
-                let Inner { word: _, value } = Box::into_inner(memory.into_box());
-                Some(value.value)
-            }
+            Release::Last(term) => Some(memory.take(term)),
             Release::NotLast => None,
         }
     }
@@ -241,27 +255,17 @@ impl<V: Drop, A: Allocator + Copy, const MAX: u64, H: Mark> CountedBox<V, A, MAX
         ensures forgotten { H.whole ≡ true → (result.0 ≡ None) × IsPassOfNone result.1 }
         ensures ended { H.whole ≡ false → EndsByItself (owner_in self) result.1 (is_some result.0) }
     {
-        let alloc = self.housed().alloc;
-        let CountedBox {
-            at,
-            word,
-            value: _,
-            lodging,
-            loan: _,
-            kept,
-            share,
-        } = self;
+        let (share, word, lodging, memory) = self.parted();
         let (last, spoils, trace) = unsafe { H::let_go(word, &lodging, share.right) };
         let pass = Pass {
             trace,
             mark: PhantomData,
         };
-        if !last {
-            return (None, pass);
+        if last {
+            (Some(memory.take(LifetimeEnd { spoils })), pass)
+        } else {
+            (None, pass)
         }
-        let memory = unsafe { kept.take(at.cast_mut(), alloc, LifetimeEnd { spoils }) };
-        let Inner { word: _, value } = Box::into_inner(memory.into_box());
-        (Some(value.value), pass)
     }
 
     /// Afterwards the first pass has seen at least what the other had. It adds no entry and takes

@@ -16,6 +16,17 @@ pub(crate) struct Inner<V> {
 }
 
 impl<V> Inner<V> {
+    ghost use types.Logic.{sem};
+    ghost use Rattle.arc_owners.specs.memory.Inners.{LendsInner};
+
+    /// The value, to be changed.
+    pub(crate) fn value_mut(&mut self) -> &mut V
+        ensures* writes_back { sem 𝓛 (LendsInner V.row self.entry result) }
+        ensures value { result.now ≡ self.old.value }
+    {
+        &mut self.value
+    }
+
     /// The places of the word and of the value in memory that is lent for the lifetime of this
     /// owner's lease, and that they lie there for as long.
     ///

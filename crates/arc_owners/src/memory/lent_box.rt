@@ -1,11 +1,12 @@
 //! What a box owns, lent for as long as a block is lent to its owners.
-ghost use Rattle.std.specs.Prelude.{◌≡◌, ℕ, [], ◌∷◌};
+ghost use Rattle.std.specs.Prelude.{◌≡◌, ℕ, true, [], ◌∷◌};
 ghost use base.Fml.{fbor};
 ghost use denote.RawPtr.{Ptr, coded_ptr, InBlock};
 ghost use Rattle.std_alloc.specs.Box.Ownership.{box_owns};
 
 use super::box_parts::BoxParts;
 use super::inheritance::Inheritance;
+use super::shared_borrow::SharedBorrow;
 use crate::count::word::OwnerToken;
 use std::alloc::Allocator;
 use std::marker::{Model, PhantomData};
@@ -46,5 +47,18 @@ impl<T, A: Allocator> LentBox<T, A> {
             marker: PhantomData,
         };
         (at, alloc, lent, kept)
+    }
+
+    /// The whole of it for the owners to read.
+    pub(crate) fn share<H>(self, by: &OwnerToken<H>) -> SharedBorrow<T>
+        requires { (by.now.held ≡ true) × (by.now.lease.is_lent ≡ true)
+            × (by.now.lease.lifetime ≡ self.lifetime) }
+        ensures { (result.value ≡ self.value) × (result.at ≡ self.at)
+            × (result.lifetime ≡ self.lifetime) }
+    {
+        let LentBox { marker: _ } = self;
+        SharedBorrow {
+            marker: PhantomData,
+        }
     }
 }

@@ -1,14 +1,14 @@
 //! A value in memory of its own, whose only owner has that memory.
 ghost use Rattle.std.specs.Prelude.{◌≡◌};
-ghost use Rattle.std_alloc.specs.Box.{box_allocator};
 
+use super::box_parts::BoxParts;
+use super::box_place::BoxPlace;
 use super::counted_box::{CountedBox, Housed};
 use super::inner::Inner;
 use crate::count::tokens::{Owners, Pass, Sole};
 use crate::mark::{Mark, Open, Stepping};
 use std::alloc::Allocator;
 use std::marker::PhantomData;
-use std::mem::forget;
 
 /// The only owner of a value, who has the memory in which it lies, next to the word that counts the
 /// owners. `MAX` is the greatest count.
@@ -16,11 +16,22 @@ use std::mem::forget;
 /// Dropped, it ends with a new pass under the mark `Open`. Under `Whole` it is a forgotten owner:
 /// the memory stays for good.
 pub struct SoleBox<V: Drop, A: Allocator + Copy, const MAX: u64, H: Mark = Open> {
-    pub(crate) memory: Box<Inner<Housed<V, A>>, A>,
+    pub(crate) memory: BoxPlace<Inner<Housed<V, A>>, A>,
     pub(crate) sole: Sole<H>,
     ghost greatest: { memory.value.word.most ≡ MAX },
     ghost counted: { sole.right.block ≡ memory.value.word },
-    ghost homed: { box_allocator memory ≡ memory.value.value.alloc },
+    ghost homed: { memory.alloc ≡ memory.value.value.alloc },
+}
+
+/// The memory with its allocator, which lies beside the value.
+fn housed_parts<V: Drop, A: Allocator + Copy>(
+    memory: BoxPlace<Inner<Housed<V, A>>, A>,
+) -> BoxParts<Inner<Housed<V, A>>, A>
+    requires { memory.alloc ≡ memory.value.value.alloc }
+    ensures { (result.value ≡ memory.value) × (result.alloc ≡ memory.alloc) }
+{
+    let alloc = memory.get().value.alloc;
+    memory.with(alloc)
 }
 
 impl<V: Drop, A: Allocator + Copy, const MAX: u64, H: Mark> SoleBox<V, A, MAX, H> {
@@ -28,9 +39,10 @@ impl<V: Drop, A: Allocator + Copy, const MAX: u64, H: Mark> SoleBox<V, A, MAX, H
     ghost use Rattle.arc_owners.specs.history.Histories.{LivesAlone};
     ghost use Rattle.arc_owners.specs.count.Calls.{IsPassFor, IsPassOfNone, IsFirst, IsFreshPass};
     ghost use Rattle.arc_owners.specs.count.Calls.{Learns, Leaves, SeesAlone, EndsByItself};
-    ghost use Rattle.arc_owners.specs.count.Calls.{EndsWithoutStep, seen, history_of};
+    ghost use Rattle.arc_owners.specs.count.Calls.{EndsWithoutStep, seen, history_of, sole_owner};
     ghost use Rattle.arc_owners.specs.memory.Boxes.{owner_in, value_of};
-    ghost use Rattle.arc_owners.specs.memory.SoleBoxes.{sole_in, sole_value};
+    ghost use Rattle.arc_owners.specs.memory.SoleBoxes.{sole_in, sole_value, LendsSoleValue};
+    ghost use types.Logic.{sem};
 
     /// The first and only owner of a value, with a pass of its block. Takes memory, for the value
     /// and the count together; refused, the value comes back. `MAX`, at least 2, is how many owners
@@ -47,7 +59,7 @@ impl<V: Drop, A: Allocator + Copy, const MAX: u64, H: Mark> SoleBox<V, A, MAX, H
         let Owners { word, mark: _ } = owners;
         let value = Housed { value, alloc };
         match Box::new(alloc, Inner { word, value }) {
-            Ok(memory) => Ok((SoleBox { memory, sole }, pass)),
+            Ok(memory) => Ok((SoleBox::settled(BoxParts::of(memory), sole), pass)),
             Err(refused) => {
                 let Inner { word: _, value } = refused.value;
                 Err(value.value)
@@ -55,11 +67,33 @@ impl<V: Drop, A: Allocator + Copy, const MAX: u64, H: Mark> SoleBox<V, A, MAX, H
         }
     }
 
+    /// The only owner of the value that lies in this memory.
+    pub(crate) fn settled(memory: BoxParts<Inner<Housed<V, A>>, A>, sole: Sole<H>) -> Self
+        requires count { (sole.right.block ≡ memory.value.word) × (memory.value.word.most ≡ MAX) }
+        requires memory { memory.alloc ≡ memory.value.value.alloc }
+        ensures { (sole_in result ≡ sole_owner sole)
+            × (sole_value result ≡ memory.value.value.value) }
+    {
+        let (memory, _) = BoxPlace::of(memory);
+        SoleBox { memory, sole }
+    }
+
     /// The value.
     pub fn get(&self) -> &V
         ensures { result.now ≡ sole_value self.now }
     {
-        &self.memory.as_ref().value.value
+        &self.memory.get().value.value
+    }
+
+    /// The value, to be changed: the same owner has what was last written through the borrow. It
+    /// adds no entry and takes no memory.
+    pub fn get_mut(&mut self) -> &mut V
+        ensures* writes_back { sem 𝓛 (LendsSoleValue V.row A.row MAX.row H.row H.Mark A.Allocator
+            self.entry result) }
+        ensures value { result.now ≡ sole_value self.old }
+    {
+        let inner = self.memory.get_mut();
+        inner.value_mut().value_mut()
     }
 
     /// Shows a pass the block's whole history so far, in which no other owner lives. It adds no
@@ -77,7 +111,7 @@ impl<V: Drop, A: Allocator + Copy, const MAX: u64, H: Mark> SoleBox<V, A, MAX, H
         ensures same { (owner_in result ≡ sole_in self) × (value_of result ≡ sole_value self) }
     {
         let SoleBox { memory, sole } = self;
-        CountedBox::settled(memory, sole.lend())
+        CountedBox::settled(housed_parts(memory), sole.lend())
     }
 
     /// The value, and the memory to its allocator. Adds the Down of this owner, the last one,
@@ -89,6 +123,7 @@ impl<V: Drop, A: Allocator + Copy, const MAX: u64, H: Mark> SoleBox<V, A, MAX, H
         ensures value { result ≡ sole_value self }
     {
         let SoleBox { memory, sole } = self;
+        let memory = housed_parts(memory).into_box();
         let Inner { word: _, value } = Box::into_inner(memory);
         sole.end_as(pass);
         value.value
@@ -111,9 +146,10 @@ impl<V: Drop, A: Allocator + Copy, const MAX: u64, H: Mark> SoleBox<V, A, MAX, H
             mark: PhantomData,
         };
         if !ended {
-            forget(memory);
+            memory.leak();
             return (None, pass);
         }
+        let memory = housed_parts(memory).into_box();
         let Inner { word: _, value } = Box::into_inner(memory);
         (Some(value.value), pass)
     }

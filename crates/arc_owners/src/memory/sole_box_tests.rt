@@ -1,10 +1,14 @@
 //! A value whose only owner has its memory: taken back, lent anew, and given back once on each
 //! path.
+ghost use Rattle.std.specs.Prelude.{◌≡◌};
+ghost use Rattle.arc_owners.specs.memory.SoleBoxes.{sole_in, sole_value};
+
 use super::counted_box::CountedBox;
 use super::sole_box::SoleBox;
 use crate::error::AllocError;
-use crate::mark::{Open, Whole};
+use crate::mark::{Mark, Open, Whole};
 use linked_list_allocator::LocalHeap;
+use std::alloc::Global;
 use std::test::Fail;
 use std::thread::join;
 
@@ -39,6 +43,47 @@ fn taken_back_and_lent_anew(rt: HostRuntime) -> Result<(), Fail> {
     assert_eq!(rt; heap.used(), taken);
     assert_eq!(rt; sole.into_value_as(&mut pass), 7);
     assert_eq!(rt; heap.used(), before);
+    Ok(())
+}
+
+/// What is written through `get_mut` is the value afterwards, of the same owner.
+fn set<H: Mark>(sole: &mut SoleBox<u64, Global, 3, H>, value: u64)
+    ensures value { sole_value sole.new ≡ value }
+    ensures owner { sole_in sole.new ≡ sole_in sole.old }
+{
+    *sole.get_mut() = value;
+}
+
+/// Changed by its only owner, it is read so by the owners that it is lent to.
+#[test]
+fn changed_and_lent_anew(rt: HostRuntime) -> Result<(), Fail> {
+    let heap = LocalHeap::new(rt.alloc(), 256)?;
+    let before = heap.used();
+    let Ok((mut sole, mut pass)) = SoleBox::<u64, _, 3, Whole>::new(&heap, 7) else {
+        return Err(AllocError.into());
+    };
+    *sole.get_mut() = 8;
+    let first = sole.lend();
+    let second = first.try_clone_as(&rt, &mut pass)?;
+    assert_eq!(rt; *second.get(), 8);
+    assert!(rt; first.release_as(&mut pass).is_none());
+    let Ok(mut sole) = second.try_into_sole_as(&mut pass) else {
+        return Err("alone".into());
+    };
+    *sole.get_mut() = 9;
+    assert_eq!(rt; *sole.get(), 9);
+    assert_eq!(rt; sole.lend().release_as(&mut pass), Some(9));
+    assert_eq!(rt; heap.used(), before);
+    Ok(())
+}
+
+#[test]
+fn sole_value_set(rt: HostRuntime) -> Result<(), Fail> {
+    let Ok((mut sole, mut pass)) = SoleBox::<u64, _, 3, Open>::new(rt.alloc(), 7) else {
+        return Err(AllocError.into());
+    };
+    set(&mut sole, 8);
+    assert_eq!(rt; sole.into_value_as(&mut pass), 8);
     Ok(())
 }
 

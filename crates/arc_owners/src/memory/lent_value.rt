@@ -1,0 +1,79 @@
+//! Memory of one's own, lent to the owners of a block for as long as one of them lives.
+ghost use Rattle.std.specs.Prelude.{◌≡◌};
+
+use super::box_parts::BoxParts;
+use super::inheritance::Inheritance;
+use super::lent_box::LentBox;
+use super::shared_borrow::SharedBorrow;
+use crate::count::tokens::{LifetimeEnd, Share};
+use crate::mark::Mark;
+use std::alloc::Allocator;
+
+/// What lies in a box, lent to the owners of a block: what one owner has of it, which is a pointer.
+/// Dropped, it stays lent; where all are dropped, it never comes back.
+#[derive(Drop)]
+pub struct LentValue<T, A: Allocator> {
+    pub(crate) at: *mut T,
+    pub(crate) borrow: SharedBorrow<T>,
+    pub(crate) kept: Inheritance<T, A>,
+    ghost place: { (borrow.at ≡ at) × (kept.at ≡ at) },
+    ghost same: { kept.value ≡ borrow.value },
+    ghost lifetime: { borrow.lifetime ≡ kept.lease.lifetime },
+}
+
+impl<T: Drop, A: Allocator> LentValue<T, A> {
+    ghost use Rattle.std_alloc.specs.Box.{box_allocator};
+    ghost use Rattle.arc_owners.specs.memory.LentValues.{lent_value, lent_allocator, IsSameLent};
+    ghost use Rattle.arc_owners.specs.memory.LentValues.{IsLentTo, IsEndOf};
+
+    /// Lends what lies in a box for the lease of this owner, to all owners that have that lease.
+    /// The box's allocator comes out. An end serves one box: a second one for the same lease is
+    /// lent as well, and never comes back.
+    pub fn lend<H: Mark>(memory: Box<T, A>, by: &Share<H>) -> (LentValue<T, A>, A)
+        ensures value { lent_value result.0 ≡ memory.value }
+        ensures lease { IsLentTo result.0 by.now }
+        ensures allocator { (lent_allocator result.0 ≡ box_allocator memory)
+            × (result.1 ≡ box_allocator memory) }
+    {
+        let (at, alloc, lent, kept) = LentBox::of(BoxParts::of(memory), &by.right);
+        let borrow = lent.share(&by.right);
+        (LentValue { at, borrow, kept }, alloc)
+    }
+
+    /// The same again, for another owner.
+    pub fn again(&self) -> LentValue<T, A>
+        ensures { IsSameLent self.now result }
+    {
+        LentValue {
+            at: self.at,
+            borrow: self.borrow.again(),
+            kept: self.kept.again(),
+        }
+    }
+
+    /// What is lent, for as long as an owner is borrowed to whom it is.
+    pub fn get<'a, H: Mark>(&'a self, by: &'a Share<H>) -> &'a T
+        requires { IsLentTo self.now by.now }
+        ensures { result.now ≡ lent_value self.now }
+    {
+        unsafe { self.borrow.get(self.at, &by.right) }
+    }
+
+    /// The box back, with its allocator, for the end of the lease.
+    pub fn take_back(self, alloc: A, end: LifetimeEnd) -> Box<T, A>
+        requires end { IsEndOf self end }
+        requires allocator { alloc ≡ lent_allocator self }
+        ensures { (result.value ≡ lent_value self) × (box_allocator result ≡ alloc) }
+    {
+        let LentValue {
+            at,
+            borrow: _,
+            kept,
+        } = self;
+        unsafe { kept.take(at, alloc, end) }.into_box()
+    }
+}
+
+unsafe impl<T: Send + Sync, A: Allocator + Send> Send for LentValue<T, A> {}
+
+unsafe impl<T: Send + Sync, A: Allocator + Send> Sync for LentValue<T, A> {}

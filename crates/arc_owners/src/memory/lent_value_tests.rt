@@ -1,0 +1,36 @@
+//! Memory of a caller's own, lent to the owners of a count.
+use super::lent_value::LentValue;
+use crate::count::tokens::{Owners, Release};
+use crate::error::AllocError;
+use crate::mark::Open;
+use linked_list_allocator::LocalHeap;
+use std::test::Fail;
+
+/// One owner lends a box, another one reads it, and it comes back for the end of the last one.
+#[test]
+fn lent_read_and_had_back(rt: HostRuntime) -> Result<(), Fail> {
+    let heap = LocalHeap::new(rt.alloc(), 256)?;
+    let before = heap.used();
+    let (owners, first, mut pass) = Owners::<3, Open>::new();
+    let Ok(memory) = Box::new(&heap, 7u64) else {
+        return Err(AllocError.into());
+    };
+    let taken = heap.used();
+    let (lent, alloc) = LentValue::lend(memory, &first);
+    let second = owners.up_as(&rt, &first, &mut pass)?;
+    assert_eq!(rt; *lent.get(&first), 7);
+    let other = lent.again();
+    let Release::NotLast = owners.down_as(first, &mut pass) else {
+        return Err("beside another owner".into());
+    };
+    assert_eq!(rt; *other.get(&second), 7);
+    assert_eq!(rt; heap.used(), taken);
+    let Release::Last(end) = owners.down_as(second, &mut pass) else {
+        return Err("the last owner".into());
+    };
+    let memory = other.take_back(alloc, end);
+    assert_eq!(rt; *memory, 7);
+    drop(memory);
+    assert_eq!(rt; heap.used(), before);
+    Ok(())
+}
