@@ -15,4 +15,5 @@ pub mod Shared
 pub mod Stakes
 pub mod States
 pub mod Wholes
+pub mod Walks
 pub mod WordBorrows

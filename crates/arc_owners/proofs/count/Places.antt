@@ -7,7 +7,7 @@ use mathlib.Core.List.{Mem, mem-cons, not-mem-nil}
 use mathlib.Core.HLevel.{⊥_prop}
 use mathlib.Core.Logic.Or
 use seplogic.Ra.Ura.{Ura}
-use base.Logic.{SProp, ent, sep, wand, ex, guard, upd, id⊢, upd_i, ex_i, apply∗}
+use base.Logic.{SProp, ent, sep, wand, ex, guard, upd, upd_i, ex_i, apply∗}
 use base.Fml.{Lft, Share, Fml, fsep, flft, fbor, fnamed}
 use types.Logic.{Logic, sem}
 use types.Kit.{‵, raw, ◌⊛◌, ◌$◌, ◌∵◌, !, qed, by, move, split, split3, join, group, fsplit, fsplit3}
@@ -153,14 +153,20 @@ module _ {M : Type 1} {𝓤 : Ura M} (𝓛 : Logic 𝓤) (t : BlockId) where
     abbrev pub after : Operation → ℕ → Fml
     after op n = left t p seen T n (op.entry n) (op.gain n)
 
-    -- a new owner, with the history in which it was made
-    pub new_owner : (l : Lease) (b : Bool) (ls : List Line) (new : ℕ)
-        → ⟦ T ls ⟧ ∗ ⟦ made_if t l b new ⟧ ⊢ ⟦ T ls ⟧ ∗ ⟦ right_owns b t new l ls ⟧
-    new_owner l true ls new = qed 𝓛 (‵ (T ls) ∷ ‵ (made_if t l true new) ∷ []) ∵
-        fsplit ! $ use1 𝓛 (‵ (known t ls) ⊛ ‵ (known t ls)) (known_twice 𝓛 t ls) $ split ! $
-        -- [the invariant, twice; the rest of the pass; the new right]
-        move ! (1 ∷ 3 ∷ []) $ fjoin ! $ move ! (1 ∷ 2 ∷ []) $ fjoin ! $ move ! (0 ∷ 1 ∷ []) $ done !
-    new_owner l false ls new = id⊢ 𝓤 _
+    -- a new owner beside the one that made it, with the history in which it was made
+    pub new_owner : (o : ℕ) (l : Lease) (q : Share) (b : Bool) (ls : List Line) (new : ℕ)
+        → ⟦ T ls ⟧ ∗ ⟦ fsep (right t o l q) (made_if t l b new) ⟧
+        ⊢ ⟦ T ls ⟧ ∗ ⟦ right t o l q ⟧ ∗ ⟦ right_owns b t new l ls ⟧
+    new_owner o l q true ls new =
+        qed 𝓛 (‵ (T ls) ∷ ‵ (fsep (right t o l q) (made_if t l true new)) ∷ []) ∵ move ! (1 ∷ []) $
+        fsplit ! $ move ! (2 ∷ []) $ fsplit ! $
+        use1 𝓛 (‵ (known t ls) ⊛ ‵ (known t ls)) (known_twice 𝓛 t ls) $ split ! $
+        -- [the invariant, twice; the rest of the pass; the right; the new one]
+        move ! (1 ∷ 4 ∷ []) $ fjoin ! $ move ! (1 ∷ 2 ∷ []) $ fjoin ! $ move ! (0 ∷ 2 ∷ 1 ∷ []) $
+        done !
+    new_owner o l q false ls new =
+        qed 𝓛 (‵ (T ls) ∷ ‵ (fsep (right t o l q) (made_if t l false new)) ∷ []) ∵
+        move ! (1 ∷ []) $ fsplit ! $ move ! (2 ∷ 0 ∷ 1 ∷ []) $ done !
 
     module _ (own : ℕ) (l : Lease) (q : Share) (owed : Fml) (op : Operation)
         (steps : Steps 𝓛 t p ready seen own l q owed op) where

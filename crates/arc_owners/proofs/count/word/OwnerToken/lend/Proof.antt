@@ -7,7 +7,7 @@ use mir.Syntax.{named, a_type}
 use mir.Val.{Val, vunit, vptr}
 use base.Logic.{SProp, emp}
 use base.Fml.{ftrue, fsep, flft}
-use types.Kit.{‵, ◌⊛◌, some, given, later, ◌$◌, ◌∵◌, !, qed, by, move, keep, drop, split, fsplit, fsplit3, fjoin, fjoin3, pick, learn, use1, await, rewrite, feq_i, raw}
+use types.Kit.{‵, ◌⊛◌, some, given, later, ◌$◌, ◌∵◌, !, qed, by, move, keep, split, fsplit, fsplit3, fjoin, fjoin3, pick, learn, use1, await, rewrite, feq_i, raw}
 use types.Run.{unit_lit, of_opd, returns, enter}
 use types.ByLocal.{alloc_all, pass_all, free_all, look_at, sets}
 use contract.Monad.{fact_i, fact}

@@ -16,7 +16,7 @@ use contract.Running.{tables}
 use denote.Exit.{yes}
 use denote.RattleType.{owns, RattleType}
 use denote.Signature.{types_at, plain}
-use denote.Builtin.{RefOf, unit}
+use denote.Builtin.{RefOf}
 use denote.Ref.{mut_vals, mut_Tells, shr_vals, shr_Tells}
 use denote.Memory.{hidden_shr}
 use denote.Opens.{unhide}

@@ -15,7 +15,6 @@ use contract.Monad.{fact_i, fact}
 use contract.Running.{tables}
 use denote.Exit.{yes}
 use denote.RattleType.{owns, Valss, RattleType}
-use denote.RattleType
 use denote.Signature.{types_at, plain}
 use denote.Builtin.{u64, unit}
 use denote.Plain.{uint_vals, uint_Tells}

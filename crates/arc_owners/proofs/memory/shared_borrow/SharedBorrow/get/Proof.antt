@@ -15,7 +15,7 @@ use contract.Running.{tables}
 use denote.Exit.{yes}
 use denote.RattleType.{RattleType, owns}
 use denote.Signature.{types_at, plain}
-use denote.Builtin.{RefOf, unit}
+use denote.Builtin.{RefOf}
 use denote.Ref.{shr_vals, shr_Tells}
 use denote.Memory.{hidden_shr}
 use denote.Opens.{unhide, hide}
