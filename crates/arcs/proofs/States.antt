@@ -1,13 +1,22 @@
 -- What commands do to the windows as a whole, and what of it the table and the texts see.
-use Rattle.std.proofs.Common.{ℕ, ◌+◌, List, [], ◌∷◌, ◌++◌, Option, Some, None}
-use Rattle.std.proofs.Common.{ap, sym, ◌∙◌, subst, arith}
+use Rattle.std.proofs.Common.{◌≡◌, ℕ, ◌+◌, List, [], ◌∷◌, ◌++◌, map, Option, Some, None}
+use Rattle.std.proofs.Common.{ap, refl, sym, ◌∙◌, subst, arith}
 use Rattle.std.proofs.lemmas.List.{append-nil}
 use Rattle.std.proofs.lemmas.List.FromFn.{map-range_with_len_more}
 use Rattle.std.specs.Option.{option_map}
+use Rattle.arc_owners.specs.count.Calls.{Owner}
+use Rattle.arc_block.specs.Place.{Place, nowhere, static_data, on_block}
+use Rattle.arc_block.specs.Table.{block_of}
 use Rattle.arcs.specs.RunOf.{RunOf}
+use Rattle.arcs.specs.Rows.{state_of}
+use Rattle.arcs.specs.Slots.{row_of, stand_of, stands_of}
+use Rattle.arcs.specs.Stands.{numbered, stand_at}
+use Rattle.arcs.specs.declared.slot.Slot.{Slot}
+use Rattle.arcs.specs.declared.windows.Windows.{Windows}
 use Rattle.arcs.specs.Script.{AreLines, Answers, IsReplyText, BeginsReplyText}
 use Rattle.arcs.specs.Seen.{IsReadAs, seen_command}
-use Rattle.arcs.specs.State.{State, empty_state, CarriesOut, CarriesOutSaid, AnswersLine, drops}
+use Rattle.arcs.specs.State.{State, empty_state, row_block, stand_block, Agrees, CarriesOut}
+use Rattle.arcs.specs.State.{CarriesOutSaid, AnswersLine, drops}
 use Rattle.arcs.specs.Traffic.{Traffic, Exchanges}
 use Rattle.arcs.specs.Underway.{IsThrough, IsBrokenOff}
 use Rattle.arcs.specs.declared.command.Command.{Command}
@@ -16,6 +25,30 @@ use Rattle.arcs.specs.declared.command.Reply.{Reply}
 use Rattle.std.specs.declared.vec.Vec.{Vec}
 use Rattle.arcs.proofs.Lines.{begins}
 use Rattle.arcs.proofs.Runs.{run_push, run_seen}
+
+-- each window stands on the block of its row
+place_agrees : (b : Option ℕ) (place : Place (Option Owner) (Unit {0}))
+    → block_of (numbered b place) ≡ stand_block (stand_at b place)
+place_agrees b nowhere = refl
+place_agrees b static_data = refl
+place_agrees b (on_block None offset facts) = refl
+place_agrees None (on_block (Some owner) offset facts) = refl
+place_agrees (Some n) (on_block (Some owner) offset facts) = refl
+
+entry_agrees : {A : Type 0} (x : Option (Slot A))
+    → row_block (option_map row_of x) ≡ stand_block (stand_of x)
+entry_agrees None = refl
+entry_agrees (Some e) = place_agrees e.block e.window.place
+
+entries_agree : {A : Type 0} (entries : List (Option (Slot A)))
+    → map row_block (map (option_map row_of) entries) ≡ map stand_block (stands_of entries)
+entries_agree [] = refl
+entries_agree (x ∷ xs) =
+    ap (λ b. b ∷ map row_block (map (option_map row_of) xs)) (entry_agrees x)
+    ∙ ap (λ bs. stand_block (stand_of x) ∷ bs) (entries_agree xs)
+
+pub state_agrees : {A : Type 0} (w : Windows A) → Agrees (state_of w)
+state_agrees w = entries_agree w.entries.items
 
 -- a line that was read is answered
 pub line_carried_out : {A : Type 0} (old : State) (said : Option (Command (Vec ℕ A)))

@@ -1,9 +1,11 @@
 -- The windows of a script as a whole: their table, where they stand, and the passes of the blocks.
 use Rattle.std.specs.Prelude.{◌≡◌, ℕ, List, [], Option, Some, None, length, map}
 use Rattle.std.specs.List.{range_with_len}
+use Rattle.std.specs.Option.{option_and_then, option_map}
 use Rattle.arc_owners.specs.declared.count.tokens.Pass.{Pass}
 use Rattle.arc_owners.specs.declared.mark.Whole.{Whole}
-use Rattle.arc_block.specs.Table.{empty_table, row_at}
+use Rattle.arc_block.specs.Owned.{Stand}
+use Rattle.arc_block.specs.Table.{Row, block_of, empty_table, row_at}
 use Rattle.arcs.specs.RunOf.{RunOf}
 use Rattle.arcs.specs.Additions.{Standing, Adds}
 use Rattle.arcs.specs.Script.{ByteTable, byte_setting, AnswersBy}
@@ -12,6 +14,7 @@ use Rattle.arcs.specs.declared.command.Command.{Command}
 use Rattle.arcs.specs.declared.command.Command.TheVariants.{Drop}
 use Rattle.arcs.specs.declared.command.Reply.{Reply}
 
+-- the table, and beside it where the windows stand, with the passes of the blocks
 pub record State : Type 0 where
   pub table : ByteTable
   pub standing : Standing Whole
@@ -20,11 +23,23 @@ pub record State : Type 0 where
 abbrev pub empty_state : State
 empty_state = record { table = empty_table; standing = record { stands = []; passes = [] } }
 
+-- the number of the block on which a row lies, and on which a window stands
+abbrev pub row_block : Option (Row ℕ (Unit {0})) → Option ℕ
+row_block row = option_and_then (λ r. block_of r.place) row
+
+abbrev pub stand_block : Stand → Option ℕ
+stand_block stand = option_map (λ s. s.0) stand
+
+-- each window stands on the block of its row
+abbrev pub Agrees : State → Type 0
+Agrees s = map row_block s.table.rows ≡ map stand_block s.standing.stands
+
 -- a command is carried out: one step of the table, which adds what it adds to the histories
 pub record CarriesOut (old : State) (c : Command (List ℕ)) (reply : Reply (List ℕ)) (new : State)
     : Type 0 where
   pub rows : Step byte_setting old.table c reply new.table
   pub passes : Adds old.standing c reply new.standing
+  pub agree : Agrees new
 
 -- the command that a line says is carried out; where it says none, nothing changes
 abbrev pub CarriesOutSaid : State → Option (Command (List ℕ)) → Option (Reply (List ℕ)) → State

@@ -8,7 +8,7 @@ use Rattle.arcs.specs.Seen.{seen_reply}
 use Rattle.arcs.specs.Slots.{row_of}
 use Rattle.arcs.specs.State.{CarriesOut, drops}
 use Rattle.arcs.proofs.Kept.{gone-below, all-gone}
-use Rattle.arcs.proofs.States.{dropped_more}
+use Rattle.arcs.proofs.States.{dropped_more, state_agrees}
 use Rattle.arcs.proofs.windows.Windows.release_all.Goals as goal
 
 pub loop-i-preserved : goal.loop-i-preserved
@@ -26,7 +26,8 @@ loop-i-preserved g c =
       passes = (
         said.passes.0 ++ reply ∷ [],
         dropped_more (state_of c.args.self.now) i said.passes.0 (state_of old) reply (state_of new)
-            said.passes.1 (record { rows = did.rows; passes = did.passes }),
+            said.passes.1
+            (record { rows = did.rows; passes = did.passes; agree = state_agrees new }),
       );
     }
 
