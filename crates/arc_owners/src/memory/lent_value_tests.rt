@@ -5,6 +5,7 @@ use crate::error::AllocError;
 use crate::mark::Open;
 use linked_list_allocator::LocalHeap;
 use std::test::Fail;
+use std::thread::join;
 
 /// One owner lends a box, another one reads it, and it comes back for the end of the last one.
 #[test]
@@ -32,5 +33,28 @@ fn lent_read_and_had_back(rt: HostRuntime) -> Result<(), Fail> {
     assert_eq!(rt; *memory, 7);
     drop(memory);
     assert_eq!(rt; heap.used(), before);
+    Ok(())
+}
+
+/// Owners in two threads read it at once, and the last of them has it back.
+#[test]
+fn read_in_two_threads(rt: HostRuntime) -> Result<(), Fail> {
+    let (owners, first, mut pass) = Owners::<3, Open>::new();
+    let Ok(memory) = Box::new(rt.alloc(), 7u64) else {
+        return Err(AllocError.into());
+    };
+    let (lent, alloc) = LentValue::lend(memory, &first);
+    let second = owners.up_as(&rt, &first, &mut pass)?;
+    let kept = lent.again();
+    let other = lent.again();
+    let (one, two) = join(&rt, || *lent.get(&first), || *other.get(&second));
+    assert_eq!(rt; (one, two), (7, 7));
+    let Release::NotLast = owners.down_as(first, &mut pass) else {
+        return Err("beside another owner".into());
+    };
+    let Release::Last(end) = owners.down_as(second, &mut pass) else {
+        return Err("the last owner".into());
+    };
+    assert_eq!(rt; *kept.take_back(alloc, end), 7);
     Ok(())
 }

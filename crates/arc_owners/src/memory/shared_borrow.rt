@@ -37,7 +37,7 @@ impl<T> SharedBorrow<T> {
     /// # Safety
     ///
     /// The value lies at this place: the borrow says so.
-    pub unsafe fn get<'a, H>(&'a self, place: *const T, by: &'a OwnerToken<H>) -> &'a T
+    pub(crate) unsafe fn get<'a, H>(&'a self, place: *const T, by: &'a OwnerToken<H>) -> &'a T
         requires { (self.now.at ≡ place) × (by.now.held ≡ true) × (by.now.lease.is_lent ≡ true)
             × (by.now.lease.lifetime ≡ self.now.lifetime) }
         ensures { result.now ≡ self.now.value }
