@@ -1,5 +1,5 @@
 -- What each call does to the windows and the passes of their blocks, which keep belonging together.
-use Rattle.std.proofs.Common.{inl, inr, ◌≡◌, ℕ, ◌≤◌, ◌==◌, Bool, true, List, [], ◌∷◌, ◌++◌, length, Some, None, slice_get, slice_set, refl, sym, ◌∙◌, ap, subst, arith, append-nil}
+use Rattle.std.proofs.Common.{inl, inr, ◌≡◌, ℕ, ◌<◌, ◌≤◌, ◌==◌, Bool, true, List, [], ◌∷◌, ◌++◌, length, Some, None, slice_get, slice_set, refl, sym, ◌∙◌, ap, subst, arith, append-nil}
 use Rattle.std.specs.List.{cons_option}
 use Rattle.std.proofs.lemmas.Bool.{cases_Bool, cases_eq, eq-eqb, ne_eqb, false≢true}
 use Rattle.std.proofs.lemmas.Option.{none-some, same_Some, slice_get_cases, slice_get_within}
@@ -10,11 +10,11 @@ use Rattle.arc_owners.specs.declared.count.tokens.Pass.{Pass}
 use Rattle.arc_owners.specs.count.Invariant.{Line, BlockId, entries_of}
 use Rattle.arc_owners.specs.history.Histories.{is_in, live_owners, owners_ever, owners_ended}
 use Rattle.arc_owners.specs.history.Machine.{without_number}
-use Rattle.arc_owners.specs.count.Calls.{Owner, IsSamePass, IsFirst, IsPassFor, IsFreshPass, Asks, FindsFull, MakesAnother, Leaves, seen}
+use Rattle.arc_owners.specs.count.Calls.{Owner, Appends, IsSamePass, IsFirst, IsPassFor, IsFreshPass, Asks, FindsFull, MakesAnother, Leaves, seen}
 use Rattle.arc_owners.proofs.Numbers.{times}
 use Rattle.arc_owners.proofs.Steps.{one_is}
 use Rattle.arc_owners.proofs.Told.{Owned}
-use Rattle.arc_owners.proofs.Wholes.{same-asked, same-full, same-made, same-left, lives-asked, lives-full, lives-made, lives-left, found-exact, full-exact, before-is, owned-before}
+use Rattle.arc_owners.proofs.Wholes.{room-made, seen-more, same-asked, same-full, same-made, same-left, lives-asked, lives-full, lives-made, lives-left, found-exact, full-exact, before-is, owned-before}
 use Rattle.arc_block.specs.Owned.{Stand, number_on, owners_on, IsBlockPass, HasPass, IsKept}
 use Rattle.arc_block.proofs.Lists.{get-push, get-front, push-cases, get-set, get-set_other, set-cases, filter_map-none, filter_map-set, filter_map-gone, filter_map-in}
 
@@ -193,3 +193,19 @@ module _ {H : Type 0} {g : ℕ} {stands : List Stand} {passes : List (Pass H)} {
   -- where the count is found full, as many windows stand on the block as it may have owners
   pub full-here : {new : Pass H} → FindsFull o old new → length (owners_on n stands) ≡ g
   full-here full = ap length (sym lived) ∙ full-exact is-whole full ∙ is-most
+
+  -- a call that adds nothing
+  pub kept-same : {new : Pass H} {before : List Line} → Appends o.block old new before []
+      → IsKept g stands (slice_set passes n new)
+  kept-same {new = new} a =
+      kept-after new stands a.same k.known
+      (ap live_owners (seen-more a is-whole ∙ append-nil (seen old)) ∙ lived) (λ m apart. refl)
+
+  -- where an owner more is made, fewer windows stand on the block than it may have owners
+  pub room-here : {new : Pass H} {other : Owner} → 2 ≤ g → MakesAnother o old new other
+      → length (owners_on n stands) < g
+  room-here two makes =
+      let most = is-most in
+      let room = room-made is-whole (subst (λ m. 2 ≤ m) (sym most) two) makes in
+      subst (λ m. length (owners_on n stands) < m) most
+      (subst (λ (ns : List ℕ). length ns < o.block.most) lived room)

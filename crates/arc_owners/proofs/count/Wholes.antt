@@ -1,6 +1,6 @@
 -- What a call's record says of the history before it, where the word has a count; what a pass has
 -- seen under `Whole`, where nothing comes between two calls of the one pass; and who lives then.
-use Rattle.std.proofs.Common.{inl, inr, ◌≡◌, ℕ, Bool, true, false, List, [], ◌∷◌, ◌++◌, length, Some, None, refl, sym, ap, ◌∙◌, subst, append-nil, append_assoc, eqb}
+use Rattle.std.proofs.Common.{inl, inr, ◌≡◌, ℕ, ◌<◌, ◌≤◌, arith, Bool, true, false, List, [], ◌∷◌, ◌++◌, length, Some, None, refl, sym, ap, ◌∙◌, subst, append-nil, append_assoc, eqb}
 use Rattle.std.specs.Prelude.{if◌then◌else◌, IsTrue, ◌↔◌, map, IfOk, IfErr, Result, Ok, Err}
 use Rattle.std.proofs.lemmas.Bool.{cases_Bool, eq-eqb, false≢true}
 use Rattle.arc_owners.specs.declared.history.entry.Entry.{Entry}
@@ -260,3 +260,22 @@ module _ {H : Type 0} {o : Owner} {old new : Pass H} (whole : o.block.whole ≡ 
   pub made-number : {other : Owner} → MakesAnother o old new other → other.number ≡ length (owners_ever (seen old))
   made-number makes =
       ap (λ (x : Owner). x.number) makes.made ∙ (ap (λ (h : List Entry). length (owners_ever h)) (before-is makes.added whole) ∙ ap length (ever-joined o whole makes.joined))
+
+-- an owner more is made only where fewer live than may
+making-room : (c : Bool) (by new most : ℕ) (began : Beginning) (h : List Entry) → 2 ≤ most
+    → MayFollow most began h (making c by new) → length (live_owners h) < most
+making-room true by new most began h two may = may.3
+making-room false by new most began h two may =
+    let one : length (live_owners h) ≡ 1 = ap length may.0 in omega (arith, two, one)
+
+pub room-made : {H : Type 0} {o : Owner} {old new : Pass H} {other : Owner}
+    → o.block.whole ≡ true → 2 ≤ o.block.most → MakesAnother o old new other
+    → length (live_owners (seen old)) < o.block.most
+room-made {o = o} whole two makes =
+    let h = entries_of makes.before in
+    let c = is_counted o.block.began h in
+    let room =
+    making-room c o.number (next_owner makes.before) o.block.most o.block.began h two
+    (may-stand makes.added) in
+    let same = ap live_owners (before-is makes.added whole) ∙ lives-joined o whole makes.joined in
+    subst (λ (ns : List ℕ). length ns < o.block.most) same room

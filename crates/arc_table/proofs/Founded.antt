@@ -1,0 +1,88 @@
+-- A window that was made of a list: on nothing, or as the first owner of a new block.
+use Rattle.std.proofs.Common.{◌≡◌, ℕ, ◌&&◌, ◌==◌, Bool, true, false, if◌then◌else◌, List, [], ◌∷◌, ◌++◌}
+use Rattle.std.proofs.Common.{length, Option, Some, None, refl, sym, ap, ◌∙◌, subst}
+use Rattle.std.proofs.lemmas.List.{map-append}
+use Rattle.arc_owners.specs.declared.mark.Whole.{Whole}
+use Rattle.arc_owners.specs.declared.count.tokens.Pass.{Pass}
+use Rattle.arc_owners.specs.count.Calls.{Owner, IsFirst, IsFreshPass}
+use Rattle.arc_block.specs.declared.block.TheConstants.{MAX_OWNERS}
+use Rattle.arc_block.specs.Block.{native_facts}
+use Rattle.arc_block.specs.Owned.{Stand, IsKept}
+use Rattle.arc_block.specs.Place.{Place, nowhere, static_data, on_block, at_owner}
+use Rattle.arc_block.proofs.Owned.{kept-new, kept-nowhere}
+use Rattle.arc_read.specs.Steps.{Makes, Begins}
+use Rattle.arc_read.specs.Window.{Window}
+use Rattle.arc_table.specs.Additions.{OneMore, Founds}
+use Rattle.arc_table.specs.Slots.{SlotView, stand_of, stands_of}
+use Rattle.arc_table.specs.Stands.{stand_at}
+use Rattle.arc_table.specs.State.{state_of}
+
+abbrev At : Type 0
+At = Place (Option Owner) (Unit {0})
+
+stand-none : (place : At) → stand_at None place ≡ None
+stand-none nowhere = refl
+stand-none (on_block None offset facts) = refl
+stand-none static_data = refl
+stand-none (on_block (Some owner) offset facts) = refl
+
+module _ {T : Type 0} (slots slots' : List (Option (SlotView T))) (s : SlotView T)
+    (more : slots' ≡ slots ++ Some s ∷ []) where
+  stands-more : stands_of slots' ≡ stands_of slots ++ stand_of (Some s) ∷ []
+  stands-more = ap stands_of more ∙ map-append stand_of slots (Some s ∷ [])
+
+  stands-nowhere : s.block ≡ None → stands_of slots' ≡ stands_of slots ++ None ∷ []
+  stands-nowhere none =
+      stands-more ∙ ap (λ b. stands_of slots ++ stand_at b s.window.place ∷ []) none
+      ∙ ap (λ st. stands_of slots ++ st ∷ []) (stand-none s.window.place)
+
+  module _ (passes passes' : List (Pass Whole))
+      (k : IsKept MAX_OWNERS (stands_of slots) passes) where
+    pub nowhere-kept : s.block ≡ None → passes' ≡ passes
+        → IsKept MAX_OWNERS (stands_of slots') passes'
+    nowhere-kept none same =
+        subst (λ ps. IsKept MAX_OWNERS (stands_of slots') ps) (sym same)
+        (subst (λ ss. IsKept MAX_OWNERS ss passes) (sym (stands-nowhere none)) (kept-nowhere k))
+
+    pub nowhere-added : s.block ≡ None → passes' ≡ passes
+        → OneMore (state_of slots passes).standing (state_of slots' passes').standing
+        (Founds passes passes')
+    nowhere-added none same = (None, stands-nowhere none, same)
+
+    module _ (has_static drops : Bool) (items : List T) (old new : Pass Whole)
+        (makes : Makes has_static drops true items s.window) (begins : Begins s.window old new)
+        (some : (has_static && (length items == 0)) ≡ false) (n : ℕ) (block : s.block ≡ Some n) where
+      -- it is the first owner of the block, and the pass is a fresh one
+      founded : (owner : Owner) × (stands_of slots' ≡ stands_of slots ++ Some (n, owner) ∷ [])
+          × IsFirst MAX_OWNERS true owner × IsFreshPass owner new
+      founded =
+          let owner = makes.owner in
+          let there : At = on_block (Some owner) 0 (native_facts drops (length items)) in
+          let place : s.window.place ≡ there =
+          ap (λ (w : Window T). w.place) makes.made
+          ∙ ap (λ b. if b then nowhere else there) some in
+          let first : IsFirst MAX_OWNERS true owner =
+          subst (λ p. at_owner p (Unit {0}) (λ o. IsFirst MAX_OWNERS true o)) place makes.first in
+          let fresh : IsFreshPass owner new =
+          subst (λ p. at_owner p (new ≡ old) (λ o. IsFreshPass o new)) place begins in
+          let stands : stands_of slots' ≡ stands_of slots ++ Some (n, owner) ∷ [] =
+          stands-more ∙ ap (λ b. stands_of slots ++ stand_at b s.window.place ∷ []) block
+          ∙ ap (λ p. stands_of slots ++ stand_at (Some n) p ∷ []) place in
+          (owner, stands, first, fresh)
+
+      pub block-kept : n ≡ length passes → passes' ≡ passes ++ new ∷ []
+          → IsKept MAX_OWNERS (stands_of slots') passes'
+      block-kept counted one_pass =
+          let f = founded in
+          subst (λ ps. IsKept MAX_OWNERS (stands_of slots') ps) (sym one_pass)
+          (subst (λ ss. IsKept MAX_OWNERS ss (passes ++ new ∷ [])) (sym f.1)
+          (subst (λ (m : ℕ).
+              IsKept MAX_OWNERS (stands_of slots ++ Some (m, f.0) ∷ []) (passes ++ new ∷ []))
+          (sym counted) (kept-new new k f.2 f.3)))
+
+      pub block-added : n ≡ length passes → passes' ≡ passes ++ new ∷ []
+          → OneMore (state_of slots passes).standing (state_of slots' passes').standing
+          (Founds passes passes')
+      block-added counted one_pass =
+          let f = founded in
+          (Some (n, f.0), f.1, (counted, f.2, new, f.3, one_pass))

@@ -1,0 +1,11 @@
+pub mod Runs
+mod Lists
+mod Taken
+mod Slots
+pub mod Places
+mod Kept
+mod Tables
+mod Added
+mod Ended
+mod Founded
+mod States

@@ -1,0 +1,20 @@
+-- Ends one after another.
+use Rattle.std.proofs.Common.{ℕ, ◌+◌, List, [], ◌∷◌, ◌++◌, sym, subst, arith}
+use Rattle.std.proofs.lemmas.List.FromFn.{map-range_with_len_more}
+use Rattle.arc_table.specs.RunOf.{RunOf}
+use Rattle.arc_table.specs.State.{State, CarriesOut, drops}
+use Rattle.arc_table.specs.Step.{Setting}
+use Rattle.arc_table.specs.declared.command.Cmd.TheVariants.{Drop}
+use Rattle.arc_table.specs.declared.command.Reply.{Reply}
+use Rattle.arc_table.proofs.Runs.{run_push}
+
+-- one window more has ended
+pub dropped_more : {T : Type 0} (setting : Setting T) (old : State T) (n : ℕ)
+    (replies : List (Reply (List T))) (mid : State T) (reply : Reply (List T)) (new : State T)
+    → RunOf (CarriesOut setting) old (drops n) replies mid
+    → CarriesOut setting mid (Drop n) reply new
+    → RunOf (CarriesOut setting) old (drops (n + 1)) (replies ++ reply ∷ []) new
+dropped_more setting old n replies mid reply new run one =
+    subst (λ cs. RunOf (CarriesOut setting) old cs (replies ++ reply ∷ []) new)
+    (sym (map-range_with_len_more Drop 0 n n (omega arith)))
+    (run_push (CarriesOut setting) old (drops n) replies mid (Drop n) reply new run one)

@@ -1,0 +1,54 @@
+-- One window more has ended.
+use Rattle.std.proofs.Common.{◌≡◌, ◌++◌, ◌∷◌, [], length, None, sym, ap, ◌∙◌, subst, arith}
+use Rattle.std.proofs.lemmas.List.{length-map, length-set}
+use Rattle.std.specs.Option.{option_map}
+use Rattle.arc_table.specs.RunOf.{RunOf}
+use Rattle.arc_table.specs.Seen.{seen_reply}
+use Rattle.arc_table.specs.Slots.{row_of}
+use Rattle.arc_table.specs.State.{State, CarriesOut, drops}
+use Rattle.arc_table.specs.Step.{Setting, setting_of}
+use Rattle.arc_table.proofs.Lists.{gone-below, all-gone}
+use Rattle.arc_table.proofs.States.{dropped_more}
+use Rattle.arc_table.proofs.table.Table.release_all.Goals as goal
+
+pub loop-i-preserved : goal.loop-i-preserved
+loop-i-preserved g c =
+    let setting : Setting g.row.S-Item.Denot =
+    setting_of g.L.Layout.STATIC g.L.Layout.clone_wants g.S.Slice.DROPS g.S.Subsliceable.boundary in
+    let old = c.loop-i.self in
+    let new = c.release.new.self in
+    let i = c.loop-i.i in
+    let said = c.loop-i.invariant in
+    let did = c.release.ensures in
+    let reply = seen_reply c.release.result in
+    record {
+      gone = gone-below old.table.rows new.table.rows i did.gone said.gone;
+      rows = ap length did.gone ∙ length-set old.table.rows i None ∙ said.rows;
+      blocks = did.blocks ∙ said.blocks;
+      passes = (
+        said.passes.0 ++ reply ∷ [],
+        dropped_more setting c.args.self.now i said.passes.0 old reply new said.passes.1
+            (record { rows = did.rows; passes = did.passes; agree = c.agree.ensures }),
+      );
+    }
+
+pub returns-clause-passes : goal.returns-clause-passes
+returns-clause-passes g c =
+    let setting : Setting g.row.S-Item.Denot =
+    setting_of g.L.Layout.STATIC g.L.Layout.clone_wants g.S.Slice.DROPS g.S.Subsliceable.boundary in
+    let old = c.args.self.now in
+    let new = c.loop-i.self in
+    let said = c.loop-i.invariant in
+    let many : length old.table.rows ≡ c.loop-i.i =
+    sym (ap (λ (o : State g.row.S-Item.Denot). length o.table.rows) c.self.view_is)
+    ∙ length-map c.self.inside.slots.items (option_map row_of)
+    ∙ (omega (arith, c.len-i-end.ensures, c.loop-i.auto.i-end, c.loop-i-test.false)) in
+    record {
+      replies = said.passes.0;
+      run =
+          subst (λ n. RunOf (CarriesOut setting) old (drops n) said.passes.0 new) (sym many)
+          said.passes.1;
+      none_left =
+          all-gone new.table.rows c.loop-i.i (omega (arith, said.rows, c.loop-i-test.false))
+          said.gone;
+    }

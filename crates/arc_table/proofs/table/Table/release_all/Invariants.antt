@@ -1,0 +1,19 @@
+use Rattle.std.proofs.Common.{◌≡◌, ℕ, ◌<◌, List, None, length}
+use Rattle.arc_block.specs.Table.{row_at}
+use Rattle.arc_table.specs.RunOf.{RunOf}
+use Rattle.arc_table.specs.State.{CarriesOut, drops}
+use Rattle.arc_table.specs.Step.{setting_of}
+use Rattle.arc_table.specs.declared.command.Reply.{Reply}
+use Rattle.arc_table.proofs.table.Table.release_all.Given as goal
+
+-- the rows that were reached have ended, one after another
+abbrev pub invariant-loop-i : goal.invariant-loop-i
+invariant-loop-i g l = record {
+  gone : (j : ℕ) → j < l.i → row_at l.self.table j ≡ None;
+  rows : length l.self.table.rows ≡ l.i-end;
+  blocks : l.self.table.blocks ≡ l.fn.self.table.blocks;
+  passes :
+      (replies : List (Reply (List g.row.S-Item.Denot)))
+      × RunOf (CarriesOut (setting_of g.L.Layout.STATIC g.L.Layout.clone_wants g.S.Slice.DROPS
+          g.S.Subsliceable.boundary)) l.fn.self (drops l.i) replies l.self;
+}

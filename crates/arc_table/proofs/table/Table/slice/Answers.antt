@@ -1,0 +1,54 @@
+-- The window stands on nothing, or as the first owner on a new block, whose pass is the one that
+-- was given.
+use Rattle.std.proofs.Common.{◌≡◌, ◌&&◌, ◌==◌, false, Some, length, refl, ap, sym, ◌∙◌, subst}
+use Rattle.arc_table.specs.Additions.{Adds}
+use Rattle.arc_table.specs.State.{State, state_of}
+use Rattle.arc_table.specs.declared.command.Cmd.TheVariants as command
+use Rattle.arc_table.specs.declared.command.Reply.TheVariants as reply
+use Rattle.arc_table.proofs.Lists.{behind}
+use Rattle.arc_table.proofs.Founded.{nowhere-kept, nowhere-added, block-kept, block-added}
+use Rattle.arc_table.proofs.table.Table.slice.Goals as goal
+
+pub invariant_of-self-then-stands_on_nothing : goal.invariant_of-self-then-stands_on_nothing
+invariant_of-self-then-stands_on_nothing g c =
+    let slots = c.self.inside.slots.items in
+    let passes = c.self.inside.passes.of_blocks.items in
+    let room = c.reserve-else-is_err in
+    nowhere-kept slots c.push_reserved.new.self.items _
+    (behind slots _ c.push_reserved.ensures.items c.reserve.ensures.items)
+    passes room.new.self.items c.self.invariant refl room.ensures.items
+
+pub invariant_of-self-2 : goal.invariant_of-self-2
+invariant_of-self-2 g c =
+    let slots = c.self.inside.slots.items in
+    let passes = c.self.inside.passes.of_blocks.items in
+    let room = c.reserve-else-is_err in
+    block-kept slots c.push_reserved-3.new.self.items _
+    (behind slots _ c.push_reserved-3.ensures.items c.reserve.ensures.items)
+    passes c.push_reserved-2.new.self.items c.self.invariant
+    g.L.Layout.STATIC g.S.Slice.DROPS _ c.none-pass.result c.try_from_slice_as.new.pass
+    c.in-Ok.ensures.ok c.in-Ok.ensures.pass
+    (ap (λ n. g.L.Layout.STATIC && (n == 0)) (c.deref.ensures.len ∙ sym c.len.ensures)
+    ∙ sym c.stands_on_nothing.ensures ∙ c.if-stands_on_nothing.false)
+    c.len-2.result refl (c.len-2.ensures ∙ room.new.self.ok.0 ∙ ap length room.ensures.items)
+    (behind passes _ c.push_reserved-2.ensures.items room.ensures.items)
+
+pub returns-clause-passes : goal.returns-clause-passes
+returns-clause-passes g c =
+    let slots = c.self.inside.slots.items in
+    let passes = c.self.inside.passes.of_blocks.items in
+    let room = c.reserve-else-is_err in
+    subst (λ (o : State g.row.S-Item.Denot).
+        Adds {T = g.row.S-Item.Denot} o.standing (command.Slice c.args.items.items)
+        (reply.New c.len-number.result)
+        (state_of c.push_reserved-3.new.self.items c.push_reserved-2.new.self.items).standing)
+    c.self.view_is
+    (block-added slots c.push_reserved-3.new.self.items _
+    (behind slots _ c.push_reserved-3.ensures.items c.reserve.ensures.items)
+    passes c.push_reserved-2.new.self.items c.self.invariant
+    g.L.Layout.STATIC g.S.Slice.DROPS _ c.none-pass.result c.try_from_slice_as.new.pass
+    c.in-Ok.ensures.ok c.in-Ok.ensures.pass
+    (ap (λ n. g.L.Layout.STATIC && (n == 0)) (c.deref.ensures.len ∙ sym c.len.ensures)
+    ∙ sym c.stands_on_nothing.ensures ∙ c.if-stands_on_nothing.false)
+    c.len-2.result refl (c.len-2.ensures ∙ room.new.self.ok.0 ∙ ap length room.ensures.items)
+    (behind passes _ c.push_reserved-2.ensures.items room.ensures.items))

@@ -1,0 +1,36 @@
+-- Commands and replies whose items lie in vectors, as lists.
+use Rattle.std.specs.Prelude.{List}
+use Rattle.std.specs.declared.vec.Vec.{Vec}
+use Rattle.std.specs.Vec.{vec_items}
+use Rattle.arc_table.specs.declared.command.Cmd.{Cmd}
+use Rattle.arc_table.specs.declared.command.Cmd.TheVariants.{Slice, Clone, Sub, Uniq, Show, Drop}
+use Rattle.arc_table.specs.declared.command.Reply.{Reply}
+use Rattle.arc_table.specs.declared.command.Reply.TheVariants as reply
+
+-- each item list of a command, or of a reply, under f
+abbrev pub map_command : {X Y : Type 0} → (X → Y) → Cmd X → Cmd Y
+map_command f (Slice items) = Slice (f items)
+map_command f (Clone i) = Clone i
+map_command f (Sub i start end) = Sub i start end
+map_command f (Uniq i) = Uniq i
+map_command f (Show i) = Show i
+map_command f (Drop i) = Drop i
+
+abbrev pub map_reply : {X Y : Type 0} → (X → Y) → Reply X → Reply Y
+map_reply f (reply.New number) = reply.New number
+map_reply f reply.Ok = reply.Ok
+map_reply f reply.Yes = reply.Yes
+map_reply f reply.No = reply.No
+map_reply f (reply.Items items) = reply.Items (f items)
+map_reply f reply.NoWindow = reply.NoWindow
+map_reply f reply.Kind = reply.Kind
+map_reply f (reply.Range e) = reply.Range e
+map_reply f (reply.Owner e) = reply.Owner e
+map_reply f reply.Alloc = reply.Alloc
+
+-- a command in memory, and what it says
+abbrev pub seen_command : {T A : Type 0} → Cmd (Vec T A) → Cmd (List T)
+seen_command c = map_command vec_items c
+
+abbrev pub seen_reply : {T A : Type 0} → Reply (Vec T A) → Reply (List T)
+seen_reply r = map_reply vec_items r

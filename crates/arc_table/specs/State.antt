@@ -1,0 +1,65 @@
+-- The windows of a table as a whole: their rows, where they stand, and the passes of the blocks.
+use Rattle.std.specs.Prelude.{◌≡◌, ℕ, List, [], Option, Some, None, length, map}
+use Rattle.std.specs.List.{range_with_len}
+use Rattle.std.specs.Option.{option_and_then, option_map}
+use Rattle.arc_owners.specs.declared.count.tokens.Pass.{Pass}
+use Rattle.arc_owners.specs.declared.mark.Whole.{Whole}
+use Rattle.arc_block.specs.Owned.{Stand}
+use Rattle.arc_block.specs.Table.{Row, Table, block_of, empty_table, row_at}
+use Rattle.arc_table.specs.RunOf.{RunOf}
+use Rattle.arc_table.specs.Additions.{Standing, Adds}
+use Rattle.arc_table.specs.Slots.{SlotView, row_of, stands_of}
+use Rattle.arc_table.specs.Step.{Setting, Step}
+use Rattle.arc_table.specs.declared.command.Cmd.{Cmd}
+use Rattle.arc_table.specs.declared.command.Cmd.TheVariants.{Drop}
+use Rattle.arc_table.specs.declared.command.Reply.{Reply}
+
+-- the table, and beside it where the windows stand, with the passes of the blocks
+pub record State (T : Type 0) : Type 0 where
+  pub table : Table T (Unit {0})
+  pub standing : Standing Whole
+
+-- no window, and no block
+abbrev pub empty_state : {T : Type 0} → State T
+empty_state = record { table = empty_table; standing = record { stands = []; passes = [] } }
+
+-- what these slots are seen as, with the passes of the blocks: there were as many blocks as there
+-- are passes
+abbrev pub state_of : {T : Type 0} → List (Option (SlotView T)) → List (Pass Whole) → State T
+state_of slots passes = record {
+  table = record { rows = map (option_map row_of) slots; blocks = length passes };
+  standing = record { stands = stands_of slots; passes = passes };
+}
+
+-- the number of the block on which a row lies, and on which a window stands
+abbrev pub row_block : {T : Type 0} → Option (Row T (Unit {0})) → Option ℕ
+row_block row = option_and_then (λ r. block_of r.place) row
+
+abbrev pub stand_block : Stand → Option ℕ
+stand_block stand = option_map (λ s. s.0) stand
+
+-- each window stands on the block of its row
+abbrev pub Agrees : {T : Type 0} → State T → Type 0
+Agrees s = map row_block s.table.rows ≡ map stand_block s.standing.stands
+
+-- a command is carried out: one step of the table, which adds what it adds to the histories
+pub record CarriesOut {T : Type 0} (setting : Setting T) (old : State T) (c : Cmd (List T))
+    (reply : Reply (List T)) (new : State T) : Type 0 where
+  pub rows : Step setting old.table c reply new.table
+  pub passes : Adds old.standing c reply new.standing
+  pub agree : Agrees new
+
+-- the end of each window of so many, in the order of their numbers
+abbrev pub drops : {T : Type 0} → ℕ → List (Cmd (List T))
+drops n = map Drop (range_with_len 0 n)
+
+-- every window that is left ends by a `Drop` of its own
+pub record EndsAll {T : Type 0} (setting : Setting T) (old new : State T) : Type 0 where
+  pub replies : List (Reply (List T))
+  pub run : RunOf (CarriesOut setting) old (drops (length old.table.rows)) replies new
+  pub none_left : (i : ℕ) → row_at new.table i ≡ None
+
+-- and these are the passes of the blocks after that
+abbrev pub EndsWith : {T : Type 0} → Setting T → State T → List (Pass Whole) → Type 0
+EndsWith {T} setting old passes = (new : State T) × EndsAll setting old new
+    × (new.standing.passes ≡ passes)

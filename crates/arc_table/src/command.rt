@@ -1,0 +1,56 @@
+//! What a table is asked, and what it answers.
+use arc_owners::error::{OwnerError, RangeError};
+
+/// A command, where X holds items. Windows go by their numbers.
+#[derive(Debug, Drop)]
+pub enum Cmd<X> {
+    /// A window over a copy of these items.
+    Slice(X),
+    /// Another window with the same items at the same place.
+    Clone {
+        window: usize,
+    },
+    /// A window over the part from `start` to `end` of another.
+    Sub {
+        window: usize,
+        start: usize,
+        end: usize,
+    },
+    /// Whether a window is the only owner of its block.
+    Uniq {
+        window: usize,
+    },
+    /// The items of a window.
+    Show {
+        window: usize,
+    },
+    /// The end of a window.
+    Drop {
+        window: usize,
+    },
+}
+
+/// What a command is answered, where X holds items.
+#[derive(Debug, Drop)]
+pub enum Reply<X> {
+    /// A window was made, and has this number.
+    New(usize),
+    /// It is done.
+    Ok,
+    /// The window is the only owner of its block.
+    Yes,
+    /// It isn't: the block has another owner, or the window stands on none.
+    No,
+    /// The items of the window.
+    Items(X),
+    /// No window has this number, or none has it any more.
+    NoWindow,
+    /// The command isn't for a window of this role.
+    Kind,
+    /// The range isn't one of the window.
+    Range(RangeError),
+    /// There is no owner more.
+    Owner(OwnerError),
+    /// Memory was refused; nothing changed.
+    Alloc,
+}

@@ -1,0 +1,7 @@
+//! Commands over read windows, carried out as a table of plain lists.
+#![tactic(auto)]
+
+pub mod command;
+pub mod passes;
+mod slot;
+pub mod table;

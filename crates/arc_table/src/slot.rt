@@ -1,0 +1,160 @@
+//! One window of a table.
+ghost use Rattle.std.specs.Prelude.{◌≡◌, ◌==◌, ◌&&◌, if◌then◌else◌, None};
+
+use crate::passes::Passes;
+use arc_block::layout::{Layout, stands_on_nothing};
+use arc_buffer::kinds::{Slice, Subsliceable};
+use arc_owners::error::{OwnerError, RangeError};
+use arc_owners::mark::Whole;
+use arc_read::slice::ArcSlice;
+use std::alloc::Allocator;
+use std::marker::Model;
+use std::sync::Wait;
+
+/// A window, and the number of the block that it stands on, if it stands on one. It can't be
+/// dropped: each ends by `release`, since a window that is dropped would stay an owner of its block
+/// for good.
+pub struct Slot<S: Slice, L: Layout, A: Allocator + Copy> {
+    pub window: ArcSlice<S, L, A, Whole>,
+    pub block: Option<usize>,
+}
+
+impl<S: Slice, L: Layout, A: Allocator + Copy> Model for Slot<S, L, A> {
+    ghost use Rattle.std.specs.Prelude.{◌≡◌, true};
+    ghost use Rattle.arc_table.specs.Stands.{is_numbered};
+    ghost use Rattle.arc_table.specs.Slots.{SlotView};
+
+    ghost Value = { SlotView S.Item };
+
+    ghost view = { λ s. record { window = s.window; block = s.block } };
+
+    ghost invariant = { λ s. is_numbered s.block s.window.place ≡ true };
+}
+
+/// The block on which a part with so many items stands, if it stands on one.
+fn part_block<L: Layout>(block: Option<usize>, len: usize) -> Option<usize>
+    ensures { result ≡ (if L.STATIC && (len == 0) then None else block) }
+{
+    if stands_on_nothing::<L>(len) {
+        return None;
+    }
+    block
+}
+
+impl<S: Slice, L: Layout, A: Allocator + Copy> Slot<S, L, A> {
+    ghost use Rattle.std.specs.Prelude.{◌≡◌, ◌↔◌, Bool, false, None, Some, IfOk, IfErr, IsOk};
+    ghost use Rattle.arc_buffer.specs.Slice.{IsRange, sub, range_answer};
+    ghost use Rattle.arc_block.specs.Place.{part_place};
+    ghost use Rattle.arc_block.specs.Table.{reader};
+    ghost use Rattle.arc_owners.specs.count.Calls.{Asks, Leaves};
+    ghost use Rattle.arc_table.specs.Stands.{HasPassFor};
+    ghost use Rattle.arc_table.specs.Additions.{Along, Beside, RefusesAt};
+    ghost use Rattle.arc_table.specs.Slots.{row_of, stand_of};
+
+    /// The items of the window.
+    pub fn as_slice(&self) -> &[S::Item]
+        ensures { result.now ≡ self.now.window.items }
+    {
+        self.window.as_slice()
+    }
+
+    /// Whether `start` to `end` is a range of the window.
+    pub fn check_range(&self, start: usize, end: usize) -> Result<(), RangeError>
+    where
+        S: Subsliceable,
+        ensures answer { result ≡ range_answer S.boundary self.now.window.items start end }
+        ensures ok { IsOk result ↔ IsRange S.boundary self.now.window.items start end }
+    {
+        self.window.check_range(start, end)
+    }
+
+    /// Another window with the same items at the same place, an owner more of the same block.
+    /// `CountFull` where the block has as many owners as it can have, `AllocError` where the
+    /// layout's clones want memory and it was refused.
+    pub fn try_clone(
+        &self,
+        rt: &impl Wait,
+        passes: &mut Passes<A>,
+    ) -> Result<Self, OwnerError>
+        requires pass { HasPassFor passes.old.of_blocks.items (stand_of (Some self.now)) }
+        ensures row { IfOk result (λ slot. row_of slot ≡ row_of self.now) }
+        ensures stand { IfOk result (λ slot.
+            Beside (stand_of (Some self.now)) passes.old.of_blocks.items passes.new.of_blocks.items (stand_of (Some slot))) }
+        ensures refused { IfErr result (RefusesAt L.clone_wants (row_of self.now).place
+            (stand_of (Some self.now)) passes.old.of_blocks.items passes.new.of_blocks.items) }
+    {
+        let mut pass = passes.lend(self.block);
+        let made = self.window.try_clone_as(rt, &mut pass);
+        passes.give_back(self.block, pass);
+        match made {
+            Ok(window) => Ok(Slot {
+                window,
+                block: self.block,
+            }),
+            Err(e) => Err(e),
+        }
+    }
+
+    /// A window over the items from `start` to `end`, an owner more of the same block, or with no
+    /// items on nothing where the layout has static data. Refused as `try_clone` is.
+    pub fn try_subslice(
+        &self,
+        rt: &impl Wait,
+        start: usize,
+        end: usize,
+        passes: &mut Passes<A>,
+    ) -> Result<Self, OwnerError>
+    where
+        S: Subsliceable,
+        requires range { IsRange S.boundary self.now.window.items start end }
+        requires pass { HasPassFor passes.old.of_blocks.items (stand_of (Some self.now)) }
+        ensures row { IfOk result (λ slot.
+            row_of slot ≡ record {
+              items = sub self.now.window.items start end;
+              place = part_place L.STATIC (sub self.now.window.items start end) start
+                  (row_of self.now).place;
+              role = reader;
+            }) }
+        ensures stand { IfOk result (λ slot.
+            Beside (stand_of (Some self.now)) passes.old.of_blocks.items passes.new.of_blocks.items (stand_of (Some slot))) }
+        ensures refused { IfErr result (RefusesAt L.clone_wants
+            (part_place L.STATIC (sub self.now.window.items start end) start
+            (row_of self.now).place) (stand_of (Some self.now)) passes.old.of_blocks.items passes.new.of_blocks.items) }
+    {
+        let mut pass = passes.lend(self.block);
+        let made = self.window.try_subslice_as(rt, start, end, &mut pass);
+        passes.give_back(self.block, pass);
+        match made {
+            Ok(window) => Ok(Slot {
+                window,
+                block: part_block::<L>(self.block, end - start),
+            }),
+            Err(e) => Err(e),
+        }
+    }
+
+    /// Whether no other owner of the window's block lives. `false` on no block. Takes no memory.
+    pub fn is_unique(&self, passes: &mut Passes<A>) -> bool
+        requires { HasPassFor passes.old.of_blocks.items (stand_of (Some self.now)) }
+        ensures asked { Along (stand_of (Some self.now)) passes.old.of_blocks.items passes.new.of_blocks.items (λ o p q.
+            Asks o p q result) }
+        ensures nowhere { stand_of (Some self.now) ≡ None → result ≡ false }
+    {
+        let mut pass = passes.lend(self.block);
+        let alone = self.window.is_unique_as(&mut pass);
+        passes.give_back(self.block, pass);
+        alone
+    }
+
+    /// Ends the window: the last owner gives its block back. Takes no memory.
+    pub fn release(self, passes: &mut Passes<A>)
+        requires { HasPassFor passes.old.of_blocks.items (stand_of (Some self)) }
+        ensures { Along (stand_of (Some self)) passes.old.of_blocks.items passes.new.of_blocks.items (λ o p q. (last : Bool)
+            × Leaves o p q last) }
+    {
+        let Slot { window, block } = self;
+        let mut pass = passes.lend(block);
+        window.release_as(&mut pass);
+        passes.give_back(block, pass);
+    }
+}

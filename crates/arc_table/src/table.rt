@@ -1,0 +1,294 @@
+//! `Table`, windows by number.
+ghost use Rattle.std.specs.Prelude.{◌≡◌, ℕ, Some, None, MatchOption, slice_get};
+ghost use Rattle.std.specs.Option.{option_flatten};
+
+use crate::command::{Cmd, Reply};
+use crate::passes::Passes;
+use crate::slot::Slot;
+use arc_block::layout::{DefaultLayout, Layout, stands_on_nothing};
+use arc_buffer::kinds::{CopySlice, Slice, Subsliceable};
+use arc_owners::owners::Pass;
+use arc_read::slice::ArcSlice;
+use std::alloc::{Allocator, Global};
+use std::marker::Model;
+use std::mem;
+use std::sync::Wait;
+
+/// The windows of a table under their numbers, `None` where one has gone, and the passes of the
+/// blocks on which they have stood.
+///
+/// At every moment the live owners of each block's history are the windows that stand on it, so
+/// being alone is what the table says. It can't be dropped: it ends by `end`, which releases every
+/// window that is left.
+pub struct Table<S: Slice, L: Layout = DefaultLayout, A: Allocator + Copy = Global> {
+    slots: Vec<Option<Slot<S, L, A>>, A>,
+    passes: Passes<A>,
+    alloc: A,
+}
+
+impl<S: Slice, L: Layout, A: Allocator + Copy> Model for Table<S, L, A> {
+    ghost use Rattle.arc_block.specs.declared.block.TheConstants.{MAX_OWNERS};
+    ghost use Rattle.arc_block.specs.Owned.{IsKept};
+    ghost use Rattle.arc_table.specs.Slots.{stands_of};
+    ghost use Rattle.arc_table.specs.State.{State, state_of};
+
+    ghost Value = { State S.Item };
+
+    ghost view = { λ t. state_of t.slots.items t.passes.of_blocks.items };
+
+    ghost invariant = { λ t.
+        IsKept MAX_OWNERS (stands_of t.slots.items) t.passes.of_blocks.items };
+}
+
+/// The slot with this number, if its window was made and hasn't gone.
+fn slot_at<S: Slice, L: Layout, A: Allocator + Copy>(
+    slots: &[Option<Slot<S, L, A>>],
+    i: usize,
+) -> Option<&Slot<S, L, A>>
+    ensures { MatchOption result (option_flatten (slice_get slots.now i) ≡ None) (λ slot.
+        slice_get slots.now i ≡ Some (Some slot.now)) }
+{
+    slots.get(i)?.as_ref()
+}
+
+/// Gives back the memory of slots whose windows have all gone.
+fn end_slots<S: Slice, L: Layout, A: Allocator + Copy>(mut slots: Vec<Option<Slot<S, L, A>>, A>)
+    requires { (i : ℕ) → option_flatten (slice_get slots.items i) ≡ None }
+{
+    while let Some(slot) = slots.pop() {
+        let None = slot else { unreachable!() };
+    }
+    slots.destroy_empty();
+}
+
+impl<S: CopySlice + Subsliceable, L: Layout, A: Allocator + Copy> Table<S, L, A>
+where
+    S::Item: Copy,
+{
+    ghost use Rattle.std.specs.Prelude.{◌≡◌, [], length, slice_set};
+    ghost use Rattle.arc_block.specs.declared.block.TheConstants.{MAX_OWNERS};
+    ghost use Rattle.arc_block.specs.Owned.{IsKept};
+    ghost use Rattle.arc_table.specs.Step.{Step, setting_of};
+    ghost use Rattle.arc_table.specs.Seen.{seen_command, seen_reply};
+    ghost use Rattle.arc_table.specs.Additions.{Adds};
+    ghost use Rattle.arc_table.specs.State.{Agrees, EndsAll, EndsWith, empty_state};
+    ghost use Rattle.arc_table.specs.declared.command.Cmd.TheVariants as command;
+
+    /// No window yet. Takes no memory.
+    pub fn new(alloc: A) -> Self
+        ensures { result ≡ empty_state }
+    {
+        Table {
+            slots: Vec::new(alloc),
+            passes: Passes {
+                of_blocks: Vec::new(alloc),
+            },
+            alloc,
+        }
+    }
+
+    /// Carries out one command. A refusal changes nothing; what the command brought is let go.
+    ///
+    /// Takes memory for a window more, for what a window is made of and for what is shown; refused,
+    /// the answer is `Alloc`.
+    pub fn step(
+        &mut self,
+        rt: &impl Wait,
+        command: Cmd<Vec<S::Item, A>>,
+    ) -> Reply<Vec<S::Item, A>>
+        ensures rows { Step (setting_of L.STATIC L.clone_wants S.DROPS S.boundary) self.old.table
+            (seen_command command) (seen_reply result) self.new.table }
+        ensures passes { Adds self.old.standing (seen_command command) (seen_reply result)
+            self.new.standing }
+    {
+        match command {
+            Cmd::Slice(items) => self.slice(items),
+            Cmd::Clone { window } => self.clone_window(rt, window),
+            Cmd::Sub { window, start, end } => self.sub(rt, window, start, end),
+            Cmd::Uniq { window } => self.uniq(window),
+            Cmd::Show { window } => self.show(window),
+            Cmd::Drop { window } => self.release(window),
+        }
+    }
+
+    /// Each window stands on the block of its row. Does nothing: its contract is the law.
+    pub fn agree(&self)
+        ensures { Agrees self.now }
+    {
+        let _ = &self.slots;
+    }
+
+    /// Ends the table: every window that is left is released, in the order of their numbers, so
+    /// that each block is given back. Answers the passes of the blocks, none of which has a live
+    /// owner.
+    pub fn end(mut self) -> Passes<A>
+        ensures ended { IsKept MAX_OWNERS [] result.of_blocks.items }
+        ensures blocks { length result.of_blocks.items ≡ self.table.blocks }
+        ensures passes { EndsWith (setting_of L.STATIC L.clone_wants S.DROPS S.boundary) self
+            result.of_blocks.items }
+    {
+        self.release_all();
+        let Table {
+            slots,
+            passes,
+            alloc: _,
+        } = self;
+        end_slots(slots);
+        passes
+    }
+
+    /// Releases every window that is left, in the order of their numbers.
+    fn release_all(&mut self)
+        ensures passes { EndsAll (setting_of L.STATIC L.clone_wants S.DROPS S.boundary) self.old
+            self.new }
+        ensures blocks { self.new.table.blocks ≡ self.old.table.blocks }
+    {
+        for i in 0..self.slots.len() {
+            let _ = self.release(i);
+            self.agree();
+        }
+    }
+
+    /// A window over a copy of the items.
+    fn slice(&mut self, items: Vec<S::Item, A>) -> Reply<Vec<S::Item, A>>
+        ensures rows { Step (setting_of L.STATIC L.clone_wants S.DROPS S.boundary) self.old.table
+            (command.Slice items.items) (seen_reply result) self.new.table }
+        ensures passes { Adds self.old.standing (command.Slice items.items) (seen_reply result)
+            self.new.standing }
+    {
+        if self.slots.reserve(1).is_err() || self.passes.of_blocks.reserve(1).is_err() {
+            return Reply::Alloc;
+        }
+        let mut pass = Pass::none();
+        let Ok(window) = ArcSlice::try_from_slice_as(self.alloc, &items, &mut pass) else {
+            return Reply::Alloc;
+        };
+        let number = self.slots.len();
+        if stands_on_nothing::<L>(items.len()) {
+            self.slots.push_reserved(Some(Slot {
+                window,
+                block: None,
+            }));
+            return Reply::New(number);
+        }
+        let block = Some(self.passes.of_blocks.len());
+        self.passes.of_blocks.push_reserved(pass);
+        self.slots.push_reserved(Some(Slot { window, block }));
+        Reply::New(number)
+    }
+
+    /// Another window with the same items at the same place. `NoWindow` where the window isn't
+    /// there, `Owner` where its block has as many owners as it can have. Takes memory for the new
+    /// slot; refused, the answer is `Alloc`.
+    fn clone_window(&mut self, rt: &impl Wait, i: usize) -> Reply<Vec<S::Item, A>>
+        ensures rows { Step (setting_of L.STATIC L.clone_wants S.DROPS S.boundary) self.old.table
+            (command.Clone i) (seen_reply result) self.new.table }
+        ensures passes { Adds self.old.standing (command.Clone i) (seen_reply result)
+            self.new.standing }
+    {
+        let Some(_) = slot_at(&self.slots, i) else {
+            return Reply::NoWindow;
+        };
+        if self.slots.reserve(1).is_err() {
+            return Reply::Alloc;
+        }
+        let Some(slot) = slot_at(&self.slots, i) else {
+            unreachable!()
+        };
+        match slot.try_clone(rt, &mut self.passes) {
+            Ok(slot) => {
+                let number = self.slots.len();
+                self.slots.push_reserved(Some(slot));
+                Reply::New(number)
+            }
+            Err(e) => Reply::Owner(e),
+        }
+    }
+
+    /// A window over the part from `start` to `end` of another.
+    fn sub(
+        &mut self,
+        rt: &impl Wait,
+        i: usize,
+        start: usize,
+        end: usize,
+    ) -> Reply<Vec<S::Item, A>>
+        ensures rows { Step (setting_of L.STATIC L.clone_wants S.DROPS S.boundary) self.old.table
+            (command.Sub i start end) (seen_reply result) self.new.table }
+        ensures passes { Adds self.old.standing (command.Sub i start end) (seen_reply result)
+            self.new.standing }
+    {
+        let Some(slot) = slot_at(&self.slots, i) else {
+            return Reply::NoWindow;
+        };
+        if let Err(e) = slot.check_range(start, end) {
+            return Reply::Range(e);
+        }
+        if self.slots.reserve(1).is_err() {
+            return Reply::Alloc;
+        }
+        let Some(slot) = slot_at(&self.slots, i) else {
+            unreachable!()
+        };
+        match slot.try_subslice(rt, start, end, &mut self.passes) {
+            Ok(slot) => {
+                let number = self.slots.len();
+                self.slots.push_reserved(Some(slot));
+                Reply::New(number)
+            }
+            Err(e) => Reply::Owner(e),
+        }
+    }
+
+    /// Whether a window is the only owner of its block. `No` where it stands on no block.
+    fn uniq(&mut self, i: usize) -> Reply<Vec<S::Item, A>>
+        ensures rows { Step (setting_of L.STATIC L.clone_wants S.DROPS S.boundary) self.old.table
+            (command.Uniq i) (seen_reply result) self.new.table }
+        ensures passes { Adds self.old.standing (command.Uniq i) (seen_reply result)
+            self.new.standing }
+    {
+        let Some(slot) = slot_at(&self.slots, i) else {
+            return Reply::NoWindow;
+        };
+        let alone = slot.is_unique(&mut self.passes);
+        if alone {
+            return Reply::Yes;
+        }
+        Reply::No
+    }
+
+    /// The items of a window.
+    fn show(&self, i: usize) -> Reply<Vec<S::Item, A>>
+        ensures rows { Step (setting_of L.STATIC L.clone_wants S.DROPS S.boundary) self.now.table
+            (command.Show i) (seen_reply result) self.now.table }
+        ensures passes { Adds self.now.standing (command.Show i) (seen_reply result)
+            self.now.standing }
+    {
+        let Some(slot) = slot_at(&self.slots, i) else {
+            return Reply::NoWindow;
+        };
+        match Vec::from_slice(self.alloc, slot.as_slice()) {
+            Ok(items) => Reply::Items(items),
+            Err(_) => Reply::Alloc,
+        }
+    }
+
+    /// The end of a window.
+    fn release(&mut self, i: usize) -> Reply<Vec<S::Item, A>>
+        ensures rows { Step (setting_of L.STATIC L.clone_wants S.DROPS S.boundary) self.old.table
+            (command.Drop i) (seen_reply result) self.new.table }
+        ensures passes { Adds self.old.standing (command.Drop i) (seen_reply result)
+            self.new.standing }
+        ensures gone { self.new.table.rows ≡ slice_set self.old.table.rows i None }
+        ensures blocks { self.new.table.blocks ≡ self.old.table.blocks }
+    {
+        let Some(_) = slot_at(&self.slots, i) else {
+            return Reply::NoWindow;
+        };
+        let Some(slot) = mem::replace(&mut self.slots[i], None) else {
+            unreachable!()
+        };
+        slot.release(&mut self.passes);
+        Reply::Ok
+    }
+}

@@ -1,6 +1,0 @@
--- A pass that is set back stands where it was taken out.
-use Rattle.arcs.proofs.Kept.{lent}
-use Rattle.arcs.proofs.passes.Passes.lend.Goals as goal
-
-pub returns-in-Some : goal.returns-in-Some
-returns-in-Some g c = lent c.args.self.now.of_blocks.items c.args.block c.in-Some.number c.replace.result c.replace.new.dest c.index_mut.result.now c.requires c.in-Some.is c.index_mut.ensures.value c.replace.ensures.value
