@@ -1,4 +1,5 @@
 pub mod Runs
+pub mod Answers
 mod Lists
 mod Taken
 mod Slots

@@ -7,8 +7,8 @@ use Rattle.std.proofs.lemmas.Bool.{cases_Bool, leb-true, le-leb, cond-false, con
 use Rattle.std.proofs.lemmas.List.Splits.{join_with_byte-slice_split}
 use Rattle.std.proofs.lemmas.Option.{none-some, same_Some}
 use Rattle.std.proofs.lemmas.Slice.Eq.{bytes_eq-Decides}
-use Rattle.arcs.specs.declared.command.Command.{Command}
-use Rattle.arcs.specs.declared.command.Command.TheVariants.{Slice, Clone, Sub, Uniq, Show, Drop}
+use Rattle.arc_table.specs.declared.command.Cmd.{Cmd}
+use Rattle.arc_table.specs.declared.command.Cmd.TheVariants.{Slice, Clone, Sub, Uniq, Show, Drop}
 use Rattle.arcs.specs.Text.{space, longest_line, items_word, words_of, IsWritable, IsShort, Says}
 use Rattle.arcs.specs.Script.{IsBad}
 use Rattle.arcs.specs.Reading.{◌>>=◌, words_of_line, number_of, items_of, first_by, only, slice_of, clone_of, sub_of, uniq_of, show_of, drop_of, command_of}
@@ -46,25 +46,25 @@ took_all (word ∷ words) x c e = absurd (none-some c e)
 -- ---- the forms
 
 -- these words say the command
-pub record SaidBy (words : List (List ℕ)) (c : Command (List ℕ)) : Type 0 where
+pub record SaidBy (words : List (List ℕ)) (c : Cmd (List ℕ)) : Type 0 where
   pub writable : IsWritable c
   pub are : words ≡ words_of c
 
-slice_said : (words : List (List ℕ)) (c : Command (List ℕ)) → slice_of words ≡ Some c → SaidBy (codes "slice" ∷ words) c
+slice_said : (words : List (List ℕ)) (c : Cmd (List ℕ)) → slice_of words ≡ Some c → SaidBy (codes "slice" ∷ words) c
 unfolding slice_of
 slice_said words c e =
     let items = took_items words (λ x. only x.1 (Slice x.0)) c e in
     let end = took_all items.rest (Slice items.value) c items.goes in
     subst (SaidBy (codes "slice" ∷ words)) end.1 (record { writable = items_are_bytes items.value items.fits; are = cc })
 
-clone_said : (words : List (List ℕ)) (c : Command (List ℕ)) → clone_of words ≡ Some c → SaidBy (codes "clone" ∷ words) c
+clone_said : (words : List (List ℕ)) (c : Cmd (List ℕ)) → clone_of words ≡ Some c → SaidBy (codes "clone" ∷ words) c
 unfolding clone_of
 clone_said words c e =
     let i = took_number words (λ x. only x.1 (Clone x.0)) c e in
     let all = took_all i.rest (Clone i.value) c i.goes in
     subst (SaidBy (codes "clone" ∷ words)) all.1 (record { writable = i.fits; are = cc })
 
-sub_said : (words : List (List ℕ)) (c : Command (List ℕ)) → sub_of words ≡ Some c → SaidBy (codes "sub" ∷ words) c
+sub_said : (words : List (List ℕ)) (c : Cmd (List ℕ)) → sub_of words ≡ Some c → SaidBy (codes "sub" ∷ words) c
 unfolding sub_of
 sub_said words c e =
     let i = took_number words (λ x. first_by number_of x.1 >>= λ y. first_by number_of y.1 >>= λ z. only z.1 (Sub x.0 y.0 z.0)) c e in
@@ -73,21 +73,21 @@ sub_said words c e =
     let all = took_all end.rest (Sub i.value start.value end.value) c end.goes in
     subst (SaidBy (codes "sub" ∷ words)) {x = Sub i.value start.value end.value} all.1 (record { writable = (i.fits, start.fits, end.fits); are = cc })
 
-uniq_said : (words : List (List ℕ)) (c : Command (List ℕ)) → uniq_of words ≡ Some c → SaidBy (codes "uniq" ∷ words) c
+uniq_said : (words : List (List ℕ)) (c : Cmd (List ℕ)) → uniq_of words ≡ Some c → SaidBy (codes "uniq" ∷ words) c
 unfolding uniq_of
 uniq_said words c e =
     let i = took_number words (λ x. only x.1 (Uniq x.0)) c e in
     let all = took_all i.rest (Uniq i.value) c i.goes in
     subst (SaidBy (codes "uniq" ∷ words)) all.1 (record { writable = i.fits; are = cc })
 
-show_said : (words : List (List ℕ)) (c : Command (List ℕ)) → show_of words ≡ Some c → SaidBy (codes "show" ∷ words) c
+show_said : (words : List (List ℕ)) (c : Cmd (List ℕ)) → show_of words ≡ Some c → SaidBy (codes "show" ∷ words) c
 unfolding show_of
 show_said words c e =
     let i = took_number words (λ x. only x.1 (Show x.0)) c e in
     let all = took_all i.rest (Show i.value) c i.goes in
     subst (SaidBy (codes "show" ∷ words)) all.1 (record { writable = i.fits; are = cc })
 
-drop_said : (words : List (List ℕ)) (c : Command (List ℕ)) → drop_of words ≡ Some c → SaidBy (codes "drop" ∷ words) c
+drop_said : (words : List (List ℕ)) (c : Cmd (List ℕ)) → drop_of words ≡ Some c → SaidBy (codes "drop" ∷ words) c
 unfolding drop_of
 drop_said words c e =
     let i = took_number words (λ x. only x.1 (Drop x.0)) c e in
@@ -95,7 +95,7 @@ drop_said words c e =
     subst (SaidBy (codes "drop" ∷ words)) all.1 (record { writable = i.fits; are = cc })
 
 -- Behind a first word: a form, if that word is the form's, and else what the other forms say.
-form_or : (name verb : List ℕ) (words : List (List ℕ)) (form other : Option (Command (List ℕ))) (c : Command (List ℕ))
+form_or : (name verb : List ℕ) (words : List (List ℕ)) (form other : Option (Cmd (List ℕ))) (c : Cmd (List ℕ))
     → (form ≡ Some c → SaidBy (name ∷ words) c) → (other ≡ Some c → SaidBy (verb ∷ words) c) → cond (bytes_eq verb name) form other ≡ Some c → SaidBy (verb ∷ words) c
 form_or name verb words form other c one others e =
     elim (cases_Bool (bytes_eq verb name)) [
@@ -104,7 +104,7 @@ form_or name verb words form other c one others e =
     ]
 
 -- words that are read as a command say it
-pub command_said : (words : List (List ℕ)) (c : Command (List ℕ)) → command_of words ≡ Some c → SaidBy words c
+pub command_said : (words : List (List ℕ)) (c : Cmd (List ℕ)) → command_of words ≡ Some c → SaidBy words c
 unfolding command_of
 command_said [] c e = absurd (none-some c e)
 command_said (verb ∷ words) c e =
@@ -117,7 +117,7 @@ command_said (verb ∷ words) c e =
     (λ none. absurd (none-some c none))))))) e
 
 -- a command that can be written is read from its words again
-pub command_again : (c : Command (List ℕ)) → IsWritable c → command_of (words_of c) ≡ Some c
+pub command_again : (c : Cmd (List ℕ)) → IsWritable c → command_of (words_of c) ≡ Some c
 unfolding command_of slice_of clone_of sub_of uniq_of show_of drop_of
 command_again (Slice items) writable = rw (items_again items (items_fit items writable)) refl
 command_again (Clone i) writable = rw (number_again i writable) refl
@@ -129,7 +129,7 @@ command_again (Drop i) writable = rw (number_again i writable) refl
 -- ---- lines
 
 -- the words of a command part at the spaces
-words_apart : (c : Command (List ℕ)) → IsWritable c → words_of_line (join_with_byte space (words_of c)) ≡ words_of c
+words_apart : (c : Cmd (List ℕ)) → IsWritable c → words_of_line (join_with_byte space (words_of c)) ≡ words_of c
 words_apart (Slice items) writable = words-join _ _ (no_space_text (codes "slice") refl, (no_space_items items (items_fit items writable), tt))
 words_apart (Clone i) writable = words-join _ _ (no_space_text (codes "clone") refl, (no_space_number i writable, tt))
 words_apart (Sub i start end) writable = words-join _ _ (no_space_text (codes "sub") refl, (no_space_number i writable.0, (no_space_number start writable.1, (no_space_number end writable.2, tt))))
@@ -137,12 +137,12 @@ words_apart (Uniq i) writable = words-join _ _ (no_space_text (codes "uniq") ref
 words_apart (Show i) writable = words-join _ _ (no_space_text (codes "show") refl, (no_space_number i writable, tt))
 words_apart (Drop i) writable = words-join _ _ (no_space_text (codes "drop") refl, (no_space_number i writable, tt))
 
-pub line_says : (line : List ℕ) (c : Command (List ℕ)) → length line ≤ longest_line → command_of (words_of_line line) ≡ Some c → Says line c
+pub line_says : (line : List ℕ) (c : Cmd (List ℕ)) → length line ≤ longest_line → command_of (words_of_line line) ≡ Some c → Says line c
 line_says line c fits e =
     let said = command_said (words_of_line line) c e in
     record { fits = fits; writable = said.writable; words = sym (join_with_byte-slice_split space line) ∙ ap (join_with_byte space) said.are }
 
-pub says_read : (line : List ℕ) (c : Command (List ℕ)) → Says line c → command_of (words_of_line line) ≡ Some c
+pub says_read : (line : List ℕ) (c : Cmd (List ℕ)) → Says line c → command_of (words_of_line line) ≡ Some c
 says_read line c says = rw (says.words, words_apart c says.writable) (command_again c says.writable)
 
 pub unread_is_bad : (line : List ℕ) → command_of (words_of_line line) ≡ None → IsBad line
@@ -153,10 +153,10 @@ cond_option true o x e = (refl, e)
 cond_option false o x e = absurd (none-some x e)
 
 -- what a line says, if it says a command
-abbrev pub reading : List ℕ → Option (Command (List ℕ))
+abbrev pub reading : List ℕ → Option (Cmd (List ℕ))
 reading line = cond (leb (length line) longest_line) (command_of (words_of_line line)) None
 
-pub reading_says : (line : List ℕ) (c : Command (List ℕ)) → reading line ≡ Some c → Says line c
+pub reading_says : (line : List ℕ) (c : Cmd (List ℕ)) → reading line ≡ Some c → Says line c
 reading_says line c e =
     let found = cond_option (leb (length line) longest_line) (command_of (words_of_line line)) c e in
     line_says line c (leb-true _ _ found.0) found.1
@@ -165,15 +165,15 @@ pub unread_is_none : (line : List ℕ) → reading line ≡ None → IsBad line
 unread_is_none line none c says = none-some c (sym none ∙ rw (le-leb _ _ says.fits) (says_read line c says))
 
 -- each line says a command, or is bad
-pub says_or_bad : (line : List ℕ) → ((c : Command (List ℕ)) × Says line c) ⊎ IsBad line
+pub says_or_bad : (line : List ℕ) → ((c : Cmd (List ℕ)) × Says line c) ⊎ IsBad line
 says_or_bad line = at (reading line) refl
   where
-    at : (o : Option (Command (List ℕ))) → reading line ≡ o → ((c : Command (List ℕ)) × Says line c) ⊎ IsBad line
+    at : (o : Option (Cmd (List ℕ))) → reading line ≡ o → ((c : Cmd (List ℕ)) × Says line c) ⊎ IsBad line
     at None seen = inr (unread_is_none line seen)
     at (Some c) seen = inl (c, reading_says line c seen)
 
 -- no line says two
-pub says_one : (line : List ℕ) (c d : Command (List ℕ)) → Says line c → Says line d → c ≡ d
+pub says_one : (line : List ℕ) (c d : Cmd (List ℕ)) → Says line c → Says line d → c ≡ d
 says_one line c d one other = same_Some c d (sym (says_read line c one) ∙ says_read line d other)
 
 some_and : {X : Type 0} (P : X → Type 0) (o : Option X) → IsSomeAnd o P → (x : X) × (o ≡ Some x) × P x
@@ -181,5 +181,5 @@ some_and P None found = absurd found
 some_and P (Some x) found = (x, refl, found)
 
 -- the same, of what a command has beside
-pub line_says_and : (P : Command (List ℕ) → Type 0) (line : List ℕ) → length line ≤ longest_line → IsSomeAnd (command_of (words_of_line line)) P → (c : Command (List ℕ)) × Says line c × P c
+pub line_says_and : (P : Cmd (List ℕ) → Type 0) (line : List ℕ) → length line ≤ longest_line → IsSomeAnd (command_of (words_of_line line)) P → (c : Cmd (List ℕ)) × Says line c × P c
 line_says_and P line fits found = let read = some_and P (command_of (words_of_line line)) found in (read.0, line_says line read.0 fits read.1, read.2)

@@ -2,11 +2,11 @@
 use Rattle.std.proofs.Common.{◌≡◌, ℕ, Bool, false, List, [], ◌∷◌, ◌++◌, Result, Ok, Err, OnErr}
 use Rattle.std.proofs.Common.{OnOk, IfErr, refl, sym, ap, ◌∙◌, subst, append_assoc, arith}
 use Rattle.std.proofs.lemmas.List.{append-nil}
-use Rattle.arcs.specs.State.{State, empty_state}
+use Rattle.arc_table.specs.State.{empty_state}
+use Rattle.arcs.specs.State.{ByteState}
 use Rattle.arcs.specs.Text.{line_feed}
 use Rattle.arcs.specs.Script.{HasNoFeed}
 use Rattle.arcs.specs.Traffic.{Traffic, Exchanges, NoFault, TakesFront}
-use Rattle.arcs.specs.Rows.{state_of}
 use Rattle.arcs.specs.Underway.{Holds, Ends, MayEnd, IsUnderway, IsAnswered, IsBegun}
 use Rattle.arcs.specs.Underway.{IsThrough, IsBrokenOff}
 use Rattle.arcs.specs.Engine.{HasRead, IsRunning, Reads, Stops}
@@ -29,28 +29,28 @@ on_ok (Err e) p = tt
 module _ {A : Type 0} where
   -- the same windows, out, line and flag make the same state
   pub same_state : (start input : List ℕ) (w : Traffic) (e : Engine A) (out held : List ℕ)
-      (state : State) (too_long : Bool) → e.out.items ≡ out → state_of e.windows ≡ state
+      (state : ByteState) (too_long : Bool) → e.out.items ≡ out → e.table ≡ state
       → e.line.items ≡ held → e.too_long ≡ too_long
       → IsUnderway start input w out state held too_long → HasRead start input w e
   same_state start input w e out held state too_long same_out same_windows same_line same_flag u =
       subst
-      (λ f. IsUnderway start input w e.out.items (state_of e.windows) e.line.items f)
+      (λ f. IsUnderway start input w e.out.items e.table e.line.items f)
       (sym same_flag)
-      (subst (λ l. IsUnderway start input w e.out.items (state_of e.windows) l too_long)
+      (subst (λ l. IsUnderway start input w e.out.items e.table l too_long)
       (sym same_line)
       (subst (λ s. IsUnderway start input w e.out.items s held too_long) (sym same_windows)
       (subst (λ o. IsUnderway start input w o state held too_long) (sym same_out) u)))
 
   -- it stops before it has written more
   pub stops_now : (bytes : List ℕ) (w : Traffic) (e e1 : Engine A)
-      → state_of e1.windows ≡ state_of e.windows → Stops bytes w w e e1
+      → e1.table ≡ e.table → Stops bytes w w e e1
   stops_now bytes w e e1 same start input more read =
       subst (IsBegun start (input ++ (bytes ++ more)) w) (sym same)
       (still_begun read (bytes ++ more))
 
   -- it stops while its replies go out
   pub stops_out : (bytes : List ℕ) (w w' : Traffic) (e e1 : Engine A)
-      → TakesFront e.out.items w w' → state_of e1.windows ≡ state_of e.windows
+      → TakesFront e.out.items w w' → e1.table ≡ e.table
       → Stops bytes w w' e e1
   stops_out bytes w w' e e1 front same start input more read =
       subst (IsBegun start (input ++ (bytes ++ more)) w') (sym same)
@@ -58,17 +58,17 @@ module _ {A : Type 0} where
 
   -- it stops at a line feed
   pub stops_at_line : (w : Traffic) (e e1 : Engine A)
-      → MayEnd e.line.items e.too_long (state_of e.windows) (state_of e1.windows)
+      → MayEnd e.line.items e.too_long e.table e1.table
       → Stops (line_feed ∷ []) w w e e1
   stops_at_line w e e1 may start input more read =
-      line_broken read (state_of e1.windows) more may
+      line_broken read e1.table more may
 
   -- it has read some bytes, and stops within others
   pub stops_later : (piece front rest : List ℕ) (w w1 w2 : Traffic) (e e1 e2 : Engine A)
       → piece ≡ front ++ rest → Reads front w w1 e e1 → Stops rest w1 w2 e1 e2
       → Stops piece w w2 e e2
   stops_later piece front rest w w1 w2 e e1 e2 parts reads stops start input more read =
-      subst (λ xs. IsBegun start xs w2 (state_of e2.windows))
+      subst (λ xs. IsBegun start xs w2 e2.table)
       (append_assoc input front (rest ++ more) ∙ ap (λ xs. input ++ xs)
       (sym (append_assoc front rest more) ∙ ap (λ xs. xs ++ more) (sym parts)))
       (stops start (input ++ front) more (reads start input read))
@@ -77,7 +77,7 @@ module _ {A : Type 0} where
   pub stops_longer : (piece front rest : List ℕ) (w w' : Traffic) (e e1 : Engine A)
       → piece ≡ front ++ rest → Stops front w w' e e1 → Stops piece w w' e e1
   stops_longer piece front rest w w' e e1 parts stops start input more read =
-      subst (λ xs. IsBegun start (input ++ xs) w' (state_of e1.windows))
+      subst (λ xs. IsBegun start (input ++ xs) w' e1.table)
       (sym (append_assoc front rest more) ∙ ap (λ xs. xs ++ more) (sym parts))
       (stops start input (rest ++ more) read)
 
@@ -97,7 +97,7 @@ module _ {A : Type 0} where
   pub reads_held : (w : Traffic) (e e1 : Engine A) (bytes : List ℕ) → HasNoFeed bytes
       → ((line : List ℕ) → Holds e.line.items e.too_long line
       → Holds e1.line.items e1.too_long (line ++ bytes))
-      → state_of e1.windows ≡ state_of e.windows → e1.out.items ≡ e.out.items
+      → e1.table ≡ e.table → e1.out.items ≡ e.out.items
       → Reads bytes w w e e1
   reads_held w e e1 bytes plain holds same_windows same_out start input read =
       same_state start (input ++ bytes) w e1 _ _ _ _ same_out same_windows refl refl
@@ -105,17 +105,17 @@ module _ {A : Type 0} where
 
   -- it answers the line
   pub reads_feed : (w : Traffic) (e e1 : Engine A)
-      → Ends e.line.items e.too_long (state_of e.windows) (state_of e1.windows) e.out.items
+      → Ends e.line.items e.too_long e.table e1.table e.out.items
       e1.out.items
       → (e1.line.items ≡ []) × (e1.too_long ≡ false) → Reads (line_feed ∷ []) w w e e1
   reads_feed w e e1 ends empty start input read =
       same_state start (input ++ line_feed ∷ []) w e1 _ _ _ _ refl refl empty.0 empty.1
-      (line_ended read (state_of e1.windows) e1.out.items ends)
+      (line_ended read e1.table e1.out.items ends)
 
   -- its replies have gone out
   pub reads_out : (w w' : Traffic) (e e1 : Engine A)
       → (w'.bytes ≡ w.bytes ++ e.out.items) × (e1.out.items ≡ [])
-      → state_of e1.windows ≡ state_of e.windows
+      → e1.table ≡ e.table
       → (e1.line.items ≡ e.line.items) × (e1.too_long ≡ e.too_long) → Reads [] w w' e e1
   reads_out w w' e e1 out same_windows same_line start input read =
       subst (λ xs. HasRead start xs w' e1) (sym (append-nil input))
@@ -124,7 +124,7 @@ module _ {A : Type 0} where
 
   -- it holds the end of a line, and answers it
   pub reads_line : (w : Traffic) (e e1 e2 : Engine A) (bytes : List ℕ) → Reads bytes w w e e1
-      → Ends e1.line.items e1.too_long (state_of e1.windows) (state_of e2.windows) e1.out.items
+      → Ends e1.line.items e1.too_long e1.table e2.table e1.out.items
       e2.out.items
       → (e2.line.items ≡ []) × (e2.too_long ≡ false)
       → Reads (bytes ++ line_feed ∷ []) w w e e2
@@ -134,7 +134,7 @@ module _ {A : Type 0} where
   -- and then its replies go out, or a front of them
   pub reads_and_out : (bytes : List ℕ) (w w1 w' : Traffic) (e e1 e2 : Engine A)
       → Reads bytes w w1 e e1 → (w'.bytes ≡ w1.bytes ++ e1.out.items) × (e2.out.items ≡ [])
-      → state_of e2.windows ≡ state_of e1.windows
+      → e2.table ≡ e1.table
       → (e2.line.items ≡ e1.line.items) × (e2.too_long ≡ e1.too_long) → Reads bytes w w' e e2
   reads_and_out bytes w w1 w' e e1 e2 reads out same_windows same_line =
       subst (λ xs. Reads xs w w' e e2) (append-nil bytes)
@@ -142,16 +142,16 @@ module _ {A : Type 0} where
 
   pub reads_then_stops : (bytes : List ℕ) (w w1 w' : Traffic) (e e1 e2 : Engine A)
       → Reads bytes w w1 e e1 → TakesFront e1.out.items w1 w'
-      → state_of e2.windows ≡ state_of e1.windows → Stops bytes w w' e e2
+      → e2.table ≡ e1.table → Stops bytes w w' e e2
   reads_then_stops bytes w w1 w' e e1 e2 reads front same =
       stops_later bytes bytes [] w w1 w' e e1 e2 (sym (append-nil bytes)) reads
       (stops_out [] w1 w' e1 e2 front same)
 
   -- it stops at the end, before it has written more
   pub begun_at_end : (w : Traffic) (e : Engine A) (start input : List ℕ) → HasRead start input w e
-      → IsBegun start input w (state_of e.windows)
+      → IsBegun start input w e.table
   begun_at_end w e start input read =
-      subst (λ xs. IsBegun start xs w (state_of e.windows)) (append-nil input)
+      subst (λ xs. IsBegun start xs w e.table) (append-nil input)
       (still_begun read [])
 
   -- it has read a piece in two parts
@@ -174,7 +174,7 @@ more_parts piece front rest line behind parts cut =
     ∙ sym (append_assoc front (line ++ line_feed ∷ []) behind)
 
 -- what was read and what was written go together
-pub exchange_begun : (r r' w w' : Traffic) (state : State) (input : List ℕ)
+pub exchange_begun : (r r' w w' : Traffic) (state : ByteState) (input : List ℕ)
     → r'.bytes ≡ r.bytes ++ input → IsBegun w.bytes input w' state
     → Exchanges (IsBrokenOff state) r r' w w'
 exchange_begun r r' w w' state input given b =
@@ -183,19 +183,19 @@ exchange_begun r r' w w' state input given b =
 module _ {A : Type 0} where
   -- a run that stops without reading more
   pub run_stops_now : (r r1 r2 w w1 : Traffic) (e : Engine A) → IsRunning r r1 w w1 e
-      → r2.bytes ≡ r1.bytes → Exchanges (IsBrokenOff (state_of e.windows)) r r2 w w1
+      → r2.bytes ≡ r1.bytes → Exchanges (IsBrokenOff e.table) r r2 w w1
   run_stops_now r r1 r2 w w1 e run same =
-      exchange_begun r r2 w w1 (state_of e.windows) run.input (same ∙ run.given)
+      exchange_begun r r2 w w1 e.table run.input (same ∙ run.given)
       (begun_at_end w1 e w.bytes run.input run.read)
 
   -- a run that stops within the bytes that it has read
   pub run_stops : (r r1 r2 w w1 w2 : Traffic) (e e1 : Engine A) (bytes : List ℕ)
       → IsRunning r r1 w w1 e → r2.bytes ≡ r1.bytes ++ bytes → Stops bytes w1 w2 e e1
-      → Exchanges (IsBrokenOff (state_of e1.windows)) r r2 w w2
+      → Exchanges (IsBrokenOff e1.table) r r2 w w2
   run_stops r r1 r2 w w1 w2 e e1 bytes run more stops =
-      exchange_begun r r2 w w2 (state_of e1.windows) (run.input ++ bytes)
+      exchange_begun r r2 w w2 e1.table (run.input ++ bytes)
       (more ∙ ap (λ xs. xs ++ bytes) run.given ∙ append_assoc r.bytes run.input bytes)
-      (subst (λ xs. IsBegun w.bytes (run.input ++ xs) w2 (state_of e1.windows)) (append-nil bytes)
+      (subst (λ xs. IsBegun w.bytes (run.input ++ xs) w2 e1.table) (append-nil bytes)
       (stops w.bytes run.input [] run.read))
 
   -- a run that goes on
@@ -211,26 +211,26 @@ module _ {A : Type 0} where
   }
 
   -- a run begins with an engine that has read nothing
-  pub run_begins : (r w : Traffic) (e : Engine A) → state_of e.windows ≡ empty_state
+  pub run_begins : (r w : Traffic) (e : Engine A) → e.table ≡ empty_state
       → (e.line.items ≡ []) × (e.too_long ≡ false) → e.out.items ≡ [] → IsRunning r r w w e
   run_begins r w e none_made none_held none_out = record {
     input = [];
     given = sym (append-nil r.bytes);
     read =
-        same_state w.bytes [] w e [] [] (state_of e.windows) false none_out refl none_held.0
-        none_held.1 (nothing_read w (state_of e.windows) none_made);
+        same_state w.bytes [] w e [] [] e.table false none_out refl none_held.0
+        none_held.1 (nothing_read w e.table none_made);
     failures = refl;
     clean = (refl, refl);
   }
 
 -- nothing was read and nothing written
-pub nothing_exchanged : (r w : Traffic) (state : State) → state ≡ empty_state
+pub nothing_exchanged : (r w : Traffic) (state : ByteState) → state ≡ empty_state
     → Exchanges (IsBrokenOff state) r r w w
 nothing_exchanged r w state empty =
     exchange_begun r r w w state [] (sym (append-nil r.bytes)) (begun_nothing w state empty)
 
 -- a run that has answered all
-pub exchange_answered : (r r' w w' : Traffic) (state : State) (input : List ℕ)
+pub exchange_answered : (r r' w w' : Traffic) (state : ByteState) (input : List ℕ)
     → r'.bytes ≡ r.bytes ++ input → IsAnswered w.bytes input w' [] state
     → Exchanges (IsThrough state) r r' w w'
 exchange_answered r r' w w' state input given a =

@@ -9,71 +9,29 @@ use Rattle.std.proofs.lemmas.List.Concat.{flat_map-append}
 use Rattle.std.proofs.lemmas.List.Elements.{All-contains, recursion_from_All}
 use Rattle.arc_owners.specs.declared.error.RangeError.{RangeError}
 use Rattle.arc_block.specs.Table.{Row, Table, empty_table, row_at, is_alone}
-use Rattle.arcs.specs.declared.command.Command.{Command}
-use Rattle.arcs.specs.declared.command.Command.TheVariants.{Slice, Clone, Sub, Uniq, Show, Drop}
-use Rattle.arcs.specs.declared.command.Reply.{Reply}
-use Rattle.arcs.specs.declared.command.Reply.TheVariants as reply
-use Rattle.arcs.specs.RunOf.{RunOf}
-use Rattle.arcs.specs.Step.{Setting, Outcome, cut, in_range, answer, MayWant, Step}
+use Rattle.arc_table.specs.declared.command.Cmd.{Cmd}
+use Rattle.arc_table.specs.declared.command.Cmd.TheVariants.{Slice, Clone, Sub, Uniq, Show, Drop}
+use Rattle.arc_table.specs.declared.command.Reply.{Reply}
+use Rattle.arc_table.specs.declared.command.Reply.TheVariants as reply
+use Rattle.arc_table.specs.RunOf.{RunOf}
+use Rattle.arc_table.specs.Step.{Setting, answer, MayWant, Step}
 use Rattle.arc_buffer.specs.Slice.{range_answer}
 use Rattle.arcs.specs.Text.{line_feed, Says}
 use Rattle.arcs.specs.Script.{ended, HasNoFeed, AreLines, byte_setting, ByteTable, Answers, answer_text, BeginsReplyText}
 use Rattle.arcs.specs.Reading.{BringsItems}
 use Rattle.arcs.proofs.Forms.{reading, reading_says, unread_is_none}
-use Rattle.arcs.proofs.Runs.{run_append}
+use Rattle.arc_table.proofs.Answers.{answer_step}
+use Rattle.arc_table.proofs.Runs.{run_append}
 use Rattle.arcs.proofs.Words.{all_by}
-
--- ---- the answer is a step
-
--- neither memory nor a count was short
-abbrev IsPlain : {X : Type 0} → Reply X → Type 0
-IsPlain reply.Alloc = ⊥
-IsPlain (reply.Owner e) = ⊥
-IsPlain other = Unit {0}
-
-on_row_plain : {T M : Type 0} (t : Table T M) (found : Row T M → Outcome T M) (row : Option (Row T M)) → ((r : Row T M) → IsPlain (found r).0) → IsPlain (option_map_or found row (reply.NoWindow, t)).0
-on_row_plain t found None plain = tt
-on_row_plain t found (Some row) plain = plain row
-
-in_range_plain : {T M : Type 0} (t : Table T M) (r : Result (Unit {0}) RangeError) (outcome : Outcome T M) → IsPlain outcome.0 → IsPlain (in_range r t outcome).0
-in_range_plain t (Ok done) outcome plain = plain
-in_range_plain t (Err e) outcome plain = tt
-
-yes_or_no_plain : (X : Type 0) (yes : Bool) → IsPlain {X = X} (if yes then reply.Yes else reply.No)
-yes_or_no_plain X true = tt
-yes_or_no_plain X false = tt
-
-answer_plain : {T M : Type 0} (setting : Setting T) (t : Table T M) (c : Command (List T)) → IsPlain (answer setting t c).0
-answer_plain setting t (Slice items) = tt
-answer_plain setting t (Clone i) = on_row_plain t _ (row_at t i) (λ row. tt)
-answer_plain setting t (Sub i start end) = on_row_plain t _ (row_at t i) (λ row. in_range_plain t (range_answer setting.boundary row.items start end) (cut setting t row start end) tt)
-answer_plain setting t (Uniq i) = on_row_plain t _ (row_at t i) (λ row. yes_or_no_plain _ (is_alone t row.place))
-answer_plain setting t (Show i) = on_row_plain t _ (row_at t i) (λ row. tt)
-answer_plain setting t (Drop i) = on_row_plain t _ (row_at t i) (λ row. tt)
-
-plain_step : {T M : Type 0} (setting : Setting T) (old : Table T M) (c : Command (List T)) (r : Reply (List T)) (new : Table T M) → IsPlain r → answer setting old c ≡ (r, new) → Step setting old c r new
-plain_step setting old c (reply.New number) new plain e = e
-plain_step setting old c reply.Ok new plain e = e
-plain_step setting old c reply.Yes new plain e = e
-plain_step setting old c reply.No new plain e = e
-plain_step setting old c (reply.Items items) new plain e = e
-plain_step setting old c reply.NoWindow new plain e = e
-plain_step setting old c (reply.Range f) new plain e = e
-plain_step setting old c (reply.Owner f) new plain e = absurd plain
-plain_step setting old c reply.Alloc new plain e = absurd plain
-
--- what a command is answered where nothing is short is one of its steps
-pub answer_step : {T M : Type 0} (setting : Setting T) (old : Table T M) (c : Command (List T)) → Step setting old c (answer setting old c).0 (answer setting old c).1
-answer_step setting old c = plain_step setting old c _ _ (answer_plain setting old c) refl
 
 -- ---- each line, and each list of lines
 
 -- what a line is answered where nothing is short, by what it says
-abbrev pub answered : ByteTable → Option (Command (List ℕ)) → Option (Reply (List ℕ)) × ByteTable
+abbrev pub answered : ByteTable → Option (Cmd (List ℕ)) → Option (Reply (List ℕ)) × ByteTable
 answered old None = (None, old)
 answered old (Some c) = (Some (answer byte_setting old c).0, (answer byte_setting old c).1)
 
-answered_is : (old : ByteTable) (line : List ℕ) (said : Option (Command (List ℕ))) → reading line ≡ said → Answers old line (answered old said).0 (answered old said).1
+answered_is : (old : ByteTable) (line : List ℕ) (said : Option (Cmd (List ℕ))) → reading line ≡ said → Answers old line (answered old said).0 (answered old said).1
 answered_is old line None e = (unread_is_none line e, refl)
 answered_is old line (Some c) e = (c, reading_says line c e, answer_step byte_setting old c)
 
@@ -111,7 +69,7 @@ no_feeds lines pass = recursion_from_All HasNoFeed lines (all_by is_line HasNoFe
 
 -- ---- memory may be short for a command that brings items
 
-pub items_want : {M : Type 0} (setting : Setting ℕ) (old : Table ℕ M) (c : Command (List ℕ)) → BringsItems c → MayWant setting old c
+pub items_want : {M : Type 0} (setting : Setting ℕ) (old : Table ℕ M) (c : Cmd (List ℕ)) → BringsItems c → MayWant setting old c
 items_want setting old (Slice items) brings = tt
 items_want setting old (Clone i) brings = absurd brings
 items_want setting old (Sub i start end) brings = absurd brings
@@ -120,7 +78,7 @@ items_want setting old (Show i) brings = absurd brings
 items_want setting old (Drop i) brings = absurd brings
 
 -- then the line may be answered so, and nothing changes
-pub want_answers : (old : ByteTable) (line : List ℕ) → (c : Command (List ℕ)) × Says line c × BringsItems c → Answers old line (Some reply.Alloc) old
+pub want_answers : (old : ByteTable) (line : List ℕ) → (c : Cmd (List ℕ)) × Says line c × BringsItems c → Answers old line (Some reply.Alloc) old
 want_answers old line said = (said.0, said.1, (items_want byte_setting old said.0 said.2, refl))
 
 -- ---- a text that goes on

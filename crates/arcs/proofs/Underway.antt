@@ -5,15 +5,16 @@ use Rattle.std.proofs.lemmas.List.{map-append, append-nil}
 use Rattle.std.proofs.lemmas.Grind.{flat_map-append}
 use Rattle.std.specs.List.{AllByRecursion}
 use Rattle.arc_block.specs.Table.{empty_table}
-use Rattle.arcs.specs.RunOf.{RunOf}
-use Rattle.arcs.specs.State.{State, empty_state, AnswersLine}
+use Rattle.arc_table.specs.RunOf.{RunOf}
+use Rattle.arc_table.specs.State.{empty_state}
+use Rattle.arcs.specs.State.{AnswersLine, ByteState}
 use Rattle.arcs.specs.Text.{line_feed}
 use Rattle.arcs.specs.Script.{HasNoFeed, AreLines, ended, last_line, answer_text, IsReplyText}
 use Rattle.arcs.specs.Traffic.{Traffic, TakesFront}
 use Rattle.arcs.specs.Underway.{AnswersHeld, Holds, IsUnderway, IsAnswered}
 use Rattle.arcs.specs.Underway.{IsBegun, Ends, MayEnd}
-use Rattle.arcs.specs.declared.command.Reply.{Reply}
-use Rattle.arcs.proofs.Runs.{run_push}
+use Rattle.arc_table.specs.declared.command.Reply.{Reply}
+use Rattle.arc_table.proofs.Runs.{run_push}
 use Rattle.arcs.proofs.Lines.{run_exists}
 use Rattle.arcs.proofs.Splits.{split_exists, empty_has_no_feed, no_feed-append, all-append}
 
@@ -65,7 +66,7 @@ held_is_line held [] true some holds = absurd (omega arith)
 held_is_line held (byte ∷ bytes) too_long some holds = refl
 
 -- before the first byte
-pub nothing_read : (writer : Traffic) (state : State) → state ≡ empty_state
+pub nothing_read : (writer : Traffic) (state : ByteState) → state ≡ empty_state
     → IsUnderway writer.bytes [] writer [] state [] false
 nothing_read writer state empty = record {
   text = [];
@@ -81,7 +82,7 @@ nothing_read writer state empty = record {
   written = refl;
 }
 
-module _ {start input out held : List ℕ} {writer : Traffic} {state : State} {too_long : Bool}
+module _ {start input out held : List ℕ} {writer : Traffic} {state : ByteState} {too_long : Bool}
     (u : IsUnderway start input writer out state held too_long) where
   -- more of a line has come
   pub more_held : (held' : List ℕ) (too_long' : Bool) (bytes : List ℕ) → HasNoFeed bytes
@@ -119,7 +120,7 @@ module _ {start input out held : List ℕ} {writer : Traffic} {state : State} {t
       ∙ ap (λ xs. xs ++ (answer_text answer ++ line_feed ∷ [])) u.written
       ∙ sym (texts-push u.replies answer)
 
-  run_on : (answer : Option (Reply (List ℕ))) (state' : State)
+  run_on : (answer : Option (Reply (List ℕ))) (state' : ByteState)
       → AnswersHeld held too_long state answer state'
       → RunOf AnswersLine empty_state (u.whole ++ u.line ∷ []) (u.replies ++ answer ∷ []) state'
   run_on answer state' answered =
@@ -127,7 +128,7 @@ module _ {start input out held : List ℕ} {writer : Traffic} {state : State} {t
       (answered u.line u.holds)
 
   -- the line has ended, and is answered
-  pub line_ended : (state' : State) (out' : List ℕ) → Ends held too_long state state' out out'
+  pub line_ended : (state' : ByteState) (out' : List ℕ) → Ends held too_long state state' out out'
       → IsUnderway start (input ++ line_feed ∷ []) writer out' state' [] false
   line_ended state' out' ends = record {
     text = u.text;
@@ -192,7 +193,7 @@ module _ {start input out held : List ℕ} {writer : Traffic} {state : State} {t
       (record { sent = []; rest = out; parts = refl; taken = sym (append-nil writer.bytes) })
 
   -- so also where a line feed has come, and the line isn't answered, or not in out
-  pub line_broken : (state' : State) (more : List ℕ) → MayEnd held too_long state state'
+  pub line_broken : (state' : ByteState) (more : List ℕ) → MayEnd held too_long state state'
       → IsBegun start (input ++ (line_feed ∷ [] ++ more)) writer state'
   line_broken state' more (inl same) =
       subst (IsBegun start (input ++ (line_feed ∷ [] ++ more)) writer) (sym same)
@@ -235,7 +236,7 @@ module _ {start input out held : List ℕ} {writer : Traffic} {state : State} {t
     }
 
     -- it is answered
-    pub last_answered : (state' : State) (out' : List ℕ) → Ends held too_long state state' out out'
+    pub last_answered : (state' : ByteState) (out' : List ℕ) → Ends held too_long state state' out out'
         → IsAnswered start input writer out' state'
     last_answered state' out' ends = record {
       text = u.text;
@@ -250,7 +251,7 @@ module _ {start input out held : List ℕ} {writer : Traffic} {state : State} {t
     }
 
     -- or not, or not in out
-    pub last_broken : (state' : State) → MayEnd held too_long state state'
+    pub last_broken : (state' : ByteState) → MayEnd held too_long state state'
         → IsBegun start input writer state'
     last_broken state' (inl same) =
         subst (IsBegun start input writer) (sym same)
@@ -272,7 +273,7 @@ module _ {start input out held : List ℕ} {writer : Traffic} {state : State} {t
     }
 
 -- at the end of the input nothing is left of a line
-pub all_answered : {start input out : List ℕ} {writer : Traffic} {state : State}
+pub all_answered : {start input out : List ℕ} {writer : Traffic} {state : ByteState}
     → IsUnderway start input writer out state [] false → IsAnswered start input writer out state
 all_answered u = record {
   text = u.text;
@@ -294,7 +295,7 @@ all_answered u = record {
 }
 
 -- the last replies go out, or a front of them
-pub all_out : {start input out : List ℕ} {writer : Traffic} {state : State} (writer' : Traffic)
+pub all_out : {start input out : List ℕ} {writer : Traffic} {state : ByteState} (writer' : Traffic)
     → IsAnswered start input writer out state → writer'.bytes ≡ writer.bytes ++ out
     → IsAnswered start input writer' [] state
 all_out {start} {input} {out} writer' a taken = record {
@@ -309,7 +310,7 @@ all_out {start} {input} {out} writer' a taken = record {
   };
 }
 
-pub end_begun : {start input out : List ℕ} {writer : Traffic} {state : State} (writer' : Traffic)
+pub end_begun : {start input out : List ℕ} {writer : Traffic} {state : ByteState} (writer' : Traffic)
     → IsAnswered start input writer out state → TakesFront out writer writer'
     → IsBegun start input writer' state
 end_begun {start} {input} {out} writer' a front = record {
@@ -332,7 +333,7 @@ end_begun {start} {input} {out} writer' a front = record {
 }
 
 -- of nothing that was read nothing was written
-pub begun_nothing : (writer : Traffic) (state : State) → state ≡ empty_state
+pub begun_nothing : (writer : Traffic) (state : ByteState) → state ≡ empty_state
     → IsBegun writer.bytes [] writer state
 begun_nothing writer state empty = still_begun (nothing_read writer state empty) []
 

@@ -1,14 +1,13 @@
 -- What the engine's calls do to a script that is being run.
 use Rattle.std.specs.Prelude.{◌≡◌, ℕ, List, ◌++◌}
 use Rattle.arcs.specs.Traffic.{Traffic, NoFault}
-use Rattle.arcs.specs.Rows.{state_of}
 use Rattle.arcs.specs.Underway.{IsUnderway, IsBegun}
 use Rattle.arcs.specs.declared.script.Engine.{Engine}
 
 -- Since the writer had taken start, the engine has read this input.
 abbrev pub HasRead : {A : Type 0} → List ℕ → List ℕ → Traffic → Engine A → Type 0
 HasRead start input writer engine = IsUnderway start input writer engine.out.items
-    (state_of engine.windows) engine.line.items engine.too_long
+    engine.table engine.line.items engine.too_long
 
 -- these bytes more were read
 abbrev pub Reads : {A : Type 0} → List ℕ → Traffic → Traffic → Engine A → Engine A → Type 0
@@ -19,7 +18,7 @@ Reads bytes writer writer' old new = (start input : List ℕ) → HasRead start 
 -- what was written begins the replies.
 abbrev pub Stops : {A : Type 0} → List ℕ → Traffic → Traffic → Engine A → Engine A → Type 0
 Stops bytes writer writer' old new = (start input more : List ℕ) → HasRead start input writer old
-    → IsBegun start (input ++ (bytes ++ more)) writer' (state_of new.windows)
+    → IsBegun start (input ++ (bytes ++ more)) writer' new.table
 
 -- Between two moments of a run the engine has read all that the reader gave, and no call went
 -- wrong.

@@ -1,15 +1,9 @@
-pub mod RunOf
-pub mod Step
 pub mod Text
 pub mod Reading
 pub mod Script
 pub mod Seen
 pub mod Writing
-pub mod Stands
-pub mod Slots
-pub mod Additions
 pub mod State
-pub mod Rows
 pub mod Traffic
 pub mod Underway
 pub mod Engine

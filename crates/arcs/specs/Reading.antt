@@ -9,8 +9,8 @@ use Rattle.std.specs.List.{list_all, slice_split}
 use Rattle.std.specs.Str.{bytes_eq}
 use Rattle.std.specs.Str.Parse.{digits_value}
 use Rattle.arcs.specs.Text.{space, items_word}
-use Rattle.arcs.specs.declared.command.Command.{Command}
-use Rattle.arcs.specs.declared.command.Command.TheVariants.{Slice, Clone, Sub, Uniq, Show, Drop}
+use Rattle.arc_table.specs.declared.command.Cmd.{Cmd}
+use Rattle.arc_table.specs.declared.command.Cmd.TheVariants.{Slice, Clone, Sub, Uniq, Show, Drop}
 use Rattle.arcs.specs.declared.parse.Unread.{Unread}
 use Rattle.arcs.specs.declared.parse.Unread.TheVariants as unread
 
@@ -63,40 +63,40 @@ only [] x = Some x
 only (word ∷ words) x = None
 
 -- what the words behind the first say, for each first word
-unfoldable pub slice_of : List (List ℕ) → Option (Command (List ℕ))
+unfoldable pub slice_of : List (List ℕ) → Option (Cmd (List ℕ))
 slice_of words = do
   items ← first_by items_of words
   only items.1 (Slice items.0)
 
-unfoldable pub clone_of : List (List ℕ) → Option (Command (List ℕ))
+unfoldable pub clone_of : List (List ℕ) → Option (Cmd (List ℕ))
 clone_of words = do
   i ← first_by number_of words
   only i.1 (Clone i.0)
 
-unfoldable pub sub_of : List (List ℕ) → Option (Command (List ℕ))
+unfoldable pub sub_of : List (List ℕ) → Option (Cmd (List ℕ))
 sub_of words = do
   i ← first_by number_of words
   start ← first_by number_of i.1
   end ← first_by number_of start.1
   only end.1 (Sub i.0 start.0 end.0)
 
-unfoldable pub uniq_of : List (List ℕ) → Option (Command (List ℕ))
+unfoldable pub uniq_of : List (List ℕ) → Option (Cmd (List ℕ))
 uniq_of words = do
   i ← first_by number_of words
   only i.1 (Uniq i.0)
 
-unfoldable pub show_of : List (List ℕ) → Option (Command (List ℕ))
+unfoldable pub show_of : List (List ℕ) → Option (Cmd (List ℕ))
 show_of words = do
   i ← first_by number_of words
   only i.1 (Show i.0)
 
-unfoldable pub drop_of : List (List ℕ) → Option (Command (List ℕ))
+unfoldable pub drop_of : List (List ℕ) → Option (Cmd (List ℕ))
 drop_of words = do
   i ← first_by number_of words
   only i.1 (Drop i.0)
 
 -- the command that words say
-unfoldable pub command_of : List (List ℕ) → Option (Command (List ℕ))
+unfoldable pub command_of : List (List ℕ) → Option (Cmd (List ℕ))
 command_of [] = None
 command_of (verb ∷ words) =
     if bytes_eq verb (codes "slice") then slice_of words else
@@ -107,7 +107,7 @@ command_of (verb ∷ words) =
     if bytes_eq verb (codes "drop") then drop_of words else None
 
 -- the commands that bring items, which need memory
-abbrev pub BringsItems : Command (List ℕ) → Type 0
+abbrev pub BringsItems : Cmd (List ℕ) → Type 0
 BringsItems (Slice items) = Unit {0}
 BringsItems other = ⊥
 

@@ -3,11 +3,11 @@ use Rattle.std.specs.Prelude.{◌≡◌, ℕ, true, false, List, [], ◌∷◌, 
 use Rattle.std.specs.Prelude.{flat_map, Contains, codes}
 use Rattle.std.specs.List.{AllByRecursion}
 use Rattle.arc_block.specs.Table.{Table, empty_table}
-use Rattle.arcs.specs.RunOf.{RunOf}
-use Rattle.arcs.specs.Step.{Setting, Step}
+use Rattle.arc_table.specs.RunOf.{RunOf}
+use Rattle.arc_table.specs.Step.{Setting, Step, setting_of}
 use Rattle.arcs.specs.Text.{line_feed, Says, reply_text}
-use Rattle.arcs.specs.declared.command.Command.{Command}
-use Rattle.arcs.specs.declared.command.Reply.{Reply}
+use Rattle.arc_table.specs.declared.command.Cmd.{Cmd}
+use Rattle.arc_table.specs.declared.command.Reply.{Reply}
 
 -- each line with its line feed
 abbrev pub ended : List (List ℕ) → List ℕ
@@ -32,7 +32,7 @@ pub record AreLines (input : List ℕ) (lines : List (List ℕ)) : Type 0 where
 
 -- a byte window may be cut anywhere, and its layout has static data
 abbrev pub byte_setting : Setting ℕ
-byte_setting = record { has_static = true; drops = false; boundary = λ items at. true }
+byte_setting = setting_of true (λ sort. false) false (λ items at. true)
 
 -- the script's tables: no window has metadata
 abbrev pub ByteTable : Type 0
@@ -40,13 +40,13 @@ ByteTable = Table ℕ (Unit {0})
 
 -- the line says no command
 abbrev pub IsBad : List ℕ → Type 0
-IsBad line = (c : Command (List ℕ)) → ¬ Says line c
+IsBad line = (c : Cmd (List ℕ)) → ¬ Says line c
 
 -- what a line is answered: one step of the command that it says, or None where it says none and
 -- nothing changes
-abbrev pub AnswersBy : {S : Type 0} → (S → Command (List ℕ) → Reply (List ℕ) → S → Type 0)
+abbrev pub AnswersBy : {S : Type 0} → (S → Cmd (List ℕ) → Reply (List ℕ) → S → Type 0)
     → S → List ℕ → Option (Reply (List ℕ)) → S → Type 0
-AnswersBy step old line (Some reply) new = (c : Command (List ℕ)) × Says line c
+AnswersBy step old line (Some reply) new = (c : Cmd (List ℕ)) × Says line c
     × step old c reply new
 AnswersBy step old line None new = IsBad line × (new ≡ old)
 

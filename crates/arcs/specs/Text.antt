@@ -7,10 +7,10 @@ use Rattle.arc_owners.specs.declared.error.RangeError.TheVariants.{OutOfRange, I
 use Rattle.arc_owners.specs.declared.error.RangeError.TheVariants.{NotBoundary}
 use Rattle.arc_owners.specs.declared.error.OwnerError.{OwnerError}
 use Rattle.arc_owners.specs.declared.error.OwnerError.TheVariants as owner
-use Rattle.arcs.specs.declared.command.Command.{Command}
-use Rattle.arcs.specs.declared.command.Command.TheVariants.{Slice, Clone, Sub, Uniq, Show, Drop}
-use Rattle.arcs.specs.declared.command.Reply.{Reply}
-use Rattle.arcs.specs.declared.command.Reply.TheVariants as reply
+use Rattle.arc_table.specs.declared.command.Cmd.{Cmd}
+use Rattle.arc_table.specs.declared.command.Cmd.TheVariants.{Slice, Clone, Sub, Uniq, Show, Drop}
+use Rattle.arc_table.specs.declared.command.Reply.{Reply}
+use Rattle.arc_table.specs.declared.command.Reply.TheVariants as reply
 
 -- the byte that parts words, and the one that ends lines
 abbrev pub space : ℕ
@@ -37,7 +37,7 @@ items_word [] = codes "-"
 items_word (item ∷ items) = hex (item ∷ items)
 
 -- a command as words
-abbrev pub words_of : Command (List ℕ) → List (List ℕ)
+abbrev pub words_of : Cmd (List ℕ) → List (List ℕ)
 words_of (Slice items) = codes "slice" ∷ items_word items ∷ []
 words_of (Clone i) = codes "clone" ∷ decimal i ∷ []
 words_of (Sub i start end) = codes "sub" ∷ decimal i ∷ decimal start ∷ decimal end ∷ []
@@ -52,7 +52,7 @@ IsByte item = item < 256
 abbrev pub IsShort : ℕ → Type 0
 IsShort number = number < 10 ^ 18
 
-abbrev pub IsWritable : Command (List ℕ) → Type 0
+abbrev pub IsWritable : Cmd (List ℕ) → Type 0
 IsWritable (Slice items) = AllByRecursion IsByte items
 IsWritable (Clone i) = IsShort i
 IsWritable (Sub i start end) = IsShort i × IsShort start × IsShort end
@@ -61,7 +61,7 @@ IsWritable (Show i) = IsShort i
 IsWritable (Drop i) = IsShort i
 
 -- the line says the command: its words, parted by one space each
-pub record Says (line : List ℕ) (c : Command (List ℕ)) : Type 0 where
+pub record Says (line : List ℕ) (c : Cmd (List ℕ)) : Type 0 where
   pub fits : length line ≤ longest_line
   pub writable : IsWritable c
   pub words : line ≡ join_with_byte space (words_of c)
@@ -83,6 +83,7 @@ reply_text reply.Yes = codes "yes"
 reply_text reply.No = codes "no"
 reply_text (reply.Items items) = items_word items
 reply_text reply.NoWindow = codes "no window"
+reply_text reply.Kind = codes "kind"
 reply_text (reply.Range e) = range_text e
 reply_text (reply.Owner e) = owner_text e
 reply_text reply.Alloc = codes "allocation error"

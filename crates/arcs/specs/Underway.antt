@@ -5,16 +5,17 @@ use Rattle.std.specs.Prelude.{Option, ◌⊎◌}
 use Rattle.std.specs.List.{AllByRecursion}
 use Rattle.arc_owners.specs.declared.count.tokens.Pass.{Pass}
 use Rattle.arc_owners.specs.declared.mark.Whole.{Whole}
-use Rattle.arcs.specs.RunOf.{RunOf}
-use Rattle.arcs.specs.State.{State, empty_state, AnswersLine, EndsWith}
+use Rattle.arc_table.specs.RunOf.{RunOf}
+use Rattle.arc_table.specs.State.{empty_state, EndsWith}
+use Rattle.arcs.specs.State.{AnswersLine, ByteState}
 use Rattle.arcs.specs.Text.{longest_line, line_feed}
-use Rattle.arcs.specs.Script.{AreLines, HasNoFeed, ended, answer_text}
+use Rattle.arcs.specs.Script.{AreLines, HasNoFeed, byte_setting, ended, answer_text}
 use Rattle.arcs.specs.Traffic.{Traffic}
-use Rattle.arcs.specs.declared.command.Reply.{Reply}
+use Rattle.arc_table.specs.declared.command.Reply.{Reply}
 
 -- From no window on, a run over the lines of the input, but for those that are left, led to this
 -- state. Its replies are the text and what is unwritten.
-pub record HasRun (state : State) (input text : List ℕ) (left : List (List ℕ))
+pub record HasRun (state : ByteState) (input text : List ℕ) (left : List (List ℕ))
     (unwritten : List ℕ) : Type 0 where
   pub lines : List (List ℕ)
   pub replies : List (Option (Reply (List ℕ)))
@@ -23,18 +24,18 @@ pub record HasRun (state : State) (input text : List ℕ) (left : List (List ℕ
   pub written : text ++ unwritten ≡ ended (map answer_text replies)
 
 -- the run went to its end, and all was written
-abbrev pub IsThrough : State → List ℕ → List ℕ → Type 0
+abbrev pub IsThrough : ByteState → List ℕ → List ℕ → Type 0
 IsThrough state input text = HasRun state input text [] []
 
 -- it was broken off
-abbrev pub IsBrokenOff : State → List ℕ → List ℕ → Type 0
+abbrev pub IsBrokenOff : ByteState → List ℕ → List ℕ → Type 0
 IsBrokenOff state input text =
     (left : List (List ℕ)) × (unwritten : List ℕ) × HasRun state input text left unwritten
 
 -- after such a run every window that was left ended, and these are the passes of the blocks
-abbrev pub ThenEnds : (State → List ℕ → List ℕ → Type 0) → List (Pass Whole) → List ℕ → List ℕ
+abbrev pub ThenEnds : (ByteState → List ℕ → List ℕ → Type 0) → List (Pass Whole) → List ℕ → List ℕ
     → Type 0
-ThenEnds ran passes input text = (state : State) × ran state input text × EndsWith state passes
+ThenEnds ran passes input text = (state : ByteState) × ran state input text × EndsWith byte_setting state passes
 
 -- what is held of the line that is coming: all of it, or only that it is too long
 abbrev pub Holds : List ℕ → Bool → List ℕ → Type 0
@@ -43,7 +44,7 @@ Holds held true line = longest_line < length line
 
 -- Since the writer had taken start, this input was read. Each of its whole lines is answered: the
 -- replies were taken, but for those in out. Behind the whole lines stands what came of the next.
-pub record IsUnderway (start input : List ℕ) (writer : Traffic) (out : List ℕ) (state : State)
+pub record IsUnderway (start input : List ℕ) (writer : Traffic) (out : List ℕ) (state : ByteState)
     (held : List ℕ) (too_long : Bool) : Type 0 where
   pub text : List ℕ
   pub whole : List (List ℕ)
@@ -59,7 +60,7 @@ pub record IsUnderway (start input : List ℕ) (writer : Traffic) (out : List �
 
 -- Since the writer had taken start, this input was read to its end, and all lines are answered: the
 -- replies were taken, but for those in out.
-pub record IsAnswered (start input : List ℕ) (writer : Traffic) (out : List ℕ) (state : State)
+pub record IsAnswered (start input : List ℕ) (writer : Traffic) (out : List ℕ) (state : ByteState)
     : Type 0 where
   pub text : List ℕ
   pub taken : writer.bytes ≡ start ++ text
@@ -67,24 +68,24 @@ pub record IsAnswered (start input : List ℕ) (writer : Traffic) (out : List �
 
 -- Since the writer had taken start, this input was read, some first lines were answered, and a
 -- beginning of the replies was taken.
-pub record IsBegun (start input : List ℕ) (writer : Traffic) (state : State) : Type 0 where
+pub record IsBegun (start input : List ℕ) (writer : Traffic) (state : ByteState) : Type 0 where
   pub text : List ℕ
   pub taken : writer.bytes ≡ start ++ text
   pub begins : IsBrokenOff state input text
 
 -- whatever line was held, it is answered so
-abbrev pub AnswersHeld : List ℕ → Bool → State → Option (Reply (List ℕ)) → State → Type 0
+abbrev pub AnswersHeld : List ℕ → Bool → ByteState → Option (Reply (List ℕ)) → ByteState → Type 0
 AnswersHeld held too_long old answer new =
     (line : List ℕ) → Holds held too_long line → AnswersLine old line answer new
 
 -- The line that was held is answered, in out too.
-pub record Ends (held : List ℕ) (too_long : Bool) (old new : State)
+pub record Ends (held : List ℕ) (too_long : Bool) (old new : ByteState)
     (out out' : List ℕ) : Type 0 where
   pub answer : Option (Reply (List ℕ))
   pub answered : AnswersHeld held too_long old answer new
   pub appended : out' ≡ out ++ (answer_text answer ++ line_feed ∷ [])
 
 -- The line that was held isn't answered, or is, but not in out.
-abbrev pub MayEnd : List ℕ → Bool → State → State → Type 0
+abbrev pub MayEnd : List ℕ → Bool → ByteState → ByteState → Type 0
 MayEnd held too_long old new =
     (new ≡ old) ⊎ ((answer : Option (Reply (List ℕ))) × AnswersHeld held too_long old answer new)

@@ -2,10 +2,10 @@
 use Rattle.std.specs.Prelude.{◌≡◌, ℕ, List, [], ◌∷◌, ◌++◌, Option}
 use Rattle.std.specs.Option.{option_map}
 use Rattle.std.specs.declared.vec.Vec.{Vec}
-use Rattle.arcs.specs.declared.command.Reply.{Reply}
+use Rattle.arc_table.specs.declared.command.Reply.{Reply}
 use Rattle.arcs.specs.Text.{line_feed}
 use Rattle.arcs.specs.Script.{answer_text}
-use Rattle.arcs.specs.Seen.{seen_reply}
+use Rattle.arc_table.specs.Seen.{seen_reply}
 
 -- new is old and something behind it
 pub record Extends (old new : List ℕ) : Type 0 where

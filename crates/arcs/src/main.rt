@@ -1,16 +1,12 @@
 //! Windows driven by a script: lines in, replies out.
 #![tactic(auto)]
 
-mod command;
 mod device;
 mod log;
 mod parse;
-mod passes;
 mod program;
 mod script;
-mod slot;
 mod text;
-mod windows;
 
 use device::{Counted, Sink};
 use std::process::ExitCode;

@@ -7,16 +7,16 @@ ghost use Rattle.std.specs.List.{list_all, position_or_len};
 ghost use Rattle.std.specs.Vec.{vec_items};
 ghost use Rattle.arcs.specs.Text.{Says};
 ghost use Rattle.arcs.specs.Script.{IsBad};
-ghost use Rattle.arcs.specs.Seen.{seen_command};
-ghost use Rattle.arcs.specs.declared.command.Command.{Command};
+ghost use Rattle.arc_table.specs.Seen.{seen_command};
+ghost use Rattle.arc_table.specs.declared.command.Cmd.{Cmd};
 ghost use Rattle.arcs.specs.declared.parse.Unread.TheVariants as unread;
 ghost use Rattle.arcs.specs.Reading.{Never, is_hex_digit, is_space, BringsItems, Reads, clone_of};
 ghost use Rattle.arcs.specs.Reading.{command_of, drop_of, first_by, items_of, only, number_of};
 ghost use Rattle.arcs.specs.Reading.{pairs, show_of, slice_of, sub_of, uniq_of, words_in};
 ghost use Rattle.arcs.specs.Reading.{words_of_line};
 
-use crate::command::Command;
 use arc_owners::error::AllocError;
+use arc_table::command::Cmd;
 use std::alloc::Allocator;
 
 /// The longest line, in bytes and without its line feed.
@@ -181,69 +181,69 @@ fn decoded<A: Allocator>(alloc: A, hex: Hex) -> Result<Vec<u8, A>, AllocError>
 
 /// `slice X`
 #[tactic(auto, unfolding(crate::specs::Reading::slice_of))]
-fn slice<A: Allocator>(alloc: A, rest: Rest) -> Result<Command<Vec<u8, A>>, Unread>
+fn slice<A: Allocator>(alloc: A, rest: Rest) -> Result<Cmd<Vec<u8, A>>, Unread>
     ensures { Reads seen_command BringsItems result (slice_of (words_in rest.entry)) }
 {
     let (hex, rest) = items(rest)?;
     nothing_left(rest)?;
-    Ok(Command::Slice(decoded(alloc, hex)?))
+    Ok(Cmd::Slice(decoded(alloc, hex)?))
 }
 
 /// `clone I`
 #[tactic(auto, unfolding(crate::specs::Reading::clone_of))]
-fn clone<A: Allocator>(rest: Rest) -> Result<Command<Vec<u8, A>>, Unread>
+fn clone<A: Allocator>(rest: Rest) -> Result<Cmd<Vec<u8, A>>, Unread>
     ensures { Reads seen_command BringsItems result (clone_of (words_in rest.entry)) }
 {
     let (window, rest) = number(rest)?;
     nothing_left(rest)?;
-    Ok(Command::Clone { window })
+    Ok(Cmd::Clone { window })
 }
 
 /// `sub I S E`
 #[tactic(auto, unfolding(crate::specs::Reading::sub_of))]
-fn sub<A: Allocator>(rest: Rest) -> Result<Command<Vec<u8, A>>, Unread>
+fn sub<A: Allocator>(rest: Rest) -> Result<Cmd<Vec<u8, A>>, Unread>
     ensures { Reads seen_command BringsItems result (sub_of (words_in rest.entry)) }
 {
     let (window, rest) = number(rest)?;
     let (start, rest) = number(rest)?;
     let (end, rest) = number(rest)?;
     nothing_left(rest)?;
-    Ok(Command::Sub { window, start, end })
+    Ok(Cmd::Sub { window, start, end })
 }
 
 /// `uniq I`
 #[tactic(auto, unfolding(crate::specs::Reading::uniq_of))]
-fn uniq<A: Allocator>(rest: Rest) -> Result<Command<Vec<u8, A>>, Unread>
+fn uniq<A: Allocator>(rest: Rest) -> Result<Cmd<Vec<u8, A>>, Unread>
     ensures { Reads seen_command BringsItems result (uniq_of (words_in rest.entry)) }
 {
     let (window, rest) = number(rest)?;
     nothing_left(rest)?;
-    Ok(Command::Uniq { window })
+    Ok(Cmd::Uniq { window })
 }
 
 /// `show I`
 #[tactic(auto, unfolding(crate::specs::Reading::show_of))]
-fn show<A: Allocator>(rest: Rest) -> Result<Command<Vec<u8, A>>, Unread>
+fn show<A: Allocator>(rest: Rest) -> Result<Cmd<Vec<u8, A>>, Unread>
     ensures { Reads seen_command BringsItems result (show_of (words_in rest.entry)) }
 {
     let (window, rest) = number(rest)?;
     nothing_left(rest)?;
-    Ok(Command::Show { window })
+    Ok(Cmd::Show { window })
 }
 
 /// `drop I`
 #[tactic(auto, unfolding(crate::specs::Reading::drop_of))]
-fn drop<A: Allocator>(rest: Rest) -> Result<Command<Vec<u8, A>>, Unread>
+fn drop<A: Allocator>(rest: Rest) -> Result<Cmd<Vec<u8, A>>, Unread>
     ensures { Reads seen_command BringsItems result (drop_of (words_in rest.entry)) }
 {
     let (window, rest) = number(rest)?;
     nothing_left(rest)?;
-    Ok(Command::Drop { window })
+    Ok(Cmd::Drop { window })
 }
 
 /// The command that the words of a line say.
 #[tactic(auto, unfolding(crate::specs::Reading::command_of))]
-fn command<A: Allocator>(alloc: A, line: &[u8]) -> Result<Command<Vec<u8, A>>, Unread>
+fn command<A: Allocator>(alloc: A, line: &[u8]) -> Result<Cmd<Vec<u8, A>>, Unread>
     ensures { Reads seen_command BringsItems result (command_of (words_of_line line.now)) }
 {
     let (verb, rest) = word(Some(line))?;
@@ -265,10 +265,10 @@ fn command<A: Allocator>(alloc: A, line: &[u8]) -> Result<Command<Vec<u8, A>>, U
 pub fn parse<A: Allocator + Copy>(
     alloc: A,
     line: &[u8],
-) -> Result<Option<Command<Vec<u8, A>>>, AllocError>
+) -> Result<Option<Cmd<Vec<u8, A>>>, AllocError>
     ensures ok { IfOk result (λ said.
         MatchOption said (IsBad line.now) (λ c. Says line.now (seen_command c))) }
-    ensures err { OnErr result ((c : Command (List ℕ)) × Says line.now c × BringsItems c) }
+    ensures err { OnErr result ((c : Cmd (List ℕ)) × Says line.now c × BringsItems c) }
 {
     if line.len() > LONGEST_LINE {
         return Ok(None);
@@ -282,7 +282,7 @@ pub fn parse<A: Allocator + Copy>(
 
 /// No line says two commands. Does nothing: its contract is the law.
 pub fn one_command()
-    ensures { (line : List ℕ) (c d : Command (List ℕ)) → Says line c → Says line d → c ≡ d }
+    ensures { (line : List ℕ) (c d : Cmd (List ℕ)) → Says line c → Says line d → c ≡ d }
 {}
 
 #[cfg(test)]

@@ -6,6 +6,10 @@ ghost use Rattle.arcs.specs.Text.{line_feed};
 ghost use Rattle.arcs.specs.Script.{AreLines, BeginsReplyText, HasNoFeed, IsReplyText};
 ghost use Rattle.arc_block.specs.Owned.{IsKept};
 ghost use Rattle.arc_block.specs.declared.block.TheConstants.{MAX_OWNERS};
+ghost use Rattle.arcs.specs.State.{CarriesOutSaid};
+ghost use Rattle.arcs.specs.Script.{byte_setting};
+ghost use Rattle.arc_table.specs.Seen.{seen_command, seen_reply};
+ghost use Rattle.std.specs.Option.{option_map};
 ghost use Rattle.arcs.specs.Underway.{IsBrokenOff, IsThrough, ThenEnds};
 ghost use Rattle.std.specs.Io.KnownBytes.{IsAtEnd};
 ghost use Rattle.arcs.specs.Traffic.{Exchanges, Gives, GivesAll, NoFault, Takes, TakesFront};
@@ -14,13 +18,15 @@ ghost use Rattle.arcs.specs.Faults.{IsCause, IsWhy};
 ghost use Rattle.arcs.specs.declared.parse.TheConstants.{LONGEST_LINE};
 ghost use Rattle.arcs.specs.declared.script.ScriptError.TheVariants as script_error;
 
-use crate::command::Command;
 use crate::device::{Sink, Source};
 use crate::parse::{LONGEST_LINE, parse};
-use crate::passes::Passes;
 use crate::text::push_answer;
-use crate::windows::Windows;
+use arc_block::layout::DefaultLayout;
+use arc_buffer::kinds::Plain;
 use arc_owners::error::AllocError;
+use arc_table::command::{Cmd, Reply};
+use arc_table::passes::Passes;
+use arc_table::table::Table;
 use std::alloc::Allocator;
 use std::sync::Wait;
 use thiserror::Error;
@@ -80,10 +86,28 @@ pub fn write_out<W: Sink>(writer: &mut W, bytes: &[u8]) -> Result<(), ScriptErro
     Ok(())
 }
 
+/// The windows of a script, over bytes.
+type ByteTable<A> = Table<Plain<u8>, DefaultLayout, A>;
+
+/// Answers a line that was read: the command that it says is carried out, and a line that says none
+/// changes nothing.
+fn answer<A: Allocator + Copy>(
+    table: &mut ByteTable<A>,
+    rt: &impl Wait,
+    said: Option<Cmd<Vec<u8, A>>>,
+) -> Option<Reply<Vec<u8, A>>>
+    ensures { CarriesOutSaid table.old (option_map seen_command said)
+        (option_map seen_reply result) table.new }
+{
+    let reply = table.step(rt, said?);
+    table.agree();
+    Some(reply)
+}
+
 /// A script that is being run: its windows, what has come of a line, and the replies that have not
 /// gone out. It can't be dropped: it ends by `end`, which ends its windows.
 struct Engine<A: Allocator + Copy> {
-    windows: Windows<A>,
+    table: ByteTable<A>,
     line: Vec<u8, A>,
     too_long: bool,
     out: Vec<u8, A>,
@@ -95,20 +119,19 @@ impl<A: Allocator + Copy> Engine<A> {
     ghost use Rattle.std.specs.Prelude.{◌≡◌};
     ghost use Rattle.arc_block.specs.Owned.{IsKept};
     ghost use Rattle.arc_block.specs.declared.block.TheConstants.{MAX_OWNERS};
-    ghost use Rattle.arcs.specs.Rows.{table_of, state_of};
     ghost use Rattle.arcs.specs.Seen.{IsReadAs};
-    ghost use Rattle.arcs.specs.State.{EndsWith, empty_state};
+    ghost use Rattle.arc_table.specs.State.{EndsWith, empty_state};
     ghost use Rattle.arcs.specs.Underway.{Holds, Ends, MayEnd, IsAnswered, IsBegun};
     ghost use Rattle.arcs.specs.Script.{HasNoFeed};
     ghost use Rattle.arcs.specs.Engine.{HasRead, IsRunning, Reads, Stops};
 
     fn new(alloc: A) -> Self
-        ensures windows { state_of result.windows ≡ empty_state }
+        ensures windows { result.table ≡ empty_state }
         ensures line { (result.line.items ≡ []) × (result.too_long ≡ false) }
         ensures out { result.out.items ≡ [] }
     {
         Engine {
-            windows: Windows::new(alloc),
+            table: Table::new(alloc),
             line: Vec::new(alloc),
             too_long: false,
             out: Vec::new(alloc),
@@ -120,7 +143,7 @@ impl<A: Allocator + Copy> Engine<A> {
     fn hold(&mut self, bytes: &[u8]) -> Result<(), AllocError>
         ensures ok { OnOk result ((line : List ℕ) → Holds self.old.line.items self.old.too_long line
             → Holds self.new.line.items self.new.too_long (line ++ bytes.now)) }
-        ensures windows { state_of self.new.windows ≡ state_of self.old.windows }
+        ensures windows { self.new.table ≡ self.old.table }
         ensures out { self.new.out.items ≡ self.old.out.items }
     {
         if self.too_long || bytes.len() > LONGEST_LINE - self.line.len() {
@@ -133,7 +156,7 @@ impl<A: Allocator + Copy> Engine<A> {
     }
 
     /// Reads the line that has come.
-    fn read_line(&self) -> Result<Option<Command<Vec<u8, A>>>, AllocError>
+    fn read_line(&self) -> Result<Option<Cmd<Vec<u8, A>>>, AllocError>
         ensures { IfOk result (λ said. (line : List ℕ)
             → Holds self.now.line.items self.now.too_long line → IsReadAs line said) }
     {
@@ -146,16 +169,16 @@ impl<A: Allocator + Copy> Engine<A> {
     /// Answers the line that has come.
     fn end_line(&mut self, rt: &impl Wait) -> Result<(), AllocError>
         ensures ok { OnOk result
-            (Ends self.old.line.items self.old.too_long (state_of self.old.windows)
-            (state_of self.new.windows) self.old.out.items self.new.out.items) }
+            (Ends self.old.line.items self.old.too_long self.old.table
+            self.new.table self.old.out.items self.new.out.items) }
         ensures line { OnOk result ((self.new.line.items ≡ []) × (self.new.too_long ≡ false)) }
         ensures err { OnErr result (self.new.out.items ≡ self.old.out.items) }
         ensures broken { OnErr result
-            (MayEnd self.old.line.items self.old.too_long (state_of self.old.windows)
-            (state_of self.new.windows)) }
+            (MayEnd self.old.line.items self.old.too_long self.old.table
+            self.new.table) }
     {
         let said = self.read_line()?;
-        let answer = self.windows.answer(rt, said);
+        let answer = answer(&mut self.table, rt, said);
         push_answer(&mut self.out, &answer)?;
         self.line.clear();
         self.too_long = false;
@@ -167,7 +190,7 @@ impl<A: Allocator + Copy> Engine<A> {
         ensures ok { OnOk result
             (((W.traffic writer.new).bytes ≡ (W.traffic writer.old).bytes ++ self.old.out.items)
             × (self.new.out.items ≡ [])) }
-        ensures windows { state_of self.new.windows ≡ state_of self.old.windows }
+        ensures windows { self.new.table ≡ self.old.table }
         ensures line { (self.new.line.items ≡ self.old.line.items)
             × (self.new.too_long ≡ self.old.too_long) }
         ensures taken { Takes (W.traffic writer.old) (W.traffic writer.new)
@@ -258,7 +281,7 @@ impl<A: Allocator + Copy> Engine<A> {
         ensures drained { IfOk result (λ more. more ≡ false → IsAtEnd (R.remaining reader.new)) }
         ensures begun { OnErr result ((r w : Traffic)
             → IsRunning r (R.traffic reader.old) w (W.traffic writer.old) self.old
-            → Exchanges (IsBrokenOff (state_of self.new.windows)) r (R.traffic reader.new)
+            → Exchanges (IsBrokenOff self.new.table) r (R.traffic reader.new)
             w (W.traffic writer.new)) }
         ensures fault { IfErr result
             (IsCause (R.traffic reader.old) (R.traffic reader.new) (W.traffic writer.old)
@@ -279,10 +302,10 @@ impl<A: Allocator + Copy> Engine<A> {
     fn answer_rest(&mut self, rt: &impl Wait) -> Result<(), AllocError>
         ensures ok { OnOk result ((start input : List ℕ) (writer : Traffic)
             → HasRead start input writer self.old
-            → IsAnswered start input writer self.new.out.items (state_of self.new.windows)) }
+            → IsAnswered start input writer self.new.out.items self.new.table) }
         ensures err { OnErr result ((start input : List ℕ) (writer : Traffic)
             → HasRead start input writer self.old
-            → IsBegun start input writer (state_of self.new.windows)) }
+            → IsBegun start input writer self.new.table) }
     {
         if !self.too_long && self.line.is_empty() {
             return Ok(());
@@ -295,13 +318,13 @@ impl<A: Allocator + Copy> Engine<A> {
     fn finish<W: Sink>(&mut self, rt: &impl Wait, writer: &mut W) -> Result<(), ScriptError>
         ensures ok { OnOk result ((start input : List ℕ)
             → HasRead start input (W.traffic writer.old) self.old
-            → IsAnswered start input (W.traffic writer.new) [] (state_of self.new.windows)) }
+            → IsAnswered start input (W.traffic writer.new) [] self.new.table) }
         ensures taken { Takes (W.traffic writer.old) (W.traffic writer.new)
             (W.contents writer.old) (W.contents writer.new) }
         ensures clean { OnOk result (NoFault (W.traffic writer.old) (W.traffic writer.new)) }
         ensures err { OnErr result ((start input : List ℕ)
             → HasRead start input (W.traffic writer.old) self.old
-            → IsBegun start input (W.traffic writer.new) (state_of self.new.windows)) }
+            → IsBegun start input (W.traffic writer.new) self.new.table) }
         ensures fault { IfErr result (IsWhy (W.traffic writer.old) (W.traffic writer.new)) }
     {
         self.answer_rest(rt)?;
@@ -317,11 +340,11 @@ impl<A: Allocator + Copy> Engine<A> {
         reader: &mut R,
         writer: &mut W,
     ) -> Result<(), ScriptError>
-        requires windows { state_of self.old.windows ≡ empty_state }
+        requires windows { self.old.table ≡ empty_state }
         requires line { (self.old.line.items ≡ []) × (self.old.too_long ≡ false) }
         requires out { self.old.out.items ≡ [] }
         ensures ok { OnOk result
-            (Exchanges (IsThrough (state_of self.new.windows)) (R.traffic reader.old)
+            (Exchanges (IsThrough self.new.table) (R.traffic reader.old)
             (R.traffic reader.new) (W.traffic writer.old) (W.traffic writer.new)) }
         ensures end { OnOk result
             ((R.traffic reader.old).empties < (R.traffic reader.new).empties) }
@@ -335,7 +358,7 @@ impl<A: Allocator + Copy> Engine<A> {
             (((R.traffic reader.new).failures ≡ (R.traffic reader.old).failures)
             × NoFault (W.traffic writer.old) (W.traffic writer.new)) }
         ensures begun { OnErr result
-            (Exchanges (IsBrokenOff (state_of self.new.windows)) (R.traffic reader.old)
+            (Exchanges (IsBrokenOff self.new.table) (R.traffic reader.old)
             (R.traffic reader.new) (W.traffic writer.old) (W.traffic writer.new)) }
         ensures fault { IfErr result
             (IsCause (R.traffic reader.old) (R.traffic reader.new) (W.traffic writer.old)
@@ -354,17 +377,17 @@ impl<A: Allocator + Copy> Engine<A> {
     /// none of which has a live owner.
     fn end(self) -> Passes<A>
         ensures ended { IsKept MAX_OWNERS [] result.of_blocks.items }
-        ensures blocks { length result.of_blocks.items ≡ (table_of self.windows).blocks }
-        ensures passes { EndsWith (state_of self.windows) result.of_blocks.items }
+        ensures blocks { length result.of_blocks.items ≡ self.table.table.blocks }
+        ensures passes { EndsWith byte_setting self.table result.of_blocks.items }
     {
         let Engine {
-            windows,
+            table,
             line: _,
             too_long: _,
             out: _,
             alloc: _,
         } = self;
-        windows.end()
+        table.end()
     }
 }
 

@@ -1,11 +1,11 @@
 //! Writing what lines are answered.
 ghost use Rattle.std.specs.Prelude.{◌≡◌, ◌++◌, ◌<◌, decimal, OnErr, OnOk};
 ghost use Rattle.arcs.specs.Text.{hex, hex_digit, items_word, owner_text, range_text, reply_text};
-ghost use Rattle.arcs.specs.Seen.{seen_reply};
+ghost use Rattle.arc_table.specs.Seen.{seen_reply};
 ghost use Rattle.arcs.specs.Writing.{Extends, answer_line};
 
-use crate::command::Reply;
 use arc_owners::error::{AllocError, OwnerError, RangeError};
+use arc_table::command::Reply;
 use std::alloc::Allocator;
 
 /// The hex digit of a number below 16.
@@ -96,6 +96,7 @@ fn push_reply<A: Allocator>(
         Reply::No => out.extend_from_slice(b"no")?,
         Reply::Items(items) => push_items(out, items)?,
         Reply::NoWindow => out.extend_from_slice(b"no window")?,
+        Reply::Kind => out.extend_from_slice(b"kind")?,
         Reply::Range(error) => out.extend_from_slice(range_words(*error))?,
         Reply::Owner(error) => out.extend_from_slice(owner_words(*error))?,
         Reply::Alloc => out.extend_from_slice(b"allocation error")?,

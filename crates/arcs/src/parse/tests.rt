@@ -6,7 +6,7 @@ fn is_bad(rt: &HostRuntime, line: &[u8]) -> bool {
 
 fn slices(rt: &HostRuntime, line: &[u8], items: &[u8]) -> bool {
     match parse(rt.alloc(), line) {
-        Ok(Some(Command::Slice(v))) => v.as_slice() == items,
+        Ok(Some(Cmd::Slice(v))) => v.as_slice() == items,
         _ => false,
     }
 }
@@ -19,13 +19,13 @@ fn commands(rt: HostRuntime) {
     assert!(rt;
         matches!(
             parse(rt.alloc(), b"clone 3"),
-            Ok(Some(Command::Clone { window: 3 }))
+            Ok(Some(Cmd::Clone { window: 3 }))
         )
     );
     assert!(rt;
         matches!(
             parse(rt.alloc(), b"sub 1 2 3"),
-            Ok(Some(Command::Sub {
+            Ok(Some(Cmd::Sub {
                 window: 1,
                 start: 2,
                 end: 3
@@ -35,13 +35,13 @@ fn commands(rt: HostRuntime) {
     assert!(rt;
         matches!(
             parse(rt.alloc(), b"uniq 7"),
-            Ok(Some(Command::Uniq { window: 7 }))
+            Ok(Some(Cmd::Uniq { window: 7 }))
         )
     );
     assert!(rt;
         matches!(
             parse(rt.alloc(), b"show 999999999999999999"),
-            Ok(Some(Command::Show {
+            Ok(Some(Cmd::Show {
                 window: 999_999_999_999_999_999
             }))
         )
@@ -49,13 +49,13 @@ fn commands(rt: HostRuntime) {
     assert!(rt;
         matches!(
             parse(rt.alloc(), b"show 0"),
-            Ok(Some(Command::Show { window: 0 }))
+            Ok(Some(Cmd::Show { window: 0 }))
         )
     );
     assert!(rt;
         matches!(
             parse(rt.alloc(), b"drop 0"),
-            Ok(Some(Command::Drop { window: 0 }))
+            Ok(Some(Cmd::Drop { window: 0 }))
         )
     );
 }

@@ -1,5 +1,4 @@
 -- The run left the windows in a state from which they ended.
-use Rattle.arcs.specs.Rows.{state_of}
 use Rattle.arcs.specs.Underway.{IsThrough, IsBrokenOff, ThenEnds}
 use Rattle.arcs.proofs.Going.{on_ok_then, on_err_then}
 use Rattle.arcs.proofs.States.{exchange_as}
@@ -7,14 +6,14 @@ use Rattle.arcs.proofs.script.run_to_end.Goals as goal
 
 pub returns-clause-ok : goal.returns-clause-ok
 returns-clause-ok g c =
-    let state = state_of c.run-result.new.self.windows in
+    let state = c.run-result.new.self.table in
     on_ok_then c.run-result.result c.run-result.ensures.ok
     (exchange_as (IsThrough state) (ThenEnds IsThrough c.end.result.of_blocks.items) _ _ _ _
     (λ input text ran. (state, ran, c.end.ensures.passes)))
 
 pub returns-clause-begun : goal.returns-clause-begun
 returns-clause-begun g c =
-    let state = state_of c.run-result.new.self.windows in
+    let state = c.run-result.new.self.table in
     on_err_then c.run-result.result c.run-result.ensures.begun
     (exchange_as (IsBrokenOff state) (ThenEnds IsBrokenOff c.end.result.of_blocks.items) _ _ _ _
     (λ input text ran. (state, ran, c.end.ensures.passes)))

@@ -1,7 +1,6 @@
 -- What stands behind the last line feed is the last line.
 use Rattle.std.proofs.Common.{◌≡◌, [], false, length, vec_len, sym, ap, ◌∙◌, arith}
 use Rattle.std.proofs.lemmas.Bool.{eqb-false}
-use Rattle.arcs.specs.Rows.{state_of}
 use Rattle.arcs.proofs.Going.{on_err}
 use Rattle.arcs.proofs.Underway.{last_answered, last_broken}
 use Rattle.arcs.proofs.script.Engine.answer_rest.Goals as goal
@@ -18,7 +17,7 @@ returns-in_err-end_line-clause-err g c =
       | else-not-self-via-else-not-self w ↦ cc
     ] in
     on_err c.from_residual.result (λ start input writer read.
-    last_broken read some (state_of c.end_line.new.self.windows) c.in_err-end_line.ensures.broken)
+    last_broken read some c.end_line.new.self.table c.in_err-end_line.ensures.broken)
 
 pub returns-clause-ok : goal.returns-clause-ok
 returns-clause-ok g c = λ start input writer read.
@@ -30,5 +29,5 @@ returns-clause-ok g c = λ start input writer read.
           eqb-false _ _ (sym w.is_empty.ensures ∙ w.if-is_empty.false) empty
       | else-not-self-via-else-not-self w ↦ cc
     ] in
-    last_answered read some (state_of c.end_line.new.self.windows) c.end_line.new.self.out.items
+    last_answered read some c.end_line.new.self.table c.end_line.new.self.out.items
     c.in_ok-end_line.ensures.ok

@@ -1,8 +1,7 @@
 -- The answer is the one that the windows gave to what was read.
 use Rattle.std.proofs.Common.{inr}
 use Rattle.std.specs.Option.{option_map}
-use Rattle.arcs.specs.Seen.{seen_reply}
-use Rattle.arcs.specs.Rows.{state_of}
+use Rattle.arc_table.specs.Seen.{seen_reply}
 use Rattle.arcs.proofs.Going.{on_err}
 use Rattle.arcs.proofs.States.{line_carried_out}
 use Rattle.arcs.proofs.script.Engine.end_line.Goals as goal
@@ -11,8 +10,8 @@ pub returns-clause-ok : goal.returns-clause-ok
 returns-clause-ok g c = record {
   answer = option_map seen_reply c.answer-answer.result;
   answered = λ line held.
-      line_carried_out (state_of c.args.self.now.windows) c.in_ok-said.said
-      (option_map seen_reply c.answer-answer.result) (state_of c.answer-answer.new.self)
+      line_carried_out c.args.self.now.table c.in_ok-said.said
+      (option_map seen_reply c.answer-answer.result) c.answer-answer.new.table
       c.answer-answer.ensures line (c.in_ok-said.ensures line held);
   appended = c.in_ok-push_answer.ensures.ok;
 }
@@ -24,7 +23,7 @@ returns-in_err-push_answer-clause-broken g c =
     (inr (
       option_map seen_reply c.answer-answer.result,
       λ line held.
-          line_carried_out (state_of c.args.self.now.windows) c.in_ok-said.said
-          (option_map seen_reply c.answer-answer.result) (state_of c.answer-answer.new.self)
+          line_carried_out c.args.self.now.table c.in_ok-said.said
+          (option_map seen_reply c.answer-answer.result) c.answer-answer.new.table
           c.answer-answer.ensures line (c.in_ok-said.ensures line held),
     ))
