@@ -21,8 +21,8 @@ moved by nowhere = nowhere
 moved by static_data = static_data
 moved by (on_block block offset facts) = on_block block (offset + by) facts
 
--- where a part stands that begins at start: where its source does, that much further in. But under a
--- layout with static data a part with no items stands on nothing
+-- where a part stands that begins at start: where its source does, that much further in. But under
+-- a layout with static data a part with no items stands on nothing
 abbrev pub part_place : {T N M : Type 0} → Bool → List T → ℕ → Place N M → Place N M
 part_place has_static items start place =
     if has_static && (length items == 0) then nowhere else moved start place

@@ -5,8 +5,8 @@ use Rattle.arc_buffer.specs.Slice.{sub}
 use Rattle.arc_block.specs.Block.{native, BlockInfo, BlockView, native_facts}
 use Rattle.arc_block.specs.Place.{Place, nowhere, static_data, on_block, IsOnBlock, made_place}
 
--- what is seen of a window: its items, and where it stands. On a block that is as one of its owners,
--- where the block counts them
+-- what is seen of a window: its items, and where it stands: on a block as one of its owners, where
+-- the block counts them
 pub record Window (T : Type 0) : Type 0 where
   pub items : List T
   pub place : Place (Option Owner) (Unit {0})
