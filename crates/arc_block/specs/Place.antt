@@ -15,29 +15,22 @@ IsOnBlock nowhere = ⊥
 IsOnBlock static_data = ⊥
 IsOnBlock (on_block block offset facts) = Unit {0}
 
--- what is seen of a window: its items, and where it stands
-pub record WindowView (T N M : Type 0) : Type 0 where
-  pub items : List T
-  pub place : Place N M
-
 -- by places further in
 abbrev pub moved : {N M : Type 0} → ℕ → Place N M → Place N M
 moved by nowhere = nowhere
 moved by static_data = static_data
 moved by (on_block block offset facts) = on_block block (offset + by) facts
 
--- the empty rule: under a layout with static data a window that is made with no items stands on
--- nothing
-abbrev pub empty_rule : {T N M : Type 0} → Bool → List T → Place N M → Place N M
-empty_rule has_static items place = if has_static && (length items == 0) then nowhere else place
-
--- where a window stands that is made of a list on a new block: at the front of it
-abbrev pub made_place : {T N M : Type 0} → Bool → N → BlockInfo M → List T → Place N M
-made_place has_static block facts items = empty_rule has_static items (on_block block 0 facts)
-
--- where a part stands that begins at start: where its source does, that much further in
+-- where a part stands that begins at start: where its source does, that much further in. But under
+-- a layout with static data a part with no items stands on nothing
 abbrev pub part_place : {T N M : Type 0} → Bool → List T → ℕ → Place N M → Place N M
-part_place has_static items start place = empty_rule has_static items (moved start place)
+part_place has_static items start place =
+    if has_static && (length items == 0) then nowhere else moved start place
+
+-- where a window stands that is made of a list on a new block: as the part of the block that is all
+-- of it
+abbrev pub made_place : {T N M : Type 0} → Bool → N → BlockInfo M → List T → Place N M
+made_place has_static block facts items = part_place has_static items 0 (on_block block 0 facts)
 
 module _ {O M : Type 0} where
   -- What holds of the owner that stands at a place. None stands where there is no block, nor on one
@@ -47,9 +40,3 @@ module _ {O M : Type 0} where
   at_owner static_data none some = none
   at_owner (on_block None offset facts) none some = none
   at_owner (on_block (Some owner) offset facts) none some = some owner
-
-  -- the same place, for another owner
-  abbrev pub for_owner : O → Place (Option O) M → Place (Option O) M
-  for_owner other nowhere = nowhere
-  for_owner other static_data = static_data
-  for_owner other (on_block owner offset facts) = on_block (Some other) offset facts

@@ -52,8 +52,8 @@ pub text_parts : (xs : List ℕ) (start end : ℕ) → IsUtf8 xs
 text_parts xs start end u r =
     subst IsUtf8 (sym (sub-slice_range xs start end r.ordered))
     (IsUtf8-between xs start end u r.ordered
-    (boundary_from_between xs start r.from.within r.from.cuts)
-    (boundary_from_between xs end r.to.within r.to.cuts))
+    (boundary_from_between xs start (omega (arith, r.ordered, r.within)) r.from)
+    (boundary_from_between xs end r.within r.to))
 
 -- at the end of one text, where another may be cut
 both_cut : (xs ys : List ℕ) (i j : ℕ) → i ≡ length xs → IsTrue (is_between_characters ys j)
@@ -78,16 +78,16 @@ text_ranges xs start end at u r within =
       arith,
       r.ordered,
       length-drop start (take end xs),
-      length-take-le end xs r.to.within,
+      length-take-le end xs r.within,
     ) in
     elim (eqb_tells (start + at) end) [
       | inl last ↦ both_cut (sub xs start end) xs at (start + at)
           (omega (arith, long, last.1, r.ordered))
-          (subst (λ n. IsTrue (is_between_characters xs n)) (sym last.1) r.to.cuts)
+          (subst (λ n. IsTrue (is_between_characters xs n)) (sym last.1) r.to)
       | inr more ↦
           let inside : start + at < end = omega (arith, within, more.1) in
           same_byte (sub xs start end) xs at (start + at) (omega (arith, long, inside))
-          (omega (arith, inside, r.to.within))
+          (omega (arith, inside, r.within))
           (get_or-drop start (take end xs) at 0 ∙ get_or-take end xs (start + at) 0 inside)
     ]
 

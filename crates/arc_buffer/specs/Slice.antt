@@ -18,12 +18,13 @@ pub record IsEdge {T : Type 0} (boundary : List T → ℕ → Bool) (xs : List T
   pub within : at ≤ length xs
   pub cuts : IsTrue (boundary xs at)
 
--- a range begins and ends at an edge
+-- a range lies within the list, and the kind may cut the list at its start and at its end
 pub record IsRange {T : Type 0} (boundary : List T → ℕ → Bool) (xs : List T)
     (start end : ℕ) : Type 0 where
   pub ordered : start ≤ end
-  pub from : IsEdge boundary xs start
-  pub to : IsEdge boundary xs end
+  pub within : end ≤ length xs
+  pub from : IsTrue (boundary xs start)
+  pub to : IsTrue (boundary xs end)
 
 -- what a test of a range answers: the end is asked first, then the order, then the edges
 abbrev pub range_answer : {T : Type 0} → (List T → ℕ → Bool) → List T → ℕ → ℕ

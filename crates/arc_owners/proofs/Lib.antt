@@ -1,5 +1,6 @@
 -- The lemmas stand in the folders history, count and memory, each with a list of its own. These are
 -- for the crates above.
+pub use Rattle.arc_owners.proofs.history.Legality
 pub use Rattle.arc_owners.proofs.history.Numbers
 pub use Rattle.arc_owners.proofs.history.Steps
 pub use Rattle.arc_owners.proofs.history.Told

@@ -60,7 +60,7 @@ module _ {T : Type 0} where
       advanced inner from to n w view holds edge =
           let long = window_length inner from to w view holds.0 in
           subst (λ t. Holds legal inner (from + n) t) long
-          (cut_holds inner from to n (length w.items) w view holds (λ h. record { ordered = edge.within; from = edge; to = (ends w.items h).1 }) edge.within (omega (arith, long)))
+          (cut_holds inner from to n (length w.items) w view holds (λ h. record { ordered = edge.within; within = (ends w.items h).1.within; from = edge.cuts; to = (ends w.items h).1.cuts }) edge.within (omega (arith, long)))
 
       -- only the first items stay
       pub truncated : (inner : Option (BlockView T (Unit {0}))) (from to n : ℕ) (w : Window T) → window_seen inner from to ≡ w → Holds legal inner from to → IsEdge boundary w.items n → Holds legal inner from (from + n)
@@ -68,7 +68,7 @@ module _ {T : Type 0} where
           let long = window_length inner from to w view holds.0 in
           let zero : from + 0 ≡ from = omega arith in
           subst (λ f. Holds legal inner f (from + n)) zero
-          (cut_holds inner from to 0 n w view holds (λ h. record { ordered = omega arith; from = (ends w.items h).0; to = edge }) (omega arith) (omega (arith, long, edge.within)))
+          (cut_holds inner from to 0 n w view holds (λ h. record { ordered = omega arith; within = edge.within; from = (ends w.items h).0.cuts; to = edge.cuts }) (omega arith) (omega (arith, long, edge.within)))
 
   -- a window that is cut short is seen as its first items, where it stood
   pub truncated_seen : (inner : Option (BlockView T (Unit {0}))) (from to n : ℕ) (w : Window T) → window_seen inner from to ≡ w → IsWithin inner from to → from + n ≤ to → window_seen inner from (from + n) ≡ record { items = take n w.items; place = w.place }

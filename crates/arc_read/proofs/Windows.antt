@@ -11,7 +11,7 @@ use Rattle.arc_buffer.proofs.Sub.{sub-sub, sub-whole, length-sub}
 use Rattle.arc_block.specs.Block.{BlockInfo, BlockView, native, native_facts, native_block}
 use Rattle.arc_block.specs.declared.block.TheConstants.{MAX_OWNERS}
 use Rattle.arc_block.specs.Place.{Place, nowhere, on_block, part_place}
-use Rattle.arc_read.specs.Window.{Window, made_window, part_window, window_seen, IsWithin, IsNativeOf, IsWholeOf}
+use Rattle.arc_read.specs.Window.{Window, made_window, window_seen, IsWithin, IsNativeOf, IsWholeOf}
 use Rattle.arc_read.specs.Steps.{Shares, Makes}
 
 -- a window that stands on a block is seen as a part of it
@@ -31,7 +31,7 @@ part_within boundary inner from to start end w b view is within range =
     let inside = subst (λ x. IsWithin x from to) is within in
     let seen : w.items ≡ sub b.items from to = ap (λ v. v.items) (on_block_seen inner from to w b view is) in
     let long : length w.items ≡ to - from = ap length seen ∙ length-sub b.items from to inside.0 inside.1 in
-    (range.ordered, omega (arith, range.to.within, long, inside.0), inside.1)
+    (range.ordered, omega (arith, range.within, long, inside.0), inside.1)
 
 -- the part from start to end of a window, as a window over the same block
 pub part_seen : {T : Type 0} (boundary : List T → ℕ → Bool) (has_static : Bool) (inner : Option (BlockView T (Unit {0}))) (from to start end : ℕ) (w : Window T) (b : BlockView T (Unit {0})) → window_seen inner from to ≡ w → inner ≡ Some b → IsWithin inner from to → IsRange boundary w.items start end
@@ -89,7 +89,7 @@ part_kept_by {T} legal boundary law has_static inner from to start end w b b' vi
 -- it has the part's items, and stands where its source does, that much further in, as the new owner
 pub part_shared : {T H : Type 0} (boundary : List T → ℕ → Bool) (has_static : Bool) (inner : Option (BlockView T (Unit {0}))) (from to start end : ℕ) (w : Window T) (b b' : BlockView T (Unit {0})) (old new : Pass H) → window_seen inner from to ≡ w → inner ≡ Some b → IsWithin inner from to → IsRange boundary w.items start end
     → (has_static && ((end - start) == 0)) ≡ false → b'.items ≡ b.items → b'.facts ≡ b.facts → MakesAnother b.owner old new b'.owner
-    → let seen = window_seen (Some b') (from + start) (from + end) in let part = part_window has_static w start end in (seen.items ≡ part.items) × Shares part.place old new seen.place
+    → let seen = window_seen (Some b') (from + start) (from + end) in let part : Window T = record { items = sub w.items start end; place = part_place has_static (sub w.items start end) start w.place } in (seen.items ≡ part.items) × Shares part.place old new seen.place
 part_shared {T} boundary has_static inner from to start end w b b' old new view is within range kept items facts makes =
     let part = part_seen boundary has_static inner from to start end w b view is within range kept in
     let P : Place (Option Owner) (Unit {0}) → Type 0 = λ place. Shares place old new (on_block (Some b'.owner) (from + start) b'.facts) in (

@@ -2,8 +2,8 @@
 use Rattle.std.specs.Prelude.{◌≡◌, ℕ, ◌<◌, Bool, if◌then◌else◌, ◌==◌, List, length, take, drop}
 use Rattle.arc_owners.specs.declared.count.tokens.Pass.{Pass}
 use Rattle.arc_buffer.specs.Slice.{sub}
-use Rattle.arc_block.specs.Place.{moved}
-use Rattle.arc_read.specs.Window.{Window, part_window}
+use Rattle.arc_block.specs.Place.{moved, part_place}
+use Rattle.arc_read.specs.Window.{Window}
 use Rattle.arc_read.specs.Steps.{Shares}
 
 -- the part from start to end, as the same owner: it stays where it stands, also with no items
@@ -16,7 +16,7 @@ module _ {T H : Type 0} where
   abbrev pub SharesPart : Bool → Window T → ℕ → ℕ → Pass H → Pass H → Window T → Type 0
   SharesPart has_static w start end old new part =
       (part.items ≡ sub w.items start end)
-      × Shares (part_window has_static w start end).place old new part.place
+      × Shares (part_place has_static (sub w.items start end) start w.place) old new part.place
 
   -- a window was split in two, and the back was handed out. At the front end that is the window
   -- itself, and the front is new; else the front is the window itself, and the back is new

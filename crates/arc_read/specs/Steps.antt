@@ -1,6 +1,6 @@
 -- What a call does to the pass of its window's block. A window that stands where no owners are
 -- counted has a pass of no block, and its calls add nothing.
-use Rattle.std.specs.Prelude.{◌≡◌, ℕ, Bool, true, false, Option, List, []}
+use Rattle.std.specs.Prelude.{◌≡◌, ℕ, Bool, true, false, Option, Some, None, List, []}
 use Rattle.arc_owners.specs.declared.error.OwnerError.{OwnerError}
 use Rattle.arc_owners.specs.declared.error.OwnerError.TheVariants.{AllocError, CountFull}
 use Rattle.arc_owners.specs.declared.count.tokens.Pass.{Pass}
@@ -9,16 +9,9 @@ use Rattle.arc_owners.specs.count.Calls.{Owner, Appends, IsOfBlock, IsPassOf, Is
 use Rattle.arc_owners.specs.count.Calls.{pass_block, pass_number, history_of, IsFirst, IsFreshPass}
 use Rattle.arc_owners.specs.count.Calls.{IsNewPass, FindsFull, MakesAnother, Asks}
 use Rattle.arc_block.specs.Block.{Sort, BlockInfo}
-use Rattle.arc_block.specs.Place.{Place, nowhere, static_data, on_block, at_owner, for_owner}
+use Rattle.arc_block.specs.Place.{Place, nowhere, static_data, on_block, at_owner}
 use Rattle.arc_block.specs.declared.block.TheConstants.{MAX_OWNERS}
 use Rattle.arc_read.specs.Window.{Window, made_window, IsWholeOf}
-
--- whether a call on a window at this place may want memory, which by its layout depends on the sort
--- of the block
-abbrev pub MayWant : {O M : Type 0} → (Sort → Bool) → Place O M → Type 0
-MayWant wants nowhere = ⊥
-MayWant wants static_data = ⊥
-MayWant wants (on_block owner offset facts) = wants facts.sort ≡ true
 
 module _ {M H : Type 0} where
   -- a pass of the window's block, or of none
@@ -27,16 +20,25 @@ module _ {M H : Type 0} where
 
   -- a window was made that stands where this one does, as another owner of the same block
   abbrev pub Shares : Place (Option Owner) M → Pass H → Pass H → Place (Option Owner) M → Type 0
-  Shares place old new there = at_owner place ((there ≡ place) × (new ≡ old))
-      (λ o. (other : Owner) × MakesAnother o old new other × (there ≡ for_owner other place))
+  Shares nowhere old new there = (there ≡ nowhere) × (new ≡ old)
+  Shares static_data old new there = (there ≡ static_data) × (new ≡ old)
+  Shares (on_block None offset facts) old new there =
+      (there ≡ on_block None offset facts) × (new ≡ old)
+  Shares (on_block (Some o) offset facts) old new there = (other : Owner)
+      × MakesAnother o old new other × (there ≡ on_block (Some other) offset facts)
 
-  -- no window was made: the count was found at its greatest, or the layout's clones want memory,
-  -- and nothing was added
+  -- no window was made: the count was found at its greatest, or the layout's clones want memory on
+  -- a block of this sort, and nothing was added
   abbrev pub Refuses : (Sort → Bool) → Place (Option Owner) M → Pass H → Pass H → OwnerError
       → Type 0
-  Refuses wants place old new CountFull = at_owner place ⊥ (λ o. FindsFull o old new)
-  Refuses wants place old new AllocError = MayWant wants place
-      × at_owner place (new ≡ old) (λ o. (before : List Line) × Appends o.block old new before [])
+  Refuses wants nowhere old new e = ⊥
+  Refuses wants static_data old new e = ⊥
+  Refuses wants (on_block None offset facts) old new CountFull = ⊥
+  Refuses wants (on_block None offset facts) old new AllocError =
+      (wants facts.sort ≡ true) × (new ≡ old)
+  Refuses wants (on_block (Some o) offset facts) old new CountFull = FindsFull o old new
+  Refuses wants (on_block (Some o) offset facts) old new AllocError =
+      (wants facts.sort ≡ true) × (before : List Line) × Appends o.block old new before []
 
 -- A call was made with a new pass of the window's block, and the last pass is one that is there: so
 -- much of the block's history the call has really seen.

@@ -3,12 +3,13 @@ use Rattle.std.specs.Prelude.{◌≡◌, ℕ, ◌≤◌, Bool, false, List, [], 
 use Rattle.arc_owners.specs.count.Calls.{Owner}
 use Rattle.arc_buffer.specs.Slice.{sub}
 use Rattle.arc_block.specs.Block.{native, BlockInfo, BlockView, native_facts}
-use Rattle.arc_block.specs.Place.{Place, WindowView, nowhere, static_data, on_block, IsOnBlock}
-use Rattle.arc_block.specs.Place.{made_place, part_place}
+use Rattle.arc_block.specs.Place.{Place, nowhere, static_data, on_block, IsOnBlock, made_place}
 
--- a window on a block says which of its owners it is, where the block counts them
-abbrev pub Window : Type 0 → Type 0
-Window T = WindowView T (Option Owner) (Unit {0})
+-- what is seen of a window: its items, and where it stands: on a block as one of its owners, where
+-- the block counts them
+pub record Window (T : Type 0) : Type 0 where
+  pub items : List T
+  pub place : Place (Option Owner) (Unit {0})
 
 -- the window that is made of a list, where its block has this owner: a native block has a place for
 -- each item
@@ -23,12 +24,6 @@ abbrev pub NeedsBlock : {T : Type 0} → Bool → List T → Type 0
 NeedsBlock {T} has_static items =
     let facts : BlockInfo (Unit {0}) = native_facts false (length items) in
     IsOnBlock (made_place {T = T} {N = Unit {0}} has_static tt facts items)
-
--- the window over a window's part from start to end, as the same owner
-abbrev pub part_window : {T : Type 0} → Bool → Window T → ℕ → ℕ → Window T
-part_window has_static w start end =
-    let items = sub w.items start end in
-    record { items = items; place = part_place has_static items start w.place }
 
 -- the part from start to end of the block that a window stands on, if it stands on one
 abbrev pub window_seen : {T : Type 0} → Option (BlockView T (Unit {0})) → ℕ → ℕ → Window T

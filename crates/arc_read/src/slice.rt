@@ -4,10 +4,10 @@ ghost use Rattle.std.specs.Prelude.{IsTrue, IfOk, IfErr, OnErr};
 ghost use Rattle.arc_buffer.specs.Slice.{IsRange, range_answer};
 ghost use Rattle.arc_buffer.specs.Slice.{sub};
 ghost use Rattle.arc_block.specs.Block.{native_block, IsLimited};
-ghost use Rattle.arc_block.specs.Place.{nowhere, at_owner};
+ghost use Rattle.arc_block.specs.Place.{nowhere, at_owner, part_place};
 ghost use Rattle.arc_owners.specs.count.Calls.{IsPassOfNone, IsFirst, IsFreshPass, IsNewPass};
 ghost use Rattle.arc_owners.specs.count.Calls.{Learns, Asks, Leaves, TakesBlock, AsksAndLeaves};
-ghost use Rattle.arc_read.specs.Window.{NeedsBlock, IsWholeOf, part_window};
+ghost use Rattle.arc_read.specs.Window.{NeedsBlock, IsWholeOf};
 ghost use Rattle.arc_read.specs.Steps.{IsPassAt, Makes, Begins, Shares, Refuses, RefusesArray};
 ghost use Rattle.arc_read.specs.Steps.{WithNewPass};
 
@@ -301,10 +301,12 @@ impl<S: Slice, L: Layout, A: Allocator + Copy, H: Mark> ArcSlice<S, L, A, H> {
         requires pass { IsPassAt self.now.place pass.old }
         ensures items { IfOk result (λ part. part.items ≡ sub self.now.items start end) }
         ensures place { IfOk result (λ part.
-            Shares (part_window L.STATIC self.now start end).place pass.old pass.new part.place) }
+            Shares (part_place L.STATIC (sub self.now.items start end) start self.now.place)
+            pass.old pass.new part.place) }
         ensures refused { IfErr result (λ e.
             Refuses L.clone_wants
-            (part_window L.STATIC self.now start end).place pass.old pass.new e) }
+            (part_place L.STATIC (sub self.now.items start end) start self.now.place)
+            pass.old pass.new e) }
     {
         match &self.block {
             Some(block) if !stands_on_nothing::<L>(end - start) => Ok(ArcSlice {
@@ -569,10 +571,13 @@ impl<S: Slice, L: Layout, A: Allocator + Copy, H: Stepping> ArcSlice<S, L, A, H>
         ensures items { IfOk result (λ part. part.items ≡ sub self.now.items start end) }
         ensures place { IfOk result (λ part.
             WithNewPass {H = H} H.real self.now.place (λ first last.
-            Shares (part_window L.STATIC self.now start end).place first last part.place)) }
+            Shares (part_place L.STATIC (sub self.now.items start end) start self.now.place)
+            first last part.place)) }
         ensures refused { IfErr result (λ e.
             WithNewPass {H = H} H.real self.now.place (λ first last.
-            Refuses L.clone_wants (part_window L.STATIC self.now start end).place first last e)) }
+            Refuses L.clone_wants
+            (part_place L.STATIC (sub self.now.items start end) start self.now.place)
+            first last e)) }
     {
         let mut pass = self.pass();
         let made = self.try_subslice_as(rt, start, end, &mut pass);

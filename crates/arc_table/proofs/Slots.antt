@@ -8,9 +8,9 @@ use Rattle.arc_owners.specs.declared.count.tokens.Pass.{Pass}
 use Rattle.arc_owners.specs.count.Calls.{Owner, Asks, Leaves, MakesAnother, FindsFull}
 use Rattle.arc_owners.specs.declared.error.OwnerError.{OwnerError}
 use Rattle.arc_owners.specs.declared.error.OwnerError.TheVariants.{AllocError, CountFull}
-use Rattle.arc_block.specs.Block.{Sort}
+use Rattle.arc_block.specs.Block.{Sort, BlockInfo}
 use Rattle.arc_block.specs.Owned.{Stand}
-use Rattle.arc_block.specs.Place.{Place, nowhere, static_data, on_block, at_owner, for_owner, moved}
+use Rattle.arc_block.specs.Place.{Place, nowhere, static_data, on_block, at_owner, moved}
 use Rattle.arc_read.specs.Steps.{IsPassAt, Shares, Refuses}
 use Rattle.arc_table.specs.Additions.{Through, Along, Beside, RefusesAt, AddsNothing}
 use Rattle.arc_table.specs.Stands.{numbered, is_numbered, stand_at, HasPassFor, TakenOut, put_back}
@@ -135,16 +135,14 @@ module _ {H : Type 0} (passes : List (Pass H)) where
           → is_numbered b place ≡ true → HasPassFor passes (stand_at b place)
           → TakenOut passes b p left → Refuses wants place p new e
           → RefusesAt wants (numbered b place) (stand_at b place) passes (put_back left b new) e
-      refuses wants CountFull b nowhere fits has took why = absurd why
-      refuses wants CountFull b static_data fits has took why = absurd why
+      refuses wants e b nowhere fits has took why = absurd why
+      refuses wants e b static_data fits has took why = absurd why
       refuses wants CountFull None (on_block owner offset facts) fits has took why =
           absurd (false≢true fits)
       refuses wants CountFull (Some n) (on_block None offset facts) fits has took why =
           absurd (false≢true fits)
       refuses wants CountFull (Some n) (on_block (Some owner) offset facts) fits has took why =
           (refl, through n owner FindsFull has took why)
-      refuses wants AllocError b nowhere fits has took why = absurd why.0
-      refuses wants AllocError b static_data fits has took why = absurd why.0
       refuses wants AllocError None (on_block owner offset facts) fits has took why =
           absurd (false≢true fits)
       refuses wants AllocError (Some n) (on_block None offset facts) fits has took why =
@@ -173,8 +171,7 @@ module _ {H : Type 0} (passes : List (Pass H)) where
           → Refuses wants (part_at nothing start place) p new e
           → RefusesAt wants (if nothing then nowhere else moved start (numbered b place))
           (stand_at b place) passes (put_back left b new) e
-      refuses-part true wants CountFull start b place fits has took why = absurd why
-      refuses-part true wants AllocError start b place fits has took why = absurd why.0
+      refuses-part true wants e start b place fits has took why = absurd why
       refuses-part false wants e start b place fits has took why =
           subst (λ s. RefusesAt wants (moved start (numbered b place)) s passes
               (put_back left b new) e) (moved-stand b start place)
@@ -185,12 +182,11 @@ module _ {H : Type 0} (passes : List (Pass H)) where
 
 -- the new window stands on the block with the same number
 module _ {H : Type 0} (p new : Pass H) where
-  for-fits : (b : Option ℕ) (other : Owner) (place : At) → is_numbered b place ≡ true
-      → is_numbered b (for_owner other place) ≡ true
-  for-fits b other nowhere fits = fits
-  for-fits b other static_data fits = fits
-  for-fits None other (on_block owner offset facts) fits = fits
-  for-fits (Some n) other (on_block owner offset facts) fits = refl
+  for-fits : (b : Option ℕ) (owner other : Owner) (offset : ℕ) (facts : BlockInfo (Unit {0}))
+      → is_numbered b (on_block (Some owner) offset facts) ≡ true
+      → is_numbered b (on_block (Some other) offset facts) ≡ true
+  for-fits None owner other offset facts fits = fits
+  for-fits (Some n) owner other offset facts fits = refl
 
   pub shares-fits : (b : Option ℕ) (place there : At) → is_numbered b place ≡ true
       → Shares place p new there → is_numbered b there ≡ true
@@ -198,7 +194,7 @@ module _ {H : Type 0} (p new : Pass H) where
   shares-fits b static_data there fits made = ap (is_numbered b) made.0 ∙ fits
   shares-fits b (on_block None offset facts) there fits made = ap (is_numbered b) made.0 ∙ fits
   shares-fits b (on_block (Some owner) offset facts) there fits made =
-      ap (is_numbered b) made.2 ∙ for-fits b made.0 (on_block (Some owner) offset facts) fits
+      ap (is_numbered b) made.2 ∙ for-fits b owner made.0 offset facts fits
 
   pub part-fits : (nothing : Bool) (start : ℕ) (b : Option ℕ) (place there : At)
       → is_numbered b place ≡ true → Shares (part_at nothing start place) p new there
@@ -208,13 +204,11 @@ module _ {H : Type 0} (p new : Pass H) where
       shares-fits b (moved start place) there (moved-fits b start place ∙ fits) made
 
   -- at the same place of it
-  for-place : (b : Option ℕ) (other : Owner) (place : At) → is_numbered b place ≡ true
-      → numbered b (for_owner other place) ≡ numbered b place
-  for-place b other nowhere fits = refl
-  for-place b other static_data fits = refl
-  for-place None other (on_block owner offset facts) fits = absurd (false≢true fits)
-  for-place (Some n) other (on_block None offset facts) fits = absurd (false≢true fits)
-  for-place (Some n) other (on_block (Some owner) offset facts) fits = refl
+  for-place : (b : Option ℕ) (owner other : Owner) (offset : ℕ) (facts : BlockInfo (Unit {0}))
+      → numbered b (on_block (Some other) offset facts)
+      ≡ numbered b (on_block (Some owner) offset facts)
+  for-place None owner other offset facts = refl
+  for-place (Some n) owner other offset facts = refl
 
   pub shares-place : (b : Option ℕ) (place there : At) → is_numbered b place ≡ true
       → Shares place p new there → numbered b there ≡ numbered b place
@@ -222,7 +216,7 @@ module _ {H : Type 0} (p new : Pass H) where
   shares-place b static_data there fits made = ap (numbered b) made.0
   shares-place b (on_block None offset facts) there fits made = ap (numbered b) made.0
   shares-place b (on_block (Some owner) offset facts) there fits made =
-      ap (numbered b) made.2 ∙ for-place b made.0 (on_block (Some owner) offset facts) fits
+      ap (numbered b) made.2 ∙ for-place b owner made.0 offset facts
 
   pub part-place : (nothing : Bool) (start : ℕ) (b : Option ℕ) (place there : At)
       → is_numbered b place ≡ true → Shares (part_at nothing start place) p new there

@@ -40,7 +40,7 @@ use Rattle.arc_owners.proofs.count.Cells.{row_new, row_adds, row_finds, row_writ
 use Rattle.arc_owners.proofs.count.Parts.{top, pool_sole, pool_alone, tally_in}
 use Rattle.arc_owners.proofs.count.States.{relet, fits-relet, one-lives}
 use Rattle.arc_owners.proofs.history.Steps.{one_is}
-use Rattle.arc_owners.proofs.history.Legality.{legal-front}
+use Rattle.arc_owners.proofs.history.Legality.{legal-nil, legal-front}
 use Rattle.arc_owners.proofs.count.Rolls.{entries-after}
 use Rattle.arc_owners.proofs.count.Opened.{shuts, opens, opened_by, opened, Shown, made_kept}
 use Rattle.arc_owners.proofs.count.Opened.{latest_of, rolled, seated, seat}
@@ -69,7 +69,7 @@ first-leased l (suc o) k e = absurd (false≢true (ap (λ (x : Bool × Lease). x
 first-fits : (t : BlockId) (l : Lease) → 1 ≤ t.most → t.most < 2 ^ 64 → Fits t (first_state l)
 unfolding live_owners owners_ever owners_ended
 first-fits t l one small = record {
-  legal = tt;
+  legal = legal-nil t.most t.began;
   live = refl;
   ever = refl;
   made = first-made l;

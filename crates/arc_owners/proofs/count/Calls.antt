@@ -1,9 +1,12 @@
 -- What a step of the word leaves, as contracts say it.
-use Rattle.std.proofs.Common.{if◌then◌else◌, inl, inr, ◌≡◌, ℕ, Bool, true, false, List, [], ◌∷◌, ◌++◌, refl, sym, ap, ◌∙◌, subst}
-use Rattle.std.proofs.lemmas.Bool.{false≢true}
-use Rattle.std.proofs.lemmas.List.{same_from_push}
+use Rattle.std.proofs.Common.{if◌then◌else◌, inl, inr, ◌≡◌, ℕ, Bool, true, false, eqb, List, [], ◌∷◌, ◌++◌, refl, sym, ap, ◌∙◌, subst}
+use Rattle.std.specs.List.{All}
+use Rattle.std.proofs.lemmas.Bool.{cases_Bool, eqb-false, false≢true}
+use Rattle.std.proofs.lemmas.List.{append-nil, append_cancel_left, same_from_push}
+use Rattle.std.proofs.lemmas.List.Elements.{All-nil, All-cons}
+use mathlib.Core.List.{IsPrefix}
 use Rattle.arc_owners.specs.declared.history.entry.Entry.{Entry}
-use Rattle.arc_owners.specs.declared.history.entry.Entry.TheVariants.{Up, Full, Down, Alone}
+use Rattle.arc_owners.specs.declared.history.entry.Entry.TheVariants.{Up, Full, Down, Alone, Promote}
 use Rattle.arc_owners.specs.declared.count.tokens.Pass.{Pass}
 use Rattle.arc_owners.specs.declared.count.word.OwnerToken.{OwnerToken}
 use Rattle.arc_owners.specs.declared.count.word.PassState.{PassState}
@@ -11,9 +14,9 @@ use Rattle.arc_owners.specs.count.Invariant.{BlockId, Line, entries_of, made_by,
 use Rattle.arc_owners.specs.history.Histories.{Beginning, Counted, LivesAlone, owners_ever, owners_ended, live_owners, is_counted, IsLegal}
 use Rattle.arc_owners.specs.history.Agreement.{Tells, Agrees}
 use Rattle.arc_owners.specs.count.Steps.{IsOf, SamePass, Wrote, FullIf, RaisedIf, Ends, IsOpened, EndsWithNew, SeesSole}
-use Rattle.arc_owners.specs.count.Calls.{Owner, Appends, Asks, MakesAnother, FindsFull, Leaves, SeesAlone, EndsInOneStep, EndsWithoutStep, EndsByItself, IsFirst, making, history_of}
+use Rattle.arc_owners.specs.count.Calls.{Owner, Appends, Asks, MakesAnother, FindsFull, Leaves, SeesAlone, EndsInOneStep, EndsWithoutStep, EndsByItself, IsFirst, history_of}
 use Rattle.arc_owners.proofs.history.Legality.{legal-front, legal-at}
-use Rattle.arc_owners.proofs.count.Rolls.{entries-append}
+use Rattle.arc_owners.proofs.count.Rolls.{entries-append, made-after}
 use Rattle.arc_owners.proofs.history.Events.{one_step}
 
 -- two lists that end in one line each are the same where they are in front
@@ -23,6 +26,19 @@ Ending = List Line × Line
 last-is : (front before : List Line) (x y : Line) → front ++ x ∷ [] ≡ before ++ y ∷ [] → ◌≡◌ {A = Ending} (front, x) (before, y)
 last-is front before x y e = let parts = same_from_push front before x y e in λ i. (parts.0 i, parts.1 i)
 
+-- lines of which this pass made none are those of others
+others : (p : ℕ) (ls : List Line) → made_by p ls ≡ [] → All (λ (l : Line). ¬ (l.0 ≡ p)) ls
+others p [] none = All-nil (λ (l : Line). ¬ (l.0 ≡ p))
+others p (l ∷ ls) none = elim (cases_Bool (eqb l.0 p)) [
+  | inl own ↦ (let e : l.1 ∷ made_by p ls ≡ [] = subst (λ (b : Bool). (if b then l.1 ∷ made_by p ls else made_by p ls) ≡ []) own none in absurd cc)
+  | inr other ↦ All-cons (λ (x : Line). ¬ (x.0 ≡ p)) l ls (eqb-false l.0 p other)
+      (others p ls (subst (λ (b : Bool). (if b then l.1 ∷ made_by p ls else made_by p ls) ≡ []) other none))
+]
+
+none_own : (p : ℕ) (seen before : List Line) (a : IsPrefix seen before) → made_by p before ≡ made_by p seen → made_by p a.0 ≡ []
+none_own p seen before a own = append_cancel_left (made_by p seen) (made_by p a.0) []
+    (sym (made-after p seen a.0) ∙ (ap (made_by p) a.1 ∙ (own ∙ sym (append-nil (made_by p seen)))))
+
 module _ {H : Type 0} (t : BlockId) (p r : Pass H) where
   abbrev Added : (List Line → Entry) → List Line → Type 0
   Added e before = AddedTo t p.trace.number p.trace.lines e before r.trace.lines
@@ -30,9 +46,11 @@ module _ {H : Type 0} (t : BlockId) (p r : Pass H) where
   pub appends : (e : List Line → Entry) (before : List Line) → SamePass t p.trace r.trace → Added e before → Appends t p r before (e before ∷ [])
   appends e before same a = record {
     same = ((same.0, same.1), same.2, λ (is : p.trace.ready ≡ true). same.3 ∙ is);
-    after_seen = a.0.after_seen;
-    none_own = a.0.own;
-    undisturbed = a.0.undisturbed;
+    since = a.0.after_seen.0;
+    after_seen = sym a.0.after_seen.1;
+    of_others = others p.trace.number a.0.after_seen.0 (none_own p.trace.number p.trace.lines before a.0.after_seen a.0.own);
+    undisturbed = λ (whole : t.whole ≡ true). append_cancel_left p.trace.lines a.0.after_seen.0 []
+        (a.0.after_seen.1 ∙ (sym (a.0.undisturbed whole) ∙ sym (append-nil p.trace.lines)));
     seen_now = a.1;
     legal = subst (λ (ls : List Line). IsLegal t.most t.began (entries_of ls)) (sym a.1) a.0.legal;
   }
@@ -56,11 +74,12 @@ module _ {H : Type 0} (o : Owner) (p r : Pass H) where
   -- a new owner was made where the word has a count
   pub made_of : (by new : OwnerToken H) → by.owner ≡ o.number → SamePass t p.trace r.trace → RaisedIf t p.trace r.trace by new true → MakesAnother o p r (record { block = new.block; number = new.owner; born = new.born })
   made_of by new is same raised = let before : List Line = raised.0.0 in let a = raised.0.1 in
-      let n : ℕ = next_owner before in let here = appends t p r (λ h. Up by.owner (next_owner h)) before same a in record {
+      let here = appends t p r (λ h. Up by.owner (next_owner h)) before same a in record {
         middle = p;
         joined = inl refl;
         before = before;
-        added = subst (λ (c : Bool × ℕ). Appends t p r before (making c.0 c.1 n ∷ [])) (λ i. (sym a.0.may.2 i, is i)) here;
+        added = subst (λ (c : Bool × (ℕ × ℕ)). Appends t p r before ((if c.0 then Up c.1.0 c.1.1 else Promote c.1.0 c.1.1) ∷ []))
+            (λ i. (sym a.0.may.2 i, (is i, sym raised.0.3 i))) here;
         made = λ i. record { block = raised.1 i; number = raised.0.3 i; born = raised.3 i };
       }
 
@@ -148,6 +167,18 @@ same_trace t p r was same lines = λ i. record { marker = r.marker; bound = (sam
 
 pub same_pass : {H : Type 0} (t : BlockId) (p r : Pass H) → IsOf t p.trace → SamePass t p.trace r.trace → r.trace.lines ≡ p.trace.lines → r.mark ≡ p.mark → r ≡ p
 same_pass t p r was same lines marks = let e : r.trace ≡ p.trace = same_trace t p.trace r.trace was same lines in λ i. record { trace = e i; mark = marks i }
+
+-- a raise whose exchange won made another owner
+pub made_raised : {H : Type 0} (t : BlockId) (p m r : Pass H) (by new : OwnerToken H) (b c : Bool) → b ≡ false → c ≡ true → by.block ≡ t → IsOf t p.trace → SamePass t p.trace m.trace × FullIf t p.trace m.trace by b
+    → SamePass t m.trace r.trace × RaisedIf t m.trace r.trace by new c → m.mark ≡ p.mark
+    → MakesAnother (record { block = by.block; number = by.owner; born = by.born }) p r (record { block = new.block; number = new.owner; born = new.born })
+made_raised t p m r by new true c k k' at was looked raised e = absurd (false≢true (sym k))
+made_raised t p m r by new false false k k' at was looked raised e = absurd (false≢true k')
+made_raised {H = H} t p m r by new false true k k' at was looked raised e =
+    let o : Owner = record { block = by.block; number = by.owner; born = by.born } in let other : Owner = record { block = new.block; number = new.owner; born = new.born } in
+    subst (λ (q : Pass H). MakesAnother o q r other) (same_pass t p m was looked.0 looked.1 e)
+    (subst (λ (u : BlockId). SamePass u m.trace r.trace × RaisedIf u m.trace r.trace by new true → MakesAnother o m r other) at
+    (λ (x : SamePass by.block m.trace r.trace × RaisedIf by.block m.trace r.trace by new true). made_of o m r by new refl x.0 x.1) raised)
 
 -- a raise whose exchange was lost leaves the pass as it was
 pub not_raised : {H : Type 0} (t : BlockId) (p m r : Pass H) (by new : OwnerToken H) (b c : Bool) → b ≡ false → c ≡ false → IsOf t p.trace → SamePass t p.trace m.trace × FullIf t p.trace m.trace by b

@@ -14,6 +14,13 @@ pub entries-after : (ls more : List Line) → entries_of (ls ++ more) ≡ entrie
 entries-after [] more = refl
 entries-after (l ∷ ls) more = ap (λ (es : List Entry). l.1 ∷ es) (entries-after ls more)
 
+pub made-after : (p : ℕ) (xs ys : List Line) → made_by p (xs ++ ys) ≡ made_by p xs ++ made_by p ys
+made-after p [] ys = refl
+made-after p (x ∷ xs) ys = elim (cases_Bool (eqb x.0 p)) [
+  | inl h ↦ rw h (ap (λ (es : List Entry). x.1 ∷ es) (made-after p xs ys))
+  | inr h ↦ rw h (made-after p xs ys)
+]
+
 pub made-own : (p : ℕ) (ls : List Line) (e : Entry) → made_by p (ls ++ (p, e) ∷ []) ≡ made_by p ls ++ e ∷ []
 made-own p [] e = rw (eq-eqb p p refl) refl
 made-own p (l ∷ ls) e = elim (cases_Bool (eqb l.0 p)) [

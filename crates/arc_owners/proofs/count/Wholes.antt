@@ -1,22 +1,24 @@
 -- What a call's record says of the history before it, where the word has a count; what a pass has
 -- seen under `Whole`, where nothing comes between two calls of the one pass; and who lives then.
-use Rattle.std.proofs.Common.{inl, inr, ◌≡◌, ℕ, ◌<◌, ◌≤◌, arith, Bool, true, false, List, [], ◌∷◌, ◌++◌, length, Some, None, refl, sym, ap, ◌∙◌, subst, append-nil, append_assoc, eqb}
+use Rattle.std.proofs.Common.{inl, inr, ◌≡◌, ℕ, ◌<◌, ◌≤◌, arith, Bool, true, false, List, [], ◌∷◌, ◌++◌, length, Some, None, refl, sym, ap, ◌∙◌, subst, append-nil, append_assoc}
 use Rattle.std.specs.Prelude.{if◌then◌else◌, IsTrue, ◌↔◌, map, IfOk, IfErr, Result, Ok, Err}
-use Rattle.std.proofs.lemmas.Bool.{cases_Bool, eq-eqb, false≢true}
+use Rattle.std.proofs.lemmas.Bool.{eq-eqb, ne_eqb, false≢true}
+use Rattle.std.specs.List.{All}
+use Rattle.std.proofs.lemmas.List.Elements.{All-head, All-tail}
 use Rattle.arc_owners.specs.declared.history.entry.Entry.{Entry}
-use Rattle.arc_owners.specs.declared.history.entry.Entry.TheVariants.{Up, Full, Alone, Joined}
+use Rattle.arc_owners.specs.declared.history.entry.Entry.TheVariants.{Up, Full, Alone, Promote, Joined}
 use Rattle.arc_owners.specs.declared.mark.Mark.{Ghosts}
 use Rattle.arc_owners.specs.declared.count.tokens.Pass.{Pass}
 use Rattle.arc_owners.specs.declared.count.tokens.Share.{Share}
 use Rattle.arc_owners.specs.count.Invariant.{BlockId, Line, entries_of, made_by, next_owner}
 use Rattle.arc_owners.specs.history.Histories.{Beginning, LivesAlone, NeverLived, owner_made, owner_ended, owners_ever, live_owners, is_counted, is_in, MayFollow}
 use Rattle.arc_owners.specs.history.Machine.{without_number}
-use Rattle.arc_owners.specs.count.Calls.{Owner, Appends, Asks, MayJoin, MakesAnother, FindsFull, Leaves, HasCountIn, IsFirst, IsFreshPass, IsPassOf, IsNewPass, IsSamePass, owner_of, making, mine, seen}
+use Rattle.arc_owners.specs.count.Calls.{Owner, Appends, Asks, MayJoin, MakesAnother, FindsFull, Leaves, HasCountIn, IsFirst, IsFreshPass, IsPassOf, IsNewPass, IsSamePass, owner_of, mine, seen}
 use Rattle.arc_owners.proofs.history.Legality.{legal-at, legal-front}
 use Rattle.arc_owners.proofs.history.Owned.{live-same, live-ended, ever-append}
 use Rattle.arc_owners.proofs.history.Steps.{counted-more}
 use Rattle.arc_owners.proofs.history.Told.{Owned, grown, legal-owned}
-use Rattle.arc_owners.proofs.count.Rolls.{entries-after}
+use Rattle.arc_owners.proofs.count.Rolls.{entries-after, made-after}
 
 -- lines that one pass made
 entries-all : (p : ℕ) (es : List Entry) → entries_of (map (λ e. (p, e)) es) ≡ es
@@ -27,12 +29,11 @@ made-all : (p : ℕ) (es : List Entry) → made_by p (map (λ e. (p, e)) es) ≡
 made-all p [] = refl
 made-all p (e ∷ es) = rw (eq-eqb p p refl) (ap (λ (xs : List Entry). e ∷ xs) (made-all p es))
 
-made-after : (p : ℕ) (xs ys : List Line) → made_by p (xs ++ ys) ≡ made_by p xs ++ made_by p ys
-made-after p [] ys = refl
-made-after p (x ∷ xs) ys = elim (cases_Bool (eqb x.0 p)) [
-  | inl h ↦ rw h (ap (λ (es : List Entry). x.1 ∷ es) (made-after p xs ys))
-  | inr h ↦ rw h (made-after p xs ys)
-]
+-- lines of others
+made-others : (p : ℕ) (ls : List Line) → All (λ (l : Line). ¬ (l.0 ≡ p)) ls → made_by p ls ≡ []
+made-others p [] all = refl
+made-others p (l ∷ ls) all =
+    rw (ne_eqb l.0 p (All-head (λ (x : Line). ¬ (x.0 ≡ p)) l ls all)) (made-others p ls (All-tail (λ (x : Line). ¬ (x.0 ≡ p)) l ls all))
 
 -- a word that has a count keeps it
 counted-after : (began : Beginning) (h more : List Entry) → is_counted began h ≡ true → is_counted began (h ++ more) ≡ true
@@ -49,15 +50,21 @@ module _ {H : Type 0} {t : BlockId} {old new : Pass H} {before : List Line} {es 
   pub seen-after : seen new ≡ entries_of before ++ es
   seen-after = ap entries_of a.seen_now ∙ (entries-after before (map (λ e. (old.trace.number, e)) es) ∙ ap (λ (xs : List Entry). entries_of before ++ xs) (entries-all old.trace.number es))
 
+  own-before : made_by old.trace.number before ≡ mine old
+  own-before =
+      ap (made_by old.trace.number) a.after_seen
+      ∙ (made-after old.trace.number old.trace.lines a.since
+      ∙ (ap (λ (es : List Entry). mine old ++ es) (made-others old.trace.number a.since a.of_others) ∙ append-nil (mine old)))
+
   -- it made these entries, and no others since
   pub mine-more : mine new ≡ mine old ++ es
   mine-more =
       ap (λ (p : ℕ). made_by p new.trace.lines) a.same.1 ∙ (ap (made_by old.trace.number) a.seen_now
-      ∙ (made-after old.trace.number before (map (λ e. (old.trace.number, e)) es) ∙ (λ i. a.none_own i ++ made-all old.trace.number es i)))
+      ∙ (made-after old.trace.number before (map (λ e. (old.trace.number, e)) es) ∙ (λ i. own-before i ++ made-all old.trace.number es i)))
 
   -- under `Whole` the history before is what the pass had seen
   pub before-is : t.whole ≡ true → entries_of before ≡ seen old
-  before-is whole = ap entries_of (sym (a.undisturbed whole))
+  before-is whole = ap entries_of (a.after_seen ∙ (ap (λ (ls : List Line). old.trace.lines ++ ls) (a.undisturbed whole) ∙ append-nil old.trace.lines))
 
   pub seen-more : t.whole ≡ true → seen new ≡ seen old ++ es
   seen-more whole = seen-after ∙ ap (λ (h : List Entry). h ++ es) (before-is whole)
@@ -65,8 +72,8 @@ module _ {H : Type 0} {t : BlockId} {old new : Pass H} {before : List Line} {es 
   -- where the pass knew that the word has a count, it had one before the call, and has one after it
   pub counted-before : HasCountIn t (seen old) → HasCountIn t (entries_of before)
   counted-before c =
-      subst (λ (h : List Entry). is_counted t.began h ≡ true) (sym (entries-after old.trace.lines a.after_seen.0) ∙ ap entries_of a.after_seen.1)
-      (counted-after t.began (seen old) (entries_of a.after_seen.0) c)
+      subst (λ (h : List Entry). is_counted t.began h ≡ true) (sym (ap entries_of a.after_seen ∙ entries-after old.trace.lines a.since))
+      (counted-after t.began (seen old) (entries_of a.since) c)
 
   pub counted-still : HasCountIn t (seen old) → HasCountIn t (seen new)
   counted-still c = subst (λ (h : List Entry). is_counted t.began h ≡ true) (sym seen-after) (counted-after t.began (entries_of before) es (counted-before c))
@@ -83,6 +90,17 @@ unjoined : {H : Type 0} (o : Owner) {old middle : Pass H} → HasCountIn o.block
 unjoined o c (inl same) = same
 unjoined o c (inr joined) = absurd (false≢true (sym joined.1 ∙ c))
 
+-- the entry by which a new owner is made
+abbrev making : Bool → ℕ → ℕ → Entry
+making c by new = if c then Up by new else Promote by new
+
+-- the new owner's number is how many the history had
+makes-next : {H : Type 0} {o : Owner} {old new : Pass H} {other : Owner} (makes : MakesAnother o old new other)
+    → Appends o.block makes.middle new makes.before (making (is_counted o.block.began (entries_of makes.before)) o.number (next_owner makes.before) ∷ [])
+makes-next {o = o} {new = new} makes =
+    subst (λ (n : ℕ). Appends o.block makes.middle new makes.before (making (is_counted o.block.began (entries_of makes.before)) o.number n ∷ []))
+    (ap (λ (x : Owner). x.number) makes.made) makes.added
+
 -- what a call adds on a word that its pass knows to be counted: the one entry, and nothing was
 -- joined
 module _ {H : Type 0} {o : Owner} {old new : Pass H} (c : HasCountIn o.block (seen old)) where
@@ -92,7 +110,7 @@ module _ {H : Type 0} {o : Owner} {old new : Pass H} (c : HasCountIn o.block (se
   pub counted-makes : {other : Owner} → MakesAnother o old new other
       → (before : List Line) × Appends o.block old new before (Up o.number (next_owner before) ∷ []) × (other.block ≡ o.block) × (other.number ≡ next_owner before)
   counted-makes makes =
-      let here = subst (λ (p : Pass H). Appends o.block p new makes.before (making (is_counted o.block.began (entries_of makes.before)) o.number (next_owner makes.before) ∷ [])) (unjoined o c makes.joined) makes.added in (
+      let here = subst (λ (p : Pass H). Appends o.block p new makes.before (making (is_counted o.block.began (entries_of makes.before)) o.number (next_owner makes.before) ∷ [])) (unjoined o c makes.joined) (makes-next makes) in (
         makes.before,
         subst (λ (b : Bool). Appends o.block old new makes.before (making b o.number (next_owner makes.before) ∷ [])) (counted-before here c) here,
         ap (λ (x : Owner). x.block) makes.made,
@@ -185,7 +203,7 @@ alone-read {before = before} by false a alone = ap live_owners (seen-after a ∙
 pub alone-asked : {H : Type 0} {o : Owner} {old new : Pass H} → Asks o old new true → LivesAlone o.number (seen new)
 alone-asked {o = o} asks = alone-read o.number (is_counted o.block.began (entries_of asks.before)) asks.added (asks.exact.0 refl)
 
--- an entry by which an owner is made
+-- what an entry does by which an owner is made
 making-made : (c : Bool) (by new : ℕ) → owner_made (making c by new) ≡ Some new
 making-made true by new = refl
 making-made false by new = refl
@@ -244,9 +262,9 @@ module _ {H : Type 0} {o : Owner} {old new : Pass H} (whole : o.block.whole ≡ 
   pub lives-made : {other : Owner} → MakesAnother o old new other → live_owners (seen new) ≡ live_owners (seen old) ++ other.number ∷ []
   lives-made makes =
       let c = is_counted o.block.began (entries_of makes.before) in let n : ℕ = next_owner makes.before in let e = making c o.number n in
-      let never = making-never c o.number n o.block.most o.block.began (entries_of makes.before) (may-stand makes.added) in
-      ap live_owners (seen-after makes.added)
-      ∙ (grown (entries_of makes.before) e n (making-made c o.number n) (making-ended c o.number n) never (owned-before makes.added)
+      let never = making-never c o.number n o.block.most o.block.began (entries_of makes.before) (may-stand (makes-next makes)) in
+      ap live_owners (seen-after (makes-next makes))
+      ∙ (grown (entries_of makes.before) e n (making-made c o.number n) (making-ended c o.number n) never (owned-before (makes-next makes))
       ∙ (λ i. (ap live_owners (before-is makes.added whole) ∙ lives-joined o whole makes.joined) i ++ sym (ap (λ (x : Owner). x.number) makes.made) i ∷ []))
 
   -- the new owner never lived
@@ -254,7 +272,7 @@ module _ {H : Type 0} {o : Owner} {old new : Pass H} (whole : o.block.whole ≡ 
   made-never makes =
       let c = is_counted o.block.began (entries_of makes.before) in let n : ℕ = next_owner makes.before in
       let ever : owners_ever (entries_of makes.before) ≡ owners_ever (seen old) = ap owners_ever (before-is makes.added whole) ∙ ever-joined o whole makes.joined in
-      (λ i. is_in (ap (λ (x : Owner). x.number) makes.made i) (sym ever i)) ∙ making-never c o.number n o.block.most o.block.began (entries_of makes.before) (may-stand makes.added)
+      (λ i. is_in (ap (λ (x : Owner). x.number) makes.made i) (sym ever i)) ∙ making-never c o.number n o.block.most o.block.began (entries_of makes.before) (may-stand (makes-next makes))
 
   -- its number is how many owners there have been
   pub made-number : {other : Owner} → MakesAnother o old new other → other.number ≡ length (owners_ever (seen old))
@@ -276,6 +294,6 @@ room-made {o = o} whole two makes =
     let c = is_counted o.block.began h in
     let room =
     making-room c o.number (next_owner makes.before) o.block.most o.block.began h two
-    (may-stand makes.added) in
-    let same = ap live_owners (before-is makes.added whole) ∙ lives-joined o whole makes.joined in
+    (may-stand (makes-next makes)) in
+    let same = ap live_owners (before-is (makes-next makes) whole) ∙ lives-joined o whole makes.joined in
     subst (λ (ns : List ℕ). length ns < o.block.most) same room

@@ -6,11 +6,11 @@ use Rattle.core.proofs.iter.runs.Lists.{fold-append}
 use Rattle.arc_owners.specs.declared.history.entry.Entry.{Entry}
 use Rattle.arc_owners.specs.declared.history.entry.Entry.TheVariants.{Up, Full, Down, Alone, Promote, Joined}
 use Rattle.arc_owners.specs.declared.history.event.Event.{Event}
-use Rattle.arc_owners.specs.history.Histories.{Counted, owners_ever, owners_ended, live_owners, is_promotion, is_promoted, is_counted, MayFollow, IsLegalAfter, IsLegal}
+use Rattle.arc_owners.specs.history.Histories.{Counted, owners_ever, owners_ended, live_owners, is_promotion, is_promoted, is_counted, MayFollow, IsLegal}
 use Rattle.arc_owners.specs.history.Machine.{Machine, step, changed, opening, after_events}
 use Rattle.arc_owners.specs.history.Agreement.{Tells, is_exchange}
 use Rattle.arc_owners.proofs.history.Owned.{promoted-append}
-use Rattle.arc_owners.proofs.history.Legality.{legal-append}
+use Rattle.arc_owners.proofs.history.Legality.{IsLegalAfter, legal-after, legal-nil, legal-append}
 use Rattle.arc_owners.proofs.history.Events.{IsStep, one_event}
 
 counted : (h : List Entry) → is_counted Counted h ≡ true
@@ -69,4 +69,4 @@ module _ (most : ℕ) where
       (realizes (before ++ e ∷ []) rest all (subst (λ (x : Machine). Tells Counted x (before ++ e ∷ [])) (sym next) one.3) (legal-append most Counted before e l r.0) (still_none before e n s) r.1)
 
   pub realized : (h : List Entry) → IsLegal most Counted h → (events : List Event) × Tells_after events h
-  realized h l = realizes [] h [] opens tt none_promoted l
+  realized h l = realizes [] h [] opens (legal-nil most Counted) none_promoted (legal-after most Counted h l)

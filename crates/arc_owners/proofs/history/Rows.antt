@@ -4,6 +4,7 @@ use Rattle.std.proofs.lemmas.Bool.{false≢true}
 use Rattle.arc_owners.specs.declared.history.entry.Entry.TheVariants.{Up, Full, Down, Alone, Promote, Joined}
 use Rattle.arc_owners.specs.declared.history.event.Event.TheVariants.{Load, ExchangeWon, ExchangeLost, CountUp, FullFound, CountDown, UniquenessLoad}
 use Rattle.arc_owners.specs.history.Histories.{Lone, Counted, owners_ever, owners_ended, live_owners, is_promoted, is_counted, IsLegal}
+use Rattle.arc_owners.proofs.history.Legality.{legal_from}
 use Rattle.arc_owners.specs.history.Machine.{is_fresh, step, after_events}
 
 -- two owners are made, the count is found full, one goes, and uniqueness is read of 2; the last
@@ -28,29 +29,29 @@ first_goes = refl
 -- the history of the promotion is legal
 pub promotion_legal : IsLegal 3 Lone (Promote 0 1 ∷ Joined 0 ∷ Up 0 2 ∷ [])
 unfolding live_owners owners_ever owners_ended is_counted is_promoted
-promotion_legal = ((refl, refl, refl), ((refl, refl), ((refl, refl, refl, lit< tt), tt)))
+promotion_legal = legal_from 3 Lone (Promote 0 1 ∷ Joined 0 ∷ Up 0 2 ∷ []) ((refl, refl, refl), ((refl, refl), ((refl, refl, refl, lit< tt), tt)))
 
 -- no third owner where there can be two
 pub up_at_most_illegal : IsLegal 2 Counted (Up 0 1 ∷ Up 0 2 ∷ []) → ⊥
 unfolding live_owners owners_ever owners_ended is_counted is_promoted
-up_at_most_illegal h = absurd (omega (arith, h.1.0.3))
+up_at_most_illegal h = absurd (omega (arith, (h.each (Up 0 1 ∷ []) [] (Up 0 2) refl).3))
 
 -- nothing after the last owner is gone
 pub after_last_illegal : IsLegal 3 Counted (Down 0 ∷ Down 0 ∷ []) → ⊥
 unfolding live_owners owners_ever owners_ended
-after_last_illegal h = false≢true h.1.0
+after_last_illegal h = false≢true (h.each (Down 0 ∷ []) [] (Down 0) refl)
 
 -- no second promotion
 pub promoted_twice_illegal : IsLegal 3 Lone (Promote 0 1 ∷ Down 1 ∷ Promote 0 2 ∷ []) → ⊥
 unfolding live_owners owners_ever owners_ended is_counted is_promoted
-promoted_twice_illegal h = false≢true (sym h.1.1.0.2)
+promoted_twice_illegal h = false≢true (sym (h.each (Promote 0 1 ∷ Down 1 ∷ []) [] (Promote 0 2) refl).2)
 
 -- an owner beside another isn't found alone
 pub alone_at_two_illegal : IsLegal 3 Counted (Up 0 1 ∷ Alone 0 true ∷ []) → ⊥
 unfolding live_owners owners_ever owners_ended is_counted is_promoted
-alone_at_two_illegal h = let e : ◌≡◌ {A = List ℕ} (0 ∷ 1 ∷ []) (0 ∷ []) = h.1.0.2.0 refl in absurd (omega (arith, ap length e))
+alone_at_two_illegal h = let e : ◌≡◌ {A = List ℕ} (0 ∷ 1 ∷ []) (0 ∷ []) = (h.each (Up 0 1 ∷ []) [] (Alone 0 true) refl).2.0 refl in absurd (omega (arith, ap length e))
 
 -- a lone word has no uniqueness to read
 pub alone_when_lone_illegal : IsLegal 3 Lone (Alone 0 true ∷ []) → ⊥
 unfolding live_owners owners_ever owners_ended is_counted is_promoted
-alone_when_lone_illegal h = false≢true h.0.1
+alone_when_lone_illegal h = false≢true (h.each [] [] (Alone 0 true) refl).1

@@ -10,7 +10,7 @@ use Rattle.arc_owners.specs.history.Histories.{Beginning, Lone, Counted, is_in, 
 use Rattle.arc_owners.specs.history.Machine.{Machine, opening, begins_counted, is_fresh, may_happen, with_number, without_number, changed, step, run, after_events}
 use Rattle.arc_owners.proofs.history.Numbers.{times, length-without, times-in, times-one, times-filter, times-made}
 use Rattle.arc_owners.proofs.history.Owned.{live-same, live-made, live-ended, never_lived, promoted-append}
-use Rattle.arc_owners.proofs.history.Legality.{legal-append}
+use Rattle.arc_owners.proofs.history.Legality.{legal-nil, legal-append}
 
 -- the machine stands as its entries tell
 pub record Stands (most : ℕ) (began : Beginning) (m : Machine) : Type 0 where
@@ -79,7 +79,7 @@ opening-stands most began two = record {
   counted = opening-counted began;
   lone = λ c. (refl, refl);
   ready = λ c. refl;
-  legal = tt;
+  legal = legal-nil most began;
 }
 
 module _ (most : ℕ) (began : Beginning) (m : Machine) (s : Stands most began m) where

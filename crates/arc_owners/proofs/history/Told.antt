@@ -8,13 +8,13 @@ use Rattle.arc_owners.specs.declared.history.entry.Entry.{Entry}
 use Rattle.arc_owners.specs.declared.history.entry.Entry.TheVariants.{Up, Full, Down, Alone, Promote, Joined}
 use Rattle.arc_owners.specs.declared.history.event.Event.{Event}
 use Rattle.arc_owners.specs.declared.history.event.Event.TheVariants.{Load, ExchangeWon, ExchangeLost, CountUp, FullFound, CountDown, UniquenessLoad}
-use Rattle.arc_owners.specs.history.Histories.{Beginning, is_in, owner_made, owner_ended, is_promotion, owners_ever, owners_ended, live_owners, is_counted, LivesAlone, MayFollow, IsLegalAfter, IsLegal}
+use Rattle.arc_owners.specs.history.Histories.{Beginning, is_in, owner_made, owner_ended, is_promotion, owners_ever, owners_ended, live_owners, is_counted, LivesAlone, MayFollow, IsLegal}
 use Rattle.arc_owners.specs.history.Laws.{PromotedOnce, LosersAfterWinner, NothingAfterLast, ReleasedByLast, AloneIsExact}
 use Rattle.arc_owners.specs.history.Agreement.{Tells, Agrees}
 use Rattle.arc_owners.specs.history.Machine.{Machine, opening, may_happen, without_number, step, run, after_events}
 use Rattle.arc_owners.proofs.history.Numbers.{times, length-without, times-in, times-one, times-filter, times-made, in-unfiltered}
 use Rattle.arc_owners.proofs.history.Owned.{live-same, live-made, live-ended, ended-append, ever-append}
-use Rattle.arc_owners.proofs.history.Legality.{legal-append, legal-at, legal-front}
+use Rattle.arc_owners.proofs.history.Legality.{IsLegalAfter, legal-after, legal-append, legal-at, legal-front}
 use Rattle.arc_owners.proofs.history.Steps.{Stands, opening-stands, run-stands, one_is, counted-more, counted-won}
 
 -- where nobody lives no entry may follow
@@ -57,7 +57,7 @@ once_promoted most began before (Promote by new ∷ rest) legal =
 once_promoted most began before (Joined by ∷ rest) legal = once_promoted most began (before ++ Joined by ∷ []) rest legal.1
 
 pub promoted_once : (most : ℕ) (began : Beginning) (h : List Entry) → IsLegal most began h → PromotedOnce h
-promoted_once most began h legal = once_promoted most began [] h legal
+promoted_once most began h legal = once_promoted most began [] h (legal-after most began h legal)
 
 -- the owners of a legal history: each lives once, and each that ended lived
 pub record Owned (h : List Entry) : Type 0 where
@@ -142,7 +142,7 @@ released most began before (Joined by) o may none = absurd (none_follows most be
 
 -- in a legal history each owner lives once, and each that ended lived
 pub legal-owned : (most : ℕ) (began : Beginning) (h : List Entry) → IsLegal most began h → Owned h
-legal-owned most began h legal = owned-after most began [] h owned-none legal
+legal-owned most began h legal = owned-after most began [] h owned-none (legal-after most began h legal)
 
 pub released_by_last : (most : ℕ) (began : Beginning) (h : List Entry) → IsLegal most began h → ReleasedByLast h
 released_by_last most began h legal before after entry split none =

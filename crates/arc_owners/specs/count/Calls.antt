@@ -1,7 +1,7 @@
 -- What contracts read in a count, in an owner and in a pass, and what a call adds to a block's
 -- history.
 use Rattle.std.specs.Prelude.{◌≡◌, ℕ, Bool, true, false, List, [], ◌∷◌, ◌++◌, length, map, IsTrue}
-use Rattle.std.specs.Prelude.{◌↔◌, ◌⊎◌, if◌then◌else◌}
+use Rattle.std.specs.Prelude.{◌↔◌, ◌⊎◌, if◌then◌else◌, All}
 use mathlib.Core.List.{IsPrefix}
 use Rattle.arc_owners.specs.declared.mark.Mark.{Ghosts}
 use Rattle.arc_owners.specs.declared.history.entry.Entry.{Entry}
@@ -41,11 +41,6 @@ pub record EndsInOneStep (t : BlockId) (lines : List Line) : Type 0 where
 pub record EndsWithoutStep (t : BlockId) (lines : List Line) : Type 0 where
   pub last : (before : List Line) (line : Line) → lines ≡ before ++ line ∷ []
       → IsEndWithoutStep t.began (entries_of before) line.1
-
--- the entry by which a new owner is made: the count is raised, or a lone word promoted
-abbrev pub making : Bool → ℕ → ℕ → Entry
-making true by new = Up by new
-making false by new = Promote by new
 
 module _ {H : Type 0} where
   -- what a pass has seen, with the pass that made each entry
@@ -88,14 +83,15 @@ module _ {H : Type 0} where
       × (old.trace.ready ≡ true → new.trace.ready ≡ true)
 
   -- The pass added these entries, one or none, to the history before them. That is all that it had
-  -- seen and what others added since; under `Whole` nothing came between. What it has seen now is
-  -- legal.
+  -- seen and what other passes added since; under `Whole` nothing came between. What it has seen
+  -- now is legal.
   pub record Appends (t : BlockId) (old new : Pass H) (before : List Line)
       (entries : List Entry) : Type 0 where
     pub same : IsSamePass t old new
-    pub after_seen : IsPrefix old.trace.lines before
-    pub none_own : made_by old.trace.number before ≡ made_by old.trace.number old.trace.lines
-    pub undisturbed : t.whole ≡ true → old.trace.lines ≡ before
+    pub since : List Line
+    pub after_seen : before ≡ old.trace.lines ++ since
+    pub of_others : All (λ line. ¬ (line.0 ≡ old.trace.number)) since
+    pub undisturbed : t.whole ≡ true → since ≡ []
     pub seen_now : new.trace.lines ≡ before ++ map (λ e. (old.trace.number, e)) entries
     pub legal : IsLegal t.most t.began (entries_of new.trace.lines)
 
@@ -139,15 +135,15 @@ module _ {H : Type 0} where
       ⊎ ((before : List Line) × (is_counted o.block.began (entries_of old.trace.lines) ≡ false)
       × Appends o.block old new before (Joined o.number ∷ []))
 
-  -- through this owner another one of the same block was made: its number is how many the history
-  -- had
+  -- through this owner another one of the same block was made: the count was raised, or a lone word
+  -- promoted. Its number is how many the history had
   pub record MakesAnother (o : Owner) (old new : Pass H) (other : Owner) : Type 0 where
     pub middle : Pass H
     pub joined : MayJoin o old middle
     pub before : List Line
     pub added : Appends o.block middle new before
-        (making (is_counted o.block.began (entries_of before)) o.number
-        (length (owners_ever (entries_of before))) ∷ [])
+        ((if is_counted o.block.began (entries_of before) then Up o.number other.number else
+        Promote o.number other.number) ∷ [])
     pub made : other ≡ record {
       block = o.block;
       number = length (owners_ever (entries_of before));

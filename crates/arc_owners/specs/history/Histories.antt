@@ -108,12 +108,7 @@ MayFollow most began before (Promote by new) =
     × (is_counted began before ≡ false)
 MayFollow most began before (Joined by) = Lives by before × IsTrue (is_promoted before)
 
--- each of these entries may stand where it stands, after this history
-abbrev pub IsLegalAfter : ℕ → Beginning → List Entry → List Entry → Type 0
-IsLegalAfter most began before [] = Unit {0}
-IsLegalAfter most began before (entry ∷ rest) = MayFollow most began before entry
-    × IsLegalAfter most began (before ++ entry ∷ []) rest
-
 -- a legal history: each entry may follow what stands before it
-abbrev pub IsLegal : ℕ → Beginning → List Entry → Type 0
-IsLegal most began history = IsLegalAfter most began [] history
+pub record IsLegal (most : ℕ) (began : Beginning) (history : List Entry) : Type 0 where
+  pub each : (before after : List Entry) (entry : Entry) → history ≡ before ++ entry ∷ after
+      → MayFollow most began before entry

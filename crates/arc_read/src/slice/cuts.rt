@@ -1,8 +1,7 @@
 //! Cuts of a read window that keep it, and splits.
 ghost use Rattle.std.specs.Prelude.{◌≡◌, ◌<◌, ◌↔◌, length, drop, take, false, IsOk, IfOk, IfErr};
-ghost use Rattle.arc_buffer.specs.Slice.{IsEdge, IsRange, edge_answer};
-ghost use Rattle.arc_block.specs.Place.{moved};
-ghost use Rattle.arc_read.specs.Window.{part_window};
+ghost use Rattle.arc_buffer.specs.Slice.{IsEdge, IsRange, edge_answer, sub};
+ghost use Rattle.arc_block.specs.Place.{moved, part_place};
 ghost use Rattle.arc_read.specs.Steps.{IsPassAt, Refuses, WithNewPass};
 ghost use Rattle.arc_read.specs.Cuts.{SplitsOff, SplitsTo, off_end, to_start};
 
@@ -86,7 +85,8 @@ impl<S: Subsliceable, L: Layout, A: Allocator + Copy, H: Mark> ArcSlice<S, L, A,
         ensures kept { IfErr result (λ _. self.new ≡ self.old) }
         ensures refused { IfErr result (λ e.
             Refuses L.clone_wants
-            (part_window L.STATIC self.old at (off_end self.old at)).place pass.old pass.new e) }
+            (part_place L.STATIC (sub self.old.items at (off_end self.old at)) at self.old.place)
+            pass.old pass.new e) }
     {
         self.has_edges();
         if at == 0 {
@@ -118,7 +118,9 @@ impl<S: Subsliceable, L: Layout, A: Allocator + Copy, H: Mark> ArcSlice<S, L, A,
         ensures kept { IfErr result (λ _. self.new ≡ self.old) }
         ensures refused { IfErr result (λ e.
             Refuses L.clone_wants
-            (part_window L.STATIC self.old (to_start self.old at) at).place pass.old pass.new e) }
+            (part_place L.STATIC (sub self.old.items (to_start self.old at) at)
+            (to_start self.old at) self.old.place)
+            pass.old pass.new e) }
     {
         self.has_edges();
         if at == self.len() {
@@ -144,7 +146,8 @@ impl<S: Subsliceable, L: Layout, A: Allocator + Copy, H: Stepping> ArcSlice<S, L
         ensures refused { IfErr result (λ e.
             WithNewPass {H = H} H.real self.old.place (λ first last.
             Refuses L.clone_wants
-            (part_window L.STATIC self.old at (off_end self.old at)).place first last e)) }
+            (part_place L.STATIC (sub self.old.items at (off_end self.old at)) at self.old.place)
+            first last e)) }
     {
         let mut pass = self.pass();
         let made = self.try_split_off_as(rt, at, &mut pass);
@@ -164,7 +167,9 @@ impl<S: Subsliceable, L: Layout, A: Allocator + Copy, H: Stepping> ArcSlice<S, L
         ensures refused { IfErr result (λ e.
             WithNewPass {H = H} H.real self.old.place (λ first last.
             Refuses L.clone_wants
-            (part_window L.STATIC self.old (to_start self.old at) at).place first last e)) }
+            (part_place L.STATIC (sub self.old.items (to_start self.old at) at)
+            (to_start self.old at) self.old.place)
+            first last e)) }
     {
         let mut pass = self.pass();
         let made = self.try_split_to_as(rt, at, &mut pass);

@@ -1,7 +1,7 @@
 use Rattle.std.proofs.Common.{sym, ◌∙◌, refl}
 use Rattle.std.proofs.lemmas.Bool.{eq-eqb, ne_eqb}
 use Rattle.arc_owners.specs.declared.count.tokens.Pass.{Pass}
-use Rattle.arc_owners.proofs.count.Calls.{filled_step, raised_step, not_raised}
+use Rattle.arc_owners.proofs.count.Calls.{filled_step, raised_step, made_raised, not_raised}
 use Rattle.arc_owners.proofs.count.counted.try_up.Goals as goal
 
 pub returns-then-old-most-clause-step : goal.returns-then-old-most-clause-step
@@ -13,6 +13,12 @@ returns-then-found-old-clause-again g c =
     let m : Pass _ = record { trace = c.load_for_raise-old.new.pass; mark = c.args.pass.now.mark } in let r : Pass _ = record { trace = c.compare_exchange-found.new.pass; mark = c.args.pass.now.mark } in
     let unfilled = ne_eqb c.load_for_raise-old.result c.args.word.now.most (λ e. c.if-old-most.false (e ∙ c.requires.most)) in
     not_raised c.args.word.now c.args.pass.now m r c.args.by.now.right _ _ _ unfilled (ne_eqb c.compare_exchange-found.result c.load_for_raise-old.result c.if-found-old.true) c.requires.pass c.load_for_raise-old.ensures c.compare_exchange-found.ensures refl refl
+
+pub returns-clause-made : goal.returns-clause-made
+returns-clause-made g c =
+    let m : Pass _ = record { trace = c.load_for_raise-old.new.pass; mark = c.args.pass.now.mark } in let r : Pass _ = record { trace = c.compare_exchange-found.new.pass; mark = c.args.pass.now.mark } in
+    let unfilled = ne_eqb c.load_for_raise-old.result c.args.word.now.most (λ e. c.if-old-most.false (e ∙ c.requires.most)) in
+    made_raised c.args.word.now c.args.pass.now m r c.args.by.now.right _ _ _ unfilled (eq-eqb c.compare_exchange-found.result c.load_for_raise-old.result c.if-found-old.false) c.requires.share c.requires.pass c.load_for_raise-old.ensures c.compare_exchange-found.ensures refl
 
 pub returns-clause-step : goal.returns-clause-step
 returns-clause-step g c = let k = eq-eqb c.compare_exchange-found.result c.load_for_raise-old.result c.if-found-old.false in

@@ -15,7 +15,7 @@ invariant_of-result-in_default g c = (
   (refl, refl),
   subst (λ xs. ∥ g.S.Slice.is_legal xs ∥₁) (sub-empty c.args.self.now.items c.args.start)
       (part_legal g.S.Slice.is_legal g.S.Subsliceable.boundary g.met.S.Subsliceable.range_is_legal _ c.args.self.now c.args.start c.args.start c.self.view_is c.self.invariant.1
-      (record { ordered = omega arith; from = c.requires.range.from; to = c.requires.range.from })),
+      (record { ordered = omega arith; within = omega (arith, c.requires.range.ordered, c.requires.range.within); from = c.requires.range.from; to = c.requires.range.from })),
 )
 
 pub returns-in_ok-try_share_as-in-Some-clause-items : goal.returns-in_ok-try_share_as-in-Some-clause-items

@@ -67,7 +67,7 @@ returns-in-Ok-clause-stand g c =
     let long =
     ap (λ (s : SlotView g.row.S-Item.Denot). length (sub s.window.items start end)) c.self.view_is
     ∙ length-sub c.args.self.now.window.items start end c.requires.range.ordered
-    c.requires.range.to.within in
+    c.requires.range.within in
     let block : c.part_block.result ≡ (if nothing then None else b) =
     c.part_block.ensures
     ∙ ap (λ n. if g.L.Layout.STATIC && (n == 0) then None else b) (sym long) in
