@@ -58,10 +58,10 @@ module _ {T M : Type 0} (setting : Setting T) (t : Table T M) where
       (λ row. with_owner_ample t row (is_full t row.place))
   answer_ample (Sub i start end) =
       on_row_ample t i is_read _ (λ row.
-          in_range_ample t (range_answer setting.boundary row.items start end)
-          (with_owner t (part_of setting row start end))
-          (with_owner_ample t (part_of setting row start end)
-          (is_full t (part_of setting row start end).place)))
+      in_range_ample t (range_answer setting.boundary row.items start end)
+      (with_owner t (part_of setting row start end))
+      (with_owner_ample t (part_of setting row start end)
+      (is_full t (part_of setting row start end).place)))
   answer_ample (Uniq i) =
       on_row_ample t i is_reader _ (λ row. yes_or_no _ (is_alone t row.place))
   answer_ample (Show i) = on_row_ample t i is_window _ (λ row. tt)

@@ -77,7 +77,7 @@ module _ {T : Type 0} (slots slots' : List (Option (SlotView T))) (s : SlotView 
           subst (λ ps. IsKept MAX_OWNERS (stands_of slots') ps) (sym one_pass)
           (subst (λ ss. IsKept MAX_OWNERS ss (passes ++ new ∷ [])) (sym f.1)
           (subst (λ (m : ℕ).
-              IsKept MAX_OWNERS (stands_of slots ++ Some (m, f.0) ∷ []) (passes ++ new ∷ []))
+          IsKept MAX_OWNERS (stands_of slots ++ Some (m, f.0) ∷ []) (passes ++ new ∷ []))
           (sym counted) (kept-new new k f.2 f.3)))
 
       pub block-added : n ≡ length passes → passes' ≡ passes ++ new ∷ []

@@ -51,7 +51,7 @@ module _ {H : Type 0} {stands : List Stand} {passes : List (Pass H)} (i : ℕ)
     -- what one pass of a block keeps, a call through it keeps
     kept-along : (P : List (Pass H) → Type 0) (s : Stand) (call : Call H) → P passes
         → ((n : ℕ) (o : Owner) (old new : Pass H) → s ≡ Some (n, o)
-            → slice_get passes n ≡ Some old → call o old new → P (slice_set passes n new))
+        → slice_get passes n ≡ Some old → call o old new → P (slice_set passes n new))
         → Along s passes passes' call → P passes'
     kept-along P None call same each along = subst P (sym along) same
     kept-along P (Some (n, o)) call same each along =

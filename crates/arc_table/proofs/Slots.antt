@@ -174,9 +174,9 @@ module _ {H : Type 0} (passes : List (Pass H)) where
       refuses-part true wants e start b place fits has took why = absurd why
       refuses-part false wants e start b place fits has took why =
           subst (λ s. RefusesAt wants (moved start (numbered b place)) s passes
-              (put_back left b new) e) (moved-stand b start place)
+          (put_back left b new) e) (moved-stand b start place)
           (subst (λ q. RefusesAt wants q (stand_at b (moved start place)) passes
-              (put_back left b new) e) (moved-numbered b start place)
+          (put_back left b new) e) (moved-numbered b start place)
           (refuses wants e b (moved start place) (moved-fits b start place ∙ fits)
           (subst (HasPassFor passes) (sym (moved-stand b start place)) has) took why))
 

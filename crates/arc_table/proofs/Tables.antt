@@ -85,8 +85,10 @@ module _ {T : Type 0} (slots : List (Option (SlotView T))) (passes : List (Pass 
       ap (λ n. (reply.New n, record { rows = rows; blocks = blocks }))
       (length-map slots (option_map row_of) ∙ sym counted)
       ∙ ap (λ rs. (reply.New number, record { rows = rs; blocks = blocks })) (sym same)
-      ∙ ap (λ b. (reply.New number,
-          record { rows = map (option_map row_of) slots'; blocks = b })) (sym many)
+      ∙ ap (λ b. (
+        reply.New number,
+        record { rows = map (option_map row_of) slots'; blocks = b },
+      )) (sym many)
 
   -- where there is no window, the answer is so
   pub unanswered : (i : ℕ) (roles : Role → Bool) (found : Row T (Unit {0}) → Outcome T (Unit {0}))
@@ -95,7 +97,7 @@ module _ {T : Type 0} (slots : List (Option (SlotView T))) (passes : List (Pass 
   unanswered i roles found none =
       let row = ap option_flatten (slice_get-map (option_map row_of) slots i) in
       ap (λ r. option_map_or (λ row. if roles row.role then found row else (reply.Kind, t)) r
-          (reply.NoWindow, t)) (row ∙ no-row (slice_get slots i) none)
+      (reply.NoWindow, t)) (row ∙ no-row (slice_get slots i) none)
 
   module _ (i : ℕ) (s : SlotView T) (there : slice_get slots i ≡ Some (Some s)) where
     pub row-there : row_at t i ≡ Some (row_of s)
@@ -111,7 +113,7 @@ module _ {T : Type 0} (slots : List (Option (SlotView T))) (passes : List (Pass 
         → on_row t i roles found ≡ (if roles reader then found (row_of s) else (reply.Kind, t))
     answered roles found =
         ap (λ r. option_map_or (λ row. if roles row.role then found row else (reply.Kind, t)) r
-            (reply.NoWindow, t)) row-there
+        (reply.NoWindow, t)) row-there
 
     module _ (k : IsKept MAX_OWNERS (stands_of slots) passes) (passes' : List (Pass Whole)) where
       -- the live owners of each block are its windows still: one more was made, or none

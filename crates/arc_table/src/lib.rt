@@ -5,3 +5,5 @@ pub mod command;
 pub mod passes;
 mod slot;
 pub mod table;
+#[cfg(test)]
+mod tests;

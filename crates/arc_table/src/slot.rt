@@ -71,11 +71,7 @@ impl<S: Slice, L: Layout, A: Allocator + Copy> Slot<S, L, A> {
     /// Another window with the same items at the same place, an owner more of the same block.
     /// `CountFull` where the block has as many owners as it can have, `AllocError` where the
     /// layout's clones want memory and it was refused.
-    pub fn try_clone(
-        &self,
-        rt: &impl Wait,
-        passes: &mut Passes<A>,
-    ) -> Result<Self, OwnerError>
+    pub fn try_clone(&self, rt: &impl Wait, passes: &mut Passes<A>) -> Result<Self, OwnerError>
         requires pass { HasPassFor passes.old.of_blocks.items (stand_of (Some self.now)) }
         ensures row { IfOk result (λ slot. row_of slot ≡ row_of self.now) }
         ensures stand { IfOk result (λ slot.

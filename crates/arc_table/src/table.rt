@@ -91,11 +91,7 @@ where
     ///
     /// Takes memory for a window more, for what a window is made of and for what is shown; refused,
     /// the answer is `Alloc`.
-    pub fn step(
-        &mut self,
-        rt: &impl Wait,
-        command: Cmd<Vec<S::Item, A>>,
-    ) -> Reply<Vec<S::Item, A>>
+    pub fn step(&mut self, rt: &impl Wait, command: Cmd<Vec<S::Item, A>>) -> Reply<Vec<S::Item, A>>
         ensures rows { Step (setting_of L.STATIC L.clone_wants S.DROPS S.boundary) self.old.table
             (seen_command command) (seen_reply result) self.new.table }
         ensures passes { Adds self.old.standing (seen_command command) (seen_reply result)
@@ -206,13 +202,7 @@ where
     }
 
     /// A window over the part from `start` to `end` of another.
-    fn sub(
-        &mut self,
-        rt: &impl Wait,
-        i: usize,
-        start: usize,
-        end: usize,
-    ) -> Reply<Vec<S::Item, A>>
+    fn sub(&mut self, rt: &impl Wait, i: usize, start: usize, end: usize) -> Reply<Vec<S::Item, A>>
         ensures rows { Step (setting_of L.STATIC L.clone_wants S.DROPS S.boundary) self.old.table
             (command.Sub i start end) (seen_reply result) self.new.table }
         ensures passes { Adds self.old.standing (command.Sub i start end) (seen_reply result)

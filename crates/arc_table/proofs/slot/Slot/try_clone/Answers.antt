@@ -27,7 +27,7 @@ returns-in-Err-clause-refused g c =
     let e = c.in-Err.e in
     let P : SlotView g.row.S-Item.Denot → Type 0 = λ s.
     RefusesAt g.L.Layout.clone_wants (numbered s.block s.window.place)
-        (stand_at s.block s.window.place) passes c.give_back.new.self.of_blocks.items e in
+    (stand_at s.block s.window.place) passes c.give_back.new.self.of_blocks.items e in
     let at =
     refuses passes left p new g.L.Layout.clone_wants e b place c.self.invariant has
     c.lend-pass.ensures c.in-Err.ensures.refused in
@@ -48,7 +48,7 @@ returns-in-Ok-clause-stand g c =
     let there = c.in-Ok.window.place in
     let P : SlotView g.row.S-Item.Denot → Type 0 = λ s.
     Beside (stand_at s.block s.window.place) passes c.give_back.new.self.of_blocks.items
-        (stand_at b there) in
+    (stand_at b there) in
     let at =
     shares passes left p new b place there c.self.invariant has c.lend-pass.ensures
     c.in-Ok.ensures.place in

@@ -37,16 +37,16 @@ returns-in-Err-clause-refused g c =
     let nothing = g.L.Layout.STATIC && (length (sub items start end) == 0) in
     let P : SlotView g.row.S-Item.Denot → Type 0 = λ s.
     RefusesAt wants
-        (part_place g.L.Layout.STATIC (sub s.window.items start end) start
-            (numbered s.block s.window.place))
-        (stand_at s.block s.window.place) passes after e in
+    (part_place g.L.Layout.STATIC (sub s.window.items start end) start
+    (numbered s.block s.window.place))
+    (stand_at s.block s.window.place) passes after e in
     let at =
     refuses-part passes left p new nothing wants e start b place c.self.invariant has
     c.lend-pass.ensures c.in-Err.ensures.refused in
     subst P c.self.view_is
     (subst (λ ps. RefusesAt wants
-        (part_place g.L.Layout.STATIC (sub items start end) start (numbered b place))
-        (stand_at b place) passes ps e) (sym c.give_back.ensures) at)
+    (part_place g.L.Layout.STATIC (sub items start end) start (numbered b place))
+    (stand_at b place) passes ps e) (sym c.give_back.ensures) at)
 
 pub returns-in-Ok-clause-stand : goal.returns-in-Ok-clause-stand
 returns-in-Ok-clause-stand g c =

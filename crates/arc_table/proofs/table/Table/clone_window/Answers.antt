@@ -25,11 +25,12 @@ returns-then-is_err-clause-rows g c =
     let s = c.in-Some.field-0.now in
     let there = ap (λ ss. slice_get ss i) (sym c.deref.ensures.value) ∙ c.in-Some.ensures in
     subst (λ (o : State g.row.S-Item.Denot).
-        Step (setting_of g.L.Layout.STATIC g.L.Layout.clone_wants g.S.Slice.DROPS g.S.Subsliceable.boundary) o.table (command.Clone i) reply.Alloc
-        (state_of c.reserve.new.self.items passes).table)
-    c.self.view_is
-    ((row_of s, row-there slots passes i s there, tt),
-    same-table slots passes c.reserve.new.self.items passes c.reserve.ensures.items refl)
+    Step (setting_of g.L.Layout.STATIC g.L.Layout.clone_wants g.S.Slice.DROPS g.S.Subsliceable.boundary) o.table (command.Clone i) reply.Alloc
+    (state_of c.reserve.new.self.items passes).table)
+    c.self.view_is (
+      (row_of s, row-there slots passes i s there, tt),
+      same-table slots passes c.reserve.new.self.items passes c.reserve.ensures.items refl,
+    )
 
 pub try_clone-requires-clause-pass : goal.try_clone-requires-clause-pass
 try_clone-requires-clause-pass g c κs within =
@@ -87,7 +88,7 @@ returns-in-Ok-clause-rows g c =
     c.len-number.ensures ∙ c.reserve.new.self.ok.0 ∙ ap length c.reserve.ensures.items in
     let t = (state_of slots passes).table in
     subst (λ (o : State g.row.S-Item.Denot).
-        Step setting o.table (command.Clone i) (reply.New number) (state_of slots' after).table)
+    Step setting o.table (command.Clone i) (reply.New number) (state_of slots' after).table)
     c.self.view_is
     (joins-row slots passes i s there c.self.invariant after setting (command.Clone i) (row_of s)
     (answered slots passes i s there is_read (with_owner t)) made slots' number
@@ -106,8 +107,8 @@ returns-in-Ok-clause-passes g c =
     let slots' = c.push_reserved.new.self.items in
     let more = behind slots (Some made) c.push_reserved.ensures.items c.reserve.ensures.items in
     subst (λ (o : State g.row.S-Item.Denot).
-        Adds {T = g.row.S-Item.Denot} o.standing (command.Clone i) (reply.New c.len-number.result)
-        (state_of slots' after).standing)
+    Adds {T = g.row.S-Item.Denot} o.standing (command.Clone i) (reply.New c.len-number.result)
+    (state_of slots' after).standing)
     c.self.view_is (joins-added slots passes i s there slots' after made more c.in-Ok.ensures.stand)
 
 pub returns-in-Err-clause-rows : goal.returns-in-Err-clause-rows
@@ -125,7 +126,7 @@ returns-in-Err-clause-rows g c =
     let e = c.in-Err.e in
     let t = (state_of slots passes).table in
     subst (λ (o : State g.row.S-Item.Denot).
-        Step setting o.table (command.Clone i) (reply.Owner e) (state_of slots' after).table)
+    Step setting o.table (command.Clone i) (reply.Owner e) (state_of slots' after).table)
     c.self.view_is
     (refused-row slots passes i s there c.self.invariant after setting (command.Clone i) (row_of s)
     (answered slots passes i s there is_read (with_owner t)) e slots'
@@ -144,8 +145,8 @@ returns-in-Err-clause-passes g c =
     let slots' = c.reserve.new.self.items in
     let e = c.in-Err.e in
     subst (λ (o : State g.row.S-Item.Denot).
-        Adds {T = g.row.S-Item.Denot} o.standing (command.Clone i) (reply.Owner e)
-        (state_of slots' after).standing)
+    Adds {T = g.row.S-Item.Denot} o.standing (command.Clone i) (reply.Owner e)
+    (state_of slots' after).standing)
     c.self.view_is
     (refused-added slots passes i s there slots' after g.L.Layout.clone_wants (row_of s).place e
     c.reserve.ensures.items c.in-Err.ensures.refused)

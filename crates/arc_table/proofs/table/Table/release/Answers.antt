@@ -20,7 +20,7 @@ returns-in_default-clause-gone g c =
     ap (λ ss. option_flatten (slice_get ss c.args.i)) (sym c.deref.ensures.value)
     ∙ c.in_default.ensures in
     subst (λ (o : State g.row.S-Item.Denot).
-        o.table.rows ≡ slice_set o.table.rows c.args.i None) c.self.view_is
+    o.table.rows ≡ slice_set o.table.rows c.args.i None) c.self.view_is
     (none-there slots c.args.i none)
 
 pub release-requires-after_bounds : goal.release-requires-after_bounds
@@ -64,7 +64,7 @@ returns-clause-rows g c =
     let after = c.release.new.passes.of_blocks.items in
     let slots' = slice_set slots i c.replace.new.dest in
     subst (λ (o : State g.row.S-Item.Denot).
-        Step setting o.table (command.Drop i) reply.Ok (state_of slots' after).table) c.self.view_is
+    Step setting o.table (command.Drop i) reply.Ok (state_of slots' after).table) c.self.view_is
     (dropped-row slots passes i s there c.self.invariant after setting slots' c.release.ensures
     (ap (slice_set slots i) c.replace.ensures.after))
 
@@ -81,8 +81,8 @@ returns-clause-passes g c =
     let after = c.release.new.passes.of_blocks.items in
     let slots' = slice_set slots i c.replace.new.dest in
     subst (λ (o : State g.row.S-Item.Denot).
-        Adds {T = g.row.S-Item.Denot} o.standing (command.Drop i) reply.Ok
-        (state_of slots' after).standing) c.self.view_is
+    Adds {T = g.row.S-Item.Denot} o.standing (command.Drop i) reply.Ok
+    (state_of slots' after).standing) c.self.view_is
     (end-added slots passes i s there slots' after (ap (slice_set slots i) c.replace.ensures.after)
     c.release.ensures)
 
@@ -92,7 +92,7 @@ returns-clause-gone g c =
     let i = c.args.i in
     let slots' = slice_set slots i c.replace.new.dest in
     subst (λ (o : State g.row.S-Item.Denot).
-        map (option_map row_of) slots' ≡ slice_set o.table.rows i None) c.self.view_is
+    map (option_map row_of) slots' ≡ slice_set o.table.rows i None) c.self.view_is
     (ap (map (option_map row_of)) (ap (slice_set slots i) c.replace.ensures.after)
     ∙ map-slice_set (option_map row_of) slots i None)
 

@@ -15,5 +15,5 @@ invariant-loop-i g l = record {
   passes :
       (replies : List (Reply (List g.row.S-Item.Denot)))
       × RunOf (CarriesOut (setting_of g.L.Layout.STATIC g.L.Layout.clone_wants g.S.Slice.DROPS
-          g.S.Subsliceable.boundary)) l.fn.self (drops l.i) replies l.self;
+      g.S.Subsliceable.boundary)) l.fn.self (drops l.i) replies l.self;
 }

@@ -15,7 +15,7 @@ returns-in-Err-clause-rows g c =
     let there =
     ap (λ ss. slice_get ss c.args.i) (sym c.deref.ensures.value) ∙ c.in-Some.ensures in
     subst (λ (o : State g.row.S-Item.Denot).
-        Step (setting_of g.L.Layout.STATIC g.L.Layout.clone_wants g.S.Slice.DROPS
-            g.S.Subsliceable.boundary) o.table (command.Show c.args.i) reply.Alloc o.table)
+    Step (setting_of g.L.Layout.STATIC g.L.Layout.clone_wants g.S.Slice.DROPS
+    g.S.Subsliceable.boundary) o.table (command.Show c.args.i) reply.Alloc o.table)
     c.self.view_is
     ((row_of s, row-there slots c.self.inside.passes.of_blocks.items c.args.i s there, tt), refl)

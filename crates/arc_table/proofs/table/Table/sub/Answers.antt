@@ -30,11 +30,12 @@ returns-then-is_err-clause-rows g c =
     setting_of g.L.Layout.STATIC g.L.Layout.clone_wants g.S.Slice.DROPS g.S.Subsliceable.boundary in
     let range = c.in_default-check_range.ensures.ok.0 refl in
     subst (λ (o : State g.row.S-Item.Denot).
-        Step setting o.table (command.Sub i c.args.start c.args.end) reply.Alloc
-        (state_of c.reserve.new.self.items passes).table)
-    c.self.view_is
-    ((row_of s, row-there slots passes i s there, range),
-    same-table slots passes c.reserve.new.self.items passes c.reserve.ensures.items refl)
+    Step setting o.table (command.Sub i c.args.start c.args.end) reply.Alloc
+    (state_of c.reserve.new.self.items passes).table)
+    c.self.view_is (
+      (row_of s, row-there slots passes i s there, range),
+      same-table slots passes c.reserve.new.self.items passes c.reserve.ensures.items refl,
+    )
 
 pub try_subslice-requires-clause-range : goal.try_subslice-requires-clause-range
 try_subslice-requires-clause-range g c κs within =
@@ -48,7 +49,7 @@ try_subslice-requires-clause-range g c κs within =
     let one = same_entry slots i c.in-Some.slot.now s first there in
     let range : IsRange g.S.Subsliceable.boundary s.window.items c.args.start c.args.end =
     subst (λ (v : SlotView g.row.S-Item.Denot).
-        IsRange g.S.Subsliceable.boundary v.window.items c.args.start c.args.end) one
+    IsRange g.S.Subsliceable.boundary v.window.items c.args.start c.args.end) one
     (c.in_default-check_range.ensures.ok.0 refl) in
     range
 
@@ -106,7 +107,7 @@ returns-in-Ok-clause-rows g c =
     let one = same_entry slots i c.in-Some.slot.now s first there in
     let range : IsRange g.S.Subsliceable.boundary s.window.items c.args.start c.args.end =
     subst (λ (v : SlotView g.row.S-Item.Denot).
-        IsRange g.S.Subsliceable.boundary v.window.items c.args.start c.args.end) one
+    IsRange g.S.Subsliceable.boundary v.window.items c.args.start c.args.end) one
     (c.in_default-check_range.ensures.ok.0 refl) in
     let made = c.in-Ok.slot in
     let after = c.try_subslice.new.passes.of_blocks.items in
@@ -119,16 +120,16 @@ returns-in-Ok-clause-rows g c =
     let r = part_of setting (row_of s) c.args.start c.args.end in
     let ranged : range_answer setting.boundary s.window.items c.args.start c.args.end ≡ Ok tt =
     ap (λ (v : SlotView g.row.S-Item.Denot).
-        range_answer setting.boundary v.window.items c.args.start c.args.end) (sym one)
+    range_answer setting.boundary v.window.items c.args.start c.args.end) (sym one)
     ∙ sym c.in_default-check_range.ensures.answer in
     let found = λ (row : Row g.row.S-Item.Denot (Unit {0})).
     in_range (range_answer setting.boundary row.items c.args.start c.args.end) t
-        (with_owner t (part_of setting row c.args.start c.args.end)) in
+    (with_owner t (part_of setting row c.args.start c.args.end)) in
     let answers =
     answered slots passes i s there is_read found
     ∙ ap (λ a. in_range a t (with_owner t r)) ranged in
     subst (λ (o : State g.row.S-Item.Denot).
-        Step setting o.table (command.Sub i c.args.start c.args.end) (reply.New number) (state_of slots' after).table)
+    Step setting o.table (command.Sub i c.args.start c.args.end) (reply.New number) (state_of slots' after).table)
     c.self.view_is
     (joins-row slots passes i s there c.self.invariant after setting (command.Sub i c.args.start c.args.end) r answers made slots'
     number c.in-Ok.ensures.row c.in-Ok.ensures.stand more counted)
@@ -146,8 +147,8 @@ returns-in-Ok-clause-passes g c =
     let slots' = c.push_reserved.new.self.items in
     let more = behind slots (Some made) c.push_reserved.ensures.items c.reserve.ensures.items in
     subst (λ (o : State g.row.S-Item.Denot).
-        Adds {T = g.row.S-Item.Denot} o.standing (command.Sub i c.args.start c.args.end) (reply.New c.len-number.result)
-        (state_of slots' after).standing)
+    Adds {T = g.row.S-Item.Denot} o.standing (command.Sub i c.args.start c.args.end) (reply.New c.len-number.result)
+    (state_of slots' after).standing)
     c.self.view_is (joins-added slots passes i s there slots' after made more c.in-Ok.ensures.stand)
 
 pub returns-in-Err-try_subslice-clause-rows : goal.returns-in-Err-try_subslice-clause-rows
@@ -164,7 +165,7 @@ returns-in-Err-try_subslice-clause-rows g c =
     let one = same_entry slots i c.in-Some.slot.now s first there in
     let range : IsRange g.S.Subsliceable.boundary s.window.items c.args.start c.args.end =
     subst (λ (v : SlotView g.row.S-Item.Denot).
-        IsRange g.S.Subsliceable.boundary v.window.items c.args.start c.args.end) one
+    IsRange g.S.Subsliceable.boundary v.window.items c.args.start c.args.end) one
     (c.in_default-check_range.ensures.ok.0 refl) in
     let after = c.try_subslice.new.passes.of_blocks.items in
     let slots' = c.reserve.new.self.items in
@@ -173,16 +174,16 @@ returns-in-Err-try_subslice-clause-rows g c =
     let r = part_of setting (row_of s) c.args.start c.args.end in
     let ranged : range_answer setting.boundary s.window.items c.args.start c.args.end ≡ Ok tt =
     ap (λ (v : SlotView g.row.S-Item.Denot).
-        range_answer setting.boundary v.window.items c.args.start c.args.end) (sym one)
+    range_answer setting.boundary v.window.items c.args.start c.args.end) (sym one)
     ∙ sym c.in_default-check_range.ensures.answer in
     let found = λ (row : Row g.row.S-Item.Denot (Unit {0})).
     in_range (range_answer setting.boundary row.items c.args.start c.args.end) t
-        (with_owner t (part_of setting row c.args.start c.args.end)) in
+    (with_owner t (part_of setting row c.args.start c.args.end)) in
     let answers =
     answered slots passes i s there is_read found
     ∙ ap (λ a. in_range a t (with_owner t r)) ranged in
     subst (λ (o : State g.row.S-Item.Denot).
-        Step setting o.table (command.Sub i c.args.start c.args.end) (reply.Owner e) (state_of slots' after).table)
+    Step setting o.table (command.Sub i c.args.start c.args.end) (reply.Owner e) (state_of slots' after).table)
     c.self.view_is
     (refused-row slots passes i s there c.self.invariant after setting (command.Sub i c.args.start c.args.end) r answers e slots'
     (λ wants. (row_of s, row-there slots passes i s there, (range, wants)))
@@ -203,8 +204,8 @@ returns-in-Err-try_subslice-clause-passes g c =
     let e = c.in-Err-try_subslice.e in
     let r = part_of setting (row_of s) c.args.start c.args.end in
     subst (λ (o : State g.row.S-Item.Denot).
-        Adds {T = g.row.S-Item.Denot} o.standing (command.Sub i c.args.start c.args.end) (reply.Owner e)
-        (state_of slots' after).standing)
+    Adds {T = g.row.S-Item.Denot} o.standing (command.Sub i c.args.start c.args.end) (reply.Owner e)
+    (state_of slots' after).standing)
     c.self.view_is
     (refused-added slots passes i s there slots' after g.L.Layout.clone_wants r.place e
     c.reserve.ensures.items c.in-Err-try_subslice.ensures.refused)

@@ -56,7 +56,7 @@ returns-then-alone-clause-rows g c =
     let after = asked.new.passes.of_blocks.items in
     let along = subst (λ b. AsksAlong (stand_of (Some s)) passes after b) c.if-alone.true asked.ensures.asked in
     subst (λ (o : State g.row.S-Item.Denot).
-        Step setting o.table (command.Uniq i) reply.Yes (state_of slots after).table) c.self.view_is
+    Step setting o.table (command.Uniq i) reply.Yes (state_of slots after).table) c.self.view_is
     (asked-row slots passes i s there c.self.invariant after setting true slots along
     (λ none. sym c.if-alone.true ∙ asked.ensures.nowhere none) refl)
 
@@ -71,8 +71,8 @@ returns-then-alone-clause-passes g c =
     let after = asked.new.passes.of_blocks.items in
     let along = subst (λ b. AsksAlong (stand_of (Some s)) passes after b) c.if-alone.true asked.ensures.asked in
     subst (λ (o : State g.row.S-Item.Denot).
-        Adds {T = g.row.S-Item.Denot} o.standing (command.Uniq i) reply.Yes
-        (state_of slots after).standing) c.self.view_is
+    Adds {T = g.row.S-Item.Denot} o.standing (command.Uniq i) reply.Yes
+    (state_of slots after).standing) c.self.view_is
     (called-added slots passes i s there slots after (λ o p q. Asks o p q true) refl along)
 
 pub returns-clause-rows : goal.returns-clause-rows
@@ -88,7 +88,7 @@ returns-clause-rows g c =
     let after = asked.new.passes.of_blocks.items in
     let along = subst (λ b. AsksAlong (stand_of (Some s)) passes after b) c.if-alone.false asked.ensures.asked in
     subst (λ (o : State g.row.S-Item.Denot).
-        Step setting o.table (command.Uniq i) reply.No (state_of slots after).table) c.self.view_is
+    Step setting o.table (command.Uniq i) reply.No (state_of slots after).table) c.self.view_is
     (asked-row slots passes i s there c.self.invariant after setting false slots along
     (λ none. sym c.if-alone.false ∙ asked.ensures.nowhere none) refl)
 
@@ -103,6 +103,6 @@ returns-clause-passes g c =
     let after = asked.new.passes.of_blocks.items in
     let along = subst (λ b. AsksAlong (stand_of (Some s)) passes after b) c.if-alone.false asked.ensures.asked in
     subst (λ (o : State g.row.S-Item.Denot).
-        Adds {T = g.row.S-Item.Denot} o.standing (command.Uniq i) reply.No
-        (state_of slots after).standing) c.self.view_is
+    Adds {T = g.row.S-Item.Denot} o.standing (command.Uniq i) reply.No
+    (state_of slots after).standing) c.self.view_is
     (called-added slots passes i s there slots after (λ o p q. Asks o p q false) refl along)

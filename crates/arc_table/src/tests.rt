@@ -1,0 +1,160 @@
+//! Commands and their replies: the worked rows, each call once, and memory that runs out.
+use super::*;
+use crate::command::{Cmd, Reply};
+use crate::table::Table;
+use arc_block::layout::{ArcLayout, DefaultLayout};
+use arc_buffer::kinds::Plain;
+use arc_owners::error::RangeError;
+use linked_list_allocator::LocalHeap;
+use std::alloc::Allocator;
+use std::sync::Wait;
+use std::test::Fail;
+
+/// The bytes of a reply that has items.
+fn has_items<A: Allocator>(reply: &Reply<Vec<u8, A>>, items: &[u8]) -> bool {
+    match reply {
+        Reply::Items(shown) => shown.as_slice() == items,
+        _ => false,
+    }
+}
+
+/// A table with a window over the items, if there is memory.
+fn table_of<A: Allocator + Copy>(rt: &impl Wait, alloc: A, items: &[u8]) -> ByteTable<A> {
+    let mut table = Table::new(alloc);
+    if let Ok(items) = Vec::from_slice(alloc, items) {
+        let _ = table.step(rt, Cmd::Slice(items));
+    }
+    table
+}
+
+/// A table of windows over bytes.
+type ByteTable<A> = Table<Plain<u8>, DefaultLayout, A>;
+
+#[test]
+fn hello(rt: HostRuntime) {
+    let mut table = table_of(&rt, rt.alloc(), b"Hello world");
+    let cut = table.step(
+        &rt,
+        Cmd::Sub {
+            window: 0,
+            start: 0,
+            end: 5,
+        },
+    );
+    let shown = table.step(&rt, Cmd::Show { window: 1 });
+    let _ = table.end();
+    assert!(rt; matches!(cut, Reply::New(1)));
+    assert!(rt; has_items(&shown, b"Hello"));
+}
+
+/// Ranges are answered in the order of their tests, and an empty cut stands on nothing.
+#[test]
+fn ranges(rt: HostRuntime) {
+    let mut table = table_of(&rt, rt.alloc(), &[1, 2]);
+    let past = table.step(
+        &rt,
+        Cmd::Sub {
+            window: 0,
+            start: 0,
+            end: 3,
+        },
+    );
+    let turned = table.step(
+        &rt,
+        Cmd::Sub {
+            window: 0,
+            start: 2,
+            end: 1,
+        },
+    );
+    let empty = table.step(
+        &rt,
+        Cmd::Sub {
+            window: 0,
+            start: 1,
+            end: 1,
+        },
+    );
+    let shown = table.step(&rt, Cmd::Show { window: 1 });
+    let alone = table.step(&rt, Cmd::Uniq { window: 1 });
+    let dropped = table.step(&rt, Cmd::Drop { window: 0 });
+    let gone = table.step(&rt, Cmd::Show { window: 0 });
+    let _ = table.end();
+    assert!(rt; matches!(past, Reply::Range(RangeError::OutOfRange)));
+    assert!(rt; matches!(turned, Reply::Range(RangeError::InvalidRange)));
+    assert!(rt; matches!(empty, Reply::New(1)));
+    assert!(rt; has_items(&shown, b""));
+    assert!(rt; matches!(alone, Reply::No));
+    assert!(rt; matches!(dropped, Reply::Ok));
+    assert!(rt; matches!(gone, Reply::NoWindow));
+}
+
+/// A window is alone on its block, has another owner beside it, and is alone again.
+#[test]
+fn unique_or_not(rt: HostRuntime) {
+    let mut table = table_of(&rt, rt.alloc(), b"A");
+    let first = table.step(&rt, Cmd::Uniq { window: 0 });
+    let clone = table.step(&rt, Cmd::Clone { window: 0 });
+    let second = table.step(&rt, Cmd::Uniq { window: 0 });
+    let _ = table.step(&rt, Cmd::Drop { window: 1 });
+    let third = table.step(&rt, Cmd::Uniq { window: 0 });
+    let again = table.step(&rt, Cmd::Clone { window: 0 });
+    let _ = table.end();
+    assert!(rt; matches!(first, Reply::Yes));
+    assert!(rt; matches!(clone, Reply::New(1)));
+    assert!(rt; matches!(second, Reply::No));
+    assert!(rt; matches!(third, Reply::Yes));
+    assert!(rt; matches!(again, Reply::New(2)));
+}
+
+/// Under a layout without static data an empty cut is an owner; the items needn't be bytes.
+#[test]
+fn numbers_without_static_data(rt: HostRuntime) -> Result<(), Fail> {
+    let items = Vec::from_slice(rt.alloc(), &[7u32, 8, 9])?;
+    let mut table: Table<Plain<u32>, ArcLayout<true, false>> = Table::new(rt.alloc());
+    let made = table.step(&rt, Cmd::Slice(items));
+    let cut = table.step(
+        &rt,
+        Cmd::Sub {
+            window: 0,
+            start: 3,
+            end: 3,
+        },
+    );
+    let alone = table.step(&rt, Cmd::Uniq { window: 0 });
+    let _ = table.end();
+    assert!(rt; matches!(made, Reply::New(0)));
+    assert!(rt; matches!(cut, Reply::New(1)));
+    assert!(rt; matches!(alone, Reply::No));
+    Ok(())
+}
+
+/// With more and more memory each request is refused in turn. A refusal changes nothing, and at
+/// the end all memory is given back.
+#[test]
+fn memory_refused(rt: HostRuntime) -> Result<(), Fail> {
+    let mut refused = 0u32;
+    let mut whole = 0u32;
+    for units in 1..256usize {
+        let heap = LocalHeap::new(rt.alloc(), units * 16)?;
+        let mut table = table_of(&rt, &heap, b"Hello");
+        let clone = table.step(&rt, Cmd::Clone { window: 0 });
+        let shown = table.step(&rt, Cmd::Show { window: 0 });
+        let made_one = matches!(clone, Reply::New(1));
+        if has_items(&shown, b"Hello") && made_one {
+            whole = whole.wrapping_add(1);
+        }
+        if matches!(clone, Reply::Alloc) || matches!(shown, Reply::Alloc) {
+            refused = refused.wrapping_add(1);
+        }
+        drop(shown);
+        drop(clone);
+        let _ = table.end();
+        assert_eq!(rt; heap.used(), 0, "in {units} units");
+    }
+    assert!(rt;
+        0 < refused && 0 < whole,
+        "{refused} were refused, and {whole} whole"
+    );
+    Ok(())
+}
