@@ -129,26 +129,37 @@ fn numbers_without_static_data(rt: HostRuntime) -> Result<(), Fail> {
     Ok(())
 }
 
+/// Clones of the first window, and the reply to the last.
+fn cloned<A: Allocator + Copy>(
+    rt: &impl Wait,
+    table: &mut ByteTable<A>,
+    times: usize,
+) -> Reply<Vec<u8, A>> {
+    for _ in 1..times {
+        let _ = table.step(rt, Cmd::Clone { window: 0 });
+    }
+    table.step(rt, Cmd::Clone { window: 0 })
+}
+
 /// With more and more memory each request is refused in turn. A refusal changes nothing, and at
 /// the end all memory is given back.
 #[test]
 fn memory_refused(rt: HostRuntime) -> Result<(), Fail> {
     let mut refused = 0u32;
     let mut whole = 0u32;
-    for units in 1..256usize {
+    for units in 1..128usize {
         let heap = LocalHeap::new(rt.alloc(), units * 16)?;
         let mut table = table_of(&rt, &heap, b"Hello");
-        let clone = table.step(&rt, Cmd::Clone { window: 0 });
+        let last = cloned(&rt, &mut table, 4);
         let shown = table.step(&rt, Cmd::Show { window: 0 });
-        let made_one = matches!(clone, Reply::New(1));
-        if has_items(&shown, b"Hello") && made_one {
+        if has_items(&shown, b"Hello") && matches!(last, Reply::New(4)) {
             whole = whole.wrapping_add(1);
         }
-        if matches!(clone, Reply::Alloc) || matches!(shown, Reply::Alloc) {
+        if matches!(last, Reply::Alloc) {
             refused = refused.wrapping_add(1);
         }
         drop(shown);
-        drop(clone);
+        drop(last);
         let _ = table.end();
         assert_eq!(rt; heap.used(), 0, "in {units} units");
     }
