@@ -5,7 +5,7 @@ use Rattle.std.specs.List.Sorted.{IsPermutation}
 use Rattle.std.proofs.lemmas.Bool.{cases_Bool, cases_eq, eq-eqb, ne_eqb, false≢true}
 use Rattle.std.proofs.lemmas.Option.{none-some, same_Some, slice_get_cases, slice_get_within}
 use Rattle.std.proofs.lemmas.List.Elements.{filter_map-append}
-use Rattle.std.proofs.lemmas.List.Sorted.{IsPermutation-append_left, length_permutation, list_any-IsPermutation}
+use Rattle.std.proofs.lemmas.List.Sorted.{IsPermutation-append_left, IsPermutation-trans, length_permutation, list_any-IsPermutation}
 use Rattle.arc_owners.specs.declared.history.entry.Entry.{Entry}
 use Rattle.arc_owners.specs.declared.count.tokens.Pass.{Pass}
 use Rattle.arc_owners.specs.count.Invariant.{Line, BlockId, entries_of}
@@ -17,7 +17,7 @@ use Rattle.arc_owners.proofs.Told.{Owned}
 use Rattle.arc_owners.proofs.Wholes.{room-made, seen-more, same-asked, same-full, same-made, same-left, lives-asked, lives-full, lives-made, lives-left, found-exact, full-exact, before-is, owned-before}
 use Rattle.arc_block.specs.Owned.{Stand, number_on, owners_on, IsBlockPass, HasPass, IsKept}
 use Rattle.arc_block.proofs.Lists.{get-push, get-front, push-cases, get-set, get-set_other, set-cases, filter_map-none, filter_map-set, filter_map-gone, filter_map-in}
-use Rattle.arc_block.proofs.Permutations.{permuted-same, permuted-then, then-permuted, nil-permuted, times-permuted, without-permuted}
+use Rattle.arc_block.proofs.Permutations.{permuted-same, permuted-then, then-permuted, nil-permuted, filter_map-turned, times-permuted, without-permuted}
 
 -- whose number is counted on a block: the owners there, and no others
 number_here : (n : ℕ) (o : Owner) → number_on n (Some (n, o)) ≡ Some o.number
@@ -110,6 +110,23 @@ module _ {H : Type 0} where
         ];
       }
 
+  -- the window at the end and the one at place i, each in the other's place
+  kept-turned : {g : ℕ} {passes : List (Pass H)} (stands : List Stand) (i : ℕ) (t s : Stand) → IsKept g (stands ++ s ∷ []) passes → slice_get stands i ≡ Some t → IsKept g (slice_set stands i s ++ t ∷ []) passes
+  kept-turned {passes = passes} stands i t s k there = record {
+    known = known-push (slice_set stands i s) passes t
+        (λ j n o here. elim (set-cases stands i j (Some (n, o)) s here) [
+          | inl other ↦ k.known j n o (get-front stands j (Some (n, o)) s other.1)
+          | inr is ↦ k.known (length stands) n o (get-push stands s ∙ ap Some is.1)
+        ])
+        (λ n o is. k.known i n o (get-front stands i t s there ∙ ap Some is));
+    passes_fit = k.passes_fit;
+    live = λ n p here. IsPermutation-trans _ _ _ (k.live n p here) (filter_map-turned (number_on n) stands i t s there);
+  }
+
+  -- a window that goes under a new number, and where it stood nothing stands: no history changes
+  pub kept-moved : {g : ℕ} {stands : List Stand} {passes : List (Pass H)} {o : Owner} (i n : ℕ) → IsKept g stands passes → slice_get stands i ≡ Some (Some (n, o)) → IsKept g (slice_set stands i None ++ Some (n, o) ∷ []) passes
+  kept-moved {stands = stands} {o = o} i n k there = kept-turned stands i (Some (n, o)) None (kept-nowhere k) there
+
   -- where no window is left, no block has a live owner
   pub all-ended : {g : ℕ} {stands : List Stand} {passes : List (Pass H)} (n : ℕ) (p : Pass H) → IsKept g stands passes → ((i : ℕ) (s : ℕ × Owner) → ¬ (slice_get stands i ≡ Some (Some s))) → slice_get passes n ≡ Some p → live_owners (seen p) ≡ []
   all-ended {stands = stands} n p k none here = nil-permuted (permuted-then (k.live n p here) (no-owners n stands (λ i m o there _. none i (m, o) there)))
@@ -173,6 +190,10 @@ module _ {H : Type 0} {g : ℕ} {stands : List Stand} {passes : List (Pass H)} {
       (known-pushed stands passes n other k.known (has-pass passes n other old was (is-for.0, is-for.1 ∙ sym (ap (λ (q : Owner). q.block) makes.made))))
       (then-permuted (lives-made is-whole makes) (permuted-then (IsPermutation-append_left (other.number ∷ []) _ _ lived) (sym (owners-pushed n stands other))))
       (λ m apart. owners-pushed_other m stands (Some (n, other)) (number_other m n other apart))
+
+  -- the new owner stands where the old one stood, which goes under a new number
+  pub kept-shared-at : {new : Pass H} {other : Owner} → MakesAnother o old new other → IsKept g (slice_set stands i (Some (n, other)) ++ Some (n, o) ∷ []) (slice_set passes n new)
+  kept-shared-at {other = other} makes = kept-turned stands i (Some (n, o)) (Some (n, other)) (kept-shared makes) there
 
   -- each owner stands once
   owned : Owned (seen old) → times o.number (owners_on n stands) ≤ 1
