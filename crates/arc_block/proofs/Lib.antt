@@ -1,3 +1,4 @@
 pub mod Lists
+pub mod Permutations
 pub mod Owned
 pub mod Alone

@@ -1,15 +1,15 @@
 -- What each call does to the windows and the passes of their blocks, which keep belonging together.
 use Rattle.std.proofs.Common.{inl, inr, ◌≡◌, ℕ, ◌<◌, ◌≤◌, ◌==◌, Bool, true, List, [], ◌∷◌, ◌++◌, length, Some, None, slice_get, slice_set, refl, sym, ◌∙◌, ap, subst, arith, append-nil}
 use Rattle.std.specs.List.{cons_option}
+use Rattle.std.specs.List.Sorted.{IsPermutation}
 use Rattle.std.proofs.lemmas.Bool.{cases_Bool, cases_eq, eq-eqb, ne_eqb, false≢true}
 use Rattle.std.proofs.lemmas.Option.{none-some, same_Some, slice_get_cases, slice_get_within}
 use Rattle.std.proofs.lemmas.List.Elements.{filter_map-append}
+use Rattle.std.proofs.lemmas.List.Sorted.{IsPermutation-append_left, IsPermutation-trans, length_permutation, list_any-IsPermutation}
 use Rattle.arc_owners.specs.declared.history.entry.Entry.{Entry}
-use Rattle.arc_owners.specs.declared.history.entry.Entry.TheVariants.{Up, Full, Down, Alone}
 use Rattle.arc_owners.specs.declared.count.tokens.Pass.{Pass}
 use Rattle.arc_owners.specs.count.Invariant.{Line, BlockId, entries_of}
 use Rattle.arc_owners.specs.history.Histories.{is_in, live_owners, owners_ever, owners_ended}
-use Rattle.arc_owners.specs.history.Machine.{without_number}
 use Rattle.arc_owners.specs.count.Calls.{Owner, Appends, IsSamePass, IsFirst, IsPassFor, IsFreshPass, Asks, FindsFull, MakesAnother, Leaves, seen}
 use Rattle.arc_owners.proofs.Numbers.{times}
 use Rattle.arc_owners.proofs.Steps.{one_is}
@@ -17,6 +17,7 @@ use Rattle.arc_owners.proofs.Told.{Owned}
 use Rattle.arc_owners.proofs.Wholes.{room-made, seen-more, same-asked, same-full, same-made, same-left, lives-asked, lives-full, lives-made, lives-left, found-exact, full-exact, before-is, owned-before}
 use Rattle.arc_block.specs.Owned.{Stand, number_on, owners_on, IsBlockPass, HasPass, IsKept}
 use Rattle.arc_block.proofs.Lists.{get-push, get-front, push-cases, get-set, get-set_other, set-cases, filter_map-none, filter_map-set, filter_map-gone, filter_map-in}
+use Rattle.arc_block.proofs.Permutations.{permuted-same, permuted-then, then-permuted, nil-permuted, filter_map-turned, times-permuted, without-permuted}
 
 -- whose number is counted on a block: the owners there, and no others
 number_here : (n : ℕ) (o : Owner) → number_on n (Some (n, o)) ≡ Some o.number
@@ -81,14 +82,14 @@ module _ {H : Type 0} where
   kept-nowhere {stands = stands} {passes = passes} k = record {
     known = known-push stands passes None k.known (λ n o is. absurd (none-some (n, o) is));
     passes_fit = k.passes_fit;
-    live = λ n p here. k.live n p here ∙ sym (owners-pushed_other n stands None refl);
+    live = λ n p here. permuted-then (k.live n p here) (sym (owners-pushed_other n stands None refl));
   }
 
   pub kept-gone-nowhere : {g : ℕ} {stands : List Stand} {passes : List (Pass H)} (i : ℕ) → IsKept g stands passes → slice_get stands i ≡ Some None → IsKept g (slice_set stands i None) passes
   kept-gone-nowhere {stands = stands} {passes = passes} i k there = record {
     known = known-gone stands passes i k.known;
     passes_fit = k.passes_fit;
-    live = λ n p here. k.live n p here ∙ sym (filter_map-set (number_on n) stands i None None there refl);
+    live = λ n p here. permuted-then (k.live n p here) (sym (filter_map-set (number_on n) stands i None None there refl));
   }
 
   pub kept-new : {g : ℕ} {stands : List Stand} {passes : List (Pass H)} {o : Owner} (p : Pass H) → IsKept g stands passes → IsFirst g true o → IsFreshPass o p → IsKept g (stands ++ Some (length passes, o) ∷ []) (passes ++ p ∷ [])
@@ -104,14 +105,31 @@ module _ {H : Type 0} where
             (has-pass (passes ++ p ∷ []) n o p (get-push passes p) fresh.0);
         passes_fit = λ m q here. elim (push-cases passes m q p here) [ inl front ↦ k.passes_fit m q front | inr end ↦ subst (IsBlockPass g) end.1 (block-pass g o p first.whole first.most fresh.0) ];
         live = λ m q here. elim (push-cases passes m q p here) [
-          | inl front ↦ k.live m q front ∙ sym (owners-pushed_other m stands (Some (n, o)) (number_other m n o (λ e. omega (arith, e, slice_get_within passes m q front))))
-          | inr end ↦ ap (λ (r : Pass H). live_owners (seen r)) (sym end.1) ∙ begun ∙ ap (λ j. owners_on j (stands ++ Some (n, o) ∷ [])) (sym end.0)
+          | inl front ↦ permuted-then (k.live m q front) (sym (owners-pushed_other m stands (Some (n, o)) (number_other m n o (λ e. omega (arith, e, slice_get_within passes m q front)))))
+          | inr end ↦ permuted-same (ap (λ (r : Pass H). live_owners (seen r)) (sym end.1) ∙ begun ∙ ap (λ j. owners_on j (stands ++ Some (n, o) ∷ [])) (sym end.0))
         ];
       }
 
+  -- the window at the end and the one at place i, each in the other's place
+  kept-turned : {g : ℕ} {passes : List (Pass H)} (stands : List Stand) (i : ℕ) (t s : Stand) → IsKept g (stands ++ s ∷ []) passes → slice_get stands i ≡ Some t → IsKept g (slice_set stands i s ++ t ∷ []) passes
+  kept-turned {passes = passes} stands i t s k there = record {
+    known = known-push (slice_set stands i s) passes t
+        (λ j n o here. elim (set-cases stands i j (Some (n, o)) s here) [
+          | inl other ↦ k.known j n o (get-front stands j (Some (n, o)) s other.1)
+          | inr is ↦ k.known (length stands) n o (get-push stands s ∙ ap Some is.1)
+        ])
+        (λ n o is. k.known i n o (get-front stands i t s there ∙ ap Some is));
+    passes_fit = k.passes_fit;
+    live = λ n p here. IsPermutation-trans _ _ _ (k.live n p here) (filter_map-turned (number_on n) stands i t s there);
+  }
+
+  -- a window that goes under a new number, and where it stood nothing stands: no history changes
+  pub kept-moved : {g : ℕ} {stands : List Stand} {passes : List (Pass H)} {o : Owner} (i n : ℕ) → IsKept g stands passes → slice_get stands i ≡ Some (Some (n, o)) → IsKept g (slice_set stands i None ++ Some (n, o) ∷ []) passes
+  kept-moved {stands = stands} {o = o} i n k there = kept-turned stands i (Some (n, o)) None (kept-nowhere k) there
+
   -- where no window is left, no block has a live owner
   pub all-ended : {g : ℕ} {stands : List Stand} {passes : List (Pass H)} (n : ℕ) (p : Pass H) → IsKept g stands passes → ((i : ℕ) (s : ℕ × Owner) → ¬ (slice_get stands i ≡ Some (Some s))) → slice_get passes n ≡ Some p → live_owners (seen p) ≡ []
-  all-ended {stands = stands} n p k none here = k.live n p here ∙ no-owners n stands (λ i m o there _. none i (m, o) there)
+  all-ended {stands = stands} n p k none here = nil-permuted (permuted-then (k.live n p here) (no-owners n stands (λ i m o there _. none i (m, o) there)))
 
 module _ {H : Type 0} {g : ℕ} {stands : List Stand} {passes : List (Pass H)} {o : Owner} {old : Pass H} (i n : ℕ) (k : IsKept g stands passes) (there : slice_get stands i ≡ Some (Some (n, o))) (was : slice_get passes n ≡ Some old) where
   -- the pass is that of the window's block, under `Whole`
@@ -124,18 +142,21 @@ module _ {H : Type 0} {g : ℕ} {stands : List Stand} {passes : List (Pass H)} {
   is-most : o.block.most ≡ g
   is-most = ap (λ (t : BlockId). t.most) (sym is-for.1) ∙ (k.passes_fit n old was).most
 
-  lived : live_owners (seen old) ≡ owners_on n stands
+  lived : IsPermutation (live_owners (seen old)) (owners_on n stands)
   lived = k.live n old was
 
   -- the window is one of those that stand on its block
   lives-here : is_in o.number (live_owners (seen old)) ≡ true
-  lives-here = subst (λ (ns : List ℕ). is_in o.number ns ≡ true) (sym lived) (filter_map-in (number_on n) stands i (Some (n, o)) o.number there (number_here n o))
+  lives-here = list_any-IsPermutation (λ m. m == o.number) _ _ lived ∙ filter_map-in (number_on n) stands i (Some (n, o)) o.number there (number_here n o)
+
+  many-here : length (owners_on n stands) ≡ length (live_owners (seen old))
+  many-here = length_permutation _ _ lived
 
   alone_if_one : length (owners_on n stands) ≡ 1 → live_owners (seen old) ≡ o.number ∷ []
-  alone_if_one one = one_is (live_owners (seen old)) o.number lives-here (ap length lived ∙ one)
+  alone_if_one one = one_is (live_owners (seen old)) o.number lives-here (sym many-here ∙ one)
 
   -- the other passes, and the windows on the other blocks, are as they were
-  kept-after : (new : Pass H) (after : List Stand) → IsSamePass o.block old new → AllKnown after passes → live_owners (seen new) ≡ owners_on n after
+  kept-after : (new : Pass H) (after : List Stand) → IsSamePass o.block old new → AllKnown after passes → IsPermutation (live_owners (seen new)) (owners_on n after)
       → ((m : ℕ) → ¬ (n ≡ m) → owners_on m after ≡ owners_on m stands) → IsKept g after (slice_set passes n new)
   kept-after new after same known here others = record {
     known = λ j m q at.
@@ -152,54 +173,58 @@ module _ {H : Type 0} {g : ℕ} {stands : List Stand} {passes : List (Pass H)} {
       | inr is ↦ subst (IsBlockPass g) is.1 (block-pass g o new is-whole is-most same.0)
     ];
     live = λ m p at. elim (set-cases passes n m p new at) [
-      | inl other ↦ k.live m p other.1 ∙ sym (others m other.0)
-      | inr is ↦ ap (λ (r : Pass H). live_owners (seen r)) (sym is.1) ∙ here ∙ ap (λ j. owners_on j after) is.0
+      | inl other ↦ permuted-then (k.live m p other.1) (sym (others m other.0))
+      | inr is ↦ then-permuted (ap (λ (r : Pass H). live_owners (seen r)) (sym is.1)) (permuted-then here (ap (λ j. owners_on j after) is.0))
     ];
   }
 
   pub kept-asked : {new : Pass H} {found : Bool} → Asks o old new found → IsKept g stands (slice_set passes n new)
-  kept-asked {new = new} asks = kept-after new stands (same-asked asks) k.known (lives-asked is-whole asks ∙ lived) (λ m apart. refl)
+  kept-asked {new = new} asks = kept-after new stands (same-asked asks) k.known (then-permuted (lives-asked is-whole asks) lived) (λ m apart. refl)
 
   pub kept-full : {new : Pass H} → FindsFull o old new → IsKept g stands (slice_set passes n new)
-  kept-full {new = new} full = kept-after new stands (same-full full) k.known (lives-full is-whole full ∙ lived) (λ m apart. refl)
+  kept-full {new = new} full = kept-after new stands (same-full full) k.known (then-permuted (lives-full is-whole full) lived) (λ m apart. refl)
 
   pub kept-shared : {new : Pass H} {other : Owner} → MakesAnother o old new other → IsKept g (stands ++ Some (n, other) ∷ []) (slice_set passes n new)
   kept-shared {new = new} {other = other} makes =
       kept-after new (stands ++ Some (n, other) ∷ []) (same-made makes)
       (known-pushed stands passes n other k.known (has-pass passes n other old was (is-for.0, is-for.1 ∙ sym (ap (λ (q : Owner). q.block) makes.made))))
-      (lives-made is-whole makes ∙ ap (λ ns. ns ++ other.number ∷ []) lived ∙ sym (owners-pushed n stands other))
+      (then-permuted (lives-made is-whole makes) (permuted-then (IsPermutation-append_left (other.number ∷ []) _ _ lived) (sym (owners-pushed n stands other))))
       (λ m apart. owners-pushed_other m stands (Some (n, other)) (number_other m n other apart))
+
+  -- the new owner stands where the old one stood, which goes under a new number
+  pub kept-shared-at : {new : Pass H} {other : Owner} → MakesAnother o old new other → IsKept g (slice_set stands i (Some (n, other)) ++ Some (n, o) ∷ []) (slice_set passes n new)
+  kept-shared-at {other = other} makes = kept-turned stands i (Some (n, o)) (Some (n, other)) (kept-shared makes) there
 
   -- each owner stands once
   owned : Owned (seen old) → times o.number (owners_on n stands) ≤ 1
-  owned once = subst (λ (ns : List ℕ). times o.number ns ≤ 1) lived (once.once o.number)
+  owned once = subst (λ m. m ≤ 1) (times-permuted o.number lived) (once.once o.number)
 
   pub kept-gone : {new : Pass H} {last : Bool} → Leaves o old new last → IsKept g (slice_set stands i None) (slice_set passes n new)
   kept-gone {new = new} leaves =
       let once : Owned (seen old) = subst (λ (h : List Entry). Owned h) (before-is leaves.added is-whole) (owned-before leaves.added) in
       kept-after new (slice_set stands i None) (same-left leaves) (known-gone stands passes i k.known)
-      (lives-left is-whole leaves ∙ ap (without_number o.number) lived
-      ∙ sym (filter_map-gone (number_on n) stands i (Some (n, o)) None o.number there (number_here n o) refl (owned once)))
+      (then-permuted (lives-left is-whole leaves) (permuted-then (without-permuted o.number lived)
+      (sym (filter_map-gone (number_on n) stands i (Some (n, o)) None o.number there (number_here n o) refl (owned once)))))
       (λ m apart. filter_map-set (number_on m) stands i (Some (n, o)) None there (sym (number_other m n o apart)))
 
   -- uniqueness is found exactly where one window stands on the block
   pub alone-exact : {new : Pass H} {found : Bool} → Asks o old new found → found ≡ (length (owners_on n stands) == 1)
   alone-exact {found = found} asks = let exact = found-exact is-whole asks in
       elim (cases_Bool found) [
-        | inl sole ↦ sole ∙ sym (eq-eqb (length (owners_on n stands)) 1 (ap length (sym lived ∙ exact.0 sole)))
+        | inl sole ↦ sole ∙ sym (eq-eqb (length (owners_on n stands)) 1 (many-here ∙ ap length (exact.0 sole)))
         | inr shared ↦ shared ∙ sym (ne_eqb (length (owners_on n stands)) 1 (λ one. false≢true (sym shared ∙ exact.1 (alone_if_one one))))
       ]
 
   -- where the count is found full, as many windows stand on the block as it may have owners
   pub full-here : {new : Pass H} → FindsFull o old new → length (owners_on n stands) ≡ g
-  full-here full = ap length (sym lived) ∙ full-exact is-whole full ∙ is-most
+  full-here full = many-here ∙ full-exact is-whole full ∙ is-most
 
   -- a call that adds nothing
   pub kept-same : {new : Pass H} {before : List Line} → Appends o.block old new before []
       → IsKept g stands (slice_set passes n new)
   kept-same {new = new} a =
       kept-after new stands a.same k.known
-      (ap live_owners (seen-more a is-whole ∙ append-nil (seen old)) ∙ lived) (λ m apart. refl)
+      (then-permuted (ap live_owners (seen-more a is-whole ∙ append-nil (seen old))) lived) (λ m apart. refl)
 
   -- where an owner more is made, fewer windows stand on the block than it may have owners
   pub room-here : {new : Pass H} {other : Owner} → 2 ≤ g → MakesAnother o old new other
@@ -208,4 +233,4 @@ module _ {H : Type 0} {g : ℕ} {stands : List Stand} {passes : List (Pass H)} {
       let most = is-most in
       let room = room-made is-whole (subst (λ m. 2 ≤ m) (sym most) two) makes in
       subst (λ m. length (owners_on n stands) < m) most
-      (subst (λ (ns : List ℕ). length ns < o.block.most) lived room)
+      (subst (λ m. m < o.block.most) (sym many-here) room)

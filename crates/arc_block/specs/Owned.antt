@@ -2,6 +2,7 @@
 -- how they belong together.
 use Rattle.std.specs.Prelude.{◌≡◌, ℕ, ◌<◌, ◌==◌, true, List, length, Option, Some, None, filter_map}
 use Rattle.std.specs.Prelude.{slice_get, if◌then◌else◌}
+use Rattle.std.specs.List.Sorted.{IsPermutation}
 use Rattle.arc_owners.specs.declared.count.tokens.Pass.{Pass}
 use Rattle.arc_owners.specs.history.Histories.{live_owners}
 use Rattle.arc_owners.specs.count.Calls.{Owner, IsPassFor, seen}
@@ -16,7 +17,7 @@ abbrev pub number_on : ℕ → Stand → Option ℕ
 number_on block None = None
 number_on block (Some s) = if s.0 == block then Some s.1.number else None
 
--- the numbers of the owners of a block, in the order in which their windows were made
+-- the numbers of the owners of a block, in the order in which their windows stand
 abbrev pub owners_on : ℕ → List Stand → List ℕ
 owners_on block stands = filter_map (number_on block) stands
 
@@ -38,6 +39,6 @@ module _ {H : Type 0} where
     pub known : (i n : ℕ) (o : Owner) → slice_get stands i ≡ Some (Some (n, o)) → HasPass passes n o
     -- each pass is that of a block under `Whole`
     pub passes_fit : (n : ℕ) (p : Pass H) → slice_get passes n ≡ Some p → IsBlockPass greatest p
-    -- the live owners of each block's history are its windows
+    -- the live owners of each block's history are those of its windows, each once, in any order
     pub live : (n : ℕ) (p : Pass H) → slice_get passes n ≡ Some p
-        → live_owners (seen p) ≡ owners_on n stands
+        → IsPermutation (live_owners (seen p)) (owners_on n stands)

@@ -5,6 +5,7 @@ use Rattle.std.specs.Option.{option_map, option_flatten}
 use Rattle.std.proofs.lemmas.Option.{slice_get-map}
 use Rattle.arc_owners.specs.declared.count.tokens.Pass.{Pass}
 use Rattle.arc_block.specs.Owned.{owners_on, IsKept}
+use Rattle.arc_block.proofs.Permutations.{permuted-then}
 use Rattle.arc_table.specs.Slots.{SlotView, row_of, stand_of, stands_of}
 use Rattle.arc_table.specs.State.{state_of}
 
@@ -40,5 +41,5 @@ module _ {T : Type 0} where
   kept-gone-all most slots passes k gone = record {
     known = λ i n o at. cc;
     passes_fit = k.passes_fit;
-    live = λ n p at. k.live n p at ∙ none_on slots gone n;
+    live = λ n p at. permuted-then (k.live n p at) (none_on slots gone n);
   }
