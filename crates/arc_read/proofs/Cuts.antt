@@ -1,5 +1,5 @@
 -- A window that is cut keeps what holds of every window.
-use Rattle.std.proofs.Common.{◌≡◌, ℕ, ◌+◌, ◌-◌, ◌≤◌, Bool, true, IsTrue, List, [], length, take, Option, Some, None, refl, sym, ap, ◌∙◌, subst, arith}
+use Rattle.std.proofs.Common.{◌≡◌, ℕ, ◌+◌, ◌≤◌, Bool, true, List, [], length, take, Option, Some, None, refl, sym, ap, ◌∙◌, subst, arith}
 use Rattle.std.proofs.lemmas.List.{nil_from_length}
 use Rattle.std.proofs.Math.Logic.{∥∥₁_map, ∥∥₁_elim}
 use Rattle.std.proofs.Math.Bool.{Bool-set}
@@ -10,7 +10,6 @@ use Rattle.arc_block.specs.Block.{BlockView}
 use Rattle.arc_block.specs.Place.{Place, nowhere, static_data, on_block, moved}
 use Rattle.arc_read.specs.Window.{Window, window_seen, IsWithin}
 use Rattle.arc_read.specs.Cuts.{cut_window}
-use Rattle.arc_read.proofs.Windows.{on_block_seen}
 
 -- what holds of every window
 abbrev pub Holds : {T : Type 0} → (List T → Type 0) → Option (BlockView T (Unit {0})) → ℕ → ℕ → Type 0

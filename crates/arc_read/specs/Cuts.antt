@@ -1,5 +1,5 @@
 -- Cuts and splits of a read window.
-use Rattle.std.specs.Prelude.{◌≡◌, ℕ, ◌<◌, Bool, if◌then◌else◌, ◌==◌, List, length, take, drop}
+use Rattle.std.specs.Prelude.{◌≡◌, ℕ, ◌<◌, Bool, if◌then◌else◌, ◌==◌, length, take, drop}
 use Rattle.arc_owners.specs.declared.count.tokens.Pass.{Pass}
 use Rattle.arc_buffer.specs.Slice.{sub}
 use Rattle.arc_block.specs.Place.{moved, part_place}

@@ -8,7 +8,7 @@ use Rattle.arc_owners.specs.count.Invariant.{BlockId, Line}
 use Rattle.arc_owners.specs.count.Calls.{Owner, Appends, IsOfBlock, IsPassOf, IsPassOfNone}
 use Rattle.arc_owners.specs.count.Calls.{pass_block, pass_number, history_of, IsFirst, IsFreshPass}
 use Rattle.arc_owners.specs.count.Calls.{IsNewPass, FindsFull, MakesAnother, Asks}
-use Rattle.arc_block.specs.Block.{Sort, BlockInfo}
+use Rattle.arc_block.specs.Block.{Sort}
 use Rattle.arc_block.specs.Place.{Place, nowhere, static_data, on_block, at_owner}
 use Rattle.arc_block.specs.declared.block.TheConstants.{MAX_OWNERS}
 use Rattle.arc_read.specs.Window.{Window, made_window, IsWholeOf}
