@@ -21,6 +21,7 @@ use crate::passes::Passes;
 use crate::text::push_answer;
 use crate::windows::Windows;
 use arc_owners::error::AllocError;
+use memchr::memchr;
 use std::alloc::Allocator;
 use std::sync::Wait;
 use thiserror::Error;
@@ -373,7 +374,7 @@ fn first_line(bytes: &[u8]) -> Option<(&[u8], &[u8])>
     ensures { MatchOption result (HasNoFeed bytes.now) (λ parts. HasNoFeed parts.0.now
         × (bytes.now ≡ parts.0.now ++ line_feed ∷ parts.1.now)) }
 {
-    let end = bytes.iter().position(|byte| *byte == b'\n')?;
+    let end = memchr(b'\n', bytes)?;
     Some((&bytes[..end], &bytes[end + 1..]))
 }
 
