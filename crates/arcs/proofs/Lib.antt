@@ -2,7 +2,6 @@ pub mod Words
 pub mod Forms
 pub mod Runs
 pub mod Lines
-pub mod Texts
 pub mod Tables
 pub mod Empty
 pub mod Splits
