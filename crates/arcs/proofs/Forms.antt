@@ -226,17 +226,13 @@ command_again c writable = read_found (form c).0 (map operand_word (form c).1) f
         let read : operands_of f.sorts (map operand_word (form c).1) ≡ Some (form c).1 = rw (same_Some _ _ sorts) (operands_again (form c).1 writable) in
         rw read make
 
--- a first word that is the word of no form
-pub no_form : (words rest : List (List ℕ)) (verb : List ℕ) → words ≡ verb ∷ rest → AllByRecursion (λ f. verb ≢ f.word) forms → command_of words ≡ None
-unfolding command_of
-no_form words rest verb are others = rw are (none forms others)
-  where
-    none : (fs : List Form) → AllByRecursion (λ f. verb ≢ f.word) fs → read_by verb rest fs ≡ None
-    none [] others = refl
-    none (f ∷ fs) others = elim (cases_Bool (spells verb f.word)) [
-      | inl is ↦ absurd (others.0 (spelled verb f.word is))
-      | inr other ↦ rw other (none fs others.1)
-    ]
+-- a first word that is the word of none of these forms
+pub no_form : (verb : List ℕ) (rest : List (List ℕ)) (fs : List Form) → AllByRecursion (λ f. verb ≢ f.word) fs → read_by verb rest fs ≡ None
+no_form verb rest [] others = refl
+no_form verb rest (f ∷ fs) others = elim (cases_Bool (spells verb f.word)) [
+  | inl is ↦ absurd (others.0 (spelled verb f.word is))
+  | inr other ↦ rw other (no_form verb rest fs others.1)
+]
 
 -- ---- lines
 

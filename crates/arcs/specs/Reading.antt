@@ -101,17 +101,21 @@ pub record Form : Type 0 where
 abbrev pub entry : (word : List ℕ) (sorts : List Sort) → Makes sorts → Form
 entry word sorts make = record { word = word; sorts = sorts; make = make }
 
--- The table of forms from the reader's side, a line each. What is read by it is what `form` says:
--- that is proved of the whole table.
-abbrev pub forms : List Form
-forms =
-    entry (codes "slice") (SomeItems ∷ []) command.Slice ∷
+-- The table of forms from the reader's side, a line each: those that bring no items, and all. What
+-- is read by it is what `form` says: that is proved of the whole table.
+abbrev pub plain_forms : List Form
+plain_forms =
     entry (codes "clone") (ANumber ∷ []) command.Clone ∷
     entry (codes "sub") (ANumber ∷ ANumber ∷ ANumber ∷ []) command.Sub ∷
     entry (codes "uniq") (ANumber ∷ []) command.Uniq ∷
     entry (codes "show") (ANumber ∷ []) command.Show ∷
     entry (codes "drop") (ANumber ∷ []) command.Drop ∷
     []
+
+abbrev pub forms : List Form
+forms =
+    entry (codes "slice") (SomeItems ∷ []) command.Slice ∷
+    plain_forms
 
 -- the word has the name's bytes, and no more: a match tests them one by one
 abbrev pub spells_from : List ℕ → ℕ → List ℕ → Bool

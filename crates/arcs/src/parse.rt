@@ -11,7 +11,7 @@ ghost use Rattle.arcs.specs.Seen.{seen_command};
 ghost use Rattle.arcs.specs.declared.command.Command.{Command};
 ghost use Rattle.arcs.specs.Reading.{ANumber, SomeItems, BringsItems, command_of, first_by};
 ghost use Rattle.arcs.specs.Reading.{is_hex_digit, is_space, items_of, number_of, operand_of};
-ghost use Rattle.arcs.specs.Reading.{operands_of, pairs, words_in, words_of_line};
+ghost use Rattle.arcs.specs.Reading.{operands_of, pairs, plain_forms, read_by, words_in, words_of_line};
 
 use crate::command::Command;
 use arc_owners::error::AllocError;
@@ -186,8 +186,35 @@ fn one_items<A: Allocator>(alloc: A, rest: Rest) -> Result<Option<Vec<u8, A>>, A
     Ok(Some(decoded(alloc, hex)?))
 }
 
-/// The command that the words of a line say, or `None` where they say none: an arm for each line of
-/// the table of forms (`form` in `specs/`). `Err` where memory is refused for items.
+/// The command that a first word and what is left behind it say, of those that bring no items: an
+/// arm for each line of their table (`plain_forms` in `specs/`).
+fn plain_command<A: Allocator>(verb: &[u8], rest: Rest) -> Option<Command<Vec<u8, A>>>
+    ensures { option_map seen_command result
+        ≡ read_by verb.now (words_in rest.entry) plain_forms }
+{
+    match verb {
+        b"clone" => Some(Command::Clone {
+            window: one_number(rest)?,
+        }),
+        b"sub" => {
+            let (window, start, end) = three_numbers(rest)?;
+            Some(Command::Sub { window, start, end })
+        }
+        b"uniq" => Some(Command::Uniq {
+            window: one_number(rest)?,
+        }),
+        b"show" => Some(Command::Show {
+            window: one_number(rest)?,
+        }),
+        b"drop" => Some(Command::Drop {
+            window: one_number(rest)?,
+        }),
+        _ => None,
+    }
+}
+
+/// The command that the words of a line say, or `None` where they say none. `Err` where memory is
+/// refused for items.
 #[tactic(auto, unfolding(crate::specs::Reading::command_of))]
 fn command<A: Allocator>(alloc: A, line: &[u8]) -> Result<Option<Command<Vec<u8, A>>>, AllocError>
     ensures ok { IfOk result (λ said.
@@ -202,37 +229,7 @@ fn command<A: Allocator>(alloc: A, line: &[u8]) -> Result<Option<Command<Vec<u8,
             };
             Ok(Some(Command::Slice(items)))
         }
-        b"clone" => {
-            let Some(window) = one_number(rest) else {
-                return Ok(None);
-            };
-            Ok(Some(Command::Clone { window }))
-        }
-        b"sub" => {
-            let Some((window, start, end)) = three_numbers(rest) else {
-                return Ok(None);
-            };
-            Ok(Some(Command::Sub { window, start, end }))
-        }
-        b"uniq" => {
-            let Some(window) = one_number(rest) else {
-                return Ok(None);
-            };
-            Ok(Some(Command::Uniq { window }))
-        }
-        b"show" => {
-            let Some(window) = one_number(rest) else {
-                return Ok(None);
-            };
-            Ok(Some(Command::Show { window }))
-        }
-        b"drop" => {
-            let Some(window) = one_number(rest) else {
-                return Ok(None);
-            };
-            Ok(Some(Command::Drop { window }))
-        }
-        _ => Ok(None),
+        _ => Ok(plain_command(verb, rest)),
     }
 }
 
