@@ -1,7 +1,6 @@
 pub mod Words
 pub mod Forms
 pub mod Lines
-pub mod Texts
 pub mod Empty
 pub mod Splits
 pub mod States

@@ -71,11 +71,7 @@ no_feeds lines pass = recursion_from_All HasNoFeed lines (all_by is_line HasNoFe
 
 pub items_want : {M : Type 0} (setting : Setting ℕ) (old : Table ℕ M) (c : Cmd (List ℕ)) → BringsItems c → MayWant setting old c
 items_want setting old (Slice items) brings = tt
-items_want setting old (Clone i) brings = absurd brings
-items_want setting old (Sub i start end) brings = absurd brings
-items_want setting old (Uniq i) brings = absurd brings
-items_want setting old (Show i) brings = absurd brings
-items_want setting old (Drop i) brings = absurd brings
+items_want setting old other brings = absurd (cc)
 
 -- then the line may be answered so, and nothing changes
 pub want_answers : (old : ByteTable) (line : List ℕ) → (c : Cmd (List ℕ)) × Says line c × BringsItems c → Answers old line (Some reply.Alloc) old

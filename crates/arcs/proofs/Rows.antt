@@ -5,7 +5,7 @@ use Rattle.std.specs.Fmt.{digits}
 use Rattle.std.specs.List.{AllByRecursion}
 use Rattle.arc_block.specs.Table.{empty_table}
 use Rattle.arcs.specs.Script.{ended, last_line, HasNoFeed, answer_text, IsReplyText}
-use Rattle.arcs.specs.Reading.{slice_of, clone_of, sub_of, uniq_of, show_of, drop_of, command_of}
+use Rattle.arcs.specs.Reading.{operands_of, command_of}
 use Rattle.arcs.proofs.Lines.{script, script_runs, no_feed, no_feeds}
 
 -- whole lines, and a rest behind the last feed
@@ -28,7 +28,7 @@ abbrev pub part_lines : List (List ℕ)
 part_lines = codes "slice 48656c6c6f20776f726c64" ∷ codes "sub 0 0 5" ∷ codes "show 1" ∷ []
 
 pub part_row : IsReplyText (input_of part_lines []) (ended (codes "h0" ∷ codes "h1" ∷ codes "48656c6c6f" ∷ []))
-unfolding digits command_of slice_of clone_of sub_of uniq_of show_of drop_of
+unfolding digits command_of operands_of
 part_row = script_text part_lines [] (no_feeds part_lines refl) (no_feed [] refl)
 
 -- no window, a line that is bad, and a last line with no feed
@@ -36,7 +36,7 @@ abbrev pub bad_lines : List (List ℕ)
 bad_lines = codes "sub 0 0 1" ∷ codes "slice 0A" ∷ codes "slice -" ∷ []
 
 pub bad_row : IsReplyText (input_of bad_lines (codes "show 0")) (ended (codes "no window" ∷ codes "bad line" ∷ codes "h0" ∷ codes "-" ∷ []))
-unfolding digits command_of slice_of clone_of sub_of uniq_of show_of drop_of
+unfolding digits command_of operands_of
 bad_row = script_text bad_lines (codes "show 0") (no_feeds bad_lines refl) (no_feed (codes "show 0") refl)
 
 -- ranges that aren't one of the window, and a window after its end
@@ -46,7 +46,7 @@ range_lines = codes "slice 0102" ∷ codes "sub 0 0 3" ∷ codes "sub 0 2 1" ∷
 pub range_row : IsReplyText
     (input_of range_lines [])
     (ended (codes "h0" ∷ codes "out of range" ∷ codes "invalid range" ∷ codes "h1" ∷ codes "-" ∷ codes "ok" ∷ codes "no window" ∷ []))
-unfolding digits command_of slice_of clone_of sub_of uniq_of show_of drop_of
+unfolding digits command_of operands_of
 range_row = script_text range_lines [] (no_feeds range_lines refl) (no_feed [] refl)
 
 -- a clone, which shows the same bytes, also after its source has gone
@@ -56,7 +56,7 @@ clone_lines = codes "slice 41" ∷ codes "clone 0" ∷ codes "show 1" ∷ codes 
 pub clone_row : IsReplyText
     (input_of clone_lines [])
     (ended (codes "h0" ∷ codes "h1" ∷ codes "41" ∷ codes "ok" ∷ codes "41" ∷ codes "no window" ∷ []))
-unfolding digits command_of slice_of clone_of sub_of uniq_of show_of drop_of
+unfolding digits command_of operands_of
 clone_row = script_text clone_lines [] (no_feeds clone_lines refl) (no_feed [] refl)
 
 -- a window that is alone on its block, has another owner beside it, and is alone again
@@ -66,5 +66,5 @@ unique_lines = codes "slice 41" ∷ codes "uniq 0" ∷ codes "clone 0" ∷ codes
 pub unique_row : IsReplyText
     (input_of unique_lines [])
     (ended (codes "h0" ∷ codes "yes" ∷ codes "h1" ∷ codes "no" ∷ codes "ok" ∷ codes "yes" ∷ []))
-unfolding digits command_of slice_of clone_of sub_of uniq_of show_of drop_of
+unfolding digits command_of operands_of
 unique_row = script_text unique_lines [] (no_feeds unique_lines refl) (no_feed [] refl)

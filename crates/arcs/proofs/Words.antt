@@ -4,7 +4,7 @@ use Rattle.std.specs.Prelude.{decimal, codes, unwrap_or}
 use Rattle.std.specs.Int.{IsInRange}
 use Rattle.std.specs.Bool.{Decides}
 use Rattle.std.specs.Char.{digit_value, is_ascii_digit}
-use Rattle.std.specs.List.{list_all, onto_first, join_with_byte, position_or_len, All, AllByRecursion}
+use Rattle.std.specs.List.{list_all, join_with_byte, position_or_len, All, AllByRecursion}
 use Rattle.std.specs.Str.{bytes_eq}
 use Rattle.std.specs.Str.Parse.{digits_value, AllDigits}
 use Rattle.std.proofs.lemmas.Bool.{and_parts, and_from, lt-ltb, ltb-true, cases_Bool, cases_lt, le-ltb, cond-false, ne_eqb, not-true}
@@ -12,13 +12,13 @@ use Rattle.std.proofs.lemmas.Bool.Decides.{nat_tests}
 use Rattle.std.proofs.lemmas.Fmt.{decimal_is_IsNumeral, digits_decimal, decimal-digits_value, length-decimal-le, first_decimal, decimal_nonempty, decimal_digit}
 use Rattle.std.proofs.lemmas.List.{length-take}
 use Rattle.std.proofs.lemmas.List.Elements.{All-nil, All-cons, All-from_get_or}
-use Rattle.std.proofs.lemmas.List.Splits.{slice_split_none, slice_split_at, slice_split-cons_yes, slice_split-cons_no, slice_split_first}
+use Rattle.std.proofs.lemmas.List.Splits.{slice_split_none, slice_split_at, slice_split_first}
 use Rattle.std.proofs.lemmas.List.Sums.{fails_before_first, prefix_len-le-length}
 use Rattle.std.proofs.lemmas.Option.{cond_some}
 use Rattle.std.proofs.lemmas.Slice.Eq.{bytes_eq-Decides}
 use Rattle.std.proofs.lemmas.Str.Parse.{IsNumeralModel, numerals_by_value, tells_digits, digits_value_short, digit_from_value, digit_at}
 use Rattle.arcs.specs.Text.{space, hex, items_word, hex_digit, IsByte, IsShort}
-use Rattle.arcs.specs.Reading.{is_space, is_hex_digit, words_of_line, checked, number_of, pairs, items_of, only}
+use Rattle.arcs.specs.Reading.{is_space, is_hex_digit, words_of_line, checked, number_of, pairs, items_of}
 
 -- ---- a value that is guessed and checked
 
@@ -218,19 +218,6 @@ items_fit (item ∷ items) all = and_from _ _ (lt-ltb item 256 all.0) (items_fit
 pub items_are_bytes : (items : List ℕ) → list_all is_item items ≡ true → AllByRecursion IsByte items
 items_are_bytes [] fit = tt
 items_are_bytes (item ∷ items) fit = let both = and_parts _ _ fit in (ltb-true item 256 both.0, items_are_bytes items both.1)
-
--- a line has a word at least
-pub words_some : (line : List ℕ) → (word : List ℕ) × (words : List (List ℕ)) × (words_of_line line ≡ word ∷ words)
-words_some [] = ([], [], refl)
-words_some (byte ∷ line) =
-    let rest = words_some line in
-    elim (cases_Bool (is_space byte)) [
-      | inl is ↦ ([], words_of_line line, slice_split-cons_yes is_space byte line is)
-      | inr is ↦ (byte ∷ rest.0, rest.1, slice_split-cons_no is_space byte line is ∙ ap (onto_first byte) rest.2)
-    ]
-
-pub only_at_line : {X : Type 0} (line : List ℕ) (x : X) → only (words_of_line line) x ≡ None
-only_at_line line x = let found = words_some line in ap (λ (words : List (List ℕ)). only words x) found.2
 
 -- what stands before the first space is the first word, and the others stand behind it
 pub words_at_end : (line : List ℕ) → position_or_len is_space line ≡ length line → words_of_line line ≡ line ∷ []

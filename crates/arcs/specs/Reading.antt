@@ -1,18 +1,17 @@
 -- Reading a line: its words, and the command that they say.
-use Rattle.std.specs.Prelude.{◌≡◌, ℕ, ◌+◌, ◌*◌, ◌^◌, Bool, ◌==◌, ◌&&◌, ◌||◌, nat_lt, if◌then◌else◌}
-use Rattle.std.specs.Prelude.{List, [], ◌∷◌, Option, Some, None, Result, Ok, Err, IsSomeAnd}
-use Rattle.std.specs.Prelude.{decimal, codes}
+use Rattle.std.specs.Prelude.{ℕ, ◌+◌, ◌*◌, ◌^◌, Bool, ◌==◌, ◌&&◌, ◌||◌, nat_lt, if◌then◌else◌}
+use Rattle.std.specs.Prelude.{List, [], ◌∷◌, Option, Some, None}
+use Rattle.std.specs.Prelude.{decimal, codes, nat_eq, length, get_or, true, false, IsTrue}
 use Rattle.std.specs.Borrow.{Bor}
 use Rattle.std.specs.Char.{digit_value}
 use Rattle.std.specs.Int.{is_in_range}
-use Rattle.std.specs.List.{list_all, slice_split}
+use Rattle.std.specs.List.{list_all, list_any, slice_split}
+use Rattle.std.specs.Option.{option_map}
 use Rattle.std.specs.Str.{bytes_eq}
 use Rattle.std.specs.Str.Parse.{digits_value}
-use Rattle.arcs.specs.Text.{space, items_word}
+use Rattle.arcs.specs.Text.{space, items_word, form, Operand, Number, Items}
 use Rattle.arc_table.specs.declared.command.Cmd.{Cmd}
-use Rattle.arc_table.specs.declared.command.Cmd.TheVariants.{Slice, Clone, Sub, Uniq, Show, Drop}
-use Rattle.arcs.specs.declared.parse.Unread.{Unread}
-use Rattle.arcs.specs.declared.parse.Unread.TheVariants as unread
+use Rattle.arc_table.specs.declared.command.Cmd.TheVariants as command
 
 infixl 10 ◌>>=◌
 abbrev pub ◌>>=◌ : {A B : Type 0} → Option A → (A → Option B) → Option B
@@ -57,70 +56,91 @@ abbrev pub first_by : {X : Type 0} → (List ℕ → Option X) → List (List �
 first_by read [] = None
 first_by read (word ∷ words) = read word >>= λ x. Some (x, words)
 
--- a value, if no word is left
-abbrev pub only : {X : Type 0} → List (List ℕ) → X → Option X
-only [] x = Some x
-only (word ∷ words) x = None
+-- what stands where an operand is wanted
+pub data Sort : Type 0 where
+  ANumber : Sort
+  SomeItems : Sort
 
--- what the words behind the first say, for each first word
-unfoldable pub slice_of : List (List ℕ) → Option (Cmd (List ℕ))
-slice_of words = do
-  items ← first_by items_of words
-  only items.1 (Slice items.0)
+abbrev pub operand_of : Sort → List ℕ → Option Operand
+operand_of ANumber word = option_map Number (number_of word)
+operand_of SomeItems word = option_map Items (items_of word)
 
-unfoldable pub clone_of : List (List ℕ) → Option (Cmd (List ℕ))
-clone_of words = do
-  i ← first_by number_of words
-  only i.1 (Clone i.0)
+-- the operands that words say, one of each of these sorts in turn
+unfoldable pub operands_of : List Sort → List (List ℕ) → Option (List Operand)
+operands_of [] [] = Some []
+operands_of [] (word ∷ words) = None
+operands_of (sort ∷ sorts) words = do
+  first ← first_by (operand_of sort) words
+  others ← operands_of sorts first.1
+  Some (first.0 ∷ others)
 
-unfoldable pub sub_of : List (List ℕ) → Option (Cmd (List ℕ))
-sub_of words = do
-  i ← first_by number_of words
-  start ← first_by number_of i.1
-  end ← first_by number_of start.1
-  only end.1 (Sub i.0 start.0 end.0)
+-- what such an operand says, and a command that is made of these operands
+abbrev pub Value : Sort → Type 0
+Value ANumber = ℕ
+Value SomeItems = List ℕ
 
-unfoldable pub uniq_of : List (List ℕ) → Option (Cmd (List ℕ))
-uniq_of words = do
-  i ← first_by number_of words
-  only i.1 (Uniq i.0)
+abbrev pub Makes : List Sort → Type 0
+Makes [] = Cmd (List ℕ)
+Makes (sort ∷ sorts) = Value sort → Makes sorts
 
-unfoldable pub show_of : List (List ℕ) → Option (Cmd (List ℕ))
-show_of words = do
-  i ← first_by number_of words
-  only i.1 (Show i.0)
+abbrev pub made : (sorts : List Sort) → Makes sorts → List Operand → Option (Cmd (List ℕ))
+made [] make [] = Some make
+made [] make (o ∷ os) = None
+made (sort ∷ sorts) make [] = None
+made (ANumber ∷ sorts) make (Number n ∷ os) = made sorts (make n) os
+made (ANumber ∷ sorts) make (Items xs ∷ os) = None
+made (SomeItems ∷ sorts) make (Number n ∷ os) = None
+made (SomeItems ∷ sorts) make (Items xs ∷ os) = made sorts (make xs) os
 
-unfoldable pub drop_of : List (List ℕ) → Option (Cmd (List ℕ))
-drop_of words = do
-  i ← first_by number_of words
-  only i.1 (Drop i.0)
+-- a form from the reader's side: its first word, what it wants behind that, and what it makes
+pub record Form : Type 0 where
+  pub word : List ℕ
+  pub sorts : List Sort
+  pub make : Makes sorts
+
+abbrev pub entry : (word : List ℕ) (sorts : List Sort) → Makes sorts → Form
+entry word sorts make = record { word = word; sorts = sorts; make = make }
+
+-- The table of forms from the reader's side, a line each: those that bring no items, and all. What
+-- is read by it is what `form` says: that is proved of the whole table.
+abbrev pub plain_forms : List Form
+plain_forms =
+    entry (codes "clone") (ANumber ∷ []) command.Clone ∷
+    entry (codes "sub") (ANumber ∷ ANumber ∷ ANumber ∷ []) command.Sub ∷
+    entry (codes "uniq") (ANumber ∷ []) command.Uniq ∷
+    entry (codes "show") (ANumber ∷ []) command.Show ∷
+    entry (codes "drop") (ANumber ∷ []) command.Drop ∷
+    []
+
+abbrev pub forms : List Form
+forms =
+    entry (codes "slice") (SomeItems ∷ []) command.Slice ∷
+    plain_forms
+
+-- the word has the name's bytes, and no more: a match tests them one by one
+abbrev pub spells_from : List ℕ → ℕ → List ℕ → Bool
+spells_from word k [] = true
+spells_from word k (byte ∷ bytes) = nat_eq (get_or word k 0) byte && spells_from word (k + 1) bytes
+
+abbrev pub spells : List ℕ → List ℕ → Bool
+spells word name = nat_eq (length word) (length name) && spells_from word 0 name
+
+-- what the words behind a first word say, by the first form whose word it is
+abbrev pub read_by : List ℕ → List (List ℕ) → List Form → Option (Cmd (List ℕ))
+read_by verb words [] = None
+read_by verb words (f ∷ fs) =
+    if spells verb f.word then (operands_of f.sorts words >>= λ os. made f.sorts f.make os) else
+    read_by verb words fs
 
 -- the command that words say
 unfoldable pub command_of : List (List ℕ) → Option (Cmd (List ℕ))
 command_of [] = None
-command_of (verb ∷ words) =
-    if bytes_eq verb (codes "slice") then slice_of words else
-    if bytes_eq verb (codes "clone") then clone_of words else
-    if bytes_eq verb (codes "sub") then sub_of words else
-    if bytes_eq verb (codes "uniq") then uniq_of words else
-    if bytes_eq verb (codes "show") then show_of words else
-    if bytes_eq verb (codes "drop") then drop_of words else None
+command_of (verb ∷ words) = read_by verb words forms
 
 -- the commands that bring items, which need memory
+abbrev pub is_items : Operand → Bool
+is_items (Number n) = false
+is_items (Items xs) = true
+
 abbrev pub BringsItems : Cmd (List ℕ) → Type 0
-BringsItems (Slice items) = Unit {0}
-BringsItems other = ⊥
-
--- no value needs memory
-abbrev pub Never : {X : Type 0} → X → Type 0
-Never x = ⊥
-
--- What a function read, seen by view, is what reading gives. Memory may run out where a command
--- brings items.
-abbrev pub Fails : {Y : Type 0} → Unread → (Y → Type 0) → Option Y → Type 0
-Fails unread.Bad wants read = read ≡ None
-Fails unread.Memory wants read = IsSomeAnd read wants
-
-abbrev pub Reads : {X Y : Type 0} → (X → Y) → (Y → Type 0) → Result X Unread → Option Y → Type 0
-Reads view wants (Ok x) read = read ≡ Some (view x)
-Reads view wants (Err e) read = Fails e wants read
+BringsItems c = IsTrue (list_any is_items (form c).1)

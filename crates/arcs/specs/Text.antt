@@ -1,6 +1,6 @@
 -- The texts of a script: how items, commands and replies are written.
 use Rattle.std.specs.Prelude.{◌≡◌, ℕ, ◌+◌, ◌/◌, ◌%◌, ◌<◌, ◌≤◌, ◌^◌, nat_lt, if◌then◌else◌, List, []}
-use Rattle.std.specs.Prelude.{◌∷◌, ◌++◌, length, flat_map, decimal, codes}
+use Rattle.std.specs.Prelude.{◌∷◌, ◌++◌, length, map, flat_map, decimal, codes}
 use Rattle.std.specs.List.{AllByRecursion, join_with_byte}
 use Rattle.arc_owners.specs.declared.error.RangeError.{RangeError}
 use Rattle.arc_owners.specs.declared.error.RangeError.TheVariants.{OutOfRange, InvalidRange}
@@ -8,7 +8,7 @@ use Rattle.arc_owners.specs.declared.error.RangeError.TheVariants.{NotBoundary}
 use Rattle.arc_owners.specs.declared.error.OwnerError.{OwnerError}
 use Rattle.arc_owners.specs.declared.error.OwnerError.TheVariants as owner
 use Rattle.arc_table.specs.declared.command.Cmd.{Cmd}
-use Rattle.arc_table.specs.declared.command.Cmd.TheVariants.{Slice, Clone, Sub, Uniq, Show, Drop}
+use Rattle.arc_table.specs.declared.command.Cmd.TheVariants as command
 use Rattle.arc_table.specs.declared.command.Reply.{Reply}
 use Rattle.arc_table.specs.declared.command.Reply.TheVariants as reply
 
@@ -36,34 +36,44 @@ abbrev pub items_word : List ℕ → List ℕ
 items_word [] = codes "-"
 items_word (item ∷ items) = hex (item ∷ items)
 
--- a command as words
-abbrev pub words_of : Cmd (List ℕ) → List (List ℕ)
-words_of (Slice items) = codes "slice" ∷ items_word items ∷ []
-words_of (Clone i) = codes "clone" ∷ decimal i ∷ []
-words_of (Sub i start end) = codes "sub" ∷ decimal i ∷ decimal start ∷ decimal end ∷ []
-words_of (Uniq i) = codes "uniq" ∷ decimal i ∷ []
-words_of (Show i) = codes "show" ∷ decimal i ∷ []
-words_of (Drop i) = codes "drop" ∷ decimal i ∷ []
+-- what stands behind the first word of a command
+pub data Operand : Type 0 where
+  Number : ℕ → Operand
+  Items : List ℕ → Operand
+
+-- The table of forms, a line each: the first word of a command, and its operands.
+abbrev pub form : Cmd (List ℕ) → List ℕ × List Operand
+form (command.Slice xs) = (codes "slice", Items xs ∷ [])
+form (command.Clone i) = (codes "clone", Number i ∷ [])
+form (command.Sub i start end) = (codes "sub", Number i ∷ Number start ∷ Number end ∷ [])
+form (command.Uniq i) = (codes "uniq", Number i ∷ [])
+form (command.Show i) = (codes "show", Number i ∷ [])
+form (command.Drop i) = (codes "drop", Number i ∷ [])
+
+-- an operand as a word
+abbrev pub operand_word : Operand → List ℕ
+operand_word (Number n) = decimal n
+operand_word (Items xs) = items_word xs
 
 -- what can be written: bytes, and numbers of at most 18 digits
 abbrev pub IsByte : ℕ → Type 0
 IsByte item = item < 256
 
 abbrev pub IsShort : ℕ → Type 0
-IsShort number = number < 10 ^ 18
+IsShort n = n < 10 ^ 18
 
-abbrev pub IsWritable : Cmd (List ℕ) → Type 0
-IsWritable (Slice items) = AllByRecursion IsByte items
-IsWritable (Clone i) = IsShort i
-IsWritable (Sub i start end) = IsShort i × IsShort start × IsShort end
-IsWritable (Uniq i) = IsShort i
-IsWritable (Show i) = IsShort i
-IsWritable (Drop i) = IsShort i
+abbrev pub IsWritable : Operand → Type 0
+IsWritable (Number n) = IsShort n
+IsWritable (Items xs) = AllByRecursion IsByte xs
+
+-- a command as words
+abbrev pub words_of : Cmd (List ℕ) → List (List ℕ)
+words_of c = (form c).0 ∷ map operand_word (form c).1
 
 -- the line says the command: its words, parted by one space each
 pub record Says (line : List ℕ) (c : Cmd (List ℕ)) : Type 0 where
   pub fits : length line ≤ longest_line
-  pub writable : IsWritable c
+  pub writable : AllByRecursion IsWritable (form c).1
   pub words : line ≡ join_with_byte space (words_of c)
 
 abbrev pub range_text : RangeError → List ℕ

@@ -1,22 +1,20 @@
 //! Reading a line as a command.
-ghost use Rattle.std.specs.Prelude.{◌≡◌, ◌+◌, ◌*◌, ◌<◌, ◌≤◌, ℕ, List, length, true, Some, IfOk};
-ghost use Rattle.std.specs.Prelude.{MatchOption, OnErr, IsTrue};
+ghost use Rattle.std.specs.Prelude.{◌≡◌, ◌+◌, ◌*◌, ◌<◌, ◌≤◌, ℕ, List, [], ◌∷◌, length, IfOk};
+ghost use Rattle.std.specs.Prelude.{MatchOption, IsSomeAnd, OnErr, IsTrue};
 ghost use Rattle.std.specs.Option.{option_map};
 ghost use Rattle.std.specs.Char.{digit_value};
 ghost use Rattle.std.specs.List.{list_all, position_or_len};
 ghost use Rattle.std.specs.Vec.{vec_items};
-ghost use Rattle.arcs.specs.Text.{Says};
+ghost use Rattle.arcs.specs.Text.{Number, Items, Says};
 ghost use Rattle.arcs.specs.Script.{IsBad};
 ghost use Rattle.arc_table.specs.Seen.{seen_command};
 ghost use Rattle.arc_table.specs.declared.command.Cmd.{Cmd};
-ghost use Rattle.arcs.specs.declared.parse.Unread.TheVariants as unread;
-ghost use Rattle.arcs.specs.Reading.{Never, is_hex_digit, is_space, BringsItems, Reads, clone_of};
-ghost use Rattle.arcs.specs.Reading.{command_of, drop_of, first_by, items_of, only, number_of};
-ghost use Rattle.arcs.specs.Reading.{pairs, show_of, slice_of, sub_of, uniq_of, words_in};
-ghost use Rattle.arcs.specs.Reading.{words_of_line};
+ghost use Rattle.arcs.specs.Reading.{ANumber, SomeItems, BringsItems, command_of, first_by};
+ghost use Rattle.arcs.specs.Reading.{is_hex_digit, is_space, items_of, number_of, operand_of};
+ghost use Rattle.arcs.specs.Reading.{operands_of, pairs, plain_forms, read_by, words_in, words_of_line};
 
-use arc_owners::error::AllocError;
 use arc_table::command::Cmd;
+use arc_owners::error::AllocError;
 use std::alloc::Allocator;
 
 /// The longest line, in bytes and without its line feed.
@@ -24,15 +22,6 @@ pub const LONGEST_LINE: usize = 65536;
 
 /// The most digits of a number.
 const MOST_DIGITS: usize = 18;
-
-/// Why a line isn't read as a command.
-#[derive(Debug, Drop)]
-enum Unread {
-    /// It says none.
-    Bad,
-    /// Memory was refused for the items that it brings.
-    Memory,
-}
 
 /// What is left of a line behind a word: `None` behind the last.
 type Rest<'a> = Option<&'a [u8]>;
@@ -42,14 +31,6 @@ type Rest<'a> = Option<&'a [u8]>;
 struct Hex<'a> {
     digits: &'a [u8],
     ghost are_digits: { IsTrue (list_all is_hex_digit digits.now) },
-}
-
-impl From<AllocError> for Unread {
-    ghost from_gives = { λ _ e. e ≡ unread.Memory };
-
-    fn from(_: AllocError) -> Self {
-        Unread::Memory
-    }
 }
 
 /// How many bytes stand before the first space.
@@ -62,17 +43,15 @@ fn word_len(line: &[u8]) -> usize
         .unwrap_or(line.len())
 }
 
-/// The first word of what is left, and what is left behind it.
-fn word(rest: Rest) -> Result<(&[u8], Rest), Unread>
-    ensures { Reads (λ x.
-        (x.0.now, words_in x.1)) Never result (first_by Some (words_in rest.entry)) }
+/// The first word of a line, and what is left behind it.
+fn word(line: &[u8]) -> (&[u8], Rest)
+    ensures { words_of_line line.now ≡ result.0.now ∷ words_in result.1 }
 {
-    let line = rest.ok_or(Unread::Bad)?;
     let len = word_len(line);
     if len == line.len() {
-        return Ok((line, None));
+        return (line, None);
     }
-    Ok((&line[..len], Some(&line[len + 1..])))
+    (&line[..len], Some(&line[len + 1..]))
 }
 
 /// The number that a word says.
@@ -96,14 +75,46 @@ fn number_in(word: &[u8]) -> Option<usize>
     Some(number)
 }
 
-/// The number that the first word says.
-fn number(rest: Rest) -> Result<(usize, Rest), Unread>
-    ensures { Reads (λ x.
-        (x.0, words_in x.1)) Never result (first_by number_of (words_in rest.entry)) }
+/// The number that the first word says, and what is left behind it.
+fn number(rest: Rest) -> Option<(usize, Rest)>
+    ensures { option_map (λ x. (Number x.0, words_in x.1)) result
+        ≡ first_by (operand_of ANumber) (words_in rest.entry) }
 {
-    let (word, rest) = word(rest)?;
-    let number = number_in(word).ok_or(Unread::Bad)?;
-    Ok((number, rest))
+    let (word, rest) = word(rest?);
+    let number = number_in(word)?;
+    Some((number, rest))
+}
+
+/// The one number that is left.
+#[tactic(auto, using(crate::proofs::Forms::last_operand, crate::proofs::Forms::none_left))]
+fn one_number(rest: Rest) -> Option<usize>
+    ensures { option_map (λ n. Number n ∷ []) result
+        ≡ operands_of (ANumber ∷ []) (words_in rest.entry) }
+{
+    // What is left is read as it is: a number has no space, so another word behind it is refused.
+    number_in(rest?)
+}
+
+/// The two numbers that are left.
+#[tactic(auto, unfolding(crate::specs::Reading::operands_of))]
+fn two_numbers(rest: Rest) -> Option<(usize, usize)>
+    ensures { option_map (λ x. Number x.0 ∷ Number x.1 ∷ []) result
+        ≡ operands_of (ANumber ∷ ANumber ∷ []) (words_in rest.entry) }
+{
+    let (first, rest) = number(rest)?;
+    let second = one_number(rest)?;
+    Some((first, second))
+}
+
+/// The three numbers that are left.
+#[tactic(auto, unfolding(crate::specs::Reading::operands_of))]
+fn three_numbers(rest: Rest) -> Option<(usize, usize, usize)>
+    ensures { option_map (λ x. Number x.0 ∷ Number x.1 ∷ Number x.2 ∷ []) result
+        ≡ operands_of (ANumber ∷ ANumber ∷ ANumber ∷ []) (words_in rest.entry) }
+{
+    let (first, rest) = number(rest)?;
+    let (second, third) = two_numbers(rest)?;
+    Some((first, second, third))
 }
 
 /// Whether a byte is a hex digit. Only lower case is.
@@ -145,27 +156,6 @@ fn digits_in(word: &[u8]) -> Option<Hex<'_>>
     Some(Hex { digits: word })
 }
 
-/// The items that the first word says.
-fn items(rest: Rest) -> Result<(Hex, Rest), Unread>
-    ensures { Reads (λ x.
-        (pairs x.0.digits.now, words_in x.1)) Never result
-        (first_by items_of (words_in rest.entry)) }
-{
-    let (word, rest) = word(rest)?;
-    let hex = digits_in(word).ok_or(Unread::Bad)?;
-    Ok((hex, rest))
-}
-
-/// Nothing is left.
-fn nothing_left(rest: Rest) -> Result<(), Unread>
-    ensures { Reads (λ x. x) Never result (only (words_in rest.entry) tt) }
-{
-    match rest {
-        None => Ok(()),
-        Some(_) => Err(Unread::Bad),
-    }
-}
-
 /// The items, in one block of their length.
 fn decoded<A: Allocator>(alloc: A, hex: Hex) -> Result<Vec<u8, A>, AllocError>
     ensures { IfOk result (λ v. v.items ≡ pairs hex.entry.digits.now) }
@@ -179,82 +169,67 @@ fn decoded<A: Allocator>(alloc: A, hex: Hex) -> Result<Vec<u8, A>, AllocError>
     Ok(items)
 }
 
-/// `slice X`
-#[tactic(auto, unfolding(crate::specs::Reading::slice_of))]
-fn slice<A: Allocator>(alloc: A, rest: Rest) -> Result<Cmd<Vec<u8, A>>, Unread>
-    ensures { Reads seen_command BringsItems result (slice_of (words_in rest.entry)) }
+/// The items that are left, in one word. `Err` where memory is refused for them.
+#[tactic(auto, using(crate::proofs::Forms::last_operand, crate::proofs::Forms::none_left))]
+fn one_items<A: Allocator>(alloc: A, rest: Rest) -> Result<Option<Vec<u8, A>>, AllocError>
+    ensures ok { IfOk result (λ read. option_map (λ v. Items v.items ∷ []) read
+        ≡ operands_of (SomeItems ∷ []) (words_in rest.entry)) }
+    ensures err { OnErr result ((xs : List ℕ)
+        × (operands_of (SomeItems ∷ []) (words_in rest.entry) ≡ Some (Items xs ∷ []))) }
 {
-    let (hex, rest) = items(rest)?;
-    nothing_left(rest)?;
-    Ok(Cmd::Slice(decoded(alloc, hex)?))
+    let Some(line) = rest else {
+        return Ok(None);
+    };
+    let Some(hex) = digits_in(line) else {
+        return Ok(None);
+    };
+    Ok(Some(decoded(alloc, hex)?))
 }
 
-/// `clone I`
-#[tactic(auto, unfolding(crate::specs::Reading::clone_of))]
-fn clone<A: Allocator>(rest: Rest) -> Result<Cmd<Vec<u8, A>>, Unread>
-    ensures { Reads seen_command BringsItems result (clone_of (words_in rest.entry)) }
+/// The command that a first word and what is left behind it say, of those that bring no items: an
+/// arm for each line of their table (`plain_forms` in `specs/`).
+fn plain_command<A: Allocator>(verb: &[u8], rest: Rest) -> Option<Cmd<Vec<u8, A>>>
+    ensures { option_map seen_command result
+        ≡ read_by verb.now (words_in rest.entry) plain_forms }
 {
-    let (window, rest) = number(rest)?;
-    nothing_left(rest)?;
-    Ok(Cmd::Clone { window })
-}
-
-/// `sub I S E`
-#[tactic(auto, unfolding(crate::specs::Reading::sub_of))]
-fn sub<A: Allocator>(rest: Rest) -> Result<Cmd<Vec<u8, A>>, Unread>
-    ensures { Reads seen_command BringsItems result (sub_of (words_in rest.entry)) }
-{
-    let (window, rest) = number(rest)?;
-    let (start, rest) = number(rest)?;
-    let (end, rest) = number(rest)?;
-    nothing_left(rest)?;
-    Ok(Cmd::Sub { window, start, end })
-}
-
-/// `uniq I`
-#[tactic(auto, unfolding(crate::specs::Reading::uniq_of))]
-fn uniq<A: Allocator>(rest: Rest) -> Result<Cmd<Vec<u8, A>>, Unread>
-    ensures { Reads seen_command BringsItems result (uniq_of (words_in rest.entry)) }
-{
-    let (window, rest) = number(rest)?;
-    nothing_left(rest)?;
-    Ok(Cmd::Uniq { window })
-}
-
-/// `show I`
-#[tactic(auto, unfolding(crate::specs::Reading::show_of))]
-fn show<A: Allocator>(rest: Rest) -> Result<Cmd<Vec<u8, A>>, Unread>
-    ensures { Reads seen_command BringsItems result (show_of (words_in rest.entry)) }
-{
-    let (window, rest) = number(rest)?;
-    nothing_left(rest)?;
-    Ok(Cmd::Show { window })
-}
-
-/// `drop I`
-#[tactic(auto, unfolding(crate::specs::Reading::drop_of))]
-fn drop<A: Allocator>(rest: Rest) -> Result<Cmd<Vec<u8, A>>, Unread>
-    ensures { Reads seen_command BringsItems result (drop_of (words_in rest.entry)) }
-{
-    let (window, rest) = number(rest)?;
-    nothing_left(rest)?;
-    Ok(Cmd::Drop { window })
-}
-
-/// The command that the words of a line say.
-#[tactic(auto, unfolding(crate::specs::Reading::command_of))]
-fn command<A: Allocator>(alloc: A, line: &[u8]) -> Result<Cmd<Vec<u8, A>>, Unread>
-    ensures { Reads seen_command BringsItems result (command_of (words_of_line line.now)) }
-{
-    let (verb, rest) = word(Some(line))?;
     match verb {
-        b"slice" => slice(alloc, rest),
-        b"clone" => clone(rest),
-        b"sub" => sub(rest),
-        b"uniq" => uniq(rest),
-        b"show" => show(rest),
-        b"drop" => drop(rest),
-        _ => Err(Unread::Bad),
+        b"clone" => Some(Cmd::Clone {
+            window: one_number(rest)?,
+        }),
+        b"sub" => {
+            let (window, start, end) = three_numbers(rest)?;
+            Some(Cmd::Sub { window, start, end })
+        }
+        b"uniq" => Some(Cmd::Uniq {
+            window: one_number(rest)?,
+        }),
+        b"show" => Some(Cmd::Show {
+            window: one_number(rest)?,
+        }),
+        b"drop" => Some(Cmd::Drop {
+            window: one_number(rest)?,
+        }),
+        _ => None,
+    }
+}
+
+/// The command that the words of a line say, or `None` where they say none. `Err` where memory is
+/// refused for items.
+#[tactic(auto, unfolding(crate::specs::Reading::command_of))]
+fn command<A: Allocator>(alloc: A, line: &[u8]) -> Result<Option<Cmd<Vec<u8, A>>>, AllocError>
+    ensures ok { IfOk result (λ said.
+        option_map seen_command said ≡ command_of (words_of_line line.now)) }
+    ensures err { OnErr result (IsSomeAnd (command_of (words_of_line line.now)) BringsItems) }
+{
+    let (verb, rest) = word(line);
+    match verb {
+        b"slice" => {
+            let Some(items) = one_items(alloc, rest)? else {
+                return Ok(None);
+            };
+            Ok(Some(Cmd::Slice(items)))
+        }
+        _ => Ok(plain_command(verb, rest)),
     }
 }
 
@@ -273,11 +248,7 @@ pub fn parse<A: Allocator + Copy>(
     if line.len() > LONGEST_LINE {
         return Ok(None);
     }
-    match command(alloc, line) {
-        Ok(command) => Ok(Some(command)),
-        Err(Unread::Bad) => Ok(None),
-        Err(Unread::Memory) => Err(AllocError),
-    }
+    command(alloc, line)
 }
 
 /// No line says two commands. Does nothing: its contract is the law.

@@ -27,6 +27,7 @@ use arc_owners::error::AllocError;
 use arc_table::command::{Cmd, Reply};
 use arc_table::passes::Passes;
 use arc_table::table::Table;
+use memchr::memchr;
 use std::alloc::Allocator;
 use std::sync::Wait;
 use thiserror::Error;
@@ -396,7 +397,7 @@ fn first_line(bytes: &[u8]) -> Option<(&[u8], &[u8])>
     ensures { MatchOption result (HasNoFeed bytes.now) (λ parts. HasNoFeed parts.0.now
         × (bytes.now ≡ parts.0.now ++ line_feed ∷ parts.1.now)) }
 {
-    let end = bytes.iter().position(|byte| *byte == b'\n')?;
+    let end = memchr(b'\n', bytes)?;
     Some((&bytes[..end], &bytes[end + 1..]))
 }
 

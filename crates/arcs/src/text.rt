@@ -4,8 +4,9 @@ ghost use Rattle.arcs.specs.Text.{hex, hex_digit, items_word, owner_text, range_
 ghost use Rattle.arc_table.specs.Seen.{seen_reply};
 ghost use Rattle.arcs.specs.Writing.{Extends, answer_line};
 
-use arc_owners::error::{AllocError, OwnerError, RangeError};
 use arc_table::command::Reply;
+use arc_owners::error::{AllocError, OwnerError, RangeError};
+use itoa::Buffer;
 use std::alloc::Allocator;
 
 /// The hex digit of a number below 16.
@@ -46,10 +47,7 @@ fn push_number<A: Allocator>(out: &mut Vec<u8, A>, number: usize) -> Result<(), 
     ensures ok { OnOk result (out.new.items ≡ out.old.items ++ decimal number) }
     ensures err { OnErr result (Extends out.old.items out.new.items) }
 {
-    if number >= 10 {
-        push_number(out, number / 10)?;
-    }
-    out.push(b'0' + (number % 10) as u8)?;
+    out.extend_from_slice(Buffer::new().format(number).as_bytes())?;
     Ok(())
 }
 

@@ -91,5 +91,8 @@ fn items(rt: HostRuntime) {
     assert!(rt; is_bad(&rt, b"slice 0"));
     assert!(rt; is_bad(&rt, b"slice 0A"));
     assert!(rt; is_bad(&rt, b"slice --"));
+    assert!(rt; is_bad(&rt, b"slice 00 11"));
+    assert!(rt; is_bad(&rt, b"slice - -"));
+    assert!(rt; is_bad(&rt, b"slice 00 "));
     assert!(rt; is_bad(&rt, b"\xff"));
 }

@@ -1,12 +1,9 @@
-use Rattle.arcs.specs.Reading.{BringsItems}
-use Rattle.arcs.proofs.Forms.{line_says, line_says_and, unread_is_bad}
+use Rattle.arc_table.specs.Seen.{seen_command}
+use Rattle.arcs.proofs.Forms.{read_ok, read_err}
 use Rattle.arcs.proofs.parse.parse.Goals as goal
 
-pub returns-in-Ok-clause-ok : goal.returns-in-Ok-clause-ok
-returns-in-Ok-clause-ok g c = line_says c.args.line.now _ c.if-line-gt-LONGEST_LINE.false c.in-Ok.ensures
+pub returns-clause-ok : goal.returns-clause-ok
+returns-clause-ok g c = read_ok (seen_command {A = g.row.A.Denot}) c.args.line.now c.command.result c.if-line-gt-LONGEST_LINE.false c.command.ensures.ok
 
-pub returns-in-Err-Bad-clause-ok : goal.returns-in-Err-Bad-clause-ok
-returns-in-Err-Bad-clause-ok g c = unread_is_bad c.args.line.now (rw c.in-Err-Bad.field-0-is at c.in-Err-Bad.ensures)
-
-pub returns-in-Err-Memory-clause-err : goal.returns-in-Err-Memory-clause-err
-returns-in-Err-Memory-clause-err g c = line_says_and BringsItems c.args.line.now c.if-line-gt-LONGEST_LINE.false (rw c.in-Err-Memory.field-0-is at c.in-Err-Memory.ensures)
+pub returns-clause-err : goal.returns-clause-err
+returns-clause-err g c = read_err c.args.line.now c.command.result c.if-line-gt-LONGEST_LINE.false c.command.ensures.err

@@ -4,10 +4,10 @@ use Rattle.arcs.proofs.Words.{words_at_end, words_at_space}
 use Rattle.arcs.proofs.parse.word.Goals as goal
 
 pub returns-then-len-line : goal.returns-then-len-line
-returns-then-len-line c = rw (c.in_ok-line.ensures.ok_part, words_at_end c.in_ok-line.line.now (omega (arith, c.word_len-len.ensures.first))) refl
+returns-then-len-line c = words_at_end c.args.line.now (omega (arith, c.word_len-len.ensures.first))
 
 pub returns : goal.returns
 returns c =
-    let line : List ℕ = c.in_ok-line.line.now in
+    let line : List ℕ = c.args.line.now in
     let within : c.word_len-len.result < length line = omega arith in
-    rw (c.in_ok-line.ensures.ok_part, words_at_space line c.word_len-len.result c.word_len-len.ensures.first within, take_rest line (c.word_len-len.result + 1)) refl
+    rw (words_at_space line c.word_len-len.result c.word_len-len.ensures.first within, take_rest line (c.word_len-len.result + 1)) refl
