@@ -11,7 +11,8 @@ ghost use Rattle.arc_table.specs.Seen.{seen_command};
 ghost use Rattle.arc_table.specs.declared.command.Cmd.{Cmd};
 ghost use Rattle.arcs.specs.Reading.{ANumber, SomeItems, BringsItems, command_of, first_by};
 ghost use Rattle.arcs.specs.Reading.{is_hex_digit, is_space, items_of, number_of, operand_of};
-ghost use Rattle.arcs.specs.Reading.{operands_of, pairs, plain_forms, read_by, words_in, words_of_line};
+ghost use Rattle.arcs.specs.Reading.{operands_of, pairs, plain_forms, read_by, words_in};
+ghost use Rattle.arcs.specs.Reading.{words_of_line};
 
 use arc_table::command::Cmd;
 use arc_owners::error::AllocError;
