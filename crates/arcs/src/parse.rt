@@ -14,8 +14,8 @@ ghost use Rattle.arcs.specs.Reading.{is_hex_digit, is_space, items_of, number_of
 ghost use Rattle.arcs.specs.Reading.{operands_of, pairs, plain_forms, read_by, words_in};
 ghost use Rattle.arcs.specs.Reading.{words_of_line};
 
-use arc_table::command::Cmd;
 use arc_owners::error::AllocError;
+use arc_table::command::Cmd;
 use std::alloc::Allocator;
 
 /// The longest line, in bytes and without its line feed.

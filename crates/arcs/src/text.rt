@@ -4,8 +4,8 @@ ghost use Rattle.arcs.specs.Text.{hex, hex_digit, items_word, owner_text, range_
 ghost use Rattle.arc_table.specs.Seen.{seen_reply};
 ghost use Rattle.arcs.specs.Writing.{Extends, answer_line};
 
-use arc_table::command::Reply;
 use arc_owners::error::{AllocError, OwnerError, RangeError};
+use arc_table::command::Reply;
 use itoa::Buffer;
 use std::alloc::Allocator;
 
