@@ -1,15 +1,18 @@
 -- What a command is answered where memory is ample is one of its steps.
 use Rattle.std.proofs.Common.{◌≡◌, ℕ, Bool, true, false, if◌then◌else◌, List, Option, Some, None, Result}
-use Rattle.std.proofs.Common.{Ok, Err, refl}
+use Rattle.std.proofs.Common.{Ok, Err, refl, length}
+use Rattle.std.specs.Prelude.{nat_lt}
 use Rattle.std.specs.Option.{option_map_or}
 use Rattle.arc_owners.specs.declared.error.RangeError.{RangeError}
 use Rattle.arc_owners.specs.declared.error.OwnerError.TheVariants.{AllocError, CountFull}
-use Rattle.arc_buffer.specs.Slice.{range_answer}
+use Rattle.arc_buffer.specs.Slice.{range_answer, edge_answer}
 use Rattle.arc_block.specs.Table.{Row, Table, Role, row_at, is_alone}
 use Rattle.arc_table.specs.Step.{Setting, Outcome, Step, answer, with_row, with_owner, on_row, in_range}
-use Rattle.arc_table.specs.Step.{part_of, is_full, is_read, is_reader, is_window}
+use Rattle.arc_table.specs.Step.{part_of, is_full, is_read, is_reader, is_window, may_truncate}
+use Rattle.arc_table.specs.Step.{advanced, truncated, changed}
 use Rattle.arc_table.specs.declared.command.Cmd.{Cmd}
-use Rattle.arc_table.specs.declared.command.Cmd.TheVariants.{Slice, Clone, Sub, Uniq, Show, Drop}
+use Rattle.arc_table.specs.declared.command.Cmd.TheVariants.{Slice, Clone, Sub, Uniq, Show, Len}
+use Rattle.arc_table.specs.declared.command.Cmd.TheVariants.{Adv, Trunc, Drop}
 use Rattle.arc_table.specs.declared.command.Reply.{Reply}
 use Rattle.arc_table.specs.declared.command.Reply.TheVariants as reply
 
@@ -51,6 +54,15 @@ yes_or_no X true = tt
 yes_or_no X false = tt
 
 module _ {T M : Type 0} (setting : Setting T) (t : Table T M) where
+  short_ample : (i : ℕ) (row : Row T M) (len : ℕ) (short : Bool)
+      → IsAmple (if short then
+      in_range (edge_answer setting.boundary row.items len) t (changed t i (truncated row len))
+      else (reply.Ok, t)).0
+  short_ample i row len true =
+      in_range_ample t (edge_answer setting.boundary row.items len)
+      (changed t i (truncated row len)) tt
+  short_ample i row len false = tt
+
   answer_ample : (c : Cmd (List T)) → IsAmple (answer setting t c).0
   answer_ample (Slice items) = tt
   answer_ample (Clone i) =
@@ -65,6 +77,14 @@ module _ {T M : Type 0} (setting : Setting T) (t : Table T M) where
   answer_ample (Uniq i) =
       on_row_ample t i is_reader _ (λ row. yes_or_no _ (is_alone t row.place))
   answer_ample (Show i) = on_row_ample t i is_window _ (λ row. tt)
+  answer_ample (Len i) = on_row_ample t i is_window _ (λ row. tt)
+  answer_ample (Adv i by) =
+      on_row_ample t i is_window _ (λ row.
+      in_range_ample t (edge_answer setting.boundary row.items by)
+      (changed t i (advanced row by)) tt)
+  answer_ample (Trunc i len) =
+      on_row_ample t i may_truncate _ (λ row.
+      short_ample i row len (nat_lt len (length row.items)))
   answer_ample (Drop i) = on_row_ample t i is_window _ (λ row. tt)
 
   ample_step : (c : Cmd (List T)) (r : Reply (List T)) (new : Table T M) → IsAmple r
@@ -74,6 +94,7 @@ module _ {T M : Type 0} (setting : Setting T) (t : Table T M) where
   ample_step c reply.Yes new ample e = e
   ample_step c reply.No new ample e = e
   ample_step c (reply.Items items) new ample e = e
+  ample_step c (reply.Number n) new ample e = e
   ample_step c reply.NoWindow new ample e = e
   ample_step c reply.Kind new ample e = e
   ample_step c (reply.Range f) new ample e = e

@@ -21,7 +21,7 @@ use Rattle.arc_table.specs.Additions.{Along, Beside, RefusesAt}
 use Rattle.arc_table.specs.Slots.{SlotView, row_of, stand_of, stands_of}
 use Rattle.arc_table.specs.State.{State, state_of, stand_block}
 use Rattle.arc_table.specs.Step.{Setting, Outcome, Step, answer, with_row, with_owner, on_row, in_range}
-use Rattle.arc_table.specs.Step.{part_of, is_full, greatest_count, is_reader, is_window, WantsAt}
+use Rattle.arc_table.specs.Step.{part_of, is_full, greatest_count, is_reader, is_window, WantsAt, changed}
 use Rattle.arc_table.specs.Step.{OwnerMayWant}
 use Rattle.arc_table.specs.declared.command.Cmd.{Cmd}
 use Rattle.arc_table.specs.declared.command.Cmd.TheVariants as command
@@ -30,6 +30,7 @@ use Rattle.arc_table.proofs.Kept.{room-beside, full-along, alone-along, many-alo
 use Rattle.arc_table.proofs.Kept.{many-refused, kept-beside, kept-refused, kept-gone-along}
 use Rattle.arc_table.proofs.Kept.{Ended}
 use Rattle.arc_table.proofs.Places.{place_agrees, rows-counted}
+use Rattle.arc_table.proofs.Taken.{set-back}
 
 -- a place may be set before each is changed, or after
 pub map-slice_set : {X Y : Type 0} (f : X → Y) (xs : List X) (i : ℕ) (x : X)
@@ -114,6 +115,28 @@ module _ {T : Type 0} (slots : List (Option (SlotView T))) (passes : List (Pass 
     answered roles found =
         ap (λ r. option_map_or (λ row. if roles row.role then found row else (reply.Kind, t)) r
         (reply.NoWindow, t)) row-there
+
+    -- the window has become another part, as the same owner
+    module _ (s' : SlotView T) (same : stand_of (Some s') ≡ stand_of (Some s)) where
+      pub same-stands : stands_of (slice_set slots i (Some s')) ≡ stands_of slots
+      same-stands =
+          map-slice_set stand_of slots i (Some s') ∙ ap (slice_set (stands_of slots) i) same
+          ∙ set-back (stands_of slots) i (stand_of (Some s)) stand-there
+
+      pub kept-changed : IsKept MAX_OWNERS (stands_of slots) passes
+          → IsKept MAX_OWNERS (stands_of (slice_set slots i (Some s'))) passes
+      kept-changed k = subst (λ ss. IsKept MAX_OWNERS ss passes) (sym same-stands) k
+
+      pub changed-row : (r : Row T (Unit {0})) → row_of s' ≡ r
+          → changed t i r ≡ (reply.Ok, (state_of (slice_set slots i (Some s')) passes).table)
+      changed-row r row =
+          ap (λ x. changed t i x) (sym row)
+          ∙ ap (λ rs. (reply.Ok, record { rows = rs; blocks = length passes }))
+          (sym (map-slice_set (option_map row_of) slots i (Some s')))
+
+      pub changed-added : (state_of (slice_set slots i (Some s')) passes).standing
+          ≡ (state_of slots passes).standing
+      changed-added = ap (λ ss. record { stands = ss; passes = passes }) same-stands
 
     module _ (k : IsKept MAX_OWNERS (stands_of slots) passes) (passes' : List (Pass Whole)) where
       -- the live owners of each block are its windows still: one more was made, or none

@@ -6,7 +6,7 @@ use Rattle.std.proofs.lemmas.List.{length-set}
 use Rattle.arc_owners.specs.declared.count.tokens.Pass.{Pass}
 use Rattle.arc_table.specs.Stands.{TakenOut, put_back, HasNumber}
 
-set-back : {X : Type 0} (xs : List X) (n : ℕ) (x : X) → slice_get xs n ≡ Some x
+pub set-back : {X : Type 0} (xs : List X) (n : ℕ) (x : X) → slice_get xs n ≡ Some x
     → slice_set xs n x ≡ xs
 set-back [] n x at = refl
 set-back (y ∷ ys) zero x at = ap (λ z. z ∷ ys) (sym (same_Some y x at))

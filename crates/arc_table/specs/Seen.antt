@@ -3,7 +3,8 @@ use Rattle.std.specs.Prelude.{List}
 use Rattle.std.specs.declared.vec.Vec.{Vec}
 use Rattle.std.specs.Vec.{vec_items}
 use Rattle.arc_table.specs.declared.command.Cmd.{Cmd}
-use Rattle.arc_table.specs.declared.command.Cmd.TheVariants.{Slice, Clone, Sub, Uniq, Show, Drop}
+use Rattle.arc_table.specs.declared.command.Cmd.TheVariants.{Slice, Clone, Sub, Uniq, Show, Len}
+use Rattle.arc_table.specs.declared.command.Cmd.TheVariants.{Adv, Trunc, Drop}
 use Rattle.arc_table.specs.declared.command.Reply.{Reply}
 use Rattle.arc_table.specs.declared.command.Reply.TheVariants as reply
 
@@ -14,6 +15,9 @@ map_command f (Clone i) = Clone i
 map_command f (Sub i start end) = Sub i start end
 map_command f (Uniq i) = Uniq i
 map_command f (Show i) = Show i
+map_command f (Len i) = Len i
+map_command f (Adv i by) = Adv i by
+map_command f (Trunc i len) = Trunc i len
 map_command f (Drop i) = Drop i
 
 abbrev pub map_reply : {X Y : Type 0} → (X → Y) → Reply X → Reply Y
@@ -22,6 +26,7 @@ map_reply f reply.Ok = reply.Ok
 map_reply f reply.Yes = reply.Yes
 map_reply f reply.No = reply.No
 map_reply f (reply.Items items) = reply.Items (f items)
+map_reply f (reply.Number n) = reply.Number n
 map_reply f reply.NoWindow = reply.NoWindow
 map_reply f reply.Kind = reply.Kind
 map_reply f (reply.Range e) = reply.Range e

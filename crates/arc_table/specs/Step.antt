@@ -1,17 +1,20 @@
 -- One step of a table of lists: what each command is answered, and the table after it.
 use Rattle.std.specs.Prelude.{◌≡◌, ℕ, ◌+◌, ◌==◌, Bool, true, false, if◌then◌else◌, List, [], ◌∷◌}
-use Rattle.std.specs.Prelude.{◌++◌, length, Some, None, slice_set, Result, Ok, Err}
+use Rattle.std.specs.Prelude.{◌++◌, length, Some, None, slice_set, Result, Ok, Err, take, drop}
+use Rattle.std.specs.Prelude.{nat_lt}
 use Rattle.std.specs.Option.{option_map_or}
 use Rattle.arc_owners.specs.declared.error.RangeError.{RangeError}
 use Rattle.arc_owners.specs.declared.error.OwnerError.TheVariants.{AllocError, CountFull}
-use Rattle.arc_buffer.specs.Slice.{IsRange, sub, range_answer}
+use Rattle.arc_buffer.specs.Slice.{IsRange, sub, range_answer, edge_answer}
 use Rattle.arc_block.specs.Block.{Sort, native_facts}
 use Rattle.arc_block.specs.Place.{Place, nowhere, static_data, on_block, made_place, part_place}
+use Rattle.arc_block.specs.Place.{moved}
 use Rattle.arc_block.specs.Table.{Row, Table, row_at, block_of, owners, is_alone}
 use Rattle.arc_block.specs.Table.{Role, reader, sole_writer, one_writer_of_several, inline, forgotten}
 use Rattle.arc_table.specs.RunOf.{RunOf}
 use Rattle.arc_table.specs.declared.command.Cmd.{Cmd}
-use Rattle.arc_table.specs.declared.command.Cmd.TheVariants.{Slice, Clone, Sub, Uniq, Show, Drop}
+use Rattle.arc_table.specs.declared.command.Cmd.TheVariants.{Slice, Clone, Sub, Uniq, Show, Len}
+use Rattle.arc_table.specs.declared.command.Cmd.TheVariants.{Adv, Trunc, Drop}
 use Rattle.arc_table.specs.declared.command.Reply.{Reply}
 use Rattle.arc_table.specs.declared.command.Reply.TheVariants as reply
 
@@ -50,6 +53,14 @@ is_reader (sole_writer capacity) = false
 is_reader (one_writer_of_several capacity) = false
 is_reader inline = false
 is_reader forgotten = false
+
+-- the roles that may be cut short, all but the inline ones
+abbrev pub may_truncate : Role → Bool
+may_truncate reader = true
+may_truncate (sole_writer capacity) = true
+may_truncate (one_writer_of_several capacity) = true
+may_truncate inline = false
+may_truncate forgotten = false
 
 abbrev pub is_window : Role → Bool
 is_window reader = true
@@ -99,6 +110,17 @@ part_of setting row start end =
       role = row.role;
     }
 
+-- a row without its first items, and one with only these
+abbrev pub advanced : {T M : Type 0} → Row T M → ℕ → Row T M
+advanced row by = record row { items = drop by row.items; place = moved by row.place }
+
+abbrev pub truncated : {T M : Type 0} → Row T M → ℕ → Row T M
+truncated row len = record row { items = take len row.items }
+
+-- the row with this number has become another one
+abbrev pub changed : {T M : Type 0} → Table T M → ℕ → Row T M → Outcome T M
+changed t i row = (reply.Ok, record t { rows = slice_set t.rows i (Some row) })
+
 -- the row with this number, if there is one, and if it has one of these roles
 abbrev pub on_row : {T M : Type 0} → Table T M → ℕ → (Role → Bool) → (Row T M → Outcome T M)
     → Outcome T M
@@ -122,6 +144,13 @@ answer setting t (Sub i start end) = on_row t i is_read (λ row.
 answer setting t (Uniq i) = on_row t i is_reader (λ row.
     (if is_alone t row.place then reply.Yes else reply.No, t))
 answer setting t (Show i) = on_row t i is_window (λ row. (reply.Items row.items, t))
+answer setting t (Len i) = on_row t i is_window (λ row. (reply.Number (length row.items), t))
+answer setting t (Adv i by) = on_row t i is_window (λ row.
+    in_range (edge_answer setting.boundary row.items by) t (changed t i (advanced row by)))
+answer setting t (Trunc i len) = on_row t i may_truncate (λ row.
+    if nat_lt len (length row.items) then
+    in_range (edge_answer setting.boundary row.items len) t (changed t i (truncated row len))
+    else (reply.Ok, t))
 answer setting t (Drop i) = on_row t i is_window (λ row.
     (reply.Ok, record t { rows = slice_set t.rows i None }))
 
@@ -137,6 +166,9 @@ MayWant setting t (Sub i start end) =
     IsThere t i (λ row. IsRange setting.boundary row.items start end)
 MayWant setting t (Uniq i) = ⊥
 MayWant setting t (Show i) = IsThere t i (λ row. Unit {0})
+MayWant setting t (Len i) = ⊥
+MayWant setting t (Adv i by) = ⊥
+MayWant setting t (Trunc i len) = ⊥
 MayWant setting t (Drop i) = ⊥
 
 -- a window at this place is cloned by a call that may want memory

@@ -24,6 +24,20 @@ pub enum Cmd<X> {
     Show {
         window: usize,
     },
+    /// How many items a window has.
+    Len {
+        window: usize,
+    },
+    /// Takes the first `by` items off a window.
+    Adv {
+        window: usize,
+        by: usize,
+    },
+    /// Leaves the first `len` items of a window, or all where it has no more.
+    Trunc {
+        window: usize,
+        len: usize,
+    },
     /// The end of a window.
     Drop {
         window: usize,
@@ -43,6 +57,8 @@ pub enum Reply<X> {
     No,
     /// The items of the window.
     Items(X),
+    /// So many items.
+    Number(usize),
     /// No window has this number, or none has it any more.
     NoWindow,
     /// The command isn't for a window of this role.

@@ -42,13 +42,14 @@ fn part_block<L: Layout>(block: Option<usize>, len: usize) -> Option<usize>
 }
 
 impl<S: Slice, L: Layout, A: Allocator + Copy> Slot<S, L, A> {
-    ghost use Rattle.std.specs.Prelude.{◌≡◌, ◌↔◌, Bool, false, None, Some, IfOk, IfErr, IsOk};
-    ghost use Rattle.arc_buffer.specs.Slice.{IsRange, sub, range_answer};
+    ghost use Rattle.std.specs.Prelude.{◌≡◌, ◌↔◌, length, Bool, false, None, Some, IfOk, IfErr, IsOk};
+    ghost use Rattle.arc_buffer.specs.Slice.{IsRange, IsEdge, sub, range_answer, edge_answer};
     ghost use Rattle.arc_block.specs.Place.{part_place};
     ghost use Rattle.arc_block.specs.Table.{reader};
     ghost use Rattle.arc_owners.specs.count.Calls.{Asks, Leaves};
     ghost use Rattle.arc_table.specs.Stands.{HasPassFor};
     ghost use Rattle.arc_table.specs.Additions.{Along, Beside, RefusesAt};
+    ghost use Rattle.arc_table.specs.Step.{advanced, truncated};
     ghost use Rattle.arc_table.specs.Slots.{row_of, stand_of};
 
     /// The items of the window.
@@ -66,6 +67,45 @@ impl<S: Slice, L: Layout, A: Allocator + Copy> Slot<S, L, A> {
         ensures ok { IsOk result ↔ IsRange S.boundary self.now.window.items start end }
     {
         self.window.check_range(start, end)
+    }
+
+    /// How many items the window has.
+    pub fn len(&self) -> usize
+        ensures { result ≡ length self.now.window.items }
+    {
+        self.window.len()
+    }
+
+    /// Whether the window may be cut at `at`.
+    pub fn check_at(&self, at: usize) -> Result<(), RangeError>
+    where
+        S: Subsliceable,
+        ensures answer { result ≡ edge_answer S.boundary self.now.window.items at }
+        ensures ok { IsOk result ↔ IsEdge S.boundary self.now.window.items at }
+    {
+        self.window.check_at(at)
+    }
+
+    /// Takes the first `by` items off the window, which stays on its block.
+    pub fn advance(&mut self, by: usize)
+    where
+        S: Subsliceable,
+        requires { IsEdge S.boundary self.old.window.items by }
+        ensures row { row_of self.new ≡ advanced (row_of self.old) by }
+        ensures stand { stand_of (Some self.new) ≡ stand_of (Some self.old) }
+    {
+        self.window.advance(by);
+    }
+
+    /// Leaves the window's first `len` items. It stays on its block.
+    pub fn truncate(&mut self, len: usize)
+    where
+        S: Subsliceable,
+        requires { IsEdge S.boundary self.old.window.items len }
+        ensures row { row_of self.new ≡ truncated (row_of self.old) len }
+        ensures stand { stand_of (Some self.new) ≡ stand_of (Some self.old) }
+    {
+        self.window.truncate(len);
     }
 
     /// Another window with the same items at the same place, an owner more of the same block.

@@ -103,6 +103,9 @@ where
             Cmd::Sub { window, start, end } => self.sub(rt, window, start, end),
             Cmd::Uniq { window } => self.uniq(window),
             Cmd::Show { window } => self.show(window),
+            Cmd::Len { window } => self.len(window),
+            Cmd::Adv { window, by } => self.advance(window, by),
+            Cmd::Trunc { window, len } => self.truncate(window, len),
             Cmd::Drop { window } => self.release(window),
         }
     }
@@ -261,6 +264,62 @@ where
             Ok(items) => Reply::Items(items),
             Err(_) => Reply::Alloc,
         }
+    }
+
+    /// How many items a window has.
+    fn len(&self, i: usize) -> Reply<Vec<S::Item, A>>
+        ensures rows { Step (setting_of L.STATIC L.clone_wants S.DROPS S.boundary) self.now.table
+            (command.Len i) (seen_reply result) self.now.table }
+        ensures passes { Adds self.now.standing (command.Len i) (seen_reply result)
+            self.now.standing }
+    {
+        match slot_at(&self.slots, i) {
+            Some(slot) => Reply::Number(slot.len()),
+            None => Reply::NoWindow,
+        }
+    }
+
+    /// Takes the first `by` items off a window.
+    fn advance(&mut self, i: usize, by: usize) -> Reply<Vec<S::Item, A>>
+        ensures rows { Step (setting_of L.STATIC L.clone_wants S.DROPS S.boundary) self.old.table
+            (command.Adv i by) (seen_reply result) self.new.table }
+        ensures passes { Adds self.old.standing (command.Adv i by) (seen_reply result)
+            self.new.standing }
+    {
+        let Some(slot) = slot_at(&self.slots, i) else {
+            return Reply::NoWindow;
+        };
+        if let Err(e) = slot.check_at(by) {
+            return Reply::Range(e);
+        }
+        let Some(slot) = &mut self.slots[i] else {
+            unreachable!()
+        };
+        slot.advance(by);
+        Reply::Ok
+    }
+
+    /// Leaves the first `len` items of a window, or all where it has no more.
+    fn truncate(&mut self, i: usize, len: usize) -> Reply<Vec<S::Item, A>>
+        ensures rows { Step (setting_of L.STATIC L.clone_wants S.DROPS S.boundary) self.old.table
+            (command.Trunc i len) (seen_reply result) self.new.table }
+        ensures passes { Adds self.old.standing (command.Trunc i len) (seen_reply result)
+            self.new.standing }
+    {
+        let Some(slot) = slot_at(&self.slots, i) else {
+            return Reply::NoWindow;
+        };
+        if len >= slot.len() {
+            return Reply::Ok;
+        }
+        if let Err(e) = slot.check_at(len) {
+            return Reply::Range(e);
+        }
+        let Some(slot) = &mut self.slots[i] else {
+            unreachable!()
+        };
+        slot.truncate(len);
+        Reply::Ok
     }
 
     /// The end of a window.
