@@ -234,6 +234,16 @@ no_form verb rest (f ∷ fs) others = elim (cases_Bool (spells verb f.word)) [
   | inr other ↦ rw other (no_form verb rest fs others.1)
 ]
 
+-- such a word is read by the forms behind them
+pub none_of : (verb : List ℕ) (rest : List (List ℕ)) (fs gs : List Form)
+    → AllByRecursion (λ f. verb ≢ f.word) fs
+    → read_by verb rest (fs ++ gs) ≡ read_by verb rest gs
+none_of verb rest [] gs others = refl
+none_of verb rest (f ∷ fs) gs others = elim (cases_Bool (spells verb f.word)) [
+  | inl is ↦ absurd (others.0 (spelled verb f.word is))
+  | inr other ↦ rw other (none_of verb rest fs gs others.1)
+]
+
 -- ---- lines
 
 -- the words of a command part at the spaces

@@ -1,6 +1,6 @@
 -- Reading a line: its words, and the command that they say.
 use Rattle.std.specs.Prelude.{ℕ, ◌+◌, ◌*◌, ◌^◌, Bool, ◌==◌, ◌&&◌, ◌||◌, nat_lt, if◌then◌else◌}
-use Rattle.std.specs.Prelude.{List, [], ◌∷◌, Option, Some, None}
+use Rattle.std.specs.Prelude.{◌++◌, List, [], ◌∷◌, Option, Some, None}
 use Rattle.std.specs.Prelude.{decimal, codes, nat_eq, length, get_or, true, false, IsTrue}
 use Rattle.std.specs.Borrow.{Bor}
 use Rattle.std.specs.Char.{digit_value}
@@ -101,16 +101,31 @@ pub record Form : Type 0 where
 abbrev pub entry : (word : List ℕ) (sorts : List Sort) → Makes sorts → Form
 entry word sorts make = record { word = word; sorts = sorts; make = make }
 
--- The table of forms from the reader's side, a line each: those that bring no items, and all. What
+-- The table of forms from the reader's side, a line each: those that bring no items, by what they
+-- do, and all. What
 -- is read by it is what `form` says: that is proved of the whole table.
-abbrev pub plain_forms : List Form
-plain_forms =
+abbrev pub making_forms : List Form
+making_forms =
     entry (codes "clone") (ANumber ∷ []) command.Clone ∷
     entry (codes "sub") (ANumber ∷ ANumber ∷ ANumber ∷ []) command.Sub ∷
+    []
+
+abbrev pub asking_forms : List Form
+asking_forms =
     entry (codes "uniq") (ANumber ∷ []) command.Uniq ∷
     entry (codes "show") (ANumber ∷ []) command.Show ∷
+    entry (codes "len") (ANumber ∷ []) command.Len ∷
+    []
+
+abbrev pub changing_forms : List Form
+changing_forms =
+    entry (codes "adv") (ANumber ∷ ANumber ∷ []) command.Adv ∷
+    entry (codes "trunc") (ANumber ∷ ANumber ∷ []) command.Trunc ∷
     entry (codes "drop") (ANumber ∷ []) command.Drop ∷
     []
+
+abbrev pub plain_forms : List Form
+plain_forms = making_forms ++ asking_forms ++ changing_forms
 
 abbrev pub forms : List Form
 forms =

@@ -48,6 +48,9 @@ form (command.Clone i) = (codes "clone", Number i ∷ [])
 form (command.Sub i start end) = (codes "sub", Number i ∷ Number start ∷ Number end ∷ [])
 form (command.Uniq i) = (codes "uniq", Number i ∷ [])
 form (command.Show i) = (codes "show", Number i ∷ [])
+form (command.Len i) = (codes "len", Number i ∷ [])
+form (command.Adv i by) = (codes "adv", Number i ∷ Number by ∷ [])
+form (command.Trunc i len) = (codes "trunc", Number i ∷ Number len ∷ [])
 form (command.Drop i) = (codes "drop", Number i ∷ [])
 
 -- an operand as a word
@@ -92,6 +95,7 @@ reply_text reply.Ok = codes "ok"
 reply_text reply.Yes = codes "yes"
 reply_text reply.No = codes "no"
 reply_text (reply.Items items) = items_word items
+reply_text (reply.Number n) = decimal n
 reply_text reply.NoWindow = codes "no window"
 reply_text reply.Kind = codes "kind"
 reply_text (reply.Range e) = range_text e

@@ -12,6 +12,8 @@ ghost use Rattle.arc_table.specs.declared.command.Cmd.{Cmd};
 ghost use Rattle.arcs.specs.Reading.{ANumber, SomeItems, BringsItems, command_of, first_by};
 ghost use Rattle.arcs.specs.Reading.{is_hex_digit, is_space, items_of, number_of, operand_of};
 ghost use Rattle.arcs.specs.Reading.{operands_of, pairs, plain_forms, read_by, words_in};
+ghost use Rattle.arcs.specs.Reading.{asking_forms, changing_forms};
+ghost use Rattle.std.specs.Prelude.{◌++◌};
 ghost use Rattle.arcs.specs.Reading.{words_of_line};
 
 use arc_owners::error::AllocError;
@@ -187,8 +189,48 @@ fn one_items<A: Allocator>(alloc: A, rest: Rest) -> Result<Option<Vec<u8, A>>, A
     Ok(Some(decoded(alloc, hex)?))
 }
 
-/// The command that a first word and what is left behind it say, of those that bring no items: an
-/// arm for each line of their table (`plain_forms` in `specs/`).
+/// The command that a first word and what is left behind it say, of those that change a window: an
+/// arm for each line of their table (`changing_forms` in `specs/`).
+fn changing<A: Allocator>(verb: &[u8], rest: Rest) -> Option<Cmd<Vec<u8, A>>>
+    ensures { option_map seen_command result
+        ≡ read_by verb.now (words_in rest.entry) changing_forms }
+{
+    match verb {
+        b"adv" => {
+            let (window, by) = two_numbers(rest)?;
+            Some(Cmd::Adv { window, by })
+        }
+        b"trunc" => {
+            let (window, len) = two_numbers(rest)?;
+            Some(Cmd::Trunc { window, len })
+        }
+        b"drop" => Some(Cmd::Drop {
+            window: one_number(rest)?,
+        }),
+        _ => None,
+    }
+}
+
+/// The same, of those that ask or change a window (`asking_forms`).
+fn asking<A: Allocator>(verb: &[u8], rest: Rest) -> Option<Cmd<Vec<u8, A>>>
+    ensures { option_map seen_command result
+        ≡ read_by verb.now (words_in rest.entry) (asking_forms ++ changing_forms) }
+{
+    match verb {
+        b"uniq" => Some(Cmd::Uniq {
+            window: one_number(rest)?,
+        }),
+        b"show" => Some(Cmd::Show {
+            window: one_number(rest)?,
+        }),
+        b"len" => Some(Cmd::Len {
+            window: one_number(rest)?,
+        }),
+        _ => changing(verb, rest),
+    }
+}
+
+/// The same, of all that bring no items (`plain_forms`).
 fn plain_command<A: Allocator>(verb: &[u8], rest: Rest) -> Option<Cmd<Vec<u8, A>>>
     ensures { option_map seen_command result
         ≡ read_by verb.now (words_in rest.entry) plain_forms }
@@ -201,16 +243,7 @@ fn plain_command<A: Allocator>(verb: &[u8], rest: Rest) -> Option<Cmd<Vec<u8, A>
             let (window, start, end) = three_numbers(rest)?;
             Some(Cmd::Sub { window, start, end })
         }
-        b"uniq" => Some(Cmd::Uniq {
-            window: one_number(rest)?,
-        }),
-        b"show" => Some(Cmd::Show {
-            window: one_number(rest)?,
-        }),
-        b"drop" => Some(Cmd::Drop {
-            window: one_number(rest)?,
-        }),
-        _ => None,
+        _ => asking(verb, rest),
     }
 }
 

@@ -93,6 +93,7 @@ fn push_reply<A: Allocator>(
         Reply::Yes => out.extend_from_slice(b"yes")?,
         Reply::No => out.extend_from_slice(b"no")?,
         Reply::Items(items) => push_items(out, items)?,
+        Reply::Number(number) => push_number(out, *number)?,
         Reply::NoWindow => out.extend_from_slice(b"no window")?,
         Reply::Kind => out.extend_from_slice(b"kind")?,
         Reply::Range(error) => out.extend_from_slice(range_words(*error))?,
