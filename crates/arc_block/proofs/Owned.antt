@@ -111,7 +111,7 @@ module _ {H : Type 0} where
       }
 
   -- the window at the end and the one at place i, each in the other's place
-  kept-turned : {g : ℕ} {passes : List (Pass H)} (stands : List Stand) (i : ℕ) (t s : Stand) → IsKept g (stands ++ s ∷ []) passes → slice_get stands i ≡ Some t → IsKept g (slice_set stands i s ++ t ∷ []) passes
+  pub kept-turned : {g : ℕ} {passes : List (Pass H)} (stands : List Stand) (i : ℕ) (t s : Stand) → IsKept g (stands ++ s ∷ []) passes → slice_get stands i ≡ Some t → IsKept g (slice_set stands i s ++ t ∷ []) passes
   kept-turned {passes = passes} stands i t s k there = record {
     known = known-push (slice_set stands i s) passes t
         (λ j n o here. elim (set-cases stands i j (Some (n, o)) s here) [

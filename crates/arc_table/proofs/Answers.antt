@@ -1,6 +1,6 @@
 -- What a command is answered where memory is ample is one of its steps.
 use Rattle.std.proofs.Common.{◌≡◌, ℕ, Bool, true, false, if◌then◌else◌, List, Option, Some, None, Result}
-use Rattle.std.proofs.Common.{Ok, Err, refl, length}
+use Rattle.std.proofs.Common.{Ok, Err, refl, length, slice_set, ◌++◌, [], ◌∷◌, ◌==◌}
 use Rattle.std.specs.Prelude.{nat_lt}
 use Rattle.std.specs.Option.{option_map_or}
 use Rattle.arc_owners.specs.declared.error.RangeError.{RangeError}
@@ -9,10 +9,11 @@ use Rattle.arc_buffer.specs.Slice.{range_answer, edge_answer}
 use Rattle.arc_block.specs.Table.{Row, Table, Role, row_at, is_alone}
 use Rattle.arc_table.specs.Step.{Setting, Outcome, Step, answer, with_row, with_owner, on_row, in_range}
 use Rattle.arc_table.specs.Step.{part_of, is_full, is_read, is_reader, is_window, may_truncate}
-use Rattle.arc_table.specs.Step.{advanced, truncated, changed}
+use Rattle.arc_table.specs.Step.{advanced, truncated, changed, may_split, split, split_off}
+use Rattle.arc_table.specs.Step.{split_to, off_part, to_part, cut_row}
 use Rattle.arc_table.specs.declared.command.Cmd.{Cmd}
 use Rattle.arc_table.specs.declared.command.Cmd.TheVariants.{Slice, Clone, Sub, Uniq, Show, Len}
-use Rattle.arc_table.specs.declared.command.Cmd.TheVariants.{Adv, Trunc, Drop}
+use Rattle.arc_table.specs.declared.command.Cmd.TheVariants.{Off, To, Adv, Trunc, Drop}
 use Rattle.arc_table.specs.declared.command.Reply.{Reply}
 use Rattle.arc_table.specs.declared.command.Reply.TheVariants as reply
 
@@ -54,6 +55,34 @@ yes_or_no X true = tt
 yes_or_no X false = tt
 
 module _ {T M : Type 0} (setting : Setting T) (t : Table T M) where
+  split_ample : (i : ℕ) (kept handed made : Row T M) (full : Bool)
+      → IsAmple (if full then (reply.Owner CountFull, t) else (
+        reply.New (length t.rows),
+        record { rows = slice_set t.rows i (Some kept) ++ Some handed ∷ []; blocks = t.blocks },
+      )).0
+  split_ample i kept handed made true = tt
+  split_ample i kept handed made false = tt
+
+  either_ample : (b : Bool) (one other : Outcome T M) → IsAmple one.0 → IsAmple other.0
+      → IsAmple (if b then one else other).0
+  either_ample true one other h k = h
+  either_ample false one other h k = k
+
+  off_ample : (i : ℕ) (row : Row T M) (at : ℕ) → IsAmple (split_off setting t i row at).0
+  off_ample i row at =
+      let made = off_part setting row at in
+      either_ample (at == 0) (split t i made row made) (split t i (cut_row row 0 at) made made)
+      (split_ample i made row made (is_full t made.place))
+      (split_ample i (cut_row row 0 at) made made (is_full t made.place))
+
+  to_ample : (i : ℕ) (row : Row T M) (at : ℕ) → IsAmple (split_to setting t i row at).0
+  to_ample i row at =
+      let made = to_part setting row at in
+      let kept = cut_row row at (length row.items) in
+      either_ample (at == length row.items) (split t i made row made) (split t i kept made made)
+      (split_ample i made row made (is_full t made.place))
+      (split_ample i kept made made (is_full t made.place))
+
   short_ample : (i : ℕ) (row : Row T M) (len : ℕ) (short : Bool)
       → IsAmple (if short then
       in_range (edge_answer setting.boundary row.items len) t (changed t i (truncated row len))
@@ -77,6 +106,14 @@ module _ {T M : Type 0} (setting : Setting T) (t : Table T M) where
   answer_ample (Uniq i) =
       on_row_ample t i is_reader _ (λ row. yes_or_no _ (is_alone t row.place))
   answer_ample (Show i) = on_row_ample t i is_window _ (λ row. tt)
+  answer_ample (Off i at) =
+      on_row_ample t i may_split _ (λ row.
+      in_range_ample t (edge_answer setting.boundary row.items at)
+      (split_off setting t i row at) (off_ample i row at))
+  answer_ample (To i at) =
+      on_row_ample t i may_split _ (λ row.
+      in_range_ample t (edge_answer setting.boundary row.items at)
+      (split_to setting t i row at) (to_ample i row at))
   answer_ample (Len i) = on_row_ample t i is_window _ (λ row. tt)
   answer_ample (Adv i by) =
       on_row_ample t i is_window _ (λ row.

@@ -10,3 +10,4 @@ mod Added
 mod Ended
 mod Founded
 mod States
+mod Splits

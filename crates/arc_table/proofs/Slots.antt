@@ -29,7 +29,7 @@ Call H = Owner → Pass H → Pass H → Type 0
 abbrev pub part_at : Bool → ℕ → At → At
 part_at nothing start place = if nothing then nowhere else moved start place
 
-moved-numbered : (b : Option ℕ) (start : ℕ) (place : At)
+pub moved-numbered : (b : Option ℕ) (start : ℕ) (place : At)
     → numbered b (moved start place) ≡ moved start (numbered b place)
 moved-numbered b start nowhere = refl
 moved-numbered b start static_data = refl
@@ -37,7 +37,7 @@ moved-numbered b start (on_block None offset facts) = refl
 moved-numbered None start (on_block (Some owner) offset facts) = refl
 moved-numbered (Some n) start (on_block (Some owner) offset facts) = refl
 
-moved-stand : (b : Option ℕ) (start : ℕ) (place : At)
+pub moved-stand : (b : Option ℕ) (start : ℕ) (place : At)
     → stand_at b (moved start place) ≡ stand_at b place
 moved-stand b start nowhere = refl
 moved-stand b start static_data = refl

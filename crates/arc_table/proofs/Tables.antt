@@ -17,11 +17,12 @@ use Rattle.arc_block.specs.Block.{Sort}
 use Rattle.arc_block.specs.Owned.{Stand, owners_on, IsKept}
 use Rattle.arc_block.specs.Place.{Place, nowhere, static_data, on_block}
 use Rattle.arc_block.specs.Table.{Row, Table, Role, reader, row_at, block_of, owners, is_alone}
-use Rattle.arc_table.specs.Additions.{Along, Beside, RefusesAt}
+use Rattle.arc_table.specs.Additions.{Along, Beside, RefusesAt, Splits}
+use Rattle.arc_block.proofs.Owned.{kept-turned}
 use Rattle.arc_table.specs.Slots.{SlotView, row_of, stand_of, stands_of}
 use Rattle.arc_table.specs.State.{State, state_of, stand_block}
 use Rattle.arc_table.specs.Step.{Setting, Outcome, Step, answer, with_row, with_owner, on_row, in_range}
-use Rattle.arc_table.specs.Step.{part_of, is_full, greatest_count, is_reader, is_window, WantsAt, changed}
+use Rattle.arc_table.specs.Step.{part_of, is_full, greatest_count, is_reader, is_window, WantsAt, changed, split}
 use Rattle.arc_table.specs.Step.{OwnerMayWant}
 use Rattle.arc_table.specs.declared.command.Cmd.{Cmd}
 use Rattle.arc_table.specs.declared.command.Cmd.TheVariants as command
@@ -225,6 +226,133 @@ module _ {T : Type 0} (slots : List (Option (SlotView T))) (passes : List (Pass 
             let wants = setting.clone_wants in
             let many = many-refused i k passes' wants r.place (stand_of (Some s)) AllocError why in
             (may why.0, same-table slots' passes' same many)
+
+      -- the window was split: one part has its owner, and the other was made beside it
+      module _ (i_kept i_handed : SlotView T) (slots' : List (Option (SlotView T)))
+          (more : slots' ≡ slice_set slots i (Some i_kept) ++ Some i_handed ∷ []) where
+        split-stands : stands_of slots'
+            ≡ slice_set (stands_of slots) i (stand_of (Some i_kept)) ++ stand_of (Some i_handed) ∷ []
+        split-stands =
+            ap stands_of more
+            ∙ map-append stand_of (slice_set slots i (Some i_kept)) (Some i_handed ∷ [])
+            ∙ ap (λ ss. ss ++ stand_of (Some i_handed) ∷ [])
+            (map-slice_set stand_of slots i (Some i_kept))
+
+        split-rows : map (option_map row_of) slots'
+            ≡ slice_set t.rows i (Some (row_of i_kept)) ++ Some (row_of i_handed) ∷ []
+        split-rows =
+            ap (map (option_map row_of)) more
+            ∙ map-append (option_map row_of) (slice_set slots i (Some i_kept)) (Some i_handed ∷ [])
+            ∙ ap (λ rs. rs ++ Some (row_of i_handed) ∷ [])
+            (map-slice_set (option_map row_of) slots i (Some i_kept))
+
+        -- the part with the owner keeps its number
+        stays : stand_of (Some i_kept) ≡ stand_of (Some s)
+            → stands_of slots' ≡ stands_of slots ++ stand_of (Some i_handed) ∷ []
+        stays same =
+            split-stands
+            ∙ ap (λ st. slice_set (stands_of slots) i st ++ stand_of (Some i_handed) ∷ []) same
+            ∙ ap (λ ss. ss ++ stand_of (Some i_handed) ∷ [])
+            (set-back (stands_of slots) i (stand_of (Some s)) stand-there)
+
+        -- it has the next number
+        goes : stand_of (Some i_handed) ≡ stand_of (Some s)
+            → stands_of slots'
+            ≡ slice_set (stands_of slots) i (stand_of (Some i_kept)) ++ stand_of (Some s) ∷ []
+        goes same =
+            split-stands
+            ∙ ap (λ st. slice_set (stands_of slots) i (stand_of (Some i_kept)) ++ st ∷ []) same
+
+        pub kept-stays : stand_of (Some i_kept) ≡ stand_of (Some s)
+            → Beside (stand_of (Some s)) passes passes' (stand_of (Some i_handed))
+            → IsKept MAX_OWNERS (stands_of slots') passes'
+        kept-stays same joins =
+            subst (λ ss. IsKept MAX_OWNERS ss passes') (sym (stays same))
+            (kept-beside i k passes' (stand_of (Some s)) (stand_of (Some i_handed)) stand-there joins)
+
+        pub kept-goes : stand_of (Some i_handed) ≡ stand_of (Some s)
+            → Beside (stand_of (Some s)) passes passes' (stand_of (Some i_kept))
+            → IsKept MAX_OWNERS (stands_of slots') passes'
+        kept-goes same joins =
+            subst (λ ss. IsKept MAX_OWNERS ss passes') (sym (goes same))
+            (kept-turned (stands_of slots) i (stand_of (Some s)) (stand_of (Some i_kept))
+            (kept-beside i k passes' (stand_of (Some s)) (stand_of (Some i_kept)) stand-there joins)
+            stand-there)
+
+        pub stays-added : stand_of (Some i_kept) ≡ stand_of (Some s)
+            → Beside (stand_of (Some s)) passes passes' (stand_of (Some i_handed))
+            → Splits (state_of slots passes).standing i (state_of slots' passes').standing
+        stays-added same joins = (
+          stand_of (Some i_handed),
+          subst (λ st. Beside (option_flatten st) passes passes' (stand_of (Some i_handed)))
+              (sym stand-there) joins,
+          inl (stays same),
+        )
+
+        pub goes-added : stand_of (Some i_handed) ≡ stand_of (Some s)
+            → Beside (stand_of (Some s)) passes passes' (stand_of (Some i_kept))
+            → Splits (state_of slots passes).standing i (state_of slots' passes').standing
+        goes-added same joins = (
+          stand_of (Some i_kept),
+          subst (λ st. Beside (option_flatten st) passes passes' (stand_of (Some i_kept)))
+              (sym stand-there) joins,
+          inr (subst (λ st. stands_of slots'
+              ≡ slice_set (stands_of slots) i (stand_of (Some i_kept)) ++ option_flatten st ∷ [])
+              (sym stand-there) (goes same)),
+        )
+
+        -- the table is the one that a split leads to
+        pub split-row : (kept handed made : Row T (Unit {0})) (madeSlot : SlotView T) (number : ℕ)
+            → row_of i_kept ≡ kept → row_of i_handed ≡ handed → row_of madeSlot ≡ made
+            → Beside (stand_of (Some s)) passes passes' (stand_of (Some madeSlot))
+            → number ≡ length slots
+            → split t i kept handed made ≡ (reply.New number, (state_of slots' passes').table)
+        split-row kept handed made madeSlot number is_kept is_handed is_made joins counted =
+            let on : block_of made.place ≡ stand_block (stand_of (Some madeSlot)) =
+            ap (λ (x : Row T (Unit {0})). block_of x.place) (sym is_made)
+            ∙ place_agrees madeSlot.block madeSlot.window.place in
+            let room =
+            not-full (stand_of (Some s)) stand-there made (stand_of (Some madeSlot)) on joins in
+            let many = many-beside i k passes' (stand_of (Some s)) (stand_of (Some madeSlot)) joins in
+            let rows = λ (x y : Row T (Unit {0})). slice_set t.rows i (Some x) ++ Some y ∷ [] in
+            ap (λ b. if b then (reply.Owner CountFull, t) else
+            (reply.New (length t.rows), record { rows = rows kept handed; blocks = t.blocks })) room
+            ∙ ap (λ n. (reply.New n, record { rows = rows kept handed; blocks = t.blocks }))
+            (length-map slots (option_map row_of) ∙ sym counted)
+            ∙ ap (λ x. (reply.New number, record { rows = rows x handed; blocks = t.blocks }))
+            (sym is_kept)
+            ∙ ap (λ x. (reply.New number, record { rows = rows (row_of i_kept) x; blocks = t.blocks }))
+            (sym is_handed)
+            ∙ ap (λ rs. (reply.New number, record { rows = rs; blocks = t.blocks })) (sym split-rows)
+            ∙ ap (λ b. (
+              reply.New number,
+              record { rows = map (option_map row_of) slots'; blocks = b },
+            )) (sym many)
+
+      -- no part was made
+      pub unsplit-row : (setting : Setting T) (c : Cmd (List T)) (kept handed made : Row T (Unit {0}))
+          → answer setting t c ≡ split t i kept handed made → (e : OwnerError)
+          → (slots' : List (Option (SlotView T)))
+          → (WantsAt setting.clone_wants made.place → OwnerMayWant setting t c)
+          → RefusesAt setting.clone_wants made.place (stand_of (Some s)) passes passes' e
+          → slots' ≡ slots → Step setting t c (reply.Owner e) (state_of slots' passes').table
+      unsplit-row setting c kept handed made answers CountFull slots' may why same =
+          let wants = setting.clone_wants in
+          let full = found-full (stand_of (Some s)) stand-there wants made.place why in
+          let many = many-refused i k passes' wants made.place (stand_of (Some s)) CountFull why in
+          answers
+          ∙ ap (λ b. if b then (reply.Owner CountFull, t) else (
+            reply.New (length t.rows),
+            record {
+              rows = slice_set t.rows i (Some kept) ++ Some handed ∷ [];
+              blocks = t.blocks;
+            },
+          )) full
+          ∙ ap (λ x. (reply.Owner CountFull, x)) (sym (same-table slots' passes' same many))
+      unsplit-row setting c kept handed made answers AllocError slots' may why same =
+          let wants = setting.clone_wants in
+          let many = many-refused i k passes' wants made.place (stand_of (Some s)) AllocError why in
+          (may why.0, same-table slots' passes' same many)
 
       -- whether a window is alone
       alone-told : (st : Stand) → slice_get (stands_of slots) i ≡ Some st → (found : Bool)

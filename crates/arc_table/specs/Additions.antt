@@ -1,7 +1,7 @@
 -- What each command adds to the histories of the blocks: by which call, and through the pass of
 -- which block. All other passes stay.
 use Rattle.std.specs.Prelude.{◌≡◌, ℕ, Bool, true, false, List, [], ◌∷◌, ◌++◌, length, Some}
-use Rattle.std.specs.Prelude.{None, slice_get, slice_set}
+use Rattle.std.specs.Prelude.{None, slice_get, slice_set, ◌⊎◌}
 use Rattle.std.specs.Option.{option_flatten}
 use Rattle.arc_owners.specs.declared.count.tokens.Pass.{Pass}
 use Rattle.arc_owners.specs.count.Calls.{Owner, IsPassFor, Asks, MakesAnother, FindsFull, Leaves}
@@ -16,7 +16,8 @@ use Rattle.arc_block.specs.Place.{Place}
 use Rattle.arc_block.specs.Table.{block_of}
 use Rattle.arc_table.specs.Step.{WantsAt}
 use Rattle.arc_table.specs.declared.command.Cmd.{Cmd}
-use Rattle.arc_table.specs.declared.command.Cmd.TheVariants.{Slice, Clone, Sub, Uniq, Drop}
+use Rattle.arc_table.specs.declared.command.Cmd.TheVariants.{Slice, Clone, Sub, Off, To, Uniq}
+use Rattle.arc_table.specs.declared.command.Cmd.TheVariants.{Drop}
 use Rattle.arc_table.specs.declared.command.Reply.{Reply}
 use Rattle.arc_table.specs.declared.command.Reply.TheVariants as reply
 
@@ -89,6 +90,13 @@ module _ {H : Type 0} where
   abbrev pub Joined : Standing H → ℕ → Standing H → Type 0
   Joined old i new = OneMore old new (Beside (stand_in old i) old.passes new.passes)
 
+  -- a window more beside the one with this number: under the next number, or under its own, and then
+  -- that window has the next
+  abbrev pub Splits : Standing H → ℕ → Standing H → Type 0
+  Splits old i new = (s : Stand) × Beside (stand_in old i) old.passes new.passes s
+      × ((new.stands ≡ old.stands ++ s ∷ [])
+      ⊎ (new.stands ≡ slice_set old.stands i s ++ stand_in old i ∷ []))
+
   -- a call by the window with this number; the windows stand where they stood
   abbrev pub Calls : Standing H → ℕ → Standing H → (Owner → Pass H → Pass H → Type 0) → Type 0
   Calls old i new call =
@@ -111,6 +119,10 @@ module _ {H : Type 0} where
   Adds old (Slice items) (reply.New number) new = OneMore old new (Founds old.passes new.passes)
   Adds old (Clone i) (reply.New number) new = Joined old i new
   Adds old (Sub i start end) (reply.New number) new = Joined old i new
+  Adds old (Off i at) (reply.New number) new = Splits old i new
+  Adds old (To i at) (reply.New number) new = Splits old i new
+  Adds old (Off i at) (reply.Owner e) new = Calls old i new (Refuses e)
+  Adds old (To i at) (reply.Owner e) new = Calls old i new (Refuses e)
   Adds old (Clone i) (reply.Owner e) new = Calls old i new (Refuses e)
   Adds old (Sub i start end) (reply.Owner e) new = Calls old i new (Refuses e)
   Adds old (Uniq i) reply.Yes new = Calls old i new (λ o p q. Asks o p q true)

@@ -5,3 +5,4 @@ pub mod Stands
 pub mod Slots
 pub mod Additions
 pub mod State
+pub mod Splits

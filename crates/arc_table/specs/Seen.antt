@@ -4,7 +4,7 @@ use Rattle.std.specs.declared.vec.Vec.{Vec}
 use Rattle.std.specs.Vec.{vec_items}
 use Rattle.arc_table.specs.declared.command.Cmd.{Cmd}
 use Rattle.arc_table.specs.declared.command.Cmd.TheVariants.{Slice, Clone, Sub, Uniq, Show, Len}
-use Rattle.arc_table.specs.declared.command.Cmd.TheVariants.{Adv, Trunc, Drop}
+use Rattle.arc_table.specs.declared.command.Cmd.TheVariants.{Off, To, Adv, Trunc, Drop}
 use Rattle.arc_table.specs.declared.command.Reply.{Reply}
 use Rattle.arc_table.specs.declared.command.Reply.TheVariants as reply
 
@@ -15,6 +15,8 @@ map_command f (Clone i) = Clone i
 map_command f (Sub i start end) = Sub i start end
 map_command f (Uniq i) = Uniq i
 map_command f (Show i) = Show i
+map_command f (Off i at) = Off i at
+map_command f (To i at) = To i at
 map_command f (Len i) = Len i
 map_command f (Adv i by) = Adv i by
 map_command f (Trunc i len) = Trunc i len

@@ -5,7 +5,8 @@ use Rattle.std.specs.Prelude.{nat_lt}
 use Rattle.std.specs.Option.{option_map_or}
 use Rattle.arc_owners.specs.declared.error.RangeError.{RangeError}
 use Rattle.arc_owners.specs.declared.error.OwnerError.TheVariants.{AllocError, CountFull}
-use Rattle.arc_buffer.specs.Slice.{IsRange, sub, range_answer, edge_answer}
+use Rattle.arc_buffer.specs.Slice.{IsRange, IsEdge, sub, range_answer}
+use Rattle.arc_buffer.specs.Slice.{edge_answer}
 use Rattle.arc_block.specs.Block.{Sort, native_facts}
 use Rattle.arc_block.specs.Place.{Place, nowhere, static_data, on_block, made_place, part_place}
 use Rattle.arc_block.specs.Place.{moved}
@@ -14,7 +15,7 @@ use Rattle.arc_block.specs.Table.{Role, reader, sole_writer, one_writer_of_sever
 use Rattle.arc_table.specs.RunOf.{RunOf}
 use Rattle.arc_table.specs.declared.command.Cmd.{Cmd}
 use Rattle.arc_table.specs.declared.command.Cmd.TheVariants.{Slice, Clone, Sub, Uniq, Show, Len}
-use Rattle.arc_table.specs.declared.command.Cmd.TheVariants.{Adv, Trunc, Drop}
+use Rattle.arc_table.specs.declared.command.Cmd.TheVariants.{Off, To, Adv, Trunc, Drop}
 use Rattle.arc_table.specs.declared.command.Reply.{Reply}
 use Rattle.arc_table.specs.declared.command.Reply.TheVariants as reply
 
@@ -53,6 +54,14 @@ is_reader (sole_writer capacity) = false
 is_reader (one_writer_of_several capacity) = false
 is_reader inline = false
 is_reader forgotten = false
+
+-- the roles that may be split: readers, and one writer of several
+abbrev pub may_split : Role → Bool
+may_split reader = true
+may_split (sole_writer capacity) = false
+may_split (one_writer_of_several capacity) = true
+may_split inline = false
+may_split forgotten = false
 
 -- the roles that may be cut short, all but the inline ones
 abbrev pub may_truncate : Role → Bool
@@ -110,6 +119,42 @@ part_of setting row start end =
       role = row.role;
     }
 
+-- the part from start to end of a row, as the same owner: it stays where it stands
+abbrev pub cut_row : {T M : Type 0} → Row T M → ℕ → ℕ → Row T M
+cut_row row start end =
+    record row { items = sub row.items start end; place = moved start row.place }
+
+-- A row was split in two: its number has kept this one, and the next number has that one. The part
+-- that was made has an owner of its own.
+abbrev pub split : {T M : Type 0} → Table T M → ℕ → Row T M → Row T M → Row T M → Outcome T M
+split t i kept handed made = if is_full t made.place then (reply.Owner CountFull, t) else (
+  reply.New (length t.rows),
+  record { rows = slice_set t.rows i (Some kept) ++ Some handed ∷ []; blocks = t.blocks },
+)
+
+-- the part that is made by a split: the back, or at the front end a front with no items
+abbrev pub off_part : {T M : Type 0} → Setting T → Row T M → ℕ → Row T M
+off_part setting row at =
+    if at == 0 then part_of setting row 0 0 else part_of setting row at (length row.items)
+
+-- the front, or at the back end a back with no items
+abbrev pub to_part : {T M : Type 0} → Setting T → Row T M → ℕ → Row T M
+to_part setting row at =
+    if at == length row.items then part_of setting row at at else part_of setting row 0 at
+
+-- a row is split, and its back is handed out: at the front end that is the row itself
+abbrev pub split_off : {T M : Type 0} → Setting T → Table T M → ℕ → Row T M → ℕ → Outcome T M
+split_off setting t i row at =
+    let made = off_part setting row at in
+    if at == 0 then split t i made row made else split t i (cut_row row 0 at) made made
+
+-- a row is split, and its front is handed out: at the back end that is the row itself
+abbrev pub split_to : {T M : Type 0} → Setting T → Table T M → ℕ → Row T M → ℕ → Outcome T M
+split_to setting t i row at =
+    let made = to_part setting row at in
+    if at == length row.items then split t i made row made else
+    split t i (cut_row row at (length row.items)) made made
+
 -- a row without its first items, and one with only these
 abbrev pub advanced : {T M : Type 0} → Row T M → ℕ → Row T M
 advanced row by = record row { items = drop by row.items; place = moved by row.place }
@@ -144,6 +189,10 @@ answer setting t (Sub i start end) = on_row t i is_read (λ row.
 answer setting t (Uniq i) = on_row t i is_reader (λ row.
     (if is_alone t row.place then reply.Yes else reply.No, t))
 answer setting t (Show i) = on_row t i is_window (λ row. (reply.Items row.items, t))
+answer setting t (Off i at) = on_row t i may_split (λ row.
+    in_range (edge_answer setting.boundary row.items at) t (split_off setting t i row at))
+answer setting t (To i at) = on_row t i may_split (λ row.
+    in_range (edge_answer setting.boundary row.items at) t (split_to setting t i row at))
 answer setting t (Len i) = on_row t i is_window (λ row. (reply.Number (length row.items), t))
 answer setting t (Adv i by) = on_row t i is_window (λ row.
     in_range (edge_answer setting.boundary row.items by) t (changed t i (advanced row by)))
@@ -166,6 +215,8 @@ MayWant setting t (Sub i start end) =
     IsThere t i (λ row. IsRange setting.boundary row.items start end)
 MayWant setting t (Uniq i) = ⊥
 MayWant setting t (Show i) = IsThere t i (λ row. Unit {0})
+MayWant setting t (Off i at) = IsThere t i (λ row. IsEdge setting.boundary row.items at)
+MayWant setting t (To i at) = IsThere t i (λ row. IsEdge setting.boundary row.items at)
 MayWant setting t (Len i) = ⊥
 MayWant setting t (Adv i by) = ⊥
 MayWant setting t (Trunc i len) = ⊥
@@ -183,6 +234,12 @@ OwnerMayWant setting t (Clone i) = IsThere t i (λ row. WantsAt setting.clone_wa
 OwnerMayWant setting t (Sub i start end) = IsThere t i (λ row.
     IsRange setting.boundary row.items start end
     × WantsAt setting.clone_wants (part_of setting row start end).place)
+OwnerMayWant setting t (Off i at) = IsThere t i (λ row.
+    IsEdge setting.boundary row.items at
+    × WantsAt setting.clone_wants (off_part setting row at).place)
+OwnerMayWant setting t (To i at) = IsThere t i (λ row.
+    IsEdge setting.boundary row.items at
+    × WantsAt setting.clone_wants (to_part setting row at).place)
 OwnerMayWant setting t other = ⊥
 
 -- From old, the table may give this reply to the command and go on to new. A refusal changes

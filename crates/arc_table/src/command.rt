@@ -24,6 +24,16 @@ pub enum Cmd<X> {
     Show {
         window: usize,
     },
+    /// Splits a window at `at`, and hands out the back.
+    Off {
+        window: usize,
+        at: usize,
+    },
+    /// Splits a window at `at`, and hands out the front.
+    To {
+        window: usize,
+        at: usize,
+    },
     /// How many items a window has.
     Len {
         window: usize,

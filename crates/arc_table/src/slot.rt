@@ -42,14 +42,15 @@ fn part_block<L: Layout>(block: Option<usize>, len: usize) -> Option<usize>
 }
 
 impl<S: Slice, L: Layout, A: Allocator + Copy> Slot<S, L, A> {
-    ghost use Rattle.std.specs.Prelude.{◌≡◌, ◌↔◌, length, Bool, false, None, Some, IfOk, IfErr, IsOk};
+    ghost use Rattle.std.specs.Prelude.{◌≡◌, ◌<◌, ◌↔◌, length, Bool, false, None, Some, IfOk, IfErr, IsOk};
     ghost use Rattle.arc_buffer.specs.Slice.{IsRange, IsEdge, sub, range_answer, edge_answer};
     ghost use Rattle.arc_block.specs.Place.{part_place};
     ghost use Rattle.arc_block.specs.Table.{reader};
     ghost use Rattle.arc_owners.specs.count.Calls.{Asks, Leaves};
     ghost use Rattle.arc_table.specs.Stands.{HasPassFor};
     ghost use Rattle.arc_table.specs.Additions.{Along, Beside, RefusesAt};
-    ghost use Rattle.arc_table.specs.Step.{advanced, truncated};
+    ghost use Rattle.arc_table.specs.Step.{advanced, truncated, cut_row, off_part, to_part, setting_of};
+    ghost use Rattle.arc_table.specs.Splits.{IsSplit};
     ghost use Rattle.arc_table.specs.Slots.{row_of, stand_of};
 
     /// The items of the window.
@@ -167,6 +168,83 @@ impl<S: Slice, L: Layout, A: Allocator + Copy> Slot<S, L, A> {
             }),
             Err(e) => Err(e),
         }
+    }
+
+    /// Splits the window, and hands out the back: at the front end that is the window itself.
+    pub fn try_split_off(
+        &mut self,
+        rt: &impl Wait,
+        at: usize,
+        passes: &mut Passes<A>,
+    ) -> Result<Self, OwnerError>
+    where
+        S: Subsliceable,
+        requires at { IsEdge S.boundary self.old.window.items at }
+        requires pass { HasPassFor passes.old.of_blocks.items (stand_of (Some self.old)) }
+        ensures start { IfOk result (λ back. at ≡ 0 → IsSplit self.old back self.new
+            (row_of self.old) (off_part (setting_of L.STATIC L.clone_wants S.DROPS S.boundary) (row_of self.old) at)
+            passes.old.of_blocks.items passes.new.of_blocks.items) }
+        ensures later { IfOk result (λ back. 0 < at → IsSplit self.old self.new back
+            (cut_row (row_of self.old) 0 at) (off_part (setting_of L.STATIC L.clone_wants S.DROPS S.boundary) (row_of self.old) at)
+            passes.old.of_blocks.items passes.new.of_blocks.items) }
+        ensures kept { IfErr result (λ _. self.new ≡ self.old) }
+        ensures refused { IfErr result (RefusesAt L.clone_wants
+            (off_part (setting_of L.STATIC L.clone_wants S.DROPS S.boundary) (row_of self.old) at).place
+            (stand_of (Some self.old)) passes.old.of_blocks.items passes.new.of_blocks.items) }
+    {
+        let mut pass = passes.lend(self.block);
+        let made = self.window.try_split_off_as(rt, at, &mut pass);
+        passes.give_back(self.block, pass);
+        let window = match made {
+            Ok(window) => window,
+            Err(e) => return Err(e),
+        };
+        let block = self.block;
+        if at == 0 {
+            self.block = part_block::<L>(block, self.window.len());
+            return Ok(Slot { window, block });
+        }
+        let block = part_block::<L>(block, window.len());
+        Ok(Slot { window, block })
+    }
+
+    /// Splits the window, and hands out the front: at the back end that is the window itself.
+    pub fn try_split_to(
+        &mut self,
+        rt: &impl Wait,
+        at: usize,
+        passes: &mut Passes<A>,
+    ) -> Result<Self, OwnerError>
+    where
+        S: Subsliceable,
+        requires at { IsEdge S.boundary self.old.window.items at }
+        requires pass { HasPassFor passes.old.of_blocks.items (stand_of (Some self.old)) }
+        ensures end { IfOk result (λ front. at ≡ length self.old.window.items → IsSplit self.old front self.new
+            (row_of self.old) (to_part (setting_of L.STATIC L.clone_wants S.DROPS S.boundary) (row_of self.old) at)
+            passes.old.of_blocks.items passes.new.of_blocks.items) }
+        ensures earlier { IfOk result (λ front. at < length self.old.window.items → IsSplit self.old self.new front
+            (cut_row (row_of self.old) at (length self.old.window.items)) (to_part (setting_of L.STATIC L.clone_wants S.DROPS S.boundary) (row_of self.old) at)
+            passes.old.of_blocks.items passes.new.of_blocks.items) }
+        ensures kept { IfErr result (λ _. self.new ≡ self.old) }
+        ensures refused { IfErr result (RefusesAt L.clone_wants
+            (to_part (setting_of L.STATIC L.clone_wants S.DROPS S.boundary) (row_of self.old) at).place
+            (stand_of (Some self.old)) passes.old.of_blocks.items passes.new.of_blocks.items) }
+    {
+        let len = self.window.len();
+        let mut pass = passes.lend(self.block);
+        let made = self.window.try_split_to_as(rt, at, &mut pass);
+        passes.give_back(self.block, pass);
+        let window = match made {
+            Ok(window) => window,
+            Err(e) => return Err(e),
+        };
+        let block = self.block;
+        if len == at {
+            self.block = part_block::<L>(block, self.window.len());
+            return Ok(Slot { window, block });
+        }
+        let block = part_block::<L>(block, window.len());
+        Ok(Slot { window, block })
     }
 
     /// Whether no other owner of the window's block lives. `false` on no block. Takes no memory.

@@ -103,6 +103,8 @@ where
             Cmd::Sub { window, start, end } => self.sub(rt, window, start, end),
             Cmd::Uniq { window } => self.uniq(window),
             Cmd::Show { window } => self.show(window),
+            Cmd::Off { window, at } => self.split_off(rt, window, at),
+            Cmd::To { window, at } => self.split_to(rt, window, at),
             Cmd::Len { window } => self.len(window),
             Cmd::Adv { window, by } => self.advance(window, by),
             Cmd::Trunc { window, len } => self.truncate(window, len),
@@ -263,6 +265,64 @@ where
         match Vec::from_slice(self.alloc, slot.as_slice()) {
             Ok(items) => Reply::Items(items),
             Err(_) => Reply::Alloc,
+        }
+    }
+
+    /// Splits a window, and hands out the back under the next number.
+    fn split_off(&mut self, rt: &impl Wait, i: usize, at: usize) -> Reply<Vec<S::Item, A>>
+        ensures rows { Step (setting_of L.STATIC L.clone_wants S.DROPS S.boundary) self.old.table
+            (command.Off i at) (seen_reply result) self.new.table }
+        ensures passes { Adds self.old.standing (command.Off i at) (seen_reply result)
+            self.new.standing }
+    {
+        let Some(slot) = slot_at(&self.slots, i) else {
+            return Reply::NoWindow;
+        };
+        if let Err(e) = slot.check_at(at) {
+            return Reply::Range(e);
+        }
+        if self.slots.reserve(1).is_err() {
+            return Reply::Alloc;
+        }
+        let Some(slot) = &mut self.slots[i] else {
+            unreachable!()
+        };
+        match slot.try_split_off(rt, at, &mut self.passes) {
+            Ok(slot) => {
+                let number = self.slots.len();
+                self.slots.push_reserved(Some(slot));
+                Reply::New(number)
+            }
+            Err(e) => Reply::Owner(e),
+        }
+    }
+
+    /// Splits a window, and hands out the front under the next number.
+    fn split_to(&mut self, rt: &impl Wait, i: usize, at: usize) -> Reply<Vec<S::Item, A>>
+        ensures rows { Step (setting_of L.STATIC L.clone_wants S.DROPS S.boundary) self.old.table
+            (command.To i at) (seen_reply result) self.new.table }
+        ensures passes { Adds self.old.standing (command.To i at) (seen_reply result)
+            self.new.standing }
+    {
+        let Some(slot) = slot_at(&self.slots, i) else {
+            return Reply::NoWindow;
+        };
+        if let Err(e) = slot.check_at(at) {
+            return Reply::Range(e);
+        }
+        if self.slots.reserve(1).is_err() {
+            return Reply::Alloc;
+        }
+        let Some(slot) = &mut self.slots[i] else {
+            unreachable!()
+        };
+        match slot.try_split_to(rt, at, &mut self.passes) {
+            Ok(slot) => {
+                let number = self.slots.len();
+                self.slots.push_reserved(Some(slot));
+                Reply::New(number)
+            }
+            Err(e) => Reply::Owner(e),
         }
     }
 

@@ -43,13 +43,13 @@ returns-clause-rows g c =
     let one = same_entry slots i c.in-Some.slot.now s got there in
     let may : edge_answer setting.boundary s.window.items c.args.by ≡ Ok tt =
     ap (λ (v : SlotView g.row.S-Item.Denot).
-        edge_answer setting.boundary v.window.items c.args.by) (sym one)
+    edge_answer setting.boundary v.window.items c.args.by) (sym one)
     ∙ sym c.in_default-check_at.ensures.answer in
     let found = λ (row : Row g.row.S-Item.Denot (Unit {0})).
     in_range (edge_answer setting.boundary row.items c.args.by) t (changed t i (advanced row c.args.by)) in
     subst (λ (o : State g.row.S-Item.Denot).
-        Step setting o.table (command.Adv i c.args.by) reply.Ok
-        (state_of (slice_set slots i (Some s')) passes).table)
+    Step setting o.table (command.Adv i c.args.by) reply.Ok
+    (state_of (slice_set slots i (Some s')) passes).table)
     c.self.view_is
     (answered slots passes i s there is_window found
     ∙ ap (λ a. in_range a t (changed t i (advanced (row_of s) c.args.by))) may
@@ -68,6 +68,6 @@ returns-clause-passes g c =
     ∙ ap Some c.in-Some-index_mut.is in
     let s' = c.advance.new.self in
     subst (λ (o : State g.row.S-Item.Denot).
-        Adds {T = g.row.S-Item.Denot} o.standing (command.Adv i c.args.by) reply.Ok
-        (state_of (slice_set slots i (Some s')) passes).standing)
+    Adds {T = g.row.S-Item.Denot} o.standing (command.Adv i c.args.by) reply.Ok
+    (state_of (slice_set slots i (Some s')) passes).standing)
     c.self.view_is (changed-added slots passes i s there s' c.advance.ensures.stand)

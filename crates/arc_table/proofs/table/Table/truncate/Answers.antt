@@ -44,7 +44,7 @@ returns-clause-rows g c =
     let one = same_entry slots i c.in-Some.slot.now s got there in
     let may : edge_answer setting.boundary s.window.items c.args.len ≡ Ok tt =
     ap (λ (v : SlotView g.row.S-Item.Denot).
-        edge_answer setting.boundary v.window.items c.args.len) (sym one)
+    edge_answer setting.boundary v.window.items c.args.len) (sym one)
     ∙ sym c.in_default-check_at.ensures.answer in
     let short : nat_lt c.args.len (length s.window.items) ≡ true =
     ap (λ (v : SlotView g.row.S-Item.Denot). nat_lt c.args.len (length v.window.items)) (sym one)
@@ -52,17 +52,17 @@ returns-clause-rows g c =
     (omega (arith, c.len.ensures, c.if-len.false)) in
     let found = λ (row : Row g.row.S-Item.Denot (Unit {0})).
     if nat_lt c.args.len (length row.items) then
-        in_range (edge_answer setting.boundary row.items c.args.len) t (changed t i (truncated row c.args.len))
+    in_range (edge_answer setting.boundary row.items c.args.len) t (changed t i (truncated row c.args.len))
     else (reply.Ok, t) in
     subst (λ (o : State g.row.S-Item.Denot).
-        Step setting o.table (command.Trunc i c.args.len) reply.Ok
-        (state_of (slice_set slots i (Some s')) passes).table)
+    Step setting o.table (command.Trunc i c.args.len) reply.Ok
+    (state_of (slice_set slots i (Some s')) passes).table)
     c.self.view_is
     (answered slots passes i s there may_truncate found
     ∙ ap (λ (b : Bool). if b then
-        in_range (edge_answer setting.boundary s.window.items c.args.len) t
-            (changed t i (truncated (row_of s) c.args.len))
-        else (reply.Ok, t)) short
+    in_range (edge_answer setting.boundary s.window.items c.args.len) t
+    (changed t i (truncated (row_of s) c.args.len))
+    else (reply.Ok, t)) short
     ∙ ap (λ a. in_range a t (changed t i (truncated (row_of s) c.args.len))) may
     ∙ changed-row slots passes i s there s' c.truncate.ensures.stand (truncated (row_of s) c.args.len)
     c.truncate.ensures.row)
@@ -79,6 +79,6 @@ returns-clause-passes g c =
     ∙ ap Some c.in-Some-index_mut.is in
     let s' = c.truncate.new.self in
     subst (λ (o : State g.row.S-Item.Denot).
-        Adds {T = g.row.S-Item.Denot} o.standing (command.Trunc i c.args.len) reply.Ok
-        (state_of (slice_set slots i (Some s')) passes).standing)
+    Adds {T = g.row.S-Item.Denot} o.standing (command.Trunc i c.args.len) reply.Ok
+    (state_of (slice_set slots i (Some s')) passes).standing)
     c.self.view_is (changed-added slots passes i s there s' c.truncate.ensures.stand)
