@@ -55,33 +55,32 @@ yes_or_no X true = tt
 yes_or_no X false = tt
 
 module _ {T M : Type 0} (setting : Setting T) (t : Table T M) where
-  split_ample : (i : ℕ) (kept handed made : Row T M) (full : Bool)
-      → IsAmple (if full then (reply.Owner CountFull, t) else (
-        reply.New (length t.rows),
-        record { rows = slice_set t.rows i (Some kept) ++ Some handed ∷ []; blocks = t.blocks },
-      )).0
-  split_ample i kept handed made true = tt
-  split_ample i kept handed made false = tt
-
   either_ample : (b : Bool) (one other : Outcome T M) → IsAmple one.0 → IsAmple other.0
       → IsAmple (if b then one else other).0
   either_ample true one other h k = h
   either_ample false one other h k = k
 
+  split_ample : (i : ℕ) (kept handed made : Row T M) → IsAmple (split t i kept handed made).0
+  split_ample i kept handed made =
+      either_ample (is_full t made.place) (reply.Owner CountFull, t) (
+        reply.New (length t.rows),
+        record { rows = slice_set t.rows i (Some kept) ++ Some handed ∷ []; blocks = t.blocks },
+      ) tt tt
+
   off_ample : (i : ℕ) (row : Row T M) (at : ℕ) → IsAmple (split_off setting t i row at).0
   off_ample i row at =
       let made = off_part setting row at in
       either_ample (at == 0) (split t i made row made) (split t i (cut_row row 0 at) made made)
-      (split_ample i made row made (is_full t made.place))
-      (split_ample i (cut_row row 0 at) made made (is_full t made.place))
+      (split_ample i made row made)
+      (split_ample i (cut_row row 0 at) made made)
 
   to_ample : (i : ℕ) (row : Row T M) (at : ℕ) → IsAmple (split_to setting t i row at).0
   to_ample i row at =
       let made = to_part setting row at in
       let kept = cut_row row at (length row.items) in
       either_ample (at == length row.items) (split t i made row made) (split t i kept made made)
-      (split_ample i made row made (is_full t made.place))
-      (split_ample i kept made made (is_full t made.place))
+      (split_ample i made row made)
+      (split_ample i kept made made)
 
   short_ample : (i : ℕ) (row : Row T M) (len : ℕ) (short : Bool)
       → IsAmple (if short then

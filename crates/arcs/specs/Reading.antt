@@ -108,6 +108,8 @@ abbrev pub making_forms : List Form
 making_forms =
     entry (codes "clone") (ANumber ∷ []) command.Clone ∷
     entry (codes "sub") (ANumber ∷ ANumber ∷ ANumber ∷ []) command.Sub ∷
+    entry (codes "off") (ANumber ∷ ANumber ∷ []) command.Off ∷
+    entry (codes "to") (ANumber ∷ ANumber ∷ []) command.To ∷
     []
 
 abbrev pub asking_forms : List Form

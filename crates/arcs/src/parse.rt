@@ -243,6 +243,14 @@ fn plain_command<A: Allocator>(verb: &[u8], rest: Rest) -> Option<Cmd<Vec<u8, A>
             let (window, start, end) = three_numbers(rest)?;
             Some(Cmd::Sub { window, start, end })
         }
+        b"off" => {
+            let (window, at) = two_numbers(rest)?;
+            Some(Cmd::Off { window, at })
+        }
+        b"to" => {
+            let (window, at) = two_numbers(rest)?;
+            Some(Cmd::To { window, at })
+        }
         _ => asking(verb, rest),
     }
 }

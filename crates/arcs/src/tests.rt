@@ -47,7 +47,7 @@ const LEFT: &[u8] =
 const LEFT_REPLIES: &[u8] = b"h0\nh1\nh2\nh3\nh4\nh5\nh6\nno\nok\nok\nh7\nyes\nno\n4243\n";
 
 /// Scripts, each with its replies.
-const SCRIPTS: [(&[u8], &[u8]); 20] = [
+const SCRIPTS: [(&[u8], &[u8]); 25] = [
     (HELLO, HELLO_REPLIES),
     (
         b"sub 0 0 1\nslice 0A\nslice -\nshow 0",
@@ -70,6 +70,26 @@ const SCRIPTS: [(&[u8], &[u8]); 20] = [
     (
         b"uniq\nuniq x\nuniq 0 1\nuniq 5\n",
         b"bad line\nbad line\nbad line\nno window\n",
+    ),
+    (
+        b"slice 48656c6c6f20776f726c64\nto 0 6\nshow 0\nshow 1\noff 0 0\nshow 0\nshow 2\nlen 0\nadv 2 6\n",
+        b"h0\nh1\n776f726c64\n48656c6c6f20\nh2\n-\n776f726c64\n0\nout of range\n",
+    ),
+    (
+        b"slice 41424344\nadv 0 1\nshow 0\ntrunc 0 2\nshow 0\ntrunc 0 9\nlen 0\nadv 0 3\nadv 0 2\nlen 0\nlen 1\n",
+        b"h0\nok\n424344\nok\n4243\nok\n2\nout of range\nok\n0\nno window\n",
+    ),
+    (
+        b"slice 4142\noff 0 1\nto 0 1\nshow 0\nshow 1\nshow 2\nuniq 2\ndrop 1\nuniq 2\nuniq 0\noff 0 1\nto 2 2\n",
+        b"h0\nh1\nh2\n-\n42\n41\nno\nok\nyes\nno\nout of range\nout of range\n",
+    ),
+    (
+        b"off 0 0\nto 0 0\nadv 0 0\ntrunc 0 0\nlen 0\n",
+        b"no window\nno window\nno window\nno window\nno window\n",
+    ),
+    (
+        b"len\nlen 0 0\noff 0\nto 0\nadv 0\ntrunc 0\noff 0 0 0\nto x 0\nadv 0 -\ntrunc 0 00\n",
+        b"bad line\nbad line\nbad line\nbad line\nbad line\nbad line\nbad line\nbad line\nbad line\nbad line\n",
     ),
     (b"", b""),
     (b"\n", b"bad line\n"),
