@@ -1,28 +1,23 @@
 -- What commands do to the windows as a whole, and what of it the table and the texts see.
-use Rattle.std.proofs.Common.{◌≡◌, ℕ, ◌+◌, List, [], ◌∷◌, ◌++◌, map, Option, Some, None}
-use Rattle.std.proofs.Common.{ap, refl, sym, ◌∙◌, subst, arith}
+use Rattle.std.proofs.Common.{ℕ, List, Option, Some, None}
+use Rattle.std.proofs.Common.{ap, sym, ◌∙◌, subst}
 use Rattle.std.proofs.lemmas.List.{append-nil}
-use Rattle.std.proofs.lemmas.List.FromFn.{map-range_with_len_more}
 use Rattle.std.specs.Option.{option_map}
-use Rattle.arc_owners.specs.count.Calls.{Owner}
-use Rattle.arc_block.specs.Place.{Place, nowhere, static_data, on_block}
-use Rattle.arc_block.specs.Table.{block_of}
 use Rattle.arc_table.specs.RunOf.{RunOf}
 use Rattle.arcs.specs.Script.{AreLines, Answers, IsReplyText, BeginsReplyText}
 use Rattle.arcs.specs.Seen.{IsReadAs}
 use Rattle.arc_table.specs.Seen.{seen_command}
-use Rattle.arc_table.specs.State.{empty_state, row_block, stand_block, Agrees, CarriesOut}
+use Rattle.arc_table.specs.State.{empty_state}
 use Rattle.arcs.specs.State.{ByteState}
-use Rattle.arc_table.specs.State.{drops}
 use Rattle.arcs.specs.State.{CarriesOutSaid, AnswersLine}
 use Rattle.arcs.specs.Traffic.{Traffic, Exchanges}
 use Rattle.arcs.specs.Underway.{IsThrough, IsBrokenOff}
 use Rattle.arc_table.specs.declared.command.Cmd.{Cmd}
-use Rattle.arc_table.specs.declared.command.Cmd.TheVariants.{Drop}
 use Rattle.arc_table.specs.declared.command.Reply.{Reply}
+use Rattle.arcs.specs.declared.script.ScriptError.{ScriptError}
 use Rattle.std.specs.declared.vec.Vec.{Vec}
 use Rattle.arcs.proofs.Lines.{begins}
-use Rattle.arc_table.proofs.Runs.{run_push, run_seen}
+use Rattle.arc_table.proofs.Runs.{run_seen}
 
 -- a line that was read is answered
 pub line_carried_out : {A : Type 0} (old : ByteState) (said : Option (Cmd (Vec ℕ A)))
@@ -58,9 +53,9 @@ through_text state input text h = record {
 }
 
 -- and of one that was broken off, a beginning of one
-pub broken_text : (state : ByteState) (input text : List ℕ)
-    → IsBrokenOff state input text → BeginsReplyText input text
-broken_text state input text h =
+pub broken_text : (fault : ScriptError) (state : ByteState) (input text : List ℕ)
+    → IsBrokenOff fault state input text → BeginsReplyText input text
+broken_text fault state input text h =
     let run = h.2 in
     begins input text h.1 run.lines h.0 run.replies state.table run.cut
     (table_run empty_state run.lines run.replies state run.run) run.written

@@ -12,7 +12,9 @@ use Rattle.arcs.specs.Text.{line_feed}
 use Rattle.arcs.specs.Script.{HasNoFeed, AreLines, ended, last_line, answer_text, IsReplyText}
 use Rattle.arcs.specs.Traffic.{Traffic, TakesFront}
 use Rattle.arcs.specs.Underway.{AnswersHeld, Holds, IsUnderway, IsAnswered}
-use Rattle.arcs.specs.Underway.{IsBegun, Ends, MayEnd}
+use Rattle.arcs.specs.Underway.{IsBegun, Ends, MayEnd, MayLack}
+use Rattle.arcs.specs.declared.script.ScriptError.{ScriptError}
+use Rattle.arcs.specs.declared.script.ScriptError.TheVariants.{Read, Write, Alloc}
 use Rattle.arc_table.specs.declared.command.Reply.{Reply}
 use Rattle.arc_table.proofs.Runs.{run_push}
 use Rattle.arcs.proofs.Lines.{run_exists}
@@ -64,6 +66,56 @@ held_is_line : (held line : List ℕ) (too_long : Bool) → (held ≡ [] → too
 held_is_line held [] false some holds = absurd (some holds refl)
 held_is_line held [] true some holds = absurd (omega arith)
 held_is_line held (byte ∷ bytes) too_long some holds = refl
+
+-- a fault need leave nothing unwritten
+none_lacks : (fault : ScriptError) → MayLack fault []
+none_lacks Read = refl
+none_lacks Write = tt
+none_lacks Alloc = inl refl
+
+module _ {fault : ScriptError} {start input out : List ℕ} {writer : Traffic} {state : ByteState}
+    (b : IsBegun fault start input writer out state) where
+  -- after a fault what is held goes out
+  pub begun_out : (writer' : Traffic) → writer'.bytes ≡ writer.bytes ++ out
+      → IsBegun fault start input writer' [] state
+  begun_out writer' taken = record {
+    text = b.text ++ out;
+    left = b.left;
+    lacking = b.lacking;
+    taken = taken ∙ ap (λ xs. xs ++ out) b.taken ∙ append_assoc start b.text out;
+    begins = record {
+      lines = b.begins.lines;
+      replies = b.begins.replies;
+      cut = b.begins.cut;
+      run = b.begins.run;
+      written = append_assoc b.text out b.lacking ∙ b.begins.written;
+    };
+    lacks = b.lacks;
+  }
+
+  -- or a front of it, where a write fails then
+  pub begun_front : (writer' : Traffic) → TakesFront out writer writer'
+      → IsBegun Write start input writer' [] state
+  begun_front writer' front = record {
+    text = b.text ++ front.sent;
+    left = b.left;
+    lacking = front.rest ++ b.lacking;
+    taken =
+        front.taken ∙ ap (λ xs. xs ++ front.sent) b.taken
+        ∙ append_assoc start b.text front.sent;
+    begins = record {
+      lines = b.begins.lines;
+      replies = b.begins.replies;
+      cut = b.begins.cut;
+      run = b.begins.run;
+      written =
+          append_assoc b.text front.sent (front.rest ++ b.lacking)
+          ∙ ap (λ xs. b.text ++ xs)
+          (sym (append_assoc front.sent front.rest b.lacking)
+          ∙ ap (λ xs. xs ++ b.lacking) (sym front.parts)) ∙ b.begins.written;
+    };
+    lacks = tt;
+  }
 
 -- before the first byte
 pub nothing_read : (writer : Traffic) (state : ByteState) → state ≡ empty_state
@@ -161,43 +213,32 @@ module _ {start input out held : List ℕ} {writer : Traffic} {state : ByteState
     written = append-nil (u.text ++ out) ∙ u.written;
   }
 
-  -- whatever is read more, what was written begins the replies
-  pub begun : (more : List ℕ) (writer' : Traffic) → TakesFront out writer writer'
-      → IsBegun start (input ++ more) writer' state
-  begun more writer' front =
+  -- whatever is read more, what was written and what is held begins the replies
+  pub still_begun : (fault : ScriptError) (more : List ℕ)
+      → IsBegun fault start (input ++ more) writer out state
+  still_begun fault more =
       let cut = cut_behind u.whole u.line more input u.each u.cut in
       record {
-        text = u.text ++ front.sent;
-        taken =
-            front.taken ∙ ap (λ xs. xs ++ front.sent) u.taken
-            ∙ append_assoc start u.text front.sent;
-        begins = (
-          cut.0,
-          front.rest,
-          record {
-            lines = u.whole;
-            replies = u.replies;
-            cut = cut.1;
-            run = u.run;
-            written =
-                append_assoc u.text front.sent front.rest
-                ∙ ap (λ xs. u.text ++ xs) (sym front.parts) ∙ u.written;
-          },
-        );
+        text = u.text;
+        left = cut.0;
+        lacking = [];
+        taken = u.taken;
+        begins = record {
+          lines = u.whole;
+          replies = u.replies;
+          cut = cut.1;
+          run = u.run;
+          written = ap (λ xs. u.text ++ xs) (append-nil out) ∙ u.written;
+        };
+        lacks = none_lacks fault;
       }
-
-  -- nothing more was written
-  pub still_begun : (more : List ℕ) → IsBegun start (input ++ more) writer state
-  still_begun more =
-      begun more writer
-      (record { sent = []; rest = out; parts = refl; taken = sym (append-nil writer.bytes) })
 
   -- so also where a line feed has come, and the line isn't answered, or not in out
   pub line_broken : (state' : ByteState) (more : List ℕ) → MayEnd held too_long state state'
-      → IsBegun start (input ++ (line_feed ∷ [] ++ more)) writer state'
+      → IsBegun Alloc start (input ++ (line_feed ∷ [] ++ more)) writer out state'
   line_broken state' more (inl same) =
-      subst (IsBegun start (input ++ (line_feed ∷ [] ++ more)) writer) (sym same)
-      (still_begun (line_feed ∷ [] ++ more))
+      subst (IsBegun Alloc start (input ++ (line_feed ∷ [] ++ more)) writer out) (sym same)
+      (still_begun Alloc (line_feed ∷ [] ++ more))
   line_broken state' more (inr does) =
       let lines = u.whole ++ u.line ∷ [] in
       let cut =
@@ -205,20 +246,19 @@ module _ {start input out held : List ℕ} {writer : Traffic} {state : ByteState
       (one_ended ∙ sym (append-nil (ended lines))) in
       record {
         text = u.text;
+        left = cut.0;
+        lacking = answer_text does.0 ++ line_feed ∷ [];
         taken = u.taken;
-        begins = (
-          cut.0,
-          out ++ (answer_text does.0 ++ line_feed ∷ []),
-          record {
-            lines = lines;
-            replies = u.replies ++ does.0 ∷ [];
-            cut =
-                subst (λ xs. AreLines xs (lines ++ cut.0))
-                (append_assoc input (line_feed ∷ []) more) cut.1;
-            run = run_on does.0 state' does.1;
-            written = one_answered does.0;
-          },
-        );
+        begins = record {
+          lines = lines;
+          replies = u.replies ++ does.0 ∷ [];
+          cut =
+              subst (λ xs. AreLines xs (lines ++ cut.0)) (append_assoc input (line_feed ∷ []) more)
+              cut.1;
+          run = run_on does.0 state' does.1;
+          written = one_answered does.0;
+        };
+        lacks = inr (does.0, refl);
       }
 
   -- at the end of the input what is held of a line is the last line
@@ -252,24 +292,24 @@ module _ {start input out held : List ℕ} {writer : Traffic} {state : ByteState
 
     -- or not, or not in out
     pub last_broken : (state' : ByteState) → MayEnd held too_long state state'
-        → IsBegun start input writer state'
+        → IsBegun Alloc start input writer out state'
     last_broken state' (inl same) =
-        subst (IsBegun start input writer) (sym same)
-        (subst (λ xs. IsBegun start xs writer state) (append-nil input) (still_begun []))
+        subst (IsBegun Alloc start input writer out) (sym same)
+        (subst (λ xs. IsBegun Alloc start xs writer out state) (append-nil input)
+        (still_begun Alloc []))
     last_broken state' (inr does) = record {
       text = u.text;
+      left = [];
+      lacking = answer_text does.0 ++ line_feed ∷ [];
       taken = u.taken;
-      begins = (
-        [],
-        out ++ (answer_text does.0 ++ line_feed ∷ []),
-        record {
-          lines = u.whole ++ u.line ∷ [];
-          replies = u.replies ++ does.0 ∷ [];
-          cut = last_cut;
-          run = run_on does.0 state' does.1;
-          written = one_answered does.0;
-        },
-      );
+      begins = record {
+        lines = u.whole ++ u.line ∷ [];
+        replies = u.replies ++ does.0 ∷ [];
+        cut = last_cut;
+        run = run_on does.0 state' does.1;
+        written = one_answered does.0;
+      };
+      lacks = inr (does.0, refl);
     }
 
 -- at the end of the input nothing is left of a line
@@ -310,32 +350,29 @@ all_out {start} {input} {out} writer' a taken = record {
   };
 }
 
-pub end_begun : {start input out : List ℕ} {writer : Traffic} {state : ByteState} (writer' : Traffic)
-    → IsAnswered start input writer out state → TakesFront out writer writer'
-    → IsBegun start input writer' state
-end_begun {start} {input} {out} writer' a front = record {
-  text = a.text ++ front.sent;
-  taken =
-      front.taken ∙ ap (λ xs. xs ++ front.sent) a.taken ∙ append_assoc start a.text front.sent;
-  begins = (
-    [],
-    front.rest,
-    record {
-      lines = a.all.lines;
-      replies = a.all.replies;
-      cut = a.all.cut;
-      run = a.all.run;
-      written =
-          append_assoc a.text front.sent front.rest
-          ∙ ap (λ xs. a.text ++ xs) (sym front.parts) ∙ a.all.written;
-    },
-  );
+-- or a fault comes before that
+pub answered_begun : {start input out : List ℕ} {writer : Traffic} {state : ByteState}
+    (fault : ScriptError) → IsAnswered start input writer out state
+    → IsBegun fault start input writer out state
+answered_begun {out = out} fault a = record {
+  text = a.text;
+  left = [];
+  lacking = [];
+  taken = a.taken;
+  begins = record {
+    lines = a.all.lines;
+    replies = a.all.replies;
+    cut = a.all.cut;
+    run = a.all.run;
+    written = ap (λ xs. a.text ++ xs) (append-nil out) ∙ a.all.written;
+  };
+  lacks = none_lacks fault;
 }
 
 -- of nothing that was read nothing was written
-pub begun_nothing : (writer : Traffic) (state : ByteState) → state ≡ empty_state
-    → IsBegun writer.bytes [] writer state
-begun_nothing writer state empty = still_begun (nothing_read writer state empty) []
+pub begun_nothing : (fault : ScriptError) (writer : Traffic) (state : ByteState)
+    → state ≡ empty_state → IsBegun fault writer.bytes [] writer [] state
+begun_nothing fault writer state empty = still_begun (nothing_read writer state empty) fault []
 
 -- each input has a reply text
 pub reply_text_exists : (input : List ℕ) → (text : List ℕ) × IsReplyText input text

@@ -1,7 +1,7 @@
 -- A script that is being run: what was read and written so far, what is still held, and what the
 -- commands did to the windows and to the histories of their blocks.
 use Rattle.std.specs.Prelude.{◌≡◌, ℕ, ◌<◌, Bool, true, false, List, [], ◌∷◌, ◌++◌, map, length}
-use Rattle.std.specs.Prelude.{Option, ◌⊎◌}
+use Rattle.std.specs.Prelude.{Option, ◌⊎◌, ⊤}
 use Rattle.std.specs.List.{AllByRecursion}
 use Rattle.arc_owners.specs.declared.count.tokens.Pass.{Pass}
 use Rattle.arc_owners.specs.declared.mark.Whole.{Whole}
@@ -12,6 +12,8 @@ use Rattle.arcs.specs.Text.{longest_line, line_feed}
 use Rattle.arcs.specs.Script.{AreLines, HasNoFeed, byte_setting, ended, answer_text}
 use Rattle.arcs.specs.Traffic.{Traffic}
 use Rattle.arc_table.specs.declared.command.Reply.{Reply}
+use Rattle.arcs.specs.declared.script.ScriptError.{ScriptError}
+use Rattle.arcs.specs.declared.script.ScriptError.TheVariants.{Read, Write, Alloc}
 
 -- From no window on, a run over the lines of the input, but for those that are left, led to this
 -- state. Its replies are the text and what is unwritten.
@@ -27,15 +29,25 @@ pub record HasRun (state : ByteState) (input text : List ℕ) (left : List (List
 abbrev pub IsThrough : ByteState → List ℕ → List ℕ → Type 0
 IsThrough state input text = HasRun state input text [] []
 
--- it was broken off
-abbrev pub IsBrokenOff : ByteState → List ℕ → List ℕ → Type 0
-IsBrokenOff state input text =
-    (left : List (List ℕ)) × (unwritten : List ℕ) × HasRun state input text left unwritten
+-- What a fault may leave unwritten of the replies: nothing where a read failed, one reply at most
+-- where memory was refused, which may have been refused for that reply, and anything where a write
+-- failed.
+abbrev pub MayLack : ScriptError → List ℕ → Type 0
+MayLack Read unwritten = unwritten ≡ []
+MayLack Write unwritten = ⊤
+MayLack Alloc unwritten = (unwritten ≡ []) ⊎ ((answer : Option (Reply (List ℕ)))
+    × (unwritten ≡ answer_text answer ++ line_feed ∷ []))
+
+-- it was broken off by this fault
+abbrev pub IsBrokenOff : ScriptError → ByteState → List ℕ → List ℕ → Type 0
+IsBrokenOff fault state input text = (left : List (List ℕ)) × (unwritten : List ℕ)
+    × HasRun state input text left unwritten × MayLack fault unwritten
 
 -- after such a run every window that was left ended, and these are the passes of the blocks
 abbrev pub ThenEnds : (ByteState → List ℕ → List ℕ → Type 0) → List (Pass Whole) → List ℕ → List ℕ
     → Type 0
-ThenEnds ran passes input text = (state : ByteState) × ran state input text × EndsWith byte_setting state passes
+ThenEnds ran passes input text = (state : ByteState) × ran state input text
+    × EndsWith byte_setting state passes
 
 -- what is held of the line that is coming: all of it, or only that it is too long
 abbrev pub Holds : List ℕ → Bool → List ℕ → Type 0
@@ -66,12 +78,17 @@ pub record IsAnswered (start input : List ℕ) (writer : Traffic) (out : List �
   pub taken : writer.bytes ≡ start ++ text
   pub all : HasRun state input text [] out
 
--- Since the writer had taken start, this input was read, some first lines were answered, and a
--- beginning of the replies was taken.
-pub record IsBegun (start input : List ℕ) (writer : Traffic) (state : ByteState) : Type 0 where
+-- Since the writer had taken start, this input was read, and some first lines were answered, when
+-- this fault came. A beginning of the replies was taken; behind it come those in out, and then what
+-- the fault left out of them.
+pub record IsBegun (fault : ScriptError) (start input : List ℕ) (writer : Traffic) (out : List ℕ)
+    (state : ByteState) : Type 0 where
   pub text : List ℕ
+  pub left : List (List ℕ)
+  pub lacking : List ℕ
   pub taken : writer.bytes ≡ start ++ text
-  pub begins : IsBrokenOff state input text
+  pub begins : HasRun state input text left (out ++ lacking)
+  pub lacks : MayLack fault lacking
 
 -- whatever line was held, it is answered so
 abbrev pub AnswersHeld : List ℕ → Bool → ByteState → Option (Reply (List ℕ)) → ByteState → Type 0

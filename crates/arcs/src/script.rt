@@ -186,11 +186,12 @@ impl<A: Allocator + Copy> Engine<A> {
         Ok(())
     }
 
-    /// Writes the replies that are held.
+    /// Writes the replies that are held. None is held afterwards, also where the write failed:
+    /// nothing goes out behind a gap.
     fn flush<W: Sink>(&mut self, writer: &mut W) -> Result<(), ScriptError>
         ensures ok { OnOk result
-            (((W.traffic writer.new).bytes ≡ (W.traffic writer.old).bytes ++ self.old.out.items)
-            × (self.new.out.items ≡ [])) }
+            ((W.traffic writer.new).bytes ≡ (W.traffic writer.old).bytes ++ self.old.out.items) }
+        ensures out { self.new.out.items ≡ [] }
         ensures windows { self.new.table ≡ self.old.table }
         ensures line { (self.new.line.items ≡ self.old.line.items)
             × (self.new.too_long ≡ self.old.too_long) }
@@ -199,15 +200,16 @@ impl<A: Allocator + Copy> Engine<A> {
         ensures clean { OnOk result (NoFault (W.traffic writer.old) (W.traffic writer.new)) }
         ensures err { OnErr result
             (TakesFront self.old.out.items (W.traffic writer.old) (W.traffic writer.new)) }
+        ensures write { IfErr result (λ e. e ≡ ScriptError.Write) }
         ensures fault { IfErr result (IsWhy (W.traffic writer.old) (W.traffic writer.new)) }
     {
-        write_out(writer, &self.out)?;
+        let written = write_out(writer, &self.out);
         self.out.clear();
-        Ok(())
+        written
     }
 
     /// Takes the end of a line and its line feed, and answers the line. Replies go out where many
-    /// are held.
+    /// are held, so that between two lines fewer than `PIECE` bytes of them are held.
     fn take_line<W: Sink>(
         &mut self,
         rt: &impl Wait,
@@ -215,13 +217,14 @@ impl<A: Allocator + Copy> Engine<A> {
         bytes: &[u8],
     ) -> Result<(), ScriptError>
         requires { HasNoFeed bytes.now }
+        ensures few { length self.old.out.items < PIECE → length self.new.out.items < PIECE }
         ensures ok { OnOk result
             (Reads (bytes.now ++ line_feed ∷ []) (W.traffic writer.old)
             (W.traffic writer.new) self.old self.new) }
         ensures taken { Takes (W.traffic writer.old) (W.traffic writer.new)
             (W.contents writer.old) (W.contents writer.new) }
         ensures clean { OnOk result (NoFault (W.traffic writer.old) (W.traffic writer.new)) }
-        ensures err { OnErr result
+        ensures err { IfErr result
             (Stops (bytes.now ++ line_feed ∷ []) (W.traffic writer.old)
             (W.traffic writer.new) self.old self.new) }
         ensures fault { IfErr result (IsWhy (W.traffic writer.old) (W.traffic writer.new)) }
@@ -241,12 +244,13 @@ impl<A: Allocator + Copy> Engine<A> {
         writer: &mut W,
         piece: &[u8],
     ) -> Result<(), ScriptError>
+        ensures few { length self.old.out.items < PIECE → length self.new.out.items < PIECE }
         ensures ok { OnOk result
             (Reads piece.now (W.traffic writer.old) (W.traffic writer.new) self.old self.new) }
         ensures taken { Takes (W.traffic writer.old) (W.traffic writer.new)
             (W.contents writer.old) (W.contents writer.new) }
         ensures clean { OnOk result (NoFault (W.traffic writer.old) (W.traffic writer.new)) }
-        ensures err { OnErr result
+        ensures err { IfErr result
             (Stops piece.now (W.traffic writer.old) (W.traffic writer.new) self.old self.new) }
         ensures fault { IfErr result (IsWhy (W.traffic writer.old) (W.traffic writer.new)) }
     {
@@ -259,8 +263,8 @@ impl<A: Allocator + Copy> Engine<A> {
         Ok(())
     }
 
-    /// Reads a piece of the input, answers its lines and writes their replies. `false` at the end
-    /// of the input.
+    /// Reads a piece of the input, answers its lines and writes their replies, also those to the
+    /// lines before one for which memory was refused. `false` at the end of the input.
     fn take_piece<R: Source, W: Sink>(
         &mut self,
         rt: &impl Wait,
@@ -280,9 +284,9 @@ impl<A: Allocator + Copy> Engine<A> {
         ensures taken { Takes (W.traffic writer.old) (W.traffic writer.new)
             (W.contents writer.old) (W.contents writer.new) }
         ensures drained { IfOk result (λ more. more ≡ false → IsAtEnd (R.remaining reader.new)) }
-        ensures begun { OnErr result ((r w : Traffic)
+        ensures begun { IfErr result (λ fault. (r w : Traffic)
             → IsRunning r (R.traffic reader.old) w (W.traffic writer.old) self.old
-            → Exchanges (IsBrokenOff self.new.table) r (R.traffic reader.new)
+            → Exchanges (IsBrokenOff fault self.new.table) r (R.traffic reader.new)
             w (W.traffic writer.new)) }
         ensures fault { IfErr result
             (IsCause (R.traffic reader.old) (R.traffic reader.new) (W.traffic writer.old)
@@ -294,8 +298,11 @@ impl<A: Allocator + Copy> Engine<A> {
         if read == 0 {
             return Ok(false);
         }
-        self.feed(rt, writer, &piece[..read])?;
+        // A write that fails is the fault, also where memory was refused before: `Alloc` says that
+        // every reply that had room was taken.
+        let fed = self.feed(rt, writer, &piece[..read]);
         self.flush(writer)?;
+        fed?;
         Ok(true)
     }
 
@@ -306,7 +313,7 @@ impl<A: Allocator + Copy> Engine<A> {
             → IsAnswered start input writer self.new.out.items self.new.table) }
         ensures err { OnErr result ((start input : List ℕ) (writer : Traffic)
             → HasRead start input writer self.old
-            → IsBegun start input writer self.new.table) }
+            → IsBegun ScriptError.Alloc start input writer self.new.out.items self.new.table) }
     {
         if !self.too_long && self.line.is_empty() {
             return Ok(());
@@ -315,7 +322,8 @@ impl<A: Allocator + Copy> Engine<A> {
         Ok(())
     }
 
-    /// Answers what stands behind the last line feed, unless it is empty, and writes what is held.
+    /// Answers what stands behind the last line feed, unless it is empty, and writes what is held,
+    /// also where memory was refused for that line.
     fn finish<W: Sink>(&mut self, rt: &impl Wait, writer: &mut W) -> Result<(), ScriptError>
         ensures ok { OnOk result ((start input : List ℕ)
             → HasRead start input (W.traffic writer.old) self.old
@@ -323,13 +331,14 @@ impl<A: Allocator + Copy> Engine<A> {
         ensures taken { Takes (W.traffic writer.old) (W.traffic writer.new)
             (W.contents writer.old) (W.contents writer.new) }
         ensures clean { OnOk result (NoFault (W.traffic writer.old) (W.traffic writer.new)) }
-        ensures err { OnErr result ((start input : List ℕ)
+        ensures err { IfErr result (λ fault. (start input : List ℕ)
             → HasRead start input (W.traffic writer.old) self.old
-            → IsBegun start input (W.traffic writer.new) self.new.table) }
+            → IsBegun fault start input (W.traffic writer.new) [] self.new.table) }
         ensures fault { IfErr result (IsWhy (W.traffic writer.old) (W.traffic writer.new)) }
     {
-        self.answer_rest(rt)?;
+        let answered = self.answer_rest(rt);
         self.flush(writer)?;
+        answered?;
         Ok(())
     }
 
@@ -358,8 +367,8 @@ impl<A: Allocator + Copy> Engine<A> {
         ensures clean { OnOk result
             (((R.traffic reader.new).failures ≡ (R.traffic reader.old).failures)
             × NoFault (W.traffic writer.old) (W.traffic writer.new)) }
-        ensures begun { OnErr result
-            (Exchanges (IsBrokenOff self.new.table) (R.traffic reader.old)
+        ensures begun { IfErr result (λ fault.
+            Exchanges (IsBrokenOff fault self.new.table) (R.traffic reader.old)
             (R.traffic reader.new) (W.traffic writer.old) (W.traffic writer.new)) }
         ensures fault { IfErr result
             (IsCause (R.traffic reader.old) (R.traffic reader.new) (W.traffic writer.old)
@@ -430,8 +439,8 @@ fn run_to_end<R: Source, W: Sink, A: Allocator + Copy>(
         (((R.traffic reader.new).failures ≡ (R.traffic reader.old).failures)
         × NoFault (W.traffic writer.old) (W.traffic writer.new)) }
     ensures ended { IsKept MAX_OWNERS [] result.1.of_blocks.items }
-    ensures begun { OnErr result.0
-        (Exchanges (ThenEnds IsBrokenOff result.1.of_blocks.items) (R.traffic reader.old)
+    ensures begun { IfErr result.0 (λ fault.
+        Exchanges (ThenEnds (IsBrokenOff fault) result.1.of_blocks.items) (R.traffic reader.old)
         (R.traffic reader.new) (W.traffic writer.old) (W.traffic writer.new)) }
     ensures fault { IfErr result.0
         (IsCause (R.traffic reader.old) (R.traffic reader.new) (W.traffic writer.old)
@@ -449,7 +458,8 @@ fn run_to_end<R: Source, W: Sink, A: Allocator + Copy>(
 /// writes the replies when a piece is done and whenever 65,536 bytes of them are held. `Read` where
 /// a read failed, `Write` where a write failed or took nothing, `Alloc` where memory was refused
 /// for a line, for its items or for replies that are held; what was written is then a beginning of
-/// the replies. Each window is released at the end and on every fault.
+/// the replies: all of those to the lines that were carried out where a read failed, and all but
+/// one at most where memory was refused. Each window is released at the end and on every fault.
 pub fn run_script<R: Source, W: Sink, A: Allocator + Copy>(
     rt: &impl Wait,
     alloc: A,

@@ -541,6 +541,43 @@ fn line_refused(rt: HostRuntime) -> Result<(), Fail> {
     Ok(())
 }
 
+/// One piece of input, in the midst of which memory is refused: for a line, for its items, and for
+/// the reply to it. The replies to the lines before come out.
+#[test]
+fn refused_in_a_piece(rt: HostRuntime) -> Result<(), Fail> {
+    let mut line = Vec::from_slice(rt.alloc(), HELLO)?;
+    line.extend_from_slice(b"show ")?;
+    push_digits(&mut line, 20_000)?;
+    let mut items = Vec::from_slice(rt.alloc(), HELLO)?;
+    items.extend_from_slice(&slice_line(rt.alloc(), 20_000)?)?;
+    let mut reply = slice_line(rt.alloc(), 20_000)?;
+    reply.extend_from_slice(b"show 0\n")?;
+    for (script, size, replies) in [
+        (line, 80_000, HELLO_REPLIES),
+        (items, 90_000, HELLO_REPLIES),
+        (reply, 122_000, b"h0\n".as_slice()),
+    ] {
+        let heap = LocalHeap::new(rt.alloc(), size)?;
+        let mut reader = Pieces::new(&script, usize::MAX);
+        let mut writer = Taken::new(rt.alloc(), usize::MAX);
+        let ran = run(&rt, &heap, &mut reader, &mut writer);
+        assert_eq!(rt; ran, Err(ScriptError::Alloc), "in {size} bytes");
+        assert_eq!(rt; writer.bytes.as_slice(), replies, "in {size} bytes");
+        assert_eq!(rt; heap.used(), 0, "in {size} bytes");
+        let mut reader = Pieces::new(&script, usize::MAX);
+        let mut writer = Taken::failing(rt.alloc(), 2, 2);
+        let ran = run(&rt, &heap, &mut reader, &mut writer);
+        assert_eq!(rt; ran, Err(ScriptError::Write), "in {size} bytes");
+        assert_eq!(rt;
+            writer.bytes.as_slice(),
+            b"h0".as_slice(),
+            "in {size} bytes"
+        );
+        assert_eq!(rt; heap.used(), 0, "in {size} bytes");
+    }
+    Ok(())
+}
+
 /// Every piece of memory is given back at the end of a run, whatever windows are left: after the
 /// last line, and where a read or a write fails in mid-stream.
 #[test]

@@ -1,7 +1,7 @@
 -- What was written is the text that the tables of the run say.
 use Rattle.arcs.specs.Script.{IsReplyText, BeginsReplyText}
 use Rattle.arcs.specs.Underway.{IsThrough, IsBrokenOff, ThenEnds}
-use Rattle.arcs.proofs.Going.{on_ok_then, on_err_then}
+use Rattle.arcs.proofs.Going.{on_ok_then, if_err_then}
 use Rattle.arcs.proofs.States.{exchange_as, through_text, broken_text}
 use Rattle.arcs.proofs.script.run_script.Goals as goal
 
@@ -15,6 +15,7 @@ returns-clause-ok g c =
 pub returns-clause-begun : goal.returns-clause-begun
 returns-clause-begun g c =
     let ran = c.run_to_end-result in
-    on_err_then ran.result.0 ran.ensures.begun
-    (exchange_as (ThenEnds IsBrokenOff ran.result.1.of_blocks.items) BeginsReplyText _ _ _ _
-    (λ input text h. broken_text h.0 input text h.1))
+    let passes = ran.result.1.of_blocks.items in
+    if_err_then ran.result.0 ran.ensures.begun (λ fault.
+    exchange_as (ThenEnds (IsBrokenOff fault) passes) BeginsReplyText _ _ _ _
+    (λ input text h. broken_text fault h.0 input text h.1))

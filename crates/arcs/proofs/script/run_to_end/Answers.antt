@@ -1,6 +1,6 @@
 -- The run left the windows in a state from which they ended.
 use Rattle.arcs.specs.Underway.{IsThrough, IsBrokenOff, ThenEnds}
-use Rattle.arcs.proofs.Going.{on_ok_then, on_err_then}
+use Rattle.arcs.proofs.Going.{on_ok_then, if_err_then}
 use Rattle.arcs.proofs.States.{exchange_as}
 use Rattle.arcs.proofs.script.run_to_end.Goals as goal
 
@@ -14,6 +14,7 @@ returns-clause-ok g c =
 pub returns-clause-begun : goal.returns-clause-begun
 returns-clause-begun g c =
     let state = c.run-result.new.self.table in
-    on_err_then c.run-result.result c.run-result.ensures.begun
-    (exchange_as (IsBrokenOff state) (ThenEnds IsBrokenOff c.end.result.of_blocks.items) _ _ _ _
+    let passes = c.end.result.of_blocks.items in
+    if_err_then c.run-result.result c.run-result.ensures.begun (λ fault.
+    exchange_as (IsBrokenOff fault state) (ThenEnds (IsBrokenOff fault) passes) _ _ _ _
     (λ input text ran. (state, ran, c.end.ensures.passes)))

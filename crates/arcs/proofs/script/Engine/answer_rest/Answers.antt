@@ -1,6 +1,8 @@
 -- What stands behind the last line feed is the last line.
-use Rattle.std.proofs.Common.{◌≡◌, [], false, length, vec_len, sym, ap, ◌∙◌, arith}
+use Rattle.std.proofs.Common.{◌≡◌, [], false, length, vec_len, sym, subst, ap, ◌∙◌, arith}
 use Rattle.std.proofs.lemmas.Bool.{eqb-false}
+use Rattle.arcs.specs.Underway.{IsBegun}
+use Rattle.arcs.specs.declared.script.ScriptError.TheVariants.{Alloc}
 use Rattle.arcs.proofs.Going.{on_err}
 use Rattle.arcs.proofs.Underway.{last_answered, last_broken}
 use Rattle.arcs.proofs.script.Engine.answer_rest.Goals as goal
@@ -16,8 +18,10 @@ returns-in_err-end_line-clause-err g c =
           eqb-false _ _ (sym w.is_empty.ensures ∙ w.if-is_empty.false) empty
       | else-not-self-via-else-not-self w ↦ cc
     ] in
+    let end = c.in_err-end_line.ensures in
     on_err c.from_residual.result (λ start input writer read.
-    last_broken read some c.end_line.new.self.table c.in_err-end_line.ensures.broken)
+    subst (λ o. IsBegun Alloc start input writer o c.end_line.new.self.table) (sym end.err)
+    (last_broken read some c.end_line.new.self.table end.broken))
 
 pub returns-clause-ok : goal.returns-clause-ok
 returns-clause-ok g c = λ start input writer read.

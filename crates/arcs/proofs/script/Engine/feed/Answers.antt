@@ -1,7 +1,8 @@
 -- Line after line is read, and then what stands behind the last line feed of the piece.
 use Rattle.std.proofs.Common.{◌++◌, ◌∷◌, [], ◌∙◌}
 use Rattle.arcs.specs.Text.{line_feed}
-use Rattle.arcs.proofs.Going.{on_err, stops_now, stops_later, stops_longer, reads_on, reads_held}
+use Rattle.arcs.specs.declared.script.ScriptError.TheVariants.{Alloc}
+use Rattle.arcs.proofs.Going.{if_err_is, stops_now, stops_later, stops_longer, reads_on, reads_held}
 use Rattle.arcs.proofs.Going.{reads_whole, line_parts, more_parts}
 use Rattle.arcs.proofs.Devices.{takes_on}
 use Rattle.arcs.proofs.script.Engine.feed.Goals as goal
@@ -14,10 +15,11 @@ returns-in_err-take_line-clause-err g c =
     let line = c.in-Some.line.now in
     let behind = c.in-Some.behind.now in
     let rest = c.lines.rest.now in
-    on_err c.from_residual.result
-    (stops_later c.args.piece.now front.0 rest _ (g.W.Sink.traffic c.lines.writer) _ c.args.self.now
+    let fault = c.in_err-take_line.field-0.0 in
+    if_err_is _ c.from_residual.result fault c.from_residual.ensures.1
+    (stops_later fault c.args.piece.now front.0 rest _ (g.W.Sink.traffic c.lines.writer) _ c.args.self.now
     e e1 front.1 front.2
-    (stops_longer rest (line ++ line_feed ∷ []) behind _ _ e e1
+    (stops_longer fault rest (line ++ line_feed ∷ []) behind _ _ e e1
     (line_parts line behind rest c.in-Some.ensures.1) c.in_err-take_line.ensures.err))
 
 pub lines-preserved : goal.lines-preserved
@@ -34,6 +36,7 @@ lines-preserved g c =
         reads_on front.0 (line ++ line_feed ∷ []) _ (g.W.Sink.traffic c.lines.writer) _
             c.args.self.now c.lines.self c.take_line.new.self front.2 took.ok,
       );
+      few = λ h. took.few (c.lines.invariant.few h);
       clean = (took.clean.0 ∙ clean.0, took.clean.1 ∙ clean.1);
       taken = takes_on c.lines.invariant.taken took.taken;
     }
@@ -41,10 +44,11 @@ lines-preserved g c =
 pub returns-in_err-hold-clause-err : goal.returns-in_err-hold-clause-err
 returns-in_err-hold-clause-err g c =
     let front = c.lines.invariant.front in
-    on_err c.from_residual-in_err-hold.result
-    (stops_later c.args.piece.now front.0 c.lines.rest.now _ (g.W.Sink.traffic c.lines.writer) _
-    c.args.self.now c.lines.self c.hold.new.self front.1 front.2
-    (stops_now c.lines.rest.now _ c.lines.self c.hold.new.self c.in_err-hold.ensures.windows))
+    let hold = c.in_err-hold.ensures in
+    if_err_is _ c.from_residual-in_err-hold.result Alloc c.from_residual-in_err-hold.ensures.1
+    (stops_later Alloc c.args.piece.now front.0 c.lines.rest.now _
+    (g.W.Sink.traffic c.lines.writer) _ c.args.self.now c.lines.self c.hold.new.self front.1 front.2
+    (stops_now Alloc c.lines.rest.now _ c.lines.self c.hold.new.self hold.windows hold.out))
 
 pub returns-clause-ok : goal.returns-clause-ok
 returns-clause-ok g c =

@@ -1,6 +1,7 @@
-use Rattle.std.proofs.Common.{◌≡◌, List, ℕ, ◌++◌, length}
+use Rattle.std.proofs.Common.{◌≡◌, ◌<◌, List, ℕ, ◌++◌, length}
 use Rattle.arcs.specs.Traffic.{NoFault, Takes}
 use Rattle.arcs.specs.Engine.{Reads}
+use Rattle.arcs.specs.declared.script.TheConstants.{PIECE}
 use Rattle.arcs.proofs.script.Engine.feed.Given as goal
 
 -- a front of the piece was read, and the rest is left
@@ -12,6 +13,7 @@ invariant-lines g l =
       front :
           (front : List ℕ) × (l.piece ≡ front ++ l.rest)
           × Reads front (told l.fn.writer) (told l.writer) l.fn.self l.self;
+      few : length l.fn.self.out.items < PIECE → length l.self.out.items < PIECE;
       clean : NoFault (told l.fn.writer) (told l.writer);
       taken : Takes (told l.fn.writer) (told l.writer) (held l.fn.writer) (held l.writer);
     }

@@ -1,13 +1,15 @@
 -- Pieces are taken one after another; at the end of the input the engine finishes.
 use Rattle.std.proofs.Common.{◌∙◌, arith}
-use Rattle.arcs.proofs.Going.{on_err, on_ok, on_ok_then, on_err_then, if_err_then, run_begins}
+use Rattle.arcs.specs.declared.script.ScriptError.TheVariants.{Alloc}
+use Rattle.arcs.proofs.Going.{if_err_is, on_ok, on_ok_then, if_err_then, run_begins}
 use Rattle.arcs.proofs.Going.{nothing_exchanged, exchange_answered, exchange_begun, why_is_cause}
 use Rattle.arcs.proofs.Devices.{gives_nothing, gives_on, gives_all, takes_nothing, takes_on}
 use Rattle.arcs.proofs.script.Engine.run.Goals as goal
 
 pub returns-in_err-piece-clause-begun : goal.returns-in_err-piece-clause-begun
 returns-in_err-piece-clause-begun g c =
-    on_err c.from_residual.result (nothing_exchanged _ _ _ c.requires.windows)
+    if_err_is _ c.from_residual.result Alloc c.from_residual.ensures.1
+    (nothing_exchanged Alloc _ _ _ c.requires.windows)
 
 pub pieces-init : goal.pieces-init
 pieces-init g c = record {
@@ -35,8 +37,8 @@ pub returns-then-not-branch-clause-begun : goal.returns-then-not-branch-clause-b
 returns-then-not-branch-clause-begun g c =
     let run = c.in_ok-take_piece.ensures.ok _ _ c.pieces.invariant.running in
     let w = g.W.Sink.traffic c.args.writer.now in
-    on_err_then c.finish.result c.finish.ensures.err (λ h.
-    exchange_begun _ _ w _ _ run.input run.given (h w.bytes run.input run.read))
+    if_err_then c.finish.result c.finish.ensures.err (λ fault h.
+    exchange_begun fault _ _ w _ _ run.input run.given (h w.bytes run.input run.read))
 
 pub returns-then-not-branch-clause-fault : goal.returns-then-not-branch-clause-fault
 returns-then-not-branch-clause-fault g c =
@@ -84,5 +86,6 @@ returns-then-not-branch-clause-taken g c =
 
 pub returns-in_err-take_piece-clause-begun : goal.returns-in_err-take_piece-clause-begun
 returns-in_err-take_piece-clause-begun g c =
-    on_err c.from_residual-in_err-take_piece.result
+    if_err_is _ c.from_residual-in_err-take_piece.result c.in_err-take_piece.field-0.0
+    c.from_residual-in_err-take_piece.ensures.1
     (c.in_err-take_piece.ensures.begun _ _ c.pieces.invariant.running)
