@@ -55,7 +55,7 @@ module _ {T H : Type 0} (setting : Setting T) (passes left : List (Pass H)) (p n
     part-added =
         subst (λ ps. Beside (stand_at b w.place) passes ps (stand_at block part.place)) (sym back)
         (subst (λ o. Beside (stand_at b w.place) passes (put_back left b new)
-            (stand_at o part.place)) (sym block-is)
+        (stand_at o part.place)) (sym block-is)
         (shares-part passes left p new nothing start b w.place part.place fits has took made.1))
 
   -- the window itself, cut
@@ -79,7 +79,7 @@ module _ {T H : Type 0} (setting : Setting T) (passes left : List (Pass H)) (p n
   off-start at front behind block len splits counted is zero =
       let parts = splits.at_start zero in
       let pick = ap (λ c. if c then part_of setting (row_of s) 0 0 else
-          part_of setting (row_of s) at (length w.items)) (eq-eqb at 0 zero) in
+      part_of setting (row_of s) at (length w.items)) (eq-eqb at 0 zero) in
       record {
         same_is = ap (λ v. row_of (slot v b)) parts.0;
         made_is = part-row 0 0 front block len parts.1 counted is ∙ sym pick;
@@ -96,7 +96,7 @@ module _ {T H : Type 0} (setting : Setting T) (passes left : List (Pass H)) (p n
       let parts = splits.later more in
       let long = length w.items in
       let pick = ap (λ c. if c then part_of setting (row_of s) 0 0 else
-          part_of setting (row_of s) at long) (ne_eqb at 0 (λ e. omega (arith, more, e))) in
+      part_of setting (row_of s) at long) (ne_eqb at 0 (λ e. omega (arith, more, e))) in
       record {
         same_is = cut-row 0 at front parts.0;
         made_is = part-row at long behind block len parts.1 counted is ∙ sym pick;
@@ -112,7 +112,7 @@ module _ {T H : Type 0} (setting : Setting T) (passes left : List (Pass H)) (p n
   to-end at front behind block len splits counted is last =
       let parts = splits.at_end last in
       let pick = ap (λ c. if c then part_of setting (row_of s) at at else
-          part_of setting (row_of s) 0 at) (eq-eqb at (length w.items) last) in
+      part_of setting (row_of s) 0 at) (eq-eqb at (length w.items) last) in
       record {
         same_is = ap (λ v. row_of (slot v b)) parts.0;
         made_is = part-row at at behind block len parts.1 counted is ∙ sym pick;
@@ -129,7 +129,7 @@ module _ {T H : Type 0} (setting : Setting T) (passes left : List (Pass H)) (p n
       let parts = splits.earlier inside in
       let long = length w.items in
       let pick = ap (λ c. if c then part_of setting (row_of s) at at else
-          part_of setting (row_of s) 0 at) (ne_eqb at long (λ e. omega (arith, inside, e))) in
+      part_of setting (row_of s) 0 at) (ne_eqb at long (λ e. omega (arith, inside, e))) in
       record {
         same_is = cut-row at long behind parts.0;
         made_is = part-row 0 at front block len parts.1 counted is ∙ sym pick;

@@ -90,8 +90,8 @@ module _ {H : Type 0} where
   abbrev pub Joined : Standing H → ℕ → Standing H → Type 0
   Joined old i new = OneMore old new (Beside (stand_in old i) old.passes new.passes)
 
-  -- a window more beside the one with this number: under the next number, or under its own, and then
-  -- that window has the next
+  -- a window more beside the one with this number: under the next number, or under its own, and
+  -- then that window has the next
   abbrev pub Splits : Standing H → ℕ → Standing H → Type 0
   Splits old i new = (s : Stand) × Beside (stand_in old i) old.passes new.passes s
       × ((new.stands ≡ old.stands ++ s ∷ [])

@@ -11,7 +11,8 @@ use Rattle.arc_block.specs.Block.{Sort, native_facts}
 use Rattle.arc_block.specs.Place.{Place, nowhere, static_data, on_block, made_place, part_place}
 use Rattle.arc_block.specs.Place.{moved}
 use Rattle.arc_block.specs.Table.{Row, Table, row_at, block_of, owners, is_alone}
-use Rattle.arc_block.specs.Table.{Role, reader, sole_writer, one_writer_of_several, inline, forgotten}
+use Rattle.arc_block.specs.Table.{Role, reader, sole_writer, one_writer_of_several, inline}
+use Rattle.arc_block.specs.Table.{forgotten}
 use Rattle.arc_table.specs.RunOf.{RunOf}
 use Rattle.arc_table.specs.declared.command.Cmd.{Cmd}
 use Rattle.arc_table.specs.declared.command.Cmd.TheVariants.{Slice, Clone, Sub, Uniq, Show, Len}
@@ -28,7 +29,8 @@ pub record Setting (T : Type 0) : Type 0 where
   pub drops : Bool
   pub boundary : List T → ℕ → Bool
 
-abbrev pub setting_of : {T : Type 0} → Bool → (Sort → Bool) → Bool → (List T → ℕ → Bool) → Setting T
+abbrev pub setting_of : {T : Type 0} → Bool → (Sort → Bool) → Bool → (List T → ℕ → Bool)
+    → Setting T
 setting_of has_static clone_wants drops boundary = record {
   has_static = has_static;
   clone_wants = clone_wants;
@@ -94,7 +96,8 @@ abbrev pub made : {T M : Type 0} → Setting T → Table T M → List T → Outc
 made setting t items =
     let place =
     made_place setting.has_static t.blocks (native_facts setting.drops (length items)) items in
-    with_row t (record { items = items; place = place; role = reader }) (blocks_after t.blocks place)
+    with_row t (record { items = items; place = place; role = reader })
+    (blocks_after t.blocks place)
 
 -- the most owners that a block may have
 abbrev pub greatest_count : ℕ

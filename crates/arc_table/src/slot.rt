@@ -42,14 +42,16 @@ fn part_block<L: Layout>(block: Option<usize>, len: usize) -> Option<usize>
 }
 
 impl<S: Slice, L: Layout, A: Allocator + Copy> Slot<S, L, A> {
-    ghost use Rattle.std.specs.Prelude.{◌≡◌, ◌<◌, ◌↔◌, length, Bool, false, None, Some, IfOk, IfErr, IsOk};
+    ghost use Rattle.std.specs.Prelude.{◌≡◌, ◌<◌, ◌↔◌, length, Bool, false, None, Some};
+    ghost use Rattle.std.specs.Prelude.{IfOk, IfErr, IsOk};
     ghost use Rattle.arc_buffer.specs.Slice.{IsRange, IsEdge, sub, range_answer, edge_answer};
     ghost use Rattle.arc_block.specs.Place.{part_place};
     ghost use Rattle.arc_block.specs.Table.{reader};
     ghost use Rattle.arc_owners.specs.count.Calls.{Asks, Leaves};
     ghost use Rattle.arc_table.specs.Stands.{HasPassFor};
     ghost use Rattle.arc_table.specs.Additions.{Along, Beside, RefusesAt};
-    ghost use Rattle.arc_table.specs.Step.{advanced, truncated, cut_row, off_part, to_part, setting_of};
+    ghost use Rattle.arc_table.specs.Step.{advanced, truncated, cut_row, off_part, to_part};
+    ghost use Rattle.arc_table.specs.Step.{setting_of};
     ghost use Rattle.arc_table.specs.Splits.{IsSplit};
     ghost use Rattle.arc_table.specs.Slots.{row_of, stand_of};
 
@@ -116,7 +118,8 @@ impl<S: Slice, L: Layout, A: Allocator + Copy> Slot<S, L, A> {
         requires pass { HasPassFor passes.old.of_blocks.items (stand_of (Some self.now)) }
         ensures row { IfOk result (λ slot. row_of slot ≡ row_of self.now) }
         ensures stand { IfOk result (λ slot.
-            Beside (stand_of (Some self.now)) passes.old.of_blocks.items passes.new.of_blocks.items (stand_of (Some slot))) }
+            Beside (stand_of (Some self.now)) passes.old.of_blocks.items
+            passes.new.of_blocks.items (stand_of (Some slot))) }
         ensures refused { IfErr result (RefusesAt L.clone_wants (row_of self.now).place
             (stand_of (Some self.now)) passes.old.of_blocks.items passes.new.of_blocks.items) }
     {
@@ -153,10 +156,12 @@ impl<S: Slice, L: Layout, A: Allocator + Copy> Slot<S, L, A> {
               role = reader;
             }) }
         ensures stand { IfOk result (λ slot.
-            Beside (stand_of (Some self.now)) passes.old.of_blocks.items passes.new.of_blocks.items (stand_of (Some slot))) }
+            Beside (stand_of (Some self.now)) passes.old.of_blocks.items
+            passes.new.of_blocks.items (stand_of (Some slot))) }
         ensures refused { IfErr result (RefusesAt L.clone_wants
             (part_place L.STATIC (sub self.now.window.items start end) start
-            (row_of self.now).place) (stand_of (Some self.now)) passes.old.of_blocks.items passes.new.of_blocks.items) }
+            (row_of self.now).place) (stand_of (Some self.now)) passes.old.of_blocks.items
+            passes.new.of_blocks.items) }
     {
         let mut pass = passes.lend(self.block);
         let made = self.window.try_subslice_as(rt, start, end, &mut pass);
@@ -182,14 +187,17 @@ impl<S: Slice, L: Layout, A: Allocator + Copy> Slot<S, L, A> {
         requires at { IsEdge S.boundary self.old.window.items at }
         requires pass { HasPassFor passes.old.of_blocks.items (stand_of (Some self.old)) }
         ensures start { IfOk result (λ back. at ≡ 0 → IsSplit self.old back self.new
-            (row_of self.old) (off_part (setting_of L.STATIC L.clone_wants S.DROPS S.boundary) (row_of self.old) at)
+            (row_of self.old) (off_part (setting_of L.STATIC L.clone_wants S.DROPS S.boundary)
+            (row_of self.old) at)
             passes.old.of_blocks.items passes.new.of_blocks.items) }
         ensures later { IfOk result (λ back. 0 < at → IsSplit self.old self.new back
-            (cut_row (row_of self.old) 0 at) (off_part (setting_of L.STATIC L.clone_wants S.DROPS S.boundary) (row_of self.old) at)
+            (cut_row (row_of self.old) 0 at) (off_part (setting_of L.STATIC L.clone_wants S.DROPS
+            S.boundary) (row_of self.old) at)
             passes.old.of_blocks.items passes.new.of_blocks.items) }
         ensures kept { IfErr result (λ _. self.new ≡ self.old) }
         ensures refused { IfErr result (RefusesAt L.clone_wants
-            (off_part (setting_of L.STATIC L.clone_wants S.DROPS S.boundary) (row_of self.old) at).place
+            (off_part (setting_of L.STATIC L.clone_wants S.DROPS S.boundary) (row_of self.old)
+            at).place
             (stand_of (Some self.old)) passes.old.of_blocks.items passes.new.of_blocks.items) }
     {
         let mut pass = passes.lend(self.block);
@@ -219,15 +227,20 @@ impl<S: Slice, L: Layout, A: Allocator + Copy> Slot<S, L, A> {
         S: Subsliceable,
         requires at { IsEdge S.boundary self.old.window.items at }
         requires pass { HasPassFor passes.old.of_blocks.items (stand_of (Some self.old)) }
-        ensures end { IfOk result (λ front. at ≡ length self.old.window.items → IsSplit self.old front self.new
-            (row_of self.old) (to_part (setting_of L.STATIC L.clone_wants S.DROPS S.boundary) (row_of self.old) at)
+        ensures end { IfOk result (λ front. at ≡ length self.old.window.items → IsSplit self.old
+            front self.new
+            (row_of self.old) (to_part (setting_of L.STATIC L.clone_wants S.DROPS S.boundary)
+            (row_of self.old) at)
             passes.old.of_blocks.items passes.new.of_blocks.items) }
-        ensures earlier { IfOk result (λ front. at < length self.old.window.items → IsSplit self.old self.new front
-            (cut_row (row_of self.old) at (length self.old.window.items)) (to_part (setting_of L.STATIC L.clone_wants S.DROPS S.boundary) (row_of self.old) at)
+        ensures earlier { IfOk result (λ front. at < length self.old.window.items → IsSplit
+            self.old self.new front
+            (cut_row (row_of self.old) at (length self.old.window.items)) (to_part (setting_of
+            L.STATIC L.clone_wants S.DROPS S.boundary) (row_of self.old) at)
             passes.old.of_blocks.items passes.new.of_blocks.items) }
         ensures kept { IfErr result (λ _. self.new ≡ self.old) }
         ensures refused { IfErr result (RefusesAt L.clone_wants
-            (to_part (setting_of L.STATIC L.clone_wants S.DROPS S.boundary) (row_of self.old) at).place
+            (to_part (setting_of L.STATIC L.clone_wants S.DROPS S.boundary) (row_of self.old)
+            at).place
             (stand_of (Some self.old)) passes.old.of_blocks.items passes.new.of_blocks.items) }
     {
         let len = self.window.len();
@@ -250,7 +263,8 @@ impl<S: Slice, L: Layout, A: Allocator + Copy> Slot<S, L, A> {
     /// Whether no other owner of the window's block lives. `false` on no block. Takes no memory.
     pub fn is_unique(&self, passes: &mut Passes<A>) -> bool
         requires { HasPassFor passes.old.of_blocks.items (stand_of (Some self.now)) }
-        ensures asked { Along (stand_of (Some self.now)) passes.old.of_blocks.items passes.new.of_blocks.items (λ o p q.
+        ensures asked { Along (stand_of (Some self.now)) passes.old.of_blocks.items
+            passes.new.of_blocks.items (λ o p q.
             Asks o p q result) }
         ensures nowhere { stand_of (Some self.now) ≡ None → result ≡ false }
     {
@@ -263,7 +277,8 @@ impl<S: Slice, L: Layout, A: Allocator + Copy> Slot<S, L, A> {
     /// Ends the window: the last owner gives its block back. Takes no memory.
     pub fn release(self, passes: &mut Passes<A>)
         requires { HasPassFor passes.old.of_blocks.items (stand_of (Some self)) }
-        ensures { Along (stand_of (Some self)) passes.old.of_blocks.items passes.new.of_blocks.items (λ o p q. (last : Bool)
+        ensures { Along (stand_of (Some self)) passes.old.of_blocks.items
+            passes.new.of_blocks.items (λ o p q. (last : Bool)
             × Leaves o p q last) }
     {
         let Slot { window, block } = self;

@@ -30,7 +30,7 @@ returns-then-at-eq0-clause-start g c =
     let one = slot c.in-Ok.window b in
     let other = slot c.try_split_off_as-made.new.self c.part_block-self-inside.result in
     subst (λ (s : SlotView g.row.S-Item.Denot). c.args.at ≡ 0 → IsSplit s one other
-        (row_of s) (off_part setting (row_of s) c.args.at) passes after)
+    (row_of s) (off_part setting (row_of s) c.args.at) passes after)
     c.self.view_is
     (off-start setting passes c.lend-pass.new.self.of_blocks.items c.lend-pass.result
     c.try_split_off_as-made.new.pass after w b c.give_back.ensures c.self.invariant has
@@ -50,7 +50,7 @@ returns-clause-later g c =
     let one = slot c.try_split_off_as-made.new.self b in
     let other = slot c.in-Ok.window c.part_block-block.result in
     subst (λ (s : SlotView g.row.S-Item.Denot). 0 < c.args.at → IsSplit s one other
-        (cut_row (row_of s) 0 c.args.at) (off_part setting (row_of s) c.args.at) passes after)
+    (cut_row (row_of s) 0 c.args.at) (off_part setting (row_of s) c.args.at) passes after)
     c.self.view_is
     (off-later setting passes c.lend-pass.new.self.of_blocks.items c.lend-pass.result
     c.try_split_off_as-made.new.pass after w b c.give_back.ensures c.self.invariant has

@@ -33,11 +33,12 @@ returns-then-is_err-clause-rows g c =
     setting_of g.L.Layout.STATIC g.L.Layout.clone_wants g.S.Slice.DROPS g.S.Subsliceable.boundary in
     let s = c.in-Some.slot.now in
     subst (λ (o : State g.row.S-Item.Denot).
-        Step setting o.table (command.Off i c.args.at) reply.Alloc
-        (state_of c.reserve.new.self.items passes).table)
-    c.self.view_is
-    ((row_of s, row-there slots passes i s first, c.in_default-check_at.ensures.ok.0 refl),
-    same-table slots passes c.reserve.new.self.items passes c.reserve.ensures.items refl)
+    Step setting o.table (command.Off i c.args.at) reply.Alloc
+    (state_of c.reserve.new.self.items passes).table)
+    c.self.view_is (
+      (row_of s, row-there slots passes i s first, c.in_default-check_at.ensures.ok.0 refl),
+      same-table slots passes c.reserve.new.self.items passes c.reserve.ensures.items refl,
+    )
 
 pub index_mut-requires : goal.index_mut-requires
 index_mut-requires g c =
@@ -77,7 +78,7 @@ try_split_off-requires-clause-at g c κs within =
     let one = same_entry slots i c.in-Some.slot.now s first there in
     let edge : IsEdge g.S.Subsliceable.boundary s.window.items c.args.at =
     subst (λ (v : SlotView g.row.S-Item.Denot).
-        IsEdge g.S.Subsliceable.boundary v.window.items c.args.at) one
+    IsEdge g.S.Subsliceable.boundary v.window.items c.args.at) one
     (c.in_default-check_at.ensures.ok.0 refl) in
     edge
 
@@ -110,7 +111,7 @@ invariant_of-self-in-Ok g c =
     let one = same_entry slots i c.in-Some.slot.now s first there in
     let edge : IsEdge g.S.Subsliceable.boundary s.window.items c.args.at =
     subst (λ (v : SlotView g.row.S-Item.Denot).
-        IsEdge g.S.Subsliceable.boundary v.window.items c.args.at) one
+    IsEdge g.S.Subsliceable.boundary v.window.items c.args.at) one
     (c.in_default-check_at.ensures.ok.0 refl) in
     let after = c.try_split_off.new.passes.of_blocks.items in
     let kept = c.try_split_off.new.self in
@@ -168,7 +169,7 @@ returns-in-Ok-clause-rows g c =
     let one = same_entry slots i c.in-Some.slot.now s first there in
     let edge : IsEdge g.S.Subsliceable.boundary s.window.items c.args.at =
     subst (λ (v : SlotView g.row.S-Item.Denot).
-        IsEdge g.S.Subsliceable.boundary v.window.items c.args.at) one
+    IsEdge g.S.Subsliceable.boundary v.window.items c.args.at) one
     (c.in_default-check_at.ensures.ok.0 refl) in
     let setting : Setting g.row.S-Item.Denot =
     setting_of g.L.Layout.STATIC g.L.Layout.clone_wants g.S.Slice.DROPS g.S.Subsliceable.boundary in
@@ -188,7 +189,7 @@ returns-in-Ok-clause-rows g c =
     let cut = cut_row r 0 c.args.at in
     let may : edge_answer setting.boundary s.window.items c.args.at ≡ Ok tt =
     ap (λ (v : SlotView g.row.S-Item.Denot).
-        edge_answer setting.boundary v.window.items c.args.at) (sym one)
+    edge_answer setting.boundary v.window.items c.args.at) (sym one)
     ∙ sym c.in_default-check_at.ensures.answer in
     let found = λ (row : Row g.row.S-Item.Denot (Unit {0})).
     in_range (edge_answer setting.boundary row.items c.args.at) t (split_off setting t i row c.args.at) in
@@ -210,7 +211,7 @@ returns-in-Ok-clause-rows g c =
           made handed number h.same_is h.made_is h.made_is h.added counted)
     ] in
     subst (λ (o : State g.row.S-Item.Denot).
-        Step setting o.table (command.Off i c.args.at) (reply.New number) (state_of slots' after).table)
+    Step setting o.table (command.Off i c.args.at) (reply.New number) (state_of slots' after).table)
     c.self.view_is (ranged ∙ done)
 
 pub returns-in-Ok-clause-passes : goal.returns-in-Ok-clause-passes
@@ -228,7 +229,7 @@ returns-in-Ok-clause-passes g c =
     let one = same_entry slots i c.in-Some.slot.now s first there in
     let edge : IsEdge g.S.Subsliceable.boundary s.window.items c.args.at =
     subst (λ (v : SlotView g.row.S-Item.Denot).
-        IsEdge g.S.Subsliceable.boundary v.window.items c.args.at) one
+    IsEdge g.S.Subsliceable.boundary v.window.items c.args.at) one
     (c.in_default-check_at.ensures.ok.0 refl) in
     let after = c.try_split_off.new.passes.of_blocks.items in
     let kept = c.try_split_off.new.self in
@@ -238,8 +239,8 @@ returns-in-Ok-clause-passes g c =
     c.push_reserved.ensures.items
     ∙ ap (λ ss. slice_set ss i (Some kept) ++ Some handed ∷ []) c.reserve.ensures.items in
     subst (λ (o : State g.row.S-Item.Denot).
-        Adds {T = g.row.S-Item.Denot} o.standing (command.Off i c.args.at)
-        (reply.New c.len-number.result) (state_of slots' after).standing)
+    Adds {T = g.row.S-Item.Denot} o.standing (command.Off i c.args.at)
+    (reply.New c.len-number.result) (state_of slots' after).standing)
     c.self.view_is
     (elim (cases_eq c.args.at 0) [
       | inl e ↦
@@ -267,7 +268,7 @@ returns-in-Err-try_split_off-clause-rows g c =
     let one = same_entry slots i c.in-Some.slot.now s first there in
     let edge : IsEdge g.S.Subsliceable.boundary s.window.items c.args.at =
     subst (λ (v : SlotView g.row.S-Item.Denot).
-        IsEdge g.S.Subsliceable.boundary v.window.items c.args.at) one
+    IsEdge g.S.Subsliceable.boundary v.window.items c.args.at) one
     (c.in_default-check_at.ensures.ok.0 refl) in
     let setting : Setting g.row.S-Item.Denot =
     setting_of g.L.Layout.STATIC g.L.Layout.clone_wants g.S.Slice.DROPS g.S.Subsliceable.boundary in
@@ -283,7 +284,7 @@ returns-in-Err-try_split_off-clause-rows g c =
     let cut = cut_row r 0 c.args.at in
     let may : edge_answer setting.boundary s.window.items c.args.at ≡ Ok tt =
     ap (λ (v : SlotView g.row.S-Item.Denot).
-        edge_answer setting.boundary v.window.items c.args.at) (sym one)
+    edge_answer setting.boundary v.window.items c.args.at) (sym one)
     ∙ sym c.in_default-check_at.ensures.answer in
     let found = λ (row : Row g.row.S-Item.Denot (Unit {0})).
     in_range (edge_answer setting.boundary row.items c.args.at) t (split_off setting t i row c.args.at) in
@@ -303,7 +304,7 @@ returns-in-Err-try_split_off-clause-rows g c =
           same
     ] in
     subst (λ (o : State g.row.S-Item.Denot).
-        Step setting o.table (command.Off i c.args.at) (reply.Owner e) (state_of slots' after).table)
+    Step setting o.table (command.Off i c.args.at) (reply.Owner e) (state_of slots' after).table)
     c.self.view_is done
 
 pub returns-in-Err-try_split_off-clause-passes : goal.returns-in-Err-try_split_off-clause-passes
@@ -327,8 +328,8 @@ returns-in-Err-try_split_off-clause-passes g c =
     ap (λ v. slice_set read i (Some v)) c.in-Err-try_split_off.ensures.kept
     ∙ set-back read i (Some s) there_read ∙ c.reserve.ensures.items in
     subst (λ (o : State g.row.S-Item.Denot).
-        Adds {T = g.row.S-Item.Denot} o.standing (command.Off i c.args.at) (reply.Owner e)
-        (state_of slots' after).standing)
+    Adds {T = g.row.S-Item.Denot} o.standing (command.Off i c.args.at) (reply.Owner e)
+    (state_of slots' after).standing)
     c.self.view_is
     (refused-added slots passes i s there slots' after g.L.Layout.clone_wants
     (off_part setting (row_of s) c.args.at).place e same c.in-Err-try_split_off.ensures.refused)
