@@ -9,12 +9,16 @@ pub use owned::Owned;
 pub use plain::Plain;
 use std::alloc::Layout;
 pub use text::{Text, cuts_into_texts};
+pub use vec_in::VecIn;
+pub use wraps::Wraps;
 pub use zero_item::ZeroItem;
 
 mod byte_text;
 mod owned;
 mod plain;
 mod text;
+mod vec_in;
+mod wraps;
 mod zero_item;
 
 /// A kind of slice: the type of the items, and which lists of them a window of the kind may have.
