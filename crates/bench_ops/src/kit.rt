@@ -1,0 +1,148 @@
+//! The same loops over the kit's `bytes`.
+ghost use Rattle.std.specs.Prelude.{◌≡◌, ◌≤◌, length};
+
+use crate::keep::Keep;
+use crate::words::Operation;
+use bytes::Bytes;
+use std::alloc::{AllocError, Global};
+
+/// How many bytes the windows have.
+const LEN: usize = 128;
+
+/// Runs an operation so often, and answers whether all was done.
+pub fn run(alloc: Global, operation: Operation, count: usize, keep: &dyn Keep) -> bool {
+    let Ok(window) = Bytes::copy_from_slice(alloc, &[42; LEN]) else {
+        return false;
+    };
+    match operation {
+        Operation::Loop => Ok(empty_loop(count, keep)),
+        Operation::Clone => clone_local(window, count, keep),
+        Operation::CloneShared => clone_shared(&window, count, keep),
+        Operation::Read => Ok(read(&window, count, keep)),
+        Operation::Make => make(alloc, count, keep),
+        Operation::EmptyCut => cut_local(window, 7, 7, count, keep),
+        Operation::EmptyCutShared => cut_shared(&window, 7, 7, count, keep),
+        Operation::ShortCut => cut_local(window, 7, 15, count, keep),
+        Operation::ShortCutShared => cut_shared(&window, 7, 15, count, keep),
+        Operation::SplitOff => split_off(&window, count, keep),
+        Operation::Unique => Ok(unique(&window, count, keep)),
+        Operation::Array => array(alloc, count, keep),
+    }
+    .is_ok()
+}
+
+/// Nothing but the loop.
+#[inline(never)]
+fn empty_loop(count: usize, keep: &dyn Keep) {
+    for i in 0..count {
+        keep.number(i);
+    }
+}
+
+/// A clone of a local window, and its release.
+#[inline(never)]
+fn clone_local(window: Bytes, count: usize, keep: &dyn Keep) -> Result<(), AllocError> {
+    for _ in 0..count {
+        let clone = window.clone()?;
+        keep.number(clone.len());
+    }
+    Ok(())
+}
+
+/// A clone of a window behind a reference, and its release.
+#[inline(never)]
+fn clone_shared(window: &Bytes, count: usize, keep: &dyn Keep) -> Result<(), AllocError> {
+    for _ in 0..count {
+        let clone = window.clone()?;
+        keep.number(clone.len());
+    }
+    Ok(())
+}
+
+/// The window's bytes.
+#[inline(never)]
+fn read(window: &Bytes, count: usize, keep: &dyn Keep) {
+    for _ in 0..count {
+        keep.bytes(window.as_slice());
+    }
+}
+
+/// A window over a copy of bytes, and its release.
+#[inline(never)]
+fn make(alloc: Global, count: usize, keep: &dyn Keep) -> Result<(), AllocError> {
+    let bytes = [42; LEN];
+    for _ in 0..count {
+        let window = Bytes::copy_from_slice(alloc, &bytes)?;
+        keep.number(window.len());
+    }
+    Ok(())
+}
+
+/// A cut of a local window, and its release.
+#[inline(never)]
+fn cut_local(
+    window: Bytes,
+    start: usize,
+    end: usize,
+    count: usize,
+    keep: &dyn Keep,
+) -> Result<(), AllocError>
+    requires { start ≤ end × end ≤ length window }
+{
+    for _ in 0..count {
+        let cut = window.slice(start..end)?;
+        keep.number(cut.len());
+    }
+    Ok(())
+}
+
+/// A cut of a window behind a reference, and its release.
+#[inline(never)]
+fn cut_shared(
+    window: &Bytes,
+    start: usize,
+    end: usize,
+    count: usize,
+    keep: &dyn Keep,
+) -> Result<(), AllocError>
+    requires { start ≤ end × end ≤ length window.now }
+{
+    for _ in 0..count {
+        let cut = window.slice(start..end)?;
+        keep.number(cut.len());
+    }
+    Ok(())
+}
+
+/// The back of a clone, split off, and the release of both.
+#[inline(never)]
+fn split_off(window: &Bytes, count: usize, keep: &dyn Keep) -> Result<(), AllocError>
+    requires { 7 ≤ length window.now }
+{
+    for _ in 0..count {
+        let mut front = window.clone()?;
+        let back = front.split_off(7)?;
+        keep.number(back.len());
+    }
+    Ok(())
+}
+
+/// Whether the window is alone.
+#[inline(never)]
+fn unique(window: &Bytes, count: usize, keep: &dyn Keep) {
+    for _ in 0..count {
+        keep.number(usize::from(window.is_unique()));
+    }
+}
+
+/// Bytes of 32 as a window, and back: the kit's gives them back as a `BytesMut`.
+#[inline(never)]
+fn array(alloc: Global, count: usize, keep: &dyn Keep) -> Result<(), AllocError> {
+    for _ in 0..count {
+        let window = Bytes::copy_from_slice(alloc, &[42u8; 32])?;
+        if let Ok(bytes) = window.try_into_mut() {
+            keep.bytes(bytes.as_slice());
+        }
+    }
+    Ok(())
+}

@@ -1,0 +1,93 @@
+//! The words of the program.
+use std::env::FillError;
+use std::rt::Env;
+use std::str;
+
+/// How long a word may be, in bytes.
+const WORD: usize = 32;
+
+/// What is run in a loop.
+#[derive(Clone, Copy)]
+pub enum Operation {
+    /// Nothing but the loop.
+    Loop,
+    /// A clone of a local window, and its release.
+    Clone,
+    /// A clone of a window behind a reference, and its release.
+    CloneShared,
+    /// The window's length and first byte.
+    Read,
+    /// 128 bytes copied into a new block, and its release.
+    Make,
+    /// A cut with no items of a local window, and its release.
+    EmptyCut,
+    /// The same of a window behind a reference.
+    EmptyCutShared,
+    /// A cut of 8 bytes of a local window, and its release.
+    ShortCut,
+    /// The same of a window behind a reference.
+    ShortCutShared,
+    /// The back split off a clone, and the release of both.
+    SplitOff,
+    /// Whether the window is alone.
+    Unique,
+    /// An array of 32 bytes as a window, and back.
+    Array,
+}
+
+/// What the words ask for.
+#[derive(Clone, Copy)]
+pub struct Words {
+    /// Over the windows of this repository, or over the kit's.
+    pub ours: bool,
+    pub operation: Operation,
+    /// How often.
+    pub count: usize,
+}
+
+/// The operation of this name.
+fn operation_named(name: &str) -> Option<Operation> {
+    Some(match name {
+        "loop" => Operation::Loop,
+        "clone" => Operation::Clone,
+        "clone_shared" => Operation::CloneShared,
+        "read" => Operation::Read,
+        "make" => Operation::Make,
+        "empty_cut" => Operation::EmptyCut,
+        "empty_cut_shared" => Operation::EmptyCutShared,
+        "short_cut" => Operation::ShortCut,
+        "short_cut_shared" => Operation::ShortCutShared,
+        "split_off" => Operation::SplitOff,
+        "unique" => Operation::Unique,
+        "array" => Operation::Array,
+        _ => return None,
+    })
+}
+
+/// The word with this number in a buffer, if there is one of text that fits.
+fn word<'a>(rt: &impl Env, i: usize, buf: &'a mut [u8; WORD]) -> Option<&'a str> {
+    let len = match rt.arg(i, buf) {
+        Ok(len) => len,
+        Err(FillError::NotPresent | FillError::TooLong) => return None,
+    };
+    str::from_utf8(&buf[..len]).ok()
+}
+
+impl Words {
+    /// Reads the three words.
+    pub fn read(rt: &impl Env) -> Option<Words> {
+        let mut buf = [0u8; WORD];
+        let ours = match word(rt, 1, &mut buf)? {
+            "ours" => true,
+            "kit" => false,
+            _ => return None,
+        };
+        let operation = operation_named(word(rt, 2, &mut buf)?)?;
+        let count = word(rt, 3, &mut buf)?.parse::<usize>().ok()?;
+        Some(Words {
+            ours,
+            operation,
+            count,
+        })
+    }
+}
