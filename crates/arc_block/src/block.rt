@@ -44,6 +44,7 @@ impl<S: Slice, A: Allocator + Copy, const MAX: u64, H: Mark> Model for Block<S, 
 }
 
 impl<S: Slice, A: Allocator + Copy, const MAX: u64, H: Mark> Drop for Block<S, A, MAX, H> {
+    #[inline(always)]
     fn drop(self) {
         let Block { piece } = self;
         drop(piece);
@@ -162,6 +163,7 @@ impl<S: Slice, A: Allocator + Copy, const MAX: u64, H: Mark> Block<S, A, MAX, H>
     /// item.
     ///
     /// `CountFull` exactly where `MAX` owners live, which adds Full.
+    #[inline(always)]
     pub fn try_share_as(&self, rt: &impl Wait, pass: &mut Pass<H>) -> Result<Self, CountFull>
         requires pass { IsPassFor self.now.owner pass.old }
         ensures made { IfOk result (λ other.
@@ -178,6 +180,7 @@ impl<S: Slice, A: Allocator + Copy, const MAX: u64, H: Mark> Block<S, A, MAX, H>
 
 impl<S: Slice, A: Allocator + Copy, const MAX: u64, H: Mark> Block<S, A, MAX, H> {
     /// The items.
+    #[inline(always)]
     pub fn as_slice(&self) -> &[S::Item]
         ensures { result.now ≡ self.now.items }
     {
@@ -210,6 +213,7 @@ impl<S: Slice, A: Allocator + Copy, const MAX: u64, H: Mark> Block<S, A, MAX, H>
     }
 
     /// Whether no other owner lives, by one load. Adds Alone with the answer. Takes no memory.
+    #[inline(always)]
     pub fn is_unique_as(&self, pass: &mut Pass<H>) -> bool
         requires pass { IsPassFor self.now.owner pass.old }
         ensures entry { Asks self.now.owner pass.old pass.new result }
@@ -235,6 +239,7 @@ impl<S: Slice, A: Allocator + Copy, const MAX: u64, H: Mark> Block<S, A, MAX, H>
 
     /// Ends this owner by one subtraction, and answers whether it was the last one: then the block
     /// is given back. Adds its Down. Takes no memory.
+    #[inline(always)]
     pub fn release_as(self, pass: &mut Pass<H>) -> bool
         requires pass { IsPassFor self.owner pass.old }
         ensures entry { Leaves self.owner pass.old pass.new result }

@@ -55,6 +55,7 @@ impl<S: Slice, L: Layout, A: Allocator + Copy, H: Mark> Model for ArcSlice<S, L,
 }
 
 impl<S: Slice, L: Layout, A: Allocator + Copy, H: Mark> Drop for ArcSlice<S, L, A, H> {
+    #[inline(always)]
     fn drop(self) {
         let ArcSlice {
             block,
@@ -210,6 +211,7 @@ impl<S: Slice, L: Layout, A: Allocator + Copy> ArcSlice<S, L, A, Open> {
 
 impl<S: Slice, L: Layout, A: Allocator + Copy, H: Mark> ArcSlice<S, L, A, H> {
     /// How many items the window has.
+    #[inline(always)]
     pub fn len(&self) -> usize
         ensures { result ≡ length self.now.items }
     {
@@ -217,6 +219,7 @@ impl<S: Slice, L: Layout, A: Allocator + Copy, H: Mark> ArcSlice<S, L, A, H> {
     }
 
     /// Whether the window has no items.
+    #[inline(always)]
     pub fn is_empty(&self) -> bool
         ensures { result ≡ (length self.now.items == 0) }
     {
@@ -224,6 +227,7 @@ impl<S: Slice, L: Layout, A: Allocator + Copy, H: Mark> ArcSlice<S, L, A, H> {
     }
 
     /// The items.
+    #[inline(always)]
     pub fn as_slice(&self) -> &[S::Item]
         ensures { result.now ≡ self.now.items }
     {
@@ -262,6 +266,7 @@ impl<S: Slice, L: Layout, A: Allocator + Copy, H: Mark> ArcSlice<S, L, A, H> {
     /// it adds Up, or Full where refused.
     ///
     /// Takes no memory and copies no item. `CountFull` exactly where `MAX_OWNERS` owners live.
+    #[inline(always)]
     pub fn try_clone_as(&self, rt: &impl Wait, pass: &mut Pass<H>) -> Result<Self, OwnerError>
         requires pass { IsPassAt self.now.place pass.old }
         ensures items { IfOk result (λ window. window.items ≡ self.now.items) }
@@ -288,6 +293,7 @@ impl<S: Slice, L: Layout, A: Allocator + Copy, H: Mark> ArcSlice<S, L, A, H> {
     /// nothing is added.
     ///
     /// Takes no memory and copies no item. `CountFull` exactly where `MAX_OWNERS` owners live.
+    #[inline(always)]
     pub fn try_subslice_as(
         &self,
         rt: &impl Wait,
@@ -330,6 +336,7 @@ impl<S: Slice, L: Layout, A: Allocator + Copy, H: Mark> ArcSlice<S, L, A, H> {
 impl<S: Slice, L: Layout, A: Allocator + Copy, H: Mark> ArcSlice<S, L, A, H> {
     /// Whether no other owner of the block lives, by one load: on a block it adds Alone with the
     /// answer. `false` on no block. Takes no memory.
+    #[inline(always)]
     pub fn is_unique_as(&self, pass: &mut Pass<H>) -> bool
         requires pass { IsPassAt self.now.place pass.old }
         ensures entry { at_owner self.now.place ((result ≡ false)
@@ -506,6 +513,7 @@ impl<S: Slice, L: Layout, A: Allocator + Copy, H: Stepping> ArcSlice<S, L, A, H>
 
     /// Whether no other owner of the block lives: `is_unique_as` with a new pass. `false` on no
     /// block.
+    #[inline(always)]
     pub fn is_unique(&self) -> bool
         ensures entry { WithNewPass {H = H} H.real self.now.place (λ first last.
             at_owner self.now.place ((result ≡ false)
@@ -545,6 +553,7 @@ impl<S: Slice, L: Layout, A: Allocator + Copy, H: Stepping> ArcSlice<S, L, A, H>
     /// Another window with the same items at the same place: `try_clone_as` with a new pass.
     ///
     /// Takes no memory and copies no item. `CountFull` exactly where `MAX_OWNERS` owners live.
+    #[inline(always)]
     pub fn try_clone(&self, rt: &impl Wait) -> Result<Self, OwnerError>
         ensures items { IfOk result (λ window. window.items ≡ self.now.items) }
         ensures place { IfOk result (λ window.
@@ -564,6 +573,7 @@ impl<S: Slice, L: Layout, A: Allocator + Copy, H: Stepping> ArcSlice<S, L, A, H>
     /// window's block.
     ///
     /// Takes no memory and copies no item. `CountFull` exactly where `MAX_OWNERS` owners live.
+    #[inline(always)]
     pub fn try_subslice(&self, rt: &impl Wait, start: usize, end: usize) -> Result<Self, OwnerError>
     where
         S: Subsliceable,

@@ -18,6 +18,7 @@ use std::sync::Wait;
 
 /// One try to raise a count: nothing where the number changed between its two steps.
 #[tactic(auto, using(crate::proofs::count::Calls::made_of, crate::proofs::count::Calls::full_of, crate::proofs::count::Calls::same_pass))]
+#[inline(always)]
 fn try_up<H: Mark>(
     word: &Word,
     most: u64,
@@ -53,6 +54,7 @@ fn try_up<H: Mark>(
 
 /// Makes a new owner, tried again until the exchange wins or finds the count at its greatest, which
 /// is refused.
+#[inline(always)]
 pub(crate) fn up<H: Mark>(
     word: &Word,
     rt: &impl Wait,
@@ -78,6 +80,7 @@ pub(crate) fn up<H: Mark>(
 }
 
 /// What an owner's end leaves that found this number.
+#[inline(always)]
 pub(crate) fn released(found: u64, last: EndTokens) -> Release
     requires { last.last ≡ (found == 1) }
     ensures last { is_last result ≡ (found == 1) }

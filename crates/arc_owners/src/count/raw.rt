@@ -21,6 +21,7 @@ impl<const MAX: u64, H: Mark> Owners<MAX, H> {
     /// # Safety
     ///
     /// The word lies at this place for as long as the block is lent: the borrow says so.
+    #[inline(always)]
     pub unsafe fn up_raw(
         place: *const u64,
         rt: &impl Wait,
@@ -47,6 +48,7 @@ impl<const MAX: u64, H: Mark> Owners<MAX, H> {
     ///
     /// The word lies at this place for as long as the block is lent: the borrow says so.
     #[tactic(auto, using(crate::proofs::count::Calls::asks_of))]
+    #[inline(always)]
     pub unsafe fn alone_raw(
         place: *const u64,
         lodging: &WordBorrow,
@@ -68,6 +70,7 @@ impl<const MAX: u64, H: Mark> Owners<MAX, H> {
     ///
     /// The word lies at this place for as long as the block is lent: the borrow says so.
     #[tactic(auto, using(crate::proofs::count::Calls::leaves_of))]
+    #[inline(always)]
     pub unsafe fn down_raw(
         place: *const u64,
         lodging: &WordBorrow,
@@ -94,6 +97,7 @@ impl<const MAX: u64, H: Mark> Owners<MAX, H> {
     ///
     /// The word lies at this place for as long as the block is lent: the borrow says so.
     #[tactic(auto, using(crate::proofs::count::Calls::asks_of))]
+    #[inline(always)]
     pub unsafe fn claim_raw(
         place: *const u64,
         lodging: &WordBorrow,

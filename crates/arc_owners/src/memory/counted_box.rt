@@ -139,6 +139,7 @@ impl<V: Drop, A: Allocator + Copy, const MAX: u64, H: Mark> CountedBox<V, A, MAX
     }
 
     /// The value.
+    #[inline(always)]
     pub fn get(&self) -> &V
         ensures { result.now ≡ value_of self.now }
     {
@@ -146,6 +147,7 @@ impl<V: Drop, A: Allocator + Copy, const MAX: u64, H: Mark> CountedBox<V, A, MAX
     }
 
     /// The value, with the allocator that its memory came from.
+    #[inline(always)]
     fn housed(&self) -> &Housed<V, A>
         ensures { result.now ≡ self.now.loan.value }
     {
@@ -153,6 +155,7 @@ impl<V: Drop, A: Allocator + Copy, const MAX: u64, H: Mark> CountedBox<V, A, MAX
     }
 
     /// Whether no other owner lives, by one load. Adds Alone with the answer. Takes no memory.
+    #[inline(always)]
     pub fn is_unique_as(&self, pass: &mut Pass<H>) -> bool
         requires pass { IsPassFor (owner_in self.now) pass.old }
         ensures entry { Asks (owner_in self.now) pass.old pass.new result }
@@ -213,6 +216,7 @@ impl<V: Drop, A: Allocator + Copy, const MAX: u64, H: Mark> CountedBox<V, A, MAX
     }
 
     /// This owner's share, the place of the word, and what the last owner gets.
+    #[inline(always)]
     fn parted(self) -> (Share<H>, *const u64, WordBorrow, KeptMemory<V, A>)
         ensures share { result.0 ≡ self.share }
         ensures word { (result.1 ≡ self.word) × (result.2 ≡ self.lodging) }
@@ -234,6 +238,7 @@ impl<V: Drop, A: Allocator + Copy, const MAX: u64, H: Mark> CountedBox<V, A, MAX
 
     /// Ends this owner by one subtraction. Adds its Down. The last one gives the memory back, and
     /// gets the value. Takes no memory.
+    #[inline(always)]
     pub fn release_as(self, pass: &mut Pass<H>) -> Option<V>
         requires pass { IsPassFor (owner_in self) pass.old }
         ensures entry { Leaves (owner_in self) pass.old pass.new (is_some result) }
@@ -250,6 +255,7 @@ impl<V: Drop, A: Allocator + Copy, const MAX: u64, H: Mark> CountedBox<V, A, MAX
     /// value; under `Whole` it is forgotten, without a step. Takes no memory. The pass is the one
     /// that the owner ended with; under `Whole` it is of no block.
     #[tactic(auto, using(crate::proofs::count::Calls::ended_by_itself))]
+    #[inline(always)]
     pub fn let_go(self) -> (Option<V>, Pass<H>)
         ensures value { IfSome result.0 (λ value. value ≡ value_of self) }
         ensures forgotten { H.whole ≡ true → (result.0 ≡ None) × IsPassOfNone result.1 }
@@ -292,6 +298,7 @@ impl<V: Drop, A: Allocator + Copy, const MAX: u64, H: Mark> CountedBox<V, A, MAX
     ///
     /// `CountFull` exactly where `MAX` owners live, which adds Full. It takes `rt` since a raise
     /// that another thread disturbs is tried again.
+    #[inline(always)]
     pub fn try_clone_as(&self, rt: &impl Wait, pass: &mut Pass<H>) -> Result<Self, CountFull>
         requires pass { IsPassFor (owner_in self.now) pass.old }
         ensures made { IfOk result (λ piece.
