@@ -1,5 +1,6 @@
 //! Blocks: memory that stays where it is while a window stands on it.
 ghost use Rattle.std.specs.Prelude.{◌≡◌, ◌≤◌, ◌↔◌, length, false, IsTrue, IfOk, IfErr};
+ghost use Rattle.std.specs.Prelude.{IfSome, IfNone};
 ghost use Rattle.std.specs.Vec.{vec_capacity, vec_len};
 ghost use Rattle.arc_owners.specs.count.Calls.{IsFirst, IsPassFor, IsFreshPass, IsNewPass, Learns};
 ghost use Rattle.arc_owners.specs.count.Calls.{Asks, FindsFull, MakesAnother, Leaves, TakesBlock};
@@ -11,7 +12,6 @@ use arc_owners::mark::{Mark, Open, Stepping};
 use arc_owners::owners::{CountedBox, Pass};
 use std::alloc::Allocator;
 use std::marker::Model;
-use std::sync::Wait;
 
 /// How many owners a window's block may have at once: 9,223,372,036,854,775,807.
 pub const MAX_OWNERS: u64 = 9223372036854775807;
@@ -159,22 +159,33 @@ impl<S: Slice, A: Allocator + Copy, const MAX: u64, H: Mark> Block<S, A, MAX, H>
         }
     }
 
-    /// One owner more of the same block, through this one. Adds Up. Takes no memory and copies no
-    /// item.
+    /// One attempt to make one owner more of the same block, through this one: nothing where
+    /// another thread's step came between, and then no entry is added. Who calls it tries again.
     ///
-    /// `CountFull` exactly where `MAX` owners live, which adds Full.
+    /// Takes no memory and copies no item.
+    ///
+    /// # Errors
+    ///
+    /// `CountFull` exactly where `MAX` owners live.
+    ///
+    /// # History
+    ///
+    /// Up, or Full where refused.
     #[inline(always)]
-    pub fn try_share_as(&self, rt: &impl Wait, pass: &mut Pass<H>) -> Result<Self, CountFull>
+    pub fn try_share_once_as(&self, pass: &mut Pass<H>) -> Option<Result<Self, CountFull>>
         requires pass { IsPassFor self.now.owner pass.old }
-        ensures made { IfOk result (λ other.
-            MakesAnother self.now.owner pass.old pass.new other.owner) }
-        ensures alike { IfOk result (λ other. (other.items ≡ self.now.items)
-            × (other.facts ≡ self.now.facts)) }
-        ensures full { IfErr result (λ _. FindsFull self.now.owner pass.old pass.new) }
+        ensures made { IfSome result (λ r. IfOk r (λ other.
+            MakesAnother self.now.owner pass.old pass.new other.owner)) }
+        ensures alike { IfSome result (λ r. IfOk r (λ other. (other.items ≡ self.now.items)
+            × (other.facts ≡ self.now.facts))) }
+        ensures full { IfSome result (λ r.
+            IfErr r (λ _. FindsFull self.now.owner pass.old pass.new)) }
+        ensures again { IfNone result (pass.new ≡ pass.old) }
     {
-        Ok(Block {
-            piece: self.piece.try_clone_as(rt, pass)?,
-        })
+        match self.piece.try_clone_once_as(pass)? {
+            Ok(piece) => Some(Ok(Block { piece })),
+            Err(e) => Some(Err(e)),
+        }
     }
 }
 

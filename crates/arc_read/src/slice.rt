@@ -1,6 +1,6 @@
 //! `ArcSlice`, a window that is read.
 ghost use Rattle.std.specs.Prelude.{◌≡◌, ◌==◌, ◌&&◌, ◌↔◌, Bool, true, false, [], length, IsOk};
-ghost use Rattle.std.specs.Prelude.{IsTrue, IfOk, IfErr, OnErr};
+ghost use Rattle.std.specs.Prelude.{IsTrue, IfOk, IfErr, IfSome, IfNone, OnErr};
 ghost use Rattle.arc_buffer.specs.Slice.{IsRange, range_answer};
 ghost use Rattle.arc_buffer.specs.Slice.{sub};
 ghost use Rattle.arc_block.specs.Block.{native_block, IsLimited};
@@ -262,10 +262,46 @@ impl<S: Subsliceable, L: Layout, A: Allocator + Copy, H: Mark> ArcSlice<S, L, A,
 }
 
 impl<S: Slice, L: Layout, A: Allocator + Copy, H: Mark> ArcSlice<S, L, A, H> {
-    /// Another window with the same items at the same place, an owner more of the block. On a block
-    /// it adds Up, or Full where refused.
+    /// One attempt of `try_clone_as`: nothing where another thread's step came between, and then no
+    /// entry is added.
+    #[inline(always)]
+    fn try_clone_once_as(&self, pass: &mut Pass<H>) -> Option<Result<Self, OwnerError>>
+        requires pass { IsPassAt self.now.place pass.old }
+        ensures items { IfSome result (λ r. IfOk r (λ window. window.items ≡ self.now.items)) }
+        ensures place { IfSome result (λ r. IfOk r (λ window.
+            Shares self.now.place pass.old pass.new window.place)) }
+        ensures refused { IfSome result (λ r. IfErr r (λ e.
+            Refuses L.clone_wants self.now.place pass.old pass.new e)) }
+        ensures again { IfNone result (pass.new ≡ pass.old) }
+    {
+        let block = match &self.block {
+            Some(block) => match block.try_share_once_as(pass)? {
+                Ok(block) => Some(block),
+                Err(e) => return Some(Err(e.into())),
+            },
+            None => None,
+        };
+        Some(Ok(ArcSlice {
+            block,
+            start: self.start,
+            end: self.end,
+            alloc: self.alloc,
+            of: PhantomData,
+        }))
+    }
+
+    /// Another window with the same items at the same place, an owner more of the block.
     ///
-    /// Takes no memory and copies no item. `CountFull` exactly where `MAX_OWNERS` owners live.
+    /// Takes no memory and copies no item. It takes `rt` since an attempt that another thread
+    /// disturbs is tried again.
+    ///
+    /// # Errors
+    ///
+    /// `CountFull` exactly where `MAX_OWNERS` owners live.
+    ///
+    /// # History
+    ///
+    /// On a block Up, or Full where refused.
     #[inline(always)]
     pub fn try_clone_as(&self, rt: &impl Wait, pass: &mut Pass<H>) -> Result<Self, OwnerError>
         requires pass { IsPassAt self.now.place pass.old }
@@ -275,24 +311,74 @@ impl<S: Slice, L: Layout, A: Allocator + Copy, H: Mark> ArcSlice<S, L, A, H> {
         ensures refused { IfErr result (λ e.
             Refuses L.clone_wants self.now.place pass.old pass.new e) }
     {
-        let block = match &self.block {
-            Some(block) => Some(block.try_share_as(rt, pass)?),
-            None => None,
-        };
-        Ok(ArcSlice {
-            block,
-            start: self.start,
-            end: self.end,
-            alloc: self.alloc,
-            of: PhantomData,
-        })
+        for _ in rt.forever() {
+            if let Some(made) = self.try_clone_once_as(pass) {
+                return made;
+            }
+        }
+        unreachable!()
     }
 
-    /// A window over the items from `start` to `end`, an owner more of the block: it adds Up, or
-    /// Full where refused. With no items it stands on nothing where the layout has static data, and
-    /// nothing is added.
+    /// One attempt of `try_subslice_as`: nothing where another thread's step came between, and then
+    /// no entry is added.
+    #[inline(always)]
+    fn try_subslice_once_as(
+        &self,
+        start: usize,
+        end: usize,
+        pass: &mut Pass<H>,
+    ) -> Option<Result<Self, OwnerError>>
+    where
+        S: Subsliceable,
+        requires range { IsRange S.boundary self.now.items start end }
+        requires pass { IsPassAt self.now.place pass.old }
+        ensures items { IfSome result (λ r.
+            IfOk r (λ part. part.items ≡ sub self.now.items start end)) }
+        ensures place { IfSome result (λ r. IfOk r (λ part.
+            Shares (part_place L.STATIC (sub self.now.items start end) start self.now.place)
+            pass.old pass.new part.place)) }
+        ensures refused { IfSome result (λ r. IfErr r (λ e.
+            Refuses L.clone_wants
+            (part_place L.STATIC (sub self.now.items start end) start self.now.place)
+            pass.old pass.new e)) }
+        ensures again { IfNone result (pass.new ≡ pass.old) }
+    {
+        match &self.block {
+            Some(block) if !stands_on_nothing::<L>(end - start) => {
+                match block.try_share_once_as(pass)? {
+                    Ok(block) => Some(Ok(ArcSlice {
+                        block: Some(block),
+                        start: self.start + start,
+                        end: self.start + end,
+                        alloc: self.alloc,
+                        of: PhantomData,
+                    })),
+                    Err(e) => Some(Err(e.into())),
+                }
+            }
+            _ => Some(Ok(ArcSlice {
+                block: None,
+                start: 0,
+                end: 0,
+                alloc: self.alloc,
+                of: PhantomData,
+            })),
+        }
+    }
+
+    /// A window over the items from `start` to `end`, an owner more of the block. With no items it
+    /// stands on nothing where the layout has static data, and nothing is added.
     ///
-    /// Takes no memory and copies no item. `CountFull` exactly where `MAX_OWNERS` owners live.
+    /// Takes no memory and copies no item. It takes `rt` since an attempt that another thread
+    /// disturbs is tried again.
+    ///
+    /// # Errors
+    ///
+    /// `CountFull` exactly where `MAX_OWNERS` owners live.
+    ///
+    /// # History
+    ///
+    /// Where the part stands on a block Up, or Full where refused.
     #[inline(always)]
     pub fn try_subslice_as(
         &self,
@@ -314,22 +400,12 @@ impl<S: Slice, L: Layout, A: Allocator + Copy, H: Mark> ArcSlice<S, L, A, H> {
             (part_place L.STATIC (sub self.now.items start end) start self.now.place)
             pass.old pass.new e) }
     {
-        match &self.block {
-            Some(block) if !stands_on_nothing::<L>(end - start) => Ok(ArcSlice {
-                block: Some(block.try_share_as(rt, pass)?),
-                start: self.start + start,
-                end: self.start + end,
-                alloc: self.alloc,
-                of: PhantomData,
-            }),
-            _ => Ok(ArcSlice {
-                block: None,
-                start: 0,
-                end: 0,
-                alloc: self.alloc,
-                of: PhantomData,
-            }),
+        for _ in rt.forever() {
+            if let Some(made) = self.try_subslice_once_as(start, end, pass) {
+                return made;
+            }
         }
+        unreachable!()
     }
 }
 

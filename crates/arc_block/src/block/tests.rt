@@ -4,18 +4,32 @@ use linked_list_allocator::LocalHeap;
 use std::test::Fail;
 use std::thread;
 
+/// Another owner of a block on which no other thread steps, so that one attempt is enough.
+fn shared<A: Allocator + Copy>(
+    block: &Block<Plain<u8>, A, 3, Open>,
+    pass: &mut Pass<Open>,
+) -> Result<Block<Plain<u8>, A, 3, Open>, Fail>
+    requires { IsPassFor block.now.owner pass.old }
+    ensures { IfOk result (λ other. MakesAnother block.now.owner pass.old pass.new other.owner) }
+{
+    match block.try_share_once_as(pass) {
+        Some(made) => Ok(made?),
+        None => Err("another thread came between".into()),
+    }
+}
+
 #[test]
 fn shared_up_to_three(rt: HostRuntime) -> Result<(), Fail> {
     let (first, mut pass) = Block::<Plain<u8>, _, 3, Open>::try_from_slice(rt.alloc(), b"Hello")?;
     assert_eq!(rt; first.as_slice(), b"Hello".as_slice());
     assert_eq!(rt; first.size(), 5);
     assert!(rt; first.is_unique_as(&mut pass));
-    let second = first.try_share_as(&rt, &mut pass)?;
-    let third = second.try_share_as(&rt, &mut pass)?;
-    assert!(rt; matches!(third.try_share_as(&rt, &mut pass), Err(CountFull)));
+    let second = shared(&first, &mut pass)?;
+    let third = shared(&second, &mut pass)?;
+    assert!(rt; matches!(third.try_share_once_as(&mut pass), Some(Err(CountFull))));
     assert!(rt; !first.is_unique_as(&mut pass));
     assert!(rt; !first.release_as(&mut pass));
-    let fourth = third.try_share_as(&rt, &mut pass)?;
+    let fourth = shared(&third, &mut pass)?;
     assert!(rt; !second.release_as(&mut pass));
     assert!(rt; !third.release_as(&mut pass));
     assert!(rt; fourth.is_unique_as(&mut pass));
@@ -28,7 +42,7 @@ fn shared_up_to_three(rt: HostRuntime) -> Result<(), Fail> {
 #[test]
 fn items_taken_back_where_alone(rt: HostRuntime) -> Result<(), Fail> {
     let (first, mut pass) = Block::<Plain<u8>, _, 3, Open>::try_from_slice(rt.alloc(), b"Hello")?;
-    let second = first.try_share_as(&rt, &mut pass)?;
+    let second = shared(&first, &mut pass)?;
     let Err(first) = first.try_into_items_as(&mut pass) else {
         return Err("beside another owner".into());
     };
@@ -47,7 +61,7 @@ fn items_taken_back_where_alone(rt: HostRuntime) -> Result<(), Fail> {
 #[test]
 fn shared_by_two_threads(rt: HostRuntime) -> Result<(), Fail> {
     let (first, mut pass) = Block::<Plain<u8>, _, 3, Open>::try_from_slice(rt.alloc(), b"Hello")?;
-    let second = first.try_share_as(&rt, &mut pass)?;
+    let second = shared(&first, &mut pass)?;
     let (one, two) = thread::join(
         &rt,
         || first.as_slice().len(),
@@ -71,7 +85,7 @@ fn memory_refused(rt: HostRuntime) -> Result<(), Fail> {
         let has_room = Vec::from_slice(&heap, &items).is_ok();
         match Block::<Plain<u8>, _, 3, Open>::try_from_slice(&heap, &items) {
             Ok((block, mut pass)) => {
-                let other = block.try_share_as(&rt, &mut pass)?;
+                let other = shared(&block, &mut pass)?;
                 let taken = heap.used();
                 drop(block);
                 assert_eq!(rt; heap.used(), taken, "in {blocks} blocks");

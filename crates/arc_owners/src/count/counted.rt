@@ -16,10 +16,11 @@ use crate::mark::Mark;
 use std::marker::PhantomData;
 use std::sync::Wait;
 
-/// One try to raise a count: nothing where the number changed between its two steps.
+/// One attempt to raise a count: nothing where the number changed between its two steps, and then
+/// no entry is added.
 #[tactic(auto, using(crate::proofs::count::Calls::made_of, crate::proofs::count::Calls::full_of, crate::proofs::count::Calls::same_pass))]
 #[inline(always)]
-fn try_up<H: Mark>(
+pub(crate) fn try_up<H: Mark>(
     word: &Word,
     most: u64,
     by: &Share<H>,

@@ -1,45 +1,46 @@
 //! The steps on the place of a word, which lies in a block's memory. A block may be gone before a
 //! release returns.
-ghost use Rattle.std.specs.Prelude.{◌≡◌, IfOk, IfErr, true, false, is_ok};
+ghost use Rattle.std.specs.Prelude.{◌≡◌, IfOk, IfErr, IfSome, IfNone, true, false, is_ok};
 ghost use Rattle.arc_owners.specs.count.Calls.{owner_of, lease_of, sole_owner, IsOwnerOf, IsPassOf};
 ghost use Rattle.arc_owners.specs.count.Calls.{Asks, MakesAnother, FindsFull, Leaves, IsTermOf};
 ghost use Rattle.arc_owners.specs.count.Calls.{HasCountIn, seen};
 ghost use Rattle.arc_owners.specs.count.Releases.{is_last, IfLast};
 ghost use Rattle.arc_owners.specs.count.Steps.{IsLodged};
 
-use super::counted::{released, up};
+use super::counted::{released, try_up};
 use super::sole::claimed;
 use super::tokens::{LifetimeEnd, Owners, Pass, Release, Share, Sole};
 use super::word::{EndTokens, Word, WordBorrow};
 use crate::error::CountFull;
 use crate::mark::Mark;
-use std::sync::Wait;
 
 impl<const MAX: u64, H: Mark> Owners<MAX, H> {
-    /// `up_as` on the place of the word.
+    /// One attempt of `up_as` on the place of the word: nothing where another thread's step came
+    /// between, and then no entry is added. Who calls it tries again.
     ///
     /// # Safety
     ///
     /// The word lies at this place for as long as the block is lent: the borrow says so.
     #[inline(always)]
-    pub unsafe fn up_raw(
+    pub unsafe fn try_up_raw(
         place: *const u64,
-        rt: &impl Wait,
         lodging: &WordBorrow,
         by: &Share<H>,
         pass: &mut Pass<H>,
-    ) -> Result<Share<H>, CountFull>
+    ) -> Option<Result<Share<H>, CountFull>>
         requires most { lodging.now.block.most ≡ MAX }
         requires share { IsOwnerOf lodging.now.block by.now }
         requires pass { IsPassOf lodging.now.block pass.old }
         requires place { IsLodged lodging.now place (lease_of by.now) }
-        ensures made { IfOk result (λ s.
-            MakesAnother (owner_of by.now) pass.old pass.new (owner_of s)) }
-        ensures lent { IfOk result (λ s. lease_of s ≡ lease_of by.now) }
-        ensures full { IfErr result (λ _. FindsFull (owner_of by.now) pass.old pass.new) }
+        ensures made { IfSome result (λ r. IfOk r (λ s.
+            MakesAnother (owner_of by.now) pass.old pass.new (owner_of s))) }
+        ensures lent { IfSome result (λ r. IfOk r (λ s. lease_of s ≡ lease_of by.now)) }
+        ensures full { IfSome result (λ r.
+            IfErr r (λ _. FindsFull (owner_of by.now) pass.old pass.new)) }
+        ensures again { IfNone result (pass.new ≡ pass.old) }
     {
         let word = unsafe { lodging.word(place, &by.right) };
-        up(word, rt, MAX, by, pass)
+        try_up(word, MAX, by, pass)
     }
 
     /// `alone_as` on the place of the word.

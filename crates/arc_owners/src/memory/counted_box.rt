@@ -286,19 +286,61 @@ impl<V: Drop, A: Allocator + Copy, const MAX: u64, H: Mark> CountedBox<V, A, MAX
 }
 
 impl<V: Drop, A: Allocator + Copy, const MAX: u64, H: Mark> CountedBox<V, A, MAX, H> {
-    ghost use Rattle.std.specs.Prelude.{◌≡◌, ◌≤◌, IfOk, IfErr, IfSome, is_some, is_ok, true, false};
-    ghost use Rattle.std.specs.Prelude.{None};
-    ghost use Rattle.arc_owners.specs.count.Calls.{IsPassFor, IsPassOfNone, IsFirst, IsFreshPass};
-    ghost use Rattle.arc_owners.specs.count.Calls.{IsNewPass, Learns, Asks, FindsFull};
-    ghost use Rattle.arc_owners.specs.count.Calls.{MakesAnother, Leaves, TakesBlock, EndsByItself};
+    ghost use Rattle.std.specs.Prelude.{◌≡◌, IfOk, IfErr, IfSome, IfNone};
+    ghost use Rattle.arc_owners.specs.count.Calls.{IsPassFor, FindsFull, MakesAnother};
     ghost use Rattle.arc_owners.specs.memory.Boxes.{owner_in, value_of};
 
-    /// One owner more of the same value, through this one. Adds Up. Takes no memory, and copies
-    /// nothing.
+    /// One attempt to make one owner more of the same value, through this one: nothing where another
+    /// thread's step came between, and then no entry is added. Who calls it tries again.
     ///
-    /// `CountFull` exactly where `MAX` owners live, which adds Full. It takes `rt` since a raise
-    /// that another thread disturbs is tried again.
+    /// Takes no memory, and copies nothing.
+    ///
+    /// # Errors
+    ///
+    /// `CountFull` exactly where `MAX` owners live.
+    ///
+    /// # History
+    ///
+    /// Up, or Full where refused.
     #[inline(always)]
+    pub fn try_clone_once_as(&self, pass: &mut Pass<H>) -> Option<Result<Self, CountFull>>
+        requires pass { IsPassFor (owner_in self.now) pass.old }
+        ensures made { IfSome result (λ r. IfOk r (λ piece.
+            MakesAnother (owner_in self.now) pass.old pass.new (owner_in piece)
+            × (value_of piece ≡ value_of self.now))) }
+        ensures full { IfSome result (λ r.
+            IfErr r (λ _. FindsFull (owner_in self.now) pass.old pass.new)) }
+        ensures again { IfNone result (pass.new ≡ pass.old) }
+    {
+        match unsafe {
+            Owners::<MAX, H>::try_up_raw(self.word, &self.lodging, &self.share, pass)?
+        } {
+            Ok(share) => Some(Ok(CountedBox {
+                at: self.at,
+                word: self.word,
+                value: self.value,
+                lodging: self.lodging.again(),
+                loan: self.loan.again(),
+                kept: self.kept.again(),
+                share,
+            })),
+            Err(e) => Some(Err(e)),
+        }
+    }
+
+    /// One owner more of the same value, through this one: `try_clone_once_as`, tried again until it
+    /// answers.
+    ///
+    /// Takes no memory, and copies nothing. It takes `rt` since an attempt that another thread
+    /// disturbs is tried again.
+    ///
+    /// # Errors
+    ///
+    /// `CountFull` exactly where `MAX` owners live.
+    ///
+    /// # History
+    ///
+    /// Up, or Full where refused.
     pub fn try_clone_as(&self, rt: &impl Wait, pass: &mut Pass<H>) -> Result<Self, CountFull>
         requires pass { IsPassFor (owner_in self.now) pass.old }
         ensures made { IfOk result (λ piece.
@@ -306,18 +348,12 @@ impl<V: Drop, A: Allocator + Copy, const MAX: u64, H: Mark> CountedBox<V, A, MAX
             × (value_of piece ≡ value_of self.now)) }
         ensures full { IfErr result (λ _. FindsFull (owner_in self.now) pass.old pass.new) }
     {
-        let share = unsafe {
-            Owners::<MAX, H>::up_raw(self.word, rt, &self.lodging, &self.share, pass)?
-        };
-        Ok(CountedBox {
-            at: self.at,
-            word: self.word,
-            value: self.value,
-            lodging: self.lodging.again(),
-            loan: self.loan.again(),
-            kept: self.kept.again(),
-            share,
-        })
+        for _ in rt.forever() {
+            if let Some(made) = self.try_clone_once_as(pass) {
+                return made;
+            }
+        }
+        unreachable!()
     }
 }
 
