@@ -1,3 +1,6 @@
+ghost use Rattle.std.specs.Prelude.{◌≡◌, IfOk};
+ghost use Rattle.arc_owners.specs.count.Calls.{IsPassFor, MakesAnother};
+
 use super::*;
 use arc_buffer::kinds::Plain;
 use linked_list_allocator::LocalHeap;
