@@ -1,3 +1,4 @@
 pub mod Slice
 pub mod Text
 pub mod Laws
+pub mod Buffers

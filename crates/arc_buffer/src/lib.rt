@@ -1,4 +1,5 @@
 //! What a window's items may be.
 #![tactic(auto)]
 
+pub mod buffer;
 pub mod kinds;

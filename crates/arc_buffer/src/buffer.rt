@@ -1,0 +1,87 @@
+//! Callers' buffers: a list, and a list with room.
+ghost use Rattle.std.specs.Prelude.{◌≡◌, ◌≤◌, ◌<◌, ◌+◌, ◌++◌, ◌∷◌, ℕ, List, [], length};
+ghost use Rattle.std.specs.Prelude.{IfErr, OnOk, OnErr};
+ghost use Rattle.arc_owners.specs.declared.error.TryReserveError.{TryReserveError};
+ghost use Rattle.std.specs.Borrow.{Array, Lends, sem};
+ghost use Rattle.arc_owners.specs.declared.error.TryReserveError.TheVariants as reserve;
+
+use arc_owners::error::TryReserveError;
+
+mod vec;
+
+/// A caller's buffer of items: its list stays the same while nobody writes.
+pub trait Buffer<T>: Send + Sync {
+    /// Its items.
+    ghost list: { Self → List T };
+
+    /// Its items.
+    fn as_slice(&self) -> &[T]
+        ensures { result.now ≡ list self.now };
+
+    /// Whether nobody else has a part of it.
+    fn is_unique(&self) -> bool {
+        true
+    }
+}
+
+/// A buffer that may be written, with room for more items.
+pub trait BufferMut<T>: Buffer<T> {
+    /// How many places it has.
+    ghost places: { Self → ℕ };
+
+    /// The same buffer with other items.
+    ghost with_list: { Self → List T → Self };
+
+    /// Its items, to be changed in their places.
+    fn as_mut_slice(&mut self) -> &mut [T]
+        ensures* writes_back { sem 𝓛 (Lends Self.row (Array T.row 0) self.entry result
+            (with_list self.old)) }
+        ensures value { result.now ≡ Self.list self.old };
+
+    /// How many places it has.
+    fn capacity(&self) -> usize
+        ensures value { result ≡ places self.now }
+        ensures bound { length (Self.list self.now) ≤ result };
+
+    /// Why it may refuse to make room for so many items more.
+    ghost refuses: { Self → ℕ → TryReserveError → Type 0 };
+
+    /// Makes room for so many items more than there are. The list stays.
+    ///
+    /// # Errors
+    ///
+    /// `AllocError`, `Unsupported` or `CapacityOverflow`, as the buffer says. It has as many places
+    /// then as before.
+    ///
+    /// # Allocates
+    ///
+    /// Where it has no room, as the buffer does.
+    fn try_reserve(&mut self, additional: usize) -> Result<(), TryReserveError>
+        ensures list { Self.list self.new ≡ Self.list self.old }
+        ensures ok { OnOk result (length (Self.list self.old) + additional ≤ places self.new) }
+        ensures refused { IfErr result (λ e. refuses self.old additional e) }
+        ensures back { OnErr result (places self.new ≡ places self.old) };
+
+    /// Appends an item where there is a place for it, which takes no memory.
+    ///
+    /// # Errors
+    ///
+    /// The item comes back where each place has one.
+    fn try_push(&mut self, item: T) -> Result<(), T>
+        ensures ok { OnOk result ((length (Self.list self.old) < places self.old)
+            × (Self.list self.new ≡ Self.list self.old ++ item ∷ [])) }
+        ensures full { IfErr result (λ back. (places self.old ≡ length (Self.list self.old))
+            × (back ≡ item) × (Self.list self.new ≡ Self.list self.old)) }
+        ensures places { places self.new ≡ places self.old };
+
+    /// Written in its places, a buffer has the list that was written, and as many places.
+    ghost keeps: { (b : Self) (xs : List T) → length xs ≡ length (Self.list b)
+        → (Self.list (with_list b xs) ≡ xs) × (places (with_list b xs) ≡ places b) };
+
+    /// A buffer has no other owners that it could name.
+    ghost names_no_owner: { (b : Self) (additional : ℕ)
+        → refuses b additional reserve.NotUnique → ⊥ };
+}
+
+#[cfg(test)]
+mod tests;

@@ -1,0 +1,64 @@
+//! Vectors as buffers.
+ghost use Rattle.std.specs.Prelude.{◌≡◌, ◌≤◌, ◌<◌, ◌+◌, ◌++◌, ◌∷◌, [], length, refl, OnOk, OnErr};
+ghost use Rattle.std.specs.Prelude.{IfErr};
+ghost use Rattle.std.specs.Vec.{vec_items, vec_capacity, with_items};
+ghost use Rattle.std.proofs.Common.{sym, ◌∙◌};
+ghost use Rattle.std.proofs.lemmas.List.{with_items_is};
+ghost use Rattle.arc_buffer.specs.Buffers.{vec_refusal, vec_names_no_owner};
+
+use super::{Buffer, BufferMut};
+use arc_owners::error::TryReserveError;
+use std::alloc::Allocator;
+
+impl<T: Send + Sync, A: Allocator + Send + Sync> Buffer<T> for Vec<T, A> {
+    ghost list = { vec_items };
+
+    fn as_slice(&self) -> &[T] {
+        Vec::as_slice(self)
+    }
+}
+
+impl<T: Send + Sync, A: Allocator + Send + Sync> BufferMut<T> for Vec<T, A> {
+    ghost places = { vec_capacity };
+
+    ghost with_list = { with_items };
+
+    fn as_mut_slice(&mut self) -> &mut [T] {
+        Vec::as_mut_slice(self)
+    }
+
+    fn capacity(&self) -> usize {
+        Vec::capacity(self)
+    }
+
+    ghost refuses = { λ v additional e. e ≡ vec_refusal (length (vec_items v) + additional) };
+
+    fn try_reserve(&mut self, additional: usize) -> Result<(), TryReserveError> {
+        let len = self.len();
+        match self.reserve(additional) {
+            Ok(()) => Ok(()),
+            Err(_) if additional > isize::MAX as usize - len => {
+                Err(TryReserveError::CapacityOverflow)
+            }
+            Err(_) => Err(TryReserveError::AllocError),
+        }
+    }
+
+    fn try_push(&mut self, item: T) -> Result<(), T>
+        ensures ok { OnOk result ((length (vec_items self.old) < vec_capacity self.old)
+            × (vec_items self.new ≡ vec_items self.old ++ item ∷ [])) }
+        ensures full { IfErr result (λ back. (vec_capacity self.old ≡ length (vec_items self.old))
+            × (back ≡ item) × (vec_items self.new ≡ vec_items self.old)) }
+        ensures places { vec_capacity self.new ≡ vec_capacity self.old }
+    {
+        if self.len() == Vec::capacity(self) {
+            return Err(item);
+        }
+        self.push_reserved(item);
+        Ok(())
+    }
+
+    ghost keeps = { λ v xs same. (with_items_is v xs (same ∙ sym v.ok.0), refl) };
+
+    ghost names_no_owner = { λ v additional. vec_names_no_owner (length (vec_items v) + additional) };
+}
