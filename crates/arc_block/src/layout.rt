@@ -1,17 +1,58 @@
-//! Layouts: how a window holds what it stands on.
-ghost use Rattle.std.specs.Prelude.{◌≡◌, ◌==◌, ◌&&◌, Bool, true, false, refl};
+//! Layouts: on what windows may stand, and how that is held.
+//!
+//! | Layout | Vectors and buffers | An `Arc` of the caller's | Nothing, static data | Lone vector |
+//! |---|---|---|---|---|
+//! | `ArcLayout<ANY, STATIC>` | if `ANY` | counted, if `ANY` | if `STATIC` | no |
+//! | `BoxedSliceLayout` | yes | counted | yes | where its length is its capacity |
+//! | `VecLayout` | yes | counted | yes | yes |
+//! | `RawLayout` | yes | a block by itself | yes | no |
+//!
+//! All hold native blocks. No window stands on a vector, a buffer or an `Arc` yet.
+ghost use Rattle.std.specs.Prelude.{◌≡◌, ◌==◌, ◌&&◌, ℕ, Bool, true, false, refl};
 ghost use Rattle.arc_block.specs.Block.{Sort};
+ghost use Rattle.arc_block.specs.Layouts.{clones_want, never, always, where_full};
+ghost use Rattle.arc_block.specs.Layouts.{no_clone_wants};
 
-/// A layout of windows.
+/// A layout of windows: on what they may stand, and how that is held.
 pub trait Layout {
+    /// The layout of the writable windows that go with these: one with `LayoutMut`.
+    type Writable;
+
     /// Whether windows may stand on nothing, or on static data.
     ghost STATIC: { Bool };
+
+    /// Whether a block may be a vector, a caller's buffer, or an `Arc` of one.
+    ghost ANY: { Bool };
+
+    /// Whether an `Arc` of the caller's is a block by itself, and isn't counted once more.
+    ghost RAW: { Bool };
+
+    /// Whether a vector of this length and capacity stands alone until its window is cloned.
+    ghost lone: { ℕ → ℕ → Bool };
 
     /// Whether a clone of a window that stands on a block of this sort may want memory.
     ghost clone_wants: { Sort → Bool };
 
     /// Whether windows may stand on nothing, or on static data.
     const STATIC: bool;
+
+    /// Whether a block may be a vector, a caller's buffer, or an `Arc` of one.
+    const ANY: bool;
+
+    /// Whether an `Arc` of the caller's is a block by itself, and isn't counted once more.
+    const RAW: bool;
+
+    /// Whether a vector of this length and capacity stands alone until its window is cloned.
+    fn is_lone(len: usize, capacity: usize) -> bool
+        ensures { result ≡ lone len capacity };
+}
+
+/// Layouts of writable windows: those that are their own `Writable`.
+pub trait LayoutMut: Layout {}
+
+/// Layouts under which a block may be a vector, a caller's buffer, or an `Arc` of one.
+pub trait AnyBufferLayout: Layout {
+    ghost has_any: { Self.ANY ≡ true };
 }
 
 /// Layouts under which windows may stand on nothing, or on static data.
@@ -19,25 +60,184 @@ pub trait StaticLayout: Layout {
     ghost has_static: { Self.STATIC ≡ true };
 }
 
+/// Layouts under which no clone wants memory.
+pub trait CloneNoAllocLayout: Layout {
+    ghost clones_without_memory: { (sort : Sort) → Self.clone_wants sort ≡ false };
+}
+
+/// Layouts under which `truncate` wants no memory: all.
+pub trait TruncateNoAllocLayout: Layout {}
+
+impl<L: Layout> TruncateNoAllocLayout for L {}
+
+/// Layouts to which windows of another one may go: all. Where the new one doesn't hold what the
+/// window stands on, it is handed back.
+pub trait FromLayout<L: Layout>: Layout {}
+
+impl<L: Layout, M: Layout> FromLayout<L> for M {}
+
 /// The default layout: a window stands on a counted block. `ANY` says whether that may be a vector
 /// or a buffer of the caller's, `STATIC` whether windows may stand on nothing, or on static data.
 #[derive(Clone, Copy, Debug, PartialEq, Eq)]
 pub struct ArcLayout<const ANY: bool, const STATIC: bool>;
 
 impl<const ANY: bool, const STATIC: bool> Layout for ArcLayout<ANY, STATIC> {
+    type Writable = ArcLayout<ANY, STATIC>;
+
     ghost STATIC = { STATIC };
 
-    ghost clone_wants = { λ _. false };
+    ghost ANY = { ANY };
+
+    ghost RAW = { false };
+
+    ghost lone = { never };
+
+    ghost clone_wants = { clones_want false false };
 
     const STATIC: bool = STATIC;
+
+    const ANY: bool = ANY;
+
+    const RAW: bool = false;
+
+    fn is_lone(len: usize, capacity: usize) -> bool {
+        let _ = (len, capacity);
+        false
+    }
+}
+
+impl<const ANY: bool, const STATIC: bool> LayoutMut for ArcLayout<ANY, STATIC> {}
+
+impl<const STATIC: bool> AnyBufferLayout for ArcLayout<true, STATIC> {
+    ghost has_any = { refl };
 }
 
 impl<const ANY: bool> StaticLayout for ArcLayout<ANY, true> {
     ghost has_static = { refl };
 }
 
+impl<const ANY: bool, const STATIC: bool> CloneNoAllocLayout for ArcLayout<ANY, STATIC> {
+    ghost clones_without_memory = { no_clone_wants };
+}
+
+/// A vector whose length is its capacity, as a boxed slice's is, stands alone until its window is
+/// cloned.
+#[derive(Clone, Copy, Debug, PartialEq, Eq)]
+pub struct BoxedSliceLayout;
+
+impl Layout for BoxedSliceLayout {
+    type Writable = DefaultLayoutMut;
+
+    ghost STATIC = { true };
+
+    ghost ANY = { true };
+
+    ghost RAW = { false };
+
+    ghost lone = { where_full };
+
+    ghost clone_wants = { clones_want true false };
+
+    const STATIC: bool = true;
+
+    const ANY: bool = true;
+
+    const RAW: bool = false;
+
+    fn is_lone(len: usize, capacity: usize) -> bool {
+        len == capacity
+    }
+}
+
+impl AnyBufferLayout for BoxedSliceLayout {
+    ghost has_any = { refl };
+}
+
+impl StaticLayout for BoxedSliceLayout {
+    ghost has_static = { refl };
+}
+
+/// A vector stands alone until its window is cloned.
+#[derive(Clone, Copy, Debug, PartialEq, Eq)]
+pub struct VecLayout;
+
+impl Layout for VecLayout {
+    type Writable = VecLayout;
+
+    ghost STATIC = { true };
+
+    ghost ANY = { true };
+
+    ghost RAW = { false };
+
+    ghost lone = { always };
+
+    ghost clone_wants = { clones_want true false };
+
+    const STATIC: bool = true;
+
+    const ANY: bool = true;
+
+    const RAW: bool = false;
+
+    fn is_lone(len: usize, capacity: usize) -> bool {
+        let _ = (len, capacity);
+        true
+    }
+}
+
+impl LayoutMut for VecLayout {}
+
+impl AnyBufferLayout for VecLayout {
+    ghost has_any = { refl };
+}
+
+impl StaticLayout for VecLayout {
+    ghost has_static = { refl };
+}
+
+/// An `Arc` of the caller's is a block by itself.
+#[derive(Clone, Copy, Debug, PartialEq, Eq)]
+pub struct RawLayout;
+
+impl Layout for RawLayout {
+    type Writable = DefaultLayoutMut;
+
+    ghost STATIC = { true };
+
+    ghost ANY = { true };
+
+    ghost RAW = { true };
+
+    ghost lone = { never };
+
+    ghost clone_wants = { clones_want false true };
+
+    const STATIC: bool = true;
+
+    const ANY: bool = true;
+
+    const RAW: bool = true;
+
+    fn is_lone(len: usize, capacity: usize) -> bool {
+        let _ = (len, capacity);
+        false
+    }
+}
+
+impl AnyBufferLayout for RawLayout {
+    ghost has_any = { refl };
+}
+
+impl StaticLayout for RawLayout {
+    ghost has_static = { refl };
+}
+
 /// The layout of windows that name none.
 pub type DefaultLayout = ArcLayout<true, true>;
+
+/// The layout of writable windows that name none.
+pub type DefaultLayoutMut = ArcLayout<true, true>;
 
 /// Whether a window that is made with `len` items stands on nothing: one with none does, where the
 /// layout has static data.

@@ -3,7 +3,7 @@ ghost use Rattle.arc_owners.specs.count.Calls.{IsPassOfNone};
 ghost use Rattle.arc_read.specs.Steps.{IsPassAt};
 
 use super::*;
-use arc_block::layout::ArcLayout;
+use arc_block::layout::{ArcLayout, BoxedSliceLayout, RawLayout, VecLayout};
 use arc_buffer::kinds::{ByteText, Owned, Plain, Text};
 use arc_owners::mark::Whole;
 use linked_list_allocator::LocalHeap;
@@ -422,5 +422,37 @@ fn owned_items_taken_back(rt: HostRuntime) -> Result<(), Fail> {
     assert_eq!(rt; Arc::strong_count(&a), 2);
     drop(items);
     assert_eq!(rt; Arc::strong_count(&a), 1);
+    Ok(())
+}
+
+/// Windows over `Hello world`, made, cut and split: whether each has its items, and whether an
+/// empty cut is an owner exactly where the layout has no static data.
+fn made_cut_and_split<L: Layout>(rt: &impl Wait, alloc: Global) -> Result<bool, Fail> {
+    let text: ArcSlice<Plain<u8>, L> = ArcSlice::try_from_slice(alloc, b"Hello world")?;
+    let hello = text.try_subslice(rt, 0, 5)?;
+    let mut back = text.try_clone(rt)?;
+    let front = back.try_split_to(rt, 6)?;
+    let whole = front.try_clone(rt)?.try_split_off(rt, 0)?;
+    let parts = hello.as_slice() == b"Hello".as_slice()
+        && front.as_slice() == b"Hello ".as_slice()
+        && whole.as_slice() == b"Hello ".as_slice()
+        && back.as_slice() == b"world".as_slice();
+    drop(hello);
+    drop(front);
+    drop(whole);
+    drop(back);
+    let none = text.try_subslice(rt, 3, 3)?;
+    Ok(parts && none.is_empty() && text.is_unique() == L::STATIC)
+}
+
+#[test]
+fn under_each_layout(rt: HostRuntime) -> Result<(), Fail> {
+    assert!(rt; made_cut_and_split::<ArcLayout<true, true>>(&rt, rt.alloc())?);
+    assert!(rt; made_cut_and_split::<ArcLayout<true, false>>(&rt, rt.alloc())?);
+    assert!(rt; made_cut_and_split::<ArcLayout<false, true>>(&rt, rt.alloc())?);
+    assert!(rt; made_cut_and_split::<ArcLayout<false, false>>(&rt, rt.alloc())?);
+    assert!(rt; made_cut_and_split::<BoxedSliceLayout>(&rt, rt.alloc())?);
+    assert!(rt; made_cut_and_split::<VecLayout>(&rt, rt.alloc())?);
+    assert!(rt; made_cut_and_split::<RawLayout>(&rt, rt.alloc())?);
     Ok(())
 }
