@@ -11,3 +11,4 @@ mod Ended
 mod Founded
 mod States
 mod Splits
+mod Blocks

@@ -2,6 +2,7 @@ pub mod RunOf
 pub mod Step
 pub mod Seen
 pub mod Stands
+pub mod Blocks
 pub mod Slots
 pub mod Additions
 pub mod State

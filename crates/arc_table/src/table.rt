@@ -71,7 +71,7 @@ where
     ghost use Rattle.arc_table.specs.Step.{Step, setting_of};
     ghost use Rattle.arc_table.specs.Seen.{seen_command, seen_reply};
     ghost use Rattle.arc_table.specs.Additions.{Adds};
-    ghost use Rattle.arc_table.specs.State.{Agrees, EndsAll, EndsWith, empty_state};
+    ghost use Rattle.arc_table.specs.State.{Agrees, CarriesOut, EndsAll, EndsWith, empty_state};
     ghost use Rattle.arc_table.specs.declared.command.Cmd.TheVariants as command;
 
     /// No window yet. Takes no memory.
@@ -92,6 +92,16 @@ where
     /// Takes memory for a window more, for what a window is made of and for what is shown; refused,
     /// the answer is `Alloc`.
     pub fn step(&mut self, rt: &impl Wait, command: Cmd<Vec<S::Item, A>>) -> Reply<Vec<S::Item, A>>
+        ensures { CarriesOut (setting_of L.STATIC L.clone_wants S.DROPS S.boundary) self.old
+            (seen_command command) (seen_reply result) self.new }
+    {
+        let reply = self.answer(rt, command);
+        self.agree();
+        reply
+    }
+
+    /// The reply to one command, by the method for it.
+    fn answer(&mut self, rt: &impl Wait, command: Cmd<Vec<S::Item, A>>) -> Reply<Vec<S::Item, A>>
         ensures rows { Step (setting_of L.STATIC L.clone_wants S.DROPS S.boundary) self.old.table
             (seen_command command) (seen_reply result) self.new.table }
         ensures passes { Adds self.old.standing (seen_command command) (seen_reply result)
@@ -113,7 +123,7 @@ where
     }
 
     /// Each window stands on the block of its row. Does nothing: its contract is the law.
-    pub fn agree(&self)
+    fn agree(&self)
         ensures { Agrees self.now }
     {
         let _ = &self.slots;
