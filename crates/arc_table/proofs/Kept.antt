@@ -14,7 +14,7 @@ use Rattle.arc_block.specs.Owned.{Stand, owners_on, IsKept}
 use Rattle.arc_block.specs.Place.{Place}
 use Rattle.arc_block.proofs.Owned.{kept-nowhere, kept-gone-nowhere, kept-shared, kept-asked}
 use Rattle.arc_block.proofs.Owned.{kept-full, kept-gone, kept-same, alone-exact, full-here, room-here}
-use Rattle.arc_table.specs.Additions.{Through, Along, Beside, RefusesAt, AddsNothing}
+use Rattle.arc_table.specs.Calls.{Through, Along, Beside, RefusesAt, AddsNothing}
 use Rattle.arc_table.specs.Stands.{HasPassFor}
 
 -- what a call does to the pass of the owner by which it goes

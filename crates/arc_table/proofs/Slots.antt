@@ -12,7 +12,7 @@ use Rattle.arc_block.specs.Block.{Sort, BlockInfo}
 use Rattle.arc_block.specs.Owned.{Stand}
 use Rattle.arc_block.specs.Place.{Place, nowhere, static_data, on_block, at_owner, moved}
 use Rattle.arc_read.specs.Steps.{IsPassAt, Shares, Refuses}
-use Rattle.arc_table.specs.Additions.{Through, Along, Beside, RefusesAt, AddsNothing}
+use Rattle.arc_table.specs.Calls.{Through, Along, Beside, RefusesAt, AddsNothing}
 use Rattle.arc_table.specs.Stands.{numbered, is_numbered, stand_at, HasPassFor, TakenOut, put_back}
 use Rattle.arc_table.specs.Stands.{HasNumber}
 use Rattle.arc_table.proofs.Taken.{back-same, left-number}

@@ -10,7 +10,7 @@ use Rattle.arc_block.specs.Table.{Row, reader}
 use Rattle.arc_read.specs.Window.{Window}
 use Rattle.arc_read.specs.Steps.{Shares}
 use Rattle.arc_read.specs.Cuts.{SharesPart, SplitsOff, SplitsTo, cut_window}
-use Rattle.arc_table.specs.Additions.{Beside}
+use Rattle.arc_table.specs.Calls.{Beside}
 use Rattle.arc_table.specs.Slots.{SlotView, row_of, stand_of}
 use Rattle.arc_table.specs.Splits.{IsSplit}
 use Rattle.arc_table.specs.Stands.{is_numbered, numbered, stand_at, HasPassFor, TakenOut, put_back}

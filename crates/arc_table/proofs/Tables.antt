@@ -17,7 +17,7 @@ use Rattle.arc_block.specs.Block.{Sort}
 use Rattle.arc_block.specs.Owned.{Stand, owners_on, IsKept}
 use Rattle.arc_block.specs.Place.{Place, nowhere, static_data, on_block}
 use Rattle.arc_block.specs.Table.{Row, Table, Role, reader, row_at, block_of, owners, is_alone}
-use Rattle.arc_table.specs.Additions.{Along, Beside, RefusesAt, Splits}
+use Rattle.arc_table.specs.Calls.{Along, Beside, RefusesAt}
 use Rattle.arc_block.proofs.Owned.{kept-turned}
 use Rattle.arc_table.specs.Slots.{SlotView, row_of, stand_of, stands_of}
 use Rattle.arc_table.specs.State.{State, state_of, stand_block}
@@ -278,28 +278,6 @@ module _ {T : Type 0} (slots : List (Option (SlotView T))) (passes : List (Pass 
             (kept-turned (stands_of slots) i (stand_of (Some s)) (stand_of (Some i_kept))
             (kept-beside i k passes' (stand_of (Some s)) (stand_of (Some i_kept)) stand-there joins)
             stand-there)
-
-        pub stays-added : stand_of (Some i_kept) ≡ stand_of (Some s)
-            → Beside (stand_of (Some s)) passes passes' (stand_of (Some i_handed))
-            → Splits (state_of slots passes).standing i (state_of slots' passes').standing
-        stays-added same joins = (
-          stand_of (Some i_handed),
-          subst (λ st. Beside (option_flatten st) passes passes' (stand_of (Some i_handed)))
-              (sym stand-there) joins,
-          inl (stays same),
-        )
-
-        pub goes-added : stand_of (Some i_handed) ≡ stand_of (Some s)
-            → Beside (stand_of (Some s)) passes passes' (stand_of (Some i_kept))
-            → Splits (state_of slots passes).standing i (state_of slots' passes').standing
-        goes-added same joins = (
-          stand_of (Some i_kept),
-          subst (λ st. Beside (option_flatten st) passes passes' (stand_of (Some i_kept)))
-              (sym stand-there) joins,
-          inr (subst (λ st. stands_of slots'
-              ≡ slice_set (stands_of slots) i (stand_of (Some i_kept)) ++ option_flatten st ∷ [])
-              (sym stand-there) (goes same)),
-        )
 
         -- the table is the one that a split leads to
         pub split-row : (kept handed made : Row T (Unit {0})) (madeSlot : SlotView T) (number : ℕ)

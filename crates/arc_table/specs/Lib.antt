@@ -4,6 +4,7 @@ pub mod Seen
 pub mod Stands
 pub mod Blocks
 pub mod Slots
+pub mod Calls
 pub mod Additions
 pub mod State
 pub mod Splits

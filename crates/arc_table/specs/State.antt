@@ -46,7 +46,7 @@ Agrees s = map row_block s.table.rows ≡ map stand_block s.standing.stands
 pub record CarriesOut {T : Type 0} (setting : Setting T) (old : State T) (c : Cmd (List T))
     (reply : Reply (List T)) (new : State T) : Type 0 where
   pub rows : Step setting old.table c reply new.table
-  pub passes : Adds old.standing c reply new.standing
+  pub passes : Adds old.table old.standing c reply new.standing
   pub agree : Agrees new
 
 -- the end of each window of so many, in the order of their numbers

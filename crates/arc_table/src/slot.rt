@@ -49,7 +49,7 @@ impl<S: Slice, L: Layout, A: Allocator + Copy> Slot<S, L, A> {
     ghost use Rattle.arc_block.specs.Table.{reader};
     ghost use Rattle.arc_owners.specs.count.Calls.{Asks, Leaves};
     ghost use Rattle.arc_table.specs.Stands.{HasPassFor};
-    ghost use Rattle.arc_table.specs.Additions.{Along, Beside, RefusesAt};
+    ghost use Rattle.arc_table.specs.Calls.{Along, Beside, RefusesAt};
     ghost use Rattle.arc_table.specs.Step.{advanced, truncated, cut_row, off_part, to_part};
     ghost use Rattle.arc_table.specs.Step.{setting_of};
     ghost use Rattle.arc_table.specs.Splits.{IsSplit};

@@ -4,7 +4,7 @@ use Rattle.std.proofs.Common.{sym, ap, ◌∙◌, subst}
 use Rattle.arc_buffer.specs.Slice.{sub}
 use Rattle.arc_buffer.proofs.Sub.{length-sub}
 use Rattle.arc_block.specs.Place.{part_place}
-use Rattle.arc_table.specs.Additions.{Beside, RefusesAt}
+use Rattle.arc_table.specs.Calls.{Beside, RefusesAt}
 use Rattle.arc_table.specs.Slots.{SlotView, stand_of}
 use Rattle.arc_table.specs.Stands.{HasPassFor, numbered, stand_at, put_back}
 use Rattle.arc_table.proofs.Slots.{still-number, shares-part, refuses-part, part-fits, part-place}

@@ -68,6 +68,6 @@ returns-clause-passes g c =
     ∙ ap Some c.in-Some-index_mut.is in
     let s' = c.advance.new.self in
     subst (λ (o : State g.row.S-Item.Denot).
-    Adds {T = g.row.S-Item.Denot} o.standing (command.Adv i c.args.by) reply.Ok
+    Adds {T = g.row.S-Item.Denot} o.table o.standing (command.Adv i c.args.by) reply.Ok
     (state_of (slice_set slots i (Some s')) passes).standing)
     c.self.view_is (changed-added slots passes i s there s' c.advance.ensures.stand)

@@ -107,7 +107,7 @@ returns-in-Ok-clause-passes g c =
     let slots' = c.push_reserved.new.self.items in
     let more = behind slots (Some made) c.push_reserved.ensures.items c.reserve.ensures.items in
     subst (λ (o : State g.row.S-Item.Denot).
-    Adds {T = g.row.S-Item.Denot} o.standing (command.Clone i) (reply.New c.len-number.result)
+    Adds {T = g.row.S-Item.Denot} o.table o.standing (command.Clone i) (reply.New c.len-number.result)
     (state_of slots' after).standing)
     c.self.view_is (joins-added slots passes i s there slots' after made more c.in-Ok.ensures.stand)
 
@@ -145,7 +145,7 @@ returns-in-Err-clause-passes g c =
     let slots' = c.reserve.new.self.items in
     let e = c.in-Err.e in
     subst (λ (o : State g.row.S-Item.Denot).
-    Adds {T = g.row.S-Item.Denot} o.standing (command.Clone i) (reply.Owner e)
+    Adds {T = g.row.S-Item.Denot} o.table o.standing (command.Clone i) (reply.Owner e)
     (state_of slots' after).standing)
     c.self.view_is
     (refused-added slots passes i s there slots' after g.L.Layout.clone_wants (row_of s).place e

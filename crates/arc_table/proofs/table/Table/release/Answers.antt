@@ -81,7 +81,7 @@ returns-clause-passes g c =
     let after = c.release.new.passes.of_blocks.items in
     let slots' = slice_set slots i c.replace.new.dest in
     subst (λ (o : State g.row.S-Item.Denot).
-    Adds {T = g.row.S-Item.Denot} o.standing (command.Drop i) reply.Ok
+    Adds {T = g.row.S-Item.Denot} o.table o.standing (command.Drop i) reply.Ok
     (state_of slots' after).standing) c.self.view_is
     (end-added slots passes i s there slots' after (ap (slice_set slots i) c.replace.ensures.after)
     c.release.ensures)

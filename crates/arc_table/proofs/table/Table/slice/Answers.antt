@@ -39,7 +39,7 @@ returns-clause-passes g c =
     let passes = c.self.inside.passes.of_blocks.items in
     let room = c.reserve-else-is_err in
     subst (λ (o : State g.row.S-Item.Denot).
-    Adds {T = g.row.S-Item.Denot} o.standing (command.Slice c.args.items.items)
+    Adds {T = g.row.S-Item.Denot} o.table o.standing (command.Slice c.args.items.items)
     (reply.New c.len-number.result)
     (state_of c.push_reserved-3.new.self.items c.push_reserved-2.new.self.items).standing)
     c.self.view_is

@@ -19,8 +19,8 @@ use Rattle.arc_table.proofs.Lists.{read-there, same_entry}
 use Rattle.arc_table.proofs.Taken.{set-back}
 use Rattle.arc_table.proofs.Kept.{known-pass}
 use Rattle.arc_table.proofs.Tables.{row-there, stand-there, answered, same-table, kept-unmade, kept-stays}
-use Rattle.arc_table.proofs.Tables.{kept-goes, stays-added, goes-added, split-row, unsplit-row}
-use Rattle.arc_table.proofs.Added.{refused-added}
+use Rattle.arc_table.proofs.Tables.{kept-goes, split-row, unsplit-row}
+use Rattle.arc_table.proofs.Added.{refused-added, stays-added, goes-added}
 use Rattle.arc_table.proofs.table.Table.split_off.Goals as goal
 
 pub returns-then-is_err-clause-rows : goal.returns-then-is_err-clause-rows
@@ -239,18 +239,18 @@ returns-in-Ok-clause-passes g c =
     c.push_reserved.ensures.items
     ∙ ap (λ ss. slice_set ss i (Some kept) ++ Some handed ∷ []) c.reserve.ensures.items in
     subst (λ (o : State g.row.S-Item.Denot).
-    Adds {T = g.row.S-Item.Denot} o.standing (command.Off i c.args.at)
+    Adds {T = g.row.S-Item.Denot} o.table o.standing (command.Off i c.args.at)
     (reply.New c.len-number.result) (state_of slots' after).standing)
     c.self.view_is
     (elim (cases_eq c.args.at 0) [
       | inl e ↦
           (let h = c.in-Ok.ensures.start e in
-          goes-added slots passes i s there c.self.invariant after kept handed slots' more h.owner
-          h.added)
+          goes-added slots passes i s there slots' after kept handed more (c.args.at == 0)
+          (eq-eqb c.args.at 0 e) h.owner h.added)
       | inr apart ↦
           (let h = c.in-Ok.ensures.later (omega (arith, apart)) in
-          stays-added slots passes i s there c.self.invariant after kept handed slots' more h.owner
-          h.added)
+          stays-added slots passes i s there slots' after kept handed more (c.args.at == 0)
+          (ne_eqb c.args.at 0 apart) h.owner h.added)
     ])
 
 pub returns-in-Err-try_split_off-clause-rows : goal.returns-in-Err-try_split_off-clause-rows
@@ -328,7 +328,7 @@ returns-in-Err-try_split_off-clause-passes g c =
     ap (λ v. slice_set read i (Some v)) c.in-Err-try_split_off.ensures.kept
     ∙ set-back read i (Some s) there_read ∙ c.reserve.ensures.items in
     subst (λ (o : State g.row.S-Item.Denot).
-    Adds {T = g.row.S-Item.Denot} o.standing (command.Off i c.args.at) (reply.Owner e)
+    Adds {T = g.row.S-Item.Denot} o.table o.standing (command.Off i c.args.at) (reply.Owner e)
     (state_of slots' after).standing)
     c.self.view_is
     (refused-added slots passes i s there slots' after g.L.Layout.clone_wants

@@ -1,13 +1,14 @@
 -- One part has the owner of the window, and the other was made beside it, or on nothing; or the
 -- block has as many owners as it may have, or the layout wanted memory.
-use Rattle.std.proofs.Common.{inl, inr, ◌≡◌, ℕ, ◌<◌, ◌==◌, Bool, if◌then◌else◌, [], ◌∷◌, ◌++◌, length, Some, None, Ok}
+use Rattle.std.proofs.Common.{inl, inr, ◌≡◌, ℕ, ◌<◌, ◌==◌, Bool, false, Option, if◌then◌else◌, [], ◌∷◌, ◌++◌, length, Some, None, Ok}
 use Rattle.std.proofs.Common.{slice_get, slice_set, refl, sym, ap, ◌∙◌, subst, arith}
 use Rattle.std.proofs.lemmas.Bool.{cases_eq, eq-eqb, ne_eqb}
 use Rattle.std.proofs.lemmas.Option.{none-some, same_Some, slice_get_within}
 use Rattle.arc_buffer.specs.Slice.{IsEdge, edge_answer}
 use Rattle.arc_block.specs.declared.block.TheConstants.{MAX_OWNERS}
 use Rattle.arc_block.specs.Owned.{IsKept}
-use Rattle.arc_block.specs.Table.{Row}
+use Rattle.std.specs.Option.{option_map_or}
+use Rattle.arc_block.specs.Table.{Row, row_at}
 use Rattle.arc_table.specs.Additions.{Adds}
 use Rattle.arc_table.specs.Slots.{SlotView, row_of, stand_of, stands_of}
 use Rattle.arc_table.specs.State.{State, state_of}
@@ -19,8 +20,8 @@ use Rattle.arc_table.proofs.Lists.{read-there, same_entry}
 use Rattle.arc_table.proofs.Taken.{set-back}
 use Rattle.arc_table.proofs.Kept.{known-pass}
 use Rattle.arc_table.proofs.Tables.{row-there, stand-there, answered, same-table, kept-unmade, kept-stays}
-use Rattle.arc_table.proofs.Tables.{kept-goes, stays-added, goes-added, split-row, unsplit-row}
-use Rattle.arc_table.proofs.Added.{refused-added}
+use Rattle.arc_table.proofs.Tables.{kept-goes, split-row, unsplit-row}
+use Rattle.arc_table.proofs.Added.{refused-added, stays-added, goes-added}
 use Rattle.arc_table.proofs.table.Table.split_to.Goals as goal
 
 pub returns-then-is_err-clause-rows : goal.returns-then-is_err-clause-rows
@@ -238,19 +239,21 @@ returns-in-Ok-clause-passes g c =
     let more : slots' ≡ slice_set slots i (Some kept) ++ Some handed ∷ [] =
     c.push_reserved.ensures.items
     ∙ ap (λ ss. slice_set ss i (Some kept) ++ Some handed ∷ []) c.reserve.ensures.items in
+    let is_end = λ (r : Option (Row g.row.S-Item.Denot (Unit {0}))).
+    option_map_or (λ row. c.args.at == length row.items) r false in
     subst (λ (o : State g.row.S-Item.Denot).
-    Adds {T = g.row.S-Item.Denot} o.standing (command.To i c.args.at)
+    Adds {T = g.row.S-Item.Denot} o.table o.standing (command.To i c.args.at)
     (reply.New c.len-number.result) (state_of slots' after).standing)
     c.self.view_is
     (elim (cases_eq c.args.at (length s.window.items)) [
       | inl e ↦
           (let h = c.in-Ok.ensures.end e in
-          goes-added slots passes i s there c.self.invariant after kept handed slots' more h.owner
-          h.added)
+          goes-added slots passes i s there slots' after kept handed more (is_end (row_at (state_of slots passes).table i))
+          (ap is_end (row-there slots passes i s there) ∙ eq-eqb c.args.at (length s.window.items) e) h.owner h.added)
       | inr apart ↦
           (let h = c.in-Ok.ensures.earlier (omega (arith, apart, edge.within)) in
-          stays-added slots passes i s there c.self.invariant after kept handed slots' more h.owner
-          h.added)
+          stays-added slots passes i s there slots' after kept handed more (is_end (row_at (state_of slots passes).table i))
+          (ap is_end (row-there slots passes i s there) ∙ ne_eqb c.args.at (length s.window.items) apart) h.owner h.added)
     ])
 
 pub returns-in-Err-try_split_to-clause-rows : goal.returns-in-Err-try_split_to-clause-rows
@@ -328,7 +331,7 @@ returns-in-Err-try_split_to-clause-passes g c =
     ap (λ v. slice_set read i (Some v)) c.in-Err-try_split_to.ensures.kept
     ∙ set-back read i (Some s) there_read ∙ c.reserve.ensures.items in
     subst (λ (o : State g.row.S-Item.Denot).
-    Adds {T = g.row.S-Item.Denot} o.standing (command.To i c.args.at) (reply.Owner e)
+    Adds {T = g.row.S-Item.Denot} o.table o.standing (command.To i c.args.at) (reply.Owner e)
     (state_of slots' after).standing)
     c.self.view_is
     (refused-added slots passes i s there slots' after g.L.Layout.clone_wants

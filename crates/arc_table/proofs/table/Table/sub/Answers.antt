@@ -147,7 +147,7 @@ returns-in-Ok-clause-passes g c =
     let slots' = c.push_reserved.new.self.items in
     let more = behind slots (Some made) c.push_reserved.ensures.items c.reserve.ensures.items in
     subst (λ (o : State g.row.S-Item.Denot).
-    Adds {T = g.row.S-Item.Denot} o.standing (command.Sub i c.args.start c.args.end) (reply.New c.len-number.result)
+    Adds {T = g.row.S-Item.Denot} o.table o.standing (command.Sub i c.args.start c.args.end) (reply.New c.len-number.result)
     (state_of slots' after).standing)
     c.self.view_is (joins-added slots passes i s there slots' after made more c.in-Ok.ensures.stand)
 
@@ -204,7 +204,7 @@ returns-in-Err-try_subslice-clause-passes g c =
     let e = c.in-Err-try_subslice.e in
     let r = part_of setting (row_of s) c.args.start c.args.end in
     subst (λ (o : State g.row.S-Item.Denot).
-    Adds {T = g.row.S-Item.Denot} o.standing (command.Sub i c.args.start c.args.end) (reply.Owner e)
+    Adds {T = g.row.S-Item.Denot} o.table o.standing (command.Sub i c.args.start c.args.end) (reply.Owner e)
     (state_of slots' after).standing)
     c.self.view_is
     (refused-added slots passes i s there slots' after g.L.Layout.clone_wants r.place e

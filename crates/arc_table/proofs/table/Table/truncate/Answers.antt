@@ -79,6 +79,6 @@ returns-clause-passes g c =
     ∙ ap Some c.in-Some-index_mut.is in
     let s' = c.truncate.new.self in
     subst (λ (o : State g.row.S-Item.Denot).
-    Adds {T = g.row.S-Item.Denot} o.standing (command.Trunc i c.args.len) reply.Ok
+    Adds {T = g.row.S-Item.Denot} o.table o.standing (command.Trunc i c.args.len) reply.Ok
     (state_of (slice_set slots i (Some s')) passes).standing)
     c.self.view_is (changed-added slots passes i s there s' c.truncate.ensures.stand)

@@ -9,7 +9,7 @@ use Rattle.arc_table.specs.declared.command.Cmd.TheVariants as command
 use Rattle.arc_table.specs.declared.command.Reply.TheVariants as reply
 use Rattle.arc_table.proofs.Kept.{known-pass, kept-asked-along, AsksAlong}
 use Rattle.arc_table.proofs.Tables.{stand-there, asked-row}
-use Rattle.arc_table.proofs.Added.{called-added}
+use Rattle.arc_table.proofs.Added.{asked-added}
 use Rattle.arc_table.proofs.table.Table.uniq.Goals as goal
 
 pub is_unique-alone-requires-after_bounds : goal.is_unique-alone-requires-after_bounds
@@ -71,9 +71,9 @@ returns-then-alone-clause-passes g c =
     let after = asked.new.passes.of_blocks.items in
     let along = subst (λ b. AsksAlong (stand_of (Some s)) passes after b) c.if-alone.true asked.ensures.asked in
     subst (λ (o : State g.row.S-Item.Denot).
-    Adds {T = g.row.S-Item.Denot} o.standing (command.Uniq i) reply.Yes
+    Adds {T = g.row.S-Item.Denot} o.table o.standing (command.Uniq i) reply.Yes
     (state_of slots after).standing) c.self.view_is
-    (called-added slots passes i s there slots after (λ o p q. Asks o p q true) refl along)
+    (asked-added slots passes i s there slots after true refl along)
 
 pub returns-clause-rows : goal.returns-clause-rows
 returns-clause-rows g c =
@@ -103,6 +103,6 @@ returns-clause-passes g c =
     let after = asked.new.passes.of_blocks.items in
     let along = subst (λ b. AsksAlong (stand_of (Some s)) passes after b) c.if-alone.false asked.ensures.asked in
     subst (λ (o : State g.row.S-Item.Denot).
-    Adds {T = g.row.S-Item.Denot} o.standing (command.Uniq i) reply.No
+    Adds {T = g.row.S-Item.Denot} o.table o.standing (command.Uniq i) reply.No
     (state_of slots after).standing) c.self.view_is
-    (called-added slots passes i s there slots after (λ o p q. Asks o p q false) refl along)
+    (asked-added slots passes i s there slots after false refl along)
