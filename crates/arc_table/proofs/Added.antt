@@ -1,6 +1,6 @@
 -- What a call by a slot's window adds to the histories of the blocks. Under `Whole` it comes at
 -- once behind all that the block's pass had seen.
-use Rattle.std.proofs.Common.{inl, inr, ◌≡◌, ℕ, ◌==◌, ◌&&◌, Bool, true, false, if◌then◌else◌, List, [], ◌∷◌}
+use Rattle.std.proofs.Common.{inl, inr, ◌≡◌, ℕ, Bool, true, false, List, [], ◌∷◌}
 use Rattle.std.proofs.Common.{◌++◌, length, Option, Some, None, slice_get, slice_set, refl, sym, ap, ◌∙◌}
 use Rattle.std.proofs.Common.{subst, IsTrue}
 use Rattle.std.specs.Option.{option_flatten}
@@ -21,11 +21,11 @@ use Rattle.arc_owners.proofs.Wholes.{before-is, may-stand}
 use Rattle.arc_block.specs.Block.{Sort}
 use Rattle.arc_block.specs.Owned.{Stand}
 use Rattle.arc_block.specs.Place.{Place}
-use Rattle.arc_table.specs.Additions.{Standing, stand_in, AddsTo, AddsAt, Raises, Joins, Enters}
+use Rattle.arc_table.specs.Additions.{Standing, stand_in, AddsAt, Raises, Joins, Enters}
 use Rattle.arc_table.specs.Additions.{raised, asked, refused}
 use Rattle.arc_table.specs.Calls.{Along, Beside, RefusesAt, AddsNothing}
 use Rattle.arc_table.specs.Slots.{SlotView, stand_of, stands_of}
-use Rattle.arc_table.specs.State.{State, state_of}
+use Rattle.arc_table.specs.State.{state_of}
 use Rattle.arc_table.proofs.Kept.{Ended}
 use Rattle.arc_table.proofs.Taken.{set-back}
 use Rattle.arc_table.proofs.Tables.{stand-there, map-slice_set}

@@ -2,20 +2,16 @@
 use Rattle.std.proofs.Common.{inl, inr, ◌≡◌, ◌⊎◌, ℕ, ◌+◌, ◌<◌, Bool, true, false, if◌then◌else◌, List}
 use Rattle.std.proofs.Common.{[], ◌∷◌, ◌++◌, length, Option, Some, None, slice_get, slice_set, refl}
 use Rattle.std.proofs.Common.{sym, ap, ◌∙◌, subst, arith}
-use Rattle.std.specs.Option.{option_flatten}
-use Rattle.std.proofs.lemmas.Option.{none-some, same_Some}
-use Rattle.arc_owners.specs.declared.error.OwnerError.TheVariants.{AllocError, CountFull}
+use Rattle.std.specs.Option.{option_flatten, option_map_or}
+use Rattle.std.proofs.lemmas.Option.{none-some}
 use Rattle.arc_block.specs.Block.{BlockInfo, native_facts}
 use Rattle.arc_block.specs.Place.{Place, nowhere, static_data, on_block, moved}
-use Rattle.arc_block.specs.Table.{Row, Table, row_at, reader}
+use Rattle.arc_block.specs.Table.{Row, Table, row_at, reader, block_of}
 use Rattle.arc_block.proofs.Lists.{push-cases, set-cases}
 use Rattle.arc_table.specs.Blocks.{SaysOf, RowsAgree}
-use Rattle.arc_table.specs.RunOf.{RunOf}
-use Rattle.arc_table.specs.Step.{Setting, Step, Run, answer, blocks_after}
+use Rattle.arc_table.specs.Step.{Setting, Shortage, shortage, Step, Run, answer}
 use Rattle.arc_table.specs.declared.command.Cmd.{Cmd}
-use Rattle.arc_table.specs.declared.command.Cmd.TheVariants as command
 use Rattle.arc_table.specs.declared.command.Reply.{Reply}
-use Rattle.arc_table.specs.declared.command.Reply.TheVariants as reply
 use Rattle.arc_table.proofs.Answers.{StaysOn, answer_each}
 
 there : {X : Type 0} (x : Option (Option X)) (y : X) → option_flatten x ≡ Some y
@@ -168,7 +164,7 @@ module _ {T M : Type 0} where
           → let place = if nothing then nowhere else moved 0 (on_block t.blocks 0 info) in
           RowsAgree (record {
             rows = t.rows ++ Some (record { items = items; place = place; role = reader }) ∷ [];
-            blocks = blocks_after t.blocks place;
+            blocks = option_map_or (λ block. t.blocks + 1) (block_of place) t.blocks;
           })
       founds true items info =
           let row : Row T M = record { items = items; place = nowhere; role = reader } in
@@ -185,32 +181,18 @@ module _ {T M : Type 0} where
           (λ i row at. said-new info row.place (said-each i row at)) (inr (refl, refl))) refl
 
   module _ (setting : Setting T) where
-    answer-agrees : (t : Table T M) (c : Cmd (List T)) → RowsAgree t
-        → RowsAgree (answer setting t c).1
-    answer-agrees t c agree =
-        answer_each setting t (λ reply new. RowsAgree new) (λ reply ample. agree)
+    answer-agrees : (short : Shortage) (t : Table T M) (c : Cmd (List T)) → RowsAgree t
+        → RowsAgree (answer setting short t c).1
+    answer-agrees short t c agree =
+        answer_each setting short t (λ reply new. RowsAgree new) (λ reply tells. agree)
         (λ items nothing. founds t agree nothing items (native_facts setting.drops (length items)))
         (more t agree) (splits t agree) (becomes t agree) (goes t agree) c
 
-    answered : (t : Table T M) (c : Cmd (List T)) (r : Reply (List T)) (new : Table T M)
-        → answer setting t c ≡ (r, new) → RowsAgree t → RowsAgree new
-    answered t c r new is agree =
-        subst (λ (o : Reply (List T) × Table T M). RowsAgree o.1) is (answer-agrees t c agree)
-
     pub step_agrees : (t : Table T M) (c : Cmd (List T)) (r : Reply (List T)) (new : Table T M)
         → Step setting t c r new → RowsAgree t → RowsAgree new
-    step_agrees t c reply.Alloc new step agree = subst RowsAgree (sym step.1) agree
-    step_agrees t c (reply.Owner AllocError) new step agree = subst RowsAgree (sym step.1) agree
-    step_agrees t c (reply.Owner CountFull) new step agree = answered t c _ new step agree
-    step_agrees t c (reply.New number) new step agree = answered t c _ new step agree
-    step_agrees t c reply.Ok new step agree = answered t c _ new step agree
-    step_agrees t c reply.Yes new step agree = answered t c _ new step agree
-    step_agrees t c reply.No new step agree = answered t c _ new step agree
-    step_agrees t c (reply.Items items) new step agree = answered t c _ new step agree
-    step_agrees t c (reply.Number n) new step agree = answered t c _ new step agree
-    step_agrees t c reply.NoWindow new step agree = answered t c _ new step agree
-    step_agrees t c reply.Kind new step agree = answered t c _ new step agree
-    step_agrees t c (reply.Range e) new step agree = answered t c _ new step agree
+    step_agrees t c r new step agree =
+        subst (λ (o : Reply (List T) × Table T M). RowsAgree o.1) step
+        (answer-agrees (shortage r) t c agree)
 
     pub run_agrees : (t : Table T M) (cs : List (Cmd (List T))) (rs : List (Reply (List T)))
         (new : Table T M) → Run setting t cs rs new → RowsAgree t → RowsAgree new

@@ -11,4 +11,5 @@ mod Ended
 mod Founded
 mod States
 mod Splits
+mod Rows
 mod Blocks

@@ -11,7 +11,7 @@ use Rattle.arc_block.specs.Table.{block_of, stands_on, owners}
 use Rattle.arc_block.proofs.Alone.{same_owners}
 use Rattle.arc_table.specs.Slots.{SlotView, row_of, stand_of, stands_of}
 use Rattle.arc_table.specs.Stands.{numbered, stand_at}
-use Rattle.arc_table.specs.State.{State, state_of, row_block, stand_block, Agrees}
+use Rattle.arc_table.specs.State.{state_of, row_block, stand_block, Agrees}
 
 abbrev At : Type 0
 At = Place (Option Owner) (Unit {0})

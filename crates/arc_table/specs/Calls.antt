@@ -10,7 +10,7 @@ use Rattle.arc_block.specs.Block.{Sort}
 use Rattle.arc_block.specs.Owned.{Stand}
 use Rattle.arc_block.specs.Place.{Place}
 use Rattle.arc_block.specs.Table.{block_of}
-use Rattle.arc_table.specs.Step.{WantsAt}
+use Rattle.arc_table.specs.Step.{of_clones, is_wanting}
 
 module _ {H : Type 0} where
   -- a call by an owner went through the pass of its block, which has this number; the others stay
@@ -53,5 +53,5 @@ module _ {H : Type 0} where
   abbrev pub RefusesAt : (Sort → Bool) → Place ℕ (Unit {0}) → Stand → List (Pass H) → List (Pass H)
       → OwnerError → Type 0
   RefusesAt wants place s old new CountFull = FindsFullAt place s old new
-  RefusesAt wants place s old new AllocError = WantsAt wants place
+  RefusesAt wants place s old new AllocError = (is_wanting of_clones wants place ≡ true)
       × Along s old new AddsNothing

@@ -1,5 +1,5 @@
 -- The windows of a table as a whole: their rows, where they stand, and the passes of the blocks.
-use Rattle.std.specs.Prelude.{◌≡◌, ℕ, List, [], Option, Some, None, length, map}
+use Rattle.std.specs.Prelude.{◌≡◌, ℕ, List, [], Option, None, length, map}
 use Rattle.std.specs.List.{range_with_len}
 use Rattle.std.specs.Option.{option_and_then, option_map}
 use Rattle.arc_owners.specs.declared.count.tokens.Pass.{Pass}

@@ -1,16 +1,18 @@
 -- The row has become the part, and no window stands elsewhere.
-use Rattle.std.proofs.Common.{◌≡◌, Bool, true, if◌then◌else◌, Some, Ok, length, slice_get, slice_set, sym, ap, ◌∙◌, subst}
-use Rattle.std.specs.Prelude.{nat_lt}
+use Rattle.std.proofs.Common.{◌≡◌, Some, Ok, slice_get, slice_set, sym, ap, ◌∙◌, subst}
+use Rattle.std.specs.Prelude.{drop}
+use Rattle.arc_block.specs.Place.{moved}
 use Rattle.arc_buffer.specs.Slice.{edge_answer}
 use Rattle.arc_block.specs.Table.{Row}
 use Rattle.arc_table.specs.Additions.{Adds}
-use Rattle.arc_table.specs.Slots.{SlotView, row_of, stand_of}
+use Rattle.arc_table.specs.Slots.{SlotView, row_of}
 use Rattle.arc_table.specs.State.{State, state_of}
-use Rattle.arc_table.specs.Step.{Setting, Step, setting_of, in_range, changed, advanced, is_window}
+use Rattle.arc_table.specs.Step.{Setting, Step, setting_of}
 use Rattle.arc_table.specs.declared.command.Cmd.TheVariants as command
 use Rattle.arc_table.specs.declared.command.Reply.TheVariants as reply
 use Rattle.arc_table.proofs.Lists.{read-there, same_entry}
-use Rattle.arc_table.proofs.Tables.{answered, kept-changed, changed-row, changed-added}
+use Rattle.arc_table.proofs.Rows.{adv-answers}
+use Rattle.arc_table.proofs.Tables.{kept-changed, changed-row, changed-added}
 use Rattle.arc_table.proofs.table.Table.advance.Goals as goal
 
 pub invariant_of-self : goal.invariant_of-self
@@ -39,22 +41,20 @@ returns-clause-rows g c =
     let s' = c.advance.new.self in
     let setting : Setting g.row.S-Item.Denot =
     setting_of g.L.Layout.STATIC g.L.Layout.clone_wants g.S.Slice.DROPS g.S.Subsliceable.boundary in
-    let t = (state_of slots passes).table in
+    let r : Row g.row.S-Item.Denot (Unit {0}) = row_of s in
     let one = same_entry slots i c.in-Some.slot.now s got there in
     let may : edge_answer setting.boundary s.window.items c.args.by ≡ Ok tt =
     ap (λ (v : SlotView g.row.S-Item.Denot).
     edge_answer setting.boundary v.window.items c.args.by) (sym one)
     ∙ sym c.in_default-check_at.ensures.answer in
-    let found = λ (row : Row g.row.S-Item.Denot (Unit {0})).
-    in_range (edge_answer setting.boundary row.items c.args.by) t (changed t i (advanced row c.args.by)) in
+    let part : Row g.row.S-Item.Denot (Unit {0}) =
+    record r { items = drop c.args.by r.items; place = moved c.args.by r.place } in
     subst (λ (o : State g.row.S-Item.Denot).
     Step setting o.table (command.Adv i c.args.by) reply.Ok
     (state_of (slice_set slots i (Some s')) passes).table)
     c.self.view_is
-    (answered slots passes i s there is_window found
-    ∙ ap (λ a. in_range a t (changed t i (advanced (row_of s) c.args.by))) may
-    ∙ changed-row slots passes i s there s' c.advance.ensures.stand (advanced (row_of s) c.args.by)
-    c.advance.ensures.row)
+    (adv-answers setting slots passes i s there c.args.by may
+    ∙ changed-row slots passes i s there s' c.advance.ensures.stand part c.advance.ensures.row)
 
 pub returns-clause-passes : goal.returns-clause-passes
 returns-clause-passes g c =

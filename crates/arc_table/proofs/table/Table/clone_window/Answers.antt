@@ -1,19 +1,19 @@
 -- The clone stands on the same block, as another owner; or the block has as many owners as it may
 -- have, or the layout wanted memory.
-use Rattle.std.proofs.Common.{◌≡◌, [], ◌∷◌, ◌++◌, length, Some, None, Ok, slice_get, sym, ap, ◌∙◌}
-use Rattle.std.proofs.Common.{subst, refl}
-use Rattle.arc_block.specs.declared.block.TheConstants.{MAX_OWNERS}
-use Rattle.arc_block.specs.Owned.{IsKept}
+use Rattle.std.proofs.Common.{◌≡◌, [], ◌∷◌, ◌++◌, length, Some, slice_get, sym, ap, ◌∙◌}
+use Rattle.std.proofs.Common.{subst}
+use Rattle.arc_block.specs.Table.{Row}
 use Rattle.arc_table.specs.Additions.{Adds}
-use Rattle.arc_table.specs.Slots.{row_of, stand_of, stands_of}
+use Rattle.arc_table.specs.Slots.{row_of, stand_of}
 use Rattle.arc_table.specs.State.{State, state_of}
-use Rattle.arc_table.specs.Step.{Setting, Step, setting_of, with_owner, part_of, is_read, in_range}
+use Rattle.arc_table.specs.Step.{Setting, Step, setting_of, of_table}
 use Rattle.arc_table.specs.declared.command.Cmd.TheVariants as command
 use Rattle.arc_table.specs.declared.command.Reply.TheVariants as reply
-use Rattle.arc_table.proofs.Lists.{slice_in, behind, same_entry}
+use Rattle.arc_table.proofs.Lists.{slice_in, behind}
 use Rattle.arc_table.proofs.Kept.{known-pass}
-use Rattle.arc_table.proofs.Tables.{row-there, stand-there, answered, joins-row, refused-row}
-use Rattle.arc_table.proofs.Tables.{same-table, kept-made, kept-unmade}
+use Rattle.arc_table.proofs.Tables.{stand-there, rows-more, makes-step, refused-step}
+use Rattle.arc_table.proofs.Tables.{kept-made, kept-unmade}
+use Rattle.arc_table.proofs.Rows.{alloc-step, clone-answers}
 use Rattle.arc_table.proofs.Added.{joins-added, refused-added}
 use Rattle.arc_table.proofs.table.Table.clone_window.Goals as goal
 
@@ -24,13 +24,14 @@ returns-then-is_err-clause-rows g c =
     let i = c.args.i in
     let s = c.in-Some.field-0.now in
     let there = ap (λ ss. slice_get ss i) (sym c.deref.ensures.value) ∙ c.in-Some.ensures in
+    let setting : Setting g.row.S-Item.Denot =
+    setting_of g.L.Layout.STATIC g.L.Layout.clone_wants g.S.Slice.DROPS g.S.Subsliceable.boundary in
     subst (λ (o : State g.row.S-Item.Denot).
-    Step (setting_of g.L.Layout.STATIC g.L.Layout.clone_wants g.S.Slice.DROPS g.S.Subsliceable.boundary) o.table (command.Clone i) reply.Alloc
+    Step setting o.table (command.Clone i) reply.Alloc
     (state_of c.reserve.new.self.items passes).table)
-    c.self.view_is (
-      (row_of s, row-there slots passes i s there, tt),
-      same-table slots passes c.reserve.new.self.items passes c.reserve.ensures.items refl,
-    )
+    c.self.view_is
+    (alloc-step setting slots passes (command.Clone i) c.reserve.new.self.items
+    (clone-answers setting slots passes i s there of_table) c.reserve.ensures.items)
 
 pub try_clone-requires-clause-pass : goal.try_clone-requires-clause-pass
 try_clone-requires-clause-pass g c κs within =
@@ -86,13 +87,15 @@ returns-in-Ok-clause-rows g c =
     let more = behind slots (Some made) c.push_reserved.ensures.items c.reserve.ensures.items in
     let counted : number ≡ length slots =
     c.len-number.ensures ∙ c.reserve.new.self.ok.0 ∙ ap length c.reserve.ensures.items in
-    let t = (state_of slots passes).table in
+    let rows = (state_of slots passes).table.rows ++ Some (row_of s) ∷ [] in
     subst (λ (o : State g.row.S-Item.Denot).
     Step setting o.table (command.Clone i) (reply.New number) (state_of slots' after).table)
     c.self.view_is
-    (joins-row slots passes i s there c.self.invariant after setting (command.Clone i) (row_of s)
-    (answered slots passes i s there is_read (with_owner t)) made slots' number
-    c.in-Ok.ensures.row c.in-Ok.ensures.stand more counted)
+    (makes-step slots passes i s there c.self.invariant after setting (command.Clone i)
+    (row_of s).place rows (clone-answers setting slots passes i s there) made slots' number
+    (ap (λ (x : Row g.row.S-Item.Denot (Unit {0})). x.place) (sym c.in-Ok.ensures.row))
+    c.in-Ok.ensures.stand
+    (rows-more slots passes i s there made (row_of s) slots' c.in-Ok.ensures.row more) counted)
 
 pub returns-in-Ok-clause-passes : goal.returns-in-Ok-clause-passes
 returns-in-Ok-clause-passes g c =
@@ -124,14 +127,13 @@ returns-in-Err-clause-rows g c =
     let after = c.try_clone.new.passes.of_blocks.items in
     let slots' = c.reserve.new.self.items in
     let e = c.in-Err.e in
-    let t = (state_of slots passes).table in
+    let rows = (state_of slots passes).table.rows ++ Some (row_of s) ∷ [] in
     subst (λ (o : State g.row.S-Item.Denot).
     Step setting o.table (command.Clone i) (reply.Owner e) (state_of slots' after).table)
     c.self.view_is
-    (refused-row slots passes i s there c.self.invariant after setting (command.Clone i) (row_of s)
-    (answered slots passes i s there is_read (with_owner t)) e slots'
-    (λ wants. (row_of s, row-there slots passes i s there, wants)) c.in-Err.ensures.refused
-    c.reserve.ensures.items)
+    (refused-step slots passes i s there c.self.invariant after setting (command.Clone i)
+    (row_of s).place rows (clone-answers setting slots passes i s there) e slots'
+    c.in-Err.ensures.refused c.reserve.ensures.items)
 
 pub returns-in-Err-clause-passes : goal.returns-in-Err-clause-passes
 returns-in-Err-clause-passes g c =

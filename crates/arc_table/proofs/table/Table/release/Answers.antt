@@ -8,7 +8,7 @@ use Rattle.arc_table.specs.Step.{Setting, Step, setting_of}
 use Rattle.arc_table.specs.declared.command.Cmd.TheVariants as command
 use Rattle.arc_table.specs.declared.command.Reply.TheVariants as reply
 use Rattle.arc_table.proofs.Lists.{read-there}
-use Rattle.arc_table.proofs.Kept.{known-pass, kept-gone-along, many-along, Ended}
+use Rattle.arc_table.proofs.Kept.{known-pass, many-along, Ended}
 use Rattle.arc_table.proofs.Tables.{stand-there, dropped-row, none-there, map-slice_set, kept-dropped}
 use Rattle.arc_table.proofs.Added.{end-added}
 use Rattle.arc_table.proofs.table.Table.release.Goals as goal

@@ -1,25 +1,24 @@
 -- One part has the owner of the window, and the other was made beside it, or on nothing; or the
 -- block has as many owners as it may have, or the layout wanted memory.
-use Rattle.std.proofs.Common.{inl, inr, ◌≡◌, ℕ, ◌<◌, ◌==◌, Bool, if◌then◌else◌, [], ◌∷◌, ◌++◌, length, Some, None, Ok}
+use Rattle.std.proofs.Common.{inl, inr, ◌≡◌, ◌==◌, if◌then◌else◌, [], ◌∷◌, ◌++◌, length, Some, Ok}
 use Rattle.std.proofs.Common.{slice_get, slice_set, refl, sym, ap, ◌∙◌, subst, arith}
 use Rattle.std.proofs.lemmas.Bool.{cases_eq, eq-eqb, ne_eqb}
 use Rattle.std.proofs.lemmas.Option.{none-some, same_Some, slice_get_within}
 use Rattle.arc_buffer.specs.Slice.{IsEdge, edge_answer}
-use Rattle.arc_block.specs.declared.block.TheConstants.{MAX_OWNERS}
-use Rattle.arc_block.specs.Owned.{IsKept}
 use Rattle.arc_block.specs.Table.{Row}
 use Rattle.arc_table.specs.Additions.{Adds}
-use Rattle.arc_table.specs.Slots.{SlotView, row_of, stand_of, stands_of}
+use Rattle.arc_table.specs.Slots.{SlotView, row_of, stand_of}
 use Rattle.arc_table.specs.State.{State, state_of}
-use Rattle.arc_table.specs.Step.{Setting, Step, setting_of, in_range, may_split, split, split_off, off_part}
+use Rattle.arc_table.specs.Step.{Setting, Step, setting_of, of_table, split_rows, off_part}
 use Rattle.arc_table.specs.Step.{cut_row}
 use Rattle.arc_table.specs.declared.command.Cmd.TheVariants as command
 use Rattle.arc_table.specs.declared.command.Reply.TheVariants as reply
 use Rattle.arc_table.proofs.Lists.{read-there, same_entry}
 use Rattle.arc_table.proofs.Taken.{set-back}
 use Rattle.arc_table.proofs.Kept.{known-pass}
-use Rattle.arc_table.proofs.Tables.{row-there, stand-there, answered, same-table, kept-unmade, kept-stays}
-use Rattle.arc_table.proofs.Tables.{kept-goes, split-row, unsplit-row}
+use Rattle.arc_table.proofs.Tables.{stand-there, kept-unmade, kept-stays}
+use Rattle.arc_table.proofs.Tables.{kept-goes, split-rows-are, makes-step, refused-step}
+use Rattle.arc_table.proofs.Rows.{alloc-step, off-answers}
 use Rattle.arc_table.proofs.Added.{refused-added, stays-added, goes-added}
 use Rattle.arc_table.proofs.table.Table.split_off.Goals as goal
 
@@ -35,10 +34,10 @@ returns-then-is_err-clause-rows g c =
     subst (λ (o : State g.row.S-Item.Denot).
     Step setting o.table (command.Off i c.args.at) reply.Alloc
     (state_of c.reserve.new.self.items passes).table)
-    c.self.view_is (
-      (row_of s, row-there slots passes i s first, c.in_default-check_at.ensures.ok.0 refl),
-      same-table slots passes c.reserve.new.self.items passes c.reserve.ensures.items refl,
-    )
+    c.self.view_is
+    (alloc-step setting slots passes (command.Off i c.args.at) c.reserve.new.self.items
+    (off-answers setting slots passes i s first c.args.at (sym c.in_default-check_at.ensures.answer)
+    of_table) c.reserve.ensures.items)
 
 pub index_mut-requires : goal.index_mut-requires
 index_mut-requires g c =
@@ -191,28 +190,34 @@ returns-in-Ok-clause-rows g c =
     ap (λ (v : SlotView g.row.S-Item.Denot).
     edge_answer setting.boundary v.window.items c.args.at) (sym one)
     ∙ sym c.in_default-check_at.ensures.answer in
-    let found = λ (row : Row g.row.S-Item.Denot (Unit {0})).
-    in_range (edge_answer setting.boundary row.items c.args.at) t (split_off setting t i row c.args.at) in
-    let ranged =
-    answered slots passes i s there may_split found
-    ∙ ap (λ a. in_range a t (split_off setting t i r c.args.at)) may in
-    let picked = λ (b : Bool). if b then split t i made r made else split t i cut made made in
-    let done : split_off setting t i r c.args.at ≡ (reply.New number, (state_of slots' after).table) =
+    let rows = split_rows t i (c.args.at == 0) r cut made in
+    let answers = off-answers setting slots passes i s there c.args.at may in
+    let place = λ (x : Row g.row.S-Item.Denot (Unit {0})). x.place in
+    let done : Step setting t (command.Off i c.args.at) (reply.New number)
+    (state_of slots' after).table =
     elim (cases_eq c.args.at 0) [
       | inl e ↦
           (let h = c.in-Ok.ensures.start e in
-          ap picked (eq-eqb c.args.at 0 e)
-          ∙ split-row slots passes i s there c.self.invariant after kept handed slots' more made r
-          made kept number h.made_is h.same_is h.made_is h.added counted)
+          let out = (eq-eqb c.args.at 0 e) in
+          makes-step slots passes i s there c.self.invariant after setting
+          (command.Off i c.args.at) made.place rows answers kept slots' number
+          (ap place (sym h.made_is)) h.added
+          (split-rows-are slots passes i s there c.self.invariant after kept handed slots' more
+          (c.args.at == 0) r cut made (ap (λ b. if b then made else cut) out ∙ sym h.made_is)
+          (ap (λ b. if b then r else made) out ∙ sym h.same_is)) counted)
       | inr apart ↦
           (let h = c.in-Ok.ensures.later (omega (arith, apart)) in
-          ap picked (ne_eqb c.args.at 0 apart)
-          ∙ split-row slots passes i s there c.self.invariant after kept handed slots' more cut made
-          made handed number h.same_is h.made_is h.made_is h.added counted)
+          let out = (ne_eqb c.args.at 0 apart) in
+          makes-step slots passes i s there c.self.invariant after setting
+          (command.Off i c.args.at) made.place rows answers handed slots' number
+          (ap place (sym h.made_is)) h.added
+          (split-rows-are slots passes i s there c.self.invariant after kept handed slots' more
+          (c.args.at == 0) r cut made (ap (λ b. if b then made else cut) out ∙ sym h.same_is)
+          (ap (λ b. if b then r else made) out ∙ sym h.made_is)) counted)
     ] in
     subst (λ (o : State g.row.S-Item.Denot).
     Step setting o.table (command.Off i c.args.at) (reply.New number) (state_of slots' after).table)
-    c.self.view_is (ranged ∙ done)
+    c.self.view_is done
 
 pub returns-in-Ok-clause-passes : goal.returns-in-Ok-clause-passes
 returns-in-Ok-clause-passes g c =
@@ -286,26 +291,13 @@ returns-in-Err-try_split_off-clause-rows g c =
     ap (λ (v : SlotView g.row.S-Item.Denot).
     edge_answer setting.boundary v.window.items c.args.at) (sym one)
     ∙ sym c.in_default-check_at.ensures.answer in
-    let found = λ (row : Row g.row.S-Item.Denot (Unit {0})).
-    in_range (edge_answer setting.boundary row.items c.args.at) t (split_off setting t i row c.args.at) in
-    let ranged =
-    answered slots passes i s there may_split found
-    ∙ ap (λ a. in_range a t (split_off setting t i r c.args.at)) may in
-    let picked = λ (b : Bool). if b then split t i made r made else split t i cut made made in
-    let why = c.in-Err-try_split_off.ensures.refused in
-    let done : Step setting t (command.Off i c.args.at) (reply.Owner e) (state_of slots' after).table =
-    elim (cases_eq c.args.at 0) [
-      | inl is ↦
-          unsplit-row slots passes i s there c.self.invariant after setting (command.Off i c.args.at)
-          made r made (ranged ∙ ap picked (eq-eqb c.args.at 0 is)) e slots' (λ wants. (r, row-there slots passes i s there, (edge, wants))) why same
-      | inr apart ↦
-          unsplit-row slots passes i s there c.self.invariant after setting (command.Off i c.args.at)
-          cut made made (ranged ∙ ap picked (ne_eqb c.args.at 0 apart)) e slots' (λ wants. (r, row-there slots passes i s there, (edge, wants))) why
-          same
-    ] in
+    let rows = split_rows t i (c.args.at == 0) r cut made in
     subst (λ (o : State g.row.S-Item.Denot).
     Step setting o.table (command.Off i c.args.at) (reply.Owner e) (state_of slots' after).table)
-    c.self.view_is done
+    c.self.view_is
+    (refused-step slots passes i s there c.self.invariant after setting
+    (command.Off i c.args.at) made.place rows (off-answers setting slots passes i s there c.args.at may) e
+    slots' c.in-Err-try_split_off.ensures.refused same)
 
 pub returns-in-Err-try_split_off-clause-passes : goal.returns-in-Err-try_split_off-clause-passes
 returns-in-Err-try_split_off-clause-passes g c =

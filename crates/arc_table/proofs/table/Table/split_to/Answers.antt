@@ -1,26 +1,25 @@
 -- One part has the owner of the window, and the other was made beside it, or on nothing; or the
 -- block has as many owners as it may have, or the layout wanted memory.
-use Rattle.std.proofs.Common.{inl, inr, ◌≡◌, ℕ, ◌<◌, ◌==◌, Bool, false, Option, if◌then◌else◌, [], ◌∷◌, ◌++◌, length, Some, None, Ok}
+use Rattle.std.proofs.Common.{inl, inr, ◌≡◌, ◌==◌, false, Option, if◌then◌else◌, [], ◌∷◌, ◌++◌, length, Some, Ok}
 use Rattle.std.proofs.Common.{slice_get, slice_set, refl, sym, ap, ◌∙◌, subst, arith}
 use Rattle.std.proofs.lemmas.Bool.{cases_eq, eq-eqb, ne_eqb}
 use Rattle.std.proofs.lemmas.Option.{none-some, same_Some, slice_get_within}
 use Rattle.arc_buffer.specs.Slice.{IsEdge, edge_answer}
-use Rattle.arc_block.specs.declared.block.TheConstants.{MAX_OWNERS}
-use Rattle.arc_block.specs.Owned.{IsKept}
 use Rattle.std.specs.Option.{option_map_or}
 use Rattle.arc_block.specs.Table.{Row, row_at}
 use Rattle.arc_table.specs.Additions.{Adds}
-use Rattle.arc_table.specs.Slots.{SlotView, row_of, stand_of, stands_of}
+use Rattle.arc_table.specs.Slots.{SlotView, row_of, stand_of}
 use Rattle.arc_table.specs.State.{State, state_of}
-use Rattle.arc_table.specs.Step.{Setting, Step, setting_of, in_range, may_split, split, split_to, to_part}
+use Rattle.arc_table.specs.Step.{Setting, Step, setting_of, of_table, split_rows, to_part}
 use Rattle.arc_table.specs.Step.{cut_row}
 use Rattle.arc_table.specs.declared.command.Cmd.TheVariants as command
 use Rattle.arc_table.specs.declared.command.Reply.TheVariants as reply
 use Rattle.arc_table.proofs.Lists.{read-there, same_entry}
 use Rattle.arc_table.proofs.Taken.{set-back}
 use Rattle.arc_table.proofs.Kept.{known-pass}
-use Rattle.arc_table.proofs.Tables.{row-there, stand-there, answered, same-table, kept-unmade, kept-stays}
-use Rattle.arc_table.proofs.Tables.{kept-goes, split-row, unsplit-row}
+use Rattle.arc_table.proofs.Tables.{row-there, stand-there, kept-unmade, kept-stays}
+use Rattle.arc_table.proofs.Tables.{kept-goes, split-rows-are, makes-step, refused-step}
+use Rattle.arc_table.proofs.Rows.{alloc-step, to-answers}
 use Rattle.arc_table.proofs.Added.{refused-added, stays-added, goes-added}
 use Rattle.arc_table.proofs.table.Table.split_to.Goals as goal
 
@@ -36,10 +35,10 @@ returns-then-is_err-clause-rows g c =
     subst (λ (o : State g.row.S-Item.Denot).
     Step setting o.table (command.To i c.args.at) reply.Alloc
     (state_of c.reserve.new.self.items passes).table)
-    c.self.view_is (
-      (row_of s, row-there slots passes i s first, c.in_default-check_at.ensures.ok.0 refl),
-      same-table slots passes c.reserve.new.self.items passes c.reserve.ensures.items refl,
-    )
+    c.self.view_is
+    (alloc-step setting slots passes (command.To i c.args.at) c.reserve.new.self.items
+    (to-answers setting slots passes i s first c.args.at (sym c.in_default-check_at.ensures.answer)
+    of_table) c.reserve.ensures.items)
 
 pub index_mut-requires : goal.index_mut-requires
 index_mut-requires g c =
@@ -192,28 +191,34 @@ returns-in-Ok-clause-rows g c =
     ap (λ (v : SlotView g.row.S-Item.Denot).
     edge_answer setting.boundary v.window.items c.args.at) (sym one)
     ∙ sym c.in_default-check_at.ensures.answer in
-    let found = λ (row : Row g.row.S-Item.Denot (Unit {0})).
-    in_range (edge_answer setting.boundary row.items c.args.at) t (split_to setting t i row c.args.at) in
-    let ranged =
-    answered slots passes i s there may_split found
-    ∙ ap (λ a. in_range a t (split_to setting t i r c.args.at)) may in
-    let picked = λ (b : Bool). if b then split t i made r made else split t i cut made made in
-    let done : split_to setting t i r c.args.at ≡ (reply.New number, (state_of slots' after).table) =
+    let rows = split_rows t i (c.args.at == length s.window.items) r cut made in
+    let answers = to-answers setting slots passes i s there c.args.at may in
+    let place = λ (x : Row g.row.S-Item.Denot (Unit {0})). x.place in
+    let done : Step setting t (command.To i c.args.at) (reply.New number)
+    (state_of slots' after).table =
     elim (cases_eq c.args.at (length s.window.items)) [
       | inl e ↦
           (let h = c.in-Ok.ensures.end e in
-          ap picked (eq-eqb c.args.at (length s.window.items) e)
-          ∙ split-row slots passes i s there c.self.invariant after kept handed slots' more made r
-          made kept number h.made_is h.same_is h.made_is h.added counted)
+          let out = (eq-eqb c.args.at (length s.window.items) e) in
+          makes-step slots passes i s there c.self.invariant after setting
+          (command.To i c.args.at) made.place rows answers kept slots' number
+          (ap place (sym h.made_is)) h.added
+          (split-rows-are slots passes i s there c.self.invariant after kept handed slots' more
+          (c.args.at == length s.window.items) r cut made (ap (λ b. if b then made else cut) out ∙ sym h.made_is)
+          (ap (λ b. if b then r else made) out ∙ sym h.same_is)) counted)
       | inr apart ↦
           (let h = c.in-Ok.ensures.earlier (omega (arith, apart, edge.within)) in
-          ap picked (ne_eqb c.args.at (length s.window.items) apart)
-          ∙ split-row slots passes i s there c.self.invariant after kept handed slots' more cut made
-          made handed number h.same_is h.made_is h.made_is h.added counted)
+          let out = (ne_eqb c.args.at (length s.window.items) apart) in
+          makes-step slots passes i s there c.self.invariant after setting
+          (command.To i c.args.at) made.place rows answers handed slots' number
+          (ap place (sym h.made_is)) h.added
+          (split-rows-are slots passes i s there c.self.invariant after kept handed slots' more
+          (c.args.at == length s.window.items) r cut made (ap (λ b. if b then made else cut) out ∙ sym h.same_is)
+          (ap (λ b. if b then r else made) out ∙ sym h.made_is)) counted)
     ] in
     subst (λ (o : State g.row.S-Item.Denot).
     Step setting o.table (command.To i c.args.at) (reply.New number) (state_of slots' after).table)
-    c.self.view_is (ranged ∙ done)
+    c.self.view_is done
 
 pub returns-in-Ok-clause-passes : goal.returns-in-Ok-clause-passes
 returns-in-Ok-clause-passes g c =
@@ -289,26 +294,13 @@ returns-in-Err-try_split_to-clause-rows g c =
     ap (λ (v : SlotView g.row.S-Item.Denot).
     edge_answer setting.boundary v.window.items c.args.at) (sym one)
     ∙ sym c.in_default-check_at.ensures.answer in
-    let found = λ (row : Row g.row.S-Item.Denot (Unit {0})).
-    in_range (edge_answer setting.boundary row.items c.args.at) t (split_to setting t i row c.args.at) in
-    let ranged =
-    answered slots passes i s there may_split found
-    ∙ ap (λ a. in_range a t (split_to setting t i r c.args.at)) may in
-    let picked = λ (b : Bool). if b then split t i made r made else split t i cut made made in
-    let why = c.in-Err-try_split_to.ensures.refused in
-    let done : Step setting t (command.To i c.args.at) (reply.Owner e) (state_of slots' after).table =
-    elim (cases_eq c.args.at (length s.window.items)) [
-      | inl is ↦
-          unsplit-row slots passes i s there c.self.invariant after setting (command.To i c.args.at)
-          made r made (ranged ∙ ap picked (eq-eqb c.args.at (length s.window.items) is)) e slots' (λ wants. (r, row-there slots passes i s there, (edge, wants))) why same
-      | inr apart ↦
-          unsplit-row slots passes i s there c.self.invariant after setting (command.To i c.args.at)
-          cut made made (ranged ∙ ap picked (ne_eqb c.args.at (length s.window.items) apart)) e slots' (λ wants. (r, row-there slots passes i s there, (edge, wants))) why
-          same
-    ] in
+    let rows = split_rows t i (c.args.at == length s.window.items) r cut made in
     subst (λ (o : State g.row.S-Item.Denot).
     Step setting o.table (command.To i c.args.at) (reply.Owner e) (state_of slots' after).table)
-    c.self.view_is done
+    c.self.view_is
+    (refused-step slots passes i s there c.self.invariant after setting
+    (command.To i c.args.at) made.place rows (to-answers setting slots passes i s there c.args.at may) e
+    slots' c.in-Err-try_split_to.ensures.refused same)
 
 pub returns-in-Err-try_split_to-clause-passes : goal.returns-in-Err-try_split_to-clause-passes
 returns-in-Err-try_split_to-clause-passes g c =

@@ -1,21 +1,20 @@
 -- The part stands on the same block, as another owner, or on nothing; or the block has as many
 -- owners as it may have, or the layout wanted memory.
-use Rattle.std.proofs.Common.{◌≡◌, [], ◌∷◌, ◌++◌, length, Some, None, Ok, slice_get, sym, ap, ◌∙◌}
+use Rattle.std.proofs.Common.{◌≡◌, [], ◌∷◌, ◌++◌, length, Some, Ok, slice_get, sym, ap, ◌∙◌}
 use Rattle.std.proofs.Common.{subst, refl}
-use Rattle.arc_block.specs.declared.block.TheConstants.{MAX_OWNERS}
 use Rattle.arc_block.specs.Table.{Row}
 use Rattle.arc_buffer.specs.Slice.{IsRange, range_answer}
-use Rattle.arc_block.specs.Owned.{IsKept}
 use Rattle.arc_table.specs.Additions.{Adds}
-use Rattle.arc_table.specs.Slots.{SlotView, row_of, stand_of, stands_of}
+use Rattle.arc_table.specs.Slots.{SlotView, row_of, stand_of}
 use Rattle.arc_table.specs.State.{State, state_of}
-use Rattle.arc_table.specs.Step.{Setting, Step, setting_of, with_owner, part_of, is_read, in_range}
+use Rattle.arc_table.specs.Step.{Setting, Step, setting_of, of_table, part_of}
 use Rattle.arc_table.specs.declared.command.Cmd.TheVariants as command
 use Rattle.arc_table.specs.declared.command.Reply.TheVariants as reply
 use Rattle.arc_table.proofs.Lists.{slice_in, behind, same_entry}
 use Rattle.arc_table.proofs.Kept.{known-pass}
-use Rattle.arc_table.proofs.Tables.{row-there, stand-there, answered, joins-row, refused-row}
-use Rattle.arc_table.proofs.Tables.{same-table, kept-made, kept-unmade}
+use Rattle.arc_table.proofs.Tables.{stand-there, rows-more, makes-step, refused-step}
+use Rattle.arc_table.proofs.Tables.{kept-made, kept-unmade}
+use Rattle.arc_table.proofs.Rows.{alloc-step, sub-answers}
 use Rattle.arc_table.proofs.Added.{joins-added, refused-added}
 use Rattle.arc_table.proofs.table.Table.sub.Goals as goal
 
@@ -28,14 +27,14 @@ returns-then-is_err-clause-rows g c =
     let there = ap (λ ss. slice_get ss i) (sym c.deref.ensures.value) ∙ c.in-Some.ensures in
     let setting : Setting g.row.S-Item.Denot =
     setting_of g.L.Layout.STATIC g.L.Layout.clone_wants g.S.Slice.DROPS g.S.Subsliceable.boundary in
-    let range = c.in_default-check_range.ensures.ok.0 refl in
     subst (λ (o : State g.row.S-Item.Denot).
     Step setting o.table (command.Sub i c.args.start c.args.end) reply.Alloc
     (state_of c.reserve.new.self.items passes).table)
-    c.self.view_is (
-      (row_of s, row-there slots passes i s there, range),
-      same-table slots passes c.reserve.new.self.items passes c.reserve.ensures.items refl,
-    )
+    c.self.view_is
+    (alloc-step setting slots passes (command.Sub i c.args.start c.args.end)
+    c.reserve.new.self.items
+    (sub-answers setting slots passes i s there c.args.start c.args.end
+    (sym c.in_default-check_range.ensures.answer) of_table) c.reserve.ensures.items)
 
 pub try_subslice-requires-clause-range : goal.try_subslice-requires-clause-range
 try_subslice-requires-clause-range g c κs within =
@@ -105,10 +104,6 @@ returns-in-Ok-clause-rows g c =
     setting_of g.L.Layout.STATIC g.L.Layout.clone_wants g.S.Slice.DROPS g.S.Subsliceable.boundary in
     let first = ap (λ ss. slice_get ss i) (sym c.deref.ensures.value) ∙ c.in-Some.ensures in
     let one = same_entry slots i c.in-Some.slot.now s first there in
-    let range : IsRange g.S.Subsliceable.boundary s.window.items c.args.start c.args.end =
-    subst (λ (v : SlotView g.row.S-Item.Denot).
-    IsRange g.S.Subsliceable.boundary v.window.items c.args.start c.args.end) one
-    (c.in_default-check_range.ensures.ok.0 refl) in
     let made = c.in-Ok.slot in
     let after = c.try_subslice.new.passes.of_blocks.items in
     let slots' = c.push_reserved.new.self.items in
@@ -116,23 +111,22 @@ returns-in-Ok-clause-rows g c =
     let more = behind slots (Some made) c.push_reserved.ensures.items c.reserve.ensures.items in
     let counted : number ≡ length slots =
     c.len-number.ensures ∙ c.reserve.new.self.ok.0 ∙ ap length c.reserve.ensures.items in
-    let t = (state_of slots passes).table in
+    let rows = (state_of slots passes).table.rows in
     let r = part_of setting (row_of s) c.args.start c.args.end in
     let ranged : range_answer setting.boundary s.window.items c.args.start c.args.end ≡ Ok tt =
     ap (λ (v : SlotView g.row.S-Item.Denot).
     range_answer setting.boundary v.window.items c.args.start c.args.end) (sym one)
     ∙ sym c.in_default-check_range.ensures.answer in
-    let found = λ (row : Row g.row.S-Item.Denot (Unit {0})).
-    in_range (range_answer setting.boundary row.items c.args.start c.args.end) t
-    (with_owner t (part_of setting row c.args.start c.args.end)) in
-    let answers =
-    answered slots passes i s there is_read found
-    ∙ ap (λ a. in_range a t (with_owner t r)) ranged in
     subst (λ (o : State g.row.S-Item.Denot).
-    Step setting o.table (command.Sub i c.args.start c.args.end) (reply.New number) (state_of slots' after).table)
+    Step setting o.table (command.Sub i c.args.start c.args.end) (reply.New number)
+    (state_of slots' after).table)
     c.self.view_is
-    (joins-row slots passes i s there c.self.invariant after setting (command.Sub i c.args.start c.args.end) r answers made slots'
-    number c.in-Ok.ensures.row c.in-Ok.ensures.stand more counted)
+    (makes-step slots passes i s there c.self.invariant after setting
+    (command.Sub i c.args.start c.args.end) r.place (rows ++ Some r ∷ [])
+    (sub-answers setting slots passes i s there c.args.start c.args.end ranged) made slots' number
+    (ap (λ (x : Row g.row.S-Item.Denot (Unit {0})). x.place) (sym c.in-Ok.ensures.row))
+    c.in-Ok.ensures.stand
+    (rows-more slots passes i s there made r slots' c.in-Ok.ensures.row more) counted)
 
 pub returns-in-Ok-clause-passes : goal.returns-in-Ok-clause-passes
 returns-in-Ok-clause-passes g c =
@@ -163,30 +157,22 @@ returns-in-Err-try_subslice-clause-rows g c =
     setting_of g.L.Layout.STATIC g.L.Layout.clone_wants g.S.Slice.DROPS g.S.Subsliceable.boundary in
     let first = ap (λ ss. slice_get ss i) (sym c.deref.ensures.value) ∙ c.in-Some.ensures in
     let one = same_entry slots i c.in-Some.slot.now s first there in
-    let range : IsRange g.S.Subsliceable.boundary s.window.items c.args.start c.args.end =
-    subst (λ (v : SlotView g.row.S-Item.Denot).
-    IsRange g.S.Subsliceable.boundary v.window.items c.args.start c.args.end) one
-    (c.in_default-check_range.ensures.ok.0 refl) in
     let after = c.try_subslice.new.passes.of_blocks.items in
     let slots' = c.reserve.new.self.items in
     let e = c.in-Err-try_subslice.e in
-    let t = (state_of slots passes).table in
+    let rows = (state_of slots passes).table.rows in
     let r = part_of setting (row_of s) c.args.start c.args.end in
     let ranged : range_answer setting.boundary s.window.items c.args.start c.args.end ≡ Ok tt =
     ap (λ (v : SlotView g.row.S-Item.Denot).
     range_answer setting.boundary v.window.items c.args.start c.args.end) (sym one)
     ∙ sym c.in_default-check_range.ensures.answer in
-    let found = λ (row : Row g.row.S-Item.Denot (Unit {0})).
-    in_range (range_answer setting.boundary row.items c.args.start c.args.end) t
-    (with_owner t (part_of setting row c.args.start c.args.end)) in
-    let answers =
-    answered slots passes i s there is_read found
-    ∙ ap (λ a. in_range a t (with_owner t r)) ranged in
     subst (λ (o : State g.row.S-Item.Denot).
-    Step setting o.table (command.Sub i c.args.start c.args.end) (reply.Owner e) (state_of slots' after).table)
+    Step setting o.table (command.Sub i c.args.start c.args.end) (reply.Owner e)
+    (state_of slots' after).table)
     c.self.view_is
-    (refused-row slots passes i s there c.self.invariant after setting (command.Sub i c.args.start c.args.end) r answers e slots'
-    (λ wants. (row_of s, row-there slots passes i s there, (range, wants)))
+    (refused-step slots passes i s there c.self.invariant after setting
+    (command.Sub i c.args.start c.args.end) r.place (rows ++ Some r ∷ [])
+    (sub-answers setting slots passes i s there c.args.start c.args.end ranged) e slots'
     c.in-Err-try_subslice.ensures.refused c.reserve.ensures.items)
 
 pub returns-in-Err-try_subslice-clause-passes : goal.returns-in-Err-try_subslice-clause-passes

@@ -1,17 +1,18 @@
 -- The row has become the part, and no window stands elsewhere.
-use Rattle.std.proofs.Common.{◌≡◌, Bool, true, if◌then◌else◌, Some, Ok, length, slice_get, slice_set, sym, ap, ◌∙◌, subst, arith}
-use Rattle.std.specs.Prelude.{nat_lt}
+use Rattle.std.proofs.Common.{◌≡◌, true, Some, Ok, length, slice_get, slice_set, sym, ap, ◌∙◌, subst, arith}
+use Rattle.std.specs.Prelude.{nat_lt, take}
 use Rattle.std.proofs.lemmas.Bool.{lt-ltb}
 use Rattle.arc_buffer.specs.Slice.{edge_answer}
 use Rattle.arc_block.specs.Table.{Row}
 use Rattle.arc_table.specs.Additions.{Adds}
-use Rattle.arc_table.specs.Slots.{SlotView, row_of, stand_of}
+use Rattle.arc_table.specs.Slots.{SlotView, row_of}
 use Rattle.arc_table.specs.State.{State, state_of}
-use Rattle.arc_table.specs.Step.{Setting, Step, setting_of, in_range, changed, truncated, may_truncate}
+use Rattle.arc_table.specs.Step.{Setting, Step, setting_of}
 use Rattle.arc_table.specs.declared.command.Cmd.TheVariants as command
 use Rattle.arc_table.specs.declared.command.Reply.TheVariants as reply
 use Rattle.arc_table.proofs.Lists.{read-there, same_entry}
-use Rattle.arc_table.proofs.Tables.{answered, kept-changed, changed-row, changed-added}
+use Rattle.arc_table.proofs.Rows.{trunc-answers}
+use Rattle.arc_table.proofs.Tables.{kept-changed, changed-row, changed-added}
 use Rattle.arc_table.proofs.table.Table.truncate.Goals as goal
 
 pub invariant_of-self : goal.invariant_of-self
@@ -40,7 +41,7 @@ returns-clause-rows g c =
     let s' = c.truncate.new.self in
     let setting : Setting g.row.S-Item.Denot =
     setting_of g.L.Layout.STATIC g.L.Layout.clone_wants g.S.Slice.DROPS g.S.Subsliceable.boundary in
-    let t = (state_of slots passes).table in
+    let r : Row g.row.S-Item.Denot (Unit {0}) = row_of s in
     let one = same_entry slots i c.in-Some.slot.now s got there in
     let may : edge_answer setting.boundary s.window.items c.args.len ≡ Ok tt =
     ap (λ (v : SlotView g.row.S-Item.Denot).
@@ -50,22 +51,13 @@ returns-clause-rows g c =
     ap (λ (v : SlotView g.row.S-Item.Denot). nat_lt c.args.len (length v.window.items)) (sym one)
     ∙ lt-ltb c.args.len (length c.in-Some.slot.now.window.items)
     (omega (arith, c.len.ensures, c.if-len.false)) in
-    let found = λ (row : Row g.row.S-Item.Denot (Unit {0})).
-    if nat_lt c.args.len (length row.items) then
-    in_range (edge_answer setting.boundary row.items c.args.len) t (changed t i (truncated row c.args.len))
-    else (reply.Ok, t) in
+    let part : Row g.row.S-Item.Denot (Unit {0}) = record r { items = take c.args.len r.items } in
     subst (λ (o : State g.row.S-Item.Denot).
     Step setting o.table (command.Trunc i c.args.len) reply.Ok
     (state_of (slice_set slots i (Some s')) passes).table)
     c.self.view_is
-    (answered slots passes i s there may_truncate found
-    ∙ ap (λ (b : Bool). if b then
-    in_range (edge_answer setting.boundary s.window.items c.args.len) t
-    (changed t i (truncated (row_of s) c.args.len))
-    else (reply.Ok, t)) short
-    ∙ ap (λ a. in_range a t (changed t i (truncated (row_of s) c.args.len))) may
-    ∙ changed-row slots passes i s there s' c.truncate.ensures.stand (truncated (row_of s) c.args.len)
-    c.truncate.ensures.row)
+    (trunc-answers setting slots passes i s there c.args.len may short
+    ∙ changed-row slots passes i s there s' c.truncate.ensures.stand part c.truncate.ensures.row)
 
 pub returns-clause-passes : goal.returns-clause-passes
 returns-clause-passes g c =

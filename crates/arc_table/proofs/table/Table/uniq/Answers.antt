@@ -1,6 +1,5 @@
 -- Being alone, as the count says, is what the table says.
 use Rattle.std.proofs.Common.{true, false, Some, slice_get, sym, ap, ◌∙◌, subst, refl}
-use Rattle.arc_owners.specs.count.Calls.{Asks}
 use Rattle.arc_table.specs.Additions.{Adds}
 use Rattle.arc_table.specs.Slots.{stand_of}
 use Rattle.arc_table.specs.State.{State, state_of}
