@@ -12,4 +12,5 @@ mod Founded
 mod States
 mod Splits
 mod Rows
+mod Done
 mod Blocks
