@@ -1,7 +1,9 @@
 -- What a command is answered, wherever memory is refused: each way in which it may be; and where
 -- none is, that it is one of its steps.
-use Rattle.std.proofs.Common.{inl, inr, ◌≡◌, ◌⊎◌, ℕ, Bool, true, false, if◌then◌else◌, List, Option, Some}
-use Rattle.std.proofs.Common.{None, Result, Ok, Err, refl, length, slice_set, ◌++◌, [], ◌∷◌, ◌==◌, ◌&&◌, ap}
+use Rattle.std.proofs.Common.{inl, inr, ◌≡◌, ◌⊎◌, ℕ, Bool, true, false, if◌then◌else◌, List, Option}
+use Rattle.std.proofs.Common.{Some}
+use Rattle.std.proofs.Common.{None, Result, Ok, Err, refl, length, slice_set, ◌++◌, [], ◌∷◌, ◌==◌}
+use Rattle.std.proofs.Common.{◌&&◌, ap}
 use Rattle.std.specs.Prelude.{nat_lt, take, drop, ◌+◌}
 use Rattle.std.specs.Option.{option_map_or}
 use Rattle.arc_owners.specs.declared.error.RangeError.{RangeError}
@@ -10,7 +12,8 @@ use Rattle.arc_buffer.specs.Slice.{sub, range_answer, edge_answer}
 use Rattle.arc_block.specs.Block.{Sort, native_facts}
 use Rattle.arc_block.specs.Place.{Place, nowhere, static_data, on_block, moved}
 use Rattle.arc_block.specs.Table.{Row, Table, reader, row_at, is_alone, block_of}
-use Rattle.arc_table.specs.Step.{Setting, Shortage, no_shortage, of_table, of_clones, shortage, Step, answer}
+use Rattle.arc_table.specs.Step.{Setting, Shortage, no_shortage, of_table, of_clones, shortage}
+use Rattle.arc_table.specs.Step.{Step, answer}
 use Rattle.arc_table.specs.Step.{asking, founded, is_wanting, is_full, with_owner, part_of, cut_row}
 use Rattle.arc_table.specs.Step.{off_part, to_part, split_rows, changed, on_row, is_for, in_range}
 use Rattle.arc_table.specs.declared.command.Cmd.{Cmd}
@@ -204,7 +207,8 @@ module _ {T M : Type 0} (setting : Setting T) (short : Shortage) (t : Table T M)
   answer_each (Trunc i len) =
       on_row_each i (Trunc i len) _ (λ row at.
       let part : Row T M = record row { items = take len row.items } in
-      let ranged : Outcome = in_range (edge_answer setting.boundary row.items len) t (changed t i part) in
+      let ranged : Outcome =
+      in_range (edge_answer setting.boundary row.items len) t (changed t i part) in
       either (nat_lt len (length row.items)) ranged (reply.Ok, t)
       (in_range_each (edge_answer setting.boundary row.items len) (changed t i part)
       (becomes i row part at (stays-same row.place)))

@@ -1,5 +1,6 @@
 -- Rows that stand on one block agree about it, and each step keeps that.
-use Rattle.std.proofs.Common.{inl, inr, ◌≡◌, ◌⊎◌, ℕ, ◌+◌, ◌<◌, Bool, true, false, if◌then◌else◌, List}
+use Rattle.std.proofs.Common.{inl, inr, ◌≡◌, ◌⊎◌, ℕ, ◌+◌, ◌<◌, Bool, true, false, if◌then◌else◌}
+use Rattle.std.proofs.Common.{List}
 use Rattle.std.proofs.Common.{[], ◌∷◌, ◌++◌, length, Option, Some, None, slice_get, slice_set, refl}
 use Rattle.std.proofs.Common.{sym, ap, ◌∙◌, subst, arith}
 use Rattle.std.specs.Option.{option_flatten, option_map_or}
@@ -94,12 +95,14 @@ module _ {T M : Type 0} where
           → RowsAgree new
       agree-after new each many =
           let said = λ (block : ℕ) (info : BlockInfo M) (says : SaysOf new block info).
-          subst IsSaid says.4 (each says.0 says.1 (there (slice_get new.rows says.0) says.1 says.3)) in
+          subst IsSaid says.4
+          (each says.0 says.1 (there (slice_get new.rows says.0) says.1 says.3)) in
           record {
             same = λ block one other a b.
                 agree.same block one other (said block one a) (said block other b);
             numbered = λ block info says.
-                subst (λ n. block < n) (sym many) (agree.numbered block info (said block info says));
+                subst (λ n. block < n) (sym many)
+                (agree.numbered block info (said block info says));
           }
 
       one-info : (made : BlockInfo M) (block : ℕ) (one other : BlockInfo M)

@@ -78,7 +78,8 @@ module _ {T : Type 0} (setting : Setting T) (slots : List (Option (SlotView T)))
   unmade r rows answers adds e why same = record {
     kept =
         kept-unmade slots passes i s there k passes' slots' same setting.clone_wants r.place e why;
-    rows = refused-step slots passes i s there k passes' setting c r.place rows answers e slots' why same;
+    rows =
+        refused-step slots passes i s there k passes' setting c r.place rows answers e slots' why same;
     passes_are =
         adds e (refused-added slots passes i s there slots' passes' setting.clone_wants r.place e
         same why);

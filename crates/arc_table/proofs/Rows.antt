@@ -11,7 +11,8 @@ use Rattle.arc_block.specs.Table.{Row, Table}
 use Rattle.arc_table.specs.Slots.{SlotView, row_of}
 use Rattle.arc_table.specs.State.{state_of}
 use Rattle.arc_table.specs.Step.{Setting, Shortage, no_shortage, of_table, Step, answer, asking}
-use Rattle.arc_table.specs.Step.{with_owner, part_of, cut_row, off_part, to_part, split_rows, changed}
+use Rattle.arc_table.specs.Step.{with_owner, part_of, cut_row, off_part, to_part, split_rows}
+use Rattle.arc_table.specs.Step.{changed}
 use Rattle.arc_table.specs.Step.{in_range}
 use Rattle.arc_table.specs.declared.command.Cmd.{Cmd}
 use Rattle.arc_table.specs.declared.command.Cmd.TheVariants as command

@@ -19,7 +19,7 @@ use Rattle.arc_block.specs.Table.{Row, Table, reader, row_at, block_of, owners, 
 use Rattle.arc_table.specs.Calls.{Along, Beside, RefusesAt}
 use Rattle.arc_block.proofs.Owned.{kept-turned}
 use Rattle.arc_table.specs.Slots.{SlotView, row_of, stand_of, stands_of}
-use Rattle.arc_table.specs.State.{state_of, stand_block}
+use Rattle.arc_table.specs.State.{state_of}
 use Rattle.arc_table.specs.Step.{Setting, Shortage, no_shortage, of_clones, Step, answer, asking}
 use Rattle.arc_table.specs.Step.{with_owner, is_full, on_row, is_for, changed, split_rows}
 use Rattle.arc_table.specs.declared.command.Cmd.{Cmd}
@@ -29,7 +29,7 @@ use Rattle.arc_table.specs.declared.command.Reply.TheVariants as reply
 use Rattle.arc_table.proofs.Kept.{room-beside, full-along, alone-along, many-along, many-beside}
 use Rattle.arc_table.proofs.Kept.{many-refused, kept-beside, kept-refused, kept-gone-along}
 use Rattle.arc_table.proofs.Kept.{Ended}
-use Rattle.arc_table.proofs.Places.{place_agrees, rows-counted}
+use Rattle.arc_table.proofs.Places.{stand_block, place_agrees, rows-counted}
 use Rattle.arc_table.proofs.Taken.{set-back}
 
 -- a place may be set before each is changed, or after
@@ -199,7 +199,8 @@ module _ {T : Type 0} (slots : List (Option (SlotView T))) (passes : List (Pass 
         makes-step made slots' number is joins same counted =
             let on : block_of place ≡ stand_block (stand_of (Some made)) =
             ap block_of is ∙ place_agrees made.block made.window.place in
-            let room = not-full (stand_of (Some s)) stand-there place (stand_of (Some made)) on joins in
+            let room =
+            not-full (stand_of (Some s)) stand-there place (stand_of (Some made)) on joins in
             let many = many-beside i k passes' (stand_of (Some s)) (stand_of (Some made)) joins in
             answers no_shortage
             ∙ ap (λ b. if b then (reply.Owner CountFull, t) else
@@ -237,7 +238,8 @@ module _ {T : Type 0} (slots : List (Option (SlotView T))) (passes : List (Pass 
       module _ (i_kept i_handed : SlotView T) (slots' : List (Option (SlotView T)))
           (more : slots' ≡ slice_set slots i (Some i_kept) ++ Some i_handed ∷ []) where
         split-stands : stands_of slots'
-            ≡ slice_set (stands_of slots) i (stand_of (Some i_kept)) ++ stand_of (Some i_handed) ∷ []
+            ≡ slice_set (stands_of slots) i (stand_of (Some i_kept))
+            ++ stand_of (Some i_handed) ∷ []
         split-stands =
             ap stands_of more
             ∙ map-append stand_of (slice_set slots i (Some i_kept)) (Some i_handed ∷ [])
@@ -274,7 +276,8 @@ module _ {T : Type 0} (slots : List (Option (SlotView T))) (passes : List (Pass 
             → IsKept MAX_OWNERS (stands_of slots') passes'
         kept-stays same joins =
             subst (λ ss. IsKept MAX_OWNERS ss passes') (sym (stays same))
-            (kept-beside i k passes' (stand_of (Some s)) (stand_of (Some i_handed)) stand-there joins)
+            (kept-beside i k passes' (stand_of (Some s)) (stand_of (Some i_handed)) stand-there
+            joins)
 
         pub kept-goes : stand_of (Some i_handed) ≡ stand_of (Some s)
             → Beside (stand_of (Some s)) passes passes' (stand_of (Some i_kept))
@@ -315,7 +318,8 @@ module _ {T : Type 0} (slots : List (Option (SlotView T))) (passes : List (Pass 
           let on = place_agrees s.block s.window.place in
           let alone = alone-told st stand-there found along nowhere_no (row_of s).place on in
           let many = many-along i k passes' st (λ o p q. Asks o p q found) along in
-          answered (command.Uniq i) (λ row. (if is_alone t row.place then reply.Yes else reply.No, t))
+          answered (command.Uniq i) (λ row.
+          (if is_alone t row.place then reply.Yes else reply.No, t))
           ∙ ap (λ b. (if b then reply.Yes else reply.No, t)) alone
           ∙ ap (λ x. (if found then reply.Yes else reply.No, x))
           (sym (same-table slots' passes' same many))

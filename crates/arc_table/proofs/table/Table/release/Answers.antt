@@ -1,5 +1,6 @@
 -- The row of the window is gone, and its owner has ended.
-use Rattle.std.proofs.Common.{◌≡◌, Some, None, length, map, slice_get, slice_set, sym, ap, ◌∙◌, subst}
+use Rattle.std.proofs.Common.{◌≡◌, Some, None, length, map, slice_get, slice_set, sym, ap, ◌∙◌}
+use Rattle.std.proofs.Common.{subst}
 use Rattle.std.specs.Option.{option_map, option_flatten}
 use Rattle.arc_table.specs.Slots.{row_of, stand_of}
 use Rattle.arc_table.specs.State.{State}

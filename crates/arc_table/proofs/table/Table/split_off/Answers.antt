@@ -118,7 +118,8 @@ returns-then-is_err-clause-rows g c =
     (state_of c.reserve.new.self.items passes).table)
     c.self.view_is
     (alloc-step (setting g) slots passes (command.Off i c.args.at) c.reserve.new.self.items
-    (off-answers (setting g) slots passes i s first c.args.at (sym c.in_default-check_at.ensures.answer)
+    (off-answers (setting g) slots passes i s first c.args.at
+    (sym c.in_default-check_at.ensures.answer)
     of_table) c.reserve.ensures.items)
 
 pub index_mut-requires : goal.index_mut-requires
@@ -199,4 +200,5 @@ returns-in-Err-try_split_off-clause-rows g c =
 
 pub returns-in-Err-try_split_off-clause-passes : goal.returns-in-Err-try_split_off-clause-passes
 returns-in-Err-try_split_off-clause-passes g c =
-    (refused g (goal.at.returns-in-Err-try_split_off-clause-passes g c).In-Err-try_split_off).passes_are
+    (refused g
+    (goal.at.returns-in-Err-try_split_off-clause-passes g c).In-Err-try_split_off).passes_are

@@ -1,6 +1,7 @@
 -- One part has the owner of the window, and the other was made beside it, or on nothing; or the
 -- block has as many owners as it may have, or the layout wanted memory.
-use Rattle.std.proofs.Common.{inl, inr, ◌≡◌, ℕ, ◌==◌, false, [], ◌∷◌, ◌++◌, length, Option, Some, Ok}
+use Rattle.std.proofs.Common.{inl, inr, ◌≡◌, ℕ, ◌==◌, false, [], ◌∷◌, ◌++◌, length, Option, Some}
+use Rattle.std.proofs.Common.{Ok}
 use Rattle.std.proofs.Common.{slice_get, slice_set, refl, sym, ap, ◌∙◌, subst, arith}
 use Rattle.std.specs.Option.{option_map_or}
 use Rattle.std.proofs.lemmas.Bool.{cases_eq, eq-eqb, ne_eqb}
@@ -61,8 +62,10 @@ made g c =
     ∙ ap (λ ss. slice_set ss i (Some kept) ++ Some handed ∷ []) c.reserve.ensures.items in
     let counted : number ≡ length slots =
     c.len-number.ensures ∙ c.reserve.new.self.ok.0 ∙ ap length c.reserve.ensures.items in
-    let adds = λ (n : ℕ) (joins : Joins (state_of slots passes).standing i (c.args.at == length s.window.items) (state_of slots' after).standing).
-    subst (λ b. Joins (state_of slots passes).standing i b (state_of slots' after).standing)
+    let before = (state_of slots passes).standing in
+    let then = (state_of slots' after).standing in
+    let adds = λ (n : ℕ) (joins : Joins before i (c.args.at == length s.window.items) then).
+    subst (λ b. Joins before i b then)
     (sym (ap (λ (r : Option (Row g.row.S-Item.Denot (Unit {0}))).
     option_map_or (λ row. c.args.at == length row.items) r false)
     (row-there slots passes i s there))) joins in
@@ -79,7 +82,8 @@ made g c =
       | inr apart ↦
           part-out (setting g) slots passes i s there c.self.invariant (command.To i c.args.at)
           slots' after (c.args.at == length s.window.items) cut part answers adds kept handed number
-          more counted (ne_eqb c.args.at (length s.window.items) apart) (c.in-Ok.ensures.earlier (omega (arith, apart, edge.within)))
+          more counted (ne_eqb c.args.at (length s.window.items) apart)
+          (c.in-Ok.ensures.earlier (omega (arith, apart, edge.within)))
     ])
 
 refused : (g : Over) (c : In-Err-try_split_to g)
@@ -114,7 +118,8 @@ refused g c =
     subst (λ (o : State g.row.S-Item.Denot).
     Done (setting g) o (command.To i c.args.at) (reply.Owner e) slots' after) c.self.view_is
     (unmade (setting g) slots passes i s there c.self.invariant (command.To i c.args.at) slots'
-    after part (split_rows (state_of slots passes).table i (c.args.at == length s.window.items) (row_of s) cut part)
+    after part (split_rows (state_of slots passes).table i
+    (c.args.at == length s.window.items) (row_of s) cut part)
     (to-answers (setting g) slots passes i s there c.args.at may) (λ f adds. adds) e
     c.in-Err-try_split_to.ensures.refused same)
 
@@ -130,7 +135,8 @@ returns-then-is_err-clause-rows g c =
     (state_of c.reserve.new.self.items passes).table)
     c.self.view_is
     (alloc-step (setting g) slots passes (command.To i c.args.at) c.reserve.new.self.items
-    (to-answers (setting g) slots passes i s first c.args.at (sym c.in_default-check_at.ensures.answer)
+    (to-answers (setting g) slots passes i s first c.args.at
+    (sym c.in_default-check_at.ensures.answer)
     of_table) c.reserve.ensures.items)
 
 pub index_mut-requires : goal.index_mut-requires
@@ -211,4 +217,5 @@ returns-in-Err-try_split_to-clause-rows g c =
 
 pub returns-in-Err-try_split_to-clause-passes : goal.returns-in-Err-try_split_to-clause-passes
 returns-in-Err-try_split_to-clause-passes g c =
-    (refused g (goal.at.returns-in-Err-try_split_to-clause-passes g c).In-Err-try_split_to).passes_are
+    (refused g
+    (goal.at.returns-in-Err-try_split_to-clause-passes g c).In-Err-try_split_to).passes_are

@@ -1,6 +1,7 @@
 -- The part stands on the same block, as another owner, or on nothing; or the block has as many
 -- owners as it may have, or the layout wanted memory.
-use Rattle.std.proofs.Common.{◌≡◌, [], ◌∷◌, ◌++◌, length, Some, Ok, slice_get, refl, sym, ap, ◌∙◌, subst}
+use Rattle.std.proofs.Common.{◌≡◌, [], ◌∷◌, ◌++◌, length, Some, Ok, slice_get, refl, sym, ap, ◌∙◌}
+use Rattle.std.proofs.Common.{subst}
 use Rattle.arc_buffer.specs.Slice.{IsRange, range_answer}
 use Rattle.arc_table.specs.Slots.{SlotView, row_of, stand_of}
 use Rattle.arc_table.specs.State.{State, state_of}
@@ -107,7 +108,8 @@ try_subslice-requires-clause-range g c κs within =
     let i = c.args.i in
     let s = c.in-Some-slot_at.slot.now in
     let there =
-    slice_in _ _ slots i _ c.deref-2.ensures.value c.reserve.ensures.items c.in-Some-slot_at.ensures in
+    slice_in _ _ slots i _ c.deref-2.ensures.value c.reserve.ensures.items
+    c.in-Some-slot_at.ensures in
     let first = ap (λ ss. slice_get ss i) (sym c.deref.ensures.value) ∙ c.in-Some.ensures in
     let one = same_entry slots i c.in-Some.slot.now s first there in
     let range : IsRange g.S.Subsliceable.boundary s.window.items c.args.start c.args.end =
@@ -123,7 +125,8 @@ try_subslice-requires-clause-pass g c κs within =
     let i = c.args.i in
     let s = c.in-Some-slot_at.slot.now in
     let there =
-    slice_in _ _ slots i _ c.deref-2.ensures.value c.reserve.ensures.items c.in-Some-slot_at.ensures in
+    slice_in _ _ slots i _ c.deref-2.ensures.value c.reserve.ensures.items
+    c.in-Some-slot_at.ensures in
     known-pass i c.self.invariant (stand_of (Some s)) (stand-there slots passes i s there)
 
 pub invariant_of-self-in-Ok : goal.invariant_of-self-in-Ok
@@ -148,4 +151,5 @@ returns-in-Err-try_subslice-clause-rows g c =
 
 pub returns-in-Err-try_subslice-clause-passes : goal.returns-in-Err-try_subslice-clause-passes
 returns-in-Err-try_subslice-clause-passes g c =
-    (refused g (goal.at.returns-in-Err-try_subslice-clause-passes g c).In-Err-try_subslice).passes_are
+    (refused g
+    (goal.at.returns-in-Err-try_subslice-clause-passes g c).In-Err-try_subslice).passes_are

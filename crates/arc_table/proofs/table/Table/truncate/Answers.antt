@@ -1,5 +1,6 @@
 -- The row has become the part, and no window stands elsewhere.
-use Rattle.std.proofs.Common.{◌≡◌, true, Some, Ok, length, slice_get, slice_set, sym, ap, ◌∙◌, subst}
+use Rattle.std.proofs.Common.{◌≡◌, true, Some, Ok, length, slice_get, slice_set, sym, ap, ◌∙◌}
+use Rattle.std.proofs.Common.{subst}
 use Rattle.std.proofs.Common.{arith}
 use Rattle.std.specs.Prelude.{nat_lt, take}
 use Rattle.std.proofs.lemmas.Bool.{lt-ltb}

@@ -1,5 +1,6 @@
 -- Being alone, as the count says, is what the table says.
-use Rattle.std.proofs.Common.{◌≡◌, Bool, true, false, if◌then◌else◌, Some, slice_get, sym, ap, ◌∙◌, subst, refl}
+use Rattle.std.proofs.Common.{◌≡◌, Bool, true, false, if◌then◌else◌, Some, slice_get, sym, ap, ◌∙◌}
+use Rattle.std.proofs.Common.{subst, refl}
 use Rattle.arc_table.specs.Slots.{stand_of}
 use Rattle.arc_table.specs.State.{State}
 use Rattle.arc_table.specs.Step.{Setting, setting_of}
@@ -53,11 +54,13 @@ invariant_of-self-2 g c =
 
 pub returns-then-alone-clause-rows : goal.returns-then-alone-clause-rows
 returns-then-alone-clause-rows g c =
-    (did g (goal.at.returns-then-alone-clause-rows g c).After-is_unique-alone true c.if-alone.true).rows
+    (did g (goal.at.returns-then-alone-clause-rows g c).After-is_unique-alone
+    true c.if-alone.true).rows
 
 pub returns-then-alone-clause-passes : goal.returns-then-alone-clause-passes
 returns-then-alone-clause-passes g c =
-    (did g (goal.at.returns-then-alone-clause-passes g c).After-is_unique-alone true c.if-alone.true).passes_are
+    (did g (goal.at.returns-then-alone-clause-passes g c).After-is_unique-alone
+    true c.if-alone.true).passes_are
 
 pub returns-clause-rows : goal.returns-clause-rows
 returns-clause-rows g c =
@@ -65,4 +68,5 @@ returns-clause-rows g c =
 
 pub returns-clause-passes : goal.returns-clause-passes
 returns-clause-passes g c =
-    (did g (goal.at.returns-clause-passes g c).After-is_unique-alone false c.if-alone.false).passes_are
+    (did g (goal.at.returns-clause-passes g c).After-is_unique-alone
+    false c.if-alone.false).passes_are
