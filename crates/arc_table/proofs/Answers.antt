@@ -1,142 +1,231 @@
--- What a command is answered where memory is ample is one of its steps.
-use Rattle.std.proofs.Common.{◌≡◌, ℕ, Bool, true, false, if◌then◌else◌, List, Option, Some, None, Result}
-use Rattle.std.proofs.Common.{Ok, Err, refl, length, slice_set, ◌++◌, [], ◌∷◌, ◌==◌}
-use Rattle.std.specs.Prelude.{nat_lt}
+-- What a command is answered, wherever memory is refused: each way in which it may be; and where
+-- none is, that it is one of its steps.
+use Rattle.std.proofs.Common.{inl, inr, ◌≡◌, ◌⊎◌, ℕ, Bool, true, false, if◌then◌else◌, List, Option}
+use Rattle.std.proofs.Common.{Some}
+use Rattle.std.proofs.Common.{None, Result, Ok, Err, refl, length, slice_set, ◌++◌, [], ◌∷◌, ◌==◌}
+use Rattle.std.proofs.Common.{◌&&◌, ap}
+use Rattle.std.specs.Prelude.{nat_lt, take, drop, ◌+◌}
 use Rattle.std.specs.Option.{option_map_or}
 use Rattle.arc_owners.specs.declared.error.RangeError.{RangeError}
 use Rattle.arc_owners.specs.declared.error.OwnerError.TheVariants.{AllocError, CountFull}
-use Rattle.arc_buffer.specs.Slice.{range_answer, edge_answer}
-use Rattle.arc_block.specs.Table.{Row, Table, Role, row_at, is_alone}
-use Rattle.arc_table.specs.Step.{Setting, Outcome, Step, answer, with_row, with_owner, on_row, in_range}
-use Rattle.arc_table.specs.Step.{part_of, is_full, is_read, is_reader, is_window, may_truncate}
-use Rattle.arc_table.specs.Step.{advanced, truncated, changed, may_split, split, split_off}
-use Rattle.arc_table.specs.Step.{split_to, off_part, to_part, cut_row}
+use Rattle.arc_buffer.specs.Slice.{sub, range_answer, edge_answer}
+use Rattle.arc_block.specs.Block.{Sort, native_facts}
+use Rattle.arc_block.specs.Place.{Place, nowhere, static_data, on_block, moved}
+use Rattle.arc_block.specs.Table.{Row, Table, reader, row_at, is_alone, block_of}
+use Rattle.arc_table.specs.Step.{Setting, Shortage, no_shortage, of_table, of_clones, shortage}
+use Rattle.arc_table.specs.Step.{Step, answer}
+use Rattle.arc_table.specs.Step.{asking, founded, is_wanting, is_full, with_owner, part_of, cut_row}
+use Rattle.arc_table.specs.Step.{off_part, to_part, split_rows, changed, on_row, is_for, in_range}
 use Rattle.arc_table.specs.declared.command.Cmd.{Cmd}
 use Rattle.arc_table.specs.declared.command.Cmd.TheVariants.{Slice, Clone, Sub, Uniq, Show, Len}
 use Rattle.arc_table.specs.declared.command.Cmd.TheVariants.{Off, To, Adv, Trunc, Drop}
 use Rattle.arc_table.specs.declared.command.Reply.{Reply}
 use Rattle.arc_table.specs.declared.command.Reply.TheVariants as reply
 
--- memory was not short
-abbrev IsAmple : {X : Type 0} → Reply X → Type 0
-IsAmple reply.Alloc = ⊥
-IsAmple (reply.Owner AllocError) = ⊥
-IsAmple other = Unit {0}
+-- a part stands on the block on which the whole does, or on no_shortage
+abbrev pub StaysOn : {M : Type 0} → Place ℕ M → Place ℕ M → Type 0
+StaysOn whole nowhere = Unit {0}
+StaysOn whole static_data = Unit {0}
+StaysOn nowhere (on_block block offset info) = ⊥
+StaysOn static_data (on_block block offset info) = ⊥
+StaysOn (on_block one here old) (on_block block offset info) = (one ≡ block) × (old ≡ info)
 
-module _ {T M : Type 0} (t : Table T M) where
-  for_role : (fits : Bool) (outcome : Outcome T M) → IsAmple outcome.0
-      → IsAmple (if fits then outcome else (reply.Kind, t)).0
-  for_role true outcome ample = ample
-  for_role false outcome ample = tt
+module _ {M : Type 0} where
+  stays-same : (place : Place ℕ M) → StaysOn place place
+  stays-same nowhere = tt
+  stays-same static_data = tt
+  stays-same (on_block block offset info) = (refl, refl)
 
-  row_ample : (roles : Role → Bool) (found : Row T M → Outcome T M) (row : Option (Row T M))
-      → ((r : Row T M) → IsAmple (found r).0)
-      → IsAmple (option_map_or (λ r. if roles r.role then found r else (reply.Kind, t)) row
-      (reply.NoWindow, t)).0
-  row_ample roles found None ample = tt
-  row_ample roles found (Some row) ample = for_role (roles row.role) (found row) (ample row)
+  stays-moved : (by : ℕ) (place : Place ℕ M) → StaysOn place (moved by place)
+  stays-moved by nowhere = tt
+  stays-moved by static_data = tt
+  stays-moved by (on_block block offset info) = (refl, refl)
 
-  on_row_ample : (i : ℕ) (roles : Role → Bool) (found : Row T M → Outcome T M)
-      → ((row : Row T M) → IsAmple (found row).0) → IsAmple (on_row t i roles found).0
-  on_row_ample i roles found ample = row_ample roles found (row_at t i) ample
+  stays-part : (nothing : Bool) (by : ℕ) (place : Place ℕ M)
+      → StaysOn place (if nothing then nowhere else moved by place)
+  stays-part true by place = tt
+  stays-part false by place = stays-moved by place
 
-  in_range_ample : (answer : Result (Unit {0}) RangeError) (outcome : Outcome T M)
-      → IsAmple outcome.0 → IsAmple (in_range answer t outcome).0
-  in_range_ample (Ok done) outcome ample = ample
-  in_range_ample (Err e) outcome ample = tt
+-- no shortage is told, or this one
+abbrev pub MayTell : {X : Type 0} → Shortage → Reply X → Type 0
+MayTell short r = (shortage r ≡ no_shortage) ⊎ (shortage r ≡ short)
 
-  with_owner_ample : (row : Row T M) (full : Bool)
-      → IsAmple (if full then (reply.Owner CountFull, t) else with_row t row t.blocks).0
-  with_owner_ample row true = tt
-  with_owner_ample row false = tt
+-- Whatever holds of each way in which a command may be answered holds of its answer: the table
+-- stays, or has a window more, or a row was split, or became a part of itself, or went.
+module _ {T M : Type 0} (setting : Setting T) (short : Shortage) (t : Table T M)
+    (Holds : Reply (List T) → Table T M → Type 0)
+    (same : (r : Reply (List T)) → MayTell short r → Holds r t)
+    (founds : (items : List T) (nothing : Bool)
+    → let info = native_facts setting.drops (length items) in
+    let place = if nothing then nowhere else moved 0 (on_block t.blocks 0 info) in
+    Holds (reply.New (length t.rows)) (record {
+      rows = t.rows ++ Some (record { items = items; place = place; role = reader }) ∷ [];
+      blocks = option_map_or (λ block. t.blocks + 1) (block_of place) t.blocks;
+    }))
+    (more : (i : ℕ) (row part : Row T M) → row_at t i ≡ Some row → StaysOn row.place part.place
+    → Holds (reply.New (length t.rows))
+    (record { rows = t.rows ++ Some part ∷ []; blocks = t.blocks }))
+    (splits : (i : ℕ) (row kept handed : Row T M) → row_at t i ≡ Some row
+    → StaysOn row.place kept.place → StaysOn row.place handed.place
+    → Holds (reply.New (length t.rows)) (record {
+      rows = slice_set t.rows i (Some kept) ++ Some handed ∷ [];
+      blocks = t.blocks;
+    }))
+    (becomes : (i : ℕ) (row part : Row T M) → row_at t i ≡ Some row
+    → StaysOn row.place part.place
+    → Holds reply.Ok (record { rows = slice_set t.rows i (Some part); blocks = t.blocks }))
+    (goes : (i : ℕ)
+    → Holds reply.Ok (record { rows = slice_set t.rows i None; blocks = t.blocks })) where
+  abbrev Outcome : Type 0
+  Outcome = Reply (List T) × Table T M
 
-yes_or_no : (X : Type 0) (yes : Bool) → IsAmple {X = X} (if yes then reply.Yes else reply.No)
-yes_or_no X true = tt
-yes_or_no X false = tt
+  abbrev After : Outcome → Type 0
+  After o = Holds o.0 o.1
+
+  either : (b : Bool) (one other : Outcome) → After one → After other
+      → After (if b then one else other)
+  either true one other h k = h
+  either false one other h k = k
+
+  row_each : (c : Cmd (List T)) (found : Row T M → Outcome) (x : Option (Row T M))
+      → ((row : Row T M) → x ≡ Some row → After (found row))
+      → After (option_map_or (λ row. if is_for c row.role then found row else (reply.Kind, t)) x
+      (reply.NoWindow, t))
+  row_each c found None each = same reply.NoWindow (inl refl)
+  row_each c found (Some row) each =
+      either (is_for c row.role) (found row) (reply.Kind, t) (each row refl)
+      (same reply.Kind (inl refl))
+
+  on_row_each : (i : ℕ) (c : Cmd (List T)) (found : Row T M → Outcome)
+      → ((row : Row T M) → row_at t i ≡ Some row → After (found row))
+      → After (on_row t i c found)
+  on_row_each i c found each = row_each c found (row_at t i) each
+
+  in_range_each : (answer : Result (Unit {0}) RangeError) (outcome : Outcome)
+      → After outcome → After (in_range answer t outcome)
+  in_range_each (Ok done) outcome after = after
+  in_range_each (Err e) outcome after = same (reply.Range e) (inl refl)
+
+  asking_each : (s : Shortage) → s ≡ short → (outcome : Outcome) → After outcome
+      → After (asking s t outcome)
+  asking_each no_shortage is outcome after = after
+  asking_each of_table is outcome after = same reply.Alloc (inr is)
+  asking_each of_clones is outcome after = after
+
+  wanting_each : (s : Shortage) → s ≡ short → (wants : Sort → Bool) (place : Place ℕ M)
+      (outcome : Outcome) → After outcome
+      → After (if is_wanting s wants place then (reply.Owner AllocError, t) else outcome)
+  wanting_each no_shortage is wants place outcome after = after
+  wanting_each of_table is wants place outcome after = after
+  wanting_each of_clones is wants place outcome after =
+      either (is_wanting of_clones wants place) (reply.Owner AllocError, t) outcome
+      (same (reply.Owner AllocError) (inr is)) after
+
+  with_owner_each : (place : Place ℕ M) (rows : List (Option (Row T M)))
+      → Holds (reply.New (length t.rows)) (record { rows = rows; blocks = t.blocks })
+      → After (asking short t (with_owner setting short t place rows))
+  with_owner_each place rows after =
+      let made : Outcome =
+      (reply.New (length t.rows), record { rows = rows; blocks = t.blocks }) in
+      let full : Outcome = (reply.Owner CountFull, t) in
+      asking_each short refl (with_owner setting short t place rows)
+      (wanting_each short refl setting.clone_wants place (if is_full t place then full else made)
+      (either (is_full t place) full made (same (reply.Owner CountFull) (inl refl)) after))
+
+  part_stays : (row : Row T M) (start end : ℕ)
+      → StaysOn row.place (part_of setting row start end).place
+  part_stays row start end =
+      stays-part (setting.has_static && (length (sub row.items start end) == 0)) start row.place
+
+  one-stays : (b : Bool) (row one other : Row T M) → StaysOn row.place one.place
+      → StaysOn row.place other.place → StaysOn row.place (if b then one else other).place
+  one-stays true row one other h k = h
+  one-stays false row one other h k = k
+
+  split_each : (i : ℕ) (out : Bool) (row cut part : Row T M) → row_at t i ≡ Some row
+      → StaysOn row.place cut.place → StaysOn row.place part.place
+      → After (asking short t (with_owner setting short t part.place
+      (split_rows t i out row cut part)))
+  split_each i out row cut part there one other =
+      with_owner_each part.place (split_rows t i out row cut part)
+      (splits i row (if out then part else cut) (if out then row else part) there
+      (one-stays out row part cut other one)
+      (one-stays out row row part (stays-same row.place) other))
+
+  off_stays : (row : Row T M) (at : ℕ) → StaysOn row.place (off_part setting row at).place
+  off_stays row at =
+      one-stays (at == 0) row (part_of setting row 0 0) (part_of setting row at (length row.items))
+      (part_stays row 0 0) (part_stays row at (length row.items))
+
+  to_stays : (row : Row T M) (at : ℕ) → StaysOn row.place (to_part setting row at).place
+  to_stays row at =
+      one-stays (at == length row.items) row (part_of setting row at at)
+      (part_of setting row 0 at) (part_stays row at at) (part_stays row 0 at)
+
+  yes_or_no : (yes : Bool) → MayTell {X = List T} short (if yes then reply.Yes else reply.No)
+  yes_or_no true = inl refl
+  yes_or_no false = inl refl
+
+  pub answer_each : (c : Cmd (List T)) → After (answer setting short t c)
+  answer_each (Slice items) =
+      asking_each short refl (founded setting t items)
+      (founds items (setting.has_static && (length items == 0)))
+  answer_each (Clone i) =
+      on_row_each i (Clone i) _ (λ row at.
+      with_owner_each row.place (t.rows ++ Some row ∷ [])
+      (more i row row at (stays-same row.place)))
+  answer_each (Sub i start end) =
+      on_row_each i (Sub i start end) _ (λ row at.
+      let part = part_of setting row start end in
+      in_range_each (range_answer setting.boundary row.items start end) _
+      (with_owner_each part.place (t.rows ++ Some part ∷ [])
+      (more i row part at (part_stays row start end))))
+  answer_each (Off i at) =
+      on_row_each i (Off i at) _ (λ row there.
+      in_range_each (edge_answer setting.boundary row.items at) _
+      (split_each i (at == 0) row (cut_row row 0 at) (off_part setting row at) there
+      (stays-moved 0 row.place) (off_stays row at)))
+  answer_each (To i at) =
+      on_row_each i (To i at) _ (λ row there.
+      in_range_each (edge_answer setting.boundary row.items at) _
+      (split_each i (at == length row.items) row (cut_row row at (length row.items))
+      (to_part setting row at) there (stays-moved at row.place) (to_stays row at)))
+  answer_each (Uniq i) =
+      on_row_each i (Uniq i) _ (λ row at.
+      same (if is_alone t row.place then reply.Yes else reply.No)
+      (yes_or_no (is_alone t row.place)))
+  answer_each (Show i) =
+      on_row_each i (Show i) _ (λ row at.
+      asking_each short refl (reply.Items row.items, t) (same (reply.Items row.items) (inl refl)))
+  answer_each (Len i) =
+      on_row_each i (Len i) _ (λ row at. same (reply.Number (length row.items)) (inl refl))
+  answer_each (Adv i by) =
+      on_row_each i (Adv i by) _ (λ row at.
+      let part : Row T M = record row { items = drop by row.items; place = moved by row.place } in
+      in_range_each (edge_answer setting.boundary row.items by) (changed t i part)
+      (becomes i row part at (stays-moved by row.place)))
+  answer_each (Trunc i len) =
+      on_row_each i (Trunc i len) _ (λ row at.
+      let part : Row T M = record row { items = take len row.items } in
+      let ranged : Outcome =
+      in_range (edge_answer setting.boundary row.items len) t (changed t i part) in
+      either (nat_lt len (length row.items)) ranged (reply.Ok, t)
+      (in_range_each (edge_answer setting.boundary row.items len) (changed t i part)
+      (becomes i row part at (stays-same row.place)))
+      (same reply.Ok (inl refl)))
+  answer_each (Drop i) = on_row_each i (Drop i) _ (λ row at. goes i)
 
 module _ {T M : Type 0} (setting : Setting T) (t : Table T M) where
-  either_ample : (b : Bool) (one other : Outcome T M) → IsAmple one.0 → IsAmple other.0
-      → IsAmple (if b then one else other).0
-  either_ample true one other h k = h
-  either_ample false one other h k = k
+  tells_none : (r : Reply (List T)) → MayTell no_shortage r → shortage r ≡ no_shortage
+  tells_none r (inl is) = is
+  tells_none r (inr is) = is
 
-  split_ample : (i : ℕ) (kept handed made : Row T M) → IsAmple (split t i kept handed made).0
-  split_ample i kept handed made =
-      either_ample (is_full t made.place) (reply.Owner CountFull, t) (
-        reply.New (length t.rows),
-        record { rows = slice_set t.rows i (Some kept) ++ Some handed ∷ []; blocks = t.blocks },
-      ) tt tt
+  answer_ample : (c : Cmd (List T)) → shortage (answer setting no_shortage t c).0 ≡ no_shortage
+  answer_ample =
+      answer_each setting no_shortage t (λ reply new. shortage reply ≡ no_shortage) tells_none
+      (λ items nothing. refl) (λ i row part at stays. refl)
+      (λ i row kept handed at one other. refl) (λ i row part at stays. refl) (λ i. refl)
 
-  off_ample : (i : ℕ) (row : Row T M) (at : ℕ) → IsAmple (split_off setting t i row at).0
-  off_ample i row at =
-      let made = off_part setting row at in
-      either_ample (at == 0) (split t i made row made) (split t i (cut_row row 0 at) made made)
-      (split_ample i made row made)
-      (split_ample i (cut_row row 0 at) made made)
-
-  to_ample : (i : ℕ) (row : Row T M) (at : ℕ) → IsAmple (split_to setting t i row at).0
-  to_ample i row at =
-      let made = to_part setting row at in
-      let kept = cut_row row at (length row.items) in
-      either_ample (at == length row.items) (split t i made row made) (split t i kept made made)
-      (split_ample i made row made)
-      (split_ample i kept made made)
-
-  short_ample : (i : ℕ) (row : Row T M) (len : ℕ) (short : Bool)
-      → IsAmple (if short then
-      in_range (edge_answer setting.boundary row.items len) t (changed t i (truncated row len))
-      else (reply.Ok, t)).0
-  short_ample i row len true =
-      in_range_ample t (edge_answer setting.boundary row.items len)
-      (changed t i (truncated row len)) tt
-  short_ample i row len false = tt
-
-  answer_ample : (c : Cmd (List T)) → IsAmple (answer setting t c).0
-  answer_ample (Slice items) = tt
-  answer_ample (Clone i) =
-      on_row_ample t i is_read (with_owner t)
-      (λ row. with_owner_ample t row (is_full t row.place))
-  answer_ample (Sub i start end) =
-      on_row_ample t i is_read _ (λ row.
-      in_range_ample t (range_answer setting.boundary row.items start end)
-      (with_owner t (part_of setting row start end))
-      (with_owner_ample t (part_of setting row start end)
-      (is_full t (part_of setting row start end).place)))
-  answer_ample (Uniq i) =
-      on_row_ample t i is_reader _ (λ row. yes_or_no _ (is_alone t row.place))
-  answer_ample (Show i) = on_row_ample t i is_window _ (λ row. tt)
-  answer_ample (Off i at) =
-      on_row_ample t i may_split _ (λ row.
-      in_range_ample t (edge_answer setting.boundary row.items at)
-      (split_off setting t i row at) (off_ample i row at))
-  answer_ample (To i at) =
-      on_row_ample t i may_split _ (λ row.
-      in_range_ample t (edge_answer setting.boundary row.items at)
-      (split_to setting t i row at) (to_ample i row at))
-  answer_ample (Len i) = on_row_ample t i is_window _ (λ row. tt)
-  answer_ample (Adv i by) =
-      on_row_ample t i is_window _ (λ row.
-      in_range_ample t (edge_answer setting.boundary row.items by)
-      (changed t i (advanced row by)) tt)
-  answer_ample (Trunc i len) =
-      on_row_ample t i may_truncate _ (λ row.
-      short_ample i row len (nat_lt len (length row.items)))
-  answer_ample (Drop i) = on_row_ample t i is_window _ (λ row. tt)
-
-  ample_step : (c : Cmd (List T)) (r : Reply (List T)) (new : Table T M) → IsAmple r
-      → answer setting t c ≡ (r, new) → Step setting t c r new
-  ample_step c (reply.New number) new ample e = e
-  ample_step c reply.Ok new ample e = e
-  ample_step c reply.Yes new ample e = e
-  ample_step c reply.No new ample e = e
-  ample_step c (reply.Items items) new ample e = e
-  ample_step c (reply.Number n) new ample e = e
-  ample_step c reply.NoWindow new ample e = e
-  ample_step c reply.Kind new ample e = e
-  ample_step c (reply.Range f) new ample e = e
-  ample_step c (reply.Owner AllocError) new ample e = absurd ample
-  ample_step c (reply.Owner CountFull) new ample e = e
-  ample_step c reply.Alloc new ample e = absurd ample
-
-  pub answer_step : (c : Cmd (List T)) → Step setting t c (answer setting t c).0 (answer setting t c).1
-  answer_step c = ample_step c _ _ (answer_ample c) refl
+  pub answer_step : (c : Cmd (List T))
+      → Step setting t c (answer setting no_shortage t c).0 (answer setting no_shortage t c).1
+  answer_step c = ap (λ short. answer setting short t c) (answer_ample c)

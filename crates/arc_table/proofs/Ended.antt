@@ -7,7 +7,6 @@ use Rattle.arc_owners.specs.declared.count.tokens.Pass.{Pass}
 use Rattle.arc_block.specs.Owned.{owners_on, IsKept}
 use Rattle.arc_block.proofs.Permutations.{permuted-then}
 use Rattle.arc_table.specs.Slots.{SlotView, row_of, stand_of, stands_of}
-use Rattle.arc_table.specs.State.{state_of}
 
 -- nothing stands anywhere
 abbrev pub AllGone : {X : Type 0} → List (Option X) → Type 0

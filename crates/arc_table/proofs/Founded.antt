@@ -1,5 +1,6 @@
 -- A window that was made of a list: on nothing, or as the first owner of a new block.
-use Rattle.std.proofs.Common.{◌≡◌, ℕ, ◌&&◌, ◌==◌, Bool, true, false, if◌then◌else◌, List, [], ◌∷◌, ◌++◌}
+use Rattle.std.proofs.Common.{◌≡◌, ℕ, ◌&&◌, ◌==◌, Bool, true, false, if◌then◌else◌, List, [], ◌∷◌}
+use Rattle.std.proofs.Common.{◌++◌}
 use Rattle.std.proofs.Common.{length, Option, Some, None, refl, sym, ap, ◌∙◌, subst}
 use Rattle.std.proofs.lemmas.List.{map-append}
 use Rattle.arc_owners.specs.declared.mark.Whole.{Whole}
@@ -12,7 +13,7 @@ use Rattle.arc_block.specs.Place.{Place, nowhere, static_data, on_block, at_owne
 use Rattle.arc_block.proofs.Owned.{kept-new, kept-nowhere}
 use Rattle.arc_read.specs.Steps.{Makes, Begins}
 use Rattle.arc_read.specs.Window.{Window}
-use Rattle.arc_table.specs.Additions.{OneMore, Founds}
+use Rattle.arc_table.specs.Additions.{Standing, Founds}
 use Rattle.arc_table.specs.Slots.{SlotView, stand_of, stands_of}
 use Rattle.arc_table.specs.Stands.{stand_at}
 use Rattle.arc_table.specs.State.{state_of}
@@ -36,6 +37,11 @@ module _ {T : Type 0} (slots slots' : List (Option (SlotView T))) (s : SlotView 
       stands-more ∙ ap (λ b. stands_of slots ++ stand_at b s.window.place ∷ []) none
       ∙ ap (λ st. stands_of slots ++ st ∷ []) (stand-none s.window.place)
 
+  -- a window more, made of a list
+  abbrev pub Makes-one : Standing Whole → Standing Whole → Type 0
+  Makes-one old new = (made : Stand) × Founds made old.passes new.passes
+      × (new.stands ≡ old.stands ++ made ∷ [])
+
   module _ (passes passes' : List (Pass Whole))
       (k : IsKept MAX_OWNERS (stands_of slots) passes) where
     pub nowhere-kept : s.block ≡ None → passes' ≡ passes
@@ -45,9 +51,8 @@ module _ {T : Type 0} (slots slots' : List (Option (SlotView T))) (s : SlotView 
         (subst (λ ss. IsKept MAX_OWNERS ss passes) (sym (stands-nowhere none)) (kept-nowhere k))
 
     pub nowhere-added : s.block ≡ None → passes' ≡ passes
-        → OneMore (state_of slots passes).standing (state_of slots' passes').standing
-        (Founds passes passes')
-    nowhere-added none same = (None, stands-nowhere none, same)
+        → Makes-one (state_of slots passes).standing (state_of slots' passes').standing
+    nowhere-added none same = (None, same, stands-nowhere none)
 
     module _ (has_static drops : Bool) (items : List T) (old new : Pass Whole)
         (makes : Makes has_static drops true items s.window) (begins : Begins s.window old new)
@@ -81,8 +86,7 @@ module _ {T : Type 0} (slots slots' : List (Option (SlotView T))) (s : SlotView 
           (sym counted) (kept-new new k f.2 f.3)))
 
       pub block-added : n ≡ length passes → passes' ≡ passes ++ new ∷ []
-          → OneMore (state_of slots passes).standing (state_of slots' passes').standing
-          (Founds passes passes')
+          → Makes-one (state_of slots passes).standing (state_of slots' passes').standing
       block-added counted one_pass =
           let f = founded in
-          (Some (n, f.0), f.1, (counted, f.2, new, f.3, one_pass))
+          (Some (n, f.0), (counted, f.2, new, f.3, one_pass), f.1)

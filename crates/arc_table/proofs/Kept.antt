@@ -1,5 +1,6 @@
 -- What each call does to the windows and the passes of their blocks, and what it finds of owners.
-use Rattle.std.proofs.Common.{inl, inr, ◌≡◌, ℕ, ◌<◌, ◌==◌, Bool, true, List, [], ◌∷◌, ◌++◌, length, Option, Some}
+use Rattle.std.proofs.Common.{inl, inr, ◌≡◌, ℕ, ◌<◌, ◌==◌, Bool, true, List, [], ◌∷◌, ◌++◌, length}
+use Rattle.std.proofs.Common.{Some}
 use Rattle.std.proofs.Common.{None, slice_get, slice_set, refl, sym, ap, ◌∙◌, subst, arith}
 use Rattle.std.proofs.lemmas.List.{length-set}
 use Rattle.std.proofs.lemmas.Option.{slice_get_cases}
@@ -13,8 +14,9 @@ use Rattle.arc_block.specs.Block.{Sort}
 use Rattle.arc_block.specs.Owned.{Stand, owners_on, IsKept}
 use Rattle.arc_block.specs.Place.{Place}
 use Rattle.arc_block.proofs.Owned.{kept-nowhere, kept-gone-nowhere, kept-shared, kept-asked}
-use Rattle.arc_block.proofs.Owned.{kept-full, kept-gone, kept-same, alone-exact, full-here, room-here}
-use Rattle.arc_table.specs.Additions.{Through, Along, Beside, RefusesAt, AddsNothing}
+use Rattle.arc_block.proofs.Owned.{kept-full, kept-gone, kept-same, alone-exact, full-here}
+use Rattle.arc_block.proofs.Owned.{room-here}
+use Rattle.arc_table.specs.Calls.{Through, Along, Beside, RefusesAt, AddsNothing}
 use Rattle.arc_table.specs.Stands.{HasPassFor}
 
 -- what a call does to the pass of the owner by which it goes

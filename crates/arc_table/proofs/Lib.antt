@@ -11,3 +11,6 @@ mod Ended
 mod Founded
 mod States
 mod Splits
+mod Rows
+mod Done
+mod Blocks

@@ -1,20 +1,27 @@
 -- Where a row lies and where its window stands agree.
 use Rattle.std.proofs.Common.{◌≡◌, ℕ, ◌==◌, if◌then◌else◌, Bool, true, false, List, [], ◌∷◌, length}
 use Rattle.std.proofs.Common.{map, Option, Some, None, is_some, refl, ap, ◌∙◌}
-use Rattle.std.specs.Option.{option_map, option_map_or}
+use Rattle.std.specs.Option.{option_and_then, option_map, option_map_or}
 use Rattle.arc_owners.specs.declared.count.tokens.Pass.{Pass}
 use Rattle.arc_owners.specs.declared.mark.Whole.{Whole}
 use Rattle.arc_owners.specs.count.Calls.{Owner}
-use Rattle.arc_block.specs.Owned.{number_on, owners_on}
+use Rattle.arc_block.specs.Owned.{Stand, number_on, owners_on}
 use Rattle.arc_block.specs.Place.{Place, nowhere, static_data, on_block}
-use Rattle.arc_block.specs.Table.{block_of, stands_on, owners}
+use Rattle.arc_block.specs.Table.{Row, block_of, stands_on, owners}
 use Rattle.arc_block.proofs.Alone.{same_owners}
 use Rattle.arc_table.specs.Slots.{SlotView, row_of, stand_of, stands_of}
 use Rattle.arc_table.specs.Stands.{numbered, stand_at}
-use Rattle.arc_table.specs.State.{State, state_of, row_block, stand_block, Agrees}
+use Rattle.arc_table.specs.State.{state_of, Agrees}
 
 abbrev At : Type 0
 At = Place (Option Owner) (Unit {0})
+
+-- the number of the block on which a row lies, and on which a window stands
+abbrev row_block : {T : Type 0} → Option (Row T (Unit {0})) → Option ℕ
+row_block row = option_and_then (λ r. block_of r.place) row
+
+abbrev pub stand_block : Stand → Option ℕ
+stand_block stand = option_map (λ s. s.0) stand
 
 pub place_agrees : (b : Option ℕ) (place : At)
     → block_of (numbered b place) ≡ stand_block (stand_at b place)

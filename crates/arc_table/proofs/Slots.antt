@@ -1,18 +1,17 @@
 -- What a call by a slot's window adds to the pass of its block, it adds to the passes of the table,
 -- where that pass was taken out for it and is put back.
-use Rattle.std.proofs.Common.{◌≡◌, ℕ, ◌-◌, ◌==◌, ◌&&◌, Bool, true, false, if◌then◌else◌, List, []}
-use Rattle.std.proofs.Common.{◌∷◌, length, Option, Some, None, slice_get, slice_set, refl, sym, ap}
+use Rattle.std.proofs.Common.{◌≡◌, ℕ, Bool, true, false, if◌then◌else◌, List}
+use Rattle.std.proofs.Common.{Option, Some, None, slice_set, refl, sym, ap}
 use Rattle.std.proofs.Common.{◌∙◌, subst}
 use Rattle.std.proofs.lemmas.Bool.{false≢true}
 use Rattle.arc_owners.specs.declared.count.tokens.Pass.{Pass}
-use Rattle.arc_owners.specs.count.Calls.{Owner, Asks, Leaves, MakesAnother, FindsFull}
+use Rattle.arc_owners.specs.count.Calls.{Owner, MakesAnother, FindsFull}
 use Rattle.arc_owners.specs.declared.error.OwnerError.{OwnerError}
 use Rattle.arc_owners.specs.declared.error.OwnerError.TheVariants.{AllocError, CountFull}
 use Rattle.arc_block.specs.Block.{Sort, BlockInfo}
-use Rattle.arc_block.specs.Owned.{Stand}
 use Rattle.arc_block.specs.Place.{Place, nowhere, static_data, on_block, at_owner, moved}
 use Rattle.arc_read.specs.Steps.{IsPassAt, Shares, Refuses}
-use Rattle.arc_table.specs.Additions.{Through, Along, Beside, RefusesAt, AddsNothing}
+use Rattle.arc_table.specs.Calls.{Through, Along, Beside, RefusesAt, AddsNothing}
 use Rattle.arc_table.specs.Stands.{numbered, is_numbered, stand_at, HasPassFor, TakenOut, put_back}
 use Rattle.arc_table.specs.Stands.{HasNumber}
 use Rattle.arc_table.proofs.Taken.{back-same, left-number}

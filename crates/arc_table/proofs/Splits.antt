@@ -1,16 +1,13 @@
 -- A slot whose window was split, as its rows and where they stand.
-use Rattle.std.proofs.Common.{◌≡◌, ℕ, ◌<◌, ◌==◌, ◌&&◌, Bool, true, false, if◌then◌else◌, List, [], ◌∷◌}
-use Rattle.std.proofs.Common.{length, Option, Some, None, refl, sym, ap, ◌∙◌, subst, arith}
+use Rattle.std.proofs.Common.{◌≡◌, ℕ, ◌<◌, ◌==◌, ◌&&◌, Bool, true, if◌then◌else◌, List}
+use Rattle.std.proofs.Common.{length, Option, Some, None, sym, ap, ◌∙◌, subst, arith}
 use Rattle.std.proofs.lemmas.Bool.{eq-eqb, ne_eqb}
 use Rattle.arc_owners.specs.declared.count.tokens.Pass.{Pass}
 use Rattle.arc_buffer.specs.Slice.{sub}
-use Rattle.arc_block.specs.Block.{Sort}
-use Rattle.arc_block.specs.Place.{Place, nowhere, moved, part_place}
-use Rattle.arc_block.specs.Table.{Row, reader}
+use Rattle.arc_block.specs.Table.{reader}
 use Rattle.arc_read.specs.Window.{Window}
-use Rattle.arc_read.specs.Steps.{Shares}
 use Rattle.arc_read.specs.Cuts.{SharesPart, SplitsOff, SplitsTo, cut_window}
-use Rattle.arc_table.specs.Additions.{Beside}
+use Rattle.arc_table.specs.Calls.{Beside}
 use Rattle.arc_table.specs.Slots.{SlotView, row_of, stand_of}
 use Rattle.arc_table.specs.Splits.{IsSplit}
 use Rattle.arc_table.specs.Stands.{is_numbered, numbered, stand_at, HasPassFor, TakenOut, put_back}

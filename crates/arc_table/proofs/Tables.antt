@@ -1,6 +1,6 @@
 -- Calls by a slot's window, as steps of the table.
-use Rattle.std.proofs.Common.{inl, inr, ◌≡◌, ℕ, zero, suc, ◌<◌, ◌==◌, ◌&&◌, Bool, true, false, if◌then◌else◌}
-use Rattle.std.proofs.Common.{List, [], ◌∷◌, ◌++◌, length, map, Option, Some, None, Ok, slice_get}
+use Rattle.std.proofs.Common.{◌≡◌, ℕ, zero, suc, ◌==◌, Bool, true, false, if◌then◌else◌}
+use Rattle.std.proofs.Common.{List, [], ◌∷◌, ◌++◌, length, map, Option, Some, None, slice_get}
 use Rattle.std.proofs.Common.{slice_set, refl, sym, ap, ◌∙◌, subst, arith}
 use Rattle.std.specs.Option.{option_map, option_map_or, option_flatten}
 use Rattle.std.proofs.lemmas.Bool.{eq-eqb, ne_eqb}
@@ -11,26 +11,25 @@ use Rattle.arc_owners.specs.declared.count.tokens.Pass.{Pass}
 use Rattle.arc_owners.specs.declared.error.OwnerError.{OwnerError}
 use Rattle.arc_owners.specs.declared.error.OwnerError.TheVariants.{AllocError, CountFull}
 use Rattle.arc_owners.specs.count.Calls.{Asks}
-use Rattle.arc_buffer.specs.Slice.{IsRange, range_answer}
 use Rattle.arc_block.specs.declared.block.TheConstants.{MAX_OWNERS}
 use Rattle.arc_block.specs.Block.{Sort}
-use Rattle.arc_block.specs.Owned.{Stand, owners_on, IsKept}
+use Rattle.arc_block.specs.Owned.{Stand, IsKept}
 use Rattle.arc_block.specs.Place.{Place, nowhere, static_data, on_block}
-use Rattle.arc_block.specs.Table.{Row, Table, Role, reader, row_at, block_of, owners, is_alone}
-use Rattle.arc_table.specs.Additions.{Along, Beside, RefusesAt, Splits}
+use Rattle.arc_block.specs.Table.{Row, Table, reader, row_at, block_of, owners, is_alone}
+use Rattle.arc_table.specs.Calls.{Along, Beside, RefusesAt}
 use Rattle.arc_block.proofs.Owned.{kept-turned}
 use Rattle.arc_table.specs.Slots.{SlotView, row_of, stand_of, stands_of}
-use Rattle.arc_table.specs.State.{State, state_of, stand_block}
-use Rattle.arc_table.specs.Step.{Setting, Outcome, Step, answer, with_row, with_owner, on_row, in_range}
-use Rattle.arc_table.specs.Step.{part_of, is_full, greatest_count, is_reader, is_window, WantsAt, changed, split}
-use Rattle.arc_table.specs.Step.{OwnerMayWant}
+use Rattle.arc_table.specs.State.{state_of}
+use Rattle.arc_table.specs.Step.{Setting, Shortage, no_shortage, of_clones, Step, answer, asking}
+use Rattle.arc_table.specs.Step.{with_owner, is_full, on_row, is_for, changed, split_rows}
 use Rattle.arc_table.specs.declared.command.Cmd.{Cmd}
 use Rattle.arc_table.specs.declared.command.Cmd.TheVariants as command
+use Rattle.arc_table.specs.declared.command.Reply.{Reply}
 use Rattle.arc_table.specs.declared.command.Reply.TheVariants as reply
 use Rattle.arc_table.proofs.Kept.{room-beside, full-along, alone-along, many-along, many-beside}
 use Rattle.arc_table.proofs.Kept.{many-refused, kept-beside, kept-refused, kept-gone-along}
 use Rattle.arc_table.proofs.Kept.{Ended}
-use Rattle.arc_table.proofs.Places.{place_agrees, rows-counted}
+use Rattle.arc_table.proofs.Places.{stand_block, place_agrees, rows-counted}
 use Rattle.arc_table.proofs.Taken.{set-back}
 
 -- a place may be set before each is changed, or after
@@ -64,6 +63,10 @@ alone-at t static_data b is = ap (λ x. option_map_or (λ n. owners t n == 1) x 
 alone-at t (on_block n offset facts) b is =
     ap (λ x. option_map_or (λ n. owners t n == 1) x false) is
 
+-- a reply, and the table after it
+abbrev Outcome : Type 0 → Type 0
+Outcome T = Reply (List T) × Table T (Unit {0})
+
 module _ {T : Type 0} (slots : List (Option (SlotView T))) (passes : List (Pass Whole)) where
   abbrev t : Table T (Unit {0})
   t = (state_of slots passes).table
@@ -75,30 +78,12 @@ module _ {T : Type 0} (slots : List (Option (SlotView T))) (passes : List (Pass 
       ap (λ ss. (state_of ss passes').table) same
       ∙ ap (λ n. record { rows = map (option_map row_of) slots; blocks = n }) many
 
-  -- one more
-  pub one-more : (s : SlotView T) (slots' : List (Option (SlotView T)))
-      (passes' : List (Pass Whole)) (number blocks : ℕ)
-      → slots' ≡ slots ++ Some s ∷ [] → number ≡ length slots → length passes' ≡ blocks
-      → with_row t (row_of s) blocks ≡ (reply.New number, (state_of slots' passes').table)
-  one-more s slots' passes' number blocks more counted many =
-      let rows = map (option_map row_of) slots ++ Some (row_of s) ∷ [] in
-      let same : map (option_map row_of) slots' ≡ rows =
-      ap (map (option_map row_of)) more ∙ map-append (option_map row_of) slots (Some s ∷ []) in
-      ap (λ n. (reply.New n, record { rows = rows; blocks = blocks }))
-      (length-map slots (option_map row_of) ∙ sym counted)
-      ∙ ap (λ rs. (reply.New number, record { rows = rs; blocks = blocks })) (sym same)
-      ∙ ap (λ b. (
-        reply.New number,
-        record { rows = map (option_map row_of) slots'; blocks = b },
-      )) (sym many)
-
   -- where there is no window, the answer is so
-  pub unanswered : (i : ℕ) (roles : Role → Bool) (found : Row T (Unit {0}) → Outcome T (Unit {0}))
-      → option_flatten (slice_get slots i) ≡ None
-      → on_row t i roles found ≡ (reply.NoWindow, t)
-  unanswered i roles found none =
+  pub unanswered : (i : ℕ) (c : Cmd (List T)) (found : Row T (Unit {0}) → Outcome T)
+      → option_flatten (slice_get slots i) ≡ None → on_row t i c found ≡ (reply.NoWindow, t)
+  unanswered i c found none =
       let row = ap option_flatten (slice_get-map (option_map row_of) slots i) in
-      ap (λ r. option_map_or (λ row. if roles row.role then found row else (reply.Kind, t)) r
+      ap (λ r. option_map_or (λ row. if is_for c row.role then found row else (reply.Kind, t)) r
       (reply.NoWindow, t)) (row ∙ no-row (slice_get slots i) none)
 
   module _ (i : ℕ) (s : SlotView T) (there : slice_get slots i ≡ Some (Some s)) where
@@ -111,11 +96,20 @@ module _ {T : Type 0} (slots : List (Option (SlotView T))) (passes : List (Pass 
     stand-there = slice_get-map stand_of slots i ∙ ap (option_map stand_of) there
 
     -- what is answered for a row is what is answered for this one
-    pub answered : (roles : Role → Bool) (found : Row T (Unit {0}) → Outcome T (Unit {0}))
-        → on_row t i roles found ≡ (if roles reader then found (row_of s) else (reply.Kind, t))
-    answered roles found =
-        ap (λ r. option_map_or (λ row. if roles row.role then found row else (reply.Kind, t)) r
+    pub answered : (c : Cmd (List T)) (found : Row T (Unit {0}) → Outcome T)
+        → on_row t i c found ≡ (if is_for c reader then found (row_of s) else (reply.Kind, t))
+    answered c found =
+        ap (λ r. option_map_or (λ row. if is_for c row.role then found row else (reply.Kind, t)) r
         (reply.NoWindow, t)) row-there
+
+    -- a window more, behind the others
+    pub rows-more : (made : SlotView T) (r : Row T (Unit {0}))
+        (slots' : List (Option (SlotView T))) → row_of made ≡ r → slots' ≡ slots ++ Some made ∷ []
+        → t.rows ++ Some r ∷ [] ≡ map (option_map row_of) slots'
+    rows-more made r slots' same more =
+        ap (λ x. t.rows ++ Some x ∷ []) (sym same)
+        ∙ sym (ap (map (option_map row_of)) more
+        ∙ map-append (option_map row_of) slots (Some made ∷ []))
 
     -- the window has become another part, as the same owner
     module _ (s' : SlotView T) (same : stand_of (Some s') ≡ stand_of (Some s)) where
@@ -170,68 +164,82 @@ module _ {T : Type 0} (slots : List (Option (SlotView T))) (passes : List (Pass 
           (kept-gone-along i k passes' (stand_of (Some s)) stand-there along)
 
       not-full : (st : Stand) → slice_get (stands_of slots) i ≡ Some st
-          → (r : Row T (Unit {0})) (made : Stand) → block_of r.place ≡ stand_block made
-          → Beside st passes passes' made → is_full t r.place ≡ false
-      not-full st at r None on joins =
-          ap (λ b. option_map_or (λ n. owners t n == greatest_count) b false) on
-      not-full None at r (Some made) on joins = absurd joins
-      not-full (Some (n, o)) at r (Some made) on joins =
+          → (place : Place ℕ (Unit {0})) (made : Stand) → block_of place ≡ stand_block made
+          → Beside st passes passes' made → is_full t place ≡ false
+      not-full st at place None on joins =
+          ap (λ b. option_map_or (λ n. owners t n == MAX_OWNERS) b false) on
+      not-full None at place (Some made) on joins = absurd joins
+      not-full (Some (n, o)) at place (Some made) on joins =
           let room = room-beside i k passes' n o made at joins in
           let many = rows-counted slots passes n in
-          ap (λ b. option_map_or (λ m. owners t m == greatest_count) b false) on
-          ∙ ap (λ m. owners t m == greatest_count) joins.0
-          ∙ ne_eqb (owners t n) greatest_count (λ e. omega (arith, room, many, e))
+          ap (λ b. option_map_or (λ m. owners t m == MAX_OWNERS) b false) on
+          ∙ ap (λ m. owners t m == MAX_OWNERS) joins.0
+          ∙ ne_eqb (owners t n) MAX_OWNERS (λ e. omega (arith, room, many, e))
 
       found-full : (st : Stand) → slice_get (stands_of slots) i ≡ Some st
           → (wants : _) (place : Place ℕ (Unit {0}))
           → RefusesAt wants place st passes passes' CountFull → is_full t place ≡ true
       found-full None at wants place why = absurd why
       found-full (Some (n, o)) at wants place why =
-          ap (λ b. option_map_or (λ m. owners t m == greatest_count) b false) why.0
-          ∙ eq-eqb (owners t n) greatest_count
+          ap (λ b. option_map_or (λ m. owners t m == MAX_OWNERS) b false) why.0
+          ∙ eq-eqb (owners t n) MAX_OWNERS
           (rows-counted slots passes n ∙ full-along i k passes' n o at why.1)
 
-      module _ (setting : Setting T) (c : Cmd (List T)) (r : Row T (Unit {0}))
-          (answers : answer setting t c ≡ with_owner t r) where
-        -- a window more, beside this one
-        pub joins-row : (made : SlotView T) (slots' : List (Option (SlotView T))) (number : ℕ)
-            → row_of made ≡ r
+      -- a command that asks for an owner more at this place, and then leads to these rows
+      module _ (setting : Setting T) (c : Cmd (List T)) (place : Place ℕ (Unit {0}))
+          (rows : List (Option (Row T (Unit {0}))))
+          (answers : (short : Shortage) → answer setting short t c
+          ≡ asking short t (with_owner setting short t place rows)) where
+        -- the window was made
+        pub makes-step : (made : SlotView T) (slots' : List (Option (SlotView T))) (number : ℕ)
+            → place ≡ (row_of made).place
             → Beside (stand_of (Some s)) passes passes' (stand_of (Some made))
-            → slots' ≡ slots ++ Some made ∷ [] → number ≡ length slots
+            → rows ≡ map (option_map row_of) slots' → number ≡ length slots
             → Step setting t c (reply.New number) (state_of slots' passes').table
-        joins-row made slots' number same joins more counted =
-            let on : block_of r.place ≡ stand_block (stand_of (Some made)) =
-            ap (λ (x : Row T (Unit {0})). block_of x.place) (sym same)
-            ∙ place_agrees made.block made.window.place in
-            let room = not-full (stand_of (Some s)) stand-there r (stand_of (Some made)) on joins in
+        makes-step made slots' number is joins same counted =
+            let on : block_of place ≡ stand_block (stand_of (Some made)) =
+            ap block_of is ∙ place_agrees made.block made.window.place in
+            let room =
+            not-full (stand_of (Some s)) stand-there place (stand_of (Some made)) on joins in
             let many = many-beside i k passes' (stand_of (Some s)) (stand_of (Some made)) joins in
-            answers
-            ∙ ap (λ b. if b then (reply.Owner CountFull, t) else with_row t r t.blocks) room
-            ∙ ap (λ x. with_row t x t.blocks) (sym same)
-            ∙ one-more made slots' passes' number (length passes) more counted many
+            answers no_shortage
+            ∙ ap (λ b. if b then (reply.Owner CountFull, t) else
+            (reply.New (length t.rows), record { rows = rows; blocks = t.blocks })) room
+            ∙ ap (λ n. (reply.New n, record { rows = rows; blocks = t.blocks }))
+            (length-map slots (option_map row_of) ∙ sym counted)
+            ∙ ap (λ rs. (reply.New number, record { rows = rs; blocks = t.blocks })) same
+            ∙ ap (λ n. (
+              reply.New number,
+              record { rows = map (option_map row_of) slots'; blocks = n },
+            )) (sym many)
 
-        -- none, where the call refused it
-        pub refused-row : (e : OwnerError) (slots' : List (Option (SlotView T)))
-            → (WantsAt setting.clone_wants r.place → OwnerMayWant setting t c)
-            → RefusesAt setting.clone_wants r.place (stand_of (Some s)) passes passes' e
+        -- the call refused it
+        pub refused-step : (e : OwnerError) (slots' : List (Option (SlotView T)))
+            → RefusesAt setting.clone_wants place (stand_of (Some s)) passes passes' e
             → slots' ≡ slots → Step setting t c (reply.Owner e) (state_of slots' passes').table
-        refused-row CountFull slots' may why same =
+        refused-step CountFull slots' why same =
             let wants = setting.clone_wants in
-            let full = found-full (stand_of (Some s)) stand-there wants r.place why in
-            let many = many-refused i k passes' wants r.place (stand_of (Some s)) CountFull why in
-            answers
-            ∙ ap (λ b. if b then (reply.Owner CountFull, t) else with_row t r t.blocks) full
+            let full = found-full (stand_of (Some s)) stand-there wants place why in
+            let many = many-refused i k passes' wants place (stand_of (Some s)) CountFull why in
+            answers no_shortage
+            ∙ ap (λ b. if b then (reply.Owner CountFull, t) else
+            (reply.New (length t.rows), record { rows = rows; blocks = t.blocks })) full
             ∙ ap (λ x. (reply.Owner CountFull, x)) (sym (same-table slots' passes' same many))
-        refused-row AllocError slots' may why same =
+        refused-step AllocError slots' why same =
             let wants = setting.clone_wants in
-            let many = many-refused i k passes' wants r.place (stand_of (Some s)) AllocError why in
-            (may why.0, same-table slots' passes' same many)
+            let many = many-refused i k passes' wants place (stand_of (Some s)) AllocError why in
+            answers of_clones
+            ∙ ap (λ b. if b then (reply.Owner AllocError, t) else
+            (if is_full t place then (reply.Owner CountFull, t) else
+            (reply.New (length t.rows), record { rows = rows; blocks = t.blocks }))) why.0
+            ∙ ap (λ x. (reply.Owner AllocError, x)) (sym (same-table slots' passes' same many))
 
       -- the window was split: one part has its owner, and the other was made beside it
       module _ (i_kept i_handed : SlotView T) (slots' : List (Option (SlotView T)))
           (more : slots' ≡ slice_set slots i (Some i_kept) ++ Some i_handed ∷ []) where
         split-stands : stands_of slots'
-            ≡ slice_set (stands_of slots) i (stand_of (Some i_kept)) ++ stand_of (Some i_handed) ∷ []
+            ≡ slice_set (stands_of slots) i (stand_of (Some i_kept))
+            ++ stand_of (Some i_handed) ∷ []
         split-stands =
             ap stands_of more
             ∙ map-append stand_of (slice_set slots i (Some i_kept)) (Some i_handed ∷ [])
@@ -268,7 +276,8 @@ module _ {T : Type 0} (slots : List (Option (SlotView T))) (passes : List (Pass 
             → IsKept MAX_OWNERS (stands_of slots') passes'
         kept-stays same joins =
             subst (λ ss. IsKept MAX_OWNERS ss passes') (sym (stays same))
-            (kept-beside i k passes' (stand_of (Some s)) (stand_of (Some i_handed)) stand-there joins)
+            (kept-beside i k passes' (stand_of (Some s)) (stand_of (Some i_handed)) stand-there
+            joins)
 
         pub kept-goes : stand_of (Some i_handed) ≡ stand_of (Some s)
             → Beside (stand_of (Some s)) passes passes' (stand_of (Some i_kept))
@@ -279,80 +288,15 @@ module _ {T : Type 0} (slots : List (Option (SlotView T))) (passes : List (Pass 
             (kept-beside i k passes' (stand_of (Some s)) (stand_of (Some i_kept)) stand-there joins)
             stand-there)
 
-        pub stays-added : stand_of (Some i_kept) ≡ stand_of (Some s)
-            → Beside (stand_of (Some s)) passes passes' (stand_of (Some i_handed))
-            → Splits (state_of slots passes).standing i (state_of slots' passes').standing
-        stays-added same joins = (
-          stand_of (Some i_handed),
-          subst (λ st. Beside (option_flatten st) passes passes' (stand_of (Some i_handed)))
-              (sym stand-there) joins,
-          inl (stays same),
-        )
-
-        pub goes-added : stand_of (Some i_handed) ≡ stand_of (Some s)
-            → Beside (stand_of (Some s)) passes passes' (stand_of (Some i_kept))
-            → Splits (state_of slots passes).standing i (state_of slots' passes').standing
-        goes-added same joins = (
-          stand_of (Some i_kept),
-          subst (λ st. Beside (option_flatten st) passes passes' (stand_of (Some i_kept)))
-              (sym stand-there) joins,
-          inr (subst (λ st. stands_of slots'
-              ≡ slice_set (stands_of slots) i (stand_of (Some i_kept)) ++ option_flatten st ∷ [])
-              (sym stand-there) (goes same)),
-        )
-
-        -- the table is the one that a split leads to
-        pub split-row : (kept handed made : Row T (Unit {0})) (madeSlot : SlotView T) (number : ℕ)
-            → row_of i_kept ≡ kept → row_of i_handed ≡ handed → row_of madeSlot ≡ made
-            → Beside (stand_of (Some s)) passes passes' (stand_of (Some madeSlot))
-            → number ≡ length slots
-            → split t i kept handed made ≡ (reply.New number, (state_of slots' passes').table)
-        split-row kept handed made madeSlot number is_kept is_handed is_made joins counted =
-            let on : block_of made.place ≡ stand_block (stand_of (Some madeSlot)) =
-            ap (λ (x : Row T (Unit {0})). block_of x.place) (sym is_made)
-            ∙ place_agrees madeSlot.block madeSlot.window.place in
-            let room =
-            not-full (stand_of (Some s)) stand-there made (stand_of (Some madeSlot)) on joins in
-            let many = many-beside i k passes' (stand_of (Some s)) (stand_of (Some madeSlot)) joins in
-            let rows = λ (x y : Row T (Unit {0})). slice_set t.rows i (Some x) ++ Some y ∷ [] in
-            ap (λ b. if b then (reply.Owner CountFull, t) else
-            (reply.New (length t.rows), record { rows = rows kept handed; blocks = t.blocks })) room
-            ∙ ap (λ n. (reply.New n, record { rows = rows kept handed; blocks = t.blocks }))
-            (length-map slots (option_map row_of) ∙ sym counted)
-            ∙ ap (λ x. (reply.New number, record { rows = rows x handed; blocks = t.blocks }))
-            (sym is_kept)
-            ∙ ap (λ x. (reply.New number, record { rows = rows (row_of i_kept) x; blocks = t.blocks }))
-            (sym is_handed)
-            ∙ ap (λ rs. (reply.New number, record { rows = rs; blocks = t.blocks })) (sym split-rows)
-            ∙ ap (λ b. (
-              reply.New number,
-              record { rows = map (option_map row_of) slots'; blocks = b },
-            )) (sym many)
-
-      -- no part was made
-      pub unsplit-row : (setting : Setting T) (c : Cmd (List T)) (kept handed made : Row T (Unit {0}))
-          → answer setting t c ≡ split t i kept handed made → (e : OwnerError)
-          → (slots' : List (Option (SlotView T)))
-          → (WantsAt setting.clone_wants made.place → OwnerMayWant setting t c)
-          → RefusesAt setting.clone_wants made.place (stand_of (Some s)) passes passes' e
-          → slots' ≡ slots → Step setting t c (reply.Owner e) (state_of slots' passes').table
-      unsplit-row setting c kept handed made answers CountFull slots' may why same =
-          let wants = setting.clone_wants in
-          let full = found-full (stand_of (Some s)) stand-there wants made.place why in
-          let many = many-refused i k passes' wants made.place (stand_of (Some s)) CountFull why in
-          answers
-          ∙ ap (λ b. if b then (reply.Owner CountFull, t) else (
-            reply.New (length t.rows),
-            record {
-              rows = slice_set t.rows i (Some kept) ++ Some handed ∷ [];
-              blocks = t.blocks;
-            },
-          )) full
-          ∙ ap (λ x. (reply.Owner CountFull, x)) (sym (same-table slots' passes' same many))
-      unsplit-row setting c kept handed made answers AllocError slots' may why same =
-          let wants = setting.clone_wants in
-          let many = many-refused i k passes' wants made.place (stand_of (Some s)) AllocError why in
-          (may why.0, same-table slots' passes' same many)
+        -- the rows are those after a split
+        pub split-rows-are : (out : Bool) (row cut part : Row T (Unit {0}))
+            → (if out then part else cut) ≡ row_of i_kept
+            → (if out then row else part) ≡ row_of i_handed
+            → split_rows t i out row cut part ≡ map (option_map row_of) slots'
+        split-rows-are out row cut part kept handed =
+            ap (λ x. slice_set t.rows i (Some x) ++ Some (if out then row else part) ∷ []) kept
+            ∙ ap (λ x. slice_set t.rows i (Some (row_of i_kept)) ++ Some x ∷ []) handed
+            ∙ sym split-rows
 
       -- whether a window is alone
       alone-told : (st : Stand) → slice_get (stands_of slots) i ≡ Some st → (found : Bool)
@@ -367,14 +311,15 @@ module _ {T : Type 0} (slots : List (Option (SlotView T))) (passes : List (Pass 
       asked : (setting : Setting T) (found : Bool) (slots' : List (Option (SlotView T)))
           → Along (stand_of (Some s)) passes passes' (λ o p q. Asks o p q found)
           → (stand_of (Some s) ≡ None → found ≡ false) → slots' ≡ slots
-          → answer setting t (command.Uniq i)
+          → answer setting no_shortage t (command.Uniq i)
           ≡ (if found then reply.Yes else reply.No, (state_of slots' passes').table)
-      asked setting found slots' along none same =
+      asked setting found slots' along nowhere_no same =
           let st = stand_of (Some s) in
           let on = place_agrees s.block s.window.place in
-          let alone = alone-told st stand-there found along none (row_of s).place on in
+          let alone = alone-told st stand-there found along nowhere_no (row_of s).place on in
           let many = many-along i k passes' st (λ o p q. Asks o p q found) along in
-          answered is_reader (λ row. (if is_alone t row.place then reply.Yes else reply.No, t))
+          answered (command.Uniq i) (λ row.
+          (if is_alone t row.place then reply.Yes else reply.No, t))
           ∙ ap (λ b. (if b then reply.Yes else reply.No, t)) alone
           ∙ ap (λ x. (if found then reply.Yes else reply.No, x))
           (sym (same-table slots' passes' same many))
@@ -395,7 +340,8 @@ module _ {T : Type 0} (slots : List (Option (SlotView T))) (passes : List (Pass 
           let many = many-along i k passes' (stand_of (Some s)) Ended along in
           let rows : map (option_map row_of) slots' ≡ slice_set t.rows i None =
           ap (map (option_map row_of)) set ∙ map-slice_set (option_map row_of) slots i None in
-          answered is_window (λ row. (reply.Ok, record t { rows = slice_set t.rows i None }))
+          answered (command.Drop i) (λ row.
+          (reply.Ok, record { rows = slice_set t.rows i None; blocks = t.blocks }))
           ∙ ap (λ rs. (reply.Ok, record { rows = rs; blocks = length passes })) (sym rows)
           ∙ ap (λ b. (reply.Ok, record { rows = map (option_map row_of) slots'; blocks = b }))
           (sym many)

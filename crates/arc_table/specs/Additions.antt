@@ -1,20 +1,18 @@
--- What each command adds to the histories of the blocks: by which call, and through the pass of
--- which block. All other passes stay.
-use Rattle.std.specs.Prelude.{◌≡◌, ℕ, Bool, true, false, List, [], ◌∷◌, ◌++◌, length, Some}
-use Rattle.std.specs.Prelude.{None, slice_get, slice_set, ◌⊎◌}
-use Rattle.std.specs.Option.{option_flatten}
+-- What each command adds to the histories of the blocks, and where the windows stand after it.
+use Rattle.std.specs.Prelude.{◌≡◌, ℕ, ◌==◌, Bool, true, false, if◌then◌else◌, List, [], ◌∷◌, ◌++◌}
+use Rattle.std.specs.Prelude.{length, Some, None, slice_get, slice_set}
+use Rattle.std.specs.Option.{option_flatten, option_map_or}
 use Rattle.arc_owners.specs.declared.count.tokens.Pass.{Pass}
-use Rattle.arc_owners.specs.count.Calls.{Owner, IsPassFor, Asks, MakesAnother, FindsFull, Leaves}
-use Rattle.arc_owners.specs.count.Calls.{IsFirst, IsFreshPass, Appends}
-use Rattle.arc_owners.specs.count.Invariant.{Line}
+use Rattle.arc_owners.specs.declared.history.entry.Entry.{Entry}
+use Rattle.arc_owners.specs.declared.history.entry.Entry.TheVariants as entry
+use Rattle.arc_owners.specs.history.Histories.{is_counted, owners_ever}
+use Rattle.arc_owners.specs.count.Calls.{Owner, IsPassFor, IsFirst, IsFreshPass, Appends}
+use Rattle.arc_owners.specs.count.Calls.{history_of, seen}
 use Rattle.arc_owners.specs.declared.error.OwnerError.{OwnerError}
 use Rattle.arc_owners.specs.declared.error.OwnerError.TheVariants.{AllocError, CountFull}
 use Rattle.arc_block.specs.declared.block.TheConstants.{MAX_OWNERS}
-use Rattle.arc_block.specs.Block.{Sort}
 use Rattle.arc_block.specs.Owned.{Stand}
-use Rattle.arc_block.specs.Place.{Place}
-use Rattle.arc_block.specs.Table.{block_of}
-use Rattle.arc_table.specs.Step.{WantsAt}
+use Rattle.arc_block.specs.Table.{Table, row_at}
 use Rattle.arc_table.specs.declared.command.Cmd.{Cmd}
 use Rattle.arc_table.specs.declared.command.Cmd.TheVariants.{Slice, Clone, Sub, Off, To, Uniq}
 use Rattle.arc_table.specs.declared.command.Cmd.TheVariants.{Drop}
@@ -26,106 +24,93 @@ pub record Standing (H : Type 0) : Type 0 where
   pub stands : List Stand
   pub passes : List (Pass H)
 
+-- The entries of an owner, by the history before them: of one that makes another with this number,
+-- that asks whether it is alone, that is refused an owner more. On a word that has no count yet an
+-- owner more is a promotion, and asking adds nothing.
+abbrev pub raised : ℕ → Owner → List Entry → List Entry
+raised made o history = (if is_counted o.block.began history then entry.Up o.number made else
+    entry.Promote o.number made) ∷ []
+
+abbrev pub asked : Bool → Owner → List Entry → List Entry
+asked alone o history =
+    if is_counted o.block.began history then entry.Alone o.number alone ∷ [] else []
+
+abbrev pub refused : OwnerError → Owner → List Entry → List Entry
+refused CountFull o history = entry.Full o.number ∷ []
+refused AllocError o history = []
+
 module _ {H : Type 0} where
+  -- An owner of the block with this number added entries to the block's history, and nothing came
+  -- before them that the block's one pass hadn't seen. The other passes stay.
+  pub record AddsTo (number : ℕ) (o : Owner) (entries : Owner → List Entry → List Entry)
+      (old new : List (Pass H)) : Type 0 where
+    pub before : Pass H
+    pub after : Pass H
+    pub was : slice_get old number ≡ Some before
+    pub pass : IsPassFor o before
+    pub added : Appends o.block before after (history_of before) (entries o (seen before))
+    pub others : new ≡ slice_set old number after
+
+  -- a window that stands here added entries; where it stands on nothing, there are none
+  abbrev pub AddsAt : Stand → (Owner → List Entry → List Entry) → List (Pass H) → List (Pass H)
+      → Type 0
+  AddsAt None entries old new = new ≡ old
+  AddsAt (Some (number, o)) entries old new = AddsTo number o entries old new
+
+  -- Beside a window that stands here one was made that stands there: on the same block, as the next
+  -- owner, or on nothing.
+  abbrev pub Raises : Stand → Stand → List (Pass H) → List (Pass H) → Type 0
+  Raises here None old new = new ≡ old
+  Raises None (Some made) old new = ⊥
+  Raises (Some (number, o)) (Some made) old new = (made.0 ≡ number)
+      × (a : AddsTo number o (raised made.1.number) old new)
+      × (made.1 ≡ record {
+        block = o.block;
+        number = length (owners_ever (seen a.before));
+        born = history_of a.after;
+      })
+
+  -- a window was made of a list: on nothing, or as the first owner of a block more, whose pass is
+  -- a fresh one
+  abbrev pub Founds : Stand → List (Pass H) → List (Pass H) → Type 0
+  Founds None old new = new ≡ old
+  Founds (Some (number, owner)) old new =
+      (number ≡ length old) × IsFirst MAX_OWNERS true owner
+      × (p : Pass H) × IsFreshPass owner p × (new ≡ old ++ p ∷ [])
+
   -- where the window with this number stands
   abbrev pub stand_in : Standing H → ℕ → Stand
   stand_in t i = option_flatten (slice_get t.stands i)
 
-  -- a call by an owner went through the pass of its block, which has this number; the others stay
-  pub record Through (number : ℕ) (owner : Owner) (old new : List (Pass H))
-      (call : Owner → Pass H → Pass H → Type 0) : Type 0 where
-    pub before : Pass H
-    pub after : Pass H
-    pub was : slice_get old number ≡ Some before
-    -- it is the block's one pass, so nothing came between
-    pub pass : IsPassFor owner before
-    pub whole : owner.block.whole ≡ true
-    pub called : call owner before after
-    pub others : new ≡ slice_set old number after
+  -- A window more beside the one with this number, under the next number. But where the window
+  -- itself is handed out, that has the next number, and what was made stands under its own.
+  abbrev pub Joins : Standing H → ℕ → Bool → Standing H → Type 0
+  Joins old i handed_out new = (made : Stand) × Raises (stand_in old i) made old.passes new.passes
+      × (new.stands ≡ (if handed_out then slice_set old.stands i made ++ stand_in old i ∷ [] else
+      old.stands ++ made ∷ []))
 
-  -- a call by a window that stands here; where it stands on nothing, nothing is added
-  abbrev pub Along : Stand → List (Pass H) → List (Pass H)
-      → (Owner → Pass H → Pass H → Type 0) → Type 0
-  Along None old new call = new ≡ old
-  Along (Some (number, owner)) old new call = Through number owner old new call
+  -- the window with this number added entries, and the windows stand where they stood
+  abbrev pub Enters : Standing H → ℕ → (Owner → List Entry → List Entry) → Standing H → Type 0
+  Enters old i entries new =
+      (new.stands ≡ old.stands) × AddsAt (stand_in old i) entries old.passes new.passes
 
-  -- a window was made beside one that stands here: on its block, as another owner, or on nothing
-  abbrev pub Beside : Stand → List (Pass H) → List (Pass H) → Stand → Type 0
-  Beside s old new None = new ≡ old
-  Beside None old new (Some made) = ⊥
-  Beside (Some (number, owner)) old new (Some made) =
-      (made.0 ≡ number) × Through number owner old new (λ o p q. MakesAnother o p q made.1)
-
-  -- nothing was added
-  abbrev pub AddsNothing : Owner → Pass H → Pass H → Type 0
-  AddsNothing owner old new = (before : List Line) × Appends owner.block old new before []
-
-  -- the block on which a window stands had as many owners as it may have, and it is the block of
-  -- this place
-  abbrev pub FindsFullAt : Place ℕ (Unit {0}) → Stand → List (Pass H) → List (Pass H) → Type 0
-  FindsFullAt place None old new = ⊥
-  FindsFullAt place (Some (number, owner)) old new = (block_of place ≡ Some number)
-      × Through number owner old new FindsFull
-
-  -- no window was made at this place, beside one that stands here: why, and what was added
-  abbrev pub RefusesAt : (Sort → Bool) → Place ℕ (Unit {0}) → Stand → List (Pass H) → List (Pass H)
-      → OwnerError → Type 0
-  RefusesAt wants place s old new CountFull = FindsFullAt place s old new
-  RefusesAt wants place s old new AllocError = WantsAt wants place
-      × Along s old new AddsNothing
-
-  -- a window was made of a list: on nothing, or as the first owner of a block more, whose pass is
-  -- a fresh one
-  abbrev pub Founds : List (Pass H) → List (Pass H) → Stand → Type 0
-  Founds old new None = new ≡ old
-  Founds old new (Some (number, owner)) =
-      (number ≡ length old) × IsFirst MAX_OWNERS true owner
-      × (p : Pass H) × IsFreshPass owner p × (new ≡ old ++ p ∷ [])
-
-  -- a window more, under the next number
-  abbrev pub OneMore : Standing H → Standing H → (Stand → Type 0) → Type 0
-  OneMore old new made = (s : Stand) × (new.stands ≡ old.stands ++ s ∷ []) × made s
-
-  -- a window more, beside the one with this number
-  abbrev pub Joined : Standing H → ℕ → Standing H → Type 0
-  Joined old i new = OneMore old new (Beside (stand_in old i) old.passes new.passes)
-
-  -- a window more beside the one with this number: under the next number, or under its own, and
-  -- then that window has the next
-  abbrev pub Splits : Standing H → ℕ → Standing H → Type 0
-  Splits old i new = (s : Stand) × Beside (stand_in old i) old.passes new.passes s
-      × ((new.stands ≡ old.stands ++ s ∷ [])
-      ⊎ (new.stands ≡ slice_set old.stands i s ++ stand_in old i ∷ []))
-
-  -- a call by the window with this number; the windows stand where they stood
-  abbrev pub Calls : Standing H → ℕ → Standing H → (Owner → Pass H → Pass H → Type 0) → Type 0
-  Calls old i new call =
-      (new.stands ≡ old.stands) × Along (stand_in old i) old.passes new.passes call
-
-  -- the window with this number ended
-  abbrev pub Ends : Standing H → ℕ → Standing H → Type 0
-  Ends old i new =
-      (new.stands ≡ slice_set old.stands i None)
-      × Along (stand_in old i) old.passes new.passes (λ o p q. (last : Bool) × Leaves o p q last)
-
-  -- what a call adds that makes no owner, by why it makes none
-  abbrev pub Refuses : OwnerError → Owner → Pass H → Pass H → Type 0
-  Refuses CountFull = FindsFull
-  Refuses AllocError = AddsNothing
-
-  -- what a command adds, by what it is answered
-  abbrev pub Adds : {T : Type 0} → Standing H → Cmd (List T) → Reply (List T) → Standing H
-      → Type 0
-  Adds old (Slice items) (reply.New number) new = OneMore old new (Founds old.passes new.passes)
-  Adds old (Clone i) (reply.New number) new = Joined old i new
-  Adds old (Sub i start end) (reply.New number) new = Joined old i new
-  Adds old (Off i at) (reply.New number) new = Splits old i new
-  Adds old (To i at) (reply.New number) new = Splits old i new
-  Adds old (Off i at) (reply.Owner e) new = Calls old i new (Refuses e)
-  Adds old (To i at) (reply.Owner e) new = Calls old i new (Refuses e)
-  Adds old (Clone i) (reply.Owner e) new = Calls old i new (Refuses e)
-  Adds old (Sub i start end) (reply.Owner e) new = Calls old i new (Refuses e)
-  Adds old (Uniq i) reply.Yes new = Calls old i new (λ o p q. Asks o p q true)
-  Adds old (Uniq i) reply.No new = Calls old i new (λ o p q. Asks o p q false)
-  Adds old (Drop i) reply.Ok new = Ends old i new
-  Adds old command reply new = new ≡ old
+  -- what a command adds, by what it is answered. A split that leaves nothing hands out the window
+  -- itself
+  abbrev pub Adds : {T M : Type 0} → Table T M → Standing H → Cmd (List T) → Reply (List T)
+      → Standing H → Type 0
+  Adds t old (Slice items) (reply.New number) new = (made : Stand)
+      × Founds made old.passes new.passes × (new.stands ≡ old.stands ++ made ∷ [])
+  Adds t old (Clone i) (reply.New number) new = Joins old i false new
+  Adds t old (Sub i start end) (reply.New number) new = Joins old i false new
+  Adds t old (Off i at) (reply.New number) new = Joins old i (at == 0) new
+  Adds t old (To i at) (reply.New number) new =
+      Joins old i (option_map_or (λ row. at == length row.items) (row_at t i) false) new
+  Adds t old (Clone i) (reply.Owner e) new = Enters old i (refused e) new
+  Adds t old (Sub i start end) (reply.Owner e) new = Enters old i (refused e) new
+  Adds t old (Off i at) (reply.Owner e) new = Enters old i (refused e) new
+  Adds t old (To i at) (reply.Owner e) new = Enters old i (refused e) new
+  Adds t old (Uniq i) reply.Yes new = Enters old i (asked true) new
+  Adds t old (Uniq i) reply.No new = Enters old i (asked false) new
+  Adds t old (Drop i) reply.Ok new = (new.stands ≡ slice_set old.stands i None)
+      × AddsAt (stand_in old i) (λ o history. entry.Down o.number ∷ []) old.passes new.passes
+  Adds t old command reply new = new ≡ old

@@ -2,7 +2,9 @@ pub mod RunOf
 pub mod Step
 pub mod Seen
 pub mod Stands
+pub mod Blocks
 pub mod Slots
+pub mod Calls
 pub mod Additions
 pub mod State
 pub mod Splits

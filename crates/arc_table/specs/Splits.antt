@@ -2,7 +2,7 @@
 use Rattle.std.specs.Prelude.{◌≡◌, List, Some}
 use Rattle.arc_owners.specs.declared.count.tokens.Pass.{Pass}
 use Rattle.arc_block.specs.Table.{Row}
-use Rattle.arc_table.specs.Additions.{Beside}
+use Rattle.arc_table.specs.Calls.{Beside}
 use Rattle.arc_table.specs.Slots.{SlotView, row_of, stand_of}
 
 -- of the two parts of a slot one has its owner, and the other was made beside it

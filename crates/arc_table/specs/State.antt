@@ -1,11 +1,10 @@
 -- The windows of a table as a whole: their rows, where they stand, and the passes of the blocks.
-use Rattle.std.specs.Prelude.{◌≡◌, ℕ, List, [], Option, Some, None, length, map}
+use Rattle.std.specs.Prelude.{◌≡◌, ℕ, List, [], Option, None, length, map}
 use Rattle.std.specs.List.{range_with_len}
 use Rattle.std.specs.Option.{option_and_then, option_map}
 use Rattle.arc_owners.specs.declared.count.tokens.Pass.{Pass}
 use Rattle.arc_owners.specs.declared.mark.Whole.{Whole}
-use Rattle.arc_block.specs.Owned.{Stand}
-use Rattle.arc_block.specs.Table.{Row, Table, block_of, empty_table, row_at}
+use Rattle.arc_block.specs.Table.{Table, block_of, empty_table, row_at}
 use Rattle.arc_table.specs.RunOf.{RunOf}
 use Rattle.arc_table.specs.Additions.{Standing, Adds}
 use Rattle.arc_table.specs.Slots.{SlotView, row_of, stands_of}
@@ -31,22 +30,16 @@ state_of slots passes = record {
   standing = record { stands = stands_of slots; passes = passes };
 }
 
--- the number of the block on which a row lies, and on which a window stands
-abbrev pub row_block : {T : Type 0} → Option (Row T (Unit {0})) → Option ℕ
-row_block row = option_and_then (λ r. block_of r.place) row
-
-abbrev pub stand_block : Stand → Option ℕ
-stand_block stand = option_map (λ s. s.0) stand
-
 -- each window stands on the block of its row
 abbrev pub Agrees : {T : Type 0} → State T → Type 0
-Agrees s = map row_block s.table.rows ≡ map stand_block s.standing.stands
+Agrees s = map (option_and_then (λ row. block_of row.place)) s.table.rows
+    ≡ map (option_map (λ stand. stand.0)) s.standing.stands
 
 -- a command is carried out: one step of the table, which adds what it adds to the histories
 pub record CarriesOut {T : Type 0} (setting : Setting T) (old : State T) (c : Cmd (List T))
     (reply : Reply (List T)) (new : State T) : Type 0 where
   pub rows : Step setting old.table c reply new.table
-  pub passes : Adds old.standing c reply new.standing
+  pub passes : Adds old.table old.standing c reply new.standing
   pub agree : Agrees new
 
 -- the end of each window of so many, in the order of their numbers

@@ -2,6 +2,7 @@
 #![tactic(auto)]
 
 pub mod command;
+pub mod laws;
 pub mod passes;
 mod slot;
 pub mod table;

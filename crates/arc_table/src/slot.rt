@@ -43,15 +43,14 @@ fn part_block<L: Layout>(block: Option<usize>, len: usize) -> Option<usize>
 
 impl<S: Slice, L: Layout, A: Allocator + Copy> Slot<S, L, A> {
     ghost use Rattle.std.specs.Prelude.{◌≡◌, ◌<◌, ◌↔◌, length, Bool, false, None, Some};
-    ghost use Rattle.std.specs.Prelude.{IfOk, IfErr, IsOk};
+    ghost use Rattle.std.specs.Prelude.{IfOk, IfErr, IsOk, take, drop};
     ghost use Rattle.arc_buffer.specs.Slice.{IsRange, IsEdge, sub, range_answer, edge_answer};
-    ghost use Rattle.arc_block.specs.Place.{part_place};
+    ghost use Rattle.arc_block.specs.Place.{moved, part_place};
     ghost use Rattle.arc_block.specs.Table.{reader};
     ghost use Rattle.arc_owners.specs.count.Calls.{Asks, Leaves};
     ghost use Rattle.arc_table.specs.Stands.{HasPassFor};
-    ghost use Rattle.arc_table.specs.Additions.{Along, Beside, RefusesAt};
-    ghost use Rattle.arc_table.specs.Step.{advanced, truncated, cut_row, off_part, to_part};
-    ghost use Rattle.arc_table.specs.Step.{setting_of};
+    ghost use Rattle.arc_table.specs.Calls.{Along, Beside, RefusesAt};
+    ghost use Rattle.arc_table.specs.Step.{setting_of, cut_row, off_part, to_part};
     ghost use Rattle.arc_table.specs.Splits.{IsSplit};
     ghost use Rattle.arc_table.specs.Slots.{row_of, stand_of};
 
@@ -94,7 +93,11 @@ impl<S: Slice, L: Layout, A: Allocator + Copy> Slot<S, L, A> {
     where
         S: Subsliceable,
         requires { IsEdge S.boundary self.old.window.items by }
-        ensures row { row_of self.new ≡ advanced (row_of self.old) by }
+        ensures row { row_of self.new ≡ record {
+          items = drop by self.old.window.items;
+          place = moved by (row_of self.old).place;
+          role = reader;
+        } }
         ensures stand { stand_of (Some self.new) ≡ stand_of (Some self.old) }
     {
         self.window.advance(by);
@@ -105,7 +108,11 @@ impl<S: Slice, L: Layout, A: Allocator + Copy> Slot<S, L, A> {
     where
         S: Subsliceable,
         requires { IsEdge S.boundary self.old.window.items len }
-        ensures row { row_of self.new ≡ truncated (row_of self.old) len }
+        ensures row { row_of self.new ≡ record {
+          items = take len self.old.window.items;
+          place = (row_of self.old).place;
+          role = reader;
+        } }
         ensures stand { stand_of (Some self.new) ≡ stand_of (Some self.old) }
     {
         self.window.truncate(len);

@@ -71,7 +71,7 @@ where
     ghost use Rattle.arc_table.specs.Step.{Step, setting_of};
     ghost use Rattle.arc_table.specs.Seen.{seen_command, seen_reply};
     ghost use Rattle.arc_table.specs.Additions.{Adds};
-    ghost use Rattle.arc_table.specs.State.{Agrees, EndsAll, EndsWith, empty_state};
+    ghost use Rattle.arc_table.specs.State.{Agrees, CarriesOut, EndsAll, EndsWith, empty_state};
     ghost use Rattle.arc_table.specs.declared.command.Cmd.TheVariants as command;
 
     /// No window yet. Takes no memory.
@@ -92,10 +92,20 @@ where
     /// Takes memory for a window more, for what a window is made of and for what is shown; refused,
     /// the answer is `Alloc`.
     pub fn step(&mut self, rt: &impl Wait, command: Cmd<Vec<S::Item, A>>) -> Reply<Vec<S::Item, A>>
+        ensures { CarriesOut (setting_of L.STATIC L.clone_wants S.DROPS S.boundary) self.old
+            (seen_command command) (seen_reply result) self.new }
+    {
+        let reply = self.answer(rt, command);
+        self.agree();
+        reply
+    }
+
+    /// The reply to one command, by the method for it.
+    fn answer(&mut self, rt: &impl Wait, command: Cmd<Vec<S::Item, A>>) -> Reply<Vec<S::Item, A>>
         ensures rows { Step (setting_of L.STATIC L.clone_wants S.DROPS S.boundary) self.old.table
             (seen_command command) (seen_reply result) self.new.table }
-        ensures passes { Adds self.old.standing (seen_command command) (seen_reply result)
-            self.new.standing }
+        ensures passes { Adds self.old.table self.old.standing (seen_command command)
+            (seen_reply result) self.new.standing }
     {
         match command {
             Cmd::Slice(items) => self.slice(items),
@@ -113,7 +123,7 @@ where
     }
 
     /// Each window stands on the block of its row. Does nothing: its contract is the law.
-    pub fn agree(&self)
+    fn agree(&self)
         ensures { Agrees self.now }
     {
         let _ = &self.slots;
@@ -154,8 +164,8 @@ where
     fn slice(&mut self, items: Vec<S::Item, A>) -> Reply<Vec<S::Item, A>>
         ensures rows { Step (setting_of L.STATIC L.clone_wants S.DROPS S.boundary) self.old.table
             (command.Slice items.items) (seen_reply result) self.new.table }
-        ensures passes { Adds self.old.standing (command.Slice items.items) (seen_reply result)
-            self.new.standing }
+        ensures passes { Adds self.old.table self.old.standing (command.Slice items.items)
+            (seen_reply result) self.new.standing }
     {
         if self.slots.reserve(1).is_err() || self.passes.of_blocks.reserve(1).is_err() {
             return Reply::Alloc;
@@ -184,7 +194,7 @@ where
     fn clone_window(&mut self, rt: &impl Wait, i: usize) -> Reply<Vec<S::Item, A>>
         ensures rows { Step (setting_of L.STATIC L.clone_wants S.DROPS S.boundary) self.old.table
             (command.Clone i) (seen_reply result) self.new.table }
-        ensures passes { Adds self.old.standing (command.Clone i) (seen_reply result)
+        ensures passes { Adds self.old.table self.old.standing (command.Clone i) (seen_reply result)
             self.new.standing }
     {
         let Some(_) = slot_at(&self.slots, i) else {
@@ -210,8 +220,8 @@ where
     fn sub(&mut self, rt: &impl Wait, i: usize, start: usize, end: usize) -> Reply<Vec<S::Item, A>>
         ensures rows { Step (setting_of L.STATIC L.clone_wants S.DROPS S.boundary) self.old.table
             (command.Sub i start end) (seen_reply result) self.new.table }
-        ensures passes { Adds self.old.standing (command.Sub i start end) (seen_reply result)
-            self.new.standing }
+        ensures passes { Adds self.old.table self.old.standing (command.Sub i start end)
+            (seen_reply result) self.new.standing }
     {
         let Some(slot) = slot_at(&self.slots, i) else {
             return Reply::NoWindow;
@@ -239,7 +249,7 @@ where
     fn uniq(&mut self, i: usize) -> Reply<Vec<S::Item, A>>
         ensures rows { Step (setting_of L.STATIC L.clone_wants S.DROPS S.boundary) self.old.table
             (command.Uniq i) (seen_reply result) self.new.table }
-        ensures passes { Adds self.old.standing (command.Uniq i) (seen_reply result)
+        ensures passes { Adds self.old.table self.old.standing (command.Uniq i) (seen_reply result)
             self.new.standing }
     {
         let Some(slot) = slot_at(&self.slots, i) else {
@@ -256,7 +266,7 @@ where
     fn show(&self, i: usize) -> Reply<Vec<S::Item, A>>
         ensures rows { Step (setting_of L.STATIC L.clone_wants S.DROPS S.boundary) self.now.table
             (command.Show i) (seen_reply result) self.now.table }
-        ensures passes { Adds self.now.standing (command.Show i) (seen_reply result)
+        ensures passes { Adds self.now.table self.now.standing (command.Show i) (seen_reply result)
             self.now.standing }
     {
         let Some(slot) = slot_at(&self.slots, i) else {
@@ -272,8 +282,8 @@ where
     fn split_off(&mut self, rt: &impl Wait, i: usize, at: usize) -> Reply<Vec<S::Item, A>>
         ensures rows { Step (setting_of L.STATIC L.clone_wants S.DROPS S.boundary) self.old.table
             (command.Off i at) (seen_reply result) self.new.table }
-        ensures passes { Adds self.old.standing (command.Off i at) (seen_reply result)
-            self.new.standing }
+        ensures passes { Adds self.old.table self.old.standing (command.Off i at)
+            (seen_reply result) self.new.standing }
     {
         let Some(slot) = slot_at(&self.slots, i) else {
             return Reply::NoWindow;
@@ -301,7 +311,7 @@ where
     fn split_to(&mut self, rt: &impl Wait, i: usize, at: usize) -> Reply<Vec<S::Item, A>>
         ensures rows { Step (setting_of L.STATIC L.clone_wants S.DROPS S.boundary) self.old.table
             (command.To i at) (seen_reply result) self.new.table }
-        ensures passes { Adds self.old.standing (command.To i at) (seen_reply result)
+        ensures passes { Adds self.old.table self.old.standing (command.To i at) (seen_reply result)
             self.new.standing }
     {
         let Some(slot) = slot_at(&self.slots, i) else {
@@ -330,7 +340,7 @@ where
     fn len(&self, i: usize) -> Reply<Vec<S::Item, A>>
         ensures rows { Step (setting_of L.STATIC L.clone_wants S.DROPS S.boundary) self.now.table
             (command.Len i) (seen_reply result) self.now.table }
-        ensures passes { Adds self.now.standing (command.Len i) (seen_reply result)
+        ensures passes { Adds self.now.table self.now.standing (command.Len i) (seen_reply result)
             self.now.standing }
     {
         match slot_at(&self.slots, i) {
@@ -343,8 +353,8 @@ where
     fn advance(&mut self, i: usize, by: usize) -> Reply<Vec<S::Item, A>>
         ensures rows { Step (setting_of L.STATIC L.clone_wants S.DROPS S.boundary) self.old.table
             (command.Adv i by) (seen_reply result) self.new.table }
-        ensures passes { Adds self.old.standing (command.Adv i by) (seen_reply result)
-            self.new.standing }
+        ensures passes { Adds self.old.table self.old.standing (command.Adv i by)
+            (seen_reply result) self.new.standing }
     {
         let Some(slot) = slot_at(&self.slots, i) else {
             return Reply::NoWindow;
@@ -363,8 +373,8 @@ where
     fn truncate(&mut self, i: usize, len: usize) -> Reply<Vec<S::Item, A>>
         ensures rows { Step (setting_of L.STATIC L.clone_wants S.DROPS S.boundary) self.old.table
             (command.Trunc i len) (seen_reply result) self.new.table }
-        ensures passes { Adds self.old.standing (command.Trunc i len) (seen_reply result)
-            self.new.standing }
+        ensures passes { Adds self.old.table self.old.standing (command.Trunc i len)
+            (seen_reply result) self.new.standing }
     {
         let Some(slot) = slot_at(&self.slots, i) else {
             return Reply::NoWindow;
@@ -386,7 +396,7 @@ where
     fn release(&mut self, i: usize) -> Reply<Vec<S::Item, A>>
         ensures rows { Step (setting_of L.STATIC L.clone_wants S.DROPS S.boundary) self.old.table
             (command.Drop i) (seen_reply result) self.new.table }
-        ensures passes { Adds self.old.standing (command.Drop i) (seen_reply result)
+        ensures passes { Adds self.old.table self.old.standing (command.Drop i) (seen_reply result)
             self.new.standing }
         ensures gone { self.new.table.rows ≡ slice_set self.old.table.rows i None }
         ensures blocks { self.new.table.blocks ≡ self.old.table.blocks }

@@ -14,7 +14,7 @@ use Rattle.arc_table.specs.declared.command.Cmd.TheVariants.{Slice, Clone, Sub, 
 use Rattle.arc_table.specs.declared.command.Reply.{Reply}
 use Rattle.arc_table.specs.declared.command.Reply.TheVariants as reply
 use Rattle.arc_table.specs.RunOf.{RunOf}
-use Rattle.arc_table.specs.Step.{Setting, answer, MayWant, Step}
+use Rattle.arc_table.specs.Step.{Setting, no_shortage, of_table, answer, Step}
 use Rattle.arc_buffer.specs.Slice.{range_answer}
 use Rattle.arcs.specs.Text.{line_feed, Says}
 use Rattle.arcs.specs.Script.{ended, HasNoFeed, AreLines, byte_setting, ByteTable, Answers, answer_text, BeginsReplyText}
@@ -29,7 +29,8 @@ use Rattle.arcs.proofs.Words.{all_by}
 -- what a line is answered where nothing is short, by what it says
 abbrev pub answered : ByteTable → Option (Cmd (List ℕ)) → Option (Reply (List ℕ)) × ByteTable
 answered old None = (None, old)
-answered old (Some c) = (Some (answer byte_setting old c).0, (answer byte_setting old c).1)
+answered old (Some c) =
+    (Some (answer byte_setting no_shortage old c).0, (answer byte_setting no_shortage old c).1)
 
 answered_is : (old : ByteTable) (line : List ℕ) (said : Option (Cmd (List ℕ))) → reading line ≡ said → Answers old line (answered old said).0 (answered old said).1
 answered_is old line None e = (unread_is_none line e, refl)
@@ -69,13 +70,14 @@ no_feeds lines pass = recursion_from_All HasNoFeed lines (all_by is_line HasNoFe
 
 -- ---- memory may be short for a command that brings items
 
-pub items_want : {M : Type 0} (setting : Setting ℕ) (old : Table ℕ M) (c : Cmd (List ℕ)) → BringsItems c → MayWant setting old c
-items_want setting old (Slice items) brings = tt
+pub items_want : {M : Type 0} (setting : Setting ℕ) (old : Table ℕ M) (c : Cmd (List ℕ))
+    → BringsItems c → answer setting of_table old c ≡ (reply.Alloc, old)
+items_want setting old (Slice items) brings = refl
 items_want setting old other brings = absurd (cc)
 
 -- then the line may be answered so, and nothing changes
 pub want_answers : (old : ByteTable) (line : List ℕ) → (c : Cmd (List ℕ)) × Says line c × BringsItems c → Answers old line (Some reply.Alloc) old
-want_answers old line said = (said.0, said.1, (items_want byte_setting old said.0 said.2, refl))
+want_answers old line said = (said.0, said.1, items_want byte_setting old said.0 said.2)
 
 -- ---- a text that goes on
 

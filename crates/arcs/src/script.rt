@@ -100,9 +100,7 @@ fn answer<A: Allocator + Copy>(
     ensures { CarriesOutSaid table.old (option_map seen_command said)
         (option_map seen_reply result) table.new }
 {
-    let reply = table.step(rt, said?);
-    table.agree();
-    Some(reply)
+    Some(table.step(rt, said?))
 }
 
 /// A script that is being run: its windows, what has come of a line, and the replies that have not

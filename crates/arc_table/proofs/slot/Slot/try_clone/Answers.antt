@@ -1,6 +1,6 @@
 -- What the clone adds to the pass that was lent for it, it adds to the passes.
 use Rattle.std.proofs.Common.{Some, sym, subst}
-use Rattle.arc_table.specs.Additions.{Beside, RefusesAt}
+use Rattle.arc_table.specs.Calls.{Beside, RefusesAt}
 use Rattle.arc_table.specs.Slots.{SlotView, stand_of}
 use Rattle.arc_table.specs.Stands.{HasPassFor, numbered, stand_at}
 use Rattle.arc_table.proofs.Slots.{still-number, shares, refuses}

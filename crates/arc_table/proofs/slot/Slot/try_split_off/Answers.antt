@@ -1,6 +1,6 @@
 -- Of the two parts one has the owner, and what the other adds to the pass that was lent for it, it
 -- adds to the passes.
-use Rattle.std.proofs.Common.{◌≡◌, ◌<◌, length, Some, sym, ap, ◌∙◌, subst}
+use Rattle.std.proofs.Common.{◌≡◌, ◌<◌, Some, sym, subst}
 use Rattle.arc_table.specs.Slots.{SlotView, row_of, stand_of}
 use Rattle.arc_table.specs.Splits.{IsSplit}
 use Rattle.arc_table.specs.Stands.{HasPassFor}

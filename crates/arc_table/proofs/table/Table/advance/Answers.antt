@@ -1,20 +1,30 @@
 -- The row has become the part, and no window stands elsewhere.
-use Rattle.std.proofs.Common.{◌≡◌, Bool, true, if◌then◌else◌, Some, Ok, length, slice_get, slice_set, sym, ap, ◌∙◌, subst}
-use Rattle.std.specs.Prelude.{nat_lt}
+use Rattle.std.proofs.Common.{◌≡◌, Some, Ok, slice_get, slice_set, sym, ap, ◌∙◌, subst}
+use Rattle.std.specs.Prelude.{drop}
+use Rattle.arc_block.specs.Place.{moved}
 use Rattle.arc_buffer.specs.Slice.{edge_answer}
 use Rattle.arc_block.specs.Table.{Row}
-use Rattle.arc_table.specs.Additions.{Adds}
-use Rattle.arc_table.specs.Slots.{SlotView, row_of, stand_of}
-use Rattle.arc_table.specs.State.{State, state_of}
-use Rattle.arc_table.specs.Step.{Setting, Step, setting_of, in_range, changed, advanced, is_window}
+use Rattle.arc_table.specs.Slots.{SlotView, row_of}
+use Rattle.arc_table.specs.State.{State}
+use Rattle.arc_table.specs.Step.{Setting, setting_of}
 use Rattle.arc_table.specs.declared.command.Cmd.TheVariants as command
 use Rattle.arc_table.specs.declared.command.Reply.TheVariants as reply
 use Rattle.arc_table.proofs.Lists.{read-there, same_entry}
-use Rattle.arc_table.proofs.Tables.{answered, kept-changed, changed-row, changed-added}
+use Rattle.arc_table.proofs.Rows.{adv-answers}
+use Rattle.arc_table.proofs.Done.{Done, become}
+use Rattle.arc_table.proofs.table.Table.advance.Given.{Over}
+use Rattle.arc_table.proofs.table.Table.advance.Goals.{After-advance}
 use Rattle.arc_table.proofs.table.Table.advance.Goals as goal
 
-pub invariant_of-self : goal.invariant_of-self
-invariant_of-self g c =
+abbrev setting : (g : Over) → Setting g.row.S-Item.Denot
+setting g =
+    setting_of g.L.Layout.STATIC g.L.Layout.clone_wants g.S.Slice.DROPS g.S.Subsliceable.boundary
+
+did : (g : Over) (c : After-advance g)
+    → Done (setting g) c.args.self.now (command.Adv c.args.i c.args.by) reply.Ok
+    (slice_set c.self.inside.slots.items c.args.i (Some c.advance.new.self))
+    c.self.inside.passes.of_blocks.items
+did g c =
     let slots = c.self.inside.slots.items in
     let passes = c.self.inside.passes.of_blocks.items in
     let i = c.args.i in
@@ -24,50 +34,26 @@ invariant_of-self g c =
     read-there slots i c.index_mut.result.now _ got c.index_mut.ensures.value
     ∙ ap Some c.in-Some-index_mut.is in
     let s' = c.advance.new.self in
-    kept-changed slots passes i s there s' c.advance.ensures.stand c.self.invariant
+    let one = same_entry slots i c.in-Some.slot.now s got there in
+    let may : edge_answer (setting g).boundary s.window.items c.args.by ≡ Ok tt =
+    ap (λ (v : SlotView g.row.S-Item.Denot).
+    edge_answer (setting g).boundary v.window.items c.args.by) (sym one)
+    ∙ sym c.in_default-check_at.ensures.answer in
+    let r : Row g.row.S-Item.Denot (Unit {0}) = row_of s in
+    let part : Row g.row.S-Item.Denot (Unit {0}) =
+    record r { items = drop c.args.by r.items; place = moved c.args.by r.place } in
+    subst (λ (o : State g.row.S-Item.Denot).
+    Done (setting g) o (command.Adv i c.args.by) reply.Ok (slice_set slots i (Some s')) passes)
+    c.self.view_is
+    (become (setting g) slots passes i s there c.self.invariant (command.Adv i c.args.by) s' part
+    (adv-answers (setting g) slots passes i s there c.args.by may) (λ new same. same)
+    c.advance.ensures.stand c.advance.ensures.row)
+
+pub invariant_of-self : goal.invariant_of-self
+invariant_of-self g c = (did g (goal.at.invariant_of-self g c).After-advance).kept
 
 pub returns-clause-rows : goal.returns-clause-rows
-returns-clause-rows g c =
-    let slots = c.self.inside.slots.items in
-    let passes = c.self.inside.passes.of_blocks.items in
-    let i = c.args.i in
-    let s = c.in-Some-index_mut.slot in
-    let got = ap (λ ss. slice_get ss i) (sym c.deref.ensures.value) ∙ c.in-Some.ensures in
-    let there =
-    read-there slots i c.index_mut.result.now _ got c.index_mut.ensures.value
-    ∙ ap Some c.in-Some-index_mut.is in
-    let s' = c.advance.new.self in
-    let setting : Setting g.row.S-Item.Denot =
-    setting_of g.L.Layout.STATIC g.L.Layout.clone_wants g.S.Slice.DROPS g.S.Subsliceable.boundary in
-    let t = (state_of slots passes).table in
-    let one = same_entry slots i c.in-Some.slot.now s got there in
-    let may : edge_answer setting.boundary s.window.items c.args.by ≡ Ok tt =
-    ap (λ (v : SlotView g.row.S-Item.Denot).
-    edge_answer setting.boundary v.window.items c.args.by) (sym one)
-    ∙ sym c.in_default-check_at.ensures.answer in
-    let found = λ (row : Row g.row.S-Item.Denot (Unit {0})).
-    in_range (edge_answer setting.boundary row.items c.args.by) t (changed t i (advanced row c.args.by)) in
-    subst (λ (o : State g.row.S-Item.Denot).
-    Step setting o.table (command.Adv i c.args.by) reply.Ok
-    (state_of (slice_set slots i (Some s')) passes).table)
-    c.self.view_is
-    (answered slots passes i s there is_window found
-    ∙ ap (λ a. in_range a t (changed t i (advanced (row_of s) c.args.by))) may
-    ∙ changed-row slots passes i s there s' c.advance.ensures.stand (advanced (row_of s) c.args.by)
-    c.advance.ensures.row)
+returns-clause-rows g c = (did g (goal.at.returns-clause-rows g c).After-advance).rows
 
 pub returns-clause-passes : goal.returns-clause-passes
-returns-clause-passes g c =
-    let slots = c.self.inside.slots.items in
-    let passes = c.self.inside.passes.of_blocks.items in
-    let i = c.args.i in
-    let s = c.in-Some-index_mut.slot in
-    let got = ap (λ ss. slice_get ss i) (sym c.deref.ensures.value) ∙ c.in-Some.ensures in
-    let there =
-    read-there slots i c.index_mut.result.now _ got c.index_mut.ensures.value
-    ∙ ap Some c.in-Some-index_mut.is in
-    let s' = c.advance.new.self in
-    subst (λ (o : State g.row.S-Item.Denot).
-    Adds {T = g.row.S-Item.Denot} o.standing (command.Adv i c.args.by) reply.Ok
-    (state_of (slice_set slots i (Some s')) passes).standing)
-    c.self.view_is (changed-added slots passes i s there s' c.advance.ensures.stand)
+returns-clause-passes g c = (did g (goal.at.returns-clause-passes g c).After-advance).passes_are

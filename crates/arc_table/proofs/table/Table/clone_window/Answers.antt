@@ -1,21 +1,66 @@
 -- The clone stands on the same block, as another owner; or the block has as many owners as it may
 -- have, or the layout wanted memory.
-use Rattle.std.proofs.Common.{◌≡◌, [], ◌∷◌, ◌++◌, length, Some, None, Ok, slice_get, sym, ap, ◌∙◌}
-use Rattle.std.proofs.Common.{subst, refl}
-use Rattle.arc_block.specs.declared.block.TheConstants.{MAX_OWNERS}
-use Rattle.arc_block.specs.Owned.{IsKept}
-use Rattle.arc_table.specs.Additions.{Adds}
-use Rattle.arc_table.specs.Slots.{row_of, stand_of, stands_of}
+use Rattle.std.proofs.Common.{◌≡◌, [], ◌∷◌, ◌++◌, length, Some, slice_get, sym, ap, ◌∙◌, subst}
+use Rattle.arc_table.specs.Slots.{row_of, stand_of}
 use Rattle.arc_table.specs.State.{State, state_of}
-use Rattle.arc_table.specs.Step.{Setting, Step, setting_of, with_owner, part_of, is_read, in_range}
+use Rattle.arc_table.specs.Step.{Setting, Step, setting_of, of_table}
 use Rattle.arc_table.specs.declared.command.Cmd.TheVariants as command
 use Rattle.arc_table.specs.declared.command.Reply.TheVariants as reply
-use Rattle.arc_table.proofs.Lists.{slice_in, behind, same_entry}
+use Rattle.arc_table.proofs.Lists.{slice_in, behind}
 use Rattle.arc_table.proofs.Kept.{known-pass}
-use Rattle.arc_table.proofs.Tables.{row-there, stand-there, answered, joins-row, refused-row}
-use Rattle.arc_table.proofs.Tables.{same-table, kept-made, kept-unmade}
-use Rattle.arc_table.proofs.Added.{joins-added, refused-added}
+use Rattle.arc_table.proofs.Tables.{stand-there}
+use Rattle.arc_table.proofs.Rows.{alloc-step, clone-answers}
+use Rattle.arc_table.proofs.Done.{Done, joined, unmade}
+use Rattle.arc_table.proofs.table.Table.clone_window.Given.{Over}
+use Rattle.arc_table.proofs.table.Table.clone_window.Goals.{After-push_reserved, In-Err}
 use Rattle.arc_table.proofs.table.Table.clone_window.Goals as goal
+
+abbrev setting : (g : Over) → Setting g.row.S-Item.Denot
+setting g =
+    setting_of g.L.Layout.STATIC g.L.Layout.clone_wants g.S.Slice.DROPS g.S.Subsliceable.boundary
+
+made : (g : Over) (c : After-push_reserved g)
+    → Done (setting g) c.args.self.now (command.Clone c.args.i) (reply.New c.len-number.result)
+    c.push_reserved.new.self.items c.try_clone.new.passes.of_blocks.items
+made g c =
+    let slots = c.self.inside.slots.items in
+    let passes = c.self.inside.passes.of_blocks.items in
+    let s = c.in-Some-slot_at.slot.now in
+    let at =
+    slice_in _ _ slots c.args.i _ c.deref-2.ensures.value c.reserve.ensures.items
+    c.in-Some-slot_at.ensures in
+    let slots' = c.push_reserved.new.self.items in
+    let after = c.try_clone.new.passes.of_blocks.items in
+    let number = c.len-number.result in
+    let counted : number ≡ length slots =
+    c.len-number.ensures ∙ c.reserve.new.self.ok.0 ∙ ap length c.reserve.ensures.items in
+    subst (λ (o : State g.row.S-Item.Denot).
+    Done (setting g) o (command.Clone c.args.i) (reply.New number) slots' after) c.self.view_is
+    (joined (setting g) slots passes c.args.i s at c.self.invariant (command.Clone c.args.i) slots'
+    after (row_of s) (clone-answers (setting g) slots passes c.args.i s at) (λ n adds. adds)
+    c.in-Ok.slot number c.in-Ok.ensures.row c.in-Ok.ensures.stand
+    (behind slots (Some c.in-Ok.slot) c.push_reserved.ensures.items c.reserve.ensures.items)
+    counted)
+
+refused : (g : Over) (c : In-Err g)
+    → Done (setting g) c.args.self.now (command.Clone c.args.i) (reply.Owner c.in-Err.e)
+    c.reserve.new.self.items c.try_clone.new.passes.of_blocks.items
+refused g c =
+    let slots = c.self.inside.slots.items in
+    let passes = c.self.inside.passes.of_blocks.items in
+    let s = c.in-Some-slot_at.slot.now in
+    let at =
+    slice_in _ _ slots c.args.i _ c.deref-2.ensures.value c.reserve.ensures.items
+    c.in-Some-slot_at.ensures in
+    let slots' = c.reserve.new.self.items in
+    let after = c.try_clone.new.passes.of_blocks.items in
+    let rows = (state_of slots passes).table.rows ++ Some (row_of s) ∷ [] in
+    subst (λ (o : State g.row.S-Item.Denot).
+    Done (setting g) o (command.Clone c.args.i) (reply.Owner c.in-Err.e) slots' after)
+    c.self.view_is
+    (unmade (setting g) slots passes c.args.i s at c.self.invariant (command.Clone c.args.i) slots'
+    after (row_of s) rows (clone-answers (setting g) slots passes c.args.i s at) (λ e adds. adds)
+    c.in-Err.e c.in-Err.ensures.refused c.reserve.ensures.items)
 
 pub returns-then-is_err-clause-rows : goal.returns-then-is_err-clause-rows
 returns-then-is_err-clause-rows g c =
@@ -23,130 +68,43 @@ returns-then-is_err-clause-rows g c =
     let passes = c.self.inside.passes.of_blocks.items in
     let i = c.args.i in
     let s = c.in-Some.field-0.now in
-    let there = ap (λ ss. slice_get ss i) (sym c.deref.ensures.value) ∙ c.in-Some.ensures in
+    let at = ap (λ ss. slice_get ss i) (sym c.deref.ensures.value) ∙ c.in-Some.ensures in
     subst (λ (o : State g.row.S-Item.Denot).
-    Step (setting_of g.L.Layout.STATIC g.L.Layout.clone_wants g.S.Slice.DROPS g.S.Subsliceable.boundary) o.table (command.Clone i) reply.Alloc
+    Step (setting g) o.table (command.Clone i) reply.Alloc
     (state_of c.reserve.new.self.items passes).table)
-    c.self.view_is (
-      (row_of s, row-there slots passes i s there, tt),
-      same-table slots passes c.reserve.new.self.items passes c.reserve.ensures.items refl,
-    )
+    c.self.view_is
+    (alloc-step (setting g) slots passes (command.Clone i) c.reserve.new.self.items
+    (clone-answers (setting g) slots passes i s at of_table) c.reserve.ensures.items)
 
 pub try_clone-requires-clause-pass : goal.try_clone-requires-clause-pass
 try_clone-requires-clause-pass g c κs within =
     let slots = c.self.inside.slots.items in
     let passes = c.self.inside.passes.of_blocks.items in
-    let i = c.args.i in
     let s = c.in-Some-slot_at.slot.now in
-    let there =
-    slice_in _ _ slots i _ c.deref-2.ensures.value c.reserve.ensures.items c.in-Some-slot_at.ensures in
-    known-pass i c.self.invariant (stand_of (Some s)) (stand-there slots passes i s there)
+    let at =
+    slice_in _ _ slots c.args.i _ c.deref-2.ensures.value c.reserve.ensures.items
+    c.in-Some-slot_at.ensures in
+    known-pass c.args.i c.self.invariant (stand_of (Some s))
+    (stand-there slots passes c.args.i s at)
 
 pub invariant_of-self-in-Ok : goal.invariant_of-self-in-Ok
 invariant_of-self-in-Ok g c =
-    let slots = c.self.inside.slots.items in
-    let passes = c.self.inside.passes.of_blocks.items in
-    let i = c.args.i in
-    let s = c.in-Some-slot_at.slot.now in
-    let there =
-    slice_in _ _ slots i _ c.deref-2.ensures.value c.reserve.ensures.items c.in-Some-slot_at.ensures in
-    let made = c.in-Ok.slot in
-    let after = c.try_clone.new.passes.of_blocks.items in
-    let more = behind slots (Some made) c.push_reserved.ensures.items c.reserve.ensures.items in
-    kept-made slots passes i s there c.self.invariant after made c.push_reserved.new.self.items more
-    c.in-Ok.ensures.stand
+    (made g (goal.at.invariant_of-self-in-Ok g c).After-push_reserved).kept
 
 pub invariant_of-self-in-Err : goal.invariant_of-self-in-Err
-invariant_of-self-in-Err g c =
-    let slots = c.self.inside.slots.items in
-    let passes = c.self.inside.passes.of_blocks.items in
-    let i = c.args.i in
-    let s = c.in-Some-slot_at.slot.now in
-    let there =
-    slice_in _ _ slots i _ c.deref-2.ensures.value c.reserve.ensures.items c.in-Some-slot_at.ensures in
-    let after = c.try_clone.new.passes.of_blocks.items in
-    kept-unmade slots passes i s there c.self.invariant after c.reserve.new.self.items
-    c.reserve.ensures.items g.L.Layout.clone_wants (row_of s).place c.in-Err.e
-    c.in-Err.ensures.refused
+invariant_of-self-in-Err g c = (refused g (goal.at.invariant_of-self-in-Err g c).In-Err).kept
 
 pub returns-in-Ok-clause-rows : goal.returns-in-Ok-clause-rows
 returns-in-Ok-clause-rows g c =
-    let slots = c.self.inside.slots.items in
-    let passes = c.self.inside.passes.of_blocks.items in
-    let i = c.args.i in
-    let s = c.in-Some-slot_at.slot.now in
-    let there =
-    slice_in _ _ slots i _ c.deref-2.ensures.value c.reserve.ensures.items c.in-Some-slot_at.ensures in
-    let setting : Setting g.row.S-Item.Denot =
-    setting_of g.L.Layout.STATIC g.L.Layout.clone_wants g.S.Slice.DROPS g.S.Subsliceable.boundary in
-    let made = c.in-Ok.slot in
-    let after = c.try_clone.new.passes.of_blocks.items in
-    let slots' = c.push_reserved.new.self.items in
-    let number = c.len-number.result in
-    let more = behind slots (Some made) c.push_reserved.ensures.items c.reserve.ensures.items in
-    let counted : number ≡ length slots =
-    c.len-number.ensures ∙ c.reserve.new.self.ok.0 ∙ ap length c.reserve.ensures.items in
-    let t = (state_of slots passes).table in
-    subst (λ (o : State g.row.S-Item.Denot).
-    Step setting o.table (command.Clone i) (reply.New number) (state_of slots' after).table)
-    c.self.view_is
-    (joins-row slots passes i s there c.self.invariant after setting (command.Clone i) (row_of s)
-    (answered slots passes i s there is_read (with_owner t)) made slots' number
-    c.in-Ok.ensures.row c.in-Ok.ensures.stand more counted)
+    (made g (goal.at.returns-in-Ok-clause-rows g c).After-push_reserved).rows
 
 pub returns-in-Ok-clause-passes : goal.returns-in-Ok-clause-passes
 returns-in-Ok-clause-passes g c =
-    let slots = c.self.inside.slots.items in
-    let passes = c.self.inside.passes.of_blocks.items in
-    let i = c.args.i in
-    let s = c.in-Some-slot_at.slot.now in
-    let there =
-    slice_in _ _ slots i _ c.deref-2.ensures.value c.reserve.ensures.items c.in-Some-slot_at.ensures in
-    let made = c.in-Ok.slot in
-    let after = c.try_clone.new.passes.of_blocks.items in
-    let slots' = c.push_reserved.new.self.items in
-    let more = behind slots (Some made) c.push_reserved.ensures.items c.reserve.ensures.items in
-    subst (λ (o : State g.row.S-Item.Denot).
-    Adds {T = g.row.S-Item.Denot} o.standing (command.Clone i) (reply.New c.len-number.result)
-    (state_of slots' after).standing)
-    c.self.view_is (joins-added slots passes i s there slots' after made more c.in-Ok.ensures.stand)
+    (made g (goal.at.returns-in-Ok-clause-passes g c).After-push_reserved).passes_are
 
 pub returns-in-Err-clause-rows : goal.returns-in-Err-clause-rows
-returns-in-Err-clause-rows g c =
-    let slots = c.self.inside.slots.items in
-    let passes = c.self.inside.passes.of_blocks.items in
-    let i = c.args.i in
-    let s = c.in-Some-slot_at.slot.now in
-    let there =
-    slice_in _ _ slots i _ c.deref-2.ensures.value c.reserve.ensures.items c.in-Some-slot_at.ensures in
-    let setting : Setting g.row.S-Item.Denot =
-    setting_of g.L.Layout.STATIC g.L.Layout.clone_wants g.S.Slice.DROPS g.S.Subsliceable.boundary in
-    let after = c.try_clone.new.passes.of_blocks.items in
-    let slots' = c.reserve.new.self.items in
-    let e = c.in-Err.e in
-    let t = (state_of slots passes).table in
-    subst (λ (o : State g.row.S-Item.Denot).
-    Step setting o.table (command.Clone i) (reply.Owner e) (state_of slots' after).table)
-    c.self.view_is
-    (refused-row slots passes i s there c.self.invariant after setting (command.Clone i) (row_of s)
-    (answered slots passes i s there is_read (with_owner t)) e slots'
-    (λ wants. (row_of s, row-there slots passes i s there, wants)) c.in-Err.ensures.refused
-    c.reserve.ensures.items)
+returns-in-Err-clause-rows g c = (refused g (goal.at.returns-in-Err-clause-rows g c).In-Err).rows
 
 pub returns-in-Err-clause-passes : goal.returns-in-Err-clause-passes
 returns-in-Err-clause-passes g c =
-    let slots = c.self.inside.slots.items in
-    let passes = c.self.inside.passes.of_blocks.items in
-    let i = c.args.i in
-    let s = c.in-Some-slot_at.slot.now in
-    let there =
-    slice_in _ _ slots i _ c.deref-2.ensures.value c.reserve.ensures.items c.in-Some-slot_at.ensures in
-    let after = c.try_clone.new.passes.of_blocks.items in
-    let slots' = c.reserve.new.self.items in
-    let e = c.in-Err.e in
-    subst (λ (o : State g.row.S-Item.Denot).
-    Adds {T = g.row.S-Item.Denot} o.standing (command.Clone i) (reply.Owner e)
-    (state_of slots' after).standing)
-    c.self.view_is
-    (refused-added slots passes i s there slots' after g.L.Layout.clone_wants (row_of s).place e
-    c.reserve.ensures.items c.in-Err.ensures.refused)
+    (refused g (goal.at.returns-in-Err-clause-passes g c).In-Err).passes_are

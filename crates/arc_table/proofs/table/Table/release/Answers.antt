@@ -1,17 +1,43 @@
 -- The row of the window is gone, and its owner has ended.
-use Rattle.std.proofs.Common.{◌≡◌, Some, None, length, map, slice_get, slice_set, sym, ap, ◌∙◌, subst}
+use Rattle.std.proofs.Common.{◌≡◌, Some, None, length, map, slice_get, slice_set, sym, ap, ◌∙◌}
+use Rattle.std.proofs.Common.{subst}
 use Rattle.std.specs.Option.{option_map, option_flatten}
-use Rattle.arc_table.specs.Additions.{Adds}
 use Rattle.arc_table.specs.Slots.{row_of, stand_of}
-use Rattle.arc_table.specs.State.{State, state_of}
-use Rattle.arc_table.specs.Step.{Setting, Step, setting_of}
+use Rattle.arc_table.specs.State.{State}
+use Rattle.arc_table.specs.Step.{Setting, setting_of}
 use Rattle.arc_table.specs.declared.command.Cmd.TheVariants as command
 use Rattle.arc_table.specs.declared.command.Reply.TheVariants as reply
 use Rattle.arc_table.proofs.Lists.{read-there}
-use Rattle.arc_table.proofs.Kept.{known-pass, kept-gone-along, many-along, Ended}
-use Rattle.arc_table.proofs.Tables.{stand-there, dropped-row, none-there, map-slice_set, kept-dropped}
-use Rattle.arc_table.proofs.Added.{end-added}
+use Rattle.arc_table.proofs.Kept.{known-pass, many-along, Ended}
+use Rattle.arc_table.proofs.Tables.{stand-there, none-there, map-slice_set}
+use Rattle.arc_table.proofs.Done.{Done, dropped}
+use Rattle.arc_table.proofs.table.Table.release.Given.{Over}
+use Rattle.arc_table.proofs.table.Table.release.Goals.{After-release}
 use Rattle.arc_table.proofs.table.Table.release.Goals as goal
+
+abbrev setting : (g : Over) → Setting g.row.S-Item.Denot
+setting g =
+    setting_of g.L.Layout.STATIC g.L.Layout.clone_wants g.S.Slice.DROPS g.S.Subsliceable.boundary
+
+did : (g : Over) (c : After-release g)
+    → Done (setting g) c.args.self.now (command.Drop c.args.i) reply.Ok
+    (slice_set c.self.inside.slots.items c.args.i c.replace.new.dest)
+    c.release.new.passes.of_blocks.items
+did g c =
+    let slots = c.self.inside.slots.items in
+    let passes = c.self.inside.passes.of_blocks.items in
+    let i = c.args.i in
+    let s = c.in-Some-replace.slot in
+    let got = ap (λ ss. slice_get ss i) (sym c.deref.ensures.value) ∙ c.in-Some.ensures in
+    let there =
+    read-there slots i c.index_mut.result.now _ got c.index_mut.ensures.value
+    ∙ ap Some (sym c.replace.ensures.value ∙ c.in-Some-replace.is) in
+    let after = c.release.new.passes.of_blocks.items in
+    let slots' = slice_set slots i c.replace.new.dest in
+    subst (λ (o : State g.row.S-Item.Denot).
+    Done (setting g) o (command.Drop i) reply.Ok slots' after) c.self.view_is
+    (dropped (setting g) slots passes i s there c.self.invariant slots' after
+    (ap (slice_set slots i) c.replace.ensures.after) c.release.ensures)
 
 pub returns-in_default-clause-gone : goal.returns-in_default-clause-gone
 returns-in_default-clause-gone g c =
@@ -36,55 +62,13 @@ release-requires-after_bounds g c κs within =
     known-pass i c.self.invariant (stand_of (Some s)) (stand-there slots passes i s there)
 
 pub invariant_of-self : goal.invariant_of-self
-invariant_of-self g c =
-    let slots = c.self.inside.slots.items in
-    let passes = c.self.inside.passes.of_blocks.items in
-    let i = c.args.i in
-    let s = c.in-Some-replace.slot in
-    let got = ap (λ ss. slice_get ss i) (sym c.deref.ensures.value) ∙ c.in-Some.ensures in
-    let there =
-    read-there slots i c.index_mut.result.now _ got c.index_mut.ensures.value
-    ∙ ap Some (sym c.replace.ensures.value ∙ c.in-Some-replace.is) in
-    let after = c.release.new.passes.of_blocks.items in
-    kept-dropped slots passes i s there c.self.invariant after (slice_set slots i c.replace.new.dest)
-    (ap (slice_set slots i) c.replace.ensures.after) c.release.ensures
+invariant_of-self g c = (did g (goal.at.invariant_of-self g c).After-release).kept
 
 pub returns-clause-rows : goal.returns-clause-rows
-returns-clause-rows g c =
-    let slots = c.self.inside.slots.items in
-    let passes = c.self.inside.passes.of_blocks.items in
-    let i = c.args.i in
-    let s = c.in-Some-replace.slot in
-    let got = ap (λ ss. slice_get ss i) (sym c.deref.ensures.value) ∙ c.in-Some.ensures in
-    let there =
-    read-there slots i c.index_mut.result.now _ got c.index_mut.ensures.value
-    ∙ ap Some (sym c.replace.ensures.value ∙ c.in-Some-replace.is) in
-    let setting : Setting g.row.S-Item.Denot =
-    setting_of g.L.Layout.STATIC g.L.Layout.clone_wants g.S.Slice.DROPS g.S.Subsliceable.boundary in
-    let after = c.release.new.passes.of_blocks.items in
-    let slots' = slice_set slots i c.replace.new.dest in
-    subst (λ (o : State g.row.S-Item.Denot).
-    Step setting o.table (command.Drop i) reply.Ok (state_of slots' after).table) c.self.view_is
-    (dropped-row slots passes i s there c.self.invariant after setting slots' c.release.ensures
-    (ap (slice_set slots i) c.replace.ensures.after))
+returns-clause-rows g c = (did g (goal.at.returns-clause-rows g c).After-release).rows
 
 pub returns-clause-passes : goal.returns-clause-passes
-returns-clause-passes g c =
-    let slots = c.self.inside.slots.items in
-    let passes = c.self.inside.passes.of_blocks.items in
-    let i = c.args.i in
-    let s = c.in-Some-replace.slot in
-    let got = ap (λ ss. slice_get ss i) (sym c.deref.ensures.value) ∙ c.in-Some.ensures in
-    let there =
-    read-there slots i c.index_mut.result.now _ got c.index_mut.ensures.value
-    ∙ ap Some (sym c.replace.ensures.value ∙ c.in-Some-replace.is) in
-    let after = c.release.new.passes.of_blocks.items in
-    let slots' = slice_set slots i c.replace.new.dest in
-    subst (λ (o : State g.row.S-Item.Denot).
-    Adds {T = g.row.S-Item.Denot} o.standing (command.Drop i) reply.Ok
-    (state_of slots' after).standing) c.self.view_is
-    (end-added slots passes i s there slots' after (ap (slice_set slots i) c.replace.ensures.after)
-    c.release.ensures)
+returns-clause-passes g c = (did g (goal.at.returns-clause-passes g c).After-release).passes_are
 
 pub returns-clause-gone : goal.returns-clause-gone
 returns-clause-gone g c =

@@ -1,12 +1,12 @@
 -- The window stands on nothing, or as the first owner on a new block, whose pass is the one that
 -- was given.
-use Rattle.std.proofs.Common.{◌≡◌, ◌&&◌, ◌==◌, false, Some, length, refl, ap, sym, ◌∙◌, subst}
+use Rattle.std.proofs.Common.{◌&&◌, ◌==◌, length, refl, ap, sym, ◌∙◌, subst}
 use Rattle.arc_table.specs.Additions.{Adds}
 use Rattle.arc_table.specs.State.{State, state_of}
 use Rattle.arc_table.specs.declared.command.Cmd.TheVariants as command
 use Rattle.arc_table.specs.declared.command.Reply.TheVariants as reply
 use Rattle.arc_table.proofs.Lists.{behind}
-use Rattle.arc_table.proofs.Founded.{nowhere-kept, nowhere-added, block-kept, block-added}
+use Rattle.arc_table.proofs.Founded.{nowhere-kept, block-kept, block-added}
 use Rattle.arc_table.proofs.table.Table.slice.Goals as goal
 
 pub invariant_of-self-then-stands_on_nothing : goal.invariant_of-self-then-stands_on_nothing
@@ -39,7 +39,7 @@ returns-clause-passes g c =
     let passes = c.self.inside.passes.of_blocks.items in
     let room = c.reserve-else-is_err in
     subst (λ (o : State g.row.S-Item.Denot).
-    Adds {T = g.row.S-Item.Denot} o.standing (command.Slice c.args.items.items)
+    Adds {T = g.row.S-Item.Denot} o.table o.standing (command.Slice c.args.items.items)
     (reply.New c.len-number.result)
     (state_of c.push_reserved-3.new.self.items c.push_reserved-2.new.self.items).standing)
     c.self.view_is

@@ -1,27 +1,110 @@
 -- One part has the owner of the window, and the other was made beside it, or on nothing; or the
 -- block has as many owners as it may have, or the layout wanted memory.
-use Rattle.std.proofs.Common.{inl, inr, ◌≡◌, ℕ, ◌<◌, ◌==◌, Bool, if◌then◌else◌, [], ◌∷◌, ◌++◌, length, Some, None, Ok}
+use Rattle.std.proofs.Common.{inl, inr, ◌≡◌, ◌==◌, [], ◌∷◌, ◌++◌, length, Some, Ok}
 use Rattle.std.proofs.Common.{slice_get, slice_set, refl, sym, ap, ◌∙◌, subst, arith}
 use Rattle.std.proofs.lemmas.Bool.{cases_eq, eq-eqb, ne_eqb}
 use Rattle.std.proofs.lemmas.Option.{none-some, same_Some, slice_get_within}
 use Rattle.arc_buffer.specs.Slice.{IsEdge, edge_answer}
-use Rattle.arc_block.specs.declared.block.TheConstants.{MAX_OWNERS}
-use Rattle.arc_block.specs.Owned.{IsKept}
-use Rattle.arc_block.specs.Table.{Row}
-use Rattle.arc_table.specs.Additions.{Adds}
-use Rattle.arc_table.specs.Slots.{SlotView, row_of, stand_of, stands_of}
+use Rattle.arc_table.specs.Slots.{SlotView, row_of, stand_of}
 use Rattle.arc_table.specs.State.{State, state_of}
-use Rattle.arc_table.specs.Step.{Setting, Step, setting_of, in_range, may_split, split, split_off, off_part}
-use Rattle.arc_table.specs.Step.{cut_row}
+use Rattle.arc_table.specs.Step.{Setting, Step, setting_of, of_table, split_rows, off_part, cut_row}
 use Rattle.arc_table.specs.declared.command.Cmd.TheVariants as command
 use Rattle.arc_table.specs.declared.command.Reply.TheVariants as reply
 use Rattle.arc_table.proofs.Lists.{read-there, same_entry}
 use Rattle.arc_table.proofs.Taken.{set-back}
 use Rattle.arc_table.proofs.Kept.{known-pass}
-use Rattle.arc_table.proofs.Tables.{row-there, stand-there, answered, same-table, kept-unmade, kept-stays}
-use Rattle.arc_table.proofs.Tables.{kept-goes, stays-added, goes-added, split-row, unsplit-row}
-use Rattle.arc_table.proofs.Added.{refused-added}
+use Rattle.arc_table.proofs.Tables.{stand-there}
+use Rattle.arc_table.proofs.Rows.{alloc-step, off-answers}
+use Rattle.arc_table.proofs.Done.{Done, handed-out, part-out, unmade}
+use Rattle.arc_table.proofs.table.Table.split_off.Given.{Over}
+use Rattle.arc_table.proofs.table.Table.split_off.Goals.{After-push_reserved, In-Err-try_split_off}
 use Rattle.arc_table.proofs.table.Table.split_off.Goals as goal
+
+abbrev setting : (g : Over) → Setting g.row.S-Item.Denot
+setting g =
+    setting_of g.L.Layout.STATIC g.L.Layout.clone_wants g.S.Slice.DROPS g.S.Subsliceable.boundary
+
+made : (g : Over) (c : After-push_reserved g)
+    → Done (setting g) c.args.self.now (command.Off c.args.i c.args.at)
+    (reply.New c.len-number.result) c.push_reserved.new.self.items
+    c.try_split_off.new.passes.of_blocks.items
+made g c =
+    let slots = c.self.inside.slots.items in
+    let passes = c.self.inside.passes.of_blocks.items in
+    let i = c.args.i in
+    let first = ap (λ ss. slice_get ss i) (sym c.deref.ensures.value) ∙ c.in-Some.ensures in
+    let read = c.reserve.new.self.items in
+    let again = ap (λ ss. slice_get ss i) c.reserve.ensures.items ∙ first in
+    let at = read-there read i c.index_mut.result.now _ again c.index_mut.ensures.value in
+    let s = c.in-Some-index_mut.slot in
+    let there_read = at ∙ ap Some c.in-Some-index_mut.is in
+    let there = ap (λ ss. slice_get ss i) (sym c.reserve.ensures.items) ∙ there_read in
+    let one = same_entry slots i c.in-Some.slot.now s first there in
+    let may : edge_answer (setting g).boundary s.window.items c.args.at ≡ Ok tt =
+    ap (λ (v : SlotView g.row.S-Item.Denot).
+    edge_answer (setting g).boundary v.window.items c.args.at) (sym one)
+    ∙ sym c.in_default-check_at.ensures.answer in
+    let slots' = c.push_reserved.new.self.items in
+    let after = c.try_split_off.new.passes.of_blocks.items in
+    let kept = c.try_split_off.new.self in
+    let handed = c.in-Ok.slot in
+    let number = c.len-number.result in
+    let more : slots' ≡ slice_set slots i (Some kept) ++ Some handed ∷ [] =
+    c.push_reserved.ensures.items
+    ∙ ap (λ ss. slice_set ss i (Some kept) ++ Some handed ∷ []) c.reserve.ensures.items in
+    let counted : number ≡ length slots =
+    c.len-number.ensures ∙ c.reserve.new.self.ok.0 ∙ ap length c.reserve.ensures.items in
+    let answers = off-answers (setting g) slots passes i s there c.args.at may in
+    let cut = cut_row (row_of s) 0 c.args.at in
+    let part = off_part (setting g) (row_of s) c.args.at in
+    subst (λ (o : State g.row.S-Item.Denot).
+    Done (setting g) o (command.Off i c.args.at) (reply.New number) slots' after) c.self.view_is
+    (elim (cases_eq c.args.at 0) [
+      | inl e ↦
+          handed-out (setting g) slots passes i s there c.self.invariant (command.Off i c.args.at)
+          slots' after (c.args.at == 0) cut part answers (λ n adds. adds) kept handed number
+          more counted (eq-eqb c.args.at 0 e) (c.in-Ok.ensures.start e)
+      | inr apart ↦
+          part-out (setting g) slots passes i s there c.self.invariant (command.Off i c.args.at)
+          slots' after (c.args.at == 0) cut part answers (λ n adds. adds) kept handed number
+          more counted (ne_eqb c.args.at 0 apart) (c.in-Ok.ensures.later (omega (arith, apart)))
+    ])
+
+refused : (g : Over) (c : In-Err-try_split_off g)
+    → Done (setting g) c.args.self.now (command.Off c.args.i c.args.at)
+    (reply.Owner c.in-Err-try_split_off.e)
+    (slice_set c.reserve.new.self.items c.args.i (Some c.try_split_off.new.self))
+    c.try_split_off.new.passes.of_blocks.items
+refused g c =
+    let slots = c.self.inside.slots.items in
+    let passes = c.self.inside.passes.of_blocks.items in
+    let i = c.args.i in
+    let first = ap (λ ss. slice_get ss i) (sym c.deref.ensures.value) ∙ c.in-Some.ensures in
+    let read = c.reserve.new.self.items in
+    let again = ap (λ ss. slice_get ss i) c.reserve.ensures.items ∙ first in
+    let at = read-there read i c.index_mut.result.now _ again c.index_mut.ensures.value in
+    let s = c.in-Some-index_mut.slot in
+    let there_read = at ∙ ap Some c.in-Some-index_mut.is in
+    let there = ap (λ ss. slice_get ss i) (sym c.reserve.ensures.items) ∙ there_read in
+    let one = same_entry slots i c.in-Some.slot.now s first there in
+    let may : edge_answer (setting g).boundary s.window.items c.args.at ≡ Ok tt =
+    ap (λ (v : SlotView g.row.S-Item.Denot).
+    edge_answer (setting g).boundary v.window.items c.args.at) (sym one)
+    ∙ sym c.in_default-check_at.ensures.answer in
+    let after = c.try_split_off.new.passes.of_blocks.items in
+    let e = c.in-Err-try_split_off.e in
+    let slots' = slice_set read i (Some c.try_split_off.new.self) in
+    let same : slots' ≡ slots =
+    ap (λ v. slice_set read i (Some v)) c.in-Err-try_split_off.ensures.kept
+    ∙ set-back read i (Some s) there_read ∙ c.reserve.ensures.items in
+    let cut = cut_row (row_of s) 0 c.args.at in
+    let part = off_part (setting g) (row_of s) c.args.at in
+    subst (λ (o : State g.row.S-Item.Denot).
+    Done (setting g) o (command.Off i c.args.at) (reply.Owner e) slots' after) c.self.view_is
+    (unmade (setting g) slots passes i s there c.self.invariant (command.Off i c.args.at) slots'
+    after part (split_rows (state_of slots passes).table i (c.args.at == 0) (row_of s) cut part)
+    (off-answers (setting g) slots passes i s there c.args.at may) (λ f adds. adds) e
+    c.in-Err-try_split_off.ensures.refused same)
 
 pub returns-then-is_err-clause-rows : goal.returns-then-is_err-clause-rows
 returns-then-is_err-clause-rows g c =
@@ -29,16 +112,15 @@ returns-then-is_err-clause-rows g c =
     let passes = c.self.inside.passes.of_blocks.items in
     let i = c.args.i in
     let first = ap (λ ss. slice_get ss i) (sym c.deref.ensures.value) ∙ c.in-Some.ensures in
-    let setting : Setting g.row.S-Item.Denot =
-    setting_of g.L.Layout.STATIC g.L.Layout.clone_wants g.S.Slice.DROPS g.S.Subsliceable.boundary in
     let s = c.in-Some.slot.now in
     subst (λ (o : State g.row.S-Item.Denot).
-    Step setting o.table (command.Off i c.args.at) reply.Alloc
+    Step (setting g) o.table (command.Off i c.args.at) reply.Alloc
     (state_of c.reserve.new.self.items passes).table)
-    c.self.view_is (
-      (row_of s, row-there slots passes i s first, c.in_default-check_at.ensures.ok.0 refl),
-      same-table slots passes c.reserve.new.self.items passes c.reserve.ensures.items refl,
-    )
+    c.self.view_is
+    (alloc-step (setting g) slots passes (command.Off i c.args.at) c.reserve.new.self.items
+    (off-answers (setting g) slots passes i s first c.args.at
+    (sym c.in_default-check_at.ensures.answer)
+    of_table) c.reserve.ensures.items)
 
 pub index_mut-requires : goal.index_mut-requires
 index_mut-requires g c =
@@ -98,238 +180,25 @@ try_split_off-requires-clause-pass g c κs within =
 
 pub invariant_of-self-in-Ok : goal.invariant_of-self-in-Ok
 invariant_of-self-in-Ok g c =
-    let slots = c.self.inside.slots.items in
-    let passes = c.self.inside.passes.of_blocks.items in
-    let i = c.args.i in
-    let first = ap (λ ss. slice_get ss i) (sym c.deref.ensures.value) ∙ c.in-Some.ensures in
-    let read = c.reserve.new.self.items in
-    let again = ap (λ ss. slice_get ss i) c.reserve.ensures.items ∙ first in
-    let at = read-there read i c.index_mut.result.now _ again c.index_mut.ensures.value in
-    let s = c.in-Some-index_mut.slot in
-    let there_read = at ∙ ap Some c.in-Some-index_mut.is in
-    let there = ap (λ ss. slice_get ss i) (sym c.reserve.ensures.items) ∙ there_read in
-    let one = same_entry slots i c.in-Some.slot.now s first there in
-    let edge : IsEdge g.S.Subsliceable.boundary s.window.items c.args.at =
-    subst (λ (v : SlotView g.row.S-Item.Denot).
-    IsEdge g.S.Subsliceable.boundary v.window.items c.args.at) one
-    (c.in_default-check_at.ensures.ok.0 refl) in
-    let after = c.try_split_off.new.passes.of_blocks.items in
-    let kept = c.try_split_off.new.self in
-    let handed = c.in-Ok.slot in
-    let slots' = c.push_reserved.new.self.items in
-    let more : slots' ≡ slice_set slots i (Some kept) ++ Some handed ∷ [] =
-    c.push_reserved.ensures.items
-    ∙ ap (λ ss. slice_set ss i (Some kept) ++ Some handed ∷ []) c.reserve.ensures.items in
-    elim (cases_eq c.args.at 0) [
-      | inl e ↦
-          (let h = c.in-Ok.ensures.start e in
-          kept-goes slots passes i s there c.self.invariant after kept handed slots' more h.owner
-          h.added)
-      | inr apart ↦
-          (let h = c.in-Ok.ensures.later (omega (arith, apart)) in
-          kept-stays slots passes i s there c.self.invariant after kept handed slots' more h.owner
-          h.added)
-    ]
+    (made g (goal.at.invariant_of-self-in-Ok g c).After-push_reserved).kept
 
 pub invariant_of-self-in-Err-try_split_off : goal.invariant_of-self-in-Err-try_split_off
 invariant_of-self-in-Err-try_split_off g c =
-    let slots = c.self.inside.slots.items in
-    let passes = c.self.inside.passes.of_blocks.items in
-    let i = c.args.i in
-    let first = ap (λ ss. slice_get ss i) (sym c.deref.ensures.value) ∙ c.in-Some.ensures in
-    let read = c.reserve.new.self.items in
-    let again = ap (λ ss. slice_get ss i) c.reserve.ensures.items ∙ first in
-    let at = read-there read i c.index_mut.result.now _ again c.index_mut.ensures.value in
-    let s = c.in-Some-index_mut.slot in
-    let there_read = at ∙ ap Some c.in-Some-index_mut.is in
-    let there = ap (λ ss. slice_get ss i) (sym c.reserve.ensures.items) ∙ there_read in
-    let setting : Setting g.row.S-Item.Denot =
-    setting_of g.L.Layout.STATIC g.L.Layout.clone_wants g.S.Slice.DROPS g.S.Subsliceable.boundary in
-    let after = c.try_split_off.new.passes.of_blocks.items in
-    let e = c.in-Err-try_split_off.e in
-    let slots' = slice_set read i (Some c.try_split_off.new.self) in
-    let same : slots' ≡ slots =
-    ap (λ v. slice_set read i (Some v)) c.in-Err-try_split_off.ensures.kept
-    ∙ set-back read i (Some s) there_read ∙ c.reserve.ensures.items in
-    kept-unmade slots passes i s there c.self.invariant after slots' same g.L.Layout.clone_wants
-    (off_part setting (row_of s) c.args.at).place e c.in-Err-try_split_off.ensures.refused
+    (refused g (goal.at.invariant_of-self-in-Err-try_split_off g c).In-Err-try_split_off).kept
 
 pub returns-in-Ok-clause-rows : goal.returns-in-Ok-clause-rows
 returns-in-Ok-clause-rows g c =
-    let slots = c.self.inside.slots.items in
-    let passes = c.self.inside.passes.of_blocks.items in
-    let i = c.args.i in
-    let first = ap (λ ss. slice_get ss i) (sym c.deref.ensures.value) ∙ c.in-Some.ensures in
-    let read = c.reserve.new.self.items in
-    let again = ap (λ ss. slice_get ss i) c.reserve.ensures.items ∙ first in
-    let at = read-there read i c.index_mut.result.now _ again c.index_mut.ensures.value in
-    let s = c.in-Some-index_mut.slot in
-    let there_read = at ∙ ap Some c.in-Some-index_mut.is in
-    let there = ap (λ ss. slice_get ss i) (sym c.reserve.ensures.items) ∙ there_read in
-    let one = same_entry slots i c.in-Some.slot.now s first there in
-    let edge : IsEdge g.S.Subsliceable.boundary s.window.items c.args.at =
-    subst (λ (v : SlotView g.row.S-Item.Denot).
-    IsEdge g.S.Subsliceable.boundary v.window.items c.args.at) one
-    (c.in_default-check_at.ensures.ok.0 refl) in
-    let setting : Setting g.row.S-Item.Denot =
-    setting_of g.L.Layout.STATIC g.L.Layout.clone_wants g.S.Slice.DROPS g.S.Subsliceable.boundary in
-    let after = c.try_split_off.new.passes.of_blocks.items in
-    let kept = c.try_split_off.new.self in
-    let handed = c.in-Ok.slot in
-    let slots' = c.push_reserved.new.self.items in
-    let more : slots' ≡ slice_set slots i (Some kept) ++ Some handed ∷ [] =
-    c.push_reserved.ensures.items
-    ∙ ap (λ ss. slice_set ss i (Some kept) ++ Some handed ∷ []) c.reserve.ensures.items in
-    let number = c.len-number.result in
-    let counted : number ≡ length slots =
-    c.len-number.ensures ∙ c.reserve.new.self.ok.0 ∙ ap length c.reserve.ensures.items in
-    let t = (state_of slots passes).table in
-    let r = row_of s in
-    let made = off_part setting r c.args.at in
-    let cut = cut_row r 0 c.args.at in
-    let may : edge_answer setting.boundary s.window.items c.args.at ≡ Ok tt =
-    ap (λ (v : SlotView g.row.S-Item.Denot).
-    edge_answer setting.boundary v.window.items c.args.at) (sym one)
-    ∙ sym c.in_default-check_at.ensures.answer in
-    let found = λ (row : Row g.row.S-Item.Denot (Unit {0})).
-    in_range (edge_answer setting.boundary row.items c.args.at) t (split_off setting t i row c.args.at) in
-    let ranged =
-    answered slots passes i s there may_split found
-    ∙ ap (λ a. in_range a t (split_off setting t i r c.args.at)) may in
-    let picked = λ (b : Bool). if b then split t i made r made else split t i cut made made in
-    let done : split_off setting t i r c.args.at ≡ (reply.New number, (state_of slots' after).table) =
-    elim (cases_eq c.args.at 0) [
-      | inl e ↦
-          (let h = c.in-Ok.ensures.start e in
-          ap picked (eq-eqb c.args.at 0 e)
-          ∙ split-row slots passes i s there c.self.invariant after kept handed slots' more made r
-          made kept number h.made_is h.same_is h.made_is h.added counted)
-      | inr apart ↦
-          (let h = c.in-Ok.ensures.later (omega (arith, apart)) in
-          ap picked (ne_eqb c.args.at 0 apart)
-          ∙ split-row slots passes i s there c.self.invariant after kept handed slots' more cut made
-          made handed number h.same_is h.made_is h.made_is h.added counted)
-    ] in
-    subst (λ (o : State g.row.S-Item.Denot).
-    Step setting o.table (command.Off i c.args.at) (reply.New number) (state_of slots' after).table)
-    c.self.view_is (ranged ∙ done)
+    (made g (goal.at.returns-in-Ok-clause-rows g c).After-push_reserved).rows
 
 pub returns-in-Ok-clause-passes : goal.returns-in-Ok-clause-passes
 returns-in-Ok-clause-passes g c =
-    let slots = c.self.inside.slots.items in
-    let passes = c.self.inside.passes.of_blocks.items in
-    let i = c.args.i in
-    let first = ap (λ ss. slice_get ss i) (sym c.deref.ensures.value) ∙ c.in-Some.ensures in
-    let read = c.reserve.new.self.items in
-    let again = ap (λ ss. slice_get ss i) c.reserve.ensures.items ∙ first in
-    let at = read-there read i c.index_mut.result.now _ again c.index_mut.ensures.value in
-    let s = c.in-Some-index_mut.slot in
-    let there_read = at ∙ ap Some c.in-Some-index_mut.is in
-    let there = ap (λ ss. slice_get ss i) (sym c.reserve.ensures.items) ∙ there_read in
-    let one = same_entry slots i c.in-Some.slot.now s first there in
-    let edge : IsEdge g.S.Subsliceable.boundary s.window.items c.args.at =
-    subst (λ (v : SlotView g.row.S-Item.Denot).
-    IsEdge g.S.Subsliceable.boundary v.window.items c.args.at) one
-    (c.in_default-check_at.ensures.ok.0 refl) in
-    let after = c.try_split_off.new.passes.of_blocks.items in
-    let kept = c.try_split_off.new.self in
-    let handed = c.in-Ok.slot in
-    let slots' = c.push_reserved.new.self.items in
-    let more : slots' ≡ slice_set slots i (Some kept) ++ Some handed ∷ [] =
-    c.push_reserved.ensures.items
-    ∙ ap (λ ss. slice_set ss i (Some kept) ++ Some handed ∷ []) c.reserve.ensures.items in
-    subst (λ (o : State g.row.S-Item.Denot).
-    Adds {T = g.row.S-Item.Denot} o.standing (command.Off i c.args.at)
-    (reply.New c.len-number.result) (state_of slots' after).standing)
-    c.self.view_is
-    (elim (cases_eq c.args.at 0) [
-      | inl e ↦
-          (let h = c.in-Ok.ensures.start e in
-          goes-added slots passes i s there c.self.invariant after kept handed slots' more h.owner
-          h.added)
-      | inr apart ↦
-          (let h = c.in-Ok.ensures.later (omega (arith, apart)) in
-          stays-added slots passes i s there c.self.invariant after kept handed slots' more h.owner
-          h.added)
-    ])
+    (made g (goal.at.returns-in-Ok-clause-passes g c).After-push_reserved).passes_are
 
 pub returns-in-Err-try_split_off-clause-rows : goal.returns-in-Err-try_split_off-clause-rows
 returns-in-Err-try_split_off-clause-rows g c =
-    let slots = c.self.inside.slots.items in
-    let passes = c.self.inside.passes.of_blocks.items in
-    let i = c.args.i in
-    let first = ap (λ ss. slice_get ss i) (sym c.deref.ensures.value) ∙ c.in-Some.ensures in
-    let read = c.reserve.new.self.items in
-    let again = ap (λ ss. slice_get ss i) c.reserve.ensures.items ∙ first in
-    let at = read-there read i c.index_mut.result.now _ again c.index_mut.ensures.value in
-    let s = c.in-Some-index_mut.slot in
-    let there_read = at ∙ ap Some c.in-Some-index_mut.is in
-    let there = ap (λ ss. slice_get ss i) (sym c.reserve.ensures.items) ∙ there_read in
-    let one = same_entry slots i c.in-Some.slot.now s first there in
-    let edge : IsEdge g.S.Subsliceable.boundary s.window.items c.args.at =
-    subst (λ (v : SlotView g.row.S-Item.Denot).
-    IsEdge g.S.Subsliceable.boundary v.window.items c.args.at) one
-    (c.in_default-check_at.ensures.ok.0 refl) in
-    let setting : Setting g.row.S-Item.Denot =
-    setting_of g.L.Layout.STATIC g.L.Layout.clone_wants g.S.Slice.DROPS g.S.Subsliceable.boundary in
-    let after = c.try_split_off.new.passes.of_blocks.items in
-    let e = c.in-Err-try_split_off.e in
-    let slots' = slice_set read i (Some c.try_split_off.new.self) in
-    let same : slots' ≡ slots =
-    ap (λ v. slice_set read i (Some v)) c.in-Err-try_split_off.ensures.kept
-    ∙ set-back read i (Some s) there_read ∙ c.reserve.ensures.items in
-    let t = (state_of slots passes).table in
-    let r = row_of s in
-    let made = off_part setting r c.args.at in
-    let cut = cut_row r 0 c.args.at in
-    let may : edge_answer setting.boundary s.window.items c.args.at ≡ Ok tt =
-    ap (λ (v : SlotView g.row.S-Item.Denot).
-    edge_answer setting.boundary v.window.items c.args.at) (sym one)
-    ∙ sym c.in_default-check_at.ensures.answer in
-    let found = λ (row : Row g.row.S-Item.Denot (Unit {0})).
-    in_range (edge_answer setting.boundary row.items c.args.at) t (split_off setting t i row c.args.at) in
-    let ranged =
-    answered slots passes i s there may_split found
-    ∙ ap (λ a. in_range a t (split_off setting t i r c.args.at)) may in
-    let picked = λ (b : Bool). if b then split t i made r made else split t i cut made made in
-    let why = c.in-Err-try_split_off.ensures.refused in
-    let done : Step setting t (command.Off i c.args.at) (reply.Owner e) (state_of slots' after).table =
-    elim (cases_eq c.args.at 0) [
-      | inl is ↦
-          unsplit-row slots passes i s there c.self.invariant after setting (command.Off i c.args.at)
-          made r made (ranged ∙ ap picked (eq-eqb c.args.at 0 is)) e slots' (λ wants. (r, row-there slots passes i s there, (edge, wants))) why same
-      | inr apart ↦
-          unsplit-row slots passes i s there c.self.invariant after setting (command.Off i c.args.at)
-          cut made made (ranged ∙ ap picked (ne_eqb c.args.at 0 apart)) e slots' (λ wants. (r, row-there slots passes i s there, (edge, wants))) why
-          same
-    ] in
-    subst (λ (o : State g.row.S-Item.Denot).
-    Step setting o.table (command.Off i c.args.at) (reply.Owner e) (state_of slots' after).table)
-    c.self.view_is done
+    (refused g (goal.at.returns-in-Err-try_split_off-clause-rows g c).In-Err-try_split_off).rows
 
 pub returns-in-Err-try_split_off-clause-passes : goal.returns-in-Err-try_split_off-clause-passes
 returns-in-Err-try_split_off-clause-passes g c =
-    let slots = c.self.inside.slots.items in
-    let passes = c.self.inside.passes.of_blocks.items in
-    let i = c.args.i in
-    let first = ap (λ ss. slice_get ss i) (sym c.deref.ensures.value) ∙ c.in-Some.ensures in
-    let read = c.reserve.new.self.items in
-    let again = ap (λ ss. slice_get ss i) c.reserve.ensures.items ∙ first in
-    let at = read-there read i c.index_mut.result.now _ again c.index_mut.ensures.value in
-    let s = c.in-Some-index_mut.slot in
-    let there_read = at ∙ ap Some c.in-Some-index_mut.is in
-    let there = ap (λ ss. slice_get ss i) (sym c.reserve.ensures.items) ∙ there_read in
-    let setting : Setting g.row.S-Item.Denot =
-    setting_of g.L.Layout.STATIC g.L.Layout.clone_wants g.S.Slice.DROPS g.S.Subsliceable.boundary in
-    let after = c.try_split_off.new.passes.of_blocks.items in
-    let e = c.in-Err-try_split_off.e in
-    let slots' = slice_set read i (Some c.try_split_off.new.self) in
-    let same : slots' ≡ slots =
-    ap (λ v. slice_set read i (Some v)) c.in-Err-try_split_off.ensures.kept
-    ∙ set-back read i (Some s) there_read ∙ c.reserve.ensures.items in
-    subst (λ (o : State g.row.S-Item.Denot).
-    Adds {T = g.row.S-Item.Denot} o.standing (command.Off i c.args.at) (reply.Owner e)
-    (state_of slots' after).standing)
-    c.self.view_is
-    (refused-added slots passes i s there slots' after g.L.Layout.clone_wants
-    (off_part setting (row_of s) c.args.at).place e same c.in-Err-try_split_off.ensures.refused)
+    (refused g
+    (goal.at.returns-in-Err-try_split_off-clause-passes g c).In-Err-try_split_off).passes_are

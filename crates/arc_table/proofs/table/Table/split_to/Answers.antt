@@ -1,27 +1,127 @@
 -- One part has the owner of the window, and the other was made beside it, or on nothing; or the
 -- block has as many owners as it may have, or the layout wanted memory.
-use Rattle.std.proofs.Common.{inl, inr, ◌≡◌, ℕ, ◌<◌, ◌==◌, Bool, if◌then◌else◌, [], ◌∷◌, ◌++◌, length, Some, None, Ok}
+use Rattle.std.proofs.Common.{inl, inr, ◌≡◌, ℕ, ◌==◌, false, [], ◌∷◌, ◌++◌, length, Option, Some}
+use Rattle.std.proofs.Common.{Ok}
 use Rattle.std.proofs.Common.{slice_get, slice_set, refl, sym, ap, ◌∙◌, subst, arith}
+use Rattle.std.specs.Option.{option_map_or}
 use Rattle.std.proofs.lemmas.Bool.{cases_eq, eq-eqb, ne_eqb}
 use Rattle.std.proofs.lemmas.Option.{none-some, same_Some, slice_get_within}
 use Rattle.arc_buffer.specs.Slice.{IsEdge, edge_answer}
-use Rattle.arc_block.specs.declared.block.TheConstants.{MAX_OWNERS}
-use Rattle.arc_block.specs.Owned.{IsKept}
 use Rattle.arc_block.specs.Table.{Row}
-use Rattle.arc_table.specs.Additions.{Adds}
-use Rattle.arc_table.specs.Slots.{SlotView, row_of, stand_of, stands_of}
+use Rattle.arc_table.specs.Additions.{Joins}
+use Rattle.arc_table.specs.Slots.{SlotView, row_of, stand_of}
 use Rattle.arc_table.specs.State.{State, state_of}
-use Rattle.arc_table.specs.Step.{Setting, Step, setting_of, in_range, may_split, split, split_to, to_part}
-use Rattle.arc_table.specs.Step.{cut_row}
+use Rattle.arc_table.specs.Step.{Setting, Step, setting_of, of_table, split_rows, to_part, cut_row}
 use Rattle.arc_table.specs.declared.command.Cmd.TheVariants as command
 use Rattle.arc_table.specs.declared.command.Reply.TheVariants as reply
 use Rattle.arc_table.proofs.Lists.{read-there, same_entry}
 use Rattle.arc_table.proofs.Taken.{set-back}
 use Rattle.arc_table.proofs.Kept.{known-pass}
-use Rattle.arc_table.proofs.Tables.{row-there, stand-there, answered, same-table, kept-unmade, kept-stays}
-use Rattle.arc_table.proofs.Tables.{kept-goes, stays-added, goes-added, split-row, unsplit-row}
-use Rattle.arc_table.proofs.Added.{refused-added}
+use Rattle.arc_table.proofs.Tables.{row-there, stand-there}
+use Rattle.arc_table.proofs.Rows.{alloc-step, to-answers}
+use Rattle.arc_table.proofs.Done.{Done, handed-out, part-out, unmade}
+use Rattle.arc_table.proofs.table.Table.split_to.Given.{Over}
+use Rattle.arc_table.proofs.table.Table.split_to.Goals.{After-push_reserved, In-Err-try_split_to}
 use Rattle.arc_table.proofs.table.Table.split_to.Goals as goal
+
+abbrev setting : (g : Over) → Setting g.row.S-Item.Denot
+setting g =
+    setting_of g.L.Layout.STATIC g.L.Layout.clone_wants g.S.Slice.DROPS g.S.Subsliceable.boundary
+
+made : (g : Over) (c : After-push_reserved g)
+    → Done (setting g) c.args.self.now (command.To c.args.i c.args.at)
+    (reply.New c.len-number.result) c.push_reserved.new.self.items
+    c.try_split_to.new.passes.of_blocks.items
+made g c =
+    let slots = c.self.inside.slots.items in
+    let passes = c.self.inside.passes.of_blocks.items in
+    let i = c.args.i in
+    let first = ap (λ ss. slice_get ss i) (sym c.deref.ensures.value) ∙ c.in-Some.ensures in
+    let read = c.reserve.new.self.items in
+    let again = ap (λ ss. slice_get ss i) c.reserve.ensures.items ∙ first in
+    let at = read-there read i c.index_mut.result.now _ again c.index_mut.ensures.value in
+    let s = c.in-Some-index_mut.slot in
+    let there_read = at ∙ ap Some c.in-Some-index_mut.is in
+    let there = ap (λ ss. slice_get ss i) (sym c.reserve.ensures.items) ∙ there_read in
+    let one = same_entry slots i c.in-Some.slot.now s first there in
+    let edge : IsEdge g.S.Subsliceable.boundary s.window.items c.args.at =
+    subst (λ (v : SlotView g.row.S-Item.Denot).
+    IsEdge g.S.Subsliceable.boundary v.window.items c.args.at) one
+    (c.in_default-check_at.ensures.ok.0 refl) in
+    let may : edge_answer (setting g).boundary s.window.items c.args.at ≡ Ok tt =
+    ap (λ (v : SlotView g.row.S-Item.Denot).
+    edge_answer (setting g).boundary v.window.items c.args.at) (sym one)
+    ∙ sym c.in_default-check_at.ensures.answer in
+    let slots' = c.push_reserved.new.self.items in
+    let after = c.try_split_to.new.passes.of_blocks.items in
+    let kept = c.try_split_to.new.self in
+    let handed = c.in-Ok.slot in
+    let number = c.len-number.result in
+    let more : slots' ≡ slice_set slots i (Some kept) ++ Some handed ∷ [] =
+    c.push_reserved.ensures.items
+    ∙ ap (λ ss. slice_set ss i (Some kept) ++ Some handed ∷ []) c.reserve.ensures.items in
+    let counted : number ≡ length slots =
+    c.len-number.ensures ∙ c.reserve.new.self.ok.0 ∙ ap length c.reserve.ensures.items in
+    let before = (state_of slots passes).standing in
+    let then = (state_of slots' after).standing in
+    let adds = λ (n : ℕ) (joins : Joins before i (c.args.at == length s.window.items) then).
+    subst (λ b. Joins before i b then)
+    (sym (ap (λ (r : Option (Row g.row.S-Item.Denot (Unit {0}))).
+    option_map_or (λ row. c.args.at == length row.items) r false)
+    (row-there slots passes i s there))) joins in
+    let answers = to-answers (setting g) slots passes i s there c.args.at may in
+    let cut = cut_row (row_of s) c.args.at (length s.window.items) in
+    let part = to_part (setting g) (row_of s) c.args.at in
+    subst (λ (o : State g.row.S-Item.Denot).
+    Done (setting g) o (command.To i c.args.at) (reply.New number) slots' after) c.self.view_is
+    (elim (cases_eq c.args.at (length s.window.items)) [
+      | inl e ↦
+          handed-out (setting g) slots passes i s there c.self.invariant (command.To i c.args.at)
+          slots' after (c.args.at == length s.window.items) cut part answers adds kept handed number
+          more counted (eq-eqb c.args.at (length s.window.items) e) (c.in-Ok.ensures.end e)
+      | inr apart ↦
+          part-out (setting g) slots passes i s there c.self.invariant (command.To i c.args.at)
+          slots' after (c.args.at == length s.window.items) cut part answers adds kept handed number
+          more counted (ne_eqb c.args.at (length s.window.items) apart)
+          (c.in-Ok.ensures.earlier (omega (arith, apart, edge.within)))
+    ])
+
+refused : (g : Over) (c : In-Err-try_split_to g)
+    → Done (setting g) c.args.self.now (command.To c.args.i c.args.at)
+    (reply.Owner c.in-Err-try_split_to.e)
+    (slice_set c.reserve.new.self.items c.args.i (Some c.try_split_to.new.self))
+    c.try_split_to.new.passes.of_blocks.items
+refused g c =
+    let slots = c.self.inside.slots.items in
+    let passes = c.self.inside.passes.of_blocks.items in
+    let i = c.args.i in
+    let first = ap (λ ss. slice_get ss i) (sym c.deref.ensures.value) ∙ c.in-Some.ensures in
+    let read = c.reserve.new.self.items in
+    let again = ap (λ ss. slice_get ss i) c.reserve.ensures.items ∙ first in
+    let at = read-there read i c.index_mut.result.now _ again c.index_mut.ensures.value in
+    let s = c.in-Some-index_mut.slot in
+    let there_read = at ∙ ap Some c.in-Some-index_mut.is in
+    let there = ap (λ ss. slice_get ss i) (sym c.reserve.ensures.items) ∙ there_read in
+    let one = same_entry slots i c.in-Some.slot.now s first there in
+    let may : edge_answer (setting g).boundary s.window.items c.args.at ≡ Ok tt =
+    ap (λ (v : SlotView g.row.S-Item.Denot).
+    edge_answer (setting g).boundary v.window.items c.args.at) (sym one)
+    ∙ sym c.in_default-check_at.ensures.answer in
+    let after = c.try_split_to.new.passes.of_blocks.items in
+    let e = c.in-Err-try_split_to.e in
+    let slots' = slice_set read i (Some c.try_split_to.new.self) in
+    let same : slots' ≡ slots =
+    ap (λ v. slice_set read i (Some v)) c.in-Err-try_split_to.ensures.kept
+    ∙ set-back read i (Some s) there_read ∙ c.reserve.ensures.items in
+    let cut = cut_row (row_of s) c.args.at (length s.window.items) in
+    let part = to_part (setting g) (row_of s) c.args.at in
+    subst (λ (o : State g.row.S-Item.Denot).
+    Done (setting g) o (command.To i c.args.at) (reply.Owner e) slots' after) c.self.view_is
+    (unmade (setting g) slots passes i s there c.self.invariant (command.To i c.args.at) slots'
+    after part (split_rows (state_of slots passes).table i
+    (c.args.at == length s.window.items) (row_of s) cut part)
+    (to-answers (setting g) slots passes i s there c.args.at may) (λ f adds. adds) e
+    c.in-Err-try_split_to.ensures.refused same)
 
 pub returns-then-is_err-clause-rows : goal.returns-then-is_err-clause-rows
 returns-then-is_err-clause-rows g c =
@@ -29,16 +129,15 @@ returns-then-is_err-clause-rows g c =
     let passes = c.self.inside.passes.of_blocks.items in
     let i = c.args.i in
     let first = ap (λ ss. slice_get ss i) (sym c.deref.ensures.value) ∙ c.in-Some.ensures in
-    let setting : Setting g.row.S-Item.Denot =
-    setting_of g.L.Layout.STATIC g.L.Layout.clone_wants g.S.Slice.DROPS g.S.Subsliceable.boundary in
     let s = c.in-Some.slot.now in
     subst (λ (o : State g.row.S-Item.Denot).
-    Step setting o.table (command.To i c.args.at) reply.Alloc
+    Step (setting g) o.table (command.To i c.args.at) reply.Alloc
     (state_of c.reserve.new.self.items passes).table)
-    c.self.view_is (
-      (row_of s, row-there slots passes i s first, c.in_default-check_at.ensures.ok.0 refl),
-      same-table slots passes c.reserve.new.self.items passes c.reserve.ensures.items refl,
-    )
+    c.self.view_is
+    (alloc-step (setting g) slots passes (command.To i c.args.at) c.reserve.new.self.items
+    (to-answers (setting g) slots passes i s first c.args.at
+    (sym c.in_default-check_at.ensures.answer)
+    of_table) c.reserve.ensures.items)
 
 pub index_mut-requires : goal.index_mut-requires
 index_mut-requires g c =
@@ -98,238 +197,25 @@ try_split_to-requires-clause-pass g c κs within =
 
 pub invariant_of-self-in-Ok : goal.invariant_of-self-in-Ok
 invariant_of-self-in-Ok g c =
-    let slots = c.self.inside.slots.items in
-    let passes = c.self.inside.passes.of_blocks.items in
-    let i = c.args.i in
-    let first = ap (λ ss. slice_get ss i) (sym c.deref.ensures.value) ∙ c.in-Some.ensures in
-    let read = c.reserve.new.self.items in
-    let again = ap (λ ss. slice_get ss i) c.reserve.ensures.items ∙ first in
-    let at = read-there read i c.index_mut.result.now _ again c.index_mut.ensures.value in
-    let s = c.in-Some-index_mut.slot in
-    let there_read = at ∙ ap Some c.in-Some-index_mut.is in
-    let there = ap (λ ss. slice_get ss i) (sym c.reserve.ensures.items) ∙ there_read in
-    let one = same_entry slots i c.in-Some.slot.now s first there in
-    let edge : IsEdge g.S.Subsliceable.boundary s.window.items c.args.at =
-    subst (λ (v : SlotView g.row.S-Item.Denot).
-    IsEdge g.S.Subsliceable.boundary v.window.items c.args.at) one
-    (c.in_default-check_at.ensures.ok.0 refl) in
-    let after = c.try_split_to.new.passes.of_blocks.items in
-    let kept = c.try_split_to.new.self in
-    let handed = c.in-Ok.slot in
-    let slots' = c.push_reserved.new.self.items in
-    let more : slots' ≡ slice_set slots i (Some kept) ++ Some handed ∷ [] =
-    c.push_reserved.ensures.items
-    ∙ ap (λ ss. slice_set ss i (Some kept) ++ Some handed ∷ []) c.reserve.ensures.items in
-    elim (cases_eq c.args.at (length s.window.items)) [
-      | inl e ↦
-          (let h = c.in-Ok.ensures.end e in
-          kept-goes slots passes i s there c.self.invariant after kept handed slots' more h.owner
-          h.added)
-      | inr apart ↦
-          (let h = c.in-Ok.ensures.earlier (omega (arith, apart, edge.within)) in
-          kept-stays slots passes i s there c.self.invariant after kept handed slots' more h.owner
-          h.added)
-    ]
+    (made g (goal.at.invariant_of-self-in-Ok g c).After-push_reserved).kept
 
 pub invariant_of-self-in-Err-try_split_to : goal.invariant_of-self-in-Err-try_split_to
 invariant_of-self-in-Err-try_split_to g c =
-    let slots = c.self.inside.slots.items in
-    let passes = c.self.inside.passes.of_blocks.items in
-    let i = c.args.i in
-    let first = ap (λ ss. slice_get ss i) (sym c.deref.ensures.value) ∙ c.in-Some.ensures in
-    let read = c.reserve.new.self.items in
-    let again = ap (λ ss. slice_get ss i) c.reserve.ensures.items ∙ first in
-    let at = read-there read i c.index_mut.result.now _ again c.index_mut.ensures.value in
-    let s = c.in-Some-index_mut.slot in
-    let there_read = at ∙ ap Some c.in-Some-index_mut.is in
-    let there = ap (λ ss. slice_get ss i) (sym c.reserve.ensures.items) ∙ there_read in
-    let setting : Setting g.row.S-Item.Denot =
-    setting_of g.L.Layout.STATIC g.L.Layout.clone_wants g.S.Slice.DROPS g.S.Subsliceable.boundary in
-    let after = c.try_split_to.new.passes.of_blocks.items in
-    let e = c.in-Err-try_split_to.e in
-    let slots' = slice_set read i (Some c.try_split_to.new.self) in
-    let same : slots' ≡ slots =
-    ap (λ v. slice_set read i (Some v)) c.in-Err-try_split_to.ensures.kept
-    ∙ set-back read i (Some s) there_read ∙ c.reserve.ensures.items in
-    kept-unmade slots passes i s there c.self.invariant after slots' same g.L.Layout.clone_wants
-    (to_part setting (row_of s) c.args.at).place e c.in-Err-try_split_to.ensures.refused
+    (refused g (goal.at.invariant_of-self-in-Err-try_split_to g c).In-Err-try_split_to).kept
 
 pub returns-in-Ok-clause-rows : goal.returns-in-Ok-clause-rows
 returns-in-Ok-clause-rows g c =
-    let slots = c.self.inside.slots.items in
-    let passes = c.self.inside.passes.of_blocks.items in
-    let i = c.args.i in
-    let first = ap (λ ss. slice_get ss i) (sym c.deref.ensures.value) ∙ c.in-Some.ensures in
-    let read = c.reserve.new.self.items in
-    let again = ap (λ ss. slice_get ss i) c.reserve.ensures.items ∙ first in
-    let at = read-there read i c.index_mut.result.now _ again c.index_mut.ensures.value in
-    let s = c.in-Some-index_mut.slot in
-    let there_read = at ∙ ap Some c.in-Some-index_mut.is in
-    let there = ap (λ ss. slice_get ss i) (sym c.reserve.ensures.items) ∙ there_read in
-    let one = same_entry slots i c.in-Some.slot.now s first there in
-    let edge : IsEdge g.S.Subsliceable.boundary s.window.items c.args.at =
-    subst (λ (v : SlotView g.row.S-Item.Denot).
-    IsEdge g.S.Subsliceable.boundary v.window.items c.args.at) one
-    (c.in_default-check_at.ensures.ok.0 refl) in
-    let setting : Setting g.row.S-Item.Denot =
-    setting_of g.L.Layout.STATIC g.L.Layout.clone_wants g.S.Slice.DROPS g.S.Subsliceable.boundary in
-    let after = c.try_split_to.new.passes.of_blocks.items in
-    let kept = c.try_split_to.new.self in
-    let handed = c.in-Ok.slot in
-    let slots' = c.push_reserved.new.self.items in
-    let more : slots' ≡ slice_set slots i (Some kept) ++ Some handed ∷ [] =
-    c.push_reserved.ensures.items
-    ∙ ap (λ ss. slice_set ss i (Some kept) ++ Some handed ∷ []) c.reserve.ensures.items in
-    let number = c.len-number.result in
-    let counted : number ≡ length slots =
-    c.len-number.ensures ∙ c.reserve.new.self.ok.0 ∙ ap length c.reserve.ensures.items in
-    let t = (state_of slots passes).table in
-    let r = row_of s in
-    let made = to_part setting r c.args.at in
-    let cut = cut_row r c.args.at (length s.window.items) in
-    let may : edge_answer setting.boundary s.window.items c.args.at ≡ Ok tt =
-    ap (λ (v : SlotView g.row.S-Item.Denot).
-    edge_answer setting.boundary v.window.items c.args.at) (sym one)
-    ∙ sym c.in_default-check_at.ensures.answer in
-    let found = λ (row : Row g.row.S-Item.Denot (Unit {0})).
-    in_range (edge_answer setting.boundary row.items c.args.at) t (split_to setting t i row c.args.at) in
-    let ranged =
-    answered slots passes i s there may_split found
-    ∙ ap (λ a. in_range a t (split_to setting t i r c.args.at)) may in
-    let picked = λ (b : Bool). if b then split t i made r made else split t i cut made made in
-    let done : split_to setting t i r c.args.at ≡ (reply.New number, (state_of slots' after).table) =
-    elim (cases_eq c.args.at (length s.window.items)) [
-      | inl e ↦
-          (let h = c.in-Ok.ensures.end e in
-          ap picked (eq-eqb c.args.at (length s.window.items) e)
-          ∙ split-row slots passes i s there c.self.invariant after kept handed slots' more made r
-          made kept number h.made_is h.same_is h.made_is h.added counted)
-      | inr apart ↦
-          (let h = c.in-Ok.ensures.earlier (omega (arith, apart, edge.within)) in
-          ap picked (ne_eqb c.args.at (length s.window.items) apart)
-          ∙ split-row slots passes i s there c.self.invariant after kept handed slots' more cut made
-          made handed number h.same_is h.made_is h.made_is h.added counted)
-    ] in
-    subst (λ (o : State g.row.S-Item.Denot).
-    Step setting o.table (command.To i c.args.at) (reply.New number) (state_of slots' after).table)
-    c.self.view_is (ranged ∙ done)
+    (made g (goal.at.returns-in-Ok-clause-rows g c).After-push_reserved).rows
 
 pub returns-in-Ok-clause-passes : goal.returns-in-Ok-clause-passes
 returns-in-Ok-clause-passes g c =
-    let slots = c.self.inside.slots.items in
-    let passes = c.self.inside.passes.of_blocks.items in
-    let i = c.args.i in
-    let first = ap (λ ss. slice_get ss i) (sym c.deref.ensures.value) ∙ c.in-Some.ensures in
-    let read = c.reserve.new.self.items in
-    let again = ap (λ ss. slice_get ss i) c.reserve.ensures.items ∙ first in
-    let at = read-there read i c.index_mut.result.now _ again c.index_mut.ensures.value in
-    let s = c.in-Some-index_mut.slot in
-    let there_read = at ∙ ap Some c.in-Some-index_mut.is in
-    let there = ap (λ ss. slice_get ss i) (sym c.reserve.ensures.items) ∙ there_read in
-    let one = same_entry slots i c.in-Some.slot.now s first there in
-    let edge : IsEdge g.S.Subsliceable.boundary s.window.items c.args.at =
-    subst (λ (v : SlotView g.row.S-Item.Denot).
-    IsEdge g.S.Subsliceable.boundary v.window.items c.args.at) one
-    (c.in_default-check_at.ensures.ok.0 refl) in
-    let after = c.try_split_to.new.passes.of_blocks.items in
-    let kept = c.try_split_to.new.self in
-    let handed = c.in-Ok.slot in
-    let slots' = c.push_reserved.new.self.items in
-    let more : slots' ≡ slice_set slots i (Some kept) ++ Some handed ∷ [] =
-    c.push_reserved.ensures.items
-    ∙ ap (λ ss. slice_set ss i (Some kept) ++ Some handed ∷ []) c.reserve.ensures.items in
-    subst (λ (o : State g.row.S-Item.Denot).
-    Adds {T = g.row.S-Item.Denot} o.standing (command.To i c.args.at)
-    (reply.New c.len-number.result) (state_of slots' after).standing)
-    c.self.view_is
-    (elim (cases_eq c.args.at (length s.window.items)) [
-      | inl e ↦
-          (let h = c.in-Ok.ensures.end e in
-          goes-added slots passes i s there c.self.invariant after kept handed slots' more h.owner
-          h.added)
-      | inr apart ↦
-          (let h = c.in-Ok.ensures.earlier (omega (arith, apart, edge.within)) in
-          stays-added slots passes i s there c.self.invariant after kept handed slots' more h.owner
-          h.added)
-    ])
+    (made g (goal.at.returns-in-Ok-clause-passes g c).After-push_reserved).passes_are
 
 pub returns-in-Err-try_split_to-clause-rows : goal.returns-in-Err-try_split_to-clause-rows
 returns-in-Err-try_split_to-clause-rows g c =
-    let slots = c.self.inside.slots.items in
-    let passes = c.self.inside.passes.of_blocks.items in
-    let i = c.args.i in
-    let first = ap (λ ss. slice_get ss i) (sym c.deref.ensures.value) ∙ c.in-Some.ensures in
-    let read = c.reserve.new.self.items in
-    let again = ap (λ ss. slice_get ss i) c.reserve.ensures.items ∙ first in
-    let at = read-there read i c.index_mut.result.now _ again c.index_mut.ensures.value in
-    let s = c.in-Some-index_mut.slot in
-    let there_read = at ∙ ap Some c.in-Some-index_mut.is in
-    let there = ap (λ ss. slice_get ss i) (sym c.reserve.ensures.items) ∙ there_read in
-    let one = same_entry slots i c.in-Some.slot.now s first there in
-    let edge : IsEdge g.S.Subsliceable.boundary s.window.items c.args.at =
-    subst (λ (v : SlotView g.row.S-Item.Denot).
-    IsEdge g.S.Subsliceable.boundary v.window.items c.args.at) one
-    (c.in_default-check_at.ensures.ok.0 refl) in
-    let setting : Setting g.row.S-Item.Denot =
-    setting_of g.L.Layout.STATIC g.L.Layout.clone_wants g.S.Slice.DROPS g.S.Subsliceable.boundary in
-    let after = c.try_split_to.new.passes.of_blocks.items in
-    let e = c.in-Err-try_split_to.e in
-    let slots' = slice_set read i (Some c.try_split_to.new.self) in
-    let same : slots' ≡ slots =
-    ap (λ v. slice_set read i (Some v)) c.in-Err-try_split_to.ensures.kept
-    ∙ set-back read i (Some s) there_read ∙ c.reserve.ensures.items in
-    let t = (state_of slots passes).table in
-    let r = row_of s in
-    let made = to_part setting r c.args.at in
-    let cut = cut_row r c.args.at (length s.window.items) in
-    let may : edge_answer setting.boundary s.window.items c.args.at ≡ Ok tt =
-    ap (λ (v : SlotView g.row.S-Item.Denot).
-    edge_answer setting.boundary v.window.items c.args.at) (sym one)
-    ∙ sym c.in_default-check_at.ensures.answer in
-    let found = λ (row : Row g.row.S-Item.Denot (Unit {0})).
-    in_range (edge_answer setting.boundary row.items c.args.at) t (split_to setting t i row c.args.at) in
-    let ranged =
-    answered slots passes i s there may_split found
-    ∙ ap (λ a. in_range a t (split_to setting t i r c.args.at)) may in
-    let picked = λ (b : Bool). if b then split t i made r made else split t i cut made made in
-    let why = c.in-Err-try_split_to.ensures.refused in
-    let done : Step setting t (command.To i c.args.at) (reply.Owner e) (state_of slots' after).table =
-    elim (cases_eq c.args.at (length s.window.items)) [
-      | inl is ↦
-          unsplit-row slots passes i s there c.self.invariant after setting (command.To i c.args.at)
-          made r made (ranged ∙ ap picked (eq-eqb c.args.at (length s.window.items) is)) e slots' (λ wants. (r, row-there slots passes i s there, (edge, wants))) why same
-      | inr apart ↦
-          unsplit-row slots passes i s there c.self.invariant after setting (command.To i c.args.at)
-          cut made made (ranged ∙ ap picked (ne_eqb c.args.at (length s.window.items) apart)) e slots' (λ wants. (r, row-there slots passes i s there, (edge, wants))) why
-          same
-    ] in
-    subst (λ (o : State g.row.S-Item.Denot).
-    Step setting o.table (command.To i c.args.at) (reply.Owner e) (state_of slots' after).table)
-    c.self.view_is done
+    (refused g (goal.at.returns-in-Err-try_split_to-clause-rows g c).In-Err-try_split_to).rows
 
 pub returns-in-Err-try_split_to-clause-passes : goal.returns-in-Err-try_split_to-clause-passes
 returns-in-Err-try_split_to-clause-passes g c =
-    let slots = c.self.inside.slots.items in
-    let passes = c.self.inside.passes.of_blocks.items in
-    let i = c.args.i in
-    let first = ap (λ ss. slice_get ss i) (sym c.deref.ensures.value) ∙ c.in-Some.ensures in
-    let read = c.reserve.new.self.items in
-    let again = ap (λ ss. slice_get ss i) c.reserve.ensures.items ∙ first in
-    let at = read-there read i c.index_mut.result.now _ again c.index_mut.ensures.value in
-    let s = c.in-Some-index_mut.slot in
-    let there_read = at ∙ ap Some c.in-Some-index_mut.is in
-    let there = ap (λ ss. slice_get ss i) (sym c.reserve.ensures.items) ∙ there_read in
-    let setting : Setting g.row.S-Item.Denot =
-    setting_of g.L.Layout.STATIC g.L.Layout.clone_wants g.S.Slice.DROPS g.S.Subsliceable.boundary in
-    let after = c.try_split_to.new.passes.of_blocks.items in
-    let e = c.in-Err-try_split_to.e in
-    let slots' = slice_set read i (Some c.try_split_to.new.self) in
-    let same : slots' ≡ slots =
-    ap (λ v. slice_set read i (Some v)) c.in-Err-try_split_to.ensures.kept
-    ∙ set-back read i (Some s) there_read ∙ c.reserve.ensures.items in
-    subst (λ (o : State g.row.S-Item.Denot).
-    Adds {T = g.row.S-Item.Denot} o.standing (command.To i c.args.at) (reply.Owner e)
-    (state_of slots' after).standing)
-    c.self.view_is
-    (refused-added slots passes i s there slots' after g.L.Layout.clone_wants
-    (to_part setting (row_of s) c.args.at).place e same c.in-Err-try_split_to.ensures.refused)
+    (refused g
+    (goal.at.returns-in-Err-try_split_to-clause-passes g c).In-Err-try_split_to).passes_are

@@ -1,41 +1,105 @@
 -- The part stands on the same block, as another owner, or on nothing; or the block has as many
 -- owners as it may have, or the layout wanted memory.
-use Rattle.std.proofs.Common.{◌≡◌, [], ◌∷◌, ◌++◌, length, Some, None, Ok, slice_get, sym, ap, ◌∙◌}
-use Rattle.std.proofs.Common.{subst, refl}
-use Rattle.arc_block.specs.declared.block.TheConstants.{MAX_OWNERS}
-use Rattle.arc_block.specs.Table.{Row}
+use Rattle.std.proofs.Common.{◌≡◌, [], ◌∷◌, ◌++◌, length, Some, Ok, slice_get, refl, sym, ap, ◌∙◌}
+use Rattle.std.proofs.Common.{subst}
 use Rattle.arc_buffer.specs.Slice.{IsRange, range_answer}
-use Rattle.arc_block.specs.Owned.{IsKept}
-use Rattle.arc_table.specs.Additions.{Adds}
-use Rattle.arc_table.specs.Slots.{SlotView, row_of, stand_of, stands_of}
+use Rattle.arc_table.specs.Slots.{SlotView, row_of, stand_of}
 use Rattle.arc_table.specs.State.{State, state_of}
-use Rattle.arc_table.specs.Step.{Setting, Step, setting_of, with_owner, part_of, is_read, in_range}
+use Rattle.arc_table.specs.Step.{Setting, Step, setting_of, of_table, part_of}
 use Rattle.arc_table.specs.declared.command.Cmd.TheVariants as command
 use Rattle.arc_table.specs.declared.command.Reply.TheVariants as reply
 use Rattle.arc_table.proofs.Lists.{slice_in, behind, same_entry}
 use Rattle.arc_table.proofs.Kept.{known-pass}
-use Rattle.arc_table.proofs.Tables.{row-there, stand-there, answered, joins-row, refused-row}
-use Rattle.arc_table.proofs.Tables.{same-table, kept-made, kept-unmade}
-use Rattle.arc_table.proofs.Added.{joins-added, refused-added}
+use Rattle.arc_table.proofs.Tables.{stand-there}
+use Rattle.arc_table.proofs.Rows.{alloc-step, sub-answers}
+use Rattle.arc_table.proofs.Done.{Done, joined, unmade}
+use Rattle.arc_table.proofs.table.Table.sub.Given.{Over}
+use Rattle.arc_table.proofs.table.Table.sub.Goals.{After-push_reserved, In-Err-try_subslice}
 use Rattle.arc_table.proofs.table.Table.sub.Goals as goal
+
+abbrev setting : (g : Over) → Setting g.row.S-Item.Denot
+setting g =
+    setting_of g.L.Layout.STATIC g.L.Layout.clone_wants g.S.Slice.DROPS g.S.Subsliceable.boundary
+
+made : (g : Over) (c : After-push_reserved g)
+    → Done (setting g) c.args.self.now (command.Sub c.args.i c.args.start c.args.end)
+    (reply.New c.len-number.result) c.push_reserved.new.self.items
+    c.try_subslice.new.passes.of_blocks.items
+made g c =
+    let slots = c.self.inside.slots.items in
+    let passes = c.self.inside.passes.of_blocks.items in
+    let i = c.args.i in
+    let s = c.in-Some-slot_at.slot.now in
+    let there =
+    slice_in _ _ slots i _ c.deref-2.ensures.value c.reserve.ensures.items
+    c.in-Some-slot_at.ensures in
+    let first = ap (λ ss. slice_get ss i) (sym c.deref.ensures.value) ∙ c.in-Some.ensures in
+    let one = same_entry slots i c.in-Some.slot.now s first there in
+    let ranged : range_answer (setting g).boundary s.window.items c.args.start c.args.end ≡ Ok tt =
+    ap (λ (v : SlotView g.row.S-Item.Denot).
+    range_answer (setting g).boundary v.window.items c.args.start c.args.end) (sym one)
+    ∙ sym c.in_default-check_range.ensures.answer in
+    let slots' = c.push_reserved.new.self.items in
+    let after = c.try_subslice.new.passes.of_blocks.items in
+    let number = c.len-number.result in
+    let counted : number ≡ length slots =
+    c.len-number.ensures ∙ c.reserve.new.self.ok.0 ∙ ap length c.reserve.ensures.items in
+    let part = part_of (setting g) (row_of s) c.args.start c.args.end in
+    subst (λ (o : State g.row.S-Item.Denot).
+    Done (setting g) o (command.Sub i c.args.start c.args.end) (reply.New number) slots' after)
+    c.self.view_is
+    (joined (setting g) slots passes i s there c.self.invariant
+    (command.Sub i c.args.start c.args.end) slots' after part
+    (sub-answers (setting g) slots passes i s there c.args.start c.args.end ranged) (λ n adds. adds)
+    c.in-Ok.slot number c.in-Ok.ensures.row c.in-Ok.ensures.stand
+    (behind slots (Some c.in-Ok.slot) c.push_reserved.ensures.items c.reserve.ensures.items)
+    counted)
+
+refused : (g : Over) (c : In-Err-try_subslice g)
+    → Done (setting g) c.args.self.now (command.Sub c.args.i c.args.start c.args.end)
+    (reply.Owner c.in-Err-try_subslice.e) c.reserve.new.self.items
+    c.try_subslice.new.passes.of_blocks.items
+refused g c =
+    let slots = c.self.inside.slots.items in
+    let passes = c.self.inside.passes.of_blocks.items in
+    let i = c.args.i in
+    let s = c.in-Some-slot_at.slot.now in
+    let there =
+    slice_in _ _ slots i _ c.deref-2.ensures.value c.reserve.ensures.items
+    c.in-Some-slot_at.ensures in
+    let first = ap (λ ss. slice_get ss i) (sym c.deref.ensures.value) ∙ c.in-Some.ensures in
+    let one = same_entry slots i c.in-Some.slot.now s first there in
+    let ranged : range_answer (setting g).boundary s.window.items c.args.start c.args.end ≡ Ok tt =
+    ap (λ (v : SlotView g.row.S-Item.Denot).
+    range_answer (setting g).boundary v.window.items c.args.start c.args.end) (sym one)
+    ∙ sym c.in_default-check_range.ensures.answer in
+    let slots' = c.reserve.new.self.items in
+    let after = c.try_subslice.new.passes.of_blocks.items in
+    let e = c.in-Err-try_subslice.e in
+    let part = part_of (setting g) (row_of s) c.args.start c.args.end in
+    subst (λ (o : State g.row.S-Item.Denot).
+    Done (setting g) o (command.Sub i c.args.start c.args.end) (reply.Owner e) slots' after)
+    c.self.view_is
+    (unmade (setting g) slots passes i s there c.self.invariant
+    (command.Sub i c.args.start c.args.end) slots' after part
+    ((state_of slots passes).table.rows ++ Some part ∷ [])
+    (sub-answers (setting g) slots passes i s there c.args.start c.args.end ranged) (λ f adds. adds)
+    e c.in-Err-try_subslice.ensures.refused c.reserve.ensures.items)
 
 pub returns-then-is_err-clause-rows : goal.returns-then-is_err-clause-rows
 returns-then-is_err-clause-rows g c =
     let slots = c.self.inside.slots.items in
     let passes = c.self.inside.passes.of_blocks.items in
     let i = c.args.i in
-    let s = c.in-Some.slot.now in
     let there = ap (λ ss. slice_get ss i) (sym c.deref.ensures.value) ∙ c.in-Some.ensures in
-    let setting : Setting g.row.S-Item.Denot =
-    setting_of g.L.Layout.STATIC g.L.Layout.clone_wants g.S.Slice.DROPS g.S.Subsliceable.boundary in
-    let range = c.in_default-check_range.ensures.ok.0 refl in
     subst (λ (o : State g.row.S-Item.Denot).
-    Step setting o.table (command.Sub i c.args.start c.args.end) reply.Alloc
+    Step (setting g) o.table (command.Sub i c.args.start c.args.end) reply.Alloc
     (state_of c.reserve.new.self.items passes).table)
-    c.self.view_is (
-      (row_of s, row-there slots passes i s there, range),
-      same-table slots passes c.reserve.new.self.items passes c.reserve.ensures.items refl,
-    )
+    c.self.view_is
+    (alloc-step (setting g) slots passes (command.Sub i c.args.start c.args.end)
+    c.reserve.new.self.items
+    (sub-answers (setting g) slots passes i c.in-Some.slot.now there c.args.start c.args.end
+    (sym c.in_default-check_range.ensures.answer) of_table) c.reserve.ensures.items)
 
 pub try_subslice-requires-clause-range : goal.try_subslice-requires-clause-range
 try_subslice-requires-clause-range g c κs within =
@@ -44,7 +108,8 @@ try_subslice-requires-clause-range g c κs within =
     let i = c.args.i in
     let s = c.in-Some-slot_at.slot.now in
     let there =
-    slice_in _ _ slots i _ c.deref-2.ensures.value c.reserve.ensures.items c.in-Some-slot_at.ensures in
+    slice_in _ _ slots i _ c.deref-2.ensures.value c.reserve.ensures.items
+    c.in-Some-slot_at.ensures in
     let first = ap (λ ss. slice_get ss i) (sym c.deref.ensures.value) ∙ c.in-Some.ensures in
     let one = same_entry slots i c.in-Some.slot.now s first there in
     let range : IsRange g.S.Subsliceable.boundary s.window.items c.args.start c.args.end =
@@ -60,152 +125,31 @@ try_subslice-requires-clause-pass g c κs within =
     let i = c.args.i in
     let s = c.in-Some-slot_at.slot.now in
     let there =
-    slice_in _ _ slots i _ c.deref-2.ensures.value c.reserve.ensures.items c.in-Some-slot_at.ensures in
+    slice_in _ _ slots i _ c.deref-2.ensures.value c.reserve.ensures.items
+    c.in-Some-slot_at.ensures in
     known-pass i c.self.invariant (stand_of (Some s)) (stand-there slots passes i s there)
 
 pub invariant_of-self-in-Ok : goal.invariant_of-self-in-Ok
 invariant_of-self-in-Ok g c =
-    let slots = c.self.inside.slots.items in
-    let passes = c.self.inside.passes.of_blocks.items in
-    let i = c.args.i in
-    let s = c.in-Some-slot_at.slot.now in
-    let there =
-    slice_in _ _ slots i _ c.deref-2.ensures.value c.reserve.ensures.items c.in-Some-slot_at.ensures in
-    let made = c.in-Ok.slot in
-    let after = c.try_subslice.new.passes.of_blocks.items in
-    let more = behind slots (Some made) c.push_reserved.ensures.items c.reserve.ensures.items in
-    kept-made slots passes i s there c.self.invariant after made c.push_reserved.new.self.items more
-    c.in-Ok.ensures.stand
+    (made g (goal.at.invariant_of-self-in-Ok g c).After-push_reserved).kept
 
 pub invariant_of-self-in-Err-try_subslice : goal.invariant_of-self-in-Err-try_subslice
 invariant_of-self-in-Err-try_subslice g c =
-    let slots = c.self.inside.slots.items in
-    let passes = c.self.inside.passes.of_blocks.items in
-    let i = c.args.i in
-    let s = c.in-Some-slot_at.slot.now in
-    let there =
-    slice_in _ _ slots i _ c.deref-2.ensures.value c.reserve.ensures.items c.in-Some-slot_at.ensures in
-    let setting : Setting g.row.S-Item.Denot =
-    setting_of g.L.Layout.STATIC g.L.Layout.clone_wants g.S.Slice.DROPS g.S.Subsliceable.boundary in
-    let after = c.try_subslice.new.passes.of_blocks.items in
-    let r = part_of setting (row_of s) c.args.start c.args.end in
-    kept-unmade slots passes i s there c.self.invariant after c.reserve.new.self.items
-    c.reserve.ensures.items g.L.Layout.clone_wants r.place c.in-Err-try_subslice.e
-    c.in-Err-try_subslice.ensures.refused
+    (refused g (goal.at.invariant_of-self-in-Err-try_subslice g c).In-Err-try_subslice).kept
 
 pub returns-in-Ok-clause-rows : goal.returns-in-Ok-clause-rows
 returns-in-Ok-clause-rows g c =
-    let slots = c.self.inside.slots.items in
-    let passes = c.self.inside.passes.of_blocks.items in
-    let i = c.args.i in
-    let s = c.in-Some-slot_at.slot.now in
-    let there =
-    slice_in _ _ slots i _ c.deref-2.ensures.value c.reserve.ensures.items c.in-Some-slot_at.ensures in
-    let setting : Setting g.row.S-Item.Denot =
-    setting_of g.L.Layout.STATIC g.L.Layout.clone_wants g.S.Slice.DROPS g.S.Subsliceable.boundary in
-    let first = ap (λ ss. slice_get ss i) (sym c.deref.ensures.value) ∙ c.in-Some.ensures in
-    let one = same_entry slots i c.in-Some.slot.now s first there in
-    let range : IsRange g.S.Subsliceable.boundary s.window.items c.args.start c.args.end =
-    subst (λ (v : SlotView g.row.S-Item.Denot).
-    IsRange g.S.Subsliceable.boundary v.window.items c.args.start c.args.end) one
-    (c.in_default-check_range.ensures.ok.0 refl) in
-    let made = c.in-Ok.slot in
-    let after = c.try_subslice.new.passes.of_blocks.items in
-    let slots' = c.push_reserved.new.self.items in
-    let number = c.len-number.result in
-    let more = behind slots (Some made) c.push_reserved.ensures.items c.reserve.ensures.items in
-    let counted : number ≡ length slots =
-    c.len-number.ensures ∙ c.reserve.new.self.ok.0 ∙ ap length c.reserve.ensures.items in
-    let t = (state_of slots passes).table in
-    let r = part_of setting (row_of s) c.args.start c.args.end in
-    let ranged : range_answer setting.boundary s.window.items c.args.start c.args.end ≡ Ok tt =
-    ap (λ (v : SlotView g.row.S-Item.Denot).
-    range_answer setting.boundary v.window.items c.args.start c.args.end) (sym one)
-    ∙ sym c.in_default-check_range.ensures.answer in
-    let found = λ (row : Row g.row.S-Item.Denot (Unit {0})).
-    in_range (range_answer setting.boundary row.items c.args.start c.args.end) t
-    (with_owner t (part_of setting row c.args.start c.args.end)) in
-    let answers =
-    answered slots passes i s there is_read found
-    ∙ ap (λ a. in_range a t (with_owner t r)) ranged in
-    subst (λ (o : State g.row.S-Item.Denot).
-    Step setting o.table (command.Sub i c.args.start c.args.end) (reply.New number) (state_of slots' after).table)
-    c.self.view_is
-    (joins-row slots passes i s there c.self.invariant after setting (command.Sub i c.args.start c.args.end) r answers made slots'
-    number c.in-Ok.ensures.row c.in-Ok.ensures.stand more counted)
+    (made g (goal.at.returns-in-Ok-clause-rows g c).After-push_reserved).rows
 
 pub returns-in-Ok-clause-passes : goal.returns-in-Ok-clause-passes
 returns-in-Ok-clause-passes g c =
-    let slots = c.self.inside.slots.items in
-    let passes = c.self.inside.passes.of_blocks.items in
-    let i = c.args.i in
-    let s = c.in-Some-slot_at.slot.now in
-    let there =
-    slice_in _ _ slots i _ c.deref-2.ensures.value c.reserve.ensures.items c.in-Some-slot_at.ensures in
-    let made = c.in-Ok.slot in
-    let after = c.try_subslice.new.passes.of_blocks.items in
-    let slots' = c.push_reserved.new.self.items in
-    let more = behind slots (Some made) c.push_reserved.ensures.items c.reserve.ensures.items in
-    subst (λ (o : State g.row.S-Item.Denot).
-    Adds {T = g.row.S-Item.Denot} o.standing (command.Sub i c.args.start c.args.end) (reply.New c.len-number.result)
-    (state_of slots' after).standing)
-    c.self.view_is (joins-added slots passes i s there slots' after made more c.in-Ok.ensures.stand)
+    (made g (goal.at.returns-in-Ok-clause-passes g c).After-push_reserved).passes_are
 
 pub returns-in-Err-try_subslice-clause-rows : goal.returns-in-Err-try_subslice-clause-rows
 returns-in-Err-try_subslice-clause-rows g c =
-    let slots = c.self.inside.slots.items in
-    let passes = c.self.inside.passes.of_blocks.items in
-    let i = c.args.i in
-    let s = c.in-Some-slot_at.slot.now in
-    let there =
-    slice_in _ _ slots i _ c.deref-2.ensures.value c.reserve.ensures.items c.in-Some-slot_at.ensures in
-    let setting : Setting g.row.S-Item.Denot =
-    setting_of g.L.Layout.STATIC g.L.Layout.clone_wants g.S.Slice.DROPS g.S.Subsliceable.boundary in
-    let first = ap (λ ss. slice_get ss i) (sym c.deref.ensures.value) ∙ c.in-Some.ensures in
-    let one = same_entry slots i c.in-Some.slot.now s first there in
-    let range : IsRange g.S.Subsliceable.boundary s.window.items c.args.start c.args.end =
-    subst (λ (v : SlotView g.row.S-Item.Denot).
-    IsRange g.S.Subsliceable.boundary v.window.items c.args.start c.args.end) one
-    (c.in_default-check_range.ensures.ok.0 refl) in
-    let after = c.try_subslice.new.passes.of_blocks.items in
-    let slots' = c.reserve.new.self.items in
-    let e = c.in-Err-try_subslice.e in
-    let t = (state_of slots passes).table in
-    let r = part_of setting (row_of s) c.args.start c.args.end in
-    let ranged : range_answer setting.boundary s.window.items c.args.start c.args.end ≡ Ok tt =
-    ap (λ (v : SlotView g.row.S-Item.Denot).
-    range_answer setting.boundary v.window.items c.args.start c.args.end) (sym one)
-    ∙ sym c.in_default-check_range.ensures.answer in
-    let found = λ (row : Row g.row.S-Item.Denot (Unit {0})).
-    in_range (range_answer setting.boundary row.items c.args.start c.args.end) t
-    (with_owner t (part_of setting row c.args.start c.args.end)) in
-    let answers =
-    answered slots passes i s there is_read found
-    ∙ ap (λ a. in_range a t (with_owner t r)) ranged in
-    subst (λ (o : State g.row.S-Item.Denot).
-    Step setting o.table (command.Sub i c.args.start c.args.end) (reply.Owner e) (state_of slots' after).table)
-    c.self.view_is
-    (refused-row slots passes i s there c.self.invariant after setting (command.Sub i c.args.start c.args.end) r answers e slots'
-    (λ wants. (row_of s, row-there slots passes i s there, (range, wants)))
-    c.in-Err-try_subslice.ensures.refused c.reserve.ensures.items)
+    (refused g (goal.at.returns-in-Err-try_subslice-clause-rows g c).In-Err-try_subslice).rows
 
 pub returns-in-Err-try_subslice-clause-passes : goal.returns-in-Err-try_subslice-clause-passes
 returns-in-Err-try_subslice-clause-passes g c =
-    let slots = c.self.inside.slots.items in
-    let passes = c.self.inside.passes.of_blocks.items in
-    let i = c.args.i in
-    let s = c.in-Some-slot_at.slot.now in
-    let there =
-    slice_in _ _ slots i _ c.deref-2.ensures.value c.reserve.ensures.items c.in-Some-slot_at.ensures in
-    let setting : Setting g.row.S-Item.Denot =
-    setting_of g.L.Layout.STATIC g.L.Layout.clone_wants g.S.Slice.DROPS g.S.Subsliceable.boundary in
-    let after = c.try_subslice.new.passes.of_blocks.items in
-    let slots' = c.reserve.new.self.items in
-    let e = c.in-Err-try_subslice.e in
-    let r = part_of setting (row_of s) c.args.start c.args.end in
-    subst (λ (o : State g.row.S-Item.Denot).
-    Adds {T = g.row.S-Item.Denot} o.standing (command.Sub i c.args.start c.args.end) (reply.Owner e)
-    (state_of slots' after).standing)
-    c.self.view_is
-    (refused-added slots passes i s there slots' after g.L.Layout.clone_wants r.place e
-    c.reserve.ensures.items c.in-Err-try_subslice.ensures.refused)
+    (refused g
+    (goal.at.returns-in-Err-try_subslice-clause-passes g c).In-Err-try_subslice).passes_are

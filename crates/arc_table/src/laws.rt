@@ -1,0 +1,27 @@
+//! Laws of the table of lists.
+ghost use Rattle.std.specs.Prelude.{List};
+ghost use Rattle.arc_block.specs.Table.{Table, empty_table};
+ghost use Rattle.arc_table.specs.Blocks.{RowsAgree};
+ghost use Rattle.arc_table.specs.RunOf.{RunOf};
+ghost use Rattle.arc_table.specs.State.{CarriesOut, State};
+ghost use Rattle.arc_table.specs.Step.{Run, Setting, Step};
+ghost use Rattle.arc_table.specs.declared.command.Cmd.{Cmd};
+ghost use Rattle.arc_table.specs.declared.command.Reply.{Reply};
+
+/// The rows that stand on one block agree about it, in every table that comes of the empty one: no
+/// row of that stands on a block, each step keeps the agreement, and so does each run, also one of
+/// commands that a `Table` carries out. Does nothing: its contract is the law, for items and
+/// metadata of any type.
+pub fn rows_agree<T, M>()
+    ensures empty { RowsAgree {T = T} {M = M} empty_table }
+    ensures step { (setting : Setting T) (old : Table T M) (command : Cmd (List T))
+        (reply : Reply (List T)) (new : Table T M) → Step setting old command reply new
+        → RowsAgree old → RowsAgree new }
+    ensures run { (setting : Setting T) (old : Table T M) (commands : List (Cmd (List T)))
+        (replies : List (Reply (List T))) (new : Table T M)
+        → Run setting old commands replies new → RowsAgree old → RowsAgree new }
+    ensures carried_out { (setting : Setting T) (old : State T) (commands : List (Cmd (List T)))
+        (replies : List (Reply (List T))) (new : State T)
+        → RunOf (CarriesOut setting) old commands replies new
+        → RowsAgree old.table → RowsAgree new.table }
+{}
