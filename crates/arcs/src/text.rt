@@ -1,5 +1,5 @@
 //! Writing what lines are answered.
-ghost use Rattle.std.specs.Prelude.{◌≡◌, ◌++◌, ◌<◌, decimal, OnErr, OnOk};
+ghost use Rattle.std.specs.Prelude.{◌≡◌, ◌++◌, ◌<◌, ◌*◌, decimal, length, OnErr, OnOk};
 ghost use Rattle.arcs.specs.Text.{hex, hex_digit, items_word, owner_text, range_text, reply_text};
 ghost use Rattle.arc_table.specs.Seen.{seen_reply};
 ghost use Rattle.arcs.specs.Writing.{Extends, answer_line};
@@ -51,16 +51,27 @@ fn push_number<A: Allocator>(out: &mut Vec<u8, A>, number: usize) -> Result<(), 
     Ok(())
 }
 
+/// Writes two hex digits an item.
+fn write_hex(items: &[u8], out: &mut [u8])
+    requires { length out.old ≡ 2 * length items.now }
+    ensures { out.new ≡ hex items.now }
+{
+    'items: for i in 0..items.len() {
+        let item = items[i];
+        out[2 * i] = digit_of(item / 16);
+        out[2 * i + 1] = digit_of(item % 16);
+    }
+}
+
 /// Appends two hex digits an item. Room for all of them is asked for at once.
 fn push_hex<A: Allocator>(out: &mut Vec<u8, A>, items: &[u8]) -> Result<(), AllocError>
     ensures ok { OnOk result (out.new.items ≡ out.old.items ++ hex items.now) }
     ensures err { OnErr result (Extends out.old.items out.new.items) }
 {
+    let len = out.len();
     out.reserve(2 * items.len())?;
-    for item in items {
-        out.push_reserved(digit_of(item / 16));
-        out.push_reserved(digit_of(item % 16));
-    }
+    out.resize(len + 2 * items.len(), 0)?;
+    write_hex(items, &mut out[len..]);
     Ok(())
 }
 
