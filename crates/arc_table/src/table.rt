@@ -69,7 +69,7 @@ where
     ghost use Rattle.arc_block.specs.declared.block.TheConstants.{MAX_OWNERS};
     ghost use Rattle.arc_block.specs.Owned.{IsKept};
     ghost use Rattle.arc_table.specs.Step.{Step, setting_of};
-    ghost use Rattle.arc_table.specs.Seen.{seen_command, seen_reply};
+    ghost use Rattle.arc_table.specs.Seen.{map_reply, seen_command, seen_reply};
     ghost use Rattle.arc_table.specs.Additions.{Adds};
     ghost use Rattle.arc_table.specs.State.{Agrees, EndsAll, EndsWith, empty_state};
     ghost use Rattle.arc_table.specs.declared.command.Cmd.TheVariants as command;
@@ -265,6 +265,19 @@ where
         match Vec::from_slice(self.alloc, slot.as_slice()) {
             Ok(items) => Reply::Items(items),
             Err(_) => Reply::Alloc,
+        }
+    }
+
+    /// What `Cmd::Show` is answered, with the items where they stand in the window. Takes no memory.
+    pub fn show_in_place(&self, i: usize) -> Reply<&[S::Item]>
+        ensures rows { Step (setting_of L.STATIC L.clone_wants S.DROPS S.boundary) self.now.table
+            (command.Show i) (map_reply (λ items. items.now) result) self.now.table }
+        ensures passes { Adds self.now.standing (command.Show i)
+            (map_reply (λ items. items.now) result) self.now.standing }
+    {
+        match slot_at(&self.slots, i) {
+            Some(slot) => Reply::Items(slot.as_slice()),
+            None => Reply::NoWindow,
         }
     }
 

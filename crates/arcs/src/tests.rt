@@ -541,8 +541,8 @@ fn line_refused(rt: HostRuntime) -> Result<(), Fail> {
     Ok(())
 }
 
-/// One piece of input, in the midst of which memory is refused: for a line, for its items, and for
-/// the reply to it. The replies to the lines before come out.
+/// One piece of input, in the midst of which memory is refused: for a line that isn't whole in it,
+/// for the items of one that is, and for the reply to one. The replies to the lines before come out.
 #[test]
 fn refused_in_a_piece(rt: HostRuntime) -> Result<(), Fail> {
     let mut line = Vec::from_slice(rt.alloc(), HELLO)?;
@@ -554,8 +554,8 @@ fn refused_in_a_piece(rt: HostRuntime) -> Result<(), Fail> {
     reply.extend_from_slice(b"show 0\n")?;
     for (script, size, replies) in [
         (line, 80_000, HELLO_REPLIES),
-        (items, 90_000, HELLO_REPLIES),
-        (reply, 122_000, b"h0\n".as_slice()),
+        (items, 72_000, HELLO_REPLIES),
+        (reply, 90_000, b"h0\n".as_slice()),
     ] {
         let heap = LocalHeap::new(rt.alloc(), size)?;
         let mut reader = Pieces::new(&script, usize::MAX);
