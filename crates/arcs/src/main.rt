@@ -1,14 +1,13 @@
 //! Windows driven by a script: lines in, replies out.
 #![tactic(auto)]
 
-mod device;
-mod log;
+mod io;
 mod parse;
 mod program;
 mod script;
 mod text;
 
-use device::{Counted, Sink};
+use io::{Counted, Sink};
 use std::process::ExitCode;
 
 fn main(rt: HostRuntime) -> ExitCode {

@@ -3,7 +3,7 @@ ghost use Rattle.std.specs.Prelude.{◌≡◌, ◌↔◌, IsTrue, Err};
 ghost use Rattle.arcs.specs.Traffic.{Gives, GivesAll, Takes};
 ghost use Rattle.arcs.specs.Program.{IsArc, IsRun, status_of};
 
-use crate::device::{Sink, Source};
+use crate::io::{Sink, Source};
 use crate::script::{ScriptError, ScriptLayout, run_script, write_out};
 use arc_owners::error::AllocError;
 use std::alloc::Allocator;

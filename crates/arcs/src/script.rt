@@ -19,7 +19,7 @@ ghost use Rattle.arcs.specs.Faults.{IsCause, IsWhy};
 ghost use Rattle.arcs.specs.declared.parse.TheConstants.{LONGEST_LINE};
 ghost use Rattle.arcs.specs.declared.script.ScriptError.TheVariants as script_error;
 
-use crate::device::{Sink, Source};
+use crate::io::{Sink, Source};
 use crate::parse::{LONGEST_LINE, parse};
 use crate::text::push_answer;
 use arc_block::layout::DefaultLayout;
