@@ -69,7 +69,7 @@ where
     ghost use Rattle.arc_block.specs.declared.block.TheConstants.{MAX_OWNERS};
     ghost use Rattle.arc_block.specs.Owned.{IsKept};
     ghost use Rattle.arc_table.specs.Step.{Step, setting_of};
-    ghost use Rattle.arc_table.specs.Seen.{seen_command, seen_reply};
+    ghost use Rattle.arc_table.specs.Seen.{map_reply, seen_command, seen_reply};
     ghost use Rattle.arc_table.specs.Additions.{Adds};
     ghost use Rattle.arc_table.specs.State.{Agrees, CarriesOut, EndsAll, EndsWith, empty_state};
     ghost use Rattle.arc_table.specs.declared.command.Cmd.TheVariants as command;
@@ -275,6 +275,19 @@ where
         match Vec::from_slice(self.alloc, slot.as_slice()) {
             Ok(items) => Reply::Items(items),
             Err(_) => Reply::Alloc,
+        }
+    }
+
+    /// Carries out a `Cmd::Show`, and answers with the items where they stand in the window. Takes
+    /// no memory.
+    pub fn show_in_place(&self, i: usize) -> Reply<&[S::Item]>
+        ensures { CarriesOut (setting_of L.STATIC L.clone_wants S.DROPS S.boundary) self.now
+            (command.Show i) (map_reply (λ items. items.now) result) self.now }
+    {
+        self.agree();
+        match slot_at(&self.slots, i) {
+            Some(slot) => Reply::Items(slot.as_slice()),
+            None => Reply::NoWindow,
         }
     }
 

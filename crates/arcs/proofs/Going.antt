@@ -26,6 +26,12 @@ pub on_ok : {T E P : Type 0} (r : Result T E) → P → OnOk r P
 on_ok (Ok x) p = p
 on_ok (Err e) p = tt
 
+-- a line that stands whole in some bytes is like one that is held
+in_place : (held bytes line : List ℕ) (too_long : Bool) → (held ≡ []) × (too_long ≡ false)
+    → Holds held too_long line → Holds bytes false (line ++ bytes)
+in_place held bytes line too_long none holds =
+    ap (λ xs. xs ++ bytes) (sym none.0 ∙ subst (λ f. Holds held f line) none.1 holds)
+
 module _ {A : Type 0} where
   -- the same windows, out, line and flag make the same state
   pub same_state : (start input : List ℕ) (w : Traffic) (e : Engine A) (out held : List ℕ)
@@ -156,6 +162,34 @@ module _ {A : Type 0} where
       → Reads (bytes ++ line_feed ∷ []) w w e e2
   reads_line w e e1 e2 bytes held ends empty =
       reads_on bytes (line_feed ∷ []) w w w e e1 e2 held (reads_feed w e1 e2 ends empty)
+
+  -- it answers such a line where it stands
+  pub reads_in_place : (w : Traffic) (e e1 : Engine A) (bytes : List ℕ) → HasNoFeed bytes
+      → (e.line.items ≡ []) × (e.too_long ≡ false)
+      → Ends bytes false e.table e1.table e.out.items e1.out.items
+      → (e1.line.items ≡ e.line.items) × (e1.too_long ≡ e.too_long)
+      → Reads (bytes ++ line_feed ∷ []) w w e e1
+  reads_in_place w e e1 bytes plain none ends same start input read =
+      let held =
+      more_held read bytes false bytes plain
+      (λ line. in_place e.line.items bytes line e.too_long none) in
+      subst (λ xs. HasRead start xs w e1) (append_assoc input bytes (line_feed ∷ []))
+      (same_state start ((input ++ bytes) ++ line_feed ∷ []) w e1 _ _ _ _ refl refl
+      (same.0 ∙ none.0) (same.1 ∙ none.1) (line_ended held e1.table e1.out.items ends))
+
+  -- or stops there
+  pub stops_in_place : (w : Traffic) (e e1 : Engine A) (bytes : List ℕ) → HasNoFeed bytes
+      → (e.line.items ≡ []) × (e.too_long ≡ false) → MayEnd bytes false e.table e1.table
+      → e1.out.items ≡ e.out.items → Stops (bytes ++ line_feed ∷ []) w w e e1 Alloc
+  stops_in_place w e e1 bytes plain none may same_out start input more read =
+      let held =
+      more_held read bytes false bytes plain
+      (λ line. in_place e.line.items bytes line e.too_long none) in
+      subst (λ xs. IsBegun Alloc start xs w e1.out.items e1.table)
+      (append_assoc input bytes (line_feed ∷ more)
+      ∙ ap (λ xs. input ++ xs) (sym (append_assoc bytes (line_feed ∷ []) more)))
+      (subst (λ o. IsBegun Alloc start ((input ++ bytes) ++ (line_feed ∷ [] ++ more)) w o e1.table)
+      (sym same_out) (line_broken held e1.table more may))
 
   -- and then its replies go out, or a front of them
   pub reads_and_out : (bytes : List ℕ) (w w1 w' : Traffic) (e e1 e2 : Engine A)

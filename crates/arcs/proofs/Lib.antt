@@ -6,5 +6,6 @@ pub mod Splits
 pub mod States
 pub mod Underway
 pub mod Going
+pub mod Arguments
 pub mod Devices
 pub mod Rows

@@ -1,6 +1,6 @@
 -- What commands do to the windows as a whole, and what of it the table and the texts see.
-use Rattle.std.proofs.Common.{ℕ, List, Option, Some, None}
-use Rattle.std.proofs.Common.{ap, sym, ◌∙◌, subst}
+use Rattle.std.proofs.Common.{ℕ, Bool, List, Option, Some, None}
+use Rattle.std.proofs.Common.{ap, sym, ◌∙◌, subst, inr}
 use Rattle.std.proofs.lemmas.List.{append-nil}
 use Rattle.std.specs.Option.{option_map}
 use Rattle.arc_table.specs.RunOf.{RunOf}
@@ -11,7 +11,7 @@ use Rattle.arc_table.specs.State.{empty_state}
 use Rattle.arcs.specs.State.{ByteState}
 use Rattle.arcs.specs.State.{CarriesOutSaid, AnswersLine}
 use Rattle.arcs.specs.Traffic.{Traffic, Exchanges}
-use Rattle.arcs.specs.Underway.{IsThrough, IsBrokenOff}
+use Rattle.arcs.specs.Underway.{IsThrough, IsBrokenOff, Holds, Ends, MayEnd, AnswersInto}
 use Rattle.arc_table.specs.declared.command.Cmd.{Cmd}
 use Rattle.arc_table.specs.declared.command.Reply.{Reply}
 use Rattle.arcs.specs.declared.script.ScriptError.{ScriptError}
@@ -28,6 +28,31 @@ line_carried_out old None None new same line bad = (bad, same)
 line_carried_out old (Some c) (Some reply) new does line says = (seen_command c, says, does)
 line_carried_out old None (Some reply) new does line read = absurd does
 line_carried_out old (Some c) None new does line read = absurd does
+
+-- so the line that was held is answered, whichever it was
+pub line_ends : {A : Type 0} (held : List ℕ) (too_long : Bool) (old new : ByteState)
+    (said : Option (Cmd (Vec ℕ A))) (out out' : List ℕ)
+    → ((line : List ℕ) → Holds held too_long line → IsReadAs line said)
+    → AnswersInto (option_map seen_command said) old new out out'
+    → Ends held too_long old new out out'
+line_ends held too_long old new said out out' read into = record {
+  answer = into.answer;
+  answered = λ line holds.
+      line_carried_out old said into.answer new into.does line (read line holds);
+  appended = into.appended;
+}
+
+-- or it is answered, but not in out
+pub line_may_end : {A : Type 0} (held : List ℕ) (too_long : Bool) (old new : ByteState)
+    (said : Option (Cmd (Vec ℕ A)))
+    → ((line : List ℕ) → Holds held too_long line → IsReadAs line said)
+    → (answer : Option (Reply (List ℕ)))
+    × CarriesOutSaid old (option_map seen_command said) answer new
+    → MayEnd held too_long old new
+line_may_end held too_long old new said read does = inr (
+  does.0,
+  λ line holds. line_carried_out old said does.0 new does.1 line (read line holds),
+)
 
 -- the tables answer it so, too
 table_answers : (old : ByteState) (line : List ℕ) (answer : Option (Reply (List ℕ))) (new : ByteState)

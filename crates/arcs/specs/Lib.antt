@@ -8,4 +8,5 @@ pub mod Traffic
 pub mod Underway
 pub mod Engine
 pub mod Faults
+pub mod Arguments
 pub mod Program

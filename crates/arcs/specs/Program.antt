@@ -1,7 +1,8 @@
 -- What the program does with its words.
 use Rattle.std.specs.Prelude.{◌≡◌, ◌<◌, ℕ, List, [], ◌∷◌, map, Result, Ok, Err, MatchResult, String}
-use Rattle.std.specs.Prelude.{string_bytes, codes}
+use Rattle.std.specs.Prelude.{string_bytes, codes, ◌⊎◌}
 use Rattle.std.specs.declared.alloc.Global.{Global}
+use Rattle.arcs.specs.Arguments.{Answer, AreWords}
 use Rattle.arcs.specs.Script.{IsReplyText, BeginsReplyText}
 use Rattle.arcs.specs.Traffic.{Traffic, Exchanges, NoFault}
 use Rattle.arcs.specs.Faults.{IsCause}
@@ -37,3 +38,17 @@ pub record IsRun (reader reader' writer writer' : Traffic) (status : ℕ) : Type
   pub told : status ≡ status_of outcome
   pub run : MatchResult outcome
       (λ done. IsWhole reader reader' writer writer') (IsCut reader reader' writer writer')
+
+-- what the program does for these words
+pub record Runs (words : List (String Global)) (reader reader' writer writer' : Traffic)
+    (status : ℕ) : Type 0 where
+  pub arc : IsArc words → IsRun reader reader' writer writer' status
+  pub usage : ¬ IsArc words → (status ≡ 2) × (reader' ≡ reader) × (writer' ≡ writer)
+
+-- It does so for the words that it was given, or memory was refused for them, before anything was
+-- read or written.
+abbrev pub RunsGiven : (ℕ → Answer → Type 0) → Traffic → Traffic → Traffic → Traffic → ℕ → Type 0
+RunsGiven answers reader reader' writer writer' status =
+    ((words : List (String Global)) × AreWords answers (map string_bytes words)
+    × Runs words reader reader' writer writer' status)
+    ⊎ ((status ≡ 1) × (reader' ≡ reader) × (writer' ≡ writer))

@@ -7,10 +7,11 @@ use Rattle.arc_owners.specs.declared.count.tokens.Pass.{Pass}
 use Rattle.arc_owners.specs.declared.mark.Whole.{Whole}
 use Rattle.arc_table.specs.RunOf.{RunOf}
 use Rattle.arc_table.specs.State.{empty_state, EndsWith}
-use Rattle.arcs.specs.State.{AnswersLine, ByteState}
+use Rattle.arcs.specs.State.{AnswersLine, ByteState, CarriesOutSaid}
 use Rattle.arcs.specs.Text.{longest_line, line_feed}
 use Rattle.arcs.specs.Script.{AreLines, HasNoFeed, byte_setting, ended, answer_text}
 use Rattle.arcs.specs.Traffic.{Traffic}
+use Rattle.arc_table.specs.declared.command.Cmd.{Cmd}
 use Rattle.arc_table.specs.declared.command.Reply.{Reply}
 use Rattle.arcs.specs.declared.script.ScriptError.{ScriptError}
 use Rattle.arcs.specs.declared.script.ScriptError.TheVariants.{Read, Write, Alloc}
@@ -94,6 +95,13 @@ pub record IsBegun (fault : ScriptError) (start input : List ℕ) (writer : Traf
 abbrev pub AnswersHeld : List ℕ → Bool → ByteState → Option (Reply (List ℕ)) → ByteState → Type 0
 AnswersHeld held too_long old answer new =
     (line : List ℕ) → Holds held too_long line → AnswersLine old line answer new
+
+-- What a line was read as is carried out, and what it is answered stands in out too.
+pub record AnswersInto (said : Option (Cmd (List ℕ))) (old new : ByteState)
+    (out out' : List ℕ) : Type 0 where
+  pub answer : Option (Reply (List ℕ))
+  pub does : CarriesOutSaid old said answer new
+  pub appended : out' ≡ out ++ (answer_text answer ++ line_feed ∷ [])
 
 -- The line that was held is answered, in out too.
 pub record Ends (held : List ℕ) (too_long : Bool) (old new : ByteState)

@@ -1,17 +1,16 @@
 -- Writing at the end of a list.
 use Rattle.std.specs.Prelude.{◌≡◌, ℕ, List, [], ◌∷◌, ◌++◌, Option}
 use Rattle.std.specs.Option.{option_map}
-use Rattle.std.specs.declared.vec.Vec.{Vec}
 use Rattle.arc_table.specs.declared.command.Reply.{Reply}
 use Rattle.arcs.specs.Text.{line_feed}
 use Rattle.arcs.specs.Script.{answer_text}
-use Rattle.arc_table.specs.Seen.{seen_reply}
+use Rattle.arc_table.specs.Seen.{map_reply}
 
 -- new is old and something behind it
 pub record Extends (old new : List ℕ) : Type 0 where
   pub more : List ℕ
   pub is : new ≡ old ++ more
 
--- what a line is answered, with its line feed
-abbrev pub answer_line : {A : Type 0} → Option (Reply (Vec ℕ A)) → List ℕ
-answer_line answer = answer_text (option_map seen_reply answer) ++ line_feed ∷ []
+-- what a line is answered, with its line feed, where X holds items
+abbrev pub answer_line : {X : Type 0} → (X → List ℕ) → Option (Reply X) → List ℕ
+answer_line items answer = answer_text (option_map (map_reply items) answer) ++ line_feed ∷ []

@@ -131,7 +131,12 @@ fn is_digit(byte: u8) -> bool
 fn are_digits(word: &[u8]) -> bool
     ensures { result ≡ list_all is_hex_digit word.now }
 {
-    word.iter().all(|byte| is_digit(*byte))
+    // Each byte is tested, whatever stands before it, so that many are tested at once.
+    let mut all = true;
+    for byte in word {
+        all = all & is_digit(*byte);
+    }
+    all
 }
 
 /// What a hex digit stands for.

@@ -1,12 +1,16 @@
 //! The program: its words, its statuses, and its lines on standard error.
-ghost use Rattle.std.specs.Prelude.{◌≡◌, ◌↔◌, IsTrue, Err};
+ghost use Rattle.std.specs.Prelude.{◌≡◌, ◌↔◌, ◌⊎◌, ℕ, List, IsTrue, Err, IfOk, MatchOption};
+ghost use Rattle.std.specs.Prelude.{String, length, map, string_bytes};
+ghost use Rattle.std.specs.declared.alloc.Global.{Global};
+ghost use Rattle.std.specs.declared.env.FillError.TheVariants.{NotPresent};
+ghost use Rattle.arcs.specs.Arguments.{AreWords, IsTextOf, IsWord};
 ghost use Rattle.arcs.specs.Traffic.{Gives, GivesAll, Takes};
-ghost use Rattle.arcs.specs.Program.{IsArc, IsRun, status_of};
+ghost use Rattle.arcs.specs.Program.{IsArc, IsRun, RunsGiven, status_of};
 
-use crate::device::{Sink, Source};
+use crate::io::{Sink, Source};
 use crate::script::{ScriptError, ScriptLayout, run_script, write_out};
 use arc_owners::error::AllocError;
-use std::alloc::Allocator;
+use std::alloc::{Allocator, Global};
 use std::env::FillError;
 use std::rt::Env;
 use std::str;
@@ -14,6 +18,39 @@ use std::sync::Wait;
 
 /// How long a word of the program's may be, in bytes: each that it knows is shorter.
 const WORD: usize = 64;
+
+/// What a program was started with.
+pub trait Arguments {
+    ghost use Rattle.std.specs.Io.{WritesAtMost};
+    ghost use Rattle.arcs.specs.Arguments.{Answer, filled};
+
+    /// What may be answered for an argument: by its number, and the room that there is for it.
+    ghost answers: { Self → ℕ → ℕ → Answer → Type 0 };
+
+    /// Writes argument `i` to the front of `buf`, and answers its length.
+    ///
+    /// # Errors
+    ///
+    /// `NotPresent` behind the last argument, `TooLong` where it has no room in `buf`.
+    fn arg(&self, i: usize, buf: &mut [u8]) -> Result<usize, FillError>
+        ensures bound { WritesAtMost result buf.new }
+        ensures answer { answers self.now i (length buf.new) (filled result buf.new) };
+}
+
+/// The arguments that the system gives. Of them nothing is known: std's contract says no more than
+/// how long an answer is.
+#[derive(Clone, Copy)]
+pub struct OfSystem<'a, E> {
+    pub env: &'a E,
+}
+
+impl<E: Env> Arguments for OfSystem<'_, E> {
+    ghost answers = { λ _ i room answer. Unit {0} };
+
+    fn arg(&self, i: usize, buf: &mut [u8]) -> Result<usize, FillError> {
+        self.env.arg(i, buf)
+    }
+}
 
 /// The status that a fault ends with, and its line on standard error. A failed write of the line
 /// changes no status.
@@ -76,31 +113,64 @@ fn is_arc(words: &[String]) -> bool
 }
 
 /// The text of some bytes, empty where they are none.
-fn text_of(bytes: &[u8]) -> &str {
-    str::from_utf8(bytes).unwrap_or("")
+fn text_of(bytes: &[u8]) -> &str
+    ensures { IsTextOf bytes.now result.now }
+{
+    match str::from_utf8(bytes) {
+        Ok(text) => text,
+        Err(_) => "",
+    }
 }
 
-/// The word with this number, if there is one.
-fn word(rt: &(impl Env + AllocGlobal), i: usize) -> Result<Option<String>, AllocError> {
+/// The word of argument `i`, if there is one.
+fn word<G: Arguments>(given: &G, alloc: Global, i: usize) -> Result<Option<String>, AllocError>
+    ensures { IfOk result (λ found. MatchOption found
+        (G.answers given.now i WORD (Err NotPresent))
+        (λ word. IsWord (G.answers given.now i WORD) (string_bytes word))) }
+{
     let mut buf = [0u8; WORD];
-    let len = match rt.arg(i, &mut buf) {
-        Ok(len) => len,
-        Err(FillError::NotPresent) => return Ok(None),
-        Err(FillError::TooLong) => 0,
-    };
-    let word = String::from_str(rt.alloc(), text_of(&buf[..len]))?;
-    Ok(Some(word))
+    match given.arg(i, &mut buf) {
+        Ok(len) => Ok(Some(String::from_str(alloc, text_of(&buf[..len]))?)),
+        Err(FillError::TooLong) => Ok(Some(String::new(alloc))),
+        Err(FillError::NotPresent) => Ok(None),
+    }
 }
 
-/// The words behind the program's name. One that isn't text, or is longer than each word that the
-/// program knows, stands here as an empty word.
-pub fn words(rt: &(impl Env + AllocGlobal)) -> Result<Vec<String>, AllocError> {
-    let mut words = Vec::new(rt.alloc());
-    for i in 1..usize::MAX {
-        let Some(word) = word(rt, i)? else {
-            break;
+/// The words behind the program's name, each in its order. One that isn't text, or is longer than
+/// each word that the program knows, stands here as an empty word.
+pub fn words<G: Arguments>(given: &G, alloc: Global) -> Result<Vec<String>, AllocError>
+    ensures { IfOk result (λ words. AreWords (λ i. G.answers given.now i WORD)
+        (map string_bytes words.items)) }
+{
+    let mut words = Vec::new(alloc);
+    'words: for i in 1..usize::MAX {
+        let Some(word) = word(given, alloc, i)? else {
+            return Ok(words);
         };
         words.push(word)?;
     }
-    Ok(words)
+    unreachable!()
+}
+
+/// Runs the program on the words that it was given, as `run_args` says, and answers its status. 1
+/// where memory is refused for them; that is told to `faults` too.
+pub fn start<G: Arguments, R: Source, W: Sink, F: Sink>(
+    rt: &impl Wait,
+    alloc: Global,
+    given: &G,
+    reader: &mut R,
+    writer: &mut W,
+    faults: &mut F,
+) -> u8
+    ensures ran { RunsGiven (λ i. G.answers given.now i WORD) (R.traffic reader.old)
+        (R.traffic reader.new) (W.traffic writer.old) (W.traffic writer.new) result }
+    ensures given { Gives (R.traffic reader.old) (R.traffic reader.new)
+        (R.remaining reader.old) (R.remaining reader.new) }
+    ensures taken { Takes (W.traffic writer.old) (W.traffic writer.new)
+        (W.contents writer.old) (W.contents writer.new) }
+{
+    match words(given, alloc) {
+        Ok(words) => run_args(rt, alloc, &words, reader, writer, faults),
+        Err(_) => report(faults, ScriptError::Alloc),
+    }
 }

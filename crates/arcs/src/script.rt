@@ -1,16 +1,17 @@
 //! Running a script: lines from a reader, replies to a writer.
 ghost use Rattle.std.specs.Prelude.{◌≡◌, ◌<◌, ◌≤◌, ◌+◌, ◌++◌, ◌∷◌, List, ℕ, [], false, length};
 ghost use Rattle.std.specs.Prelude.{take, drop, OnOk, OnErr, IfOk, IfErr, IfSome, MatchOption};
-ghost use Rattle.std.specs.Prelude.{vec_len};
+ghost use Rattle.std.specs.Prelude.{Option, vec_len};
 ghost use Rattle.arcs.specs.Text.{line_feed};
 ghost use Rattle.arcs.specs.Script.{AreLines, BeginsReplyText, HasNoFeed, IsReplyText};
 ghost use Rattle.arc_block.specs.Owned.{IsKept};
 ghost use Rattle.arc_block.specs.declared.block.TheConstants.{MAX_OWNERS};
 ghost use Rattle.arcs.specs.State.{CarriesOutSaid};
 ghost use Rattle.arcs.specs.Script.{byte_setting};
-ghost use Rattle.arc_table.specs.Seen.{seen_command, seen_reply};
+ghost use Rattle.arc_table.specs.Seen.{seen_command};
+ghost use Rattle.arc_table.specs.declared.command.Reply.{Reply};
 ghost use Rattle.std.specs.Option.{option_map};
-ghost use Rattle.arcs.specs.Underway.{IsBrokenOff, IsThrough, ThenEnds};
+ghost use Rattle.arcs.specs.Underway.{AnswersInto, IsBrokenOff, IsThrough, ThenEnds};
 ghost use Rattle.std.specs.Io.KnownBytes.{IsAtEnd};
 ghost use Rattle.arcs.specs.Traffic.{Exchanges, Gives, GivesAll, NoFault, Takes, TakesFront};
 ghost use Rattle.arcs.specs.Traffic.{Traffic, faults};
@@ -18,7 +19,7 @@ ghost use Rattle.arcs.specs.Faults.{IsCause, IsWhy};
 ghost use Rattle.arcs.specs.declared.parse.TheConstants.{LONGEST_LINE};
 ghost use Rattle.arcs.specs.declared.script.ScriptError.TheVariants as script_error;
 
-use crate::device::{Sink, Source};
+use crate::io::{Sink, Source};
 use crate::parse::{LONGEST_LINE, parse};
 use crate::text::push_answer;
 use arc_block::layout::DefaultLayout;
@@ -90,17 +91,29 @@ pub fn write_out<W: Sink>(writer: &mut W, bytes: &[u8]) -> Result<(), ScriptErro
 /// The windows of a script, over bytes.
 type ByteTable<A> = Table<Plain<u8>, DefaultLayout, A>;
 
-/// Answers a line that was read: the command that it says is carried out, and a line that says none
-/// changes nothing.
+/// Carries out the command that a line was read as, and appends what it is answered; a line that says
+/// none changes nothing else. The items that a `show` is answered go from the window into the reply's
+/// text. `Err` where memory is refused for that text, of which nothing is left then.
 fn answer<A: Allocator + Copy>(
     table: &mut ByteTable<A>,
     rt: &impl Wait,
     said: Option<Cmd<Vec<u8, A>>>,
-) -> Option<Reply<Vec<u8, A>>>
-    ensures { CarriesOutSaid table.old (option_map seen_command said)
-        (option_map seen_reply result) table.new }
+    out: &mut Vec<u8, A>,
+) -> Result<(), AllocError>
+    ensures ok { OnOk result (AnswersInto (option_map seen_command said) table.old table.new
+        out.old.items out.new.items) }
+    ensures err { OnErr result (out.new.items ≡ out.old.items) }
+    ensures broken { OnErr result ((reply : Option (Reply (List ℕ)))
+        × CarriesOutSaid table.old (option_map seen_command said) reply table.new) }
 {
-    Some(table.step(rt, said?))
+    match said {
+        Some(Cmd::Show { window }) => push_answer(out, &Some(table.show_in_place(window))),
+        Some(command) => {
+            let reply = table.step(rt, command);
+            push_answer(out, &Some(reply))
+        }
+        None => push_answer(out, &None::<Reply<&[u8]>>),
+    }
 }
 
 /// A script that is being run: its windows, what has come of a line, and the replies that have not
@@ -154,7 +167,7 @@ impl<A: Allocator + Copy> Engine<A> {
         Ok(())
     }
 
-    /// Reads the line that has come.
+    /// Reads the line that is held.
     fn read_line(&self) -> Result<Option<Cmd<Vec<u8, A>>>, AllocError>
         ensures { IfOk result (λ said. (line : List ℕ)
             → Holds self.now.line.items self.now.too_long line → IsReadAs line said) }
@@ -165,7 +178,7 @@ impl<A: Allocator + Copy> Engine<A> {
         parse(self.alloc, &self.line)
     }
 
-    /// Answers the line that has come.
+    /// Answers the line that is held.
     fn end_line(&mut self, rt: &impl Wait) -> Result<(), AllocError>
         ensures ok { OnOk result
             (Ends self.old.line.items self.old.too_long self.old.table
@@ -177,10 +190,42 @@ impl<A: Allocator + Copy> Engine<A> {
             self.new.table) }
     {
         let said = self.read_line()?;
-        let answer = answer(&mut self.table, rt, said);
-        push_answer(&mut self.out, &answer)?;
+        answer(&mut self.table, rt, said, &mut self.out)?;
         self.line.clear();
         self.too_long = false;
+        Ok(())
+    }
+
+    /// Answers a line where it stands. Of the line that is held nothing changes.
+    fn answer_in_place(&mut self, rt: &impl Wait, line: &[u8]) -> Result<(), AllocError>
+        ensures ok { OnOk result (Ends line.now false self.old.table self.new.table
+            self.old.out.items self.new.out.items) }
+        ensures line { (self.new.line.items ≡ self.old.line.items)
+            × (self.new.too_long ≡ self.old.too_long) }
+        ensures err { OnErr result (self.new.out.items ≡ self.old.out.items) }
+        ensures broken { OnErr result (MayEnd line.now false self.old.table self.new.table) }
+    {
+        let said = parse(self.alloc, line)?;
+        answer(&mut self.table, rt, said, &mut self.out)
+    }
+
+    /// Takes the end of a line and its line feed, and answers the line: where it stands, if nothing
+    /// of it came before.
+    fn close_line(&mut self, rt: &impl Wait, bytes: &[u8]) -> Result<(), AllocError>
+        requires { HasNoFeed bytes.now }
+        ensures ok { OnOk result ((writer : Traffic)
+            → Reads (bytes.now ++ line_feed ∷ []) writer writer self.old self.new) }
+        ensures out { OnErr result (self.new.out.items ≡ self.old.out.items) }
+        ensures err { OnErr result ((writer : Traffic)
+            → Stops (bytes.now ++ line_feed ∷ []) writer writer self.old self.new
+            ScriptError.Alloc) }
+    {
+        if !self.too_long && self.line.is_empty() {
+            self.answer_in_place(rt, bytes)?;
+            return Ok(());
+        }
+        self.hold(bytes)?;
+        self.end_line(rt)?;
         Ok(())
     }
 
@@ -227,8 +272,7 @@ impl<A: Allocator + Copy> Engine<A> {
             (W.traffic writer.new) self.old self.new) }
         ensures fault { IfErr result (IsWhy (W.traffic writer.old) (W.traffic writer.new)) }
     {
-        self.hold(bytes)?;
-        self.end_line(rt)?;
+        self.close_line(rt, bytes)?;
         if self.out.len() >= PIECE {
             self.flush(writer)?;
         }

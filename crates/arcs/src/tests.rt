@@ -1,10 +1,11 @@
 //! Scripts and their replies, readers and writers that give or take little or fail, and the
 //! program's words and statuses.
 use super::*;
-use crate::program::run_args;
+use crate::program::{Arguments, run_args, start, words};
 use crate::script::{ScriptError, ScriptLayout, run_script};
 use linked_list_allocator::LocalHeap;
 use std::alloc::{AllocError, Allocator, Global};
+use std::env::FillError;
 use std::io;
 use std::io::{ErrorKind, Read, Write};
 use std::sync::Wait;
@@ -389,6 +390,83 @@ fn other_words(rt: HostRuntime) -> Result<(), Fail> {
     Ok(())
 }
 
+/// Arguments, the program's name first.
+#[derive(Clone, Copy)]
+struct Given<'a> {
+    arguments: &'a [&'a [u8]],
+}
+
+impl Arguments for Given<'_> {
+    ghost answers = { λ _ i room answer. Unit {0} };
+
+    fn arg(&self, i: usize, buf: &mut [u8]) -> Result<usize, FillError> {
+        let Some(argument) = self.arguments.get(i) else {
+            return Err(FillError::NotPresent);
+        };
+        if argument.len() > buf.len() {
+            return Err(FillError::TooLong);
+        }
+        buf[..argument.len()].copy_from_slice(argument);
+        Ok(argument.len())
+    }
+}
+
+/// A word that isn't text, or of which only the end isn't, and one of 65 bytes are empty words.
+#[test]
+fn words_of_arguments(rt: HostRuntime) -> Result<(), Fail> {
+    let long = [b'a'; 65];
+    let given = Given {
+        arguments: &[
+            b"arcs",
+            b"arc",
+            b"\xff",
+            b"arc\xc3",
+            &long,
+            b"",
+            b"caf\xc3\xa9",
+        ],
+    };
+    let read = words(&given, rt.alloc())?;
+    assert_eq!(rt; read.len(), 6);
+    for (word, wanted) in read.iter().zip(["arc", "", "", "", "", "café"]) {
+        assert_eq!(rt; word.as_str(), wanted);
+    }
+    let none = words(
+        &Given {
+            arguments: &[b"arcs"],
+        },
+        rt.alloc(),
+    )?;
+    assert!(rt; none.is_empty());
+    Ok(())
+}
+
+/// The program by its arguments: `arc` runs the script, and anything else is told the usage.
+#[test]
+fn started(rt: HostRuntime) -> Result<(), Fail> {
+    for (arguments, wanted, replies) in [
+        ([b"arcs".as_slice(), b"arc"], 0, HELLO_REPLIES),
+        ([b"arcs".as_slice(), b"arc\xff"], 2, b"".as_slice()),
+    ] {
+        let mut input = Pieces::new(HELLO, usize::MAX);
+        let mut output = Taken::new(rt.alloc(), usize::MAX);
+        let mut told = Taken::new(rt.alloc(), usize::MAX);
+        let status = start(
+            &rt,
+            rt.alloc(),
+            &Given {
+                arguments: &arguments,
+            },
+            &mut Counted::new(&mut input),
+            &mut Counted::new(&mut output),
+            &mut Counted::new(&mut told),
+        );
+        assert_eq!(rt; status, wanted);
+        assert_eq!(rt; output.bytes.as_slice(), replies);
+    }
+    Ok(())
+}
+
 #[test]
 fn statuses(rt: HostRuntime) -> Result<(), Fail> {
     for (read_fails, write_fails, wanted, told, replies) in [
@@ -541,8 +619,8 @@ fn line_refused(rt: HostRuntime) -> Result<(), Fail> {
     Ok(())
 }
 
-/// One piece of input, in the midst of which memory is refused: for a line, for its items, and for
-/// the reply to it. The replies to the lines before come out.
+/// One piece of input, in the midst of which memory is refused: for a line that isn't whole in it,
+/// for the items of one that is, and for the reply to one. The replies to the lines before come out.
 #[test]
 fn refused_in_a_piece(rt: HostRuntime) -> Result<(), Fail> {
     let mut line = Vec::from_slice(rt.alloc(), HELLO)?;
@@ -554,8 +632,8 @@ fn refused_in_a_piece(rt: HostRuntime) -> Result<(), Fail> {
     reply.extend_from_slice(b"show 0\n")?;
     for (script, size, replies) in [
         (line, 80_000, HELLO_REPLIES),
-        (items, 90_000, HELLO_REPLIES),
-        (reply, 122_000, b"h0\n".as_slice()),
+        (items, 72_000, HELLO_REPLIES),
+        (reply, 90_000, b"h0\n".as_slice()),
     ] {
         let heap = LocalHeap::new(rt.alloc(), size)?;
         let mut reader = Pieces::new(&script, usize::MAX);

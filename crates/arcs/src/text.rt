@@ -1,13 +1,14 @@
 //! Writing what lines are answered.
-ghost use Rattle.std.specs.Prelude.{◌≡◌, ◌++◌, ◌<◌, decimal, OnErr, OnOk};
+ghost use Rattle.std.specs.Prelude.{◌≡◌, ◌++◌, ◌<◌, ◌*◌, decimal, length, OnErr, OnOk};
 ghost use Rattle.arcs.specs.Text.{hex, hex_digit, items_word, owner_text, range_text, reply_text};
-ghost use Rattle.arc_table.specs.Seen.{seen_reply};
+ghost use Rattle.arc_table.specs.Seen.{map_reply};
 ghost use Rattle.arcs.specs.Writing.{Extends, answer_line};
 
 use arc_owners::error::{AllocError, OwnerError, RangeError};
 use arc_table::command::Reply;
 use itoa::Buffer;
 use std::alloc::Allocator;
+use std::convert::AsSlice;
 
 /// The hex digit of a number below 16.
 fn digit_of(number: u8) -> u8
@@ -51,16 +52,27 @@ fn push_number<A: Allocator>(out: &mut Vec<u8, A>, number: usize) -> Result<(), 
     Ok(())
 }
 
+/// Writes two hex digits an item.
+fn write_hex(items: &[u8], out: &mut [u8])
+    requires { length out.old ≡ 2 * length items.now }
+    ensures { out.new ≡ hex items.now }
+{
+    'items: for i in 0..items.len() {
+        let item = items[i];
+        out[2 * i] = digit_of(item / 16);
+        out[2 * i + 1] = digit_of(item % 16);
+    }
+}
+
 /// Appends two hex digits an item. Room for all of them is asked for at once.
 fn push_hex<A: Allocator>(out: &mut Vec<u8, A>, items: &[u8]) -> Result<(), AllocError>
     ensures ok { OnOk result (out.new.items ≡ out.old.items ++ hex items.now) }
     ensures err { OnErr result (Extends out.old.items out.new.items) }
 {
+    let len = out.len();
     out.reserve(2 * items.len())?;
-    for item in items {
-        out.push_reserved(digit_of(item / 16));
-        out.push_reserved(digit_of(item % 16));
-    }
+    out.resize(len + 2 * items.len(), 0)?;
+    write_hex(items, &mut out[len..]);
     Ok(())
 }
 
@@ -77,11 +89,12 @@ fn push_items<A: Allocator>(out: &mut Vec<u8, A>, items: &[u8]) -> Result<(), Al
 }
 
 /// Appends the text of a reply. An `Err` may leave a part of it.
-fn push_reply<A: Allocator>(
+fn push_reply<A: Allocator, X: AsSlice<u8>>(
     out: &mut Vec<u8, A>,
-    reply: &Reply<Vec<u8, A>>,
+    reply: &Reply<X>,
 ) -> Result<(), AllocError>
-    ensures ok { OnOk result (out.new.items ≡ out.old.items ++ reply_text (seen_reply reply.now)) }
+    ensures ok { OnOk result
+        (out.new.items ≡ out.old.items ++ reply_text (map_reply X.items reply.now)) }
     ensures err { OnErr result (Extends out.old.items out.new.items) }
 {
     match reply {
@@ -92,7 +105,7 @@ fn push_reply<A: Allocator>(
         Reply::Ok => out.extend_from_slice(b"ok")?,
         Reply::Yes => out.extend_from_slice(b"yes")?,
         Reply::No => out.extend_from_slice(b"no")?,
-        Reply::Items(items) => push_items(out, items)?,
+        Reply::Items(items) => push_items(out, items.as_slice())?,
         Reply::Number(number) => push_number(out, *number)?,
         Reply::NoWindow => out.extend_from_slice(b"no window")?,
         Reply::Kind => out.extend_from_slice(b"kind")?,
@@ -104,11 +117,11 @@ fn push_reply<A: Allocator>(
 }
 
 /// Appends what a line is answered. An `Err` may leave a part of it.
-fn push_line<A: Allocator>(
+fn push_line<A: Allocator, X: AsSlice<u8>>(
     out: &mut Vec<u8, A>,
-    answer: &Option<Reply<Vec<u8, A>>>,
+    answer: &Option<Reply<X>>,
 ) -> Result<(), AllocError>
-    ensures ok { OnOk result (out.new.items ≡ out.old.items ++ answer_line answer.now) }
+    ensures ok { OnOk result (out.new.items ≡ out.old.items ++ answer_line X.items answer.now) }
     ensures err { OnErr result (Extends out.old.items out.new.items) }
 {
     match answer {
@@ -122,11 +135,11 @@ fn push_line<A: Allocator>(
 /// Appends what a line is answered, with its line feed: the text of the reply, or `bad line` for
 /// `None` (`answer_text` in `specs/`). Items take two bytes each. Takes memory where `out` has no
 /// room: `Err` where that is refused, and `out` then has the bytes that it had.
-pub fn push_answer<A: Allocator>(
+pub fn push_answer<A: Allocator, X: AsSlice<u8>>(
     out: &mut Vec<u8, A>,
-    answer: &Option<Reply<Vec<u8, A>>>,
+    answer: &Option<Reply<X>>,
 ) -> Result<(), AllocError>
-    ensures ok { OnOk result (out.new.items ≡ out.old.items ++ answer_line answer.now) }
+    ensures ok { OnOk result (out.new.items ≡ out.old.items ++ answer_line X.items answer.now) }
     ensures err { OnErr result (out.new.items ≡ out.old.items) }
 {
     let len = out.len();

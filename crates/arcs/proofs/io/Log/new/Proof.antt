@@ -12,10 +12,10 @@ use denote.Triple.Entry.{alive}
 use denote.Triple.Walked.{walk_of, says, ends_at}
 use Rattle.arcs.proofs.Empty.{no_fields, made_of_nothing}
 use Rattle.arcs.specs.Traffic.{no_traffic}
-use Rattle.arcs.specs.contracts.log.Log as Log
-use Rattle.arcs.specs.contracts.log.Log.new as f
-use Rattle.arcs.proofs.log.Log.new.Statement.{statement}
-use Rattle.arcs.proofs.log.Log.new.Code as code
+use Rattle.arcs.specs.contracts.io.Log as Log
+use Rattle.arcs.specs.contracts.io.Log.new as f
+use Rattle.arcs.proofs.io.Log.new.Statement.{statement}
+use Rattle.arcs.proofs.io.Log.new.Code as code
 
 pub new_spec : {M : Type 1} → statement M
 new_spec 𝓤 𝓛 𝓜 𝓡 wired =

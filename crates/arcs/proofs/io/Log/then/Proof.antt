@@ -17,11 +17,11 @@ use denote.Triple.Entry.{alive}
 use denote.Triple.Walked.{Stays, stay_dropped, Goes-dropped, walk_of, says, ends_at}
 use Rattle.arcs.proofs.Empty.{no_fields, made_of_nothing}
 use Rattle.arcs.specs.Traffic.{after_call}
-use Rattle.arcs.specs.contracts.log.Log as Log
-use Rattle.arcs.specs.contracts.log.Call as Call
-use Rattle.arcs.specs.contracts.log.Log.then as f
-use Rattle.arcs.proofs.log.Log.then.Statement.{statement}
-use Rattle.arcs.proofs.log.Log.then.Code as code
+use Rattle.arcs.specs.contracts.io.Log as Log
+use Rattle.arcs.specs.contracts.io.Call as Call
+use Rattle.arcs.specs.contracts.io.Log.then as f
+use Rattle.arcs.proofs.io.Log.then.Statement.{statement}
+use Rattle.arcs.proofs.io.Log.then.Code as code
 
 abbrev stayed : Stays f.ended.signature.params f.ended.kept
 stayed = (stay_dropped _ yes, (stay_dropped _ yes, tt))

@@ -1,10 +1,10 @@
 //! Readers and writers that tell what passed.
 ghost use Rattle.std.specs.Prelude.{◌≡◌, ◌≤◌, ℕ, List, Option, length, IfOk};
+ghost use Rattle.std.specs.Borrow.{ftrue};
 ghost use Rattle.std.specs.Io.KnownBytes.{ReadConsumes, WriteAppends};
 ghost use Rattle.std.specs.Result.{result_ok};
-ghost use Rattle.arcs.specs.Traffic.{WithTraffic, no_traffic};
+ghost use Rattle.arcs.specs.Traffic.{Traffic, WithTraffic, after_call, no_traffic};
 
-use crate::log::{Call, Log};
 use std::io;
 use std::io::{Read, Write};
 use std::marker::Model;
@@ -12,8 +12,6 @@ use std::marker::Model;
 /// What gives a script its bytes: std's `read`, which tells its bytes and counts its failures and
 /// the ends it found.
 pub trait Source {
-    ghost use Rattle.arcs.specs.Traffic.{Traffic, after_call};
-
     /// What its reads have given so far.
     ghost traffic: { Self → Traffic };
 
@@ -31,8 +29,6 @@ pub trait Source {
 /// What takes a script's replies: std's `write`, which tells its bytes and counts its failures and
 /// the writes that took nothing.
 pub trait Sink {
-    ghost use Rattle.arcs.specs.Traffic.{Traffic, after_call};
-
     /// What its writes have taken so far.
     ghost traffic: { Self → Traffic };
 
@@ -44,6 +40,40 @@ pub trait Sink {
         ensures bound { IfOk result (λ n. n ≤ length buf.now) }
         ensures told { traffic self.new ≡ after_call (traffic self.old) buf.now (result_ok result) }
         ensures bytes { WriteAppends (contents self.old) (contents self.new) result buf.now };
+}
+
+/// A call: the slice, and how many of its first bytes passed, `None` where the call failed.
+#[derive(Clone, Copy)]
+pub struct Call<'a> {
+    pub slice: &'a [u8],
+    pub passed: Option<usize>,
+}
+
+/// All the calls so far. It has no bytes, and its methods do nothing at run time.
+#[derive(Drop)]
+pub struct Log {
+    pub ghost traffic: { Traffic },
+}
+
+impl Model for Log {
+    ghost also_owns = { λ _. ftrue };
+}
+
+impl Log {
+    /// No call yet.
+    pub fn new() -> Log
+        ensures { result.traffic ≡ no_traffic }
+    {
+        Log {}
+    }
+
+    /// The calls so far, and then this one.
+    pub fn then(&self, _call: &Call) -> Log
+        ensures { result.traffic
+            ≡ after_call self.now.traffic _call.now.slice.now _call.now.passed }
+    {
+        Log {}
+    }
 }
 
 /// A reader or a writer of std's, with what it has told.
