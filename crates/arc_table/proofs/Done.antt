@@ -49,11 +49,12 @@ done : {T : Type 0} {setting : Setting T} {old : State T} {c : Cmd (List T)}
     → Step setting old.table c r (state_of slots passes).table
     → Adds old.table old.standing c r (state_of slots passes).standing
     → Done setting old c r slots passes
-done {setting = setting} {old = old} {c = c} {r = r} {slots = slots} {passes = passes} agree kept rows adds = record {
-  kept = (kept, step_agrees setting old.table c r (state_of slots passes).table rows agree);
-  rows = rows;
-  passes_are = adds;
-}
+done {setting = setting} {old = old} {c = c} {r = r} {slots = slots} {passes = passes} agree kept
+    rows adds = record {
+      kept = (kept, step_agrees setting old.table c r (state_of slots passes).table rows agree);
+      rows = rows;
+      passes_are = adds;
+    }
 
 module _ {T : Type 0} (setting : Setting T) (slots : List (Option (SlotView T)))
     (passes : List (Pass Whole)) (i : ℕ) (s : SlotView T)
@@ -95,8 +96,10 @@ module _ {T : Type 0} (setting : Setting T) (slots : List (Option (SlotView T)))
       → slots' ≡ slots → Done setting old c (reply.Owner e) slots' passes'
   unmade r rows answers adds e why same =
       done fact.1
-      (kept-unmade slots passes i s there fact.0 passes' slots' same setting.clone_wants r.place e why)
-      (refused-step slots passes i s there fact.0 passes' setting c r.place rows answers e slots' why same)
+      (kept-unmade slots passes i s there fact.0 passes' slots' same setting.clone_wants r.place e
+      why)
+      (refused-step slots passes i s there fact.0 passes' setting c r.place rows answers e slots'
+      why same)
       (adds e (refused-added slots passes i s there slots' passes' setting.clone_wants r.place e
       same why))
 

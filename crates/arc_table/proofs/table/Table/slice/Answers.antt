@@ -1,6 +1,7 @@
 -- The window stands on nothing, or as the first owner on a new block, whose pass is the one that
 -- was given.
-use Rattle.std.proofs.Common.{◌&&◌, ◌==◌, true, false, Some, [], ◌∷◌, length, refl, ap, sym, ◌∙◌, subst}
+use Rattle.std.proofs.Common.{◌&&◌, ◌==◌, true, false, Some, [], ◌∷◌, length, refl, ap, sym, ◌∙◌}
+use Rattle.std.proofs.Common.{subst}
 use Rattle.arc_table.specs.Additions.{Adds}
 use Rattle.arc_table.specs.State.{State, state_of}
 use Rattle.arc_table.specs.declared.command.Cmd.TheVariants as command
