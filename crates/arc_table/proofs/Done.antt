@@ -10,6 +10,7 @@ use Rattle.arc_block.specs.declared.block.TheConstants.{MAX_OWNERS}
 use Rattle.arc_block.specs.Owned.{IsKept}
 use Rattle.arc_block.specs.Table.{Row}
 use Rattle.arc_table.specs.Additions.{Standing, Adds, Joins, Enters, refused}
+use Rattle.arc_table.specs.Blocks.{RowsAgree}
 use Rattle.arc_table.specs.Calls.{Along, Beside, RefusesAt}
 use Rattle.arc_table.specs.Slots.{SlotView, row_of, stand_of, stands_of}
 use Rattle.arc_table.specs.State.{State, state_of}
@@ -19,6 +20,7 @@ use Rattle.arc_table.specs.declared.command.Cmd.{Cmd}
 use Rattle.arc_table.specs.declared.command.Cmd.TheVariants as command
 use Rattle.arc_table.specs.declared.command.Reply.{Reply}
 use Rattle.arc_table.specs.declared.command.Reply.TheVariants as reply
+use Rattle.arc_table.proofs.Blocks.{step_agrees}
 use Rattle.arc_table.proofs.Kept.{Ended, kept-asked-along}
 use Rattle.arc_table.proofs.Rows.{asks}
 use Rattle.arc_table.proofs.Tables.{rows-more, makes-step, refused-step, kept-made, kept-unmade}
@@ -28,16 +30,35 @@ use Rattle.arc_table.proofs.Tables.{changed-added}
 use Rattle.arc_table.proofs.Added.{joins-added, refused-added, stays-added, goes-added}
 use Rattle.arc_table.proofs.Added.{asked-added, end-added}
 
+-- the fact of the type
+abbrev pub Fact : {T : Type 0} → List (Option (SlotView T)) → List (Pass Whole) → Type 0
+Fact slots passes = IsKept MAX_OWNERS (stands_of slots) passes
+    × RowsAgree (state_of slots passes).table
+
 pub record Done {T : Type 0} (setting : Setting T) (old : State T) (c : Cmd (List T))
     (r : Reply (List T)) (slots : List (Option (SlotView T))) (passes : List (Pass Whole))
     : Type 0 where
-  pub kept : IsKept MAX_OWNERS (stands_of slots) passes
+  pub kept : Fact slots passes
   pub rows : Step setting old.table c r (state_of slots passes).table
   pub passes_are : Adds old.table old.standing c r (state_of slots passes).standing
 
+-- the fact of the type follows of the owners, and of the step
+done : {T : Type 0} {setting : Setting T} {old : State T} {c : Cmd (List T)}
+    {r : Reply (List T)} {slots : List (Option (SlotView T))} {passes : List (Pass Whole)}
+    → RowsAgree old.table → IsKept MAX_OWNERS (stands_of slots) passes
+    → Step setting old.table c r (state_of slots passes).table
+    → Adds old.table old.standing c r (state_of slots passes).standing
+    → Done setting old c r slots passes
+done {setting = setting} {old = old} {c = c} {r = r} {slots = slots} {passes = passes} agree kept
+    rows adds = record {
+      kept = (kept, step_agrees setting old.table c r (state_of slots passes).table rows agree);
+      rows = rows;
+      passes_are = adds;
+    }
+
 module _ {T : Type 0} (setting : Setting T) (slots : List (Option (SlotView T)))
     (passes : List (Pass Whole)) (i : ℕ) (s : SlotView T)
-    (there : slice_get slots i ≡ Some (Some s)) (k : IsKept MAX_OWNERS (stands_of slots) passes)
+    (there : slice_get slots i ≡ Some (Some s)) (fact : Fact slots passes)
     (c : Cmd (List T)) (slots' : List (Option (SlotView T))) (passes' : List (Pass Whole)) where
   abbrev old : State T
   old = state_of slots passes
@@ -55,16 +76,14 @@ module _ {T : Type 0} (setting : Setting T) (slots : List (Option (SlotView T)))
       → Beside (stand_of (Some s)) passes passes' (stand_of (Some made))
       → slots' ≡ slots ++ Some made ∷ [] → number ≡ length slots
       → Done setting old c (reply.New number) slots' passes'
-  joined r answers adds made number row joins more counted = record {
-    kept = kept-made slots passes i s there k passes' made slots' more joins;
-    rows =
-        makes-step slots passes i s there k passes' setting c r.place
-        (old.table.rows ++ Some r ∷ []) answers made slots' number
-        (ap (λ (x : Row T (Unit {0})). x.place) (sym row)) joins
-        (rows-more slots passes i s there made r slots' row more) counted;
-    passes_are =
-        adds number (joins-added slots passes i s there slots' passes' made more joins);
-  }
+  joined r answers adds made number row joins more counted =
+      done fact.1
+      (kept-made slots passes i s there fact.0 passes' made slots' more joins)
+      (makes-step slots passes i s there fact.0 passes' setting c r.place
+      (old.table.rows ++ Some r ∷ []) answers made slots' number
+      (ap (λ (x : Row T (Unit {0})). x.place) (sym row)) joins
+      (rows-more slots passes i s there made r slots' row more) counted)
+      (adds number (joins-added slots passes i s there slots' passes' made more joins))
 
   -- the call refused it
   pub unmade : (r : Row T (Unit {0})) (rows : List (Option (Row T (Unit {0}))))
@@ -75,15 +94,14 @@ module _ {T : Type 0} (setting : Setting T) (slots : List (Option (SlotView T)))
       → (e : OwnerError)
       → RefusesAt setting.clone_wants r.place (stand_of (Some s)) passes passes' e
       → slots' ≡ slots → Done setting old c (reply.Owner e) slots' passes'
-  unmade r rows answers adds e why same = record {
-    kept =
-        kept-unmade slots passes i s there k passes' slots' same setting.clone_wants r.place e why;
-    rows =
-        refused-step slots passes i s there k passes' setting c r.place rows answers e slots' why same;
-    passes_are =
-        adds e (refused-added slots passes i s there slots' passes' setting.clone_wants r.place e
-        same why);
-  }
+  unmade r rows answers adds e why same =
+      done fact.1
+      (kept-unmade slots passes i s there fact.0 passes' slots' same setting.clone_wants r.place e
+      why)
+      (refused-step slots passes i s there fact.0 passes' setting c r.place rows answers e slots'
+      why same)
+      (adds e (refused-added slots passes i s there slots' passes' setting.clone_wants r.place e
+      same why))
 
   -- the window was split in two
   module _ (out : Bool) (cut part : Row T (Unit {0}))
@@ -99,40 +117,36 @@ module _ {T : Type 0} (setting : Setting T) (slots : List (Option (SlotView T)))
     pub handed-out : out ≡ true
         → IsSplit s handed kept (row_of s) part passes passes'
         → Done setting old c (reply.New number) slots' passes'
-    handed-out is h = record {
-      kept = kept-goes slots passes i s there k passes' kept handed slots' more h.owner h.added;
-      rows =
-          makes-step slots passes i s there k passes' setting c part.place
-          (split_rows old.table i out (row_of s) cut part) answers kept slots' number
-          (ap (λ (x : Row T (Unit {0})). x.place) (sym h.made_is)) h.added
-          (split-rows-are slots passes i s there k passes' kept handed slots' more out (row_of s)
-          cut part (ap (λ b. if b then part else cut) is ∙ sym h.made_is)
-          (ap (λ b. if b then row_of s else part) is ∙ sym h.same_is)) counted;
-      passes_are =
-          adds number (goes-added slots passes i s there slots' passes' kept handed more out is
-          h.owner h.added);
-    }
+    handed-out is h =
+        done fact.1
+        (kept-goes slots passes i s there fact.0 passes' kept handed slots' more h.owner h.added)
+        (makes-step slots passes i s there fact.0 passes' setting c part.place
+        (split_rows old.table i out (row_of s) cut part) answers kept slots' number
+        (ap (λ (x : Row T (Unit {0})). x.place) (sym h.made_is)) h.added
+        (split-rows-are slots passes i s there fact.0 passes' kept handed slots' more out (row_of s)
+        cut part (ap (λ b. if b then part else cut) is ∙ sym h.made_is)
+        (ap (λ b. if b then row_of s else part) is ∙ sym h.same_is)) counted)
+        (adds number (goes-added slots passes i s there slots' passes' kept handed more out is
+        h.owner h.added))
 
     -- and a part of it
     pub part-out : out ≡ false → IsSplit s kept handed cut part passes passes'
         → Done setting old c (reply.New number) slots' passes'
-    part-out is h = record {
-      kept = kept-stays slots passes i s there k passes' kept handed slots' more h.owner h.added;
-      rows =
-          makes-step slots passes i s there k passes' setting c part.place
-          (split_rows old.table i out (row_of s) cut part) answers handed slots' number
-          (ap (λ (x : Row T (Unit {0})). x.place) (sym h.made_is)) h.added
-          (split-rows-are slots passes i s there k passes' kept handed slots' more out (row_of s)
-          cut part (ap (λ b. if b then part else cut) is ∙ sym h.same_is)
-          (ap (λ b. if b then row_of s else part) is ∙ sym h.made_is)) counted;
-      passes_are =
-          adds number (stays-added slots passes i s there slots' passes' kept handed more out is
-          h.owner h.added);
-    }
+    part-out is h =
+        done fact.1
+        (kept-stays slots passes i s there fact.0 passes' kept handed slots' more h.owner h.added)
+        (makes-step slots passes i s there fact.0 passes' setting c part.place
+        (split_rows old.table i out (row_of s) cut part) answers handed slots' number
+        (ap (λ (x : Row T (Unit {0})). x.place) (sym h.made_is)) h.added
+        (split-rows-are slots passes i s there fact.0 passes' kept handed slots' more out (row_of s)
+        cut part (ap (λ b. if b then part else cut) is ∙ sym h.same_is)
+        (ap (λ b. if b then row_of s else part) is ∙ sym h.made_is)) counted)
+        (adds number (stays-added slots passes i s there slots' passes' kept handed more out is
+        h.owner h.added))
 
 module _ {T : Type 0} (setting : Setting T) (slots : List (Option (SlotView T)))
     (passes : List (Pass Whole)) (i : ℕ) (s : SlotView T)
-    (there : slice_get slots i ≡ Some (Some s)) (k : IsKept MAX_OWNERS (stands_of slots) passes)
+    (there : slice_get slots i ≡ Some (Some s)) (fact : Fact slots passes)
   where
     abbrev t : State T
     t = state_of slots passes
@@ -142,30 +156,28 @@ module _ {T : Type 0} (setting : Setting T) (slots : List (Option (SlotView T)))
         → Along (stand_of (Some s)) passes passes' (λ o p q. Asks o p q found)
         → (stand_of (Some s) ≡ None → found ≡ false)
         → Done setting t (command.Uniq i) (if found then reply.Yes else reply.No) slots passes'
-    asked passes' true along nowhere_no = record {
-      kept =
-          kept-asked-along i k passes' true (stand_of (Some s))
-          (stand-there slots passes i s there) along;
-      rows = asked-row slots passes i s there k passes' setting true slots along nowhere_no refl;
-      passes_are = asked-added slots passes i s there slots passes' true refl along;
-    }
-    asked passes' false along nowhere_no = record {
-      kept =
-          kept-asked-along i k passes' false (stand_of (Some s))
-          (stand-there slots passes i s there) along;
-      rows = asked-row slots passes i s there k passes' setting false slots along nowhere_no refl;
-      passes_are = asked-added slots passes i s there slots passes' false refl along;
-    }
+    asked passes' true along nowhere_no =
+        done fact.1
+        (kept-asked-along i fact.0 passes' true (stand_of (Some s))
+        (stand-there slots passes i s there) along)
+        (asked-row slots passes i s there fact.0 passes' setting true slots along nowhere_no refl)
+        (asked-added slots passes i s there slots passes' true refl along)
+    asked passes' false along nowhere_no =
+        done fact.1
+        (kept-asked-along i fact.0 passes' false (stand_of (Some s))
+        (stand-there slots passes i s there) along)
+        (asked-row slots passes i s there fact.0 passes' setting false slots along nowhere_no refl)
+        (asked-added slots passes i s there slots passes' false refl along)
 
     -- the window ended
     pub dropped : (slots' : List (Option (SlotView T))) (passes' : List (Pass Whole))
         → slots' ≡ slice_set slots i None → Along (stand_of (Some s)) passes passes' Ended
         → Done setting t (command.Drop i) reply.Ok slots' passes'
-    dropped slots' passes' set along = record {
-      kept = kept-dropped slots passes i s there k passes' slots' set along;
-      rows = dropped-row slots passes i s there k passes' setting slots' along set;
-      passes_are = end-added slots passes i s there slots' passes' set along;
-    }
+    dropped slots' passes' set along =
+        done fact.1
+        (kept-dropped slots passes i s there fact.0 passes' slots' set along)
+        (dropped-row slots passes i s there fact.0 passes' setting slots' along set)
+        (end-added slots passes i s there slots' passes' set along)
 
     -- the window has become a part of itself
     pub become : (c : Cmd (List T)) (s' : SlotView T) (part : Row T (Unit {0}))
@@ -173,10 +185,9 @@ module _ {T : Type 0} (setting : Setting T) (slots : List (Option (SlotView T)))
         → ((new : Standing Whole) → new ≡ t.standing → Adds t.table t.standing c reply.Ok new)
         → stand_of (Some s') ≡ stand_of (Some s) → row_of s' ≡ part
         → Done setting t c reply.Ok (slice_set slots i (Some s')) passes
-    become c s' part answers adds same row = record {
-      kept = kept-changed slots passes i s there s' same k;
-      rows = answers ∙ changed-row slots passes i s there s' same part row;
-      passes_are =
-          adds (state_of (slice_set slots i (Some s')) passes).standing
-          (changed-added slots passes i s there s' same);
-    }
+    become c s' part answers adds same row =
+        done fact.1
+        (kept-changed slots passes i s there s' same fact.0)
+        (answers ∙ changed-row slots passes i s there s' same part row)
+        (adds (state_of (slice_set slots i (Some s')) passes).standing
+        (changed-added slots passes i s there s' same))

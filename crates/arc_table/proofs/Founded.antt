@@ -1,5 +1,6 @@
 -- A window that was made of a list: on nothing, or as the first owner of a new block.
-use Rattle.std.proofs.Common.{◌≡◌, ℕ, ◌&&◌, ◌==◌, Bool, true, false, if◌then◌else◌, List, [], ◌∷◌}
+use Rattle.std.proofs.Common.{map, ◌+◌, ◌≡◌, ℕ, ◌&&◌, ◌==◌, Bool, true, false, if◌then◌else◌, List}
+use Rattle.std.proofs.Common.{[], ◌∷◌}
 use Rattle.std.proofs.Common.{◌++◌}
 use Rattle.std.proofs.Common.{length, Option, Some, None, refl, sym, ap, ◌∙◌, subst}
 use Rattle.std.proofs.lemmas.List.{map-append}
@@ -13,6 +14,17 @@ use Rattle.arc_block.specs.Place.{Place, nowhere, static_data, on_block, at_owne
 use Rattle.arc_block.proofs.Owned.{kept-new, kept-nowhere}
 use Rattle.arc_read.specs.Steps.{Makes, Begins}
 use Rattle.arc_read.specs.Window.{Window}
+use Rattle.std.specs.Option.{option_map, option_map_or}
+use Rattle.arc_block.specs.Block.{BlockInfo}
+use Rattle.arc_block.specs.Place.{moved}
+use Rattle.arc_block.specs.Table.{Row, block_of, reader}
+use Rattle.arc_table.specs.Blocks.{RowsAgree}
+use Rattle.arc_table.specs.Step.{Setting, Step}
+use Rattle.arc_table.specs.Slots.{row_of}
+use Rattle.arc_table.specs.Stands.{numbered}
+use Rattle.arc_table.specs.declared.command.Cmd.TheVariants as command
+use Rattle.arc_table.specs.declared.command.Reply.TheVariants as reply
+use Rattle.arc_table.proofs.Blocks.{step_agrees}
 use Rattle.arc_table.specs.Additions.{Standing, Founds}
 use Rattle.arc_table.specs.Slots.{SlotView, stand_of, stands_of}
 use Rattle.arc_table.specs.Stands.{stand_at}
@@ -90,3 +102,73 @@ module _ {T : Type 0} (slots slots' : List (Option (SlotView T))) (s : SlotView 
       block-added counted one_pass =
           let f = founded in
           (Some (n, f.0), (counted, f.2, new, f.3, one_pass), f.1)
+
+  -- it is one step of the table
+  module _ (setting : Setting T) (passes passes' : List (Pass Whole)) (items : List T)
+      (makes : Makes setting.has_static setting.drops true items s.window) where
+    abbrev nothing : Bool
+    nothing = setting.has_static && (length items == 0)
+
+    abbrev facts : BlockInfo (Unit {0})
+    facts = native_facts setting.drops (length items)
+
+    abbrev stands : Bool → Place ℕ (Unit {0})
+    stands b = if b then nowhere else moved 0 (on_block (length passes) 0 facts)
+
+    numbered-so : (b : Bool) → numbered (if b then None else Some (length passes))
+        (if b then nowhere else on_block (Some makes.owner) 0 facts) ≡ stands b
+    numbered-so true = refl
+    numbered-so false = refl
+
+    blocks-so : (b : Bool) → (if b then length passes else length passes + 1)
+        ≡ option_map_or (λ block. length passes + 1) (block_of (stands b)) (length passes)
+    blocks-so true = refl
+    blocks-so false = refl
+
+    abbrev row : Place ℕ (Unit {0}) → Row T (Unit {0})
+    row place = record { items = items; place = place; role = reader }
+
+    founded-row : s.block ≡ (if nothing then None else Some (length passes))
+        → row_of s ≡ row (stands nothing)
+    founded-row block =
+        ap (λ (w : Window T). record {
+          items = w.items;
+          place = numbered s.block w.place;
+          role = reader;
+        }) makes.made
+        ∙ ap (λ b. row (numbered b
+        (if nothing then nowhere else on_block (Some makes.owner) 0 facts))) block
+        ∙ ap row (numbered-so nothing)
+
+    pub founded-agrees : (out : Bool) → nothing ≡ out
+        → s.block ≡ (if out then None else Some (length passes))
+        → length passes' ≡ (if out then length passes else length passes + 1)
+        → RowsAgree (state_of slots passes).table → RowsAgree (state_of slots' passes').table
+    founded-agrees out is block many agree =
+        let t = (state_of slots passes).table in
+        let rows : t.rows ++ Some (row (stands nothing)) ∷ [] ≡ map (option_map row_of) slots' =
+        ap (λ x. t.rows ++ Some x ∷ [])
+        (sym (founded-row (block ∙ ap (λ b. if b then None else Some (length passes)) (sym is))))
+        ∙ sym (ap (map (option_map row_of)) more
+        ∙ map-append (option_map row_of) slots (Some s ∷ [])) in
+        let blocks : option_map_or (λ block. length passes + 1) (block_of (stands nothing))
+        (length passes) ≡ length passes' =
+        sym (many ∙ ap (λ b. if b then length passes else length passes + 1) (sym is)
+        ∙ blocks-so nothing) in
+        let step : Step setting t (command.Slice items) (reply.New (length t.rows))
+        (state_of slots' passes').table =
+        ap (λ rs. (
+          reply.New (length t.rows),
+          record {
+            rows = rs;
+            blocks =
+                option_map_or (λ block. length passes + 1) (block_of (stands nothing))
+                (length passes);
+          },
+        )) rows
+        ∙ ap (λ n. (
+          reply.New (length t.rows),
+          record { rows = map (option_map row_of) slots'; blocks = n },
+        )) blocks in
+        step_agrees setting t (command.Slice items) (reply.New (length t.rows))
+        (state_of slots' passes').table step agree

@@ -29,6 +29,7 @@ pub struct Table<S: Slice, L: Layout = DefaultLayout, A: Allocator + Copy = Glob
 impl<S: Slice, L: Layout, A: Allocator + Copy> Model for Table<S, L, A> {
     ghost use Rattle.arc_block.specs.declared.block.TheConstants.{MAX_OWNERS};
     ghost use Rattle.arc_block.specs.Owned.{IsKept};
+    ghost use Rattle.arc_table.specs.Blocks.{RowsAgree};
     ghost use Rattle.arc_table.specs.Slots.{stands_of};
     ghost use Rattle.arc_table.specs.State.{State, state_of};
 
@@ -37,7 +38,8 @@ impl<S: Slice, L: Layout, A: Allocator + Copy> Model for Table<S, L, A> {
     ghost view = { λ t. state_of t.slots.items t.passes.of_blocks.items };
 
     ghost invariant = { λ t.
-        IsKept MAX_OWNERS (stands_of t.slots.items) t.passes.of_blocks.items };
+        IsKept MAX_OWNERS (stands_of t.slots.items) t.passes.of_blocks.items
+        × RowsAgree (state_of t.slots.items t.passes.of_blocks.items).table };
 }
 
 /// The slot with this number, if its window was made and hasn't gone.
@@ -71,6 +73,7 @@ where
     ghost use Rattle.arc_table.specs.Step.{Step, setting_of};
     ghost use Rattle.arc_table.specs.Seen.{map_reply, seen_command, seen_reply};
     ghost use Rattle.arc_table.specs.Additions.{Adds};
+    ghost use Rattle.arc_table.specs.Blocks.{RowsAgree};
     ghost use Rattle.arc_table.specs.State.{Agrees, CarriesOut, EndsAll, EndsWith, empty_state};
     ghost use Rattle.arc_table.specs.declared.command.Cmd.TheVariants as command;
 
@@ -122,9 +125,11 @@ where
         }
     }
 
-    /// Each window stands on the block of its row. Does nothing: its contract is the law.
-    fn agree(&self)
-        ensures { Agrees self.now }
+    /// Each window stands on the block of its row, and rows on one block agree about it. Does
+    /// nothing: its contract is the law.
+    pub fn agree(&self)
+        ensures stands { Agrees self.now }
+        ensures blocks { RowsAgree self.now.table }
     {
         let _ = &self.slots;
     }

@@ -1,9 +1,14 @@
 use Rattle.std.proofs.Common.{subst}
+use Rattle.arc_table.specs.Blocks.{RowsAgree}
 use Rattle.arc_table.specs.State.{State, Agrees}
 use Rattle.arc_table.proofs.Places.{state-agrees}
 use Rattle.arc_table.proofs.table.Table.agree.Goals as goal
 
-pub returns : goal.returns
-returns g c =
+pub returns-clause-stands : goal.returns-clause-stands
+returns-clause-stands g c =
     subst (λ (o : State g.row.S-Item.Denot). Agrees o) c.self.view_is
     (state-agrees c.self.inside.slots.items c.self.inside.passes.of_blocks.items)
+
+pub returns-clause-blocks : goal.returns-clause-blocks
+returns-clause-blocks g c =
+    subst (λ (o : State g.row.S-Item.Denot). RowsAgree o.table) c.self.view_is c.self.invariant.1

@@ -84,7 +84,7 @@ try_clone-requires-clause-pass g c κs within =
     let at =
     slice_in _ _ slots c.args.i _ c.deref-2.ensures.value c.reserve.ensures.items
     c.in-Some-slot_at.ensures in
-    known-pass c.args.i c.self.invariant (stand_of (Some s))
+    known-pass c.args.i c.self.invariant.0 (stand_of (Some s))
     (stand-there slots passes c.args.i s at)
 
 pub invariant_of-self-in-Ok : goal.invariant_of-self-in-Ok

@@ -19,7 +19,7 @@ returns-clause-ended g c =
     subst (λ (o : State g.row.S-Item.Denot). (i : ℕ) → row_at o.table i ≡ None) (sym c.self.view_is)
     c.release_all.ensures.passes.none_left in
     kept-gone-all MAX_OWNERS c.self.inside.slots.items c.self.inside.passes.of_blocks.items
-    c.self.invariant (slots-gone c.self.inside.slots.items none)
+    c.self.invariant.0 (slots-gone c.self.inside.slots.items none)
 
 pub returns-clause-passes : goal.returns-clause-passes
 returns-clause-passes g c = (

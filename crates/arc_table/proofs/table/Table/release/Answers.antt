@@ -59,7 +59,7 @@ release-requires-after_bounds g c κs within =
     let there =
     read-there slots i c.index_mut.result.now _ got c.index_mut.ensures.value
     ∙ ap Some (sym c.replace.ensures.value ∙ c.in-Some-replace.is) in
-    known-pass i c.self.invariant (stand_of (Some s)) (stand-there slots passes i s there)
+    known-pass i c.self.invariant.0 (stand_of (Some s)) (stand-there slots passes i s there)
 
 pub invariant_of-self : goal.invariant_of-self
 invariant_of-self g c = (did g (goal.at.invariant_of-self g c).After-release).kept
@@ -92,4 +92,4 @@ returns-clause-blocks g c =
     ∙ ap Some (sym c.replace.ensures.value ∙ c.in-Some-replace.is) in
     let after = c.release.new.passes.of_blocks.items in
     subst (λ (o : State g.row.S-Item.Denot). length after ≡ o.table.blocks) c.self.view_is
-    (many-along i c.self.invariant after (stand_of (Some s)) Ended c.release.ensures)
+    (many-along i c.self.invariant.0 after (stand_of (Some s)) Ended c.release.ensures)

@@ -28,7 +28,7 @@ loop-i-preserved g c =
       passes = (
         said.passes.0 ++ reply ∷ [],
         dropped_more setting c.args.self.now i said.passes.0 old reply new said.passes.1
-            (record { rows = did.rows; passes = did.passes; agree = c.agree.ensures }),
+            (record { rows = did.rows; passes = did.passes; agree = c.agree.ensures.stands }),
       );
     }
 

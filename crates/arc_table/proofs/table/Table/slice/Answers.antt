@@ -1,37 +1,65 @@
 -- The window stands on nothing, or as the first owner on a new block, whose pass is the one that
 -- was given.
-use Rattle.std.proofs.Common.{◌&&◌, ◌==◌, length, refl, ap, sym, ◌∙◌, subst}
+use Rattle.std.proofs.Common.{◌&&◌, ◌==◌, true, false, Some, [], ◌∷◌, length, refl, ap, sym, ◌∙◌}
+use Rattle.std.proofs.Common.{subst}
 use Rattle.arc_table.specs.Additions.{Adds}
 use Rattle.arc_table.specs.State.{State, state_of}
 use Rattle.arc_table.specs.declared.command.Cmd.TheVariants as command
 use Rattle.arc_table.specs.declared.command.Reply.TheVariants as reply
 use Rattle.arc_table.proofs.Lists.{behind}
-use Rattle.arc_table.proofs.Founded.{nowhere-kept, block-kept, block-added}
+use Rattle.arc_table.proofs.Founded.{nowhere-kept, block-kept, block-added, founded-agrees}
+use Rattle.std.proofs.lemmas.List.{length-append}
+use Rattle.arc_table.specs.Step.{Setting, setting_of}
+use Rattle.arc_table.proofs.table.Table.slice.Given.{Over}
 use Rattle.arc_table.proofs.table.Table.slice.Goals as goal
+
+abbrev setting : (g : Over) → Setting g.row.S-Item.Denot
+setting g =
+    setting_of g.L.Layout.STATIC g.L.Layout.clone_wants g.S.Slice.DROPS g.S.Subsliceable.boundary
 
 pub invariant_of-self-then-stands_on_nothing : goal.invariant_of-self-then-stands_on_nothing
 invariant_of-self-then-stands_on_nothing g c =
     let slots = c.self.inside.slots.items in
     let passes = c.self.inside.passes.of_blocks.items in
     let room = c.reserve-else-is_err in
-    nowhere-kept slots c.push_reserved.new.self.items _
-    (behind slots _ c.push_reserved.ensures.items c.reserve.ensures.items)
-    passes room.new.self.items c.self.invariant refl room.ensures.items
+    let slots' = c.push_reserved.new.self.items in
+    let passes' = room.new.self.items in (
+      nowhere-kept slots slots' _
+          (behind slots _ c.push_reserved.ensures.items c.reserve.ensures.items)
+          passes passes' c.self.invariant.0 refl room.ensures.items,
+      founded-agrees slots slots' _
+          (behind slots _ c.push_reserved.ensures.items c.reserve.ensures.items) (setting g) passes
+          passes' _ c.in-Ok.ensures.ok true
+          (ap (λ n. g.L.Layout.STATIC && (n == 0)) (c.deref.ensures.len ∙ sym c.len.ensures)
+          ∙ sym c.stands_on_nothing.ensures ∙ c.if-stands_on_nothing.true)
+          refl (ap length room.ensures.items) c.self.invariant.1,
+    )
 
 pub invariant_of-self-2 : goal.invariant_of-self-2
 invariant_of-self-2 g c =
     let slots = c.self.inside.slots.items in
     let passes = c.self.inside.passes.of_blocks.items in
     let room = c.reserve-else-is_err in
-    block-kept slots c.push_reserved-3.new.self.items _
-    (behind slots _ c.push_reserved-3.ensures.items c.reserve.ensures.items)
-    passes c.push_reserved-2.new.self.items c.self.invariant
-    g.L.Layout.STATIC g.S.Slice.DROPS _ c.none-pass.result c.try_from_slice_as.new.pass
-    c.in-Ok.ensures.ok c.in-Ok.ensures.pass
-    (ap (λ n. g.L.Layout.STATIC && (n == 0)) (c.deref.ensures.len ∙ sym c.len.ensures)
-    ∙ sym c.stands_on_nothing.ensures ∙ c.if-stands_on_nothing.false)
-    c.len-2.result refl (c.len-2.ensures ∙ room.new.self.ok.0 ∙ ap length room.ensures.items)
-    (behind passes _ c.push_reserved-2.ensures.items room.ensures.items)
+    let slots' = c.push_reserved-3.new.self.items in
+    let passes' = c.push_reserved-2.new.self.items in (
+      block-kept slots slots' _
+          (behind slots _ c.push_reserved-3.ensures.items c.reserve.ensures.items)
+          passes passes' c.self.invariant.0
+          g.L.Layout.STATIC g.S.Slice.DROPS _ c.none-pass.result c.try_from_slice_as.new.pass
+          c.in-Ok.ensures.ok c.in-Ok.ensures.pass
+          (ap (λ n. g.L.Layout.STATIC && (n == 0)) (c.deref.ensures.len ∙ sym c.len.ensures)
+          ∙ sym c.stands_on_nothing.ensures ∙ c.if-stands_on_nothing.false)
+          c.len-2.result refl (c.len-2.ensures ∙ room.new.self.ok.0 ∙ ap length room.ensures.items)
+          (behind passes _ c.push_reserved-2.ensures.items room.ensures.items),
+      founded-agrees slots slots' _
+          (behind slots _ c.push_reserved-3.ensures.items c.reserve.ensures.items) (setting g)
+          passes passes' _ c.in-Ok.ensures.ok false
+          (ap (λ n. g.L.Layout.STATIC && (n == 0)) (c.deref.ensures.len ∙ sym c.len.ensures)
+          ∙ sym c.stands_on_nothing.ensures ∙ c.if-stands_on_nothing.false)
+          (ap Some (c.len-2.ensures ∙ room.new.self.ok.0 ∙ ap length room.ensures.items))
+          (ap length (behind passes _ c.push_reserved-2.ensures.items room.ensures.items)
+          ∙ length-append passes (_ ∷ [])) c.self.invariant.1,
+    )
 
 pub returns-clause-passes : goal.returns-clause-passes
 returns-clause-passes g c =
@@ -45,7 +73,7 @@ returns-clause-passes g c =
     c.self.view_is
     (block-added slots c.push_reserved-3.new.self.items _
     (behind slots _ c.push_reserved-3.ensures.items c.reserve.ensures.items)
-    passes c.push_reserved-2.new.self.items c.self.invariant
+    passes c.push_reserved-2.new.self.items c.self.invariant.0
     g.L.Layout.STATIC g.S.Slice.DROPS _ c.none-pass.result c.try_from_slice_as.new.pass
     c.in-Ok.ensures.ok c.in-Ok.ensures.pass
     (ap (λ n. g.L.Layout.STATIC && (n == 0)) (c.deref.ensures.len ∙ sym c.len.ensures)

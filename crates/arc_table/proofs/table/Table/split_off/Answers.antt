@@ -176,7 +176,7 @@ try_split_off-requires-clause-pass g c κs within =
     let s = c.in-Some-index_mut.slot in
     let there_read = at ∙ ap Some c.in-Some-index_mut.is in
     let there = ap (λ ss. slice_get ss i) (sym c.reserve.ensures.items) ∙ there_read in
-    known-pass i c.self.invariant (stand_of (Some s)) (stand-there slots passes i s there)
+    known-pass i c.self.invariant.0 (stand_of (Some s)) (stand-there slots passes i s there)
 
 pub invariant_of-self-in-Ok : goal.invariant_of-self-in-Ok
 invariant_of-self-in-Ok g c =

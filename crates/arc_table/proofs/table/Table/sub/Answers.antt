@@ -127,7 +127,7 @@ try_subslice-requires-clause-pass g c κs within =
     let there =
     slice_in _ _ slots i _ c.deref-2.ensures.value c.reserve.ensures.items
     c.in-Some-slot_at.ensures in
-    known-pass i c.self.invariant (stand_of (Some s)) (stand-there slots passes i s there)
+    known-pass i c.self.invariant.0 (stand_of (Some s)) (stand-there slots passes i s there)
 
 pub invariant_of-self-in-Ok : goal.invariant_of-self-in-Ok
 invariant_of-self-in-Ok g c =

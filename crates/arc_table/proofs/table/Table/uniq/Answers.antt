@@ -43,7 +43,7 @@ is_unique-alone-requires-after_bounds g c κs within =
     let i = c.args.i in
     let s = c.in-Some.slot.now in
     let there = ap (λ ss. slice_get ss i) (sym c.deref.ensures.value) ∙ c.in-Some.ensures in
-    known-pass i c.self.invariant (stand_of (Some s)) (stand-there slots passes i s there)
+    known-pass i c.self.invariant.0 (stand_of (Some s)) (stand-there slots passes i s there)
 
 pub invariant_of-self : goal.invariant_of-self
 invariant_of-self g c = (did g (goal.at.invariant_of-self g c).After-is_unique-alone _ refl).kept
