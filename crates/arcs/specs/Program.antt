@@ -1,10 +1,11 @@
 -- What the program does with its words.
 use Rattle.std.specs.Prelude.{◌≡◌, ◌<◌, ℕ, List, [], ◌∷◌, map, Result, Ok, Err, MatchResult, String}
-use Rattle.std.specs.Prelude.{string_bytes, codes, ◌⊎◌}
+use Rattle.std.specs.Prelude.{string_bytes, codes, ◌⊎◌, ◌++◌}
 use Rattle.std.specs.declared.alloc.Global.{Global}
 use Rattle.arcs.specs.Arguments.{Answer, AreWords}
 use Rattle.arcs.specs.Script.{IsReplyText, BeginsReplyText}
-use Rattle.arcs.specs.Traffic.{Traffic, Exchanges, NoFault}
+use Rattle.arcs.specs.Text.{line_feed}
+use Rattle.arcs.specs.Traffic.{Traffic, Exchanges, NoFault, Tells}
 use Rattle.arcs.specs.Faults.{IsCause}
 use Rattle.arcs.specs.declared.script.ScriptError.{ScriptError}
 use Rattle.arcs.specs.declared.script.ScriptError.TheVariants.{Read, Write, Alloc}
@@ -19,6 +20,12 @@ status_of (Ok done) = 0
 status_of (Err Alloc) = 1
 status_of (Err Read) = 3
 status_of (Err Write) = 4
+
+-- the line in which a fault is told
+abbrev pub fault_text : ScriptError → List ℕ
+fault_text Alloc = codes "allocation error" ++ line_feed ∷ []
+fault_text Read = codes "read failed" ++ line_feed ∷ []
+fault_text Write = codes "write failed" ++ line_feed ∷ []
 
 -- a run to the end of the input
 pub record IsWhole (reader reader' writer writer' : Traffic) : Type 0 where
@@ -46,9 +53,11 @@ pub record Runs (words : List (String Global)) (reader reader' writer writer' : 
   pub usage : ¬ IsArc words → (status ≡ 2) × (reader' ≡ reader) × (writer' ≡ writer)
 
 -- It does so for the words that it was given, or memory was refused for them, before anything was
--- read or written.
-abbrev pub RunsGiven : (ℕ → Answer → Type 0) → Traffic → Traffic → Traffic → Traffic → ℕ → Type 0
-RunsGiven answers reader reader' writer writer' status =
+-- read or written, and that was told.
+abbrev pub RunsGiven : (ℕ → Answer → Type 0) → Traffic → Traffic → Traffic → Traffic → Traffic
+    → Traffic → ℕ → Type 0
+RunsGiven answers reader reader' writer writer' faults faults' status =
     ((words : List (String Global)) × AreWords answers (map string_bytes words)
     × Runs words reader reader' writer writer' status)
-    ⊎ ((status ≡ 1) × (reader' ≡ reader) × (writer' ≡ writer))
+    ⊎ ((status ≡ 1) × (reader' ≡ reader) × (writer' ≡ writer)
+    × Tells (fault_text Alloc) faults faults')

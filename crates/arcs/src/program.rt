@@ -4,8 +4,8 @@ ghost use Rattle.std.specs.Prelude.{String, length, map, string_bytes};
 ghost use Rattle.std.specs.declared.alloc.Global.{Global};
 ghost use Rattle.std.specs.declared.env.FillError.TheVariants.{NotPresent};
 ghost use Rattle.arcs.specs.Arguments.{AreWords, IsTextOf, IsWord};
-ghost use Rattle.arcs.specs.Traffic.{Gives, GivesAll, Takes};
-ghost use Rattle.arcs.specs.Program.{IsArc, IsRun, RunsGiven, status_of};
+ghost use Rattle.arcs.specs.Traffic.{Gives, GivesAll, Takes, Tells};
+ghost use Rattle.arcs.specs.Program.{IsArc, IsRun, RunsGiven, fault_text, status_of};
 
 use crate::io::{Sink, Source};
 use crate::script::{ScriptError, ScriptLayout, run_script, write_out};
@@ -52,18 +52,29 @@ impl<E: Env> Arguments for OfSystem<'_, E> {
     }
 }
 
+/// The line in which a fault is told.
+fn fault_line(error: ScriptError) -> &'static [u8]
+    ensures { result.now ≡ fault_text error }
+{
+    match error {
+        ScriptError::Alloc => b"allocation error\n",
+        ScriptError::Read => b"read failed\n",
+        ScriptError::Write => b"write failed\n",
+    }
+}
+
 /// The status that a fault ends with, and its line on standard error. A failed write of the line
 /// changes no status.
 fn report<F: Sink>(faults: &mut F, error: ScriptError) -> u8
-    ensures { result ≡ status_of (Err error) }
+    ensures status { result ≡ status_of (Err error) }
+    ensures told { Tells (fault_text error) (F.traffic faults.old) (F.traffic faults.new) }
 {
-    let (line, status) = match error {
-        ScriptError::Alloc => (b"allocation error\n".as_slice(), 1),
-        ScriptError::Read => (b"read failed\n".as_slice(), 3),
-        ScriptError::Write => (b"write failed\n".as_slice(), 4),
-    };
-    let _ = write_out(faults, line);
-    status
+    let _ = write_out(faults, fault_line(error));
+    match error {
+        ScriptError::Alloc => 1,
+        ScriptError::Read => 3,
+        ScriptError::Write => 4,
+    }
 }
 
 /// Runs the program on its words, and answers its status.
@@ -163,7 +174,8 @@ pub fn start<G: Arguments, R: Source, W: Sink, F: Sink>(
     faults: &mut F,
 ) -> u8
     ensures ran { RunsGiven (λ i. G.answers given.now i WORD) (R.traffic reader.old)
-        (R.traffic reader.new) (W.traffic writer.old) (W.traffic writer.new) result }
+        (R.traffic reader.new) (W.traffic writer.old) (W.traffic writer.new)
+        (F.traffic faults.old) (F.traffic faults.new) result }
     ensures given { Gives (R.traffic reader.old) (R.traffic reader.new)
         (R.remaining reader.old) (R.remaining reader.new) }
     ensures taken { Takes (W.traffic writer.old) (W.traffic writer.new)
