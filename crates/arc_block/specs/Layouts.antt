@@ -1,5 +1,5 @@
 -- What layouts differ in.
-use Rattle.std.specs.Prelude.{◌≡◌, ◌==◌, ℕ, Bool, true, false, refl}
+use Rattle.std.specs.Prelude.{◌==◌, ℕ, Bool, true, false}
 use Rattle.arc_block.specs.Block.{Sort, native, vector, buffer, raw}
 
 -- which vectors stand alone until their window is cloned, by length and capacity: none, all, or
@@ -20,9 +20,3 @@ clones_want lone raw_by_itself native = false
 clones_want lone raw_by_itself vector = lone
 clones_want lone raw_by_itself (buffer writable) = false
 clones_want lone raw_by_itself raw = raw_by_itself
-
-pub no_clone_wants : (sort : Sort) → clones_want false false sort ≡ false
-no_clone_wants native = refl
-no_clone_wants vector = refl
-no_clone_wants (buffer writable) = refl
-no_clone_wants raw = refl

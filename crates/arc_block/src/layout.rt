@@ -11,7 +11,6 @@
 ghost use Rattle.std.specs.Prelude.{◌≡◌, ◌==◌, ◌&&◌, ℕ, Bool, true, false, refl};
 ghost use Rattle.arc_block.specs.Block.{Sort};
 ghost use Rattle.arc_block.specs.Layouts.{clones_want, never, always, where_full};
-ghost use Rattle.arc_block.specs.Layouts.{no_clone_wants};
 
 /// A layout of windows: on what they may stand, and how that is held.
 pub trait Layout {
@@ -92,7 +91,7 @@ impl<const ANY: bool, const STATIC: bool> Layout for ArcLayout<ANY, STATIC> {
 
     ghost lone = { never };
 
-    ghost clone_wants = { clones_want false false };
+    ghost clone_wants = { λ _. false };
 
     const STATIC: bool = STATIC;
 
@@ -117,7 +116,7 @@ impl<const ANY: bool> StaticLayout for ArcLayout<ANY, true> {
 }
 
 impl<const ANY: bool, const STATIC: bool> CloneNoAllocLayout for ArcLayout<ANY, STATIC> {
-    ghost clones_without_memory = { no_clone_wants };
+    ghost clones_without_memory = { λ _. refl };
 }
 
 /// A vector whose length is its capacity, as a boxed slice's is, stands alone until its window is
