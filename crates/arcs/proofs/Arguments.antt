@@ -1,5 +1,5 @@
 -- The words of arguments, one after another.
-use Rattle.std.proofs.Common.{◌≡◌, ℕ, ◌+◌, List, [], ◌∷◌, ◌++◌, length, subst, arith}
+use Rattle.std.proofs.Common.{ℕ, ◌+◌, List, [], ◌∷◌, ◌++◌, length, subst, arith}
 use Rattle.arcs.specs.Arguments.{Answer, IsWord, WordsFrom}
 
 -- one word more

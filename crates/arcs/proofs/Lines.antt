@@ -1,21 +1,18 @@
 -- Each line has an answer, and each list of lines a run.
-use Rattle.std.proofs.Common.{◌≡◌, ◌≢◌, ℕ, Bool, not, eqb, true, false, if◌then◌else◌, List, [], ◌∷◌, ◌++◌, Option, Some, None, Result, Ok, Err, refl, sym, ap, ◌∙◌, append_assoc}
+use Rattle.std.proofs.Common.{◌≡◌, ◌≢◌, ℕ, Bool, not, eqb, true, List, [], ◌∷◌, ◌++◌, Option, Some, None, refl, sym, ap, ◌∙◌, append_assoc}
 use Rattle.std.specs.Prelude.{map}
 use Rattle.std.specs.List.{list_all, AllByRecursion}
-use Rattle.std.specs.Option.{option_map_or}
 use Rattle.std.proofs.lemmas.Bool.{eqb-false, not-true}
 use Rattle.std.proofs.lemmas.List.{map-append}
 use Rattle.std.proofs.lemmas.List.Concat.{flat_map-append}
 use Rattle.std.proofs.lemmas.List.Elements.{All-contains, recursion_from_All}
-use Rattle.arc_owners.specs.declared.error.RangeError.{RangeError}
-use Rattle.arc_block.specs.Table.{Row, Table, empty_table, row_at, is_alone}
+use Rattle.arc_block.specs.Table.{Table, empty_table}
 use Rattle.arc_table.specs.declared.command.Cmd.{Cmd}
-use Rattle.arc_table.specs.declared.command.Cmd.TheVariants.{Slice, Clone, Sub, Uniq, Show, Drop}
+use Rattle.arc_table.specs.declared.command.Cmd.TheVariants.{Slice}
 use Rattle.arc_table.specs.declared.command.Reply.{Reply}
 use Rattle.arc_table.specs.declared.command.Reply.TheVariants as reply
 use Rattle.arc_table.specs.RunOf.{RunOf}
-use Rattle.arc_table.specs.Step.{Setting, no_shortage, of_table, answer, Step}
-use Rattle.arc_buffer.specs.Slice.{range_answer}
+use Rattle.arc_table.specs.Step.{Setting, no_shortage, of_table, answer}
 use Rattle.arcs.specs.Text.{line_feed, Says}
 use Rattle.arcs.specs.Script.{ended, HasNoFeed, AreLines, byte_setting, ByteTable, Answers, answer_text, BeginsReplyText}
 use Rattle.arcs.specs.Reading.{BringsItems}

@@ -1,5 +1,5 @@
 -- A first word that begins none of these forms is read by the others.
-use Rattle.std.proofs.Common.{rules, sym, ◌∙◌, ◌++◌}
+use Rattle.std.proofs.Common.{rules, sym, ◌∙◌}
 use Rattle.arcs.specs.Reading.{asking_forms, changing_forms}
 use Rattle.arcs.proofs.Forms.{none_of}
 use Rattle.arcs.proofs.parse.asking.Goals as goal

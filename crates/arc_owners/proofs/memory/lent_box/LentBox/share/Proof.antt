@@ -19,7 +19,7 @@ use contract.Running.{tables}
 use denote.Exit.{yes, no}
 use denote.RattleType.{RattleType, owns}
 use denote.Signature.{types_at, plain}
-use denote.Builtin.{RefOf, unit}
+use denote.Builtin.{RefOf}
 use denote.Memory.{hidden_shr, lone}
 use denote.Opens.{unhide}
 use denote.Steps.{nothing, heard}
