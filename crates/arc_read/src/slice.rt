@@ -262,8 +262,8 @@ impl<S: Subsliceable, L: Layout, A: Allocator + Copy, H: Mark> ArcSlice<S, L, A,
 }
 
 impl<S: Slice, L: Layout, A: Allocator + Copy, H: Mark> ArcSlice<S, L, A, H> {
-    /// One attempt of `try_clone_as`: nothing where another thread's step came between, and then no
-    /// entry is added.
+    /// One attempt of `try_clone_as`: nothing where another thread's step came between, which only
+    /// a block's owner can meet, and then no entry is added.
     #[inline(always)]
     fn try_clone_once_as(&self, pass: &mut Pass<H>) -> Option<Result<Self, OwnerError>>
         requires pass { IsPassAt self.now.place pass.old }
@@ -272,6 +272,7 @@ impl<S: Slice, L: Layout, A: Allocator + Copy, H: Mark> ArcSlice<S, L, A, H> {
             Shares self.now.place pass.old pass.new window.place)) }
         ensures refused { IfSome result (λ r. IfErr r (λ e.
             Refuses L.clone_wants self.now.place pass.old pass.new e)) }
+        ensures owned { IfNone result (at_owner self.now.place ⊥ (λ _. Unit {0})) }
         ensures again { IfNone result (pass.new ≡ pass.old) }
     {
         let block = match &self.block {
@@ -341,6 +342,9 @@ impl<S: Slice, L: Layout, A: Allocator + Copy, H: Mark> ArcSlice<S, L, A, H> {
             Refuses L.clone_wants
             (part_place L.STATIC (sub self.now.items start end) start self.now.place)
             pass.old pass.new e)) }
+        ensures owned { IfNone result (at_owner
+            (part_place L.STATIC (sub self.now.items start end) start self.now.place)
+            ⊥ (λ _. Unit {0})) }
         ensures again { IfNone result (pass.new ≡ pass.old) }
     {
         match &self.block {

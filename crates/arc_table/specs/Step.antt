@@ -159,8 +159,10 @@ abbrev pub in_range : {T M : Type 0} → Result (Unit {0}) RangeError → Table 
 in_range (Ok done) t outcome = outcome
 in_range (Err e) t outcome = (reply.Range e, t)
 
--- what a command is answered, and the table after it, where memory was refused so: after the tests
--- of number, role and range, in this order, what it asks for, and then what it does
+-- What a command is answered, and the table after it, where memory was refused so: after the tests
+-- of number, role and range, in this order, what it asks for, and then what it does. It is right of
+-- rows that are read on native blocks, or on none: no command makes others yet. Of a writer it would
+-- keep a capacity that isn't the part's, and `Uniq` doesn't ask the block's sort.
 abbrev pub answer : {T M : Type 0} → Setting T → Shortage → Table T M → Cmd (List T)
     → Reply (List T) × Table T M
 answer setting short t (Slice items) = asking short t (founded setting t items)

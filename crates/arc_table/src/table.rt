@@ -70,7 +70,7 @@ where
     ghost use Rattle.std.specs.Prelude.{◌≡◌, [], length, slice_set};
     ghost use Rattle.arc_block.specs.declared.block.TheConstants.{MAX_OWNERS};
     ghost use Rattle.arc_block.specs.Owned.{IsKept};
-    ghost use Rattle.arc_table.specs.Step.{Step, setting_of};
+    ghost use Rattle.arc_table.specs.Step.{Step, no_shortage, setting_of, shortage};
     ghost use Rattle.arc_table.specs.Seen.{map_reply, seen_command, seen_reply};
     ghost use Rattle.arc_table.specs.Additions.{Adds};
     ghost use Rattle.arc_table.specs.Blocks.{RowsAgree};
@@ -286,8 +286,9 @@ where
     /// Carries out a `Cmd::Show`, and answers with the items where they stand in the window. Takes
     /// no memory.
     pub fn show_in_place(&self, i: usize) -> Reply<&[S::Item]>
-        ensures { CarriesOut (setting_of L.STATIC L.clone_wants S.DROPS S.boundary) self.now
+        ensures carried { CarriesOut (setting_of L.STATIC L.clone_wants S.DROPS S.boundary) self.now
             (command.Show i) (map_reply (λ items. items.now) result) self.now }
+        ensures lent { shortage result ≡ no_shortage }
     {
         self.agree();
         match slot_at(&self.slots, i) {

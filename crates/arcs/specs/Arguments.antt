@@ -1,5 +1,6 @@
 -- The words behind a program's name, and what they are read from.
-use Rattle.std.specs.Prelude.{◌≡◌, ℕ, ◌+◌, List, [], ◌∷◌, length, take, Result, Ok, Err, ◌⊎◌, IsUtf8}
+use Rattle.std.specs.Prelude.{◌≡◌, ℕ, ◌+◌, List, [], ◌∷◌, length, take, Result, Ok, Err, ◌⊎◌}
+use Rattle.std.specs.Prelude.{IsUtf8}
 use Rattle.std.specs.declared.env.FillError.{FillError}
 use Rattle.std.specs.declared.env.FillError.TheVariants.{NotPresent, TooLong}
 

@@ -27,6 +27,10 @@ fault_text Alloc = codes "allocation error" ++ line_feed ∷ []
 fault_text Read = codes "read failed" ++ line_feed ∷ []
 fault_text Write = codes "write failed" ++ line_feed ∷ []
 
+-- the line that tells how the program is called
+abbrev pub usage_text : List ℕ
+usage_text = codes "usage: arcs arc|boxed|vec|raw|storm N" ++ line_feed ∷ []
+
 -- a run to the end of the input
 pub record IsWhole (reader reader' writer writer' : Traffic) : Type 0 where
   pub text : Exchanges IsReplyText reader reader' writer writer'
@@ -39,18 +43,22 @@ pub record IsCut (reader reader' writer writer' : Traffic) (error : ScriptError)
   pub text : Exchanges BeginsReplyText reader reader' writer writer'
   pub cause : IsCause reader reader' writer writer' error
 
--- a run of the script, and its status
-pub record IsRun (reader reader' writer writer' : Traffic) (status : ℕ) : Type 0 where
+-- a run of the script, its status, and what is told of it: nothing, or the line of its fault
+pub record IsRun (reader reader' writer writer' faults faults' : Traffic) (status : ℕ)
+    : Type 0 where
   pub outcome : Result (Unit {0}) ScriptError
   pub told : status ≡ status_of outcome
   pub run : MatchResult outcome
       (λ done. IsWhole reader reader' writer writer') (IsCut reader reader' writer writer')
+  pub line : MatchResult outcome
+      (λ done. faults' ≡ faults) (λ error. Tells (fault_text error) faults faults')
 
 -- what the program does for these words
 pub record Runs (words : List (String Global)) (reader reader' writer writer' : Traffic)
-    (status : ℕ) : Type 0 where
-  pub arc : IsArc words → IsRun reader reader' writer writer' status
+    (faults faults' : Traffic) (status : ℕ) : Type 0 where
+  pub arc : IsArc words → IsRun reader reader' writer writer' faults faults' status
   pub usage : ¬ IsArc words → (status ≡ 2) × (reader' ≡ reader) × (writer' ≡ writer)
+      × Tells usage_text faults faults'
 
 -- It does so for the words that it was given, or memory was refused for them, before anything was
 -- read or written, and that was told.
@@ -58,6 +66,6 @@ abbrev pub RunsGiven : (ℕ → Answer → Type 0) → Traffic → Traffic → T
     → Traffic → ℕ → Type 0
 RunsGiven answers reader reader' writer writer' faults faults' status =
     ((words : List (String Global)) × AreWords answers (map string_bytes words)
-    × Runs words reader reader' writer writer' status)
+    × Runs words reader reader' writer writer' faults faults' status)
     ⊎ ((status ≡ 1) × (reader' ≡ reader) × (writer' ≡ writer)
     × Tells (fault_text Alloc) faults faults')

@@ -5,7 +5,7 @@ ghost use Rattle.std.specs.declared.alloc.Global.{Global};
 ghost use Rattle.std.specs.declared.env.FillError.TheVariants.{NotPresent};
 ghost use Rattle.arcs.specs.Arguments.{AreWords, IsTextOf, IsWord};
 ghost use Rattle.arcs.specs.Traffic.{Gives, GivesAll, Takes, Tells};
-ghost use Rattle.arcs.specs.Program.{IsArc, IsRun, RunsGiven, fault_text, status_of};
+ghost use Rattle.arcs.specs.Program.{IsArc, IsRun, RunsGiven, fault_text, status_of, usage_text};
 
 use crate::io::{Sink, Source};
 use crate::script::{ScriptError, ScriptLayout, run_script, write_out};
@@ -93,15 +93,16 @@ pub fn run_args<R: Source, W: Sink, F: Sink, A: Allocator + Copy>(
 ) -> u8
     ensures arc { IsArc words.now
         → IsRun (R.traffic reader.old) (R.traffic reader.new) (W.traffic writer.old)
-        (W.traffic writer.new) result }
+        (W.traffic writer.new) (F.traffic faults.old) (F.traffic faults.new) result }
     ensures given { Gives (R.traffic reader.old) (R.traffic reader.new)
         (R.remaining reader.old) (R.remaining reader.new) }
     ensures taken { Takes (W.traffic writer.old) (W.traffic writer.new)
         (W.contents writer.old) (W.contents writer.new) }
-    ensures drained { IsArc words.now → result ≡ 0
+    ensures drained { result ≡ 0
         → GivesAll (R.traffic reader.old) (R.traffic reader.new) (R.remaining reader.old) }
     ensures usage { ¬ IsArc words.now → (result ≡ 2) × (R.traffic reader.new ≡ R.traffic reader.old)
-        × (W.traffic writer.new ≡ W.traffic writer.old) }
+        × (W.traffic writer.new ≡ W.traffic writer.old)
+        × Tells usage_text (F.traffic faults.old) (F.traffic faults.new) }
 {
     if !is_arc(words) {
         let _ = write_out(faults, b"usage: arcs arc|boxed|vec|raw|storm N\n");
@@ -180,6 +181,8 @@ pub fn start<G: Arguments, R: Source, W: Sink, F: Sink>(
         (R.remaining reader.old) (R.remaining reader.new) }
     ensures taken { Takes (W.traffic writer.old) (W.traffic writer.new)
         (W.contents writer.old) (W.contents writer.new) }
+    ensures drained { result ≡ 0
+        → GivesAll (R.traffic reader.old) (R.traffic reader.new) (R.remaining reader.old) }
 {
     match words(given, alloc) {
         Ok(words) => run_args(rt, alloc, &words, reader, writer, faults),

@@ -46,7 +46,7 @@ pub enum ScriptError {
     /// A write failed, or took nothing.
     #[error("write failed")]
     Write,
-    /// Memory for a line, for its items or for replies was refused.
+    /// Memory for a piece of the input, for a line, for its items or for replies was refused.
     #[error("allocation error")]
     Alloc,
 }
@@ -91,9 +91,9 @@ pub fn write_out<W: Sink>(writer: &mut W, bytes: &[u8]) -> Result<(), ScriptErro
 /// The windows of a script, over bytes.
 type ByteTable<A> = Table<Plain<u8>, DefaultLayout, A>;
 
-/// Carries out the command that a line was read as, and appends what it is answered; a line that says
-/// none changes nothing else. The items that a `show` is answered go from the window into the reply's
-/// text. `Err` where memory is refused for that text, of which nothing is left then.
+/// Carries out the command that a line was read as, and appends what it is answered; a line that
+/// says none changes nothing else. The items that a `show` is answered go from the window into the
+/// reply's text. `Err` where memory is refused for that text, of which nothing is left then.
 fn answer<A: Allocator + Copy>(
     table: &mut ByteTable<A>,
     rt: &impl Wait,

@@ -1,7 +1,7 @@
 //! Operations on windows, each run as often as the words say, for callgrind to count.
 //!
-//! `bench_ops ours|kit OPERATION COUNT`: the same loops over `ArcBytes` of this repository, and over
-//! `Bytes` of the kit's `bytes`.
+//! `bench_ops ours|kit OPERATION COUNT`: the same loops over `ArcBytes` of this repository, and
+//! over `Bytes` of the kit's `bytes`.
 #![tactic(auto)]
 
 mod keep;

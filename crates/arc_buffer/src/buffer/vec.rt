@@ -60,5 +60,6 @@ impl<T: Send + Sync, A: Allocator + Send + Sync> BufferMut<T> for Vec<T, A> {
 
     ghost keeps = { λ v xs same. (with_items_is v xs (same ∙ sym v.ok.0), refl) };
 
-    ghost names_no_owner = { λ v additional. vec_names_no_owner (length (vec_items v) + additional) };
+    ghost names_no_owner = { λ v additional.
+        vec_names_no_owner (length (vec_items v) + additional) };
 }

@@ -290,8 +290,8 @@ impl<V: Drop, A: Allocator + Copy, const MAX: u64, H: Mark> CountedBox<V, A, MAX
     ghost use Rattle.arc_owners.specs.count.Calls.{IsPassFor, FindsFull, MakesAnother};
     ghost use Rattle.arc_owners.specs.memory.Boxes.{owner_in, value_of};
 
-    /// One attempt to make one owner more of the same value, through this one: nothing where another
-    /// thread's step came between, and then no entry is added. Who calls it tries again.
+    /// One attempt to make one owner more of the same value, through this one: nothing where
+    /// another thread's step came between, and then no entry is added. Who calls it tries again.
     ///
     /// Takes no memory, and copies nothing.
     ///
@@ -328,8 +328,8 @@ impl<V: Drop, A: Allocator + Copy, const MAX: u64, H: Mark> CountedBox<V, A, MAX
         }
     }
 
-    /// One owner more of the same value, through this one: `try_clone_once_as`, tried again until it
-    /// answers.
+    /// One owner more of the same value, through this one: `try_clone_once_as`, tried again until
+    /// it answers.
     ///
     /// Takes no memory, and copies nothing. It takes `rt` since an attempt that another thread
     /// disturbs is tried again.

@@ -17,7 +17,7 @@ returns-in-Some-Show g c =
     subst (λ said. CarriesOutSaid table (option_map seen_command said) (Some reply) table)
     (sym (c.in-Some-Show.is ∙ ap (λ command. Some command) c.in-Some-Show.field-0-is))
     (subst (λ i. CarriesOut byte_setting table (Show i) reply table) c.in-Some-Show.window-is
-    c.show_in_place.ensures) in
+    c.show_in_place.ensures.carried) in
     let push = c.push_answer in
     record {
       ok = on_ok_then push.result push.ensures.ok (λ wrote.
