@@ -2,3 +2,5 @@ pub mod Lists
 pub mod Permutations
 pub mod Owned
 pub mod Alone
+pub mod Windows
+pub mod Held

@@ -3,3 +3,5 @@ pub mod Place
 pub mod Table
 pub mod Owned
 pub mod Layouts
+pub mod Window
+pub mod Steps

@@ -12,11 +12,15 @@ pub data Role : Type 0 where
   inline : Role
   forgotten : Role
 
--- a window that is alive, or was forgotten
-pub record Row (T M : Type 0) : Type 0 where
+-- a window that is alive, or was forgotten. N is what a block goes by
+pub record RowOf (N T M : Type 0) : Type 0 where
   pub items : List T
-  pub place : Place ℕ M
+  pub place : Place N M
   pub role : Role
+
+-- in the table blocks go by their numbers
+abbrev pub Row : Type 0 → Type 0 → Type 0
+Row T M = RowOf ℕ T M
 
 -- the rows by their numbers, where None has gone, and how many blocks were made
 pub record Table (T M : Type 0) : Type 0 where

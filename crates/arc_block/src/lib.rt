@@ -3,4 +3,5 @@
 
 pub mod block;
 pub mod layout;
+pub mod parts;
 pub mod table;

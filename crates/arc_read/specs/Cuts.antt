@@ -3,8 +3,8 @@ use Rattle.std.specs.Prelude.{◌≡◌, ℕ, ◌<◌, Bool, if◌then◌else◌
 use Rattle.arc_owners.specs.declared.count.tokens.Pass.{Pass}
 use Rattle.arc_buffer.specs.Slice.{sub}
 use Rattle.arc_block.specs.Place.{moved, part_place}
-use Rattle.arc_read.specs.Window.{Window}
-use Rattle.arc_read.specs.Steps.{Shares}
+use Rattle.arc_block.specs.Window.{Window}
+use Rattle.arc_block.specs.Steps.{Shares}
 
 -- the part from start to end, as the same owner: it stays where it stands, also with no items
 abbrev pub cut_window : {T : Type 0} → Window T → ℕ → ℕ → Window T

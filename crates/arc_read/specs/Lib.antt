@@ -1,3 +1,2 @@
-pub mod Window
 pub mod Steps
 pub mod Cuts

@@ -12,8 +12,8 @@ use Rattle.arc_block.specs.Block.{native_facts}
 use Rattle.arc_block.specs.Owned.{Stand, IsKept}
 use Rattle.arc_block.specs.Place.{Place, nowhere, static_data, on_block, at_owner}
 use Rattle.arc_block.proofs.Owned.{kept-new, kept-nowhere}
-use Rattle.arc_read.specs.Steps.{Makes, Begins}
-use Rattle.arc_read.specs.Window.{Window}
+use Rattle.arc_block.specs.Steps.{Makes, Begins}
+use Rattle.arc_block.specs.Window.{Window}
 use Rattle.std.specs.Option.{option_map, option_map_or}
 use Rattle.arc_block.specs.Block.{BlockInfo}
 use Rattle.arc_block.specs.Place.{moved}

@@ -10,7 +10,7 @@ use Rattle.arc_owners.specs.declared.error.OwnerError.{OwnerError}
 use Rattle.arc_owners.specs.declared.error.OwnerError.TheVariants.{AllocError, CountFull}
 use Rattle.arc_block.specs.Block.{Sort, BlockInfo}
 use Rattle.arc_block.specs.Place.{Place, nowhere, static_data, on_block, at_owner, moved}
-use Rattle.arc_read.specs.Steps.{IsPassAt, Shares, Refuses}
+use Rattle.arc_block.specs.Steps.{IsPassAt, Shares, Refuses}
 use Rattle.arc_table.specs.Calls.{Through, Along, Beside, RefusesAt, AddsNothing}
 use Rattle.arc_table.specs.Stands.{numbered, is_numbered, stand_at, HasPassFor, TakenOut, put_back}
 use Rattle.arc_table.specs.Stands.{HasNumber}

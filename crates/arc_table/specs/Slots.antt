@@ -1,6 +1,6 @@
 -- The slots of a table as rows, and where their windows stand.
 use Rattle.std.specs.Prelude.{ℕ, List, Option, Some, None, map}
-use Rattle.arc_read.specs.Window.{Window}
+use Rattle.arc_block.specs.Window.{Window}
 use Rattle.arc_block.specs.Owned.{Stand}
 use Rattle.arc_block.specs.Table.{Row, reader}
 use Rattle.arc_table.specs.Stands.{numbered, stand_at}

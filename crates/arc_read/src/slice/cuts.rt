@@ -1,37 +1,145 @@
-//! Cuts of a read window that keep it, and splits.
-ghost use Rattle.std.specs.Prelude.{◌≡◌, ◌<◌, ◌↔◌, length, drop, take, false, IsOk, IfOk, IfErr};
-ghost use Rattle.arc_buffer.specs.Slice.{IsEdge, IsRange, edge_answer, sub};
-ghost use Rattle.arc_block.specs.Place.{moved, part_place};
-ghost use Rattle.arc_read.specs.Steps.{IsPassAt, Refuses, WithNewPass};
-ghost use Rattle.arc_read.specs.Cuts.{SplitsOff, SplitsTo, off_end, to_start};
+//! Clones and cuts of a read window.
+ghost use Rattle.std.specs.Prelude.{◌≡◌, ◌<◌, length, drop, take, IfOk, IfErr, IfSome, IfNone};
+ghost use Rattle.arc_buffer.specs.Slice.{IsEdge, IsRange, sub};
+ghost use Rattle.arc_block.specs.Place.{at_owner, moved, part_place};
+ghost use Rattle.arc_block.specs.Steps.{IsPassAt, Shares, Refuses};
 
 use super::ArcSlice;
 use arc_block::layout::Layout;
-use arc_buffer::kinds::Subsliceable;
-use arc_owners::error::{OwnerError, RangeError};
-use arc_owners::mark::{Mark, Stepping};
+use arc_buffer::kinds::{Slice, Subsliceable};
+use arc_owners::error::OwnerError;
+use arc_owners::mark::Mark;
 use arc_owners::owners::Pass;
 use std::alloc::Allocator;
-use std::mem;
 use std::sync::Wait;
 
-impl<S: Subsliceable, L: Layout, A: Allocator + Copy, H: Mark> ArcSlice<S, L, A, H> {
-    /// Whether the window may be cut at `at`. `OutOfRange` where that is past the length, else
-    /// `NotBoundary` where the kind may not be cut there.
-    pub fn check_at(&self, at: usize) -> Result<(), RangeError>
-        ensures answer { result ≡ edge_answer S.boundary self.now.items at }
-        ensures ok { IsOk result ↔ IsEdge S.boundary self.now.items at }
+impl<S: Slice, L: Layout, A: Allocator + Copy, H: Mark> ArcSlice<S, L, A, H> {
+    /// One attempt of `try_clone_as`: nothing where another thread's step came between, which only
+    /// a block's owner can meet, and then no entry is added.
+    #[tactic(auto, using(arc_block::proofs::Held::shared_held))]
+    #[inline(always)]
+    fn try_clone_once_as(&self, pass: &mut Pass<H>) -> Option<Result<Self, OwnerError>>
+        requires pass { IsPassAt self.now.place pass.old }
+        ensures items { IfSome result (λ r. IfOk r (λ window. window.items ≡ self.now.items)) }
+        ensures place { IfSome result (λ r. IfOk r (λ window.
+            Shares self.now.place pass.old pass.new window.place)) }
+        ensures refused { IfSome result (λ r. IfErr r (λ e.
+            Refuses L.clone_wants self.now.place pass.old pass.new e)) }
+        ensures owned { IfNone result (at_owner self.now.place ⊥ (λ _. Unit {0})) }
+        ensures again { IfNone result (pass.new ≡ pass.old) }
     {
-        if at > self.len() {
-            return Err(RangeError::OutOfRange);
-        }
-        if S::is_boundary(self.as_slice(), at) {
-            Ok(())
-        } else {
-            Err(RangeError::NotBoundary)
+        match self.parts.try_clone_once_as::<L>(pass)? {
+            Ok(parts) => Some(Ok(Self::from_parts(parts))),
+            Err(e) => Some(Err(e)),
         }
     }
 
+    /// Another window with the same items at the same place, an owner more of the block.
+    ///
+    /// Takes no memory and copies no item. It takes `rt` since an attempt that another thread
+    /// disturbs is tried again.
+    ///
+    /// # Errors
+    ///
+    /// `CountFull` exactly where `MAX_OWNERS` owners live.
+    ///
+    /// # History
+    ///
+    /// On a block Up, or Full where refused.
+    #[inline(always)]
+    pub fn try_clone_as(&self, rt: &impl Wait, pass: &mut Pass<H>) -> Result<Self, OwnerError>
+        requires pass { IsPassAt self.now.place pass.old }
+        ensures items { IfOk result (λ window. window.items ≡ self.now.items) }
+        ensures place { IfOk result (λ window.
+            Shares self.now.place pass.old pass.new window.place) }
+        ensures refused { IfErr result (λ e.
+            Refuses L.clone_wants self.now.place pass.old pass.new e) }
+    {
+        for _ in rt.forever() {
+            if let Some(made) = self.try_clone_once_as(pass) {
+                return made;
+            }
+        }
+        unreachable!()
+    }
+
+    /// One attempt of `try_subslice_as`: nothing where another thread's step came between, and then
+    /// no entry is added.
+    #[inline(always)]
+    fn try_subslice_once_as(
+        &self,
+        start: usize,
+        end: usize,
+        pass: &mut Pass<H>,
+    ) -> Option<Result<Self, OwnerError>>
+    where
+        S: Subsliceable,
+        requires range { IsRange S.boundary self.now.items start end }
+        requires pass { IsPassAt self.now.place pass.old }
+        ensures items { IfSome result (λ r.
+            IfOk r (λ part. part.items ≡ sub self.now.items start end)) }
+        ensures place { IfSome result (λ r. IfOk r (λ part.
+            Shares (part_place L.STATIC (sub self.now.items start end) start self.now.place)
+            pass.old pass.new part.place)) }
+        ensures refused { IfSome result (λ r. IfErr r (λ e.
+            Refuses L.clone_wants
+            (part_place L.STATIC (sub self.now.items start end) start self.now.place)
+            pass.old pass.new e)) }
+        ensures owned { IfNone result (at_owner
+            (part_place L.STATIC (sub self.now.items start end) start self.now.place)
+            ⊥ (λ _. Unit {0})) }
+        ensures again { IfNone result (pass.new ≡ pass.old) }
+    {
+        match self.parts.try_part_once_as::<L>(start, end, pass)? {
+            Ok(parts) => Some(Ok(Self::from_parts(parts))),
+            Err(e) => Some(Err(e)),
+        }
+    }
+
+    /// A window over the items from `start` to `end`, an owner more of the block. With no items it
+    /// stands on nothing where the layout has static data, and nothing is added.
+    ///
+    /// Takes no memory and copies no item. It takes `rt` since an attempt that another thread
+    /// disturbs is tried again.
+    ///
+    /// # Errors
+    ///
+    /// `CountFull` exactly where `MAX_OWNERS` owners live.
+    ///
+    /// # History
+    ///
+    /// Where the part stands on a block Up, or Full where refused.
+    #[inline(always)]
+    pub fn try_subslice_as(
+        &self,
+        rt: &impl Wait,
+        start: usize,
+        end: usize,
+        pass: &mut Pass<H>,
+    ) -> Result<Self, OwnerError>
+    where
+        S: Subsliceable,
+        requires range { IsRange S.boundary self.now.items start end }
+        requires pass { IsPassAt self.now.place pass.old }
+        ensures items { IfOk result (λ part. part.items ≡ sub self.now.items start end) }
+        ensures place { IfOk result (λ part.
+            Shares (part_place L.STATIC (sub self.now.items start end) start self.now.place)
+            pass.old pass.new part.place) }
+        ensures refused { IfErr result (λ e.
+            Refuses L.clone_wants
+            (part_place L.STATIC (sub self.now.items start end) start self.now.place)
+            pass.old pass.new e) }
+    {
+        for _ in rt.forever() {
+            if let Some(made) = self.try_subslice_once_as(start, end, pass) {
+                return made;
+            }
+        }
+        unreachable!()
+    }
+}
+
+impl<S: Subsliceable, L: Layout, A: Allocator + Copy, H: Mark> ArcSlice<S, L, A, H> {
     /// Takes the first `n` items off the window, which stays on its block, also with no items.
     /// Takes no memory and adds nothing.
     pub fn advance(&mut self, n: usize)
@@ -41,7 +149,8 @@ impl<S: Subsliceable, L: Layout, A: Allocator + Copy, H: Mark> ArcSlice<S, L, A,
           place = moved n self.old.place;
         } }
     {
-        self.start += n;
+        let end = self.len();
+        self.parts.keep(n, end);
     }
 
     /// Leaves the window's first `n` items, or all where it has no more. It stays on its block,
@@ -50,130 +159,8 @@ impl<S: Subsliceable, L: Layout, A: Allocator + Copy, H: Mark> ArcSlice<S, L, A,
         requires { n < length self.old.items → IsEdge S.boundary self.old.items n }
         ensures { self.new ≡ record { items = take n self.old.items; place = self.old.place } }
     {
-        if n < self.end - self.start {
-            self.end = self.start + n;
+        if n < self.len() {
+            self.parts.keep(0, n);
         }
-    }
-}
-
-impl<S: Subsliceable, L: Layout, A: Allocator + Copy, H: Mark> ArcSlice<S, L, A, H> {
-    /// Both ends of a window are places at which it may be cut.
-    fn has_edges(&self)
-        ensures start { IsEdge S.boundary self.now.items 0 }
-        ensures end { IsEdge S.boundary self.now.items (length self.now.items) }
-    {
-        let _ = &self.block;
-    }
-
-    /// Splits the window at `at`: it keeps the front, and the back is handed out. An owner more of
-    /// the block has the part that is new: the back, or for `at` of 0 the front, which then has no
-    /// items. That part stands on nothing where it has no items and the layout has static data;
-    /// else Up is added, or Full where refused.
-    ///
-    /// Takes no memory and copies no item. `CountFull` exactly where `MAX_OWNERS` owners live; the
-    /// window is then as before.
-    pub fn try_split_off_as(
-        &mut self,
-        rt: &impl Wait,
-        at: usize,
-        pass: &mut Pass<H>,
-    ) -> Result<Self, OwnerError>
-        requires at { IsEdge S.boundary self.old.items at }
-        requires pass { IsPassAt self.old.place pass.old }
-        ensures ok { IfOk result (λ back.
-            SplitsOff L.STATIC self.old at pass.old pass.new self.new back) }
-        ensures kept { IfErr result (λ _. self.new ≡ self.old) }
-        ensures refused { IfErr result (λ e.
-            Refuses L.clone_wants
-            (part_place L.STATIC (sub self.old.items at (off_end self.old at)) at self.old.place)
-            pass.old pass.new e) }
-    {
-        self.has_edges();
-        if at == 0 {
-            let rest = self.try_subslice_as(rt, 0, 0, pass)?;
-            return Ok(mem::replace(self, rest));
-        }
-        let back = self.try_subslice_as(rt, at, self.len(), pass)?;
-        self.truncate(at);
-        Ok(back)
-    }
-
-    /// Splits the window at `at`: the front is handed out, and it keeps the back. An owner more of
-    /// the block has the part that is new: the front, or for `at` at the end the back, which then
-    /// has no items. That part stands on nothing where it has no items and the layout has static
-    /// data; else Up is added, or Full where refused.
-    ///
-    /// Takes no memory and copies no item. `CountFull` exactly where `MAX_OWNERS` owners live; the
-    /// window is then as before.
-    pub fn try_split_to_as(
-        &mut self,
-        rt: &impl Wait,
-        at: usize,
-        pass: &mut Pass<H>,
-    ) -> Result<Self, OwnerError>
-        requires at { IsEdge S.boundary self.old.items at }
-        requires pass { IsPassAt self.old.place pass.old }
-        ensures ok { IfOk result (λ front.
-            SplitsTo L.STATIC self.old at pass.old pass.new front self.new) }
-        ensures kept { IfErr result (λ _. self.new ≡ self.old) }
-        ensures refused { IfErr result (λ e.
-            Refuses L.clone_wants
-            (part_place L.STATIC (sub self.old.items (to_start self.old at) at)
-            (to_start self.old at) self.old.place)
-            pass.old pass.new e) }
-    {
-        self.has_edges();
-        if at == self.len() {
-            let rest = self.try_subslice_as(rt, at, at, pass)?;
-            return Ok(mem::replace(self, rest));
-        }
-        let front = self.try_subslice_as(rt, 0, at, pass)?;
-        self.advance(at);
-        Ok(front)
-    }
-}
-
-impl<S: Subsliceable, L: Layout, A: Allocator + Copy, H: Stepping> ArcSlice<S, L, A, H> {
-    /// Splits the window at `at` and hands out the back: `try_split_off_as` with a new pass.
-    ///
-    /// Takes no memory and copies no item. `CountFull` exactly where `MAX_OWNERS` owners live; the
-    /// window is then as before.
-    pub fn try_split_off(&mut self, rt: &impl Wait, at: usize) -> Result<Self, OwnerError>
-        requires { IsEdge S.boundary self.old.items at }
-        ensures ok { IfOk result (λ back. WithNewPass {H = H} H.real self.old.place (λ first last.
-            SplitsOff L.STATIC self.old at first last self.new back)) }
-        ensures kept { IfErr result (λ _. self.new ≡ self.old) }
-        ensures refused { IfErr result (λ e.
-            WithNewPass {H = H} H.real self.old.place (λ first last.
-            Refuses L.clone_wants
-            (part_place L.STATIC (sub self.old.items at (off_end self.old at)) at self.old.place)
-            first last e)) }
-    {
-        let mut pass = self.pass();
-        let made = self.try_split_off_as(rt, at, &mut pass);
-        pass.show();
-        made
-    }
-
-    /// Splits the window at `at` and hands out the front: `try_split_to_as` with a new pass.
-    ///
-    /// Takes no memory and copies no item. `CountFull` exactly where `MAX_OWNERS` owners live; the
-    /// window is then as before.
-    pub fn try_split_to(&mut self, rt: &impl Wait, at: usize) -> Result<Self, OwnerError>
-        requires { IsEdge S.boundary self.old.items at }
-        ensures ok { IfOk result (λ front. WithNewPass {H = H} H.real self.old.place (λ first last.
-            SplitsTo L.STATIC self.old at first last front self.new)) }
-        ensures kept { IfErr result (λ _. self.new ≡ self.old) }
-        ensures refused { IfErr result (λ e.
-            WithNewPass {H = H} H.real self.old.place (λ first last.
-            Refuses L.clone_wants
-            (part_place L.STATIC (sub self.old.items (to_start self.old at) at)
-            (to_start self.old at) self.old.place)
-            first last e)) }
-    {
-        let mut pass = self.pass();
-        let made = self.try_split_to_as(rt, at, &mut pass);
-        pass.show();
-        made
     }
 }

@@ -1,13 +1,15 @@
 ghost use Rattle.std.specs.Prelude.{◌≡◌, IfOk};
 ghost use Rattle.arc_owners.specs.count.Calls.{IsPassOfNone};
-ghost use Rattle.arc_read.specs.Steps.{IsPassAt};
+ghost use Rattle.arc_block.specs.Steps.{IsPassAt};
 
 use super::*;
 use arc_block::layout::{ArcLayout, BoxedSliceLayout, RawLayout, VecLayout};
-use arc_buffer::kinds::{ByteText, Owned, Plain, Text};
-use arc_owners::mark::Whole;
+use arc_buffer::kinds::{AnyItems, ByteText, CopySlice, Owned, Plain, Subsliceable, Text};
+use arc_owners::error::{AllocError, OwnerError, RangeError};
+use arc_owners::mark::{Stepping, Whole};
+use arc_owners::owners::Pass;
 use linked_list_allocator::LocalHeap;
-use std::sync::Arc;
+use std::sync::{Arc, Wait};
 use std::test::Fail;
 use std::thread;
 

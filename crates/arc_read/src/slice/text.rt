@@ -3,8 +3,8 @@ ghost use Rattle.std.specs.Prelude.{◌≡◌, false, drop, IsOk, IfOk, IfErr, O
 ghost use Rattle.std.specs.Str.{IsUtf8, valid_up_to, error_len};
 ghost use Rattle.std.specs.Str.Lossy.{utf8_valid_len, utf8_error_len};
 ghost use Rattle.arc_owners.specs.count.Calls.{IsPassOfNone};
-ghost use Rattle.arc_read.specs.Window.{NeedsBlock};
-ghost use Rattle.arc_read.specs.Steps.{Makes, Begins};
+ghost use Rattle.arc_block.specs.Window.{NeedsBlock};
+ghost use Rattle.arc_block.specs.Steps.{Makes, Begins};
 
 use super::ArcSlice;
 use arc_block::layout::Layout;
@@ -36,7 +36,7 @@ impl<L: Layout, A: Allocator + Copy, H: Mark> ArcSlice<Text, L, A, H> {
     pub fn as_str(&self) -> &str
         ensures { result.now ≡ self.now.items }
     {
-        let _ = &self.block;
+        let _ = &self.parts;
         unsafe { str::from_utf8_unchecked(self.as_slice()) }
     }
 

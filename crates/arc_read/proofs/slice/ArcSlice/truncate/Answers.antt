@@ -1,13 +1,14 @@
-use Rattle.std.proofs.Common.{arith}
-use Rattle.arc_read.proofs.Cuts.{truncated, truncated_seen, window_length}
+-- The first items are a range of the list.
+use Rattle.std.proofs.Common.{◌<◌, length, sym, ap, subst, arith}
+use Rattle.arc_buffer.specs.Slice.{IsEdge}
+use Rattle.arc_block.specs.Window.{Window}
+use Rattle.arc_read.proofs.Cuts.{keeps}
 use Rattle.arc_read.proofs.slice.ArcSlice.truncate.Goals as goal
 
 pub invariant_of-self : goal.invariant_of-self
 invariant_of-self g c =
-    let long = window_length _ _ _ c.args.self.now c.self.view_is c.self.invariant.0 in
-    truncated g.S.Slice.is_legal g.S.Subsliceable.boundary g.met.S.Subsliceable.range_is_legal g.met.S.Subsliceable.ends_are_edges _ _ _ c.args.n c.args.self.now c.self.view_is c.self.invariant
-    (c.requires (omega (arith, long, c.if-n-self.true)))
-
-pub returns-then-n-self : goal.returns-then-n-self
-returns-then-n-self g c =
-    truncated_seen _ _ _ c.args.n c.args.self.now c.self.view_is c.self.invariant.0 (omega (arith, c.if-n-self.true))
+    let boundary = g.S.Subsliceable.boundary in
+    let edge = subst (λ (w : Window g.row.S-Item.Denot). c.args.n < length w.items → IsEdge boundary w.items c.args.n) (sym c.self.view_is) c.requires (omega (arith, c.if-n-len.true, c.len.ensures, ap (λ (w : Window g.row.S-Item.Denot). length w.items) c.self.view_is)) in
+    keeps g.S.Slice.is_legal boundary g.met.S.Subsliceable.range_is_legal g.L.Layout.STATIC g.L.Layout.ANY
+    c.self.inside.parts _ 0 c.args.n c.keep.ensures c.self.invariant
+    (λ h. record { ordered = omega arith; within = edge.within; from = (g.met.S.Subsliceable.ends_are_edges _ h).0.cuts; to = edge.cuts })

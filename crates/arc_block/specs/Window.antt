@@ -1,9 +1,12 @@
--- What is seen of a read window, and what holds of its parts.
-use Rattle.std.specs.Prelude.{◌≡◌, ℕ, ◌≤◌, Bool, false, List, [], length, Option, Some, None}
+-- What is seen of a window and of its parts, and what holds of them.
+use Rattle.std.specs.Prelude.{◌≡◌, ℕ, ◌≤◌, Bool, true, false, List, [], length}
+use Rattle.std.specs.Prelude.{Option, Some, None}
 use Rattle.arc_owners.specs.count.Calls.{Owner}
 use Rattle.arc_buffer.specs.Slice.{sub}
-use Rattle.arc_block.specs.Block.{native, BlockInfo, BlockView, native_facts}
+use Rattle.arc_block.specs.Block.{Sort, native, vector, buffer, raw}
+use Rattle.arc_block.specs.Block.{BlockInfo, BlockView, native_facts}
 use Rattle.arc_block.specs.Place.{Place, nowhere, static_data, on_block, IsOnBlock, made_place}
+use Rattle.arc_block.specs.Table.{RowOf, reader}
 
 -- what is seen of a window: its items, and where it stands: on a block as one of its owners, where
 -- the block counts them
@@ -50,3 +53,29 @@ IsNativeOf size (on_block block offset facts) = (facts.sort ≡ native) × (fact
 pub record IsWholeOf {T : Type 0} (size : ℕ) (w : Window T) : Type 0 where
   pub items : length w.items ≡ size
   pub block : IsNativeOf size w.place
+
+-- what is seen of a window's parts: a row of the table of lists, with its owner
+abbrev pub PartsView : Type 0 → Type 0
+PartsView T = RowOf (Option Owner) T (Unit {0})
+
+-- the window that is read through these parts
+abbrev pub window_of : {T : Type 0} → PartsView T → Window T
+window_of p = record { items = p.items; place = p.place }
+
+-- the parts of a window that is read
+abbrev pub parts_of : {T : Type 0} → Window T → PartsView T
+parts_of w = record { items = w.items; place = w.place; role = reader }
+
+-- a layout holds blocks of a sort
+abbrev pub IsHeldSort : (has_any : Bool) → Sort → Type 0
+IsHeldSort has_any native = Unit {0}
+IsHeldSort has_any vector = has_any ≡ true
+IsHeldSort has_any (buffer writable) = has_any ≡ true
+IsHeldSort has_any raw = has_any ≡ true
+
+-- A layout holds what a window stands on. Nothing and static data need a layout with static data,
+-- and a block that isn't native one under which a block may be of the caller's making.
+abbrev pub IsHeld : {N M : Type 0} (has_static has_any : Bool) → Place N M → Type 0
+IsHeld has_static has_any nowhere = has_static ≡ true
+IsHeld has_static has_any static_data = has_static ≡ true
+IsHeld has_static has_any (on_block block offset facts) = IsHeldSort has_any facts.sort

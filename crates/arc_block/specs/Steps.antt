@@ -1,0 +1,60 @@
+-- What a call does to the pass of its window's block. A window that stands where no owners are
+-- counted has a pass of no block, and its calls add nothing.
+use Rattle.std.specs.Prelude.{◌≡◌, ℕ, Bool, true, false, Option, Some, None, List, []}
+use Rattle.arc_owners.specs.declared.error.OwnerError.{OwnerError}
+use Rattle.arc_owners.specs.declared.error.OwnerError.TheVariants.{AllocError, CountFull}
+use Rattle.arc_owners.specs.declared.count.tokens.Pass.{Pass}
+use Rattle.arc_owners.specs.count.Invariant.{BlockId, Line}
+use Rattle.arc_owners.specs.count.Calls.{Owner, Appends, IsOfBlock, IsPassOf, IsPassOfNone}
+use Rattle.arc_owners.specs.count.Calls.{pass_block, pass_number, history_of, IsFirst, IsFreshPass}
+use Rattle.arc_owners.specs.count.Calls.{IsNewPass, FindsFull, MakesAnother, Asks}
+use Rattle.arc_block.specs.Block.{Sort}
+use Rattle.arc_block.specs.Place.{Place, nowhere, static_data, on_block, at_owner}
+use Rattle.arc_block.specs.declared.block.TheConstants.{MAX_OWNERS}
+use Rattle.arc_block.specs.Window.{Window, made_window, IsWholeOf}
+
+module _ {M H : Type 0} where
+  -- a pass of the window's block, or of none
+  abbrev pub IsPassAt : Place (Option Owner) M → Pass H → Type 0
+  IsPassAt place p = at_owner place (IsPassOfNone p) (λ o. IsPassOf o.block p)
+
+  -- a window was made that stands where this one does, as another owner of the same block
+  abbrev pub Shares : Place (Option Owner) M → Pass H → Pass H → Place (Option Owner) M → Type 0
+  Shares nowhere old new there = (there ≡ nowhere) × (new ≡ old)
+  Shares static_data old new there = (there ≡ static_data) × (new ≡ old)
+  Shares (on_block None offset facts) old new there =
+      (there ≡ on_block None offset facts) × (new ≡ old)
+  Shares (on_block (Some o) offset facts) old new there = (other : Owner)
+      × MakesAnother o old new other × (there ≡ on_block (Some other) offset facts)
+
+  -- no window was made: the count was found at its greatest, or the layout's clones want memory on
+  -- a block of this sort, and nothing was added
+  abbrev pub Refuses : (Sort → Bool) → Place (Option Owner) M → Pass H → Pass H → OwnerError
+      → Type 0
+  Refuses wants nowhere old new e = ⊥
+  Refuses wants static_data old new e = ⊥
+  Refuses wants (on_block None offset facts) old new CountFull = ⊥
+  Refuses wants (on_block None offset facts) old new AllocError =
+      (wants facts.sort ≡ true) × (new ≡ old)
+  Refuses wants (on_block (Some o) offset facts) old new CountFull = FindsFull o old new
+  Refuses wants (on_block (Some o) offset facts) old new AllocError =
+      (wants facts.sort ≡ true) × (before : List Line) × Appends o.block old new before []
+
+module _ {T : Type 0} where
+  -- a window was made of a list: on a block it is its first owner
+  pub record Makes (has_static drops one_pass : Bool) (items : List T) (w : Window T) : Type 0 where
+    pub owner : Owner
+    pub made : w ≡ made_window has_static drops owner items
+    pub first : at_owner w.place (Unit {0}) (λ o. IsFirst MAX_OWNERS one_pass o)
+
+module _ {T H : Type 0} where
+  -- an array was refused: where only the count could decide, it was asked and said no, and else
+  -- nothing was asked
+  pub record RefusesArray (size : ℕ) (w : Window T) (old new : Pass H) : Type 0 where
+    pub asked : IsWholeOf size w → at_owner w.place ⊥ (λ o. Asks o old new false)
+    pub unasked : ¬ IsWholeOf size w → new ≡ old
+
+  -- the pass, which was of no block, is that of the window's new block, in which nothing has
+  -- happened yet
+  abbrev pub Begins : Window T → Pass H → Pass H → Type 0
+  Begins w old new = at_owner w.place (new ≡ old) (λ o. IsFreshPass o new)

@@ -1,0 +1,199 @@
+//! Parts: what a window is made of, whatever its kind and its layout.
+//!
+//! What all windows have in common stands here once: where a window without items stands, how far
+//! into its block a part begins, and how items and owner are reached. That a list is legal for its
+//! kind, and where it may be cut, is known to the windows alone.
+ghost use Rattle.std.specs.Prelude.{◌≡◌, ◌≤◌, ◌==◌, ◌&&◌, false, length, [], IfOk, IfErr, OnErr};
+ghost use Rattle.arc_buffer.specs.Slice.{sub};
+ghost use Rattle.arc_owners.specs.count.Calls.{IsFirst, IsFreshPass, IsPassOfNone, IsNewPass};
+ghost use Rattle.arc_owners.specs.count.Calls.{Learns};
+ghost use Rattle.arc_block.specs.Block.{native_block, IsLimited};
+ghost use Rattle.arc_block.specs.Place.{nowhere, moved, at_owner};
+ghost use Rattle.arc_block.specs.Table.{reader};
+ghost use Rattle.arc_block.specs.Window.{window_of, NeedsBlock};
+ghost use Rattle.arc_block.specs.Steps.{IsPassAt, Makes, Begins};
+
+use crate::block::{Block, MAX_OWNERS, max_owners};
+use crate::layout::{Layout, StaticLayout, stands_on_nothing};
+use arc_buffer::kinds::Slice;
+use arc_owners::error::AllocError;
+use arc_owners::mark::{Mark, Open, Stepping};
+use arc_owners::owners::Pass;
+use std::alloc::Allocator;
+use std::marker::Model;
+
+/// A row of the table of lists, with its owner: the items, where they stand, and what may be done
+/// with them.
+///
+/// Dropped, parts end as a window does: under the mark `Open` with a new pass; under `Whole` their
+/// owner is a forgotten one.
+pub struct Parts<S: Slice, A: Allocator + Copy, H: Mark = Open> {
+    block: Option<Block<S, A, MAX_OWNERS, H>>,
+    start: usize,
+    end: usize,
+    alloc: A,
+}
+
+impl<S: Slice, A: Allocator + Copy, H: Mark> Model for Parts<S, A, H> {
+    ghost use Rattle.arc_block.specs.Window.{PartsView, parts_of, window_seen, IsWithin};
+
+    ghost Value = { PartsView S.Item };
+
+    ghost view = { λ p. parts_of (window_seen p.block p.start p.end) };
+
+    ghost invariant = { λ p. IsWithin p.block p.start p.end };
+}
+
+impl<S: Slice, A: Allocator + Copy, H: Mark> Drop for Parts<S, A, H> {
+    #[inline(always)]
+    fn drop(self) {
+        let Parts {
+            block,
+            start: _,
+            end: _,
+            alloc,
+        } = self;
+        drop(block);
+        drop(alloc);
+    }
+}
+
+impl<S: Slice, A: Allocator + Copy, H: Mark> Parts<S, A, H> {
+    /// No items, on nothing.
+    ///
+    /// # Errors
+    ///
+    /// None.
+    pub fn on_nothing(alloc: A) -> Self
+        ensures { result ≡ record { items = []; place = nowhere; role = reader } }
+    {
+        Parts {
+            block: None,
+            start: 0,
+            end: 0,
+            alloc,
+        }
+    }
+
+    /// All of a block that was just made; the pass becomes the block's.
+    fn over_new<L: Layout>(
+        alloc: A,
+        block: Block<S, A, MAX_OWNERS, H>,
+        new: Pass<H>,
+        pass: &mut Pass<H>,
+    ) -> Self
+        requires made { (block ≡ native_block S.DROPS block.owner block.items)
+            × IsFirst MAX_OWNERS H.whole block.owner × IsFreshPass block.owner new }
+        requires stands { (L.STATIC && (length block.items == 0)) ≡ false }
+        ensures made { Makes L.STATIC S.DROPS H.whole block.items (window_of result) }
+        ensures role { result.role ≡ reader }
+        ensures pass { Begins (window_of result) pass.old pass.new }
+    {
+        let end = block.as_slice().len();
+        *pass = new;
+        Parts {
+            block: Some(block),
+            start: 0,
+            end,
+            alloc,
+        }
+    }
+
+    /// A copy of the items: no items stand on nothing where the layout has static data, else they
+    /// stand on a new native block with exactly a place for each. The pass, which is of no block,
+    /// becomes the block's.
+    ///
+    /// # Errors
+    ///
+    /// `AllocError` where memory for a block is refused; the pass is then as before.
+    ///
+    /// # Allocates
+    ///
+    /// Where the items need a block.
+    pub fn try_copied_as<L: Layout>(
+        alloc: A,
+        items: &[S::Item],
+        pass: &mut Pass<H>,
+    ) -> Result<Self, AllocError>
+    where
+        S::Item: Copy,
+        ensures made { IfOk result (λ parts.
+            Makes L.STATIC S.DROPS H.whole items.now (window_of parts)) }
+        ensures role { IfOk result (λ parts. parts.role ≡ reader) }
+        ensures pass { IfOk result (λ parts. Begins (window_of parts) pass.old pass.new) }
+        ensures refused { OnErr result (NeedsBlock L.STATIC items.now × (pass.new ≡ pass.old)) }
+    {
+        if stands_on_nothing::<L>(items.len()) {
+            return Ok(Self::on_nothing(alloc));
+        }
+        let (block, new) = Block::try_from_slice(alloc, items)?;
+        Ok(Self::over_new::<L>(alloc, block, new, pass))
+    }
+
+    /// An array's items, which are moved as `try_copied_as` copies.
+    ///
+    /// # Errors
+    ///
+    /// The array comes back where memory for a block is refused; the pass is then as before.
+    ///
+    /// # Allocates
+    ///
+    /// Where the items need a block.
+    pub fn try_moved_as<L: Layout, const N: usize>(
+        alloc: A,
+        array: [S::Item; N],
+        pass: &mut Pass<H>,
+    ) -> Result<Self, [S::Item; N]>
+        ensures made { IfOk result (λ parts.
+            Makes L.STATIC S.DROPS H.whole array (window_of parts)) }
+        ensures role { IfOk result (λ parts. parts.role ≡ reader) }
+        ensures pass { IfOk result (λ parts. Begins (window_of parts) pass.old pass.new) }
+        ensures refused { IfErr result (λ back. (back ≡ array) × NeedsBlock L.STATIC array
+            × (pass.new ≡ pass.old)) }
+    {
+        if stands_on_nothing::<L>(array.as_slice().len()) {
+            drop(array);
+            return Ok(Self::on_nothing(alloc));
+        }
+        let (block, new) = Block::try_from_array(alloc, array)?;
+        Ok(Self::over_new::<L>(alloc, block, new, pass))
+    }
+}
+
+impl<S: Slice, A: Allocator + Copy, H: Mark> Parts<S, A, H> {
+    /// How many items there are.
+    #[inline(always)]
+    pub fn len(&self) -> usize
+        ensures { result ≡ length self.now.items }
+    {
+        self.end - self.start
+    }
+
+    /// The items.
+    #[inline(always)]
+    pub fn as_slice(&self) -> &[S::Item]
+        ensures { result.now ≡ self.now.items }
+    {
+        match &self.block {
+            Some(block) => &block.as_slice()[self.start..self.end],
+            None => &[],
+        }
+    }
+
+    /// Leaves the items from `start` to `end`, where they stand, also where these are none.
+    #[inline(always)]
+    pub fn keep(&mut self, start: usize, end: usize)
+        requires { (start ≤ end) × (end ≤ length self.old.items) }
+        ensures { self.new ≡ record {
+          items = sub self.old.items start end;
+          place = moved start self.old.place;
+          role = self.old.role;
+        } }
+    {
+        self.end = self.start + end;
+        self.start += start;
+    }
+}
+
+mod ends;
+mod owners;

@@ -1,0 +1,143 @@
+//! Ends of parts: what is taken back, and what is let go.
+ghost use Rattle.std.specs.Prelude.{◌≡◌, ◌↔◌, Bool, IfOk, IfErr, IsTrue};
+ghost use Rattle.arc_owners.specs.count.Calls.{AsksAndLeaves, Leaves, TakesBlock};
+ghost use Rattle.arc_block.specs.Place.{at_owner};
+ghost use Rattle.arc_block.specs.Table.{reader};
+ghost use Rattle.arc_block.specs.Window.{IsWholeOf, window_of};
+ghost use Rattle.arc_block.specs.Steps.{IsPassAt, RefusesArray};
+
+use super::Parts;
+use arc_buffer::kinds::Slice;
+use arc_owners::mark::Mark;
+use arc_owners::owners::Pass;
+use std::alloc::Allocator;
+
+impl<S: Slice, A: Allocator + Copy, H: Mark> Parts<S, A, H> {
+    /// Whether there are `n` items, which are all places of a native block.
+    fn is_whole(&self, n: usize) -> bool
+        ensures { IsTrue result ↔ IsWholeOf n (window_of self.now) }
+    {
+        match &self.block {
+            Some(block) => block.is_native() && block.size() == n && self.len() == n,
+            None => false,
+        }
+    }
+
+    /// The items as an array, where there are `N` of them, which are all places of a native block,
+    /// and no other owner lives. Else the parts come back.
+    ///
+    /// # Errors
+    ///
+    /// The parts, on no block always.
+    ///
+    /// # History
+    ///
+    /// Taken, Alone and Down. Refused, Alone with no where only the count could decide, and else
+    /// nothing.
+    pub fn try_into_array_as<const N: usize>(self, pass: &mut Pass<H>) -> Result<[S::Item; N], Self>
+        requires role { self.role ≡ reader }
+        requires pass { IsPassAt self.place pass.old }
+        ensures taken { IfOk result (λ array. IsWholeOf N (window_of self)
+            × (array ≡ self.items)) }
+        ensures entries { IfOk result (λ _.
+            at_owner self.place ⊥ (λ o. TakesBlock o pass.old pass.new)) }
+        ensures refused { IfErr result (λ parts. (parts ≡ self)
+            × RefusesArray N (window_of self) pass.old pass.new) }
+    {
+        if !self.is_whole(N) {
+            return Err(self);
+        }
+        let Parts {
+            block,
+            start,
+            end,
+            alloc,
+        } = self;
+        let Some(block) = block else { unreachable!() };
+        match block.try_into_items_as(pass) {
+            Ok(items) => match <[S::Item; N]>::try_from(items) {
+                Ok(array) => Ok(array),
+                Err(_) => unreachable!(),
+            },
+            Err(block) => Err(Parts {
+                block: Some(block),
+                start,
+                end,
+                alloc,
+            }),
+        }
+    }
+
+    /// Ends the parts. The last owner gives the block back.
+    ///
+    /// # History
+    ///
+    /// On a block Down.
+    #[inline(always)]
+    pub fn release_as(self, pass: &mut Pass<H>)
+        requires pass { IsPassAt self.place pass.old }
+        ensures entry { at_owner self.place (pass.new ≡ pass.old) (λ o. (last : Bool)
+            × Leaves o pass.old pass.new last) }
+    {
+        let Parts {
+            block,
+            start: _,
+            end: _,
+            alloc: _,
+        } = self;
+        if let Some(block) = block {
+            let _ = block.release_as(pass);
+        }
+    }
+
+    /// Ends the parts: it reads the count first, and gives the block back without a further step
+    /// where no other owner lives, else it counts down.
+    ///
+    /// # History
+    ///
+    /// On a block Alone with what was found, then Down.
+    pub fn drop_with_unique_hint_as(self, pass: &mut Pass<H>)
+        requires role { self.role ≡ reader }
+        requires pass { IsPassAt self.place pass.old }
+        ensures entries { at_owner self.place (pass.new ≡ pass.old) (λ o.
+            AsksAndLeaves o pass.old pass.new) }
+    {
+        let Parts {
+            block,
+            start: _,
+            end: _,
+            alloc: _,
+        } = self;
+        if let Some(block) = block {
+            match block.try_into_items_as(pass) {
+                Ok(items) => drop(items),
+                Err(shared) => {
+                    let _ = shared.release_as(pass);
+                }
+            }
+        }
+    }
+
+    /// The same parts, of items of another kind. It adds nothing.
+    pub fn into_kind<K: Slice<Item = S::Item>>(self) -> Parts<K, A, H>
+        requires { K.DROPS ≡ S.DROPS }
+        ensures { result ≡ self }
+    {
+        let Parts {
+            block,
+            start,
+            end,
+            alloc,
+        } = self;
+        let block = match block {
+            Some(block) => Some(block.into_kind()),
+            None => None,
+        };
+        Parts {
+            block,
+            start,
+            end,
+            alloc,
+        }
+    }
+}

@@ -1,0 +1,167 @@
+//! Owners of the block on which parts stand: another one, and what is seen of all.
+ghost use Rattle.std.specs.Prelude.{◌≡◌, ◌≤◌, false, length, IfOk, IfErr, IfSome, IfNone};
+ghost use Rattle.arc_buffer.specs.Slice.{sub};
+ghost use Rattle.arc_owners.specs.count.Calls.{Asks, IsNewPass, IsPassOfNone, Learns};
+ghost use Rattle.arc_block.specs.Block.{IsLimited};
+ghost use Rattle.arc_block.specs.Place.{at_owner, part_place};
+ghost use Rattle.arc_block.specs.Table.{reader};
+ghost use Rattle.arc_block.specs.Steps.{IsPassAt, Shares, Refuses};
+
+use super::Parts;
+use crate::block::max_owners;
+use crate::layout::{Layout, stands_on_nothing};
+use arc_buffer::kinds::Slice;
+use arc_owners::error::OwnerError;
+use arc_owners::mark::{Mark, Stepping};
+use arc_owners::owners::Pass;
+use std::alloc::Allocator;
+
+impl<S: Slice, A: Allocator + Copy, H: Mark> Parts<S, A, H> {
+    /// One attempt to make another owner of the same items at the same place: nothing where another
+    /// thread's step came between, which only a block's owner can meet, and then no entry is added.
+    ///
+    /// # Errors
+    ///
+    /// `CountFull` exactly where `MAX_OWNERS` owners live.
+    ///
+    /// # History
+    ///
+    /// On a block Up, or Full where refused.
+    #[inline(always)]
+    pub fn try_clone_once_as<L: Layout>(
+        &self,
+        pass: &mut Pass<H>,
+    ) -> Option<Result<Self, OwnerError>>
+        requires role { self.now.role ≡ reader }
+        requires pass { IsPassAt self.now.place pass.old }
+        ensures items { IfSome result (λ r. IfOk r (λ parts. parts.items ≡ self.now.items)) }
+        ensures place { IfSome result (λ r. IfOk r (λ parts.
+            Shares self.now.place pass.old pass.new parts.place)) }
+        ensures role { IfSome result (λ r. IfOk r (λ parts. parts.role ≡ reader)) }
+        ensures refused { IfSome result (λ r. IfErr r (λ e.
+            Refuses L.clone_wants self.now.place pass.old pass.new e)) }
+        ensures owned { IfNone result (at_owner self.now.place ⊥ (λ _. Unit {0})) }
+        ensures again { IfNone result (pass.new ≡ pass.old) }
+    {
+        let block = match &self.block {
+            Some(block) => match block.try_share_once_as(pass)? {
+                Ok(block) => Some(block),
+                Err(e) => return Some(Err(e.into())),
+            },
+            None => None,
+        };
+        Some(Ok(Parts {
+            block,
+            start: self.start,
+            end: self.end,
+            alloc: self.alloc,
+        }))
+    }
+
+    /// One attempt to make another owner, of the items from `start` to `end`. With no items it
+    /// stands on nothing where the layout has static data, and nothing is added. Else as
+    /// `try_clone_once_as`.
+    ///
+    /// # Errors
+    ///
+    /// `CountFull` exactly where `MAX_OWNERS` owners live.
+    ///
+    /// # History
+    ///
+    /// Where the part stands on a block Up, or Full where refused.
+    #[inline(always)]
+    pub fn try_part_once_as<L: Layout>(
+        &self,
+        start: usize,
+        end: usize,
+        pass: &mut Pass<H>,
+    ) -> Option<Result<Self, OwnerError>>
+        requires range { (start ≤ end) × (end ≤ length self.now.items) }
+        requires role { self.now.role ≡ reader }
+        requires pass { IsPassAt self.now.place pass.old }
+        ensures items { IfSome result (λ r.
+            IfOk r (λ part. part.items ≡ sub self.now.items start end)) }
+        ensures place { IfSome result (λ r. IfOk r (λ part.
+            Shares (part_place L.STATIC (sub self.now.items start end) start self.now.place)
+            pass.old pass.new part.place)) }
+        ensures role { IfSome result (λ r. IfOk r (λ part. part.role ≡ reader)) }
+        ensures refused { IfSome result (λ r. IfErr r (λ e.
+            Refuses L.clone_wants
+            (part_place L.STATIC (sub self.now.items start end) start self.now.place)
+            pass.old pass.new e)) }
+        ensures owned { IfNone result (at_owner
+            (part_place L.STATIC (sub self.now.items start end) start self.now.place)
+            ⊥ (λ _. Unit {0})) }
+        ensures again { IfNone result (pass.new ≡ pass.old) }
+    {
+        match &self.block {
+            Some(block) if !stands_on_nothing::<L>(end - start) => {
+                match block.try_share_once_as(pass)? {
+                    Ok(block) => Some(Ok(Parts {
+                        block: Some(block),
+                        start: self.start + start,
+                        end: self.start + end,
+                        alloc: self.alloc,
+                    })),
+                    Err(e) => Some(Err(e.into())),
+                }
+            }
+            _ => Some(Ok(Self::on_nothing(self.alloc))),
+        }
+    }
+
+    /// Whether no other owner of the block lives, by one load. `false` on no block.
+    ///
+    /// # History
+    ///
+    /// On a block Alone with the answer.
+    #[inline(always)]
+    pub fn is_unique_as(&self, pass: &mut Pass<H>) -> bool
+        requires role { self.now.role ≡ reader }
+        requires pass { IsPassAt self.now.place pass.old }
+        ensures entry { at_owner self.now.place ((result ≡ false)
+            × (pass.new ≡ pass.old)) (λ o. Asks o pass.old pass.new result) }
+    {
+        match &self.block {
+            Some(block) => block.is_unique_as(pass),
+            None => false,
+        }
+    }
+
+    /// Afterwards the first pass has seen at least what the other had. It adds nothing.
+    pub fn learn(&self, pass: &mut Pass<H>, other: &Pass<H>)
+        requires pass { IsPassAt self.now.place pass.old }
+        requires other { IsPassAt self.now.place other.now }
+        ensures { at_owner self.now.place (pass.new ≡ pass.old) (λ o.
+            Learns o.block pass.old other.now pass.new) }
+    {
+        if let Some(block) = &self.block {
+            block.learn(pass, other);
+        }
+    }
+
+    /// How many owners the block may have at once, and under which mark it is.
+    pub fn max_owners(&self) -> u64
+        ensures answer { result ≡ 9223372036854775807 }
+        ensures block { at_owner self.now.place (Unit {0}) (λ o.
+            IsLimited 9223372036854775807 H.whole o) }
+    {
+        match &self.block {
+            Some(block) => block.max_owners(),
+            None => max_owners(),
+        }
+    }
+}
+
+impl<S: Slice, A: Allocator + Copy, H: Stepping> Parts<S, A, H> {
+    /// A new pass of the block, which has seen at least how this owner became one, and made
+    /// nothing; on no block a pass of none. It adds nothing.
+    pub fn pass(&self) -> Pass<H>
+        ensures { at_owner self.now.place (IsPassOfNone result) (λ o. IsNewPass o result) }
+    {
+        match &self.block {
+            Some(block) => block.pass(),
+            None => Pass::none(),
+        }
+    }
+}

@@ -1,0 +1,108 @@
+//! Making of windows that are read.
+ghost use Rattle.std.specs.Prelude.{◌≡◌, false, IfOk, IfErr, OnErr};
+ghost use Rattle.arc_owners.specs.count.Calls.{IsPassOfNone};
+ghost use Rattle.arc_block.specs.Window.{NeedsBlock};
+ghost use Rattle.arc_block.specs.Steps.{Makes, Begins};
+
+use super::ArcSlice;
+use arc_block::layout::Layout;
+use arc_block::parts::Parts;
+use arc_buffer::kinds::{AnyItems, CopySlice, Slice};
+use arc_owners::error::AllocError;
+use arc_owners::mark::{Mark, Open};
+use arc_owners::owners::Pass;
+use std::alloc::Allocator;
+
+impl<S: Slice, L: Layout, A: Allocator + Copy, H: Mark> ArcSlice<S, L, A, H> {
+    /// A window over a copy of the items, which are legal.
+    #[tactic(auto, using(arc_block::proofs::Held::made_held))]
+    pub(super) fn try_copied_as(
+        alloc: A,
+        items: &[S::Item],
+        pass: &mut Pass<H>,
+    ) -> Result<Self, AllocError>
+    where
+        S::Item: Copy,
+        requires legal { ∥ S.is_legal items.now ∥₁ }
+        ensures ok { IfOk result (λ window. Makes L.STATIC S.DROPS H.whole items.now window) }
+        ensures pass { IfOk result (λ window. Begins window pass.old pass.new) }
+        ensures refused { OnErr result (NeedsBlock L.STATIC items.now × (pass.new ≡ pass.old)) }
+    {
+        match Parts::try_copied_as::<L>(alloc, items, pass) {
+            Ok(parts) => Ok(Self::from_parts(parts)),
+            Err(e) => Err(e),
+        }
+    }
+
+    /// A window over a copy of the items: no items stand on nothing where the layout has static
+    /// data, else they stand on a new native block with exactly a place for each. The pass, which
+    /// is of no block, becomes the block's; the window is owner 0.
+    ///
+    /// Takes memory for a block; refused, the answer is `AllocError`, and the pass is as before.
+    pub fn try_from_slice_as(
+        alloc: A,
+        items: &[S::Item],
+        pass: &mut Pass<H>,
+    ) -> Result<Self, AllocError>
+    where
+        S: CopySlice,
+        S::Item: Copy,
+        requires pass { IsPassOfNone pass.old }
+        ensures ok { IfOk result (λ window. Makes L.STATIC S.DROPS H.whole items.now window) }
+        ensures pass { IfOk result (λ window. Begins window pass.old pass.new) }
+        ensures refused { OnErr result (NeedsBlock L.STATIC items.now × (pass.new ≡ pass.old)) }
+    {
+        Self::try_copied_as(alloc, items, pass)
+    }
+
+    /// A window over an array's items, which are moved into a block as by `try_from_slice_as`.
+    /// Refused memory, the array comes back.
+    #[tactic(auto, using(arc_block::proofs::Held::made_held))]
+    pub fn try_from_array_as<const N: usize>(
+        alloc: A,
+        array: [S::Item; N],
+        pass: &mut Pass<H>,
+    ) -> Result<Self, [S::Item; N]>
+    where
+        S: AnyItems,
+        requires pass { IsPassOfNone pass.old }
+        ensures ok { IfOk result (λ window. Makes L.STATIC S.DROPS H.whole array window) }
+        ensures pass { IfOk result (λ window. Begins window pass.old pass.new) }
+        ensures refused { IfErr result (λ back. (back ≡ array) × NeedsBlock L.STATIC array
+            × (pass.new ≡ pass.old)) }
+    {
+        match Parts::try_moved_as::<L, N>(alloc, array, pass) {
+            Ok(parts) => Ok(Self::from_parts(parts)),
+            Err(back) => Err(back),
+        }
+    }
+}
+
+impl<S: Slice, L: Layout, A: Allocator + Copy> ArcSlice<S, L, A, Open> {
+    /// A window over a copy of the items: `try_from_slice_as` with a new pass.
+    ///
+    /// Takes memory for a block; refused, the answer is `AllocError`.
+    pub fn try_from_slice(alloc: A, items: &[S::Item]) -> Result<Self, AllocError>
+    where
+        S: CopySlice,
+        S::Item: Copy,
+        ensures ok { IfOk result (λ window. Makes L.STATIC S.DROPS false items.now window) }
+        ensures refused { OnErr result (NeedsBlock L.STATIC items.now) }
+    {
+        Self::try_from_slice_as(alloc, items, &mut Pass::none())
+    }
+
+    /// A window over an array's items: `try_from_array_as` with a new pass. Refused memory, the
+    /// array comes back.
+    pub fn try_from_array<const N: usize>(
+        alloc: A,
+        array: [S::Item; N],
+    ) -> Result<Self, [S::Item; N]>
+    where
+        S: AnyItems,
+        ensures ok { IfOk result (λ window. Makes L.STATIC S.DROPS false array window) }
+        ensures refused { IfErr result (λ back. (back ≡ array) × NeedsBlock L.STATIC array) }
+    {
+        Self::try_from_array_as(alloc, array, &mut Pass::none())
+    }
+}

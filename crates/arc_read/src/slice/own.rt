@@ -1,0 +1,110 @@
+//! Owners of a read window's block, and ends of the window.
+ghost use Rattle.std.specs.Prelude.{◌≡◌, Bool, false, IfOk, IfErr};
+ghost use Rattle.arc_block.specs.Block.{IsLimited};
+ghost use Rattle.arc_block.specs.Place.{at_owner};
+ghost use Rattle.arc_block.specs.Window.{IsWholeOf};
+ghost use Rattle.arc_block.specs.Steps.{IsPassAt, RefusesArray};
+ghost use Rattle.arc_owners.specs.count.Calls.{IsPassOfNone, IsNewPass, Learns, Asks, Leaves};
+ghost use Rattle.arc_owners.specs.count.Calls.{TakesBlock, AsksAndLeaves};
+
+use super::ArcSlice;
+use arc_block::layout::Layout;
+use arc_buffer::kinds::Slice;
+use arc_owners::mark::{Mark, Stepping};
+use arc_owners::owners::Pass;
+use std::alloc::Allocator;
+
+impl<S: Slice, L: Layout, A: Allocator + Copy, H: Mark> ArcSlice<S, L, A, H> {
+    /// Whether no other owner of the block lives, by one load: on a block it adds Alone with the
+    /// answer. `false` on no block. Takes no memory.
+    #[inline(always)]
+    pub fn is_unique_as(&self, pass: &mut Pass<H>) -> bool
+        requires pass { IsPassAt self.now.place pass.old }
+        ensures entry { at_owner self.now.place ((result ≡ false)
+            × (pass.new ≡ pass.old)) (λ o. Asks o pass.old pass.new result) }
+    {
+        self.parts.is_unique_as(pass)
+    }
+
+    /// The items as an array, where the window has `N` of them, which are all places of a native
+    /// block, and no other owner lives. On success it adds Alone and Down. Else the window comes
+    /// back, and Alone was added with no where only the count could decide; on no block it always
+    /// comes back.
+    ///
+    /// Takes no memory.
+    pub fn try_into_array_as<const N: usize>(self, pass: &mut Pass<H>) -> Result<[S::Item; N], Self>
+        requires pass { IsPassAt self.place pass.old }
+        ensures taken { IfOk result (λ array. IsWholeOf N self × (array ≡ self.items)) }
+        ensures entries { IfOk result (λ _.
+            at_owner self.place ⊥ (λ o. TakesBlock o pass.old pass.new)) }
+        ensures refused { IfErr result (λ window. (window ≡ self)
+            × RefusesArray N self pass.old pass.new) }
+    {
+        match self.into_parts().try_into_array_as(pass) {
+            Ok(array) => Ok(array),
+            Err(parts) => Err(Self::from_parts(parts)),
+        }
+    }
+
+    /// Ends the window. On a block it adds Down, and the last owner gives the block back. Takes no
+    /// memory.
+    pub fn release_as(self, pass: &mut Pass<H>)
+        requires pass { IsPassAt self.place pass.old }
+        ensures entry { at_owner self.place (pass.new ≡ pass.old) (λ o. (last : Bool)
+            × Leaves o pass.old pass.new last) }
+    {
+        self.into_parts().release_as(pass);
+    }
+
+    /// Ends the window: it reads the count first, and gives the block back without a further step
+    /// where no other owner lives, else it counts down. On a block it adds Alone with what was
+    /// found, then Down. Takes no memory.
+    pub fn drop_with_unique_hint_as(self, pass: &mut Pass<H>)
+        requires pass { IsPassAt self.place pass.old }
+        ensures entries { at_owner self.place (pass.new ≡ pass.old) (λ o.
+            AsksAndLeaves o pass.old pass.new) }
+    {
+        self.into_parts().drop_with_unique_hint_as(pass);
+    }
+
+    /// The same window, of items of another kind, for which its list is legal.
+    pub(super) fn into_kind<K: Slice<Item = S::Item>>(self) -> ArcSlice<K, L, A, H>
+        requires drops { K.DROPS ≡ S.DROPS }
+        requires legal { ∥ K.is_legal self.items ∥₁ }
+        ensures { result ≡ self }
+    {
+        ArcSlice::from_parts(self.into_parts().into_kind())
+    }
+
+    /// Afterwards the first pass has seen at least what the other had. It adds nothing and takes no
+    /// memory.
+    pub fn learn(&self, pass: &mut Pass<H>, other: &Pass<H>)
+        requires pass { IsPassAt self.now.place pass.old }
+        requires other { IsPassAt self.now.place other.now }
+        ensures { at_owner self.now.place (pass.new ≡ pass.old) (λ o.
+            Learns o.block pass.old other.now pass.new) }
+    {
+        self.parts.learn(pass, other);
+    }
+}
+
+impl<S: Slice, L: Layout, A: Allocator + Copy, H: Mark> ArcSlice<S, L, A, H> {
+    /// How many owners the window's block may have at once, and under which mark it is.
+    pub fn max_owners(&self) -> u64
+        ensures answer { result ≡ 9223372036854775807 }
+        ensures block { at_owner self.now.place (Unit {0}) (λ o.
+            IsLimited 9223372036854775807 H.whole o) }
+    {
+        self.parts.max_owners()
+    }
+}
+
+impl<S: Slice, L: Layout, A: Allocator + Copy, H: Stepping> ArcSlice<S, L, A, H> {
+    /// A new pass of the window's block, which has seen at least how the window became an owner,
+    /// and made nothing; on no block a pass of none. It adds nothing and takes no memory.
+    pub fn pass(&self) -> Pass<H>
+        ensures { at_owner self.now.place (IsPassOfNone result) (λ o. IsNewPass o result) }
+    {
+        self.parts.pass()
+    }
+}

@@ -1,0 +1,105 @@
+//! The plain forms: calls with a new pass.
+ghost use Rattle.std.specs.Prelude.{◌≡◌, false, IfOk, IfErr};
+ghost use Rattle.arc_buffer.specs.Slice.{IsRange, sub};
+ghost use Rattle.arc_block.specs.Place.{at_owner, part_place};
+ghost use Rattle.arc_block.specs.Window.{IsWholeOf};
+ghost use Rattle.arc_block.specs.Steps.{Shares, Refuses, RefusesArray};
+ghost use Rattle.arc_owners.specs.count.Calls.{Asks, TakesBlock, AsksAndLeaves};
+ghost use Rattle.arc_read.specs.Steps.{WithNewPass};
+
+use super::ArcSlice;
+use arc_block::layout::Layout;
+use arc_buffer::kinds::{Slice, Subsliceable};
+use arc_owners::error::OwnerError;
+use arc_owners::mark::Stepping;
+use std::alloc::Allocator;
+use std::sync::Wait;
+
+// The plain forms. They are generic over the marks under which a block has many passes, which
+// `Open` alone is: so a body can show a pass only by one that is there (`Pass::show`), and none
+// that it made up.
+impl<S: Slice, L: Layout, A: Allocator + Copy, H: Stepping> ArcSlice<S, L, A, H> {
+    /// Whether no other owner of the block lives: `is_unique_as` with a new pass. `false` on no
+    /// block.
+    #[inline(always)]
+    pub fn is_unique(&self) -> bool
+        ensures entry { WithNewPass {H = H} H.real self.now.place (λ first last.
+            at_owner self.now.place ((result ≡ false)
+            × (last ≡ first)) (λ o. Asks o first last result)) }
+    {
+        let mut pass = self.pass();
+        let found = self.is_unique_as(&mut pass);
+        pass.show();
+        found
+    }
+
+    /// The items as an array: `try_into_array_as` with a new pass.
+    pub fn try_into_array<const N: usize>(self) -> Result<[S::Item; N], Self>
+        ensures taken { IfOk result (λ array. IsWholeOf N self × (array ≡ self.items)) }
+        ensures entries { IfOk result (λ _. WithNewPass {H = H} H.real self.place (λ first last.
+            at_owner self.place ⊥ (λ o. TakesBlock o first last))) }
+        ensures refused { IfErr result (λ window. window ≡ self) }
+        ensures asked { IfErr result (λ _.
+            WithNewPass {H = H} H.real self.place (λ first last. RefusesArray N self first last)) }
+    {
+        let mut pass = self.pass();
+        let taken = self.try_into_array_as(&mut pass);
+        pass.show();
+        taken
+    }
+
+    /// Ends the window: `drop_with_unique_hint_as` with a new pass.
+    pub fn drop_with_unique_hint(self)
+        ensures entries { WithNewPass {H = H} H.real self.place (λ first last.
+            at_owner self.place (last ≡ first) (λ o. AsksAndLeaves o first last)) }
+    {
+        let mut pass = self.pass();
+        self.drop_with_unique_hint_as(&mut pass);
+        pass.show();
+    }
+
+    /// Another window with the same items at the same place: `try_clone_as` with a new pass.
+    ///
+    /// Takes no memory and copies no item. `CountFull` exactly where `MAX_OWNERS` owners live.
+    #[inline(always)]
+    pub fn try_clone(&self, rt: &impl Wait) -> Result<Self, OwnerError>
+        ensures items { IfOk result (λ window. window.items ≡ self.now.items) }
+        ensures place { IfOk result (λ window.
+            WithNewPass {H = H} H.real self.now.place (λ first last.
+            Shares self.now.place first last window.place)) }
+        ensures refused { IfErr result (λ e.
+            WithNewPass {H = H} H.real self.now.place (λ first last.
+            Refuses L.clone_wants self.now.place first last e)) }
+    {
+        let mut pass = self.pass();
+        let made = self.try_clone_as(rt, &mut pass);
+        pass.show();
+        made
+    }
+
+    /// A window over the items from `start` to `end`: `try_subslice_as` with a new pass of this
+    /// window's block.
+    ///
+    /// Takes no memory and copies no item. `CountFull` exactly where `MAX_OWNERS` owners live.
+    #[inline(always)]
+    pub fn try_subslice(&self, rt: &impl Wait, start: usize, end: usize) -> Result<Self, OwnerError>
+    where
+        S: Subsliceable,
+        requires { IsRange S.boundary self.now.items start end }
+        ensures items { IfOk result (λ part. part.items ≡ sub self.now.items start end) }
+        ensures place { IfOk result (λ part.
+            WithNewPass {H = H} H.real self.now.place (λ first last.
+            Shares (part_place L.STATIC (sub self.now.items start end) start self.now.place)
+            first last part.place)) }
+        ensures refused { IfErr result (λ e.
+            WithNewPass {H = H} H.real self.now.place (λ first last.
+            Refuses L.clone_wants
+            (part_place L.STATIC (sub self.now.items start end) start self.now.place)
+            first last e)) }
+    {
+        let mut pass = self.pass();
+        let made = self.try_subslice_as(rt, start, end, &mut pass);
+        pass.show();
+        made
+    }
+}

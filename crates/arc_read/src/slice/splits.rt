@@ -1,0 +1,139 @@
+//! Splits of a read window.
+ghost use Rattle.std.specs.Prelude.{◌≡◌, length, IfOk, IfErr};
+ghost use Rattle.arc_buffer.specs.Slice.{IsEdge, sub};
+ghost use Rattle.arc_block.specs.Place.{part_place};
+ghost use Rattle.arc_block.specs.Steps.{IsPassAt, Refuses};
+ghost use Rattle.arc_read.specs.Steps.{WithNewPass};
+ghost use Rattle.arc_read.specs.Cuts.{SplitsOff, SplitsTo, off_end, to_start};
+
+use super::ArcSlice;
+use arc_block::layout::Layout;
+use arc_buffer::kinds::Subsliceable;
+use arc_owners::error::OwnerError;
+use arc_owners::mark::{Mark, Stepping};
+use arc_owners::owners::Pass;
+use std::alloc::Allocator;
+use std::mem;
+use std::sync::Wait;
+
+impl<S: Subsliceable, L: Layout, A: Allocator + Copy, H: Mark> ArcSlice<S, L, A, H> {
+    /// Both ends of a window are places at which it may be cut.
+    fn has_edges(&self)
+        ensures start { IsEdge S.boundary self.now.items 0 }
+        ensures end { IsEdge S.boundary self.now.items (length self.now.items) }
+    {
+        let _ = &self.parts;
+    }
+
+    /// Splits the window at `at`: it keeps the front, and the back is handed out. An owner more of
+    /// the block has the part that is new: the back, or for `at` of 0 the front, which then has no
+    /// items. That part stands on nothing where it has no items and the layout has static data;
+    /// else Up is added, or Full where refused.
+    ///
+    /// Takes no memory and copies no item. `CountFull` exactly where `MAX_OWNERS` owners live; the
+    /// window is then as before.
+    pub fn try_split_off_as(
+        &mut self,
+        rt: &impl Wait,
+        at: usize,
+        pass: &mut Pass<H>,
+    ) -> Result<Self, OwnerError>
+        requires at { IsEdge S.boundary self.old.items at }
+        requires pass { IsPassAt self.old.place pass.old }
+        ensures ok { IfOk result (λ back.
+            SplitsOff L.STATIC self.old at pass.old pass.new self.new back) }
+        ensures kept { IfErr result (λ _. self.new ≡ self.old) }
+        ensures refused { IfErr result (λ e.
+            Refuses L.clone_wants
+            (part_place L.STATIC (sub self.old.items at (off_end self.old at)) at self.old.place)
+            pass.old pass.new e) }
+    {
+        self.has_edges();
+        if at == 0 {
+            let rest = self.try_subslice_as(rt, 0, 0, pass)?;
+            return Ok(mem::replace(self, rest));
+        }
+        let back = self.try_subslice_as(rt, at, self.len(), pass)?;
+        self.truncate(at);
+        Ok(back)
+    }
+
+    /// Splits the window at `at`: the front is handed out, and it keeps the back. An owner more of
+    /// the block has the part that is new: the front, or for `at` at the end the back, which then
+    /// has no items. That part stands on nothing where it has no items and the layout has static
+    /// data; else Up is added, or Full where refused.
+    ///
+    /// Takes no memory and copies no item. `CountFull` exactly where `MAX_OWNERS` owners live; the
+    /// window is then as before.
+    pub fn try_split_to_as(
+        &mut self,
+        rt: &impl Wait,
+        at: usize,
+        pass: &mut Pass<H>,
+    ) -> Result<Self, OwnerError>
+        requires at { IsEdge S.boundary self.old.items at }
+        requires pass { IsPassAt self.old.place pass.old }
+        ensures ok { IfOk result (λ front.
+            SplitsTo L.STATIC self.old at pass.old pass.new front self.new) }
+        ensures kept { IfErr result (λ _. self.new ≡ self.old) }
+        ensures refused { IfErr result (λ e.
+            Refuses L.clone_wants
+            (part_place L.STATIC (sub self.old.items (to_start self.old at) at)
+            (to_start self.old at) self.old.place)
+            pass.old pass.new e) }
+    {
+        self.has_edges();
+        if at == self.len() {
+            let rest = self.try_subslice_as(rt, at, at, pass)?;
+            return Ok(mem::replace(self, rest));
+        }
+        let front = self.try_subslice_as(rt, 0, at, pass)?;
+        self.advance(at);
+        Ok(front)
+    }
+}
+
+impl<S: Subsliceable, L: Layout, A: Allocator + Copy, H: Stepping> ArcSlice<S, L, A, H> {
+    /// Splits the window at `at` and hands out the back: `try_split_off_as` with a new pass.
+    ///
+    /// Takes no memory and copies no item. `CountFull` exactly where `MAX_OWNERS` owners live; the
+    /// window is then as before.
+    pub fn try_split_off(&mut self, rt: &impl Wait, at: usize) -> Result<Self, OwnerError>
+        requires { IsEdge S.boundary self.old.items at }
+        ensures ok { IfOk result (λ back. WithNewPass {H = H} H.real self.old.place (λ first last.
+            SplitsOff L.STATIC self.old at first last self.new back)) }
+        ensures kept { IfErr result (λ _. self.new ≡ self.old) }
+        ensures refused { IfErr result (λ e.
+            WithNewPass {H = H} H.real self.old.place (λ first last.
+            Refuses L.clone_wants
+            (part_place L.STATIC (sub self.old.items at (off_end self.old at)) at self.old.place)
+            first last e)) }
+    {
+        let mut pass = self.pass();
+        let made = self.try_split_off_as(rt, at, &mut pass);
+        pass.show();
+        made
+    }
+
+    /// Splits the window at `at` and hands out the front: `try_split_to_as` with a new pass.
+    ///
+    /// Takes no memory and copies no item. `CountFull` exactly where `MAX_OWNERS` owners live; the
+    /// window is then as before.
+    pub fn try_split_to(&mut self, rt: &impl Wait, at: usize) -> Result<Self, OwnerError>
+        requires { IsEdge S.boundary self.old.items at }
+        ensures ok { IfOk result (λ front. WithNewPass {H = H} H.real self.old.place (λ first last.
+            SplitsTo L.STATIC self.old at first last front self.new)) }
+        ensures kept { IfErr result (λ _. self.new ≡ self.old) }
+        ensures refused { IfErr result (λ e.
+            WithNewPass {H = H} H.real self.old.place (λ first last.
+            Refuses L.clone_wants
+            (part_place L.STATIC (sub self.old.items (to_start self.old at) at)
+            (to_start self.old at) self.old.place)
+            first last e)) }
+    {
+        let mut pass = self.pass();
+        let made = self.try_split_to_as(rt, at, &mut pass);
+        pass.show();
+        made
+    }
+}
