@@ -1,32 +1,36 @@
 -- A block's memory that is lent for the lifetime of a lease: its word is lodged, and its value is
--- there for the owners to read. Assumes `Logic`.
-use Rattle.std.proofs.Common.{ℕ, zero, ◌+◌, List, [], ◌∷◌, subst}
+-- there for the owners to read Assumes `Logic`.
+use Rattle.std.proofs.Common.{ℕ, zero, ◌+◌, List, [], ◌∷◌, subst, sym, refl, add-zero}
 use seplogic.Ra.Ura.{Ura}
-use mir.Syntax.{Ty}
+use mir.Syntax.{Ty, ty_struct}
 use mir.Val.{Val}
 use lib.Dec
 use prog.RawLaws.{has_ty-raw}
 use denote.Laws.{Typed}
 use contract.Monad.{fact, fact_use, fact_i}
 use types.Run.{well_typed}
+use base.Before.{before}
 use base.Fraction.{full_share}
-use base.Logic.{SProp, ent, sep, wand, emp, via, fst∗, never_e, upd_i, id⊢, apply∗, all_e}
-use base.Fml.{Lft, Incl, Incl-trans, Share, Fml, ftrue, fsep, fseps, fex, fwand, fupd, fdead, fbor, flft}
+use base.Logic.{SProp, ent, sep, emp, via, fst∗, never_e, upd_i, id⊢}
+use base.Fml.{Lft, Incl, Incl-refl, Incl-trans, Share, Fml, ftrue, fsep, fseps, fex, fwand, fupd, fdead, fbor, flft, fleft, fshr_bor}
 use contract.BorrowLft.{meet_⊑_left, meet_⊑_right}
 use prog.Memory.{size, align, up}
 use types.Logic.{Logic, sem}
-use types.Tokens.{bor_open, obor_alter}
-use types.Kit.{‵, raw, ◌⊛◌, later, ◌$◌, ◌∵◌, !, qed, by, move, keep, drop, split, split3, join, fsplit, fsplit3, fjoin, fjoin3, fpick, fpack, assume, suffices, updating, await, now, done, use0, use1, use2, use3}
+use types.Na.{before-Incl}
+use types.Tokens.{bor_open, bor_fracture, obor_alter}
+use types.Kit.{‵, ◌⊛◌, later, ◌$◌, ◌∵◌, !, qed, by, move, keep, drop, split, split3, join, fsplit, fsplit3, fjoin, fjoin3, fpick, fpack, assume, suffices, updating, await, now, done, rewrite, use0, use1, use2, use3}
 use denote.RattleType.{RattleType, Denots}
 use denote.Memory.{part_of, part_at, cell_at, shared_of, lone}
+use denote.RawPtr.{block_ptr}
 use denote.Param.{param}
 use denote.Param.Laws.{Laws, param_laws}
 use denote.Steps.{nothing}
-use denote.Struct.Members.{Member, rows_of, parts_at}
-use denote.Struct.Parts.{shape_of, PartsBack, Struct-parts}
-use Rattle.arc_owners.specs.count.Invariant.{BlockId, word_borrow_for}
+use denote.Struct.Members.{Member, rows_of, parts_at, raw_tys, lawful_Lones}
+use denote.Struct.Parts.{Struct-left, left_Struct}
+use Rattle.arc_owners.specs.count.Invariant.{BlockId, lent, word_borrow_for}
 use Rattle.arc_owners.specs.contracts.count.word.Word as Word
 use Rattle.arc_owners.specs.contracts.memory.inner.Inner as Inner
+use Rattle.arc_owners.proofs.count.Shared.{word_borrow_twice}
 use Rattle.arc_owners.proofs.count.word.Word.TheLaws.{the_row_laws as word_laws}
 use Rattle.arc_owners.proofs.count.WordBorrows.{borrows_word}
 
@@ -107,44 +111,72 @@ module _ (T : RattleType) (L : Laws T) {M : Type 1} {𝓤 : Ura M} (𝓛 : Logic
   abbrev TheValue : Fml
   TheValue = part_at (R T) full_share v b (o + value_at T)
 
-  abbrev Back : Pr
-  Back = PartsBack 𝓛 full_share [] ms b o
+  -- what the memory has beside the word and the value
+  abbrev Rest : Fml
+  Rest = fleft full_share (ty_struct [] (raw_tys ms)) (raw_tys ms) b o
 
-  apart : ⟦ Whole ⟧ ⊢ ⟦ parts_at full_share ms zero vs b o ⟧ ∗ Back
+  apart : ⟦ Whole ⟧ ⊢ ⟦ parts_at full_share ms zero vs b o ⟧ ∗ ⟦ Rest ⟧
   unfolding part_of
-  apart = Struct-parts 𝓛 full_share [] ms (word_laws.lawful 𝓛, ((param_laws 0 T L).lawful 𝓛, tt)) vs b o
+  apart = Struct-left 𝓛 full_share [] ms (lawful_Lones 𝓛 ms (word_laws.lawful 𝓛, ((param_laws 0 T L).lawful 𝓛, tt))) vs b o
 
-  together : ⟦ TheWord ⟧ ∗ ⟦ TheValue ⟧ ∗ Back ⊢ ⟦ Whole ⟧
+  together : ⟦ TheWord ⟧ ∗ ⟦ TheValue ⟧ ∗ ⟦ Rest ⟧ ⊢ ⟦ Whole ⟧
   unfolding part_of
-  together = let Parts : Fml = parts_at full_share ms zero vs b o in qed 𝓛 (‵ TheWord ∷ ‵ TheValue ∷ raw Back ∷ []) ∵ use1 𝓛 (‵ TheField) (word_laid 𝓛 t b (o + word_at T)) $ nothing ! $ move ! (2 ∷ 0 ∷ []) $ fjoin ! $ move ! (1 ∷ 0 ∷ []) $ fjoin ! $ move ! (1 ∷ []) $
-      use1 𝓛 (raw (wand 𝓤 ⟦ Parts ⟧ ⟦ Whole ⟧)) (all_e 𝓤 (λ (z : Denots (rows_of ms)). wand 𝓤 ⟦ parts_at full_share ms zero z b o ⟧ ⟦ part_at (denote.Struct.Struct.Struct (shape_of [] ms)) full_share z b o ⟧) vs) $ move ! (1 ∷ 0 ∷ []) $
-      by ! (apply∗ 𝓤 ⟦ Parts ⟧ ⟦ Whole ⟧)
+  together = qed 𝓛 (‵ TheWord ∷ ‵ TheValue ∷ ‵ Rest ∷ []) ∵ use1 𝓛 (‵ TheField) (word_laid 𝓛 t b (o + word_at T)) $ nothing ! $ move ! (2 ∷ 0 ∷ []) $ fjoin ! $ move ! (1 ∷ 0 ∷ []) $ fjoin ! $
+      by ! (left_Struct 𝓛 full_share [] ms vs b o)
 
   -- the memory, with what frees it
   abbrev pub memory : Fml
   memory = fsep Whole D
 
-  way_back : (κ : Lft) → Back ∗ ⟦ D ⟧ ⊢ ⟦ fwand (fsep (fdead κ) (fseps (TheWord ∷ TheValue ∷ []))) (fupd memory) ⟧
+  abbrev cut : List Fml
+  cut = TheWord ∷ TheValue ∷ Rest ∷ []
+
+  way_back : (κ : Lft) → ⟦ D ⟧ ⊢ ⟦ fwand (fsep (fdead κ) (fseps cut)) (fupd memory) ⟧
   unfolding fseps
-  way_back κ = qed 𝓛 (raw Back ∷ ‵ D ∷ []) ∵ assume ! (‵ (fsep (fdead κ) (fsep TheWord (fsep TheValue ftrue)))) $ suffices ! ⟦ memory ⟧ (upd_i 𝓤 ⟦ memory ⟧) $ fsplit ! $ drop ! $ fsplit ! $ move ! (1 ∷ []) $ fsplit ! $ move ! (2 ∷ 0 ∷ 3 ∷ []) $
-      use3 𝓛 (‵ Whole) together $ move ! (0 ∷ 2 ∷ []) $ fjoin ! $ keep ! (0 ∷ []) $ done !
+  way_back κ = qed 𝓛 (‵ D ∷ []) ∵ assume ! (‵ (fsep (fdead κ) (fsep TheWord (fsep TheValue (fsep Rest ftrue))))) $ suffices ! ⟦ memory ⟧ (upd_i 𝓤 ⟦ memory ⟧) $ fsplit ! $ drop ! $ fsplit ! $ move ! (1 ∷ []) $ fsplit ! $ move ! (1 ∷ []) $ fsplit ! $
+      move ! (3 ∷ 2 ∷ 0 ∷ 4 ∷ []) $ use3 𝓛 (‵ Whole) together $ fjoin ! $ keep ! (0 ∷ []) $ done !
 
   module _ (a : ℕ) (s : Share) (τ : Lft) (p : Share) (inc : Incl τ (R T).lives) where
     abbrev α : Lft
     α = a ∷ []
 
+    -- what the owners have of the word, and of all of it
+    abbrev pub Lodged : Fml
+    Lodged = word_borrow_for t b o α
+
+    abbrev pub Shown : Fml
+    Shown = shared_of (Inner.the_row (R T)) (record { word = t; value = v }) b o α
+
+    abbrev ValueShown : Fml
+    ValueShown = shared_of (R T) v b (o + value_at T) α
+
+    abbrev RestShown : Fml
+    RestShown = fshr_bor α (λ q. fleft q (ty_struct [] (raw_tys ms)) (raw_tys ms) b o)
+
+    -- the word's borrow, once more, is what a `&` to the word has
+    shown : ⟦ Lodged ⟧ ∗ ⟦ ValueShown ⟧ ∗ ⟦ RestShown ⟧ ⊢ ⟦ Lodged ⟧ ∗ ⟦ Shown ⟧
+    shown = qed 𝓛 (‵ Lodged ∷ ‵ ValueShown ∷ ‵ RestShown ∷ []) ∵ use1 𝓛 (‵ Lodged ⊛ ‵ Lodged) (word_borrow_twice 𝓛 t (block_ptr b o) a) $ split ! $
+        rewrite ! 0 (λ (x : ℕ). ‵ (word_borrow_for t b x α)) (sym (add-zero o)) refl $ fpick ! (λ j.
+        use0 𝓛 (‵ (before α α)) (before-Incl 𝓛 α α (Incl-refl α)) $ fjoin ! $ fpack ! (Lft × ℕ) (lent t b (o + word_at T) α) (α, j) $
+        -- [the word; its borrow; the value; the rest]
+        move ! (2 ∷ []) $ nothing ! $ move ! (1 ∷ 0 ∷ []) $ fjoin ! $ move ! (1 ∷ 0 ∷ []) $ fjoin ! $ move ! (0 ∷ 2 ∷ []) $ fjoin ! $ move ! (1 ∷ 0 ∷ []) $ done !)
+
     -- lent for the lifetime a, with tokens of it and of the value's type
-    pub settles : At.bor α memory ∗ At.lft α s ∗ At.lft τ p ⊢ H.⇛ (⟦ word_borrow_for t b (o + word_at T) α ⟧ ∗ ⟦ shared_of (R T) v b (o + value_at T) α ⟧ ∗ At.lft α s ∗ At.lft τ p)
+    pub settles : At.bor α memory ∗ At.lft α s ∗ At.lft τ p ⊢ H.⇛ (⟦ Lodged ⟧ ∗ ⟦ Shown ⟧ ∗ At.lft α s ∗ At.lft τ p)
     unfolding fseps
     settles = qed 𝓛 (‵ (fbor α memory) ∷ ‵ (flft α s) ∷ ‵ (flft τ p) ∷ []) ∵ updating ! $ bor_open ! tt $ move ! (1 ∷ []) $ fsplit ! $
-        use1 𝓛 (‵ (parts_at full_share ms zero vs b o) ⊛ raw Back) apart $ split ! $ fsplit ! $ use1 𝓛 (‵ TheWord) (word_bare 𝓛 t b (o + word_at T)) $ move ! (1 ∷ []) $ fsplit ! $
-        -- [the value; nothing; the word; the way back to the memory; what frees it; the open
-        -- borrow; the type's token]
-        move ! (3 ∷ 4 ∷ []) $ use2 𝓛 (‵ (fwand (fsep (fdead α) (fseps (TheWord ∷ TheValue ∷ []))) (fupd memory))) (way_back α) $ move ! (1 ∷ 2 ∷ []) $ fjoin ! $ move ! (2 ∷ 0 ∷ []) $ fjoin ! $
-        move ! (2 ∷ 0 ∷ 1 ∷ []) $ obor_alter ! tt (TheWord ∷ TheValue ∷ []) $ use1 𝓛 (‵ (fbor α TheWord) ⊛ ‵ (fbor α TheValue) ⊛ ‵ ftrue) (id⊢ 𝓤 _) $ split3 ! $
-        -- [two borrows; nothing; the tokens]
-        move ! (0 ∷ 3 ∷ []) $ use2 𝓛 (later (‵ (word_borrow_for t b (o + word_at T) α) ⊛ ‵ (flft α s))) (borrows_word 𝓛 t b (o + word_at T) α s) $ await ! tt $ split ! $
-        move ! (1 ∷ 4 ∷ []) $ join ! $ move ! (2 ∷ 0 ∷ []) $
-        use2 𝓛 (later (‵ (shared_of (R T) v b (o + value_at T) α) ⊛ ‵ (flft α s) ⊛ ‵ (flft τ p)))
+        use1 𝓛 (‵ (parts_at full_share ms zero vs b o) ⊛ ‵ Rest) apart $ split ! $ fsplit ! $ use1 𝓛 (‵ TheWord) (word_bare 𝓛 t b (o + word_at T)) $ move ! (1 ∷ []) $ fsplit ! $
+        -- [the value; nothing; the word; the rest; what frees the memory; the open borrow; the type's
+        -- token]
+        move ! (4 ∷ []) $ use1 𝓛 (‵ (fwand (fsep (fdead α) (fseps cut)) (fupd memory))) (way_back α) $ move ! (4 ∷ 2 ∷ []) $ fjoin ! $ move ! (2 ∷ 0 ∷ []) $ fjoin ! $ move ! (2 ∷ 0 ∷ []) $ fjoin ! $
+        move ! (2 ∷ 0 ∷ 1 ∷ []) $ obor_alter ! tt cut $ use1 𝓛 (‵ (fbor α TheWord) ⊛ ‵ (fbor α TheValue) ⊛ ‵ (fbor α Rest) ⊛ ‵ ftrue) (id⊢ 𝓤 _) $ split3 ! $ move ! (2 ∷ []) $ split ! $
+        bor_fracture ! tt (λ q. fleft q (ty_struct [] (raw_tys ms)) (raw_tys ms) b o) full_share $
+        -- [the rest; nothing; two borrows; the tokens]
+        move ! (2 ∷ 4 ∷ []) $ use2 𝓛 (later (‵ (word_borrow_for t b (o + word_at T) α) ⊛ ‵ (flft α s))) (borrows_word 𝓛 t b (o + word_at T) α s) $ await ! tt $ split ! $
+        rewrite ! 0 (λ (x : ℕ). ‵ (word_borrow_for t b x α)) (add-zero o) refl $
+        -- [the word's borrow; a token; the rest; nothing; the value; a token]
+        move ! (1 ∷ 5 ∷ []) $ join ! $ move ! (4 ∷ 0 ∷ []) $
+        use2 𝓛 (later (‵ ValueShown ⊛ ‵ (flft α s) ⊛ ‵ (flft τ p)))
         ((param_laws 0 T L).shares 𝓛 v α ((α, s) ∷ (τ, p) ∷ []) b (o + value_at T) (Incl-trans (meet_⊑_right α τ) inc) (meet_⊑_left α τ)) $ await ! tt $ split3 ! $
-        now ! $ keep ! (3 ∷ 0 ∷ 1 ∷ 2 ∷ []) $ done !
+        move ! (3 ∷ 0 ∷ 4 ∷ []) $ use3 𝓛 (‵ Lodged ⊛ ‵ Shown) shown $ split ! $
+        now ! $ keep ! (0 ∷ 1 ∷ 2 ∷ 3 ∷ []) $ done !

@@ -14,4 +14,4 @@ module _ {V A H : Type 0} {MAX : ℕ} {G : Ghosts H} where
   }
 
   abbrev pub value_of : CountedBox V A MAX H G → V
-  value_of p = p.loan.value.value
+  value_of p = p.memory.borrow.value.value.value

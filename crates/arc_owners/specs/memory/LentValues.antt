@@ -20,8 +20,8 @@ module _ {T A : Type 0} where
 
   -- the same value in the same memory, lent for the same lease
   abbrev pub IsSameLent : LentValue T A → LentValue T A → Type 0
-  IsSameLent l m = (lent_value m ≡ lent_value l) × (lent_allocator m ≡ lent_allocator l)
-      × (lease_in m ≡ lease_in l)
+  IsSameLent l m = (m.at ≡ l.at) × (lent_value m ≡ lent_value l)
+      × (lent_allocator m ≡ lent_allocator l) × (lease_in m ≡ lease_in l)
 
   -- it is lent to this owner
   abbrev pub IsLentTo : {H : Type 0} {G : Ghosts H} → LentValue T A → Share H G → Type 0

@@ -2,10 +2,9 @@
 ghost use Rattle.std.specs.Prelude.{◌≡◌};
 
 use super::box_parts::BoxParts;
-use super::inheritance::Inheritance;
 use super::inner::Inner;
 use super::lent_box::LentBox;
-use super::shared_borrow::SharedBorrow;
+use super::lent_value::LentValue;
 use super::sole_box::SoleBox;
 use crate::count::tokens::{LifetimeEnd, Owners, Pass, Release, Share};
 use crate::count::word::WordBorrow;
@@ -38,22 +37,19 @@ impl<V: Drop, A: Allocator + Copy> Housed<V, A> {
 /// The memory that comes back to the last owner, with its allocator.
 #[derive(Drop)]
 struct KeptMemory<V: Drop, A: Allocator + Copy> {
-    at: *const Inner<Housed<V, A>>,
+    memory: LentValue<Inner<Housed<V, A>>, A>,
     alloc: A,
-    kept: Inheritance<Inner<Housed<V, A>>, A>,
-    ghost place: { kept.at ≡ at },
-    ghost home: { kept.alloc ≡ alloc },
+    ghost home: { memory.kept.alloc ≡ alloc },
 }
 
 impl<V: Drop, A: Allocator + Copy> KeptMemory<V, A> {
     /// The value, for the end of the lease; the memory goes to its allocator.
     fn take(self, term: LifetimeEnd) -> V
-        requires { term.spoils.lease ≡ self.kept.lease }
-        ensures { result ≡ self.kept.value.value.value }
+        requires { term.spoils.lease ≡ self.memory.kept.lease }
+        ensures { result ≡ self.memory.kept.value.value.value }
     {
-        let KeptMemory { at, alloc, kept } = self;
-        let memory = unsafe { kept.take(at.cast_mut(), alloc, term) };
-        let Inner { word: _, value } = Box::into_inner(memory.into_box());
+        let KeptMemory { memory, alloc } = self;
+        let Inner { word: _, value } = Box::into_inner(memory.take_back(alloc, term));
         value.value
     }
 }
@@ -64,20 +60,15 @@ impl<V: Drop, A: Allocator + Copy> KeptMemory<V, A> {
 /// Dropped, it ends with a new pass under the mark `Open`. Under `Whole` it is a forgotten owner:
 /// the memory stays for good.
 pub struct CountedBox<V: Drop, A: Allocator + Copy, const MAX: u64, H: Mark = Open> {
-    pub(crate) at: *const Inner<Housed<V, A>>,
-    pub(crate) word: *const u64,
-    pub(crate) value: *const Housed<V, A>,
+    pub(crate) memory: LentValue<Inner<Housed<V, A>>, A>,
     pub(crate) lodging: WordBorrow,
-    pub(crate) loan: SharedBorrow<Housed<V, A>>,
-    pub(crate) kept: Inheritance<Inner<Housed<V, A>>, A>,
     pub(crate) share: Share<H>,
     ghost greatest: { lodging.block.most ≡ MAX },
     ghost counted: { share.right.block ≡ lodging.block },
-    ghost worded: { kept.value.word ≡ lodging.block },
-    ghost lodged: { (lodging.at ≡ word) × (lodging.lifetime ≡ share.right.lease.lifetime) },
-    ghost shown: { (loan.at ≡ value) × (loan.lifetime ≡ share.right.lease.lifetime) },
-    ghost comes_back: { (kept.at ≡ at) × (kept.alloc ≡ loan.value.alloc)
-        × (kept.lease ≡ share.right.lease) × (kept.value.value ≡ loan.value) },
+    ghost worded: { memory.kept.value.word ≡ lodging.block },
+    ghost lodged: { (lodging.at ≡ memory.at) × (lodging.lifetime ≡ share.right.lease.lifetime) },
+    ghost comes_back: { (memory.kept.alloc ≡ memory.kept.value.value.alloc)
+        × (memory.kept.lease ≡ share.right.lease) },
 }
 
 impl<V: Drop, A: Allocator + Copy, const MAX: u64, H: Mark> CountedBox<V, A, MAX, H> {
@@ -122,18 +113,14 @@ impl<V: Drop, A: Allocator + Copy, const MAX: u64, H: Mark> CountedBox<V, A, MAX
     {
         let mut right = share.right;
         let (at, _, lent, kept) = LentBox::of(memory, &right);
-        let (word, lodging, value, loan) = unsafe { Inner::settle(lent, at, &mut right) };
+        let (lodging, borrow) = Inner::settle(lent, &mut right);
         let share = Share {
             right,
             mark: PhantomData,
         };
         CountedBox {
-            at,
-            word,
-            value,
+            memory: LentValue { at, borrow, kept },
             lodging,
-            loan,
-            kept,
             share,
         }
     }
@@ -149,9 +136,9 @@ impl<V: Drop, A: Allocator + Copy, const MAX: u64, H: Mark> CountedBox<V, A, MAX
     /// The value, with the allocator that its memory came from.
     #[inline(always)]
     fn housed(&self) -> &Housed<V, A>
-        ensures { result.now ≡ self.now.loan.value }
+        ensures { result.now ≡ self.now.memory.borrow.value.value }
     {
-        unsafe { self.loan.get(self.value, &self.share.right) }
+        &self.memory.get(&self.share).value
     }
 
     /// Whether no other owner lives, by one load. Adds Alone with the answer. Takes no memory.
@@ -160,7 +147,8 @@ impl<V: Drop, A: Allocator + Copy, const MAX: u64, H: Mark> CountedBox<V, A, MAX
         requires pass { IsPassFor (owner_in self.now) pass.old }
         ensures entry { Asks (owner_in self.now) pass.old pass.new result }
     {
-        unsafe { Owners::<MAX, H>::alone_raw(self.word, &self.lodging, &self.share, pass) }
+        let word = Inner::word_place(self.memory.at);
+        unsafe { Owners::<MAX, H>::alone_raw(word, &self.lodging, &self.share, pass) }
     }
 
     /// The memory back, with the value in it, where no other owner lives: the same owner has both.
@@ -173,28 +161,17 @@ impl<V: Drop, A: Allocator + Copy, const MAX: u64, H: Mark> CountedBox<V, A, MAX
         ensures back { IfErr result (λ piece. (owner_in piece ≡ owner_in self)
             × (value_of piece ≡ value_of self)) }
     {
-        let alloc = self.housed().alloc;
-        let CountedBox {
-            at,
-            word,
-            value,
-            lodging,
-            loan,
-            kept,
-            share,
-        } = self;
+        let (share, lodging, kept) = self.parted();
+        let word = Inner::word_place(kept.memory.at);
         match unsafe { Owners::<MAX, H>::claim_raw(word, &lodging, share, pass) } {
             Ok((sole, term)) => {
-                let memory = unsafe { kept.take(at.cast_mut(), alloc, term) };
-                Ok(SoleBox::settled(memory, sole))
+                let KeptMemory { memory, alloc } = kept;
+                let memory = memory.take_back(alloc, term);
+                Ok(SoleBox::settled(BoxParts::of(memory), sole))
             }
             Err(share) => Err(CountedBox {
-                at,
-                word,
-                value,
+                memory: kept.memory,
                 lodging,
-                loan,
-                kept,
                 share,
             }),
         }
@@ -215,25 +192,19 @@ impl<V: Drop, A: Allocator + Copy, const MAX: u64, H: Mark> CountedBox<V, A, MAX
         Ok(sole.into_value_as(pass))
     }
 
-    /// This owner's share, the place of the word, and what the last owner gets.
+    /// This owner's share, what says where the word lies, and what the last owner gets.
     #[inline(always)]
-    fn parted(self) -> (Share<H>, *const u64, WordBorrow, KeptMemory<V, A>)
-        ensures share { result.0 ≡ self.share }
-        ensures word { (result.1 ≡ self.word) × (result.2 ≡ self.lodging) }
-        ensures memory { (result.3.kept.value.value ≡ self.loan.value)
-            × (result.3.kept.lease ≡ self.share.right.lease) }
+    fn parted(self) -> (Share<H>, WordBorrow, KeptMemory<V, A>)
+        ensures { (result.0 ≡ self.share) × (result.1 ≡ self.lodging)
+            × (result.2.memory ≡ self.memory) }
     {
         let alloc = self.housed().alloc;
         let CountedBox {
-            at,
-            word,
-            value: _,
+            memory,
             lodging,
-            loan: _,
-            kept,
             share,
         } = self;
-        (share, word, lodging, KeptMemory { at, alloc, kept })
+        (share, lodging, KeptMemory { memory, alloc })
     }
 
     /// Ends this owner by one subtraction. Adds its Down. The last one gives the memory back, and
@@ -244,9 +215,10 @@ impl<V: Drop, A: Allocator + Copy, const MAX: u64, H: Mark> CountedBox<V, A, MAX
         ensures entry { Leaves (owner_in self) pass.old pass.new (is_some result) }
         ensures value { IfSome result (λ value. value ≡ value_of self) }
     {
-        let (share, word, lodging, memory) = self.parted();
+        let (share, lodging, kept) = self.parted();
+        let word = Inner::word_place(kept.memory.at);
         match unsafe { Owners::<MAX, H>::down_raw(word, &lodging, share, pass) } {
-            Release::Last(term) => Some(memory.take(term)),
+            Release::Last(term) => Some(kept.take(term)),
             Release::NotLast => None,
         }
     }
@@ -261,14 +233,15 @@ impl<V: Drop, A: Allocator + Copy, const MAX: u64, H: Mark> CountedBox<V, A, MAX
         ensures forgotten { H.whole ≡ true → (result.0 ≡ None) × IsPassOfNone result.1 }
         ensures ended { H.whole ≡ false → EndsByItself (owner_in self) result.1 (is_some result.0) }
     {
-        let (share, word, lodging, memory) = self.parted();
+        let (share, lodging, kept) = self.parted();
+        let word = Inner::word_place(kept.memory.at);
         let (last, spoils, trace) = unsafe { H::let_go(word, &lodging, share.right) };
         let pass = Pass {
             trace,
             mark: PhantomData,
         };
         if last {
-            (Some(memory.take(LifetimeEnd { spoils })), pass)
+            (Some(kept.take(LifetimeEnd { spoils })), pass)
         } else {
             (None, pass)
         }
@@ -312,16 +285,11 @@ impl<V: Drop, A: Allocator + Copy, const MAX: u64, H: Mark> CountedBox<V, A, MAX
             IfErr r (λ _. FindsFull (owner_in self.now) pass.old pass.new)) }
         ensures again { IfNone result (pass.new ≡ pass.old) }
     {
-        match unsafe {
-            Owners::<MAX, H>::try_up_raw(self.word, &self.lodging, &self.share, pass)?
-        } {
+        let word = Inner::word_place(self.memory.at);
+        match unsafe { Owners::<MAX, H>::try_up_raw(word, &self.lodging, &self.share, pass)? } {
             Ok(share) => Some(Ok(CountedBox {
-                at: self.at,
-                word: self.word,
-                value: self.value,
+                memory: self.memory.again(),
                 lodging: self.lodging.again(),
-                loan: self.loan.again(),
-                kept: self.kept.again(),
                 share,
             })),
             Err(e) => Some(Err(e)),

@@ -8,7 +8,7 @@ use crate::count::word::{OwnerToken, Word, WordBorrow};
 use std::alloc::Allocator;
 use std::marker::PhantomData;
 
-/// A block's memory.
+/// A block's memory. The word lies at its beginning.
 #[derive(Drop)]
 pub(crate) struct Inner<V> {
     pub(crate) word: Word,
@@ -27,33 +27,32 @@ impl<V> Inner<V> {
         &mut self.value
     }
 
-    /// The places of the word and of the value in memory that is lent for the lifetime of this
-    /// owner's lease, and that they lie there for as long.
-    ///
-    /// # Safety
-    ///
-    /// The memory lies at this place.
-    pub(crate) unsafe fn settle<A: Allocator, H>(
+    /// The place of the word, which lies at the memory's beginning.
+    #[inline(always)]
+    pub(crate) fn word_place(at: *mut Inner<V>) -> *const u64
+        ensures { result ≡ at }
+    {
+        at as *const u64
+    }
+
+    /// Memory that is lent for the lifetime of this owner's lease, for its owners: that the word lies
+    /// at its beginning for as long, and that all of it is there for them to read.
+    pub(crate) fn settle<A: Allocator, H>(
         lent: LentBox<Inner<V>, A>,
-        at: *mut Inner<V>,
         by: &mut OwnerToken<H>,
-    ) -> (*const u64, WordBorrow, *const V, SharedBorrow<V>)
-        requires { (at ≡ lent.at) × InBlock at × (by.old.held ≡ true)
-            × (by.old.lease.is_lent ≡ true) × (by.old.lease.lifetime ≡ lent.lifetime) }
-        ensures { (by.new ≡ by.old) × (result.1.block ≡ lent.value.word) × (result.1.at ≡ result.0)
-            × (result.1.lifetime ≡ lent.lifetime)
-            × (result.3.value ≡ lent.value.value) × (result.3.at ≡ result.2)
-            × (result.3.lifetime ≡ lent.lifetime) }
+    ) -> (WordBorrow, SharedBorrow<Inner<V>>)
+        requires { InBlock lent.at × (by.old.held ≡ true) × (by.old.lease.is_lent ≡ true)
+            × (by.old.lease.lifetime ≡ lent.lifetime) }
+        ensures { (by.new ≡ by.old) × (result.0.block ≡ lent.value.word)
+            × (result.0.at ≡ lent.at) × (result.0.lifetime ≡ lent.lifetime)
+            × (result.1.value ≡ lent.value) × (result.1.at ≡ lent.at)
+            × (result.1.lifetime ≡ lent.lifetime) }
     {
         let LentBox { marker: _ } = lent;
-        let word = unsafe { &raw const (*at).word as *const u64 };
-        let value = unsafe { &raw const (*at).value };
         (
-            word,
             WordBorrow {
                 marker: PhantomData,
             },
-            value,
             SharedBorrow {
                 marker: PhantomData,
             },
