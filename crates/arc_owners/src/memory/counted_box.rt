@@ -10,7 +10,7 @@ use crate::count::tokens::{LifetimeEnd, Owners, Pass, Release, Share};
 use crate::count::word::WordBorrow;
 use crate::error::CountFull;
 use crate::mark::{Mark, Open, Stepping};
-use std::alloc::Allocator;
+use std::alloc::{Allocator, Global};
 use std::marker::PhantomData;
 use std::sync::Wait;
 
@@ -54,8 +54,8 @@ impl<V: Drop, A: Allocator + Copy> KeptMemory<V, A> {
     }
 }
 
-/// One owner of a value that lies in memory of its own, next to the word that counts the owners.
-/// `MAX` is the greatest count.
+/// One owner of a value that lies in memory of its own, next to the word that counts the owners: a
+/// pointer of 8 bytes, however large the allocator is. `MAX` is the greatest count.
 ///
 /// Dropped, it ends with a new pass under the mark `Open`. Under `Whole` it is a forgotten owner:
 /// the memory stays for good.
@@ -70,6 +70,8 @@ pub struct CountedBox<V: Drop, A: Allocator + Copy, const MAX: u64, H: Mark = Op
     ghost comes_back: { (memory.kept.alloc ≡ memory.kept.value.value.alloc)
         × (memory.kept.lease ≡ share.right.lease) },
 }
+
+const _: () = prove!(size_of::<CountedBox<u64, Global, 3>>() == 8);
 
 impl<V: Drop, A: Allocator + Copy, const MAX: u64, H: Mark> CountedBox<V, A, MAX, H> {
     ghost use Rattle.std.specs.Prelude.{◌≡◌, ◌≤◌, IfOk, IfErr, IfSome, is_some, is_ok, true, false};

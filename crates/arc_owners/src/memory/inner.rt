@@ -35,8 +35,8 @@ impl<V> Inner<V> {
         at as *const u64
     }
 
-    /// Memory that is lent for the lifetime of this owner's lease, for its owners: that the word lies
-    /// at its beginning for as long, and that all of it is there for them to read.
+    /// Cuts memory that is lent for the lifetime of this owner's lease: that the word lies at its
+    /// beginning, and that all of it is there for the owners to read, both for as long.
     pub(crate) fn settle<A: Allocator, H>(
         lent: LentBox<Inner<V>, A>,
         by: &mut OwnerToken<H>,

@@ -7,11 +7,11 @@ use super::counted_box::{CountedBox, Housed};
 use super::inner::Inner;
 use crate::count::tokens::{Owners, Pass, Sole};
 use crate::mark::{Mark, Open, Stepping};
-use std::alloc::Allocator;
+use std::alloc::{Allocator, Global};
 use std::marker::PhantomData;
 
 /// The only owner of a value, who has the memory in which it lies, next to the word that counts the
-/// owners. `MAX` is the greatest count.
+/// owners: a pointer of 8 bytes, however large the allocator is. `MAX` is the greatest count.
 ///
 /// Dropped, it ends with a new pass under the mark `Open`. Under `Whole` it is a forgotten owner:
 /// the memory stays for good.
@@ -22,6 +22,8 @@ pub struct SoleBox<V: Drop, A: Allocator + Copy, const MAX: u64, H: Mark = Open>
     ghost counted: { sole.right.block ≡ memory.value.word },
     ghost homed: { memory.alloc ≡ memory.value.value.alloc },
 }
+
+const _: () = prove!(size_of::<SoleBox<u64, Global, 3>>() == 8);
 
 /// The memory with its allocator, which lies beside the value.
 fn housed_parts<V: Drop, A: Allocator + Copy>(

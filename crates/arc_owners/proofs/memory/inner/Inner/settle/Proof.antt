@@ -1,6 +1,6 @@
 -- `settle` cuts what is lent of a block's memory: its word is lodged, and all of it is there for
 -- the owners to read. It touches no memory.
-use Rattle.std.proofs.Common.{◌≡◌, ℕ, ◌+◌, Bool, true, List, [], ◌∷◌, ◌++◌, refl, sym, ap, ◌∙◌, subst}
+use Rattle.std.proofs.Common.{◌≡◌, ℕ, Bool, true, List, [], ◌∷◌, ◌++◌, refl, sym, subst}
 use mir.Syntax.{a_type, dcons, dnil}
 use mir.Raw.{raw as bare}
 use mir.Val.{Val, vptr, vstruct, vcons, vnil, of_list}
@@ -21,11 +21,11 @@ use denote.RattleType.{RattleType, Valss, owns}
 use denote.Signature.{types_at, plain}
 use denote.Memory.{lone, shared_of}
 use denote.Builtin.{unit}
-use denote.RawPtr.{Ptr, RawPtr, block_ptr, InBlock, ptr_val, block_of, count_of, at_block}
+use denote.RawPtr.{Ptr, block_ptr, InBlock, block_of, count_of, at_block}
 use denote.Steps.{nothing, heard, opens, closes}
 use denote.Param.{param, bounded}
 use denote.Struct.Tuple.{Tuple}
-use denote.Triple.Walked.{Stays, stay_dropped, stay_ref, walk_of, Goes-dropped, Goes-ref}
+use denote.Triple.Walked.{Stays, stay_dropped, stay_ref, walk_of, Goes-ref}
 use Rattle.core.proofs.alloc.Calls.{Al, Goes-blank, token as frees}
 use Rattle.std.proofs.raw_atomic.Walks.{proved_at}
 use Rattle.std_alloc.specs.Box.Ownership.{box_owns}
