@@ -4,3 +4,4 @@ pub mod Owned
 pub mod Alone
 pub mod Windows
 pub mod Held
+pub mod StaticSlices

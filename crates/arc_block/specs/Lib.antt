@@ -5,3 +5,4 @@ pub mod Owned
 pub mod Layouts
 pub mod Window
 pub mod Steps
+pub mod StaticSlices

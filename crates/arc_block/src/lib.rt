@@ -4,4 +4,5 @@
 pub mod block;
 pub mod layout;
 pub mod parts;
+pub mod static_slice;
 pub mod table;

@@ -1,0 +1,141 @@
+ghost use Rattle.std.specs.Prelude.{◌≡◌, ◌≤◌, length};
+ghost use Rattle.arc_buffer.specs.Slice.{sub};
+
+use super::*;
+use std::alloc::Layout;
+use std::test::Fail;
+use std::thread;
+
+/// An item of no size.
+#[derive(Clone, Copy, Debug, PartialEq, Eq)]
+struct Nothing;
+
+const NOTHINGS: [Nothing; 3] = [Nothing, Nothing, Nothing];
+
+const NUMBERS: [u32; 4] = [2, 3, 5, 7];
+
+const WORDS: [&'static [u8]; 3] = [b"one", b"two", b"three"];
+
+/// A part that outlives the slices it was cut by.
+fn part_of<T: 'static>(items: &'static [T], start: usize, end: usize) -> &'static [T]
+    requires { (start ≤ end) × (end ≤ length items.now) }
+    ensures { result.now ≡ sub items.now start end }
+{
+    let whole = StaticSlice::new(items);
+    let part = whole.part(start, end);
+    let again = part.again();
+    drop(whole);
+    drop(part);
+    again.into_static()
+}
+
+/// How many items two slices have, of any type: the bound is that of making them.
+fn lengths<T>(one: &StaticSlice<T>, two: &StaticSlice<T>) -> (usize, usize)
+    ensures { (result.0 ≡ length one.now) × (result.1 ≡ length two.now) }
+{
+    (one.as_slice().len(), two.len())
+}
+
+#[test]
+fn made_read_and_cut(rt: HostRuntime) -> Result<(), Fail> {
+    let whole = StaticSlice::new(b"Hello");
+    assert_eq!(rt; whole.as_slice(), b"Hello".as_slice());
+    assert_eq!(rt; whole.len(), 5);
+    assert!(rt; !whole.is_empty());
+    let part = whole.part(1, 4);
+    assert_eq!(rt; part.as_slice(), b"ell".as_slice());
+    assert_eq!(rt; part.part(1, 3).as_slice(), b"ll".as_slice());
+    let none = part.part(3, 3);
+    assert!(rt; none.is_empty());
+    assert_eq!(rt; none.as_slice(), b"".as_slice());
+    assert_eq!(rt; lengths(&whole, &none), (5, 0));
+    Ok(())
+}
+
+#[test]
+fn given_back_while_another_lives(rt: HostRuntime) -> Result<(), Fail> {
+    let whole = StaticSlice::new(b"Hello");
+    let again = whole.again();
+    let items: &'static [u8] = again.into_static();
+    assert_eq!(rt; items, whole.as_slice());
+    drop(whole);
+    assert_eq!(rt; items, b"Hello".as_slice());
+    assert_eq!(rt; part_of(&NUMBERS, 1, 3), [3u32, 5].as_slice());
+    Ok(())
+}
+
+#[test]
+fn kept_in_a_vector(rt: HostRuntime) -> Result<(), Fail> {
+    let whole = StaticSlice::new(b"Hello");
+    let mut slots: Vec<Option<StaticSlice<u8>>, _> = Vec::new(rt.alloc());
+    slots.push(Some(whole.again()))?;
+    slots.push(None)?;
+    slots.push(Some(whole.part(0, 2)))?;
+    slots.push(Some(whole))?;
+    let mut total = 0usize;
+    for slot in slots.as_slice() {
+        if let Some(slice) = slot {
+            total = total.saturating_add(slice.as_slice().len());
+        }
+    }
+    assert_eq!(rt; total, 12);
+    let Some(Some(last)) = slots.pop() else {
+        return Err("a slice".into());
+    };
+    drop(slots);
+    assert_eq!(rt; last.as_slice(), b"Hello".as_slice());
+    Ok(())
+}
+
+#[test]
+fn sent_to_a_thread(rt: HostRuntime) -> Result<(), Fail> {
+    let whole = StaticSlice::new(b"Hello");
+    let part = whole.part(1, 4);
+    let (here, there) = thread::join(&rt, || whole.as_slice().len(), move || part.into_static());
+    assert_eq!(rt; here, 5);
+    assert_eq!(rt; there, b"ell".as_slice());
+    Ok(())
+}
+
+#[test]
+fn items_of_no_size(rt: HostRuntime) -> Result<(), Fail> {
+    let whole = StaticSlice::new(&NOTHINGS);
+    assert_eq!(rt; whole.len(), 3);
+    assert_eq!(rt; whole.as_slice(), [Nothing; 3].as_slice());
+    assert_eq!(rt; whole.part(1, 3).into_static(), [Nothing; 2].as_slice());
+    assert_eq!(rt; part_of(&NOTHINGS, 2, 2).len(), 0);
+    Ok(())
+}
+
+#[test]
+fn items_that_are_references(rt: HostRuntime) -> Result<(), Fail> {
+    let words = StaticSlice::new(&WORDS);
+    let mut bytes = 0usize;
+    for word in words.as_slice() {
+        bytes = bytes.saturating_add(word.len());
+    }
+    assert_eq!(rt; bytes, 11);
+    assert_eq!(rt; words.part(1, 3).len(), 2);
+    Ok(())
+}
+
+/// Who keeps place and range asks what is lent for good alone.
+#[test]
+fn read_by_place_and_range(rt: HostRuntime) -> Result<(), Fail> {
+    let (base, kept) = Forever::of(b"Hello");
+    let again = kept.again();
+    assert_eq!(rt; kept.as_slice(base, 0, 5), b"Hello".as_slice());
+    assert_eq!(rt; again.as_slice(base, 1, 4), b"ell".as_slice());
+    let items = again.as_static(base, 2, 2);
+    drop(again);
+    assert!(rt; items.is_empty());
+    assert_eq!(rt; kept.as_static(base, 4, 5), b"o".as_slice());
+    Ok(())
+}
+
+#[test]
+fn two_words_of_memory(rt: HostRuntime) -> Result<(), Fail> {
+    assert_eq!(rt; Layout::new::<StaticSlice<u8>>().size(), 16);
+    assert_eq!(rt; Layout::new::<Forever<u8>>().size(), 0);
+    Ok(())
+}
