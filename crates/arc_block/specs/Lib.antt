@@ -6,3 +6,4 @@ pub mod Layouts
 pub mod Window
 pub mod Steps
 pub mod StaticSlices
+pub mod Memory

@@ -5,4 +5,5 @@ pub mod block;
 pub mod layout;
 pub mod parts;
 pub mod static_slice;
+pub mod memory;
 pub mod table;

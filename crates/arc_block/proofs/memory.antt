@@ -1,0 +1,4 @@
+pub mod Keyless
+pub mod Parted
+pub mod Ranges
+pub mod Runs

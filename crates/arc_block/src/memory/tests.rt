@@ -1,0 +1,69 @@
+use super::allocation::{put_together, take_apart};
+use linked_list_allocator::LocalHeap;
+use std::alloc::Allocator;
+use std::test::Fail;
+
+/// What has no size.
+#[derive(Clone, Copy, Debug, PartialEq)]
+struct Nothing;
+
+#[test]
+fn numbers_apart_and_together(rt: HostRuntime) -> Result<(), Fail> {
+    let heap = LocalHeap::new(rt.alloc(), 1024)?;
+    let numbers = Vec::from_slice(&heap, &[1u64, 2, 3])?;
+    let taken = heap.used();
+    let (base, allocation, places) = take_apart(numbers);
+    assert_eq!(rt; allocation.count(), 3);
+    assert_eq!(rt;
+        unsafe { places.as_slice(base, 0, 3) },
+        [1u64, 2, 3].as_slice()
+    );
+    assert_eq!(rt; unsafe { places.as_slice(base, 1, 2) }, [2u64].as_slice());
+    assert_eq!(rt; unsafe { places.as_slice(base, 3, 3) }.len(), 0);
+    assert_eq!(rt; heap.used(), taken);
+    let numbers = put_together(allocation, places);
+    assert_eq!(rt; numbers.as_slice(), [1u64, 2, 3].as_slice());
+    assert_eq!(rt; numbers.capacity(), 3);
+    drop(numbers);
+    assert_eq!(rt; heap.used(), 0);
+    Ok(())
+}
+
+/// With room past the items, which are owned and dropped one by one.
+#[test]
+fn owned_items_apart_and_together(rt: HostRuntime) -> Result<(), Fail> {
+    let heap = LocalHeap::new(rt.alloc(), 1024)?;
+    let mut boxes = Vec::with_capacity(&heap, 4)?;
+    boxes.push(Box::new(&heap, 7u8)?)?;
+    boxes.push(Box::new(&heap, 8u8)?)?;
+    let (base, allocation, places) = take_apart(boxes);
+    assert_eq!(rt; allocation.count(), 4);
+    assert_eq!(rt; *unsafe { places.as_slice(base, 1, 2) }[0], 8);
+    let mut boxes = put_together(allocation, places);
+    boxes.push(Box::new(&heap, 9u8)?)?;
+    assert_eq!(rt; (boxes.len(), boxes.capacity()), (3, 4));
+    assert_eq!(rt; *boxes[2], 9);
+    drop(boxes);
+    assert_eq!(rt; heap.used(), 0);
+    Ok(())
+}
+
+#[test]
+fn items_of_no_size_apart_and_together(rt: HostRuntime) -> Result<(), Fail> {
+    let heap = LocalHeap::new(rt.alloc(), 1024)?;
+    let nothings = Vec::from_slice(&heap, &[Nothing; 3])?;
+    let (base, allocation, places) = take_apart(nothings);
+    assert_eq!(rt; unsafe { places.as_slice(base, 1, 3) }.len(), 2);
+    drop(put_together(allocation, places));
+    assert_eq!(rt; heap.used(), 0);
+    Ok(())
+}
+
+#[test]
+fn no_places_apart_and_together(rt: HostRuntime) -> Result<(), Fail> {
+    let (base, allocation, places) = take_apart(Vec::<u64, _>::new(rt.alloc()));
+    assert_eq!(rt; unsafe { places.as_slice(base, 0, 0) }.len(), 0);
+    let none = put_together(allocation, places);
+    assert_eq!(rt; (none.len(), none.capacity()), (0, 0));
+    Ok(())
+}
