@@ -62,9 +62,8 @@ module _ {T : Type 0} (inner : Option (BlockView T (Unit {0}))) (from to : ℕ) 
   on_block_seen = sym view ∙ ap (λ x. parts_of (window_seen x from to)) is
 
   -- the items are those of the block between the ends
-  pub items_on_block : (items : List T) → items ≡ b.items → take (to - from) (drop from items) ≡ p.items
-  items_on_block items read =
-      ap (λ xs. take (to - from) (drop from xs)) read ∙ sym (sub-slice_range b.items from to here.0) ∙ ap (λ (v : PartsView T). v.items) (sym on_block_seen)
+  pub items_on_block : (items : List T) → items ≡ sub b.items from to → items ≡ p.items
+  items_on_block items read = read ∙ ap (λ (v : PartsView T). v.items) (sym on_block_seen)
 
   -- there are as many as lie between the ends
   pub between : length p.items ≡ to - from

@@ -2,3 +2,4 @@ pub mod Keyless
 pub mod Parted
 pub mod Ranges
 pub mod Runs
+pub mod SameVecs

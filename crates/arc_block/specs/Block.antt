@@ -1,8 +1,7 @@
 -- Blocks: what a window may stand on, and what is known of it.
 use Rattle.std.specs.Prelude.{◌≡◌, ℕ, Bool, if◌then◌else◌, Option, Some, None, List, length}
-use Rattle.std.specs.declared.vec.Vec.{Vec}
-use Rattle.std.specs.Vec.{vec_capacity}
 use Rattle.arc_owners.specs.count.Calls.{Owner}
+use Rattle.arc_block.specs.declared.memory.native.Native.{Native}
 
 -- how a block keeps its items
 pub data Sort : Type 0 where
@@ -51,15 +50,15 @@ native_block drops owner items = record {
   facts = native_facts drops (length items);
 }
 
--- a native block whose items lie in this vector
-abbrev pub held_in : {T M A : Type 0} → Bool → Owner → Vec T A → BlockView T M
-held_in drops owner v = record {
+-- a native block whose items lie in this memory
+abbrev pub held_in : {T M A : Type 0} → Bool → Owner → Native T A → BlockView T M
+held_in drops owner memory = record {
   owner = owner;
-  items = v.items;
+  items = memory.places.items;
   facts = record {
     sort = native;
-    size = vec_capacity v;
-    full = full_places drops (length v.items);
+    size = memory.allocation.count;
+    full = full_places drops (length memory.places.items);
     metadata = None;
   };
 }

@@ -4,8 +4,10 @@ ghost use Rattle.std.specs.Prelude.{IfSome, IfNone};
 ghost use Rattle.std.specs.Vec.{vec_capacity, vec_len};
 ghost use Rattle.arc_owners.specs.count.Calls.{IsFirst, IsPassFor, IsFreshPass, IsNewPass, Learns};
 ghost use Rattle.arc_owners.specs.count.Calls.{Asks, FindsFull, MakesAnother, Leaves, TakesBlock};
+ghost use Rattle.arc_buffer.specs.Slice.{sub};
 ghost use Rattle.arc_block.specs.Block.{native, native_block, IsLimited};
 
+use crate::memory::{Base, Native};
 use arc_buffer::kinds::Slice;
 use arc_owners::error::{AllocError, CountFull};
 use arc_owners::mark::{Mark, Open, Stepping};
@@ -29,10 +31,12 @@ pub fn max_owners() -> u64
 /// Dropped, it ends with a new pass under the mark `Open`. Under `Whole` it is a forgotten owner:
 /// the block stays for good.
 pub struct Block<S: Slice, A: Allocator + Copy, const MAX: u64, H: Mark = Open> {
-    piece: CountedBox<Vec<S::Item, A>, A, MAX, H>,
+    piece: CountedBox<Native<S::Item, A>, A, MAX, H>,
+    base: Base<S::Item>,
 }
 
 impl<S: Slice, A: Allocator + Copy, const MAX: u64, H: Mark> Model for Block<S, A, MAX, H> {
+    ghost use Rattle.std.specs.Prelude.{◌≡◌};
     ghost use Rattle.arc_owners.specs.memory.Boxes.{owner_in, value_of};
     ghost use Rattle.arc_block.specs.Block.{BlockView, held_in, IsLimited};
 
@@ -40,13 +44,14 @@ impl<S: Slice, A: Allocator + Copy, const MAX: u64, H: Mark> Model for Block<S, 
 
     ghost view = { λ b. held_in S.DROPS (owner_in b.piece) (value_of b.piece) };
 
-    ghost invariant = { λ b. IsLimited MAX H.whole (owner_in b.piece) };
+    ghost invariant = { λ b. IsLimited MAX H.whole (owner_in b.piece)
+        × (b.base.at ≡ (value_of b.piece).places.base) };
 }
 
 impl<S: Slice, A: Allocator + Copy, const MAX: u64, H: Mark> Drop for Block<S, A, MAX, H> {
     #[inline(always)]
     fn drop(self) {
-        let Block { piece } = self;
+        let Block { piece, base: _ } = self;
         drop(piece);
     }
 }
@@ -116,8 +121,12 @@ impl<S: Slice, A: Allocator + Copy, const MAX: u64, H: Mark> Block<S, A, MAX, H>
         ensures pass { IfOk result (λ r. IsFreshPass r.0.owner r.1) }
         ensures refused { IfErr result (λ back. back ≡ items) }
     {
-        let (piece, pass) = CountedBox::new(alloc, items)?;
-        Ok((Block { piece }, pass))
+        let (at, native) = Native::of(items);
+        let base = Base { at };
+        match CountedBox::new(alloc, native) {
+            Ok((piece, pass)) => Ok((Block { piece, base }, pass)),
+            Err(native) => Err(native.into_vec()),
+        }
     }
 
     /// The first owner of a new native block with a copy of the items, and exactly a place for
@@ -182,20 +191,22 @@ impl<S: Slice, A: Allocator + Copy, const MAX: u64, H: Mark> Block<S, A, MAX, H>
             IfErr r (λ _. FindsFull self.now.owner pass.old pass.new)) }
         ensures again { IfNone result (pass.new ≡ pass.old) }
     {
+        let base = Base { at: self.base.at };
         match self.piece.try_clone_once_as(pass)? {
-            Ok(piece) => Some(Ok(Block { piece })),
+            Ok(piece) => Some(Ok(Block { piece, base })),
             Err(e) => Some(Err(e)),
         }
     }
 }
 
 impl<S: Slice, A: Allocator + Copy, const MAX: u64, H: Mark> Block<S, A, MAX, H> {
-    /// The items.
+    /// The items from the place `start` on and before the place `end`. It reads no memory.
     #[inline(always)]
-    pub fn as_slice(&self) -> &[S::Item]
-        ensures { result.now ≡ self.now.items }
+    pub fn range(&self, start: usize, end: usize) -> &[S::Item]
+        requires { (start ≤ end) × (end ≤ length self.now.items) }
+        ensures { result.now ≡ sub self.now.items start end }
     {
-        self.piece.get().as_slice()
+        self.piece.get().range(self.base.at, start, end)
     }
 
     /// Whether items and count are of our own making.
@@ -220,7 +231,7 @@ impl<S: Slice, A: Allocator + Copy, const MAX: u64, H: Mark> Block<S, A, MAX, H>
     pub fn size(&self) -> usize
         ensures { result ≡ self.now.facts.size }
     {
-        self.piece.get().capacity()
+        self.piece.get().count()
     }
 
     /// Whether no other owner lives, by one load. Adds Alone with the answer. Takes no memory.
@@ -241,10 +252,10 @@ impl<S: Slice, A: Allocator + Copy, const MAX: u64, H: Mark> Block<S, A, MAX, H>
         ensures others { IfErr result (λ back. (back ≡ self)
             × Asks self.owner pass.old pass.new false) }
     {
-        let Block { piece } = self;
+        let Block { piece, base } = self;
         match piece.try_into_value_as(pass) {
-            Ok(items) => Ok(items),
-            Err(piece) => Err(Block { piece }),
+            Ok(native) => Ok(native.into_vec()),
+            Err(piece) => Err(Block { piece, base }),
         }
     }
 
@@ -255,10 +266,10 @@ impl<S: Slice, A: Allocator + Copy, const MAX: u64, H: Mark> Block<S, A, MAX, H>
         requires pass { IsPassFor self.owner pass.old }
         ensures entry { Leaves self.owner pass.old pass.new result }
     {
-        let Block { piece } = self;
+        let Block { piece, base: _ } = self;
         match piece.release_as(pass) {
-            Some(items) => {
-                drop(items);
+            Some(native) => {
+                drop(native);
                 true
             }
             None => false,
@@ -282,8 +293,8 @@ impl<S: Slice, A: Allocator + Copy, const MAX: u64, H: Mark> Block<S, A, MAX, H>
         requires { K.DROPS ≡ S.DROPS }
         ensures { result ≡ self }
     {
-        let Block { piece } = self;
-        Block { piece }
+        let Block { piece, base } = self;
+        Block { piece, base }
     }
 }
 

@@ -1,7 +1,13 @@
 //! The memory in which a native block's items lie: its places, and apart from them the right to
 //! free it.
-pub mod allocation;
-pub mod emptied;
-pub mod places;
+mod allocation;
+mod base;
+mod emptied;
+mod native;
+mod places;
+
+pub(crate) use base::Base;
+pub(crate) use native::Native;
+
 #[cfg(test)]
 mod tests;

@@ -89,7 +89,7 @@ impl<S: Slice, A: Allocator + Copy, H: Mark> Parts<S, A, H> {
         ensures role { result.role ≡ reader }
         ensures pass { Begins (window_of result) pass.old pass.new }
     {
-        let end = block.as_slice().len();
+        let end = block.size();
         *pass = new;
         Parts {
             block: Some(block),
@@ -175,7 +175,7 @@ impl<S: Slice, A: Allocator + Copy, H: Mark> Parts<S, A, H> {
         ensures { result.now ≡ self.now.items }
     {
         match &self.block {
-            Some(block) => &block.as_slice()[self.start..self.end],
+            Some(block) => block.range(self.start, self.end),
             None => &[],
         }
     }

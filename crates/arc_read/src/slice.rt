@@ -6,7 +6,7 @@ ghost use Rattle.arc_block.specs.Window.{IsHeld, parts_of, window_of};
 
 use arc_block::layout::{DefaultLayout, Layout, StaticLayout};
 use arc_block::parts::Parts;
-use arc_buffer::kinds::{Emptyable, Slice};
+use arc_buffer::kinds::{Emptyable, Plain, Slice};
 use arc_owners::mark::{Mark, Open};
 use std::alloc::{Allocator, Global};
 use std::marker::{Model, PhantomData};
@@ -87,6 +87,8 @@ impl<S: Slice, L: Layout, A: Allocator + Copy, H: Mark> ArcSlice<S, L, A, H> {
         parts
     }
 }
+
+const _: () = prove!(size_of::<ArcSlice<Plain<u8>>>() == 40);
 
 mod cuts;
 mod make;

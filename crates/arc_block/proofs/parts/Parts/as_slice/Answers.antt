@@ -4,4 +4,4 @@ use Rattle.arc_block.proofs.parts.Parts.as_slice.Goals as goal
 
 pub returns-in-Some : goal.returns-in-Some
 returns-in-Some g c =
-    items_on_block _ _ _ _ _ c.self.view_is c.in-Some.is c.self.invariant _ c.as_slice.ensures
+    items_on_block _ _ _ _ _ c.self.view_is c.in-Some.is c.self.invariant _ c.range.ensures

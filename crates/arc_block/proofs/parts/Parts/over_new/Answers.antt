@@ -1,5 +1,6 @@
 -- The parts are all of the new block.
-use Rattle.std.proofs.Common.{Some, length, ap, sym, subst}
+use Rattle.std.proofs.Common.{Some, length, sym, ap, ◌∙◌, subst}
+use Rattle.arc_block.specs.Block.{BlockView}
 use Rattle.arc_block.specs.Window.{parts_of, window_of, window_seen}
 use Rattle.arc_block.specs.Steps.{Makes}
 use Rattle.arc_block.proofs.Windows.{made_on_block}
@@ -10,5 +11,5 @@ returns-clause-made g c =
     let made = c.requires.made in
     let static = g.L.Layout.STATIC in let drops = g.S.Slice.DROPS in let whole = g.H.Mark.whole in
     subst (λ n. Makes static drops whole c.args.block.items (window_of (parts_of (window_seen (Some c.args.block) 0 n))))
-    (sym (ap (λ xs. length xs) c.as_slice-end.ensures))
+    (sym (c.size-end.ensures ∙ ap (λ (b : BlockView g.row.S-Item.Denot (Unit {0})). b.facts.size) made.0))
     (made_on_block static drops whole c.args.block.items c.args.block made.0 made.1 c.requires.stands)
