@@ -11,6 +11,8 @@ use Rattle.arc_block.specs.Block.{BlockInfo, BlockView, native, native_facts, na
 use Rattle.arc_block.specs.declared.block.TheConstants.{MAX_OWNERS}
 use Rattle.arc_block.specs.Place.{Place, nowhere, static_data, on_block, moved, part_place}
 use Rattle.arc_block.specs.Table.{reader}
+use Rattle.arc_block.specs.declared.parts.storage.Storage.{Storage}
+use Rattle.arc_block.specs.declared.parts.storage.Storage.TheVariants.{Nothing, Static, Block}
 use Rattle.arc_block.specs.Window.{Window, PartsView, parts_of, window_of, made_window, window_seen, IsWithin, IsNativeOf, IsWholeOf}
 use Rattle.arc_block.specs.Steps.{Shares, Makes}
 
@@ -21,25 +23,30 @@ stays (on_block owner offset facts) = let same : offset + 0 ≡ offset = omega a
 
 module _ {T : Type 0} where
   -- how many items there are
-  pub how_long : (inner : Option (BlockView T (Unit {0}))) (from to : ℕ) (p : PartsView T) → parts_of (window_seen inner from to) ≡ p → IsWithin inner from to → from + length p.items ≡ to
-  how_long None from to p view within = omega (arith, ap (λ (v : PartsView T). length v.items) view, within.0, within.1)
-  how_long (Some b) from to p view within = omega (arith, ap (λ (v : PartsView T). length v.items) view, length-sub b.items from to within.0 within.1, within.0)
+  pub how_long : (inner : Storage T (BlockView T (Unit {0}))) (from to : ℕ) (p : PartsView T) → parts_of (window_seen inner from to) ≡ p → IsWithin inner from to → from + length p.items ≡ to
+  how_long Nothing from to p view within = omega (arith, ap (λ (v : PartsView T). length v.items) view, within.0, within.1)
+  how_long (Static items) from to p view within = omega (arith, ap (λ (v : PartsView T). length v.items) view, length-sub items from to within.0 within.1, within.0)
+  how_long (Block b) from to p view within = omega (arith, ap (λ (v : PartsView T). length v.items) view, length-sub b.items from to within.0 within.1, within.0)
 
   -- what is left between two ends lies within the block
-  pub kept_within : (inner : Option (BlockView T (Unit {0}))) (from to start end : ℕ) → IsWithin inner from to → start ≤ end → from + end ≤ to → IsWithin inner (from + start) (from + end)
-  kept_within None from to start end within ordered inside = (omega (arith, within.0, within.1, ordered, inside), omega (arith, within.0, within.1, inside))
-  kept_within (Some b) from to start end within ordered inside = (omega (arith, ordered), omega (arith, inside, within.1), within.2)
+  pub kept_within : (inner : Storage T (BlockView T (Unit {0}))) (from to start end : ℕ) → IsWithin inner from to → start ≤ end → from + end ≤ to → IsWithin inner (from + start) (from + end)
+  kept_within Nothing from to start end within ordered inside = (omega (arith, within.0, within.1, ordered, inside), omega (arith, within.0, within.1, inside))
+  kept_within (Static items) from to start end within ordered inside = (omega (arith, ordered), omega (arith, inside, within.1))
+  kept_within (Block b) from to start end within ordered inside = (omega (arith, ordered), omega (arith, inside, within.1), within.2)
 
   -- and is seen as the items between them, that much further in
-  pub kept_seen : (inner : Option (BlockView T (Unit {0}))) (from to start end : ℕ) (p : PartsView T) → parts_of (window_seen inner from to) ≡ p → IsWithin inner from to → start ≤ end → from + end ≤ to
+  pub kept_seen : (inner : Storage T (BlockView T (Unit {0}))) (from to start end : ℕ) (p : PartsView T) → parts_of (window_seen inner from to) ≡ p → IsWithin inner from to → start ≤ end → from + end ≤ to
       → parts_of (window_seen inner (from + start) (from + end)) ≡ record { items = sub p.items start end; place = moved start p.place; role = p.role }
-  kept_seen None from to start end p view within ordered inside =
+  kept_seen Nothing from to start end p view within ordered inside =
       let nil : List T = [] in
       let empty : sub nil start end ≡ [] = nil_from_length (sub nil start end) (omega (arith, length-sub nil start end ordered (omega (arith, within.0, within.1, inside)), within.0, within.1, inside)) in
-      let seen : PartsView T → Type 0 = λ v. parts_of (window_seen {T = T} None (from + start) (from + end)) ≡ record { items = sub v.items start end; place = moved start v.place; role = v.role } in
+      let seen : PartsView T → Type 0 = λ v. parts_of (window_seen {T = T} Nothing (from + start) (from + end)) ≡ record { items = sub v.items start end; place = moved start v.place; role = v.role } in
       subst seen view (ap (λ xs. record { items = xs; place = nowhere; role = reader }) (sym empty))
-  kept_seen (Some b) from to start end p view within ordered inside =
-      let seen : PartsView T → Type 0 = λ v. parts_of (window_seen (Some b) (from + start) (from + end)) ≡ record { items = sub v.items start end; place = moved start v.place; role = v.role } in
+  kept_seen (Static items) from to start end p view within ordered inside =
+      let seen : PartsView T → Type 0 = λ v. parts_of (window_seen {T = T} (Static items) (from + start) (from + end)) ≡ record { items = sub v.items start end; place = moved start v.place; role = v.role } in
+      subst seen view (ap (λ xs. record { items = xs; place = static_data; role = reader }) (sym (sub-sub items from to start end inside)))
+  kept_seen (Block b) from to start end p view within ordered inside =
+      let seen : PartsView T → Type 0 = λ v. parts_of (window_seen (Block b) (from + start) (from + end)) ≡ record { items = sub v.items start end; place = moved start v.place; role = v.role } in
       let there : Place (Option Owner) (Unit {0}) = on_block (Some b.owner) (from + start) b.facts in
       subst seen view (ap (λ xs. record { items = xs; place = there; role = reader }) (sym (sub-sub b.items from to start end inside)))
 
@@ -54,11 +61,11 @@ as_reowned {T} b b' items facts =
     ap f (sym items) ∙ ap g (sym facts)
 
 -- parts that stand on a block b
-module _ {T : Type 0} (inner : Option (BlockView T (Unit {0}))) (from to : ℕ) (p : PartsView T) (b : BlockView T (Unit {0})) (view : parts_of (window_seen inner from to) ≡ p) (is : inner ≡ Some b) (within : IsWithin inner from to) where
-  here : IsWithin (Some b) from to
+module _ {T : Type 0} (inner : Storage T (BlockView T (Unit {0}))) (from to : ℕ) (p : PartsView T) (b : BlockView T (Unit {0})) (view : parts_of (window_seen inner from to) ≡ p) (is : inner ≡ Block b) (within : IsWithin inner from to) where
+  here : IsWithin (Block b) from to
   here = subst (λ x. IsWithin x from to) is within
 
-  on_block_seen : p ≡ parts_of (window_seen (Some b) from to)
+  on_block_seen : p ≡ parts_of (window_seen (Block b) from to)
   on_block_seen = sym view ∙ ap (λ x. parts_of (window_seen x from to)) is
 
   -- the items are those of the block between the ends
@@ -74,26 +81,23 @@ module _ {T : Type 0} (inner : Option (BlockView T (Unit {0}))) (from to : ℕ) 
     upto = omega (arith, inside, between, here.0)
 
     -- a part of them is seen as a part
-    part_seen : parts_of (window_seen (Some b) (from + start) (from + end)) ≡ record { items = sub p.items start end; place = part_place has_static (sub p.items start end) start p.place; role = reader }
+    part_seen : parts_of (window_seen (Block b) (from + start) (from + end)) ≡ record { items = sub p.items start end; place = part_place has_static (sub p.items start end) start p.place; role = reader }
     part_seen =
         let parts : sub b.items (from + start) (from + end) ≡ sub (sub b.items from to) start end = sym (sub-sub b.items from to start end upto) in
         let whole : length (sub b.items from to) ≡ to - from = length-sub b.items from to here.0 here.1 in
         let long : length (sub (sub b.items from to) start end) ≡ end - start = length-sub (sub b.items from to) start end ordered (omega (arith, inside, between, whole)) in
         let there : Place (Option Owner) (Unit {0}) = on_block (Some b.owner) (from + start) b.facts in
-        let P : PartsView T → Type 0 = λ v. parts_of (window_seen (Some b) (from + start) (from + end)) ≡ record { items = sub v.items start end; place = part_place has_static (sub v.items start end) start v.place; role = reader } in
+        let P : PartsView T → Type 0 = λ v. parts_of (window_seen (Block b) (from + start) (from + end)) ≡ record { items = sub v.items start end; place = part_place has_static (sub v.items start end) start v.place; role = reader } in
         subst P (sym on_block_seen)
         (ap (λ xs. record { items = xs; place = there; role = reader }) parts
         ∙ ap (λ t. record { items = sub (sub b.items from to) start end; place = if t then nowhere else there; role = reader }) (sym (ap (λ n. has_static && (n == 0)) long ∙ kept)))
 
     -- also as parts of another owner
     module _ (b' : BlockView T (Unit {0})) (items : b'.items ≡ b.items) (facts : b'.facts ≡ b.facts) where
-      pub part_within : IsWithin (Some b') (from + start) (from + end)
-      part_within = subst (λ x. IsWithin (Some x) (from + start) (from + end)) (as_reowned b b' items facts) (kept_within (Some b) from to start end here ordered upto)
-
-      pub part_items : (window_seen (Some b') (from + start) (from + end)).items ≡ sub p.items start end
+      pub part_items : (window_seen (Block b') (from + start) (from + end)).items ≡ sub p.items start end
       part_items = ap (λ xs. sub xs (from + start) (from + end)) items ∙ ap (λ (v : PartsView T). v.items) part_seen
 
-      pub part_shares : {H : Type 0} (old new : Pass H) → MakesAnother b.owner old new b'.owner → Shares (part_place has_static (sub p.items start end) start p.place) old new (window_seen (Some b') (from + start) (from + end)).place
+      pub part_shares : {H : Type 0} (old new : Pass H) → MakesAnother b.owner old new b'.owner → Shares (part_place has_static (sub p.items start end) start p.place) old new (window_seen (Block b') (from + start) (from + end)).place
       part_shares old new makes =
           let P : Place (Option Owner) (Unit {0}) → Type 0 = λ place. Shares place old new (on_block (Some b'.owner) (from + start) b'.facts) in
           subst P (ap (λ (v : PartsView T). v.place) part_seen) (b'.owner, makes, ap (λ x. on_block (Some b'.owner) (from + start) x) facts)
@@ -111,6 +115,31 @@ module _ {T : Type 0} (inner : Option (BlockView T (Unit {0}))) (from to : ℕ) 
   pub whole_told : (n : ℕ) → b.facts.sort ≡ native → (length p.items ≡ n) × (b.facts.size ≡ n) → IsWholeOf n (window_of p)
   whole_told n sort told = record { items = told.0; block = subst (λ (v : PartsView T). IsNativeOf n v.place) (sym on_block_seen) (sort, told.1) }
 
+-- parts that stand on a static slice
+module _ {T : Type 0} (inner : Storage T (BlockView T (Unit {0}))) (from to : ℕ) (p : PartsView T) (all : List T) (view : parts_of (window_seen inner from to) ≡ p) (is : inner ≡ Static all) (within : IsWithin inner from to) where
+  inside_slice : IsWithin {T = T} (Static all) from to
+  inside_slice = subst (λ x. IsWithin x from to) is within
+
+  on_slice_seen : p ≡ parts_of (window_seen (Static all) from to)
+  on_slice_seen = sym view ∙ ap (λ x. parts_of (window_seen x from to)) is
+
+  in_slice : length p.items ≡ to - from
+  in_slice = ap (λ (v : PartsView T). length v.items) on_slice_seen ∙ length-sub all from to inside_slice.0 inside_slice.1
+
+  -- a part of them
+  module _ (start end : ℕ) (ordered : start ≤ end) (inside : end ≤ length p.items) where
+    pub slice_items : (items : List T) → items ≡ all → sub items (from + start) (from + end) ≡ sub p.items start end
+    slice_items items same =
+        ap (λ xs. sub xs (from + start) (from + end)) same ∙ sym (sub-sub all from to start end (omega (arith, inside, in_slice, inside_slice.0)))
+        ∙ ap (λ (v : PartsView T). sub v.items start end) (sym on_slice_seen)
+
+    pub slice_shares : {H : Type 0} (has_static : Bool) (old : Pass H) → (has_static && ((end - start) == 0)) ≡ false
+        → Shares (part_place has_static (sub p.items start end) start p.place) old old static_data
+    slice_shares has_static old kept =
+        let long : length (sub p.items start end) ≡ end - start = length-sub p.items start end ordered inside in
+        let P : Place (Option Owner) (Unit {0}) → Type 0 = λ place. Shares place old old static_data in
+        subst P (ap (λ b. if b then nowhere else static_data) (sym (ap (λ n. has_static && (n == 0)) long ∙ kept)) ∙ ap (λ (v : PartsView T). part_place has_static (sub p.items start end) start v.place) (sym on_slice_seen)) (refl, refl)
+
 both_true : (b : Bool) (n : ℕ) → (b && (n == 0)) ≡ true → n ≡ 0
 both_true true n both = eqb-true n 0 both
 both_true false n both = absurd (false≢true both)
@@ -118,10 +147,10 @@ both_true false n both = absurd (false≢true both)
 module _ {T : Type 0} (has_static drops one_pass : Bool) (items : List T) where
   -- all of a new block
   pub made_on_block : (b : BlockView T (Unit {0})) → b ≡ native_block drops b.owner items → IsFirst MAX_OWNERS one_pass b.owner → (has_static && (length items == 0)) ≡ false
-      → Makes has_static drops one_pass items (window_of (parts_of (window_seen (Some b) 0 (length items))))
+      → Makes has_static drops one_pass items (window_of (parts_of (window_seen (Block b) 0 (length items))))
   made_on_block b is first kept =
       let there : Bool → Place (Option Owner) (Unit {0}) = λ nothing. if nothing then nowhere else on_block (Some b.owner) 0 (native_facts drops (length items)) in
-      let P : BlockView T (Unit {0}) → Type 0 = λ x. window_of (parts_of (window_seen (Some x) 0 (length items))) ≡ made_window has_static drops b.owner items in record {
+      let P : BlockView T (Unit {0}) → Type 0 = λ x. window_of (parts_of (window_seen (Block x) 0 (length items))) ≡ made_window has_static drops b.owner items in record {
         owner = b.owner;
         made = subst P (sym is) (ap (λ xs. record { items = xs; place = there false }) (sub-whole items) ∙ ap (λ nothing. record { items = items; place = there nothing }) (sym kept));
         first = first;
@@ -139,8 +168,8 @@ module _ {T : Type 0} (has_static drops one_pass : Bool) (items : List T) where
       }
 
   -- what is made on a new block lies within it
-  pub made_within : (b : BlockView T (Unit {0})) → b ≡ native_block drops b.owner items → IsWithin (Some b) 0 (length items)
-  made_within b is = subst (λ x. IsWithin (Some x) 0 (length items)) (sym is) (omega arith, omega arith, omega arith)
+  pub made_within : (b : BlockView T (Unit {0})) → b ≡ native_block drops b.owner items → IsWithin (Block b) 0 (length items)
+  made_within b is = subst (λ x. IsWithin (Block x) 0 (length items)) (sym is) (omega arith, omega arith, omega arith)
 
 -- an owner, for parts that stand on nothing and have none
 pub owner_for : {H : Type 0} → Pass H → Owner

@@ -7,6 +7,8 @@ use Rattle.arc_block.specs.Block.{Sort, native, vector, buffer, raw}
 use Rattle.arc_block.specs.Block.{BlockInfo, BlockView, native_facts}
 use Rattle.arc_block.specs.Place.{Place, nowhere, static_data, on_block, IsOnBlock, made_place}
 use Rattle.arc_block.specs.Table.{RowOf, reader}
+use Rattle.arc_block.specs.declared.parts.storage.Storage.{Storage}
+use Rattle.arc_block.specs.declared.parts.storage.Storage.TheVariants.{Nothing, Static, Block}
 
 -- what is seen of a window: its items, and where it stands: on a block as one of its owners, where
 -- the block counts them
@@ -28,19 +30,21 @@ NeedsBlock {T} has_static items =
     let facts : BlockInfo (Unit {0}) = native_facts false (length items) in
     IsOnBlock (made_place {T = T} {N = Unit {0}} has_static tt facts items)
 
--- the part from start to end of the block that a window stands on, if it stands on one
-abbrev pub window_seen : {T : Type 0} → Option (BlockView T (Unit {0})) → ℕ → ℕ → Window T
-window_seen None start end = record { items = []; place = nowhere }
-window_seen (Some block) start end = record {
+-- the part from start to end of what a window stands on
+abbrev pub window_seen : {T : Type 0} → Storage T (BlockView T (Unit {0})) → ℕ → ℕ → Window T
+window_seen Nothing start end = record { items = []; place = nowhere }
+window_seen (Static items) start end = record { items = sub items start end; place = static_data }
+window_seen (Block block) start end = record {
   items = sub block.items start end;
   place = on_block (Some block.owner) start block.facts;
 }
 
--- start to end lies within the block, which has a place for each item; a window on none has no
--- items
-abbrev pub IsWithin : {T : Type 0} → Option (BlockView T (Unit {0})) → ℕ → ℕ → Type 0
-IsWithin None start end = (start ≡ 0) × (end ≡ 0)
-IsWithin (Some block) start end = (start ≤ end) × (end ≤ length block.items)
+-- start to end lies within what the window stands on; a block has a place for each item; a window
+-- on nothing has no items
+abbrev pub IsWithin : {T : Type 0} → Storage T (BlockView T (Unit {0})) → ℕ → ℕ → Type 0
+IsWithin Nothing start end = (start ≡ 0) × (end ≡ 0)
+IsWithin (Static items) start end = (start ≤ end) × (end ≤ length items)
+IsWithin (Block block) start end = (start ≤ end) × (end ≤ length block.items)
     × (length block.items ≤ block.facts.size)
 
 -- a native block of this size

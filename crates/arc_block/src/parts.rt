@@ -5,22 +5,23 @@
 //! kind, and where it may be cut, is known to the windows alone.
 ghost use Rattle.std.specs.Prelude.{◌≡◌, ◌≤◌, ◌==◌, ◌&&◌, false, length, [], IfOk, IfErr, OnErr};
 ghost use Rattle.arc_buffer.specs.Slice.{sub};
-ghost use Rattle.arc_owners.specs.count.Calls.{IsFirst, IsFreshPass, IsPassOfNone, IsNewPass};
-ghost use Rattle.arc_owners.specs.count.Calls.{Learns};
-ghost use Rattle.arc_block.specs.Block.{native_block, IsLimited};
-ghost use Rattle.arc_block.specs.Place.{nowhere, moved, at_owner};
+ghost use Rattle.arc_owners.specs.count.Calls.{IsFirst, IsFreshPass};
+ghost use Rattle.arc_block.specs.Block.{native_block};
+ghost use Rattle.arc_block.specs.Place.{nowhere, static_data, moved};
 ghost use Rattle.arc_block.specs.Table.{reader};
 ghost use Rattle.arc_block.specs.Window.{window_of, NeedsBlock};
-ghost use Rattle.arc_block.specs.Steps.{IsPassAt, Makes, Begins};
+ghost use Rattle.arc_block.specs.Steps.{Makes, Begins};
 
-use crate::block::{Block, MAX_OWNERS, max_owners};
-use crate::layout::{Layout, StaticLayout, stands_on_nothing};
+use crate::block::{Block, MAX_OWNERS};
+use crate::layout::{Layout, stands_on_nothing};
+use crate::static_slice::StaticSlice;
 use arc_buffer::kinds::Slice;
 use arc_owners::error::AllocError;
-use arc_owners::mark::{Mark, Open, Stepping};
+use arc_owners::mark::{Mark, Open};
 use arc_owners::owners::Pass;
 use std::alloc::Allocator;
 use std::marker::Model;
+use storage::Storage;
 
 /// A row of the table of lists, with its owner: the items, where they stand, and what may be done
 /// with them.
@@ -28,7 +29,7 @@ use std::marker::Model;
 /// Dropped, parts end as a window does: under the mark `Open` with a new pass; under `Whole` their
 /// owner is a forgotten one.
 pub struct Parts<S: Slice, A: Allocator + Copy, H: Mark = Open> {
-    block: Option<Block<S, A, MAX_OWNERS, H>>,
+    on: Storage<S::Item, Block<S, A, MAX_OWNERS, H>>,
     start: usize,
     end: usize,
     alloc: A,
@@ -39,38 +40,48 @@ impl<S: Slice, A: Allocator + Copy, H: Mark> Model for Parts<S, A, H> {
 
     ghost Value = { PartsView S.Item };
 
-    ghost view = { λ p. parts_of (window_seen p.block p.start p.end) };
+    ghost view = { λ p. parts_of (window_seen p.on p.start p.end) };
 
-    ghost invariant = { λ p. IsWithin p.block p.start p.end };
+    ghost invariant = { λ p. IsWithin p.on p.start p.end };
 }
 
 impl<S: Slice, A: Allocator + Copy, H: Mark> Drop for Parts<S, A, H> {
     #[inline(always)]
     fn drop(self) {
         let Parts {
-            block,
+            on,
             start: _,
             end: _,
             alloc,
         } = self;
-        drop(block);
+        drop(on);
         drop(alloc);
     }
 }
 
 impl<S: Slice, A: Allocator + Copy, H: Mark> Parts<S, A, H> {
     /// No items, on nothing.
-    ///
-    /// # Errors
-    ///
-    /// None.
     pub fn on_nothing(alloc: A) -> Self
         ensures { result ≡ record { items = []; place = nowhere; role = reader } }
     {
         Parts {
-            block: None,
+            on: Storage::Nothing,
             start: 0,
             end: 0,
+            alloc,
+        }
+    }
+
+    /// A slice that is there for good. No owner has it.
+    pub fn on_static(alloc: A, items: &'static [S::Item]) -> Self
+    where
+        S::Item: 'static,
+        ensures { result ≡ record { items = items.now; place = static_data; role = reader } }
+    {
+        Parts {
+            on: Storage::Static(StaticSlice::new(items)),
+            start: 0,
+            end: items.len(),
             alloc,
         }
     }
@@ -92,7 +103,7 @@ impl<S: Slice, A: Allocator + Copy, H: Mark> Parts<S, A, H> {
         let end = block.size();
         *pass = new;
         Parts {
-            block: Some(block),
+            on: Storage::Block(block),
             start: 0,
             end,
             alloc,
@@ -174,9 +185,10 @@ impl<S: Slice, A: Allocator + Copy, H: Mark> Parts<S, A, H> {
     pub fn as_slice(&self) -> &[S::Item]
         ensures { result.now ≡ self.now.items }
     {
-        match &self.block {
-            Some(block) => block.range(self.start, self.end),
-            None => &[],
+        match &self.on {
+            Storage::Block(block) => block.range(self.start, self.end),
+            Storage::Static(items) => items.range(self.start, self.end),
+            Storage::Nothing => &[],
         }
     }
 
@@ -197,3 +209,4 @@ impl<S: Slice, A: Allocator + Copy, H: Mark> Parts<S, A, H> {
 
 mod ends;
 mod owners;
+mod storage;

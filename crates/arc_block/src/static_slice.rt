@@ -142,13 +142,22 @@ impl<T: 'static> StaticSlice<T> {
         self.as_static()
     }
 
+    /// The items from `start` to before `end`, for good: also after this value is gone.
+    #[inline(always)]
+    pub fn range_static(&self, start: usize, end: usize) -> &'static [T]
+        requires { (start ≤ end) × (end ≤ length self.now) }
+        ensures { result.now ≡ sub self.now start end }
+    {
+        self.kept.as_static(self.ptr, start, end)
+    }
+
     /// The items from `start` to before `end`.
     #[inline(always)]
     pub fn part(&self, start: usize, end: usize) -> Self
         requires { (start ≤ end) × (end ≤ length self.now) }
         ensures { result ≡ sub self.now start end }
     {
-        Self::new(self.kept.as_static(self.ptr, start, end))
+        Self::new(self.range_static(start, end))
     }
 }
 
@@ -167,6 +176,15 @@ impl<T> StaticSlice<T> {
         ensures { result ≡ (length self.now == 0) }
     {
         self.len == 0
+    }
+
+    /// The items from `start` to before `end`. Reads no memory.
+    #[inline(always)]
+    pub fn range(&self, start: usize, end: usize) -> &[T]
+        requires { (start ≤ end) × (end ≤ length self.now) }
+        ensures { result.now ≡ sub self.now start end }
+    {
+        self.kept.as_slice(self.ptr, start, end)
     }
 
     /// The items.

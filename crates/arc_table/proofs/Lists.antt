@@ -1,11 +1,12 @@
 -- Elements of lists, at their places.
 use Rattle.std.proofs.Common.{inl, inr, ◌≡◌, ℕ, ◌+◌, ◌<◌, ◌≤◌, zero, suc, List, [], ◌∷◌, ◌++◌}
-use Rattle.std.proofs.Common.{length}
+use Rattle.std.proofs.Common.{length, Bool, false, Result, Ok, Err}
 use Rattle.std.proofs.Common.{Option, Some, None, slice_get, slice_set, slice_index_or, refl, sym}
 use Rattle.std.proofs.Common.{ap}
 use Rattle.std.proofs.Common.{◌∙◌, subst, arith}
 use Rattle.std.specs.Option.{option_flatten}
-use Rattle.std.proofs.lemmas.Bool.{cases_eq}
+use Rattle.std.proofs.lemmas.Bool.{cases_eq, false≢true}
+use Rattle.std.specs.Result.{is_err, OnOk}
 use Rattle.std.proofs.lemmas.Option.{same_Some, slice_get_cases, slice_get_read, slice_get_within}
 use Rattle.arc_block.proofs.Lists.{get-set_other}
 
@@ -46,3 +47,8 @@ all-gone xs n long below j =
       | inl there ↦ below j (omega (arith, long, there.1))
       | inr past ↦ ap option_flatten past.1
     ]
+
+-- what holds of success holds where there is no error
+pub no_error : {X E P : Type 0} (r : Result X E) → is_err r ≡ false → OnOk r P → P
+no_error (Ok x) fine p = p
+no_error (Err e) fine p = absurd (false≢true (sym fine))

@@ -1,12 +1,13 @@
 //! Ends of parts: what is taken back, and what is let go.
 ghost use Rattle.std.specs.Prelude.{◌≡◌, ◌↔◌, Bool, IfOk, IfErr, IsTrue};
 ghost use Rattle.arc_owners.specs.count.Calls.{AsksAndLeaves, Leaves, TakesBlock};
-ghost use Rattle.arc_block.specs.Place.{at_owner};
+ghost use Rattle.arc_block.specs.Place.{IsOnBlock, at_owner};
 ghost use Rattle.arc_block.specs.Table.{reader};
 ghost use Rattle.arc_block.specs.Window.{IsWholeOf, window_of};
 ghost use Rattle.arc_block.specs.Steps.{IsPassAt, RefusesArray};
 
 use super::Parts;
+use super::storage::Storage;
 use arc_buffer::kinds::Slice;
 use arc_owners::mark::Mark;
 use arc_owners::owners::Pass;
@@ -17,9 +18,9 @@ impl<S: Slice, A: Allocator + Copy, H: Mark> Parts<S, A, H> {
     fn is_whole(&self, n: usize) -> bool
         ensures { IsTrue result ↔ IsWholeOf n (window_of self.now) }
     {
-        match &self.block {
-            Some(block) => block.is_native() && block.size() == n && self.len() == n,
-            None => false,
+        match &self.on {
+            Storage::Block(block) => block.is_native() && block.size() == n && self.len() == n,
+            _ => false,
         }
     }
 
@@ -48,19 +49,21 @@ impl<S: Slice, A: Allocator + Copy, H: Mark> Parts<S, A, H> {
             return Err(self);
         }
         let Parts {
-            block,
+            on,
             start,
             end,
             alloc,
         } = self;
-        let Some(block) = block else { unreachable!() };
+        let Storage::Block(block) = on else {
+            unreachable!()
+        };
         match block.try_into_items_as(pass) {
             Ok(items) => match <[S::Item; N]>::try_from(items) {
                 Ok(array) => Ok(array),
                 Err(_) => unreachable!(),
             },
             Err(block) => Err(Parts {
-                block: Some(block),
+                on: Storage::Block(block),
                 start,
                 end,
                 alloc,
@@ -80,12 +83,12 @@ impl<S: Slice, A: Allocator + Copy, H: Mark> Parts<S, A, H> {
             × Leaves o pass.old pass.new last) }
     {
         let Parts {
-            block,
+            on,
             start: _,
             end: _,
             alloc: _,
         } = self;
-        if let Some(block) = block {
+        if let Storage::Block(block) = on {
             let _ = block.release_as(pass);
         }
     }
@@ -103,12 +106,12 @@ impl<S: Slice, A: Allocator + Copy, H: Mark> Parts<S, A, H> {
             AsksAndLeaves o pass.old pass.new) }
     {
         let Parts {
-            block,
+            on,
             start: _,
             end: _,
             alloc: _,
         } = self;
-        if let Some(block) = block {
+        if let Storage::Block(block) = on {
             match block.try_into_items_as(pass) {
                 Ok(items) => drop(items),
                 Err(shared) => {
@@ -124,20 +127,41 @@ impl<S: Slice, A: Allocator + Copy, H: Mark> Parts<S, A, H> {
         ensures { result ≡ self }
     {
         let Parts {
-            block,
+            on,
             start,
             end,
             alloc,
         } = self;
-        let block = match block {
-            Some(block) => Some(block.into_kind()),
-            None => None,
+        let on = match on {
+            Storage::Block(block) => Storage::Block(block.into_kind()),
+            Storage::Static(items) => Storage::Static(items),
+            Storage::Nothing => Storage::Nothing,
         };
         Parts {
-            block,
+            on,
             start,
             end,
             alloc,
+        }
+    }
+
+    /// The items as a slice that is there for good, where they stand on one, or on nothing. Else
+    /// the parts come back.
+    ///
+    /// # Errors
+    ///
+    /// The parts, exactly where they stand on a block.
+    pub fn try_into_static(self) -> Result<&'static [S::Item], Self>
+    where
+        S::Item: 'static,
+        ensures taken { IfOk result (λ items. (items.now ≡ self.items)
+            × ¬ IsOnBlock self.place) }
+        ensures refused { IfErr result (λ parts. (parts ≡ self) × IsOnBlock self.place) }
+    {
+        match &self.on {
+            Storage::Block(_) => Err(self),
+            Storage::Static(items) => Ok(items.range_static(self.start, self.end)),
+            Storage::Nothing => Ok(&[]),
         }
     }
 }

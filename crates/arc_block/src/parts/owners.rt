@@ -8,6 +8,7 @@ ghost use Rattle.arc_block.specs.Table.{reader};
 ghost use Rattle.arc_block.specs.Steps.{IsPassAt, Shares, Refuses};
 
 use super::Parts;
+use super::storage::Storage;
 use crate::block::max_owners;
 use crate::layout::{Layout, stands_on_nothing};
 use arc_buffer::kinds::Slice;
@@ -43,15 +44,16 @@ impl<S: Slice, A: Allocator + Copy, H: Mark> Parts<S, A, H> {
         ensures owned { IfNone result (at_owner self.now.place ⊥ (λ _. Unit {0})) }
         ensures again { IfNone result (pass.new ≡ pass.old) }
     {
-        let block = match &self.block {
-            Some(block) => match block.try_share_once_as(pass)? {
-                Ok(block) => Some(block),
+        let on = match &self.on {
+            Storage::Block(block) => match block.try_share_once_as(pass)? {
+                Ok(block) => Storage::Block(block),
                 Err(e) => return Some(Err(e.into())),
             },
-            None => None,
+            Storage::Static(items) => Storage::Static(items.again()),
+            Storage::Nothing => Storage::Nothing,
         };
         Some(Ok(Parts {
-            block,
+            on,
             start: self.start,
             end: self.end,
             alloc: self.alloc,
@@ -94,19 +96,26 @@ impl<S: Slice, A: Allocator + Copy, H: Mark> Parts<S, A, H> {
             ⊥ (λ _. Unit {0})) }
         ensures again { IfNone result (pass.new ≡ pass.old) }
     {
-        match &self.block {
-            Some(block) if !stands_on_nothing::<L>(end - start) => {
-                match block.try_share_once_as(pass)? {
-                    Ok(block) => Some(Ok(Parts {
-                        block: Some(block),
-                        start: self.start + start,
-                        end: self.start + end,
-                        alloc: self.alloc,
-                    })),
-                    Err(e) => Some(Err(e.into())),
-                }
-            }
-            _ => Some(Ok(Self::on_nothing(self.alloc))),
+        if stands_on_nothing::<L>(end - start) {
+            return Some(Ok(Self::on_nothing(self.alloc)));
+        }
+        match &self.on {
+            Storage::Block(block) => match block.try_share_once_as(pass)? {
+                Ok(block) => Some(Ok(Parts {
+                    on: Storage::Block(block),
+                    start: self.start + start,
+                    end: self.start + end,
+                    alloc: self.alloc,
+                })),
+                Err(e) => Some(Err(e.into())),
+            },
+            Storage::Static(items) => Some(Ok(Parts {
+                on: Storage::Static(items.again()),
+                start: self.start + start,
+                end: self.start + end,
+                alloc: self.alloc,
+            })),
+            Storage::Nothing => Some(Ok(Self::on_nothing(self.alloc))),
         }
     }
 
@@ -122,9 +131,9 @@ impl<S: Slice, A: Allocator + Copy, H: Mark> Parts<S, A, H> {
         ensures entry { at_owner self.now.place ((result ≡ false)
             × (pass.new ≡ pass.old)) (λ o. Asks o pass.old pass.new result) }
     {
-        match &self.block {
-            Some(block) => block.is_unique_as(pass),
-            None => false,
+        match &self.on {
+            Storage::Block(block) => block.is_unique_as(pass),
+            _ => false,
         }
     }
 
@@ -135,7 +144,7 @@ impl<S: Slice, A: Allocator + Copy, H: Mark> Parts<S, A, H> {
         ensures { at_owner self.now.place (pass.new ≡ pass.old) (λ o.
             Learns o.block pass.old other.now pass.new) }
     {
-        if let Some(block) = &self.block {
+        if let Storage::Block(block) = &self.on {
             block.learn(pass, other);
         }
     }
@@ -146,9 +155,9 @@ impl<S: Slice, A: Allocator + Copy, H: Mark> Parts<S, A, H> {
         ensures block { at_owner self.now.place (Unit {0}) (λ o.
             IsLimited 9223372036854775807 H.whole o) }
     {
-        match &self.block {
-            Some(block) => block.max_owners(),
-            None => max_owners(),
+        match &self.on {
+            Storage::Block(block) => block.max_owners(),
+            _ => max_owners(),
         }
     }
 }
@@ -159,9 +168,9 @@ impl<S: Slice, A: Allocator + Copy, H: Stepping> Parts<S, A, H> {
     pub fn pass(&self) -> Pass<H>
         ensures { at_owner self.now.place (IsPassOfNone result) (λ o. IsNewPass o result) }
     {
-        match &self.block {
-            Some(block) => block.pass(),
-            None => Pass::none(),
+        match &self.on {
+            Storage::Block(block) => block.pass(),
+            _ => Pass::none(),
         }
     }
 }

@@ -1,11 +1,12 @@
 //! Making of windows that are read.
 ghost use Rattle.std.specs.Prelude.{◌≡◌, false, IfOk, IfErr, OnErr};
 ghost use Rattle.arc_owners.specs.count.Calls.{IsPassOfNone};
+ghost use Rattle.arc_block.specs.Place.{static_data};
 ghost use Rattle.arc_block.specs.Window.{NeedsBlock};
 ghost use Rattle.arc_block.specs.Steps.{Makes, Begins};
 
 use super::ArcSlice;
-use arc_block::layout::Layout;
+use arc_block::layout::{Layout, StaticLayout};
 use arc_block::parts::Parts;
 use arc_buffer::kinds::{AnyItems, CopySlice, Slice};
 use arc_owners::error::AllocError;
@@ -75,6 +76,18 @@ impl<S: Slice, L: Layout, A: Allocator + Copy, H: Mark> ArcSlice<S, L, A, H> {
             Ok(parts) => Ok(Self::from_parts(parts)),
             Err(back) => Err(back),
         }
+    }
+}
+
+impl<S: AnyItems, L: StaticLayout, A: Allocator + Copy, H: Mark> ArcSlice<S, L, A, H> {
+    /// A window over a slice that is there for good. It is no owner: its clones and cuts add
+    /// nothing and are never refused. Takes no memory.
+    pub fn from_static(alloc: A, items: &'static [S::Item]) -> Self
+    where
+        S::Item: 'static,
+        ensures { result ≡ record { items = items.now; place = static_data } }
+    {
+        Self::from_parts(Parts::on_static(alloc, items))
     }
 }
 

@@ -1,7 +1,7 @@
 //! Owners of a read window's block, and ends of the window.
 ghost use Rattle.std.specs.Prelude.{◌≡◌, Bool, false, IfOk, IfErr};
 ghost use Rattle.arc_block.specs.Block.{IsLimited};
-ghost use Rattle.arc_block.specs.Place.{at_owner};
+ghost use Rattle.arc_block.specs.Place.{IsOnBlock, at_owner};
 ghost use Rattle.arc_block.specs.Window.{IsWholeOf};
 ghost use Rattle.arc_block.specs.Steps.{IsPassAt, RefusesArray};
 ghost use Rattle.arc_owners.specs.count.Calls.{IsPassOfNone, IsNewPass, Learns, Asks, Leaves};
@@ -42,6 +42,25 @@ impl<S: Slice, L: Layout, A: Allocator + Copy, H: Mark> ArcSlice<S, L, A, H> {
     {
         match self.into_parts().try_into_array_as(pass) {
             Ok(array) => Ok(array),
+            Err(parts) => Err(Self::from_parts(parts)),
+        }
+    }
+
+    /// The items as a slice that is there for good, where the window stands on one, or on nothing.
+    /// It adds nothing and takes no memory.
+    ///
+    /// # Errors
+    ///
+    /// The window, exactly where it stands on a block.
+    pub fn try_into_static(self) -> Result<&'static [S::Item], Self>
+    where
+        S::Item: 'static,
+        ensures taken { IfOk result (λ items. (items.now ≡ self.items)
+            × ¬ IsOnBlock self.place) }
+        ensures refused { IfErr result (λ window. (window ≡ self) × IsOnBlock self.place) }
+    {
+        match self.into_parts().try_into_static() {
+            Ok(items) => Ok(items),
             Err(parts) => Err(Self::from_parts(parts)),
         }
     }

@@ -3,11 +3,13 @@ ghost use Rattle.std.specs.Prelude.{◌≡◌, false, drop, IsOk, IfOk, IfErr, O
 ghost use Rattle.std.specs.Str.{IsUtf8, valid_up_to, error_len};
 ghost use Rattle.std.specs.Str.Lossy.{utf8_valid_len, utf8_error_len};
 ghost use Rattle.arc_owners.specs.count.Calls.{IsPassOfNone};
+ghost use Rattle.arc_block.specs.Place.{static_data};
 ghost use Rattle.arc_block.specs.Window.{NeedsBlock};
 ghost use Rattle.arc_block.specs.Steps.{Makes, Begins};
 
 use super::ArcSlice;
-use arc_block::layout::Layout;
+use arc_block::layout::{Layout, StaticLayout};
+use arc_block::parts::Parts;
 use arc_buffer::kinds::{ByteText, Plain, Slice, Text};
 use arc_owners::error::AllocError;
 use arc_owners::mark::{Mark, Open};
@@ -61,6 +63,15 @@ impl<L: Layout, A: Allocator + Copy, H: Mark> ArcSlice<Text, L, A, H> {
             Ok(()) => Ok(bytes.into_kind()),
             Err(error) => Err((error, bytes)),
         }
+    }
+}
+
+impl<L: StaticLayout, A: Allocator + Copy, H: Mark> ArcSlice<Text, L, A, H> {
+    /// A window over a text that is there for good, as `from_static` of items. Takes no memory.
+    pub fn from_static_str(alloc: A, text: &'static str) -> Self
+        ensures { result ≡ record { items = text.now; place = static_data } }
+    {
+        Self::from_parts(Parts::on_static(alloc, text.as_bytes()))
     }
 }
 

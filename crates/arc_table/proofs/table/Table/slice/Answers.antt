@@ -1,12 +1,12 @@
 -- The window stands on nothing, or as the first owner on a new block, whose pass is the one that
 -- was given.
 use Rattle.std.proofs.Common.{◌&&◌, ◌==◌, true, false, Some, [], ◌∷◌, length, refl, ap, sym, ◌∙◌}
-use Rattle.std.proofs.Common.{subst}
+use Rattle.std.proofs.Common.{subst, arith}
 use Rattle.arc_table.specs.Additions.{Adds}
 use Rattle.arc_table.specs.State.{State, state_of}
 use Rattle.arc_table.specs.declared.command.Cmd.TheVariants as command
 use Rattle.arc_table.specs.declared.command.Reply.TheVariants as reply
-use Rattle.arc_table.proofs.Lists.{behind}
+use Rattle.arc_table.proofs.Lists.{behind, no_error}
 use Rattle.arc_table.proofs.Founded.{nowhere-kept, block-kept, block-added, founded-agrees}
 use Rattle.std.proofs.lemmas.List.{length-append}
 use Rattle.arc_table.specs.Step.{Setting, setting_of}
@@ -80,3 +80,14 @@ returns-clause-passes g c =
     ∙ sym c.stands_on_nothing.ensures ∙ c.if-stands_on_nothing.false)
     c.len-2.result refl (c.len-2.ensures ∙ room.new.self.ok.0 ∙ ap length room.ensures.items)
     (behind passes _ c.push_reserved-2.ensures.items room.ensures.items))
+
+pub push_reserved-requires-2 : goal.push_reserved-requires-2
+push_reserved-requires-2 g c =
+    let again = c.reserve-else-is_err in
+    let room = no_error again.result (sym c.if-is_err-2.ensures.value) again.ensures.ok in
+    omega (arith, room)
+
+pub push_reserved-requires-3 : goal.push_reserved-requires-3
+push_reserved-requires-3 g c =
+    let room = no_error c.reserve.result (sym c.if-is_err.ensures.value) c.reserve.ensures.ok in
+    omega (arith, room)

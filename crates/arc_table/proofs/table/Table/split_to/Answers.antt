@@ -14,7 +14,7 @@ use Rattle.arc_table.specs.State.{State, state_of}
 use Rattle.arc_table.specs.Step.{Setting, Step, setting_of, of_table, split_rows, to_part, cut_row}
 use Rattle.arc_table.specs.declared.command.Cmd.TheVariants as command
 use Rattle.arc_table.specs.declared.command.Reply.TheVariants as reply
-use Rattle.arc_table.proofs.Lists.{read-there, same_entry}
+use Rattle.arc_table.proofs.Lists.{read-there, same_entry, no_error}
 use Rattle.arc_table.proofs.Taken.{set-back}
 use Rattle.arc_table.proofs.Kept.{known-pass}
 use Rattle.arc_table.proofs.Tables.{row-there, stand-there}
@@ -219,3 +219,8 @@ pub returns-in-Err-try_split_to-clause-passes : goal.returns-in-Err-try_split_to
 returns-in-Err-try_split_to-clause-passes g c =
     (refused g
     (goal.at.returns-in-Err-try_split_to-clause-passes g c).In-Err-try_split_to).passes_are
+
+pub push_reserved-requires : goal.push_reserved-requires
+push_reserved-requires g c =
+    let room = no_error c.reserve.result (sym c.if-is_err.ensures.value) c.reserve.ensures.ok in
+    omega (arith, room)
