@@ -1,5 +1,5 @@
--- A block's memory that is lent for the lifetime of a lease: its word is lodged, and its value is
--- there for the owners to read Assumes `Logic`.
+-- A block's memory that is lent for the lifetime of a lease: its word, which lies at the beginning,
+-- is lodged, and all of the memory is there for the owners to read. Assumes `Logic`.
 use Rattle.std.proofs.Common.{ℕ, zero, ◌+◌, List, [], ◌∷◌, subst, sym, refl, add-zero}
 use seplogic.Ra.Ura.{Ura}
 use mir.Syntax.{Ty, ty_struct}
@@ -45,10 +45,10 @@ module _ (T : RattleType) where
   value_ty = lone R.mir
 
   -- where the word lies in the memory, and the value
-  abbrev pub word_at : ℕ
+  abbrev word_at : ℕ
   word_at = up (align word_ty) zero
 
-  abbrev pub value_at : ℕ
+  abbrev value_at : ℕ
   value_at = up (align value_ty) (word_at + size word_ty)
 
 abbrev IsTyped : List Val → Type 0
@@ -111,7 +111,7 @@ module _ (T : RattleType) (L : Laws T) {M : Type 1} {𝓤 : Ura M} (𝓛 : Logic
   abbrev TheValue : Fml
   TheValue = part_at (R T) full_share v b (o + value_at T)
 
-  -- what the memory has beside the word and the value
+  -- the rest of the memory, beside the places of the word and of the value
   abbrev Rest : Fml
   Rest = fleft full_share (ty_struct [] (raw_tys ms)) (raw_tys ms) b o
 
@@ -140,11 +140,11 @@ module _ (T : RattleType) (L : Laws T) {M : Type 1} {𝓤 : Ura M} (𝓛 : Logic
     abbrev α : Lft
     α = a ∷ []
 
-    -- what the owners have of the word, and of all of it
-    abbrev pub Lodged : Fml
+    -- what the owners have of the word, of all of the memory, of the value, and of the rest
+    abbrev Lodged : Fml
     Lodged = word_borrow_for t b o α
 
-    abbrev pub Shown : Fml
+    abbrev Shown : Fml
     Shown = shared_of (Inner.the_row (R T)) (record { word = t; value = v }) b o α
 
     abbrev ValueShown : Fml
