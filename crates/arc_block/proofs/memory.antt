@@ -1,3 +1,5 @@
+pub mod Cuts
+pub mod Held
 pub mod Keyless
 pub mod Parted
 pub mod Ranges

@@ -7,3 +7,4 @@ pub mod Window
 pub mod Steps
 pub mod StaticSlices
 pub mod Memory
+pub mod Allocations

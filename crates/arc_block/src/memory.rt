@@ -1,8 +1,10 @@
 //! The memory in which a native block's items lie: its places, and apart from them the right to
 //! free it.
+
 mod allocation;
 mod base;
 mod emptied;
+mod lodging;
 mod native;
 mod places;
 

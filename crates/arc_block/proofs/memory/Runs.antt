@@ -5,8 +5,8 @@ use Rattle.std.proofs.Common.{◌≡◌, ℕ, ◌+◌, ◌-◌, ◌*◌, ◌≤�
 use seplogic.Ra.Ura.{Ura}
 use mir.Syntax.{Ty, ty_array}
 use base.Fraction.{full_share}
-use base.Logic.{SProp, ent, sep, emp}
-use base.Fml.{Fml, froom}
+use base.Logic.{SProp, ent, sep, emp, id⊢}
+use base.Fml.{Fml, ftrue, froom}
 use types.Logic.{Logic, sem}
 use types.Kit.{‵, raw, ◌$◌, ◌∵◌, !, qed, keep, use0, fsplit, fsplit3, fjoin, fjoin3, rewrite, done}
 use contract.Monad.{fact, fact_i}
@@ -23,6 +23,11 @@ use Rattle.arc_block.specs.Memory.{place_at, side_by_side}
 
 pub told : {M : Type 1} (𝓤 : Ura M) {F : Type 0} {P : SProp 𝓤} → F → ent 𝓤 (emp 𝓤) P → (𝓛 : Logic 𝓤) → ent 𝓤 (emp 𝓤) (sep 𝓤 (fact 𝓤 F) P)
 told 𝓤 {F} {P} known more 𝓛 = qed 𝓛 [] ∵ use0 𝓛 (raw P) more $ use0 𝓛 (raw (fact 𝓤 F)) (fact_i 𝓤 F (emp 𝓤) known) $ done !
+
+-- a vector that frees nothing needs no right to
+pub no_right : {M : Type 1} {𝓤 : Ura M} (𝓛 : Logic 𝓤) (y : Bool) → ent 𝓤 (emp 𝓤) (sem 𝓛 (owns_if y ftrue))
+no_right {𝓤 = 𝓤} 𝓛 true = id⊢ 𝓤 (emp 𝓤)
+no_right {𝓤 = 𝓤} 𝓛 false = id⊢ 𝓤 (emp 𝓤)
 
 module _ (E : El) where
   -- the first place is where the allocation begins

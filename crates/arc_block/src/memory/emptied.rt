@@ -1,7 +1,6 @@
 //! A vector without its items, which has the right to free their memory.
 ghost use Rattle.std.specs.Prelude.{◌≡◌, length};
 ghost use base.Fml.{ftrue, fex};
-ghost use Rattle.std.specs.Vec.{vec_capacity};
 ghost use Rattle.arc_block.specs.Memory.{Extent, extent_code, extent_of, emptied};
 
 use super::places::Places;
@@ -28,12 +27,13 @@ impl<T, A: Allocator> Move for Emptied<T, A> {
 }
 
 impl<T, A: Allocator> Emptied<T, A> {
+    ghost use Rattle.arc_block.specs.Allocations.{IsAllOf};
+
     /// The vector without its items, and the places with them.
     pub(crate) fn of(vec: Vec<T, A>) -> (Emptied<T, A>, Places<T>)
         ensures extent { result.0 ≡ extent_of vec }
         ensures items { result.1.items ≡ vec.items }
-        ensures places { (result.1.base ≡ result.0.base) × (result.1.whole ≡ result.0.count)
-            × (result.1.start ≡ 0) × (result.1.count ≡ result.0.count) }
+        ensures places { IsAllOf result.1 result.0 }
     {
         let marker = PhantomData;
         (Emptied { vec }, Places { marker })
@@ -41,8 +41,7 @@ impl<T, A: Allocator> Emptied<T, A> {
 
     /// The vector again, with the items that lie in its places: as many as it had.
     pub(crate) fn filled(self, places: Places<T>) -> Vec<T, A>
-        requires places { (places.base ≡ self.base) × (places.whole ≡ self.count)
-            × (places.start ≡ 0) × (places.count ≡ self.count) }
+        requires places { IsAllOf places self }
         requires items { length places.items ≡ self.len }
         ensures items { result.items ≡ places.items }
         ensures extent { extent_of result ≡ self }

@@ -2,6 +2,7 @@
 ghost use Rattle.std.specs.Prelude.{◌≡◌, ◌≤◌, length};
 ghost use Rattle.arc_buffer.specs.Slice.{sub};
 ghost use Rattle.arc_block.specs.Memory.{extent_of};
+ghost use Rattle.arc_block.specs.Allocations.{IsAllOf};
 
 use super::allocation::{Allocation, put_together, take_apart};
 use super::places::Places;
@@ -12,8 +13,7 @@ use std::alloc::Allocator;
 pub(crate) struct Native<T: Drop, A: Allocator> {
     pub(crate) places: Places<T>,
     pub(crate) allocation: Allocation<T, A>,
-    ghost all: { (places.base ≡ allocation.base) × (places.whole ≡ allocation.count)
-        × (places.start ≡ 0) × (places.count ≡ allocation.count) },
+    ghost all: { IsAllOf places allocation },
     ghost kept: { length places.items ≡ allocation.len },
 }
 

@@ -1,5 +1,6 @@
 //! Places for items, side by side in one allocation.
-ghost use Rattle.std.specs.Prelude.{◌≡◌, ℕ, ◌+◌, ◌^◌, ◌<◌, ◌≤◌, List, length};
+ghost use Rattle.std.specs.Prelude.{◌≡◌, ℕ, ◌+◌, ◌-◌, ◌^◌, ◌<◌, ◌≤◌, ◌⊎◌, List, [], ◌++◌};
+ghost use Rattle.std.specs.Prelude.{length, take, drop};
 ghost use denote.RawPtr.{Ptr, coded_ptr};
 ghost use Rattle.arc_buffer.specs.Slice.{sub};
 ghost use Rattle.arc_block.specs.Memory.{places_own, places_lent};
@@ -10,7 +11,7 @@ use std::slice;
 /// Places side by side in one allocation, which nothing else reaches: the first hold items, the
 /// others nothing. It has no bytes, and is neither copied nor dropped.
 pub struct Places<T> {
-    pub(crate) marker: PhantomData<T>,
+    pub(super) marker: PhantomData<T>,
     pub ghost base: { Ptr } by { coded_ptr },
     pub ghost whole: { ℕ },
     pub ghost start: { ℕ },
@@ -26,6 +27,8 @@ impl<T> Model for Places<T> {
 }
 
 impl<T> Places<T> {
+    ghost use Rattle.arc_block.specs.Allocations.{IsPart};
+
     /// The items from the place `start` on and before the place `end`, of places that begin where
     /// their allocation does. It reads no memory.
     ///
@@ -39,6 +42,40 @@ impl<T> Places<T> {
         ensures { result.now ≡ sub self.now.items start end }
     {
         unsafe { slice::from_raw_parts(base.add(start), end - start) }
+    }
+
+    /// The first `at` places and the others, each with the items that lie there.
+    pub fn split(self, at: usize) -> (Places<T>, Places<T>)
+        requires { at ≤ self.count }
+        ensures allocation { IsPart self result.0 × IsPart self result.1 }
+        ensures front { (result.0.start ≡ self.start) × (result.0.count ≡ at)
+            × (result.0.items ≡ take at self.items) }
+        ensures back { (result.1.start ≡ self.start + at) × (result.1.count ≡ self.count - at)
+            × (result.1.items ≡ drop at self.items) }
+    {
+        let Places { marker: _ } = self;
+        let _ = at;
+        let marker = PhantomData;
+        (
+            Places { marker },
+            Places {
+                marker: PhantomData,
+            },
+        )
+    }
+
+    /// Both as one range: the others begin where this ends, in the same allocation. This is full,
+    /// or the others hold nothing.
+    pub fn join(self, back: Places<T>) -> Places<T>
+        requires next { IsPart self back × (back.start ≡ self.start + self.count) }
+        requires full { (length self.items ≡ self.count) ⊎ (back.items ≡ []) }
+        ensures allocation { IsPart self result × (result.start ≡ self.start) }
+        ensures places { (result.count ≡ self.count + back.count)
+            × (result.items ≡ self.items ++ back.items) }
+    {
+        let Places { marker: _ } = self;
+        let Places { marker } = back;
+        Places { marker }
     }
 }
 

@@ -1,6 +1,6 @@
-use super::allocation::{put_together, take_apart};
+use super::allocation::{Allocation, put_together, take_apart};
+use super::lodging::Lodging;
 use linked_list_allocator::LocalHeap;
-use std::alloc::Allocator;
 use std::test::Fail;
 
 /// What has no size.
@@ -65,5 +65,54 @@ fn no_places_apart_and_together(rt: HostRuntime) -> Result<(), Fail> {
     assert_eq!(rt; unsafe { places.as_slice(base, 0, 0) }.len(), 0);
     let none = put_together(allocation, places);
     assert_eq!(rt; (none.len(), none.capacity()), (0, 0));
+    Ok(())
+}
+
+/// Cut, edited by a vector that lodges in a part, and joined again.
+#[test]
+fn number_replaced_in_a_part(rt: HostRuntime) -> Result<(), Fail> {
+    let heap = LocalHeap::new(rt.alloc(), 1024)?;
+    let mut numbers = Vec::with_capacity(&heap, 3)?;
+    numbers.push_reserved(1u64);
+    numbers.push_reserved(2);
+    numbers.push_reserved(3);
+    let (base, allocation, places) = take_apart(numbers);
+    let (front, back) = places.split(1);
+    let (mut lodger, under) = unsafe { Lodging::house(back, base, 1, 2, 2) };
+    assert_eq!(rt; lodger.as_slice(), [2u64, 3].as_slice());
+    assert_eq!(rt; lodger.take_last(), 3);
+    lodger.push_reserved(4);
+    let places = front.join(under.vacate(lodger));
+    assert_eq!(rt;
+        unsafe { places.as_slice(base, 0, 3) },
+        [1u64, 2, 4].as_slice()
+    );
+    drop(put_together(allocation, places));
+    assert_eq!(rt; heap.used(), 0);
+    Ok(())
+}
+
+#[test]
+fn empty_places_given_back(rt: HostRuntime) -> Result<(), Fail> {
+    let heap = LocalHeap::new(rt.alloc(), 256)?;
+    if let Ok((_base, allocation, places)) = Allocation::<u64, _>::new(&heap, usize::MAX) {
+        allocation.free(places);
+        return Err("more than there is".into());
+    }
+    let (_base, allocation, places) = Allocation::<u64, _>::new(&heap, 4)?;
+    assert!(rt; 0 < heap.used());
+    allocation.free(places);
+    assert_eq!(rt; heap.used(), 0);
+    Ok(())
+}
+
+fn crosses<T: Send + Sync>(_value: &T) {}
+
+#[test]
+fn places_cross_threads(rt: HostRuntime) -> Result<(), Fail> {
+    let (_base, allocation, places) = take_apart(Vec::<u64, _>::new(rt.alloc()));
+    crosses(&allocation);
+    crosses(&places);
+    drop(put_together(allocation, places));
     Ok(())
 }
