@@ -11,12 +11,12 @@ use arc_owners::mark::{Mark, Open};
 use std::alloc::{Allocator, Global};
 use std::marker::{Model, PhantomData};
 
-/// A part of a block that may have other owners, or of nothing. Clones and cuts share the block and
-/// copy no item.
+/// A part of a block that may have other owners, of a slice that is there for good, or of nothing.
+/// Clones and cuts share the block and copy no item.
 ///
 /// Each call that makes, steps on or leaves a block has a form that ends in `_as` and takes a pass
 /// of the block, in which contracts read what was added to the block's history; a window that
-/// stands on nothing has a pass of no block. The plain form is that form with a new pass. Dropped,
+/// stands on no block has a pass of none. The plain form is that form with a new pass. Dropped,
 /// a window under the mark `Open` ends with a new pass. Under `Whole` only the `_as` forms are
 /// there, and a dropped window is a forgotten owner of its block.
 pub struct ArcSlice<
