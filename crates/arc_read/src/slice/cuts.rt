@@ -55,23 +55,6 @@ impl<S: Slice, L: Layout, A: Allocator + Copy, H: Mark> ArcSlice<S, L, A, H> {
         ensures refused { IfErr result (λ e.
             Refuses L.clone_wants self.now.place pass.old pass.new e) }
     {
-        match self.try_clone_once_as(pass) {
-            Some(made) => made,
-            None => self.retry_clone_as(rt, pass),
-        }
-    }
-
-    /// `try_clone_as`, after an attempt that another thread disturbed. It stands apart, so that an
-    /// attempt that succeeds at once has nothing of the loop.
-    #[cold]
-    fn retry_clone_as(&self, rt: &impl Wait, pass: &mut Pass<H>) -> Result<Self, OwnerError>
-        requires pass { IsPassAt self.now.place pass.old }
-        ensures items { IfOk result (λ window. window.items ≡ self.now.items) }
-        ensures place { IfOk result (λ window.
-            Shares self.now.place pass.old pass.new window.place) }
-        ensures refused { IfErr result (λ e.
-            Refuses L.clone_wants self.now.place pass.old pass.new e) }
-    {
         for _ in rt.forever() {
             if let Some(made) = self.try_clone_once_as(pass) {
                 return made;
@@ -128,35 +111,6 @@ impl<S: Slice, L: Layout, A: Allocator + Copy, H: Mark> ArcSlice<S, L, A, H> {
     /// Where the part stands on a block Up, or Full where refused.
     #[inline(always)]
     pub fn try_subslice_as(
-        &self,
-        rt: &impl Wait,
-        start: usize,
-        end: usize,
-        pass: &mut Pass<H>,
-    ) -> Result<Self, OwnerError>
-    where
-        S: Subsliceable,
-        requires range { IsRange S.boundary self.now.items start end }
-        requires pass { IsPassAt self.now.place pass.old }
-        ensures items { IfOk result (λ part. part.items ≡ sub self.now.items start end) }
-        ensures place { IfOk result (λ part.
-            Shares (part_place L.STATIC (sub self.now.items start end) start self.now.place)
-            pass.old pass.new part.place) }
-        ensures refused { IfErr result (λ e.
-            Refuses L.clone_wants
-            (part_place L.STATIC (sub self.now.items start end) start self.now.place)
-            pass.old pass.new e) }
-    {
-        match self.try_subslice_once_as(start, end, pass) {
-            Some(made) => made,
-            None => self.retry_subslice_as(rt, start, end, pass),
-        }
-    }
-
-    /// `try_subslice_as`, after an attempt that another thread disturbed. It stands apart, so that
-    /// an attempt that succeeds at once has nothing of the loop.
-    #[cold]
-    fn retry_subslice_as(
         &self,
         rt: &impl Wait,
         start: usize,

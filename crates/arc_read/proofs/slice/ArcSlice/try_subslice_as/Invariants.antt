@@ -1,6 +1,6 @@
 -- An attempt that another thread disturbed leaves the pass as it was.
 use Rattle.std.proofs.Common.{◌≡◌}
-use Rattle.arc_read.proofs.slice.ArcSlice.retry_subslice_as.Given as goal
+use Rattle.arc_read.proofs.slice.ArcSlice.try_subslice_as.Given as goal
 
 abbrev pub invariant-loop : goal.invariant-loop
 invariant-loop g l =
