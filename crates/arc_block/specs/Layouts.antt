@@ -1,5 +1,5 @@
 -- What layouts differ in.
-use Rattle.std.specs.Prelude.{◌==◌, ℕ, Bool, true, false}
+use Rattle.std.specs.Prelude.{◌≡◌, ◌==◌, ℕ, Bool, true, false, refl}
 use Rattle.arc_block.specs.Block.{Sort, native, vector, buffer, raw}
 
 -- which vectors stand alone until their window is cloned, by length and capacity: none, all, or
@@ -20,3 +20,10 @@ clones_want lone raw_by_itself native = false
 clones_want lone raw_by_itself vector = lone
 clones_want lone raw_by_itself (buffer writable) = false
 clones_want lone raw_by_itself raw = raw_by_itself
+
+-- where no vector stands alone and no `Arc` is a block by itself, no clone wants memory
+pub never_wanted : (sort : Sort) → false ≡ clones_want false false sort
+never_wanted native = refl
+never_wanted vector = refl
+never_wanted (buffer writable) = refl
+never_wanted raw = refl

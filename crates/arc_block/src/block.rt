@@ -56,16 +56,46 @@ impl<S: Slice, A: Allocator + Copy, const MAX: u64, H: Mark> Drop for Block<S, A
     }
 }
 
+/// The items of a vector in one that has exactly a place for each: the same one where it has no
+/// more.
+///
+/// # Errors
+///
+/// The vector, where memory for the other one is refused.
+///
+/// # Allocates
+///
+/// Only where there are more places than items.
+fn exact<T: Drop, A: Allocator + Copy>(alloc: A, items: Vec<T, A>) -> Result<Vec<T, A>, Vec<T, A>>
+    ensures exact { IfOk result (λ v. (v.items ≡ items.items)
+        × (vec_capacity v ≡ length v.items)) }
+    ensures refused { IfErr result (λ back. back ≡ items) }
+{
+    if items.capacity() == items.len() {
+        return Ok(items);
+    }
+    let Ok(mut exact) = Vec::with_capacity(alloc, items.len()) else {
+        return Err(items);
+    };
+    for item in items {
+        exact.push_reserved(item);
+    }
+    Ok(exact)
+}
+
 /// A vector with a copy of the items, and a place for each. Takes memory; refused, the answer is
 /// `AllocError`.
-fn copied<T: Copy, A: Allocator>(alloc: A, items: &[T]) -> Result<Vec<T, A>, AllocError>
+fn copied<T: Copy + Drop, A: Allocator + Copy>(
+    alloc: A,
+    items: &[T],
+) -> Result<Vec<T, A>, AllocError>
     ensures { IfOk result (λ v. (v.items ≡ items.now) × (vec_capacity v ≡ length items.now)) }
 {
-    let mut copy = Vec::with_capacity(alloc, items.len())?;
-    for item in items {
-        copy.push_reserved(*item);
+    // No clause of `std` says that a copy of a slice has no places more.
+    match exact(alloc, Vec::from_slice(alloc, items)?) {
+        Ok(copy) => Ok(copy),
+        Err(_) => Err(AllocError),
     }
-    Ok(copy)
 }
 
 /// The items of a vector as an array.
@@ -92,17 +122,11 @@ fn moved<T: Drop, A: Allocator + Copy, const N: usize>(
         Ok(items) => items,
         Err(refused) => return Err(refused.value),
     };
-    if items.capacity() == items.len() {
-        return Ok(items);
-    }
     // The vector of an empty array has a place, which no block of no items asks for.
-    let Ok(mut exact) = Vec::with_capacity(alloc, items.len()) else {
-        return Err(array_of(items));
-    };
-    for item in items {
-        exact.push_reserved(item);
+    match exact(alloc, items) {
+        Ok(exact) => Ok(exact),
+        Err(items) => Err(array_of(items)),
     }
-    Ok(exact)
 }
 
 impl<S: Slice, A: Allocator + Copy, const MAX: u64, H: Mark> Block<S, A, MAX, H> {

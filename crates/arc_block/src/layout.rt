@@ -10,7 +10,7 @@
 //! All hold native blocks. No window stands on a vector, a buffer or an `Arc` yet.
 ghost use Rattle.std.specs.Prelude.{◌≡◌, ◌==◌, ◌&&◌, ℕ, Bool, true, false, refl};
 ghost use Rattle.arc_block.specs.Block.{Sort};
-ghost use Rattle.arc_block.specs.Layouts.{clones_want, never, always, where_full};
+ghost use Rattle.arc_block.specs.Layouts.{clones_want, never_wanted, never, always, where_full};
 
 /// A layout of windows: on what they may stand, and how that is held.
 pub trait Layout {
@@ -31,6 +31,11 @@ pub trait Layout {
 
     /// Whether a clone of a window that stands on a block of this sort may want memory.
     ghost clone_wants: { Sort → Bool };
+
+    /// A clone may want memory where a vector may stand alone, as one of no places does if any
+    /// does, and where an `Arc` is a block by itself; and nowhere else.
+    ghost wants: { (sort : Sort)
+        → Self.clone_wants sort ≡ clones_want (Self.lone 0 0) Self.RAW sort };
 
     /// Whether windows may stand on nothing, or on static data.
     const STATIC: bool;
@@ -93,6 +98,8 @@ impl<const ANY: bool, const STATIC: bool> Layout for ArcLayout<ANY, STATIC> {
 
     ghost clone_wants = { λ _. false };
 
+    ghost wants = { never_wanted };
+
     const STATIC: bool = STATIC;
 
     const ANY: bool = ANY;
@@ -137,6 +144,8 @@ impl Layout for BoxedSliceLayout {
 
     ghost clone_wants = { clones_want true false };
 
+    ghost wants = { λ _. refl };
+
     const STATIC: bool = true;
 
     const ANY: bool = true;
@@ -172,6 +181,8 @@ impl Layout for VecLayout {
     ghost lone = { always };
 
     ghost clone_wants = { clones_want true false };
+
+    ghost wants = { λ _. refl };
 
     const STATIC: bool = true;
 
@@ -211,6 +222,8 @@ impl Layout for RawLayout {
     ghost lone = { never };
 
     ghost clone_wants = { clones_want false true };
+
+    ghost wants = { λ _. refl };
 
     const STATIC: bool = true;
 

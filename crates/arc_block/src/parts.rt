@@ -54,13 +54,18 @@ impl<S: Slice, A: Allocator + Copy, H: Mark> Drop for Parts<S, A, H> {
             end: _,
             alloc,
         } = self;
-        drop(on);
+        match on {
+            Storage::Block(block) => drop(block),
+            Storage::Static(items) => drop(items),
+            Storage::Nothing => {}
+        }
         drop(alloc);
     }
 }
 
 impl<S: Slice, A: Allocator + Copy, H: Mark> Parts<S, A, H> {
     /// No items, on nothing.
+    #[inline(always)]
     pub fn on_nothing(alloc: A) -> Self
         ensures { result ≡ record { items = []; place = nowhere; role = reader } }
     {

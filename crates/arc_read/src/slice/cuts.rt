@@ -55,6 +55,10 @@ impl<S: Slice, L: Layout, A: Allocator + Copy, H: Mark> ArcSlice<S, L, A, H> {
         ensures refused { IfErr result (λ e.
             Refuses L.clone_wants self.now.place pass.old pass.new e) }
     {
+        // The first attempt stands apart, so that where it succeeds nothing of the loop is run.
+        if let Some(made) = self.try_clone_once_as(pass) {
+            return made;
+        }
         for _ in rt.forever() {
             if let Some(made) = self.try_clone_once_as(pass) {
                 return made;
@@ -130,6 +134,9 @@ impl<S: Slice, L: Layout, A: Allocator + Copy, H: Mark> ArcSlice<S, L, A, H> {
             (part_place L.STATIC (sub self.now.items start end) start self.now.place)
             pass.old pass.new e) }
     {
+        if let Some(made) = self.try_subslice_once_as(start, end, pass) {
+            return made;
+        }
         for _ in rt.forever() {
             if let Some(made) = self.try_subslice_once_as(start, end, pass) {
                 return made;

@@ -67,6 +67,7 @@ impl<S: Slice, L: Layout, A: Allocator + Copy, H: Mark> ArcSlice<S, L, A, H> {
 
     /// Ends the window. On a block it adds Down, and the last owner gives the block back. Takes no
     /// memory.
+    #[inline(always)]
     pub fn release_as(self, pass: &mut Pass<H>)
         requires pass { IsPassAt self.place pass.old }
         ensures entry { at_owner self.place (pass.new ≡ pass.old) (λ o. (last : Bool)
