@@ -184,9 +184,13 @@ where
     ensures { IfOk result (λ taken. IfSome taken (λ part. part.now ≡ sub items.now start end)) }
 {
     let window: ArcSlice<S, L> = ArcSlice::from_static(alloc, items);
-    match window.try_subslice(rt, start, end)?.try_into_static() {
-        Ok(part) => Ok(Some(part)),
-        Err(_) => Ok(None),
+    // The borrow checker doesn't cover a `?` here.
+    match window.try_subslice(rt, start, end) {
+        Ok(part) => match part.try_into_static() {
+            Ok(part) => Ok(Some(part)),
+            Err(_) => Ok(None),
+        },
+        Err(e) => Err(e),
     }
 }
 
