@@ -97,5 +97,7 @@ mod plain;
 mod read;
 mod splits;
 #[cfg(test)]
+mod static_tests;
+#[cfg(test)]
 mod tests;
 mod text;
