@@ -4,7 +4,7 @@ use Rattle.std.proofs.Common.{inl, inr, ◌≡◌, ◌⊎◌, ℕ, Bool, true, f
 use Rattle.std.proofs.Common.{Some}
 use Rattle.std.proofs.Common.{None, Result, Ok, Err, refl, length, slice_set, ◌++◌, [], ◌∷◌, ◌==◌}
 use Rattle.std.proofs.Common.{◌&&◌, ap}
-use Rattle.std.specs.Prelude.{nat_lt, take, drop, ◌+◌}
+use Rattle.std.specs.Prelude.{nat_lt, take, drop, is_some, ◌+◌}
 use Rattle.std.specs.Option.{option_map_or}
 use Rattle.arc_owners.specs.declared.error.RangeError.{RangeError}
 use Rattle.arc_owners.specs.declared.error.OwnerError.TheVariants.{AllocError, CountFull}
@@ -14,11 +14,13 @@ use Rattle.arc_block.specs.Place.{Place, nowhere, static_data, on_block, moved}
 use Rattle.arc_block.specs.Table.{Row, Table, reader, row_at, is_alone, block_of}
 use Rattle.arc_table.specs.Step.{Setting, Shortage, no_shortage, of_table, of_clones, shortage}
 use Rattle.arc_table.specs.Step.{Step, answer}
+use Rattle.arc_table.specs.Step.{lodged, taken}
 use Rattle.arc_table.specs.Step.{asking, founded, is_wanting, is_full, with_owner, part_of, cut_row}
 use Rattle.arc_table.specs.Step.{off_part, to_part, split_rows, changed, on_row, is_for, in_range}
 use Rattle.arc_table.specs.declared.command.Cmd.{Cmd}
 use Rattle.arc_table.specs.declared.command.Cmd.TheVariants.{Slice, Clone, Sub, Uniq, Show, Len}
 use Rattle.arc_table.specs.declared.command.Cmd.TheVariants.{Off, To, Adv, Trunc, Drop}
+use Rattle.arc_table.specs.declared.command.Cmd.TheVariants.{Static, TakeStatic}
 use Rattle.arc_table.specs.declared.command.Reply.{Reply}
 use Rattle.arc_table.specs.declared.command.Reply.TheVariants as reply
 
@@ -62,6 +64,7 @@ module _ {T M : Type 0} (setting : Setting T) (short : Shortage) (t : Table T M)
       rows = t.rows ++ Some (record { items = items; place = place; role = reader }) ∷ [];
       blocks = option_map_or (λ block. t.blocks + 1) (block_of place) t.blocks;
     }))
+    (lodges : (items : List T) → Holds (reply.New (length t.rows)) (lodged t items).1)
     (more : (i : ℕ) (row part : Row T M) → row_at t i ≡ Some row → StaysOn row.place part.place
     → Holds (reply.New (length t.rows))
     (record { rows = t.rows ++ Some part ∷ []; blocks = t.blocks }))
@@ -74,8 +77,8 @@ module _ {T M : Type 0} (setting : Setting T) (short : Shortage) (t : Table T M)
     (becomes : (i : ℕ) (row part : Row T M) → row_at t i ≡ Some row
     → StaysOn row.place part.place
     → Holds reply.Ok (record { rows = slice_set t.rows i (Some part); blocks = t.blocks }))
-    (goes : (i : ℕ)
-    → Holds reply.Ok (record { rows = slice_set t.rows i None; blocks = t.blocks })) where
+    (goes : (r : Reply (List T)) → MayTell short r → (i : ℕ)
+    → Holds r (record { rows = slice_set t.rows i None; blocks = t.blocks })) where
   abbrev Outcome : Type 0
   Outcome = Reply (List T) × Table T M
 
@@ -87,7 +90,7 @@ module _ {T M : Type 0} (setting : Setting T) (short : Shortage) (t : Table T M)
   either true one other h k = h
   either false one other h k = k
 
-  row_each : (c : Cmd (List T)) (found : Row T M → Outcome) (x : Option (Row T M))
+  row_each : (c : Cmd (List T) (List T)) (found : Row T M → Outcome) (x : Option (Row T M))
       → ((row : Row T M) → x ≡ Some row → After (found row))
       → After (option_map_or (λ row. if is_for c row.role then found row else (reply.Kind, t)) x
       (reply.NoWindow, t))
@@ -96,7 +99,7 @@ module _ {T M : Type 0} (setting : Setting T) (short : Shortage) (t : Table T M)
       either (is_for c row.role) (found row) (reply.Kind, t) (each row refl)
       (same reply.Kind (inl refl))
 
-  on_row_each : (i : ℕ) (c : Cmd (List T)) (found : Row T M → Outcome)
+  on_row_each : (i : ℕ) (c : Cmd (List T) (List T)) (found : Row T M → Outcome)
       → ((row : Row T M) → row_at t i ≡ Some row → After (found row))
       → After (on_row t i c found)
   on_row_each i c found each = row_each c found (row_at t i) each
@@ -166,10 +169,13 @@ module _ {T M : Type 0} (setting : Setting T) (short : Shortage) (t : Table T M)
   yes_or_no true = inl refl
   yes_or_no false = inl refl
 
-  pub answer_each : (c : Cmd (List T)) → After (answer setting short t c)
+  pub answer_each : (c : Cmd (List T) (List T)) → After (answer setting short t c)
   answer_each (Slice items) =
       asking_each short refl (founded setting t items)
       (founds items (setting.has_static && (length items == 0)))
+  answer_each (Static items) =
+      either setting.has_static (asking short t (lodged t items)) (reply.Kind, t)
+      (asking_each short refl (lodged t items) (lodges items)) (same reply.Kind (inl refl))
   answer_each (Clone i) =
       on_row_each i (Clone i) _ (λ row at.
       with_owner_each row.place (t.rows ++ Some row ∷ [])
@@ -213,19 +219,25 @@ module _ {T M : Type 0} (setting : Setting T) (short : Shortage) (t : Table T M)
       (in_range_each (edge_answer setting.boundary row.items len) (changed t i part)
       (becomes i row part at (stays-same row.place)))
       (same reply.Ok (inl refl)))
-  answer_each (Drop i) = on_row_each i (Drop i) _ (λ row at. goes i)
+  answer_each (Drop i) = on_row_each i (Drop i) _ (λ row at. goes reply.Ok (inl refl) i)
+  answer_each (TakeStatic i) =
+      on_row_each i (TakeStatic i) _ (λ row at.
+      either (is_some (block_of row.place)) (reply.Refused, t) (asking short t (taken t i row))
+      (same reply.Refused (inl refl))
+      (asking_each short refl (taken t i row) (goes (reply.Items row.items) (inl refl) i)))
 
 module _ {T M : Type 0} (setting : Setting T) (t : Table T M) where
   tells_none : (r : Reply (List T)) → MayTell no_shortage r → shortage r ≡ no_shortage
   tells_none r (inl is) = is
   tells_none r (inr is) = is
 
-  answer_ample : (c : Cmd (List T)) → shortage (answer setting no_shortage t c).0 ≡ no_shortage
+  answer_ample : (c : Cmd (List T) (List T)) → shortage (answer setting no_shortage t c).0 ≡ no_shortage
   answer_ample =
       answer_each setting no_shortage t (λ reply new. shortage reply ≡ no_shortage) tells_none
-      (λ items nothing. refl) (λ i row part at stays. refl)
-      (λ i row kept handed at one other. refl) (λ i row part at stays. refl) (λ i. refl)
+      (λ items nothing. refl) (λ items. refl) (λ i row part at stays. refl)
+      (λ i row kept handed at one other. refl) (λ i row part at stays. refl)
+      (λ r tells i. tells_none r tells)
 
-  pub answer_step : (c : Cmd (List T))
+  pub answer_step : (c : Cmd (List T) (List T))
       → Step setting t c (answer setting no_shortage t c).0 (answer setting no_shortage t c).1
   answer_step c = ap (λ short. answer setting short t c) (answer_ample c)

@@ -10,7 +10,7 @@ use Rattle.arc_block.specs.Place.{Place, nowhere, static_data, on_block, moved}
 use Rattle.arc_block.specs.Table.{Row, Table, row_at, reader, block_of}
 use Rattle.arc_block.proofs.Lists.{push-cases, set-cases}
 use Rattle.arc_table.specs.Blocks.{SaysOf, RowsAgree}
-use Rattle.arc_table.specs.Step.{Setting, Shortage, shortage, Step, Run, answer}
+use Rattle.arc_table.specs.Step.{Setting, Shortage, shortage, Step, Run, answer, lodged}
 use Rattle.arc_table.specs.declared.command.Cmd.{Cmd}
 use Rattle.arc_table.specs.declared.command.Reply.{Reply}
 use Rattle.arc_table.proofs.Answers.{StaysOn, answer_each}
@@ -151,6 +151,12 @@ module _ {T M : Type 0} where
           agree-after (record { rows = slice_set t.rows i None; blocks = t.blocks })
           (each-set IsSaid t.rows i None said-each tt) refl
 
+      lodges : (items : List T) → RowsAgree (lodged t items).1
+      lodges items =
+          let row : Row T M = record { items = items; place = static_data; role = reader } in
+          agree-after (record { rows = t.rows ++ Some row ∷ []; blocks = t.blocks })
+          (each-push IsSaid t.rows (Some row) said-each tt) refl
+
       splits : (i : ℕ) (row kept handed : Row T M) → row_at t i ≡ Some row
           → StaysOn row.place kept.place → StaysOn row.place handed.place → RowsAgree (record {
             rows = slice_set t.rows i (Some kept) ++ Some handed ∷ [];
@@ -184,20 +190,21 @@ module _ {T M : Type 0} where
           (λ i row at. said-new info row.place (said-each i row at)) (inr (refl, refl))) refl
 
   module _ (setting : Setting T) where
-    answer-agrees : (short : Shortage) (t : Table T M) (c : Cmd (List T)) → RowsAgree t
+    answer-agrees : (short : Shortage) (t : Table T M) (c : Cmd (List T) (List T)) → RowsAgree t
         → RowsAgree (answer setting short t c).1
     answer-agrees short t c agree =
         answer_each setting short t (λ reply new. RowsAgree new) (λ reply tells. agree)
         (λ items nothing. founds t agree nothing items (native_facts setting.drops (length items)))
-        (more t agree) (splits t agree) (becomes t agree) (goes t agree) c
+        (lodges t agree) (more t agree) (splits t agree) (becomes t agree)
+        (λ r tells i. goes t agree i) c
 
-    pub step_agrees : (t : Table T M) (c : Cmd (List T)) (r : Reply (List T)) (new : Table T M)
+    pub step_agrees : (t : Table T M) (c : Cmd (List T) (List T)) (r : Reply (List T)) (new : Table T M)
         → Step setting t c r new → RowsAgree t → RowsAgree new
     step_agrees t c r new step agree =
         subst (λ (o : Reply (List T) × Table T M). RowsAgree o.1) step
         (answer-agrees (shortage r) t c agree)
 
-    pub run_agrees : (t : Table T M) (cs : List (Cmd (List T))) (rs : List (Reply (List T)))
+    pub run_agrees : (t : Table T M) (cs : List (Cmd (List T) (List T))) (rs : List (Reply (List T)))
         (new : Table T M) → Run setting t cs rs new → RowsAgree t → RowsAgree new
     run_agrees t [] [] new run agree = subst RowsAgree (sym run) agree
     run_agrees t (c ∷ cs) (r ∷ rs) new run agree =

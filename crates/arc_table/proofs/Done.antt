@@ -35,7 +35,7 @@ abbrev pub Fact : {T : Type 0} → List (Option (SlotView T)) → List (Pass Who
 Fact slots passes = IsKept MAX_OWNERS (stands_of slots) passes
     × RowsAgree (state_of slots passes).table
 
-pub record Done {T : Type 0} (setting : Setting T) (old : State T) (c : Cmd (List T))
+pub record Done {T : Type 0} (setting : Setting T) (old : State T) (c : Cmd (List T) (List T))
     (r : Reply (List T)) (slots : List (Option (SlotView T))) (passes : List (Pass Whole))
     : Type 0 where
   pub kept : Fact slots passes
@@ -43,7 +43,7 @@ pub record Done {T : Type 0} (setting : Setting T) (old : State T) (c : Cmd (Lis
   pub passes_are : Adds old.table old.standing c r (state_of slots passes).standing
 
 -- the fact of the type follows of the owners, and of the step
-done : {T : Type 0} {setting : Setting T} {old : State T} {c : Cmd (List T)}
+pub done : {T : Type 0} {setting : Setting T} {old : State T} {c : Cmd (List T) (List T)}
     {r : Reply (List T)} {slots : List (Option (SlotView T))} {passes : List (Pass Whole)}
     → RowsAgree old.table → IsKept MAX_OWNERS (stands_of slots) passes
     → Step setting old.table c r (state_of slots passes).table
@@ -59,7 +59,7 @@ done {setting = setting} {old = old} {c = c} {r = r} {slots = slots} {passes = p
 module _ {T : Type 0} (setting : Setting T) (slots : List (Option (SlotView T)))
     (passes : List (Pass Whole)) (i : ℕ) (s : SlotView T)
     (there : slice_get slots i ≡ Some (Some s)) (fact : Fact slots passes)
-    (c : Cmd (List T)) (slots' : List (Option (SlotView T))) (passes' : List (Pass Whole)) where
+    (c : Cmd (List T) (List T)) (slots' : List (Option (SlotView T))) (passes' : List (Pass Whole)) where
   abbrev old : State T
   old = state_of slots passes
 
@@ -180,7 +180,7 @@ module _ {T : Type 0} (setting : Setting T) (slots : List (Option (SlotView T)))
         (end-added slots passes i s there slots' passes' set along)
 
     -- the window has become a part of itself
-    pub become : (c : Cmd (List T)) (s' : SlotView T) (part : Row T (Unit {0}))
+    pub become : (c : Cmd (List T) (List T)) (s' : SlotView T) (part : Row T (Unit {0}))
         → answer setting no_shortage t.table c ≡ changed t.table i part
         → ((new : Standing Whole) → new ≡ t.standing → Adds t.table t.standing c reply.Ok new)
         → stand_of (Some s') ≡ stand_of (Some s) → row_of s' ≡ part

@@ -14,3 +14,4 @@ mod Splits
 mod Rows
 mod Done
 mod Blocks
+pub mod Statics

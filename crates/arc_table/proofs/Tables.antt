@@ -79,7 +79,7 @@ module _ {T : Type 0} (slots : List (Option (SlotView T))) (passes : List (Pass 
       ∙ ap (λ n. record { rows = map (option_map row_of) slots; blocks = n }) many
 
   -- where there is no window, the answer is so
-  pub unanswered : (i : ℕ) (c : Cmd (List T)) (found : Row T (Unit {0}) → Outcome T)
+  pub unanswered : (i : ℕ) (c : Cmd (List T) (List T)) (found : Row T (Unit {0}) → Outcome T)
       → option_flatten (slice_get slots i) ≡ None → on_row t i c found ≡ (reply.NoWindow, t)
   unanswered i c found none =
       let row = ap option_flatten (slice_get-map (option_map row_of) slots i) in
@@ -96,7 +96,7 @@ module _ {T : Type 0} (slots : List (Option (SlotView T))) (passes : List (Pass 
     stand-there = slice_get-map stand_of slots i ∙ ap (option_map stand_of) there
 
     -- what is answered for a row is what is answered for this one
-    pub answered : (c : Cmd (List T)) (found : Row T (Unit {0}) → Outcome T)
+    pub answered : (c : Cmd (List T) (List T)) (found : Row T (Unit {0}) → Outcome T)
         → on_row t i c found ≡ (if is_for c reader then found (row_of s) else (reply.Kind, t))
     answered c found =
         ap (λ r. option_map_or (λ row. if is_for c row.role then found row else (reply.Kind, t)) r
@@ -186,7 +186,7 @@ module _ {T : Type 0} (slots : List (Option (SlotView T))) (passes : List (Pass 
           (rows-counted slots passes n ∙ full-along i k passes' n o at why.1)
 
       -- a command that asks for an owner more at this place, and then leads to these rows
-      module _ (setting : Setting T) (c : Cmd (List T)) (place : Place ℕ (Unit {0}))
+      module _ (setting : Setting T) (c : Cmd (List T) (List T)) (place : Place ℕ (Unit {0}))
           (rows : List (Option (Row T (Unit {0}))))
           (answers : (short : Shortage) → answer setting short t c
           ≡ asking short t (with_owner setting short t place rows)) where

@@ -15,7 +15,7 @@ use Rattle.arc_block.specs.Owned.{Stand}
 use Rattle.arc_block.specs.Table.{Table, row_at}
 use Rattle.arc_table.specs.declared.command.Cmd.{Cmd}
 use Rattle.arc_table.specs.declared.command.Cmd.TheVariants.{Slice, Clone, Sub, Off, To, Uniq}
-use Rattle.arc_table.specs.declared.command.Cmd.TheVariants.{Drop}
+use Rattle.arc_table.specs.declared.command.Cmd.TheVariants.{Drop, Static, TakeStatic}
 use Rattle.arc_table.specs.declared.command.Reply.{Reply}
 use Rattle.arc_table.specs.declared.command.Reply.TheVariants as reply
 
@@ -96,10 +96,12 @@ module _ {H : Type 0} where
 
   -- what a command adds, by what it is answered. A split that leaves nothing hands out the window
   -- itself
-  abbrev pub Adds : {T M : Type 0} → Table T M → Standing H → Cmd (List T) → Reply (List T)
+  abbrev pub Adds : {T M : Type 0} → Table T M → Standing H → Cmd (List T) (List T) → Reply (List T)
       → Standing H → Type 0
   Adds t old (Slice items) (reply.New number) new = (made : Stand)
       × Founds made old.passes new.passes × (new.stands ≡ old.stands ++ made ∷ [])
+  Adds t old (Static items) (reply.New number) new =
+      (new.stands ≡ old.stands ++ None ∷ []) × (new.passes ≡ old.passes)
   Adds t old (Clone i) (reply.New number) new = Joins old i false new
   Adds t old (Sub i start end) (reply.New number) new = Joins old i false new
   Adds t old (Off i at) (reply.New number) new = Joins old i (at == 0) new
@@ -113,4 +115,6 @@ module _ {H : Type 0} where
   Adds t old (Uniq i) reply.No new = Enters old i (asked false) new
   Adds t old (Drop i) reply.Ok new = (new.stands ≡ slice_set old.stands i None)
       × AddsAt (stand_in old i) (λ o history. entry.Down o.number ∷ []) old.passes new.passes
+  Adds t old (TakeStatic i) (reply.Items items) new =
+      (new.stands ≡ slice_set old.stands i None) × (new.passes ≡ old.passes)
   Adds t old command reply new = new ≡ old

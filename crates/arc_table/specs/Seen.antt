@@ -5,12 +5,14 @@ use Rattle.std.specs.Vec.{vec_items}
 use Rattle.arc_table.specs.declared.command.Cmd.{Cmd}
 use Rattle.arc_table.specs.declared.command.Cmd.TheVariants.{Slice, Clone, Sub, Uniq, Show, Len}
 use Rattle.arc_table.specs.declared.command.Cmd.TheVariants.{Off, To, Adv, Trunc, Drop}
+use Rattle.arc_table.specs.declared.command.Cmd.TheVariants.{Static, TakeStatic}
 use Rattle.arc_table.specs.declared.command.Reply.{Reply}
 use Rattle.arc_table.specs.declared.command.Reply.TheVariants as reply
 
 -- each item list of a command, or of a reply, under f
-abbrev pub map_command : {X Y : Type 0} → (X → Y) → Cmd X → Cmd Y
+abbrev pub map_command : {X Y F : Type 0} → (X → Y) → Cmd X F → Cmd Y F
 map_command f (Slice items) = Slice (f items)
+map_command f (Static items) = Static items
 map_command f (Clone i) = Clone i
 map_command f (Sub i start end) = Sub i start end
 map_command f (Uniq i) = Uniq i
@@ -21,6 +23,7 @@ map_command f (Len i) = Len i
 map_command f (Adv i by) = Adv i by
 map_command f (Trunc i len) = Trunc i len
 map_command f (Drop i) = Drop i
+map_command f (TakeStatic i) = TakeStatic i
 
 abbrev pub map_reply : {X Y : Type 0} → (X → Y) → Reply X → Reply Y
 map_reply f (reply.New number) = reply.New number
@@ -31,12 +34,13 @@ map_reply f (reply.Items items) = reply.Items (f items)
 map_reply f (reply.Number n) = reply.Number n
 map_reply f reply.NoWindow = reply.NoWindow
 map_reply f reply.Kind = reply.Kind
+map_reply f reply.Refused = reply.Refused
 map_reply f (reply.Range e) = reply.Range e
 map_reply f (reply.Owner e) = reply.Owner e
 map_reply f reply.Alloc = reply.Alloc
 
 -- a command in memory, and what it says
-abbrev pub seen_command : {T A : Type 0} → Cmd (Vec T A) → Cmd (List T)
+abbrev pub seen_command : {T A : Type 0} → Cmd (Vec T A) (List T) → Cmd (List T) (List T)
 seen_command c = map_command vec_items c
 
 abbrev pub seen_reply : {T A : Type 0} → Reply (Vec T A) → Reply (List T)

@@ -1,14 +1,14 @@
 -- One step of a table of lists: what each command is answered, and the table after it.
 use Rattle.std.specs.Prelude.{◌≡◌, ℕ, ◌+◌, ◌==◌, Bool, true, false, if◌then◌else◌, List, [], ◌∷◌}
 use Rattle.std.specs.Prelude.{◌++◌, length, Option, Some, None, slice_set, Result, Ok, Err, take}
-use Rattle.std.specs.Prelude.{drop, nat_lt}
+use Rattle.std.specs.Prelude.{drop, is_some, nat_lt}
 use Rattle.std.specs.Option.{option_map_or}
 use Rattle.arc_owners.specs.declared.error.RangeError.{RangeError}
 use Rattle.arc_owners.specs.declared.error.OwnerError.TheVariants.{AllocError, CountFull}
 use Rattle.arc_buffer.specs.Slice.{sub, range_answer, edge_answer}
 use Rattle.arc_block.specs.declared.block.TheConstants.{MAX_OWNERS}
 use Rattle.arc_block.specs.Block.{Sort, native_facts}
-use Rattle.arc_block.specs.Place.{Place, on_block, made_place, part_place}
+use Rattle.arc_block.specs.Place.{Place, static_data, on_block, made_place, part_place}
 use Rattle.arc_block.specs.Place.{moved}
 use Rattle.arc_block.specs.Table.{Row, Table, row_at, block_of, owners, is_alone}
 use Rattle.arc_block.specs.Table.{Role, reader, one_writer_of_several, inline}
@@ -17,6 +17,7 @@ use Rattle.arc_table.specs.RunOf.{RunOf}
 use Rattle.arc_table.specs.declared.command.Cmd.{Cmd}
 use Rattle.arc_table.specs.declared.command.Cmd.TheVariants.{Slice, Clone, Sub, Uniq, Show, Len}
 use Rattle.arc_table.specs.declared.command.Cmd.TheVariants.{Off, To, Adv, Trunc, Drop}
+use Rattle.arc_table.specs.declared.command.Cmd.TheVariants.{Static, TakeStatic}
 use Rattle.arc_table.specs.declared.command.Reply.{Reply}
 use Rattle.arc_table.specs.declared.command.Reply.TheVariants as reply
 
@@ -52,7 +53,7 @@ shortage (reply.Owner AllocError) = of_clones
 shortage other = no_shortage
 
 -- the roles that a command is for
-abbrev pub is_for : {X : Type 0} → Cmd X → Role → Bool
+abbrev pub is_for : {X F : Type 0} → Cmd X F → Role → Bool
 is_for command forgotten = false
 is_for (Clone i) reader = true
 is_for (Clone i) inline = true
@@ -63,6 +64,7 @@ is_for (Off i at) (one_writer_of_several capacity) = true
 is_for (To i at) reader = true
 is_for (To i at) (one_writer_of_several capacity) = true
 is_for (Uniq i) reader = true
+is_for (TakeStatic i) reader = true
 is_for (Trunc i len) inline = false
 is_for (Trunc i len) role = true
 is_for (Adv i by) role = true
@@ -88,6 +90,21 @@ founded setting t items =
         blocks = option_map_or (λ block. t.blocks + 1) (block_of place) t.blocks;
       },
     )
+
+-- a window over a slice that is there for good, which no block holds
+abbrev pub lodged : {T M : Type 0} → Table T M → List T → Reply (List T) × Table T M
+lodged t items = (
+  reply.New (length t.rows),
+  record {
+    rows = t.rows ++ Some (record { items = items; place = static_data; role = reader }) ∷ [];
+    blocks = t.blocks;
+  },
+)
+
+-- the items of a row, which is gone
+abbrev pub taken : {T M : Type 0} → Table T M → ℕ → Row T M → Reply (List T) × Table T M
+taken t i row =
+    (reply.Items row.items, record { rows = slice_set t.rows i None; blocks = t.blocks })
 
 -- whether the layout wants memory for an owner more at this place, and it was refused
 abbrev pub is_wanting : {M : Type 0} → Shortage → (Sort → Bool) → Place ℕ M → Bool
@@ -147,7 +164,7 @@ abbrev pub changed : {T M : Type 0} → Table T M → ℕ → Row T M → Reply 
 changed t i row = (reply.Ok, record { rows = slice_set t.rows i (Some row); blocks = t.blocks })
 
 -- the row with this number, if there is one, and if the command is for its role
-abbrev pub on_row : {T M : Type 0} → Table T M → ℕ → Cmd (List T)
+abbrev pub on_row : {T M : Type 0} → Table T M → ℕ → Cmd (List T) (List T)
     → (Row T M → Reply (List T) × Table T M) → Reply (List T) × Table T M
 on_row t i command found =
     option_map_or (λ row. if is_for command row.role then found row else (reply.Kind, t))
@@ -163,9 +180,11 @@ in_range (Err e) t outcome = (reply.Range e, t)
 -- of number, role and range, in this order, what it asks for, and then what it does. It is right of
 -- rows that are read on native blocks, or on none: no command makes others yet. Of a writer it would
 -- keep a capacity that isn't the part's, and `Uniq` doesn't ask the block's sort.
-abbrev pub answer : {T M : Type 0} → Setting T → Shortage → Table T M → Cmd (List T)
+abbrev pub answer : {T M : Type 0} → Setting T → Shortage → Table T M → Cmd (List T) (List T)
     → Reply (List T) × Table T M
 answer setting short t (Slice items) = asking short t (founded setting t items)
+answer setting short t (Static items) =
+    if setting.has_static then asking short t (lodged t items) else (reply.Kind, t)
 answer setting short t (Clone i) = on_row t i (Clone i) (λ row.
     asking short t (with_owner setting short t row.place (t.rows ++ Some row ∷ [])))
 answer setting short t (Sub i start end) = on_row t i (Sub i start end) (λ row.
@@ -197,14 +216,16 @@ answer setting short t (Trunc i len) = on_row t i (Trunc i len) (λ row.
     (changed t i (record row { items = take len row.items })) else (reply.Ok, t))
 answer setting short t (Drop i) = on_row t i (Drop i) (λ row.
     (reply.Ok, record { rows = slice_set t.rows i None; blocks = t.blocks }))
+answer setting short t (TakeStatic i) = on_row t i (TakeStatic i) (λ row.
+    if is_some (block_of row.place) then (reply.Refused, t) else asking short t (taken t i row))
 
 -- From old, the table may give this reply to the command and go on to new: it is the answer, where
 -- memory was refused as the reply tells. A refusal changes nothing.
-abbrev pub Step : {T M : Type 0} → Setting T → Table T M → Cmd (List T) → Reply (List T)
+abbrev pub Step : {T M : Type 0} → Setting T → Table T M → Cmd (List T) (List T) → Reply (List T)
     → Table T M → Type 0
 Step setting old c reply new = answer setting (shortage reply) old c ≡ (reply, new)
 
 -- the table may give these replies to these commands, one after another
-abbrev pub Run : {T M : Type 0} → Setting T → Table T M → List (Cmd (List T))
+abbrev pub Run : {T M : Type 0} → Setting T → Table T M → List (Cmd (List T) (List T))
     → List (Reply (List T)) → Table T M → Type 0
 Run setting = RunOf (Step setting)

@@ -1,11 +1,14 @@
 //! What a table is asked, and what it answers.
 use arc_owners::error::{OwnerError, RangeError};
 
-/// A command, where X holds items. Windows go by their numbers.
+/// A command, where X holds items and F a slice that is there for good. Windows go by their
+/// numbers.
 #[derive(Debug, Drop)]
-pub enum Cmd<X> {
+pub enum Cmd<X, F> {
     /// A window over a copy of these items.
     Slice(X),
+    /// A window over a slice that is there for good.
+    Static(F),
     /// Another window with the same items at the same place.
     Clone {
         window: usize,
@@ -52,6 +55,10 @@ pub enum Cmd<X> {
     Drop {
         window: usize,
     },
+    /// The items of a window that stands on no block, and its end.
+    TakeStatic {
+        window: usize,
+    },
 }
 
 /// What a command is answered, where X holds items.
@@ -73,6 +80,8 @@ pub enum Reply<X> {
     NoWindow,
     /// The command isn't for a window of this role.
     Kind,
+    /// The window stands on a block; nothing changed.
+    Refused,
     /// The range isn't one of the window.
     Range(RangeError),
     /// There is no owner more.

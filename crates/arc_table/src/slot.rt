@@ -3,7 +3,9 @@ ghost use Rattle.std.specs.Prelude.{◌≡◌, ◌==◌, ◌&&◌, if◌then◌e
 
 use crate::passes::Passes;
 use arc_block::layout::{Layout, stands_on_nothing};
-use arc_buffer::kinds::{Slice, Subsliceable};
+use arc_block::parts::Parts;
+use arc_block::static_slice::StaticSlice;
+use arc_buffer::kinds::{AnyItems, Slice, Subsliceable};
 use arc_owners::error::{OwnerError, RangeError};
 use arc_owners::mark::Whole;
 use arc_read::slice::ArcSlice;
@@ -43,16 +45,55 @@ fn part_block<L: Layout>(block: Option<usize>, len: usize) -> Option<usize>
 
 impl<S: Slice, L: Layout, A: Allocator + Copy> Slot<S, L, A> {
     ghost use Rattle.std.specs.Prelude.{◌≡◌, ◌<◌, ◌↔◌, length, Bool, false, None, Some};
-    ghost use Rattle.std.specs.Prelude.{IfOk, IfErr, IsOk, take, drop};
+    ghost use Rattle.std.specs.Prelude.{IfOk, IfErr, IsOk, take, drop, true, is_some};
     ghost use Rattle.arc_buffer.specs.Slice.{IsRange, IsEdge, sub, range_answer, edge_answer};
     ghost use Rattle.arc_block.specs.Place.{moved, part_place};
-    ghost use Rattle.arc_block.specs.Table.{reader};
+    ghost use Rattle.arc_block.specs.Table.{block_of, reader};
+    ghost use Rattle.arc_block.specs.Place.{static_data};
     ghost use Rattle.arc_owners.specs.count.Calls.{Asks, Leaves};
     ghost use Rattle.arc_table.specs.Stands.{HasPassFor};
     ghost use Rattle.arc_table.specs.Calls.{Along, Beside, RefusesAt};
     ghost use Rattle.arc_table.specs.Step.{setting_of, cut_row, off_part, to_part};
     ghost use Rattle.arc_table.specs.Splits.{IsSplit};
     ghost use Rattle.arc_table.specs.Slots.{row_of, stand_of};
+
+    /// A window over a slice that is there for good, under a layout with static data.
+    pub fn on_static(alloc: A, items: StaticSlice<S::Item>) -> Self
+    where
+        S: AnyItems,
+        S::Item: 'static,
+        requires { L.STATIC ≡ true }
+        ensures { result ≡ record {
+          window = record { items = items; place = static_data };
+          block = None;
+        } }
+    {
+        Slot {
+            window: ArcSlice::from_parts(Parts::on_static(alloc, items.into_static())),
+            block: None,
+        }
+    }
+
+    /// Whether the window stands on a block.
+    pub fn is_on_block(&self) -> bool
+        ensures { result ≡ is_some (block_of (row_of self.now).place) }
+    {
+        self.block.is_some()
+    }
+
+    /// The items of a window that stands on no block, for good: also after this value is gone.
+    pub fn into_static(self) -> &'static [S::Item]
+    where
+        S::Item: 'static,
+        requires { is_some (block_of (row_of self).place) ≡ false }
+        ensures { result.now ≡ self.window.items }
+    {
+        let Slot { window, block: _ } = self;
+        match window.try_into_static() {
+            Ok(items) => items,
+            Err(_) => unreachable!(),
+        }
+    }
 
     /// The items of the window.
     pub fn as_slice(&self) -> &[S::Item]

@@ -6,6 +6,7 @@ use crate::command::{Cmd, Reply};
 use crate::passes::Passes;
 use crate::slot::Slot;
 use arc_block::layout::{DefaultLayout, Layout, stands_on_nothing};
+use arc_block::static_slice::StaticSlice;
 use arc_buffer::kinds::{CopySlice, Slice, Subsliceable};
 use arc_owners::owners::Pass;
 use arc_read::slice::ArcSlice;
@@ -65,7 +66,7 @@ fn end_slots<S: Slice, L: Layout, A: Allocator + Copy>(mut slots: Vec<Option<Slo
 
 impl<S: CopySlice + Subsliceable, L: Layout, A: Allocator + Copy> Table<S, L, A>
 where
-    S::Item: Copy,
+    S::Item: Copy + 'static,
 {
     ghost use Rattle.std.specs.Prelude.{◌≡◌, [], length, slice_set};
     ghost use Rattle.arc_block.specs.declared.block.TheConstants.{MAX_OWNERS};
@@ -94,7 +95,11 @@ where
     ///
     /// Takes memory for a window more, for what a window is made of and for what is shown; refused,
     /// the answer is `Alloc`.
-    pub fn step(&mut self, rt: &impl Wait, command: Cmd<Vec<S::Item, A>>) -> Reply<Vec<S::Item, A>>
+    pub fn step(
+        &mut self,
+        rt: &impl Wait,
+        command: Cmd<Vec<S::Item, A>, StaticSlice<S::Item>>,
+    ) -> Reply<Vec<S::Item, A>>
         ensures { CarriesOut (setting_of L.STATIC L.clone_wants S.DROPS S.boundary) self.old
             (seen_command command) (seen_reply result) self.new }
     {
@@ -104,7 +109,11 @@ where
     }
 
     /// The reply to one command, by the method for it.
-    fn answer(&mut self, rt: &impl Wait, command: Cmd<Vec<S::Item, A>>) -> Reply<Vec<S::Item, A>>
+    fn answer(
+        &mut self,
+        rt: &impl Wait,
+        command: Cmd<Vec<S::Item, A>, StaticSlice<S::Item>>,
+    ) -> Reply<Vec<S::Item, A>>
         ensures rows { Step (setting_of L.STATIC L.clone_wants S.DROPS S.boundary) self.old.table
             (seen_command command) (seen_reply result) self.new.table }
         ensures passes { Adds self.old.table self.old.standing (seen_command command)
@@ -112,6 +121,7 @@ where
     {
         match command {
             Cmd::Slice(items) => self.slice(items),
+            Cmd::Static(items) => self.lodge(items),
             Cmd::Clone { window } => self.clone_window(rt, window),
             Cmd::Sub { window, start, end } => self.sub(rt, window, start, end),
             Cmd::Uniq { window } => self.uniq(window),
@@ -122,6 +132,7 @@ where
             Cmd::Adv { window, by } => self.advance(window, by),
             Cmd::Trunc { window, len } => self.truncate(window, len),
             Cmd::Drop { window } => self.release(window),
+            Cmd::TakeStatic { window } => self.take_static(window),
         }
     }
 
@@ -190,6 +201,26 @@ where
         let block = Some(self.passes.of_blocks.len());
         self.passes.of_blocks.push_reserved(pass);
         self.slots.push_reserved(Some(Slot { window, block }));
+        Reply::New(number)
+    }
+
+    /// A window over a slice that is there for good. `Kind` where the layout has no static data.
+    /// Takes memory for the new slot; refused, the answer is `Alloc`.
+    fn lodge(&mut self, items: StaticSlice<S::Item>) -> Reply<Vec<S::Item, A>>
+        ensures rows { Step (setting_of L.STATIC L.clone_wants S.DROPS S.boundary) self.old.table
+            (command.Static items) (seen_reply result) self.new.table }
+        ensures passes { Adds self.old.table self.old.standing (command.Static items)
+            (seen_reply result) self.new.standing }
+    {
+        if !L::STATIC {
+            return Reply::Kind;
+        }
+        if self.slots.reserve(1).is_err() {
+            return Reply::Alloc;
+        }
+        let number = self.slots.len();
+        self.slots
+            .push_reserved(Some(Slot::on_static(self.alloc, items)));
         Reply::New(number)
     }
 
@@ -428,5 +459,30 @@ where
         };
         slot.release(&mut self.passes);
         Reply::Ok
+    }
+
+    /// The items of a window that stands on no block, and its end. `Refused` where it stands on a
+    /// block. Takes memory for a copy of the items; refused, the answer is `Alloc`, and the window
+    /// is still there.
+    fn take_static(&mut self, i: usize) -> Reply<Vec<S::Item, A>>
+        ensures rows { Step (setting_of L.STATIC L.clone_wants S.DROPS S.boundary) self.old.table
+            (command.TakeStatic i) (seen_reply result) self.new.table }
+        ensures passes { Adds self.old.table self.old.standing (command.TakeStatic i)
+            (seen_reply result) self.new.standing }
+    {
+        let Some(slot) = slot_at(&self.slots, i) else {
+            return Reply::NoWindow;
+        };
+        if slot.is_on_block() {
+            return Reply::Refused;
+        }
+        let Ok(items) = Vec::from_slice(self.alloc, slot.as_slice()) else {
+            return Reply::Alloc;
+        };
+        let Some(slot) = mem::replace(&mut self.slots[i], None) else {
+            unreachable!()
+        };
+        let _ = slot.into_static();
+        Reply::Items(items)
     }
 }

@@ -3,6 +3,7 @@ use super::*;
 use crate::command::{Cmd, Reply};
 use crate::table::Table;
 use arc_block::layout::{ArcLayout, DefaultLayout};
+use arc_block::static_slice::StaticSlice;
 use arc_buffer::kinds::Plain;
 use arc_owners::error::RangeError;
 use linked_list_allocator::LocalHeap;
@@ -126,6 +127,82 @@ fn numbers_without_static_data(rt: HostRuntime) -> Result<(), Fail> {
     assert!(rt; matches!(made, Reply::New(0)));
     assert!(rt; matches!(cut, Reply::New(1)));
     assert!(rt; matches!(alone, Reply::No));
+    Ok(())
+}
+
+/// Windows over a static slice come back as items, and one on a block stays.
+#[test]
+fn taken_or_refused(rt: HostRuntime) {
+    let mut table = table_of(&rt, rt.alloc(), b"Hello");
+    let made = table.step(&rt, Cmd::Static(StaticSlice::new(b"abcd")));
+    let cut = table.step(
+        &rt,
+        Cmd::Sub {
+            window: 1,
+            start: 0,
+            end: 2,
+        },
+    );
+    let part = table.step(&rt, Cmd::TakeStatic { window: 2 });
+    let alone = table.step(&rt, Cmd::Uniq { window: 1 });
+    let whole = table.step(&rt, Cmd::TakeStatic { window: 1 });
+    let gone = table.step(&rt, Cmd::TakeStatic { window: 1 });
+    let refused = table.step(&rt, Cmd::TakeStatic { window: 0 });
+    let shown = table.step(&rt, Cmd::Show { window: 0 });
+    let _ = table.end();
+    assert!(rt; matches!(made, Reply::New(1)));
+    assert!(rt; matches!(cut, Reply::New(2)));
+    assert!(rt; has_items(&part, b"ab"));
+    assert!(rt; matches!(alone, Reply::No));
+    assert!(rt; has_items(&whole, b"abcd"));
+    assert!(rt; matches!(gone, Reply::NoWindow));
+    assert!(rt; matches!(refused, Reply::Refused));
+    assert!(rt; has_items(&shown, b"Hello"));
+}
+
+/// A layout without static data has no window over a static slice.
+#[test]
+fn no_static_data(rt: HostRuntime) {
+    let mut table: Table<Plain<u8>, ArcLayout<true, false>, _> = Table::new(rt.alloc());
+    let made = table.step(&rt, Cmd::Static(StaticSlice::new(b"abcd")));
+    let taken = table.step(&rt, Cmd::TakeStatic { window: 0 });
+    let _ = table.end();
+    assert!(rt; matches!(made, Reply::Kind));
+    assert!(rt; matches!(taken, Reply::NoWindow));
+}
+
+/// With more and more memory the window is refused, then the copy of its items, then neither; a
+/// window whose items are refused is still there.
+#[test]
+fn static_memory_refused(rt: HostRuntime) -> Result<(), Fail> {
+    let mut unmade = 0u32;
+    let mut kept = 0u32;
+    let mut taken = 0u32;
+    for units in 1..128usize {
+        let heap = LocalHeap::new(rt.alloc(), units * 16)?;
+        let mut table: ByteTable<_> = Table::new(&heap);
+        let made = table.step(&rt, Cmd::Static(StaticSlice::new(b"abcd")));
+        let items = table.step(&rt, Cmd::TakeStatic { window: 0 });
+        let len = table.step(&rt, Cmd::Len { window: 0 });
+        if matches!(made, Reply::Alloc) {
+            unmade = unmade.wrapping_add(1);
+        }
+        if matches!(items, Reply::Alloc) && matches!(len, Reply::Number(4)) {
+            kept = kept.wrapping_add(1);
+        }
+        if has_items(&items, b"abcd") && matches!(len, Reply::NoWindow) {
+            taken = taken.wrapping_add(1);
+        }
+        drop(items);
+        drop(made);
+        drop(len);
+        let _ = table.end();
+        assert_eq!(rt; heap.used(), 0, "in {units} units");
+    }
+    assert!(rt;
+        0 < unmade && 0 < kept && 0 < taken,
+        "{unmade} weren't made, {kept} kept, and {taken} taken"
+    );
     Ok(())
 }
 

@@ -5,12 +5,12 @@ use Rattle.std.proofs.Math.Seq.{drop-cons}
 use Rattle.std.specs.List.{join_with_byte, list_all, AllByRecursion}
 use Rattle.std.specs.Option.{option_map}
 use Rattle.std.proofs.lemmas.Bool.{cases_Bool, leb-true, le-leb, cond-false, cond-true, and_parts, eqb-true}
-use Rattle.std.proofs.lemmas.List.Splits.{join_with_byte-slice_split, slice_split_none}
+use Rattle.std.proofs.lemmas.List.Splits.{join_with_byte-slice_split, slice_split_none, length-slice_split}
 use Rattle.std.proofs.lemmas.List.{drop_all}
 use Rattle.std.proofs.lemmas.Option.{none-some, same_Some}
 use Rattle.arc_table.specs.declared.command.Cmd.{Cmd}
 use Rattle.arc_table.specs.declared.command.Cmd.TheVariants as command
-use Rattle.arcs.specs.Text.{space, longest_line, words_of, form, Operand, Number, Items, operand_word, IsWritable, Says}
+use Rattle.arcs.specs.Text.{space, longest_line, words_of, form, Operand, Number, Items, operand_word, IsWritable, IsSayable, Says}
 use Rattle.arcs.specs.Script.{IsBad}
 use Rattle.arcs.specs.Reading.{◌>>=◌, is_space, words_of_line, Sort, ANumber, SomeItems, number_of, items_of, operand_of, operands_of, Value, Makes, made, spells_from, spells, Form, forms, read_by, command_of, BringsItems}
 use Rattle.arcs.proofs.Words.{number_is, number_again, items_is, items_again, items_fit, items_are_bytes, NoSpace, no_space_text, no_space_number, no_space_items, words-join}
@@ -108,6 +108,19 @@ pub none_left : (sort : Sort) → operands_of (sort ∷ []) [] ≡ None
 unfolding operands_of
 none_left sort = refl
 
+-- no words are nothing, and what is left of a line is a word
+pub nothing_is_left : operands_of [] [] ≡ Some []
+unfolding operands_of
+nothing_is_left = refl
+
+pub word_is_left : (line : List ℕ) → operands_of [] (words_of_line line) ≡ None
+unfolding operands_of
+word_is_left line = at (words_of_line line) _ (length-slice_split is_space line)
+  where
+    at : (words : List (List ℕ)) (n : ℕ) → length words ≡ n + 1 → operands_of [] words ≡ None
+    at [] n e = absurd (omega (arith, e))
+    at (word ∷ words) n e = refl
+
 -- ---- the forms by their first words
 
 pub last_items : (line xs : List ℕ) → items_of line ≡ Some xs → operands_of (SomeItems ∷ []) (words_of_line line) ≡ Some (Items xs ∷ [])
@@ -117,9 +130,9 @@ abbrev pub operand : (sort : Sort) → Value sort → Operand
 operand ANumber n = Number n
 operand SomeItems xs = Items xs
 
--- what is made of operands is written by this word, the operands before, and these
+-- what is made of operands is written by this word, the operands before, and these, and has a line
 abbrev pub IsWritten : List ℕ → List Operand → (sorts : List Sort) → Makes sorts → Type 0
-IsWritten word before [] make = form make ≡ (word, before)
+IsWritten word before [] make = (form make ≡ (word, before)) × IsSayable make
 IsWritten word before (sort ∷ sorts) make = (x : Value sort) → IsWritten word (before ++ operand sort x ∷ []) sorts (make x)
 
 abbrev pub found : List ℕ → List Form → Option Form
@@ -138,15 +151,15 @@ written_found verb (g ∷ fs) f all e =
       | inr other ↦ written_found verb fs f all.1 (sym (cond-false _ (Some g) (found verb fs) other) ∙ e)
     ]
 
-made_written : (word : List ℕ) (before : List Operand) (sorts : List Sort) (make : Makes sorts) (os : List Operand) (c : Cmd (List ℕ))
-    → IsWritten word before sorts make → made sorts make os ≡ Some c → form c ≡ (word, before ++ os)
-made_written word before [] make [] c written e = rw append-nil (subst (λ (d : Cmd (List ℕ)). form d ≡ (word, before)) (same_Some _ _ e) written)
+made_written : (word : List ℕ) (before : List Operand) (sorts : List Sort) (make : Makes sorts) (os : List Operand) (c : Cmd (List ℕ) (List ℕ))
+    → IsWritten word before sorts make → made sorts make os ≡ Some c → (form c ≡ (word, before ++ os)) × IsSayable c
+made_written word before [] make [] c written e = (rw append-nil (subst (λ (d : Cmd (List ℕ) (List ℕ)). form d ≡ (word, before)) (same_Some _ _ e) written.0), subst IsSayable (same_Some _ _ e) written.1)
 made_written word before [] make (o ∷ os) c written e = absurd (none-some c e)
 made_written word before (sort ∷ sorts) make [] c written e = absurd (none-some c e)
-made_written word before (ANumber ∷ sorts) make (Number n ∷ os) c written e = made_written word (before ++ Number n ∷ []) sorts (make n) os c (written n) e ∙ ap (λ (all : List Operand). (word, all)) (append_assoc before (Number n ∷ []) os)
+made_written word before (ANumber ∷ sorts) make (Number n ∷ os) c written e = let is = made_written word (before ++ Number n ∷ []) sorts (make n) os c (written n) e in (is.0 ∙ ap (λ (all : List Operand). (word, all)) (append_assoc before (Number n ∷ []) os), is.1)
 made_written word before (ANumber ∷ sorts) make (Items xs ∷ os) c written e = absurd (none-some c e)
 made_written word before (SomeItems ∷ sorts) make (Number n ∷ os) c written e = absurd (none-some c e)
-made_written word before (SomeItems ∷ sorts) make (Items xs ∷ os) c written e = made_written word (before ++ Items xs ∷ []) sorts (make xs) os c (written xs) e ∙ ap (λ (all : List Operand). (word, all)) (append_assoc before (Items xs ∷ []) os)
+made_written word before (SomeItems ∷ sorts) make (Items xs ∷ os) c written e = let is = made_written word (before ++ Items xs ∷ []) sorts (make xs) os c (written xs) e in (is.0 ∙ ap (λ (all : List Operand). (word, all)) (append_assoc before (Items xs ∷ []) os), is.1)
 
 spelled_from : (word : List ℕ) (k : ℕ) (name : List ℕ) → length word ≡ k + length name → spells_from word k name ≡ true → drop k word ≡ name
 spelled_from word k [] len all = drop_all k word (omega arith)
@@ -174,15 +187,16 @@ abbrev pub sorts_of : List ℕ → Option (List Sort)
 sorts_of verb = option_map (λ (f : Form). f.sorts) (found verb forms)
 
 -- each command's form is in the table
-sorts_again : (c : Cmd (List ℕ)) → sorts_of (form c).0 ≡ Some (map sort_of (form c).1)
+sorts_again : (c : Cmd (List ℕ) (List ℕ)) → sorts_of (form c).0 ≡ Some (map sort_of (form c).1)
 sorts_again (command.Slice xs) = refl
 sorts_again other = refl
 
-made_again : (c : Cmd (List ℕ)) → (found (form c).0 forms >>= λ f. made f.sorts f.make (form c).1) ≡ Some c
-made_again (command.Slice xs) = refl
-made_again other = refl
+made_again : (c : Cmd (List ℕ) (List ℕ)) → IsSayable c → (found (form c).0 forms >>= λ f. made f.sorts f.make (form c).1) ≡ Some c
+made_again (command.Slice xs) sayable = refl
+made_again (command.Static xs) sayable = ap (λ (items : List ℕ). Some (command.Static items)) (sym sayable)
+made_again other sayable = refl
 
-no_space_form : (c : Cmd (List ℕ)) → list_all (λ byte. not (is_space byte)) (form c).0 ≡ true
+no_space_form : (c : Cmd (List ℕ) (List ℕ)) → list_all (λ byte. not (is_space byte)) (form c).0 ≡ true
 no_space_form (command.Slice xs) = refl
 no_space_form other = refl
 
@@ -197,12 +211,13 @@ read_found verb words (f ∷ fs) =
 -- ---- the command that words say
 
 -- these words say the command: it can be written, and is written so
-pub record SaidBy (words : List (List ℕ)) (c : Cmd (List ℕ)) : Type 0 where
+pub record SaidBy (words : List (List ℕ)) (c : Cmd (List ℕ) (List ℕ)) : Type 0 where
+  pub sayable : IsSayable c
   pub writable : AllByRecursion IsWritable (form c).1
   pub are : words ≡ words_of c
 
 -- words that are read as a command say it
-pub command_said : (words : List (List ℕ)) (c : Cmd (List ℕ)) → command_of words ≡ Some c → SaidBy words c
+pub command_said : (words : List (List ℕ)) (c : Cmd (List ℕ) (List ℕ)) → command_of words ≡ Some c → SaidBy words c
 unfolding command_of
 command_said [] c e = absurd (none-some c e)
 command_said (verb ∷ words) c e =
@@ -210,14 +225,15 @@ command_said (verb ∷ words) c e =
     let f : Form = one.0 in
     let read = then_some (operands_of f.sorts words) (λ os. made f.sorts f.make os) c one.2 in
     let stand = operands_are f.sorts words read.0 read.1 in
-    let is : form c ≡ (f.word, read.0) = made_written f.word [] f.sorts f.make read.0 c (written_found verb forms f all_written one.1) read.2 in
+    let written = made_written f.word [] f.sorts f.make read.0 c (written_found verb forms f all_written one.1) read.2 in
+    let is : form c ≡ (f.word, read.0) = written.0 in
     let word : verb ≡ f.word = found_word verb forms f one.1 in
-    record { writable = subst (λ (all : List ℕ × List Operand). AllByRecursion IsWritable all.1) (sym is) stand.writable; are = cc (is, word, stand.are) }
+    record { sayable = written.1; writable = subst (λ (all : List ℕ × List Operand). AllByRecursion IsWritable all.1) (sym is) stand.writable; are = cc (is, word, stand.are) }
 
 -- a command that can be written is read from its words again
-pub command_again : (c : Cmd (List ℕ)) → AllByRecursion IsWritable (form c).1 → command_of (words_of c) ≡ Some c
+pub command_again : (c : Cmd (List ℕ) (List ℕ)) → IsSayable c → AllByRecursion IsWritable (form c).1 → command_of (words_of c) ≡ Some c
 unfolding command_of
-command_again c writable = read_found (form c).0 (map operand_word (form c).1) forms ∙ at (found (form c).0 forms) (sorts_again c) (made_again c)
+command_again c sayable writable = read_found (form c).0 (map operand_word (form c).1) forms ∙ at (found (form c).0 forms) (sorts_again c) (made_again c sayable)
   where
     at : (o : Option Form) → option_map (λ (f : Form). f.sorts) o ≡ Some (map sort_of (form c).1) → (o >>= λ f. made f.sorts f.make (form c).1) ≡ Some c
         → (o >>= λ f. operands_of f.sorts (map operand_word (form c).1) >>= λ os. made f.sorts f.make os) ≡ Some c
@@ -247,16 +263,16 @@ none_of verb rest (f ∷ fs) gs others = elim (cases_Bool (spells verb f.word)) 
 -- ---- lines
 
 -- the words of a command part at the spaces
-words_apart : (c : Cmd (List ℕ)) → AllByRecursion IsWritable (form c).1 → words_of_line (join_with_byte space (words_of c)) ≡ words_of c
+words_apart : (c : Cmd (List ℕ) (List ℕ)) → AllByRecursion IsWritable (form c).1 → words_of_line (join_with_byte space (words_of c)) ≡ words_of c
 words_apart c writable = words-join (form c).0 (map operand_word (form c).1) (no_space_text (form c).0 (no_space_form c), no_space_operands (form c).1 writable)
 
-pub line_says : (line : List ℕ) (c : Cmd (List ℕ)) → length line ≤ longest_line → command_of (words_of_line line) ≡ Some c → Says line c
+pub line_says : (line : List ℕ) (c : Cmd (List ℕ) (List ℕ)) → length line ≤ longest_line → command_of (words_of_line line) ≡ Some c → Says line c
 line_says line c fits e =
     let said = command_said (words_of_line line) c e in
-    record { fits = fits; writable = said.writable; words = sym (join_with_byte-slice_split space line) ∙ ap (join_with_byte space) said.are }
+    record { fits = fits; sayable = said.sayable; writable = said.writable; words = sym (join_with_byte-slice_split space line) ∙ ap (join_with_byte space) said.are }
 
-pub says_read : (line : List ℕ) (c : Cmd (List ℕ)) → Says line c → command_of (words_of_line line) ≡ Some c
-says_read line c says = rw (says.words, words_apart c says.writable) (command_again c says.writable)
+pub says_read : (line : List ℕ) (c : Cmd (List ℕ) (List ℕ)) → Says line c → command_of (words_of_line line) ≡ Some c
+says_read line c says = rw (says.words, words_apart c says.writable) (command_again c says.sayable says.writable)
 
 pub unread_is_bad : (line : List ℕ) → command_of (words_of_line line) ≡ None → IsBad line
 unread_is_bad line none c says = none-some c (sym none ∙ says_read line c says)
@@ -266,10 +282,10 @@ cond_option true o x e = (refl, e)
 cond_option false o x e = absurd (none-some x e)
 
 -- what a line says, if it says a command
-abbrev pub reading : List ℕ → Option (Cmd (List ℕ))
+abbrev pub reading : List ℕ → Option (Cmd (List ℕ) (List ℕ))
 reading line = cond (leb (length line) longest_line) (command_of (words_of_line line)) None
 
-pub reading_says : (line : List ℕ) (c : Cmd (List ℕ)) → reading line ≡ Some c → Says line c
+pub reading_says : (line : List ℕ) (c : Cmd (List ℕ) (List ℕ)) → reading line ≡ Some c → Says line c
 reading_says line c e =
     let found = cond_option (leb (length line) longest_line) (command_of (words_of_line line)) c e in
     line_says line c (leb-true _ _ found.0) found.1
@@ -278,15 +294,15 @@ pub unread_is_none : (line : List ℕ) → reading line ≡ None → IsBad line
 unread_is_none line none c says = none-some c (sym none ∙ rw (le-leb _ _ says.fits) (says_read line c says))
 
 -- each line says a command, or is bad
-pub says_or_bad : (line : List ℕ) → ((c : Cmd (List ℕ)) × Says line c) ⊎ IsBad line
+pub says_or_bad : (line : List ℕ) → ((c : Cmd (List ℕ) (List ℕ)) × Says line c) ⊎ IsBad line
 says_or_bad line = at (reading line) refl
   where
-    at : (o : Option (Cmd (List ℕ))) → reading line ≡ o → ((c : Cmd (List ℕ)) × Says line c) ⊎ IsBad line
+    at : (o : Option (Cmd (List ℕ) (List ℕ))) → reading line ≡ o → ((c : Cmd (List ℕ) (List ℕ)) × Says line c) ⊎ IsBad line
     at None seen = inr (unread_is_none line seen)
     at (Some c) seen = inl (c, reading_says line c seen)
 
 -- no line says two
-pub says_one : (line : List ℕ) (c d : Cmd (List ℕ)) → Says line c → Says line d → c ≡ d
+pub says_one : (line : List ℕ) (c d : Cmd (List ℕ) (List ℕ)) → Says line c → Says line d → c ≡ d
 says_one line c d one other = same_Some c d (sym (says_read line c one) ∙ says_read line d other)
 
 some_and : {X : Type 0} (P : X → Type 0) (o : Option X) → IsSomeAnd o P → (x : X) × (o ≡ Some x) × P x
@@ -294,17 +310,17 @@ some_and P None found = absurd found
 some_and P (Some x) found = (x, refl, found)
 
 -- the same, of what a command has beside
-pub line_says_and : (P : Cmd (List ℕ) → Type 0) (line : List ℕ) → length line ≤ longest_line → IsSomeAnd (command_of (words_of_line line)) P → (c : Cmd (List ℕ)) × Says line c × P c
+pub line_says_and : (P : Cmd (List ℕ) (List ℕ) → Type 0) (line : List ℕ) → length line ≤ longest_line → IsSomeAnd (command_of (words_of_line line)) P → (c : Cmd (List ℕ) (List ℕ)) × Says line c × P c
 line_says_and P line fits found = let read = some_and P (command_of (words_of_line line)) found in (read.0, line_says line read.0 fits read.1, read.2)
 
 -- what `parse` answers, by what was read of the words
-pub read_ok : {V E : Type 0} (see : V → Cmd (List ℕ)) (line : List ℕ) (r : Result (Option V) E) → length line ≤ longest_line
+pub read_ok : {V E : Type 0} (see : V → Cmd (List ℕ) (List ℕ)) (line : List ℕ) (r : Result (Option V) E) → length line ≤ longest_line
     → IfOk r (λ said. option_map see said ≡ command_of (words_of_line line)) → IfOk r (λ said. MatchOption said (IsBad line) (λ c. Says line (see c)))
 read_ok see line (Ok None) fits e = unread_is_bad line (sym e)
 read_ok see line (Ok (Some c)) fits e = line_says line (see c) fits (sym e)
 read_ok see line (Err error) fits e = e
 
 pub read_err : {V E : Type 0} (line : List ℕ) (r : Result V E) → length line ≤ longest_line
-    → OnErr r (IsSomeAnd (command_of (words_of_line line)) BringsItems) → OnErr r ((c : Cmd (List ℕ)) × Says line c × BringsItems c)
+    → OnErr r (IsSomeAnd (command_of (words_of_line line)) BringsItems) → OnErr r ((c : Cmd (List ℕ) (List ℕ)) × Says line c × BringsItems c)
 read_err line (Ok v) fits e = e
 read_err line (Err error) fits e = line_says_and BringsItems line fits e

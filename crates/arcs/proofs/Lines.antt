@@ -24,12 +24,12 @@ use Rattle.arcs.proofs.Words.{all_by}
 -- ---- each line, and each list of lines
 
 -- what a line is answered where nothing is short, by what it says
-abbrev pub answered : ByteTable → Option (Cmd (List ℕ)) → Option (Reply (List ℕ)) × ByteTable
+abbrev pub answered : ByteTable → Option (Cmd (List ℕ) (List ℕ)) → Option (Reply (List ℕ)) × ByteTable
 answered old None = (None, old)
 answered old (Some c) =
     (Some (answer byte_setting no_shortage old c).0, (answer byte_setting no_shortage old c).1)
 
-answered_is : (old : ByteTable) (line : List ℕ) (said : Option (Cmd (List ℕ))) → reading line ≡ said → Answers old line (answered old said).0 (answered old said).1
+answered_is : (old : ByteTable) (line : List ℕ) (said : Option (Cmd (List ℕ) (List ℕ))) → reading line ≡ said → Answers old line (answered old said).0 (answered old said).1
 answered_is old line None e = (unread_is_none line e, refl)
 answered_is old line (Some c) e = (c, reading_says line c e, answer_step byte_setting old c)
 
@@ -67,13 +67,13 @@ no_feeds lines pass = recursion_from_All HasNoFeed lines (all_by is_line HasNoFe
 
 -- ---- memory may be short for a command that brings items
 
-pub items_want : {M : Type 0} (setting : Setting ℕ) (old : Table ℕ M) (c : Cmd (List ℕ))
+pub items_want : {M : Type 0} (setting : Setting ℕ) (old : Table ℕ M) (c : Cmd (List ℕ) (List ℕ))
     → BringsItems c → answer setting of_table old c ≡ (reply.Alloc, old)
 items_want setting old (Slice items) brings = refl
 items_want setting old other brings = absurd (cc)
 
 -- then the line may be answered so, and nothing changes
-pub want_answers : (old : ByteTable) (line : List ℕ) → (c : Cmd (List ℕ)) × Says line c × BringsItems c → Answers old line (Some reply.Alloc) old
+pub want_answers : (old : ByteTable) (line : List ℕ) → (c : Cmd (List ℕ) (List ℕ)) × Says line c × BringsItems c → Answers old line (Some reply.Alloc) old
 want_answers old line said = (said.0, said.1, items_want byte_setting old said.0 said.2)
 
 -- ---- a text that goes on

@@ -1,4 +1,4 @@
--- Five worked scripts: what is written for each input.
+-- Seven worked scripts: what is written for each input.
 use Rattle.std.proofs.Common.{List, [], ◌∷◌, ◌++◌, ℕ, refl}
 use Rattle.std.specs.Prelude.{codes, map}
 use Rattle.std.specs.Fmt.{digits}
@@ -68,3 +68,21 @@ pub unique_row : IsReplyText
     (ended (codes "h0" ∷ codes "yes" ∷ codes "h1" ∷ codes "no" ∷ codes "ok" ∷ codes "yes" ∷ []))
 unfolding digits command_of operands_of
 unique_row = script_text unique_lines [] (no_feeds unique_lines refl) (no_feed [] refl)
+
+-- a window over static bytes and a part of it, each of which is taken
+abbrev pub static_lines : List (List ℕ)
+static_lines = codes "static" ∷ codes "sub 0 0 2" ∷ codes "takestatic 1" ∷ codes "uniq 0" ∷ codes "takestatic 0" ∷ codes "show 0" ∷ []
+
+pub static_row : IsReplyText
+    (input_of static_lines [])
+    (ended (codes "h0" ∷ codes "h1" ∷ codes "6162" ∷ codes "no" ∷ codes "61626364" ∷ codes "no window" ∷ []))
+unfolding digits command_of operands_of
+static_row = script_text static_lines [] (no_feeds static_lines refl) (no_feed [] refl)
+
+-- a window on a block, which stays
+abbrev pub refused_lines : List (List ℕ)
+refused_lines = codes "slice 0a" ∷ codes "takestatic 0" ∷ codes "show 0" ∷ []
+
+pub refused_row : IsReplyText (input_of refused_lines []) (ended (codes "h0" ∷ codes "refused" ∷ codes "0a" ∷ []))
+unfolding digits command_of operands_of
+refused_row = script_text refused_lines [] (no_feeds refused_lines refl) (no_feed [] refl)

@@ -9,7 +9,7 @@ use Rattle.std.specs.List.{list_all, list_any, slice_split}
 use Rattle.std.specs.Option.{option_map}
 use Rattle.std.specs.Str.{bytes_eq}
 use Rattle.std.specs.Str.Parse.{digits_value}
-use Rattle.arcs.specs.Text.{space, items_word, form, Operand, Number, Items}
+use Rattle.arcs.specs.Text.{space, items_word, static_bytes, form, Operand, Number, Items}
 use Rattle.arc_table.specs.declared.command.Cmd.{Cmd}
 use Rattle.arc_table.specs.declared.command.Cmd.TheVariants as command
 
@@ -80,10 +80,10 @@ Value ANumber = ℕ
 Value SomeItems = List ℕ
 
 abbrev pub Makes : List Sort → Type 0
-Makes [] = Cmd (List ℕ)
+Makes [] = Cmd (List ℕ) (List ℕ)
 Makes (sort ∷ sorts) = Value sort → Makes sorts
 
-abbrev pub made : (sorts : List Sort) → Makes sorts → List Operand → Option (Cmd (List ℕ))
+abbrev pub made : (sorts : List Sort) → Makes sorts → List Operand → Option (Cmd (List ℕ) (List ℕ))
 made [] make [] = Some make
 made [] make (o ∷ os) = None
 made (sort ∷ sorts) make [] = None
@@ -106,6 +106,7 @@ entry word sorts make = record { word = word; sorts = sorts; make = make }
 -- is read by it is what `form` says: that is proved of the whole table.
 abbrev pub making_forms : List Form
 making_forms =
+    entry (codes "static") [] (command.Static static_bytes) ∷
     entry (codes "clone") (ANumber ∷ []) command.Clone ∷
     entry (codes "sub") (ANumber ∷ ANumber ∷ ANumber ∷ []) command.Sub ∷
     entry (codes "off") (ANumber ∷ ANumber ∷ []) command.Off ∷
@@ -124,6 +125,7 @@ changing_forms =
     entry (codes "adv") (ANumber ∷ ANumber ∷ []) command.Adv ∷
     entry (codes "trunc") (ANumber ∷ ANumber ∷ []) command.Trunc ∷
     entry (codes "drop") (ANumber ∷ []) command.Drop ∷
+    entry (codes "takestatic") (ANumber ∷ []) command.TakeStatic ∷
     []
 
 abbrev pub plain_forms : List Form
@@ -143,14 +145,14 @@ abbrev pub spells : List ℕ → List ℕ → Bool
 spells word name = nat_eq (length word) (length name) && spells_from word 0 name
 
 -- what the words behind a first word say, by the first form whose word it is
-abbrev pub read_by : List ℕ → List (List ℕ) → List Form → Option (Cmd (List ℕ))
+abbrev pub read_by : List ℕ → List (List ℕ) → List Form → Option (Cmd (List ℕ) (List ℕ))
 read_by verb words [] = None
 read_by verb words (f ∷ fs) =
     if spells verb f.word then (operands_of f.sorts words >>= λ os. made f.sorts f.make os) else
     read_by verb words fs
 
 -- the command that words say
-unfoldable pub command_of : List (List ℕ) → Option (Cmd (List ℕ))
+unfoldable pub command_of : List (List ℕ) → Option (Cmd (List ℕ) (List ℕ))
 command_of [] = None
 command_of (verb ∷ words) = read_by verb words forms
 
@@ -159,5 +161,5 @@ abbrev pub is_items : Operand → Bool
 is_items (Number n) = false
 is_items (Items xs) = true
 
-abbrev pub BringsItems : Cmd (List ℕ) → Type 0
+abbrev pub BringsItems : Cmd (List ℕ) (List ℕ) → Type 0
 BringsItems c = IsTrue (list_any is_items (form c).1)

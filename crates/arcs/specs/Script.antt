@@ -40,13 +40,13 @@ ByteTable = Table ℕ (Unit {0})
 
 -- the line says no command
 abbrev pub IsBad : List ℕ → Type 0
-IsBad line = (c : Cmd (List ℕ)) → ¬ Says line c
+IsBad line = (c : Cmd (List ℕ) (List ℕ)) → ¬ Says line c
 
 -- what a line is answered: one step of the command that it says, or None where it says none and
 -- nothing changes
-abbrev pub AnswersBy : {S : Type 0} → (S → Cmd (List ℕ) → Reply (List ℕ) → S → Type 0)
+abbrev pub AnswersBy : {S : Type 0} → (S → Cmd (List ℕ) (List ℕ) → Reply (List ℕ) → S → Type 0)
     → S → List ℕ → Option (Reply (List ℕ)) → S → Type 0
-AnswersBy step old line (Some reply) new = (c : Cmd (List ℕ)) × Says line c
+AnswersBy step old line (Some reply) new = (c : Cmd (List ℕ) (List ℕ)) × Says line c
     × step old c reply new
 AnswersBy step old line None new = IsBad line × (new ≡ old)
 

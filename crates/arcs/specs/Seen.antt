@@ -7,5 +7,5 @@ use Rattle.arcs.specs.Text.{Says}
 use Rattle.arcs.specs.Script.{IsBad}
 
 -- the line says this command, or is bad
-abbrev pub IsReadAs : {A : Type 0} → List ℕ → Option (Cmd (Vec ℕ A)) → Type 0
+abbrev pub IsReadAs : {A : Type 0} → List ℕ → Option (Cmd (Vec ℕ A) (List ℕ)) → Type 0
 IsReadAs line said = MatchOption said (IsBad line) (λ c. Says line (seen_command c))

@@ -41,9 +41,14 @@ pub data Operand : Type 0 where
   Number : ℕ → Operand
   Items : List ℕ → Operand
 
+-- the bytes of the static slice over which `static` makes a window
+abbrev pub static_bytes : List ℕ
+static_bytes = codes "abcd"
+
 -- The table of forms, a line each: the first word of a command, and its operands.
-abbrev pub form : Cmd (List ℕ) → List ℕ × List Operand
+abbrev pub form : Cmd (List ℕ) (List ℕ) → List ℕ × List Operand
 form (command.Slice xs) = (codes "slice", Items xs ∷ [])
+form (command.Static items) = (codes "static", [])
 form (command.Clone i) = (codes "clone", Number i ∷ [])
 form (command.Sub i start end) = (codes "sub", Number i ∷ Number start ∷ Number end ∷ [])
 form (command.Uniq i) = (codes "uniq", Number i ∷ [])
@@ -54,6 +59,7 @@ form (command.Len i) = (codes "len", Number i ∷ [])
 form (command.Adv i by) = (codes "adv", Number i ∷ Number by ∷ [])
 form (command.Trunc i len) = (codes "trunc", Number i ∷ Number len ∷ [])
 form (command.Drop i) = (codes "drop", Number i ∷ [])
+form (command.TakeStatic i) = (codes "takestatic", Number i ∷ [])
 
 -- an operand as a word
 abbrev pub operand_word : Operand → List ℕ
@@ -71,13 +77,19 @@ abbrev pub IsWritable : Operand → Type 0
 IsWritable (Number n) = IsShort n
 IsWritable (Items xs) = AllByRecursion IsByte xs
 
+-- which commands have a line: of those over static slices the one over these bytes
+abbrev pub IsSayable : Cmd (List ℕ) (List ℕ) → Type 0
+IsSayable (command.Static items) = items ≡ static_bytes
+IsSayable other = Unit {0}
+
 -- a command as words
-abbrev pub words_of : Cmd (List ℕ) → List (List ℕ)
+abbrev pub words_of : Cmd (List ℕ) (List ℕ) → List (List ℕ)
 words_of c = (form c).0 ∷ map operand_word (form c).1
 
 -- the line says the command: its words, parted by one space each
-pub record Says (line : List ℕ) (c : Cmd (List ℕ)) : Type 0 where
+pub record Says (line : List ℕ) (c : Cmd (List ℕ) (List ℕ)) : Type 0 where
   pub fits : length line ≤ longest_line
+  pub sayable : IsSayable c
   pub writable : AllByRecursion IsWritable (form c).1
   pub words : line ≡ join_with_byte space (words_of c)
 
@@ -100,6 +112,7 @@ reply_text (reply.Items items) = items_word items
 reply_text (reply.Number n) = decimal n
 reply_text reply.NoWindow = codes "no window"
 reply_text reply.Kind = codes "kind"
+reply_text reply.Refused = codes "refused"
 reply_text (reply.Range e) = range_text e
 reply_text (reply.Owner e) = owner_text e
 reply_text reply.Alloc = codes "allocation error"

@@ -16,9 +16,16 @@ ghost use Rattle.arcs.specs.Reading.{asking_forms, changing_forms};
 ghost use Rattle.std.specs.Prelude.{◌++◌};
 ghost use Rattle.arcs.specs.Reading.{words_of_line};
 
+use arc_block::static_slice::StaticSlice;
 use arc_owners::error::AllocError;
 use arc_table::command::Cmd;
 use std::alloc::Allocator;
+
+/// A command over bytes.
+pub type Command<A> = Cmd<Vec<u8, A>, StaticSlice<u8>>;
+
+/// The bytes over which `static` makes a window.
+const STATIC_BYTES: &[u8] = b"abcd";
 
 /// The longest line, in bytes and without its line feed.
 pub const LONGEST_LINE: usize = 65536;
@@ -86,6 +93,17 @@ fn number(rest: Rest) -> Option<(usize, Rest)>
     let (word, rest) = word(rest?);
     let number = number_in(word)?;
     Some((number, rest))
+}
+
+/// Nothing is left.
+#[tactic(auto, using(crate::proofs::Forms::nothing_is_left, crate::proofs::Forms::word_is_left))]
+fn nothing(rest: Rest) -> Option<()>
+    ensures { option_map (λ _. []) result ≡ operands_of [] (words_in rest.entry) }
+{
+    match rest {
+        None => Some(()),
+        Some(_) => None,
+    }
 }
 
 /// The one number that is left.
@@ -196,7 +214,7 @@ fn one_items<A: Allocator>(alloc: A, rest: Rest) -> Result<Option<Vec<u8, A>>, A
 
 /// The command that a first word and what is left behind it say, of those that change a window: an
 /// arm for each line of their table (`changing_forms` in `specs/`).
-fn changing<A: Allocator>(verb: &[u8], rest: Rest) -> Option<Cmd<Vec<u8, A>>>
+fn changing<A: Allocator>(verb: &[u8], rest: Rest) -> Option<Command<A>>
     ensures { option_map seen_command result
         ≡ read_by verb.now (words_in rest.entry) changing_forms }
 {
@@ -212,12 +230,15 @@ fn changing<A: Allocator>(verb: &[u8], rest: Rest) -> Option<Cmd<Vec<u8, A>>>
         b"drop" => Some(Cmd::Drop {
             window: one_number(rest)?,
         }),
+        b"takestatic" => Some(Cmd::TakeStatic {
+            window: one_number(rest)?,
+        }),
         _ => None,
     }
 }
 
 /// The same, of those that ask or change a window (`asking_forms`).
-fn asking<A: Allocator>(verb: &[u8], rest: Rest) -> Option<Cmd<Vec<u8, A>>>
+fn asking<A: Allocator>(verb: &[u8], rest: Rest) -> Option<Command<A>>
     ensures { option_map seen_command result
         ≡ read_by verb.now (words_in rest.entry) (asking_forms ++ changing_forms) }
 {
@@ -236,11 +257,15 @@ fn asking<A: Allocator>(verb: &[u8], rest: Rest) -> Option<Cmd<Vec<u8, A>>>
 }
 
 /// The same, of all that bring no items (`plain_forms`).
-fn plain_command<A: Allocator>(verb: &[u8], rest: Rest) -> Option<Cmd<Vec<u8, A>>>
+fn plain_command<A: Allocator>(verb: &[u8], rest: Rest) -> Option<Command<A>>
     ensures { option_map seen_command result
         ≡ read_by verb.now (words_in rest.entry) plain_forms }
 {
     match verb {
+        b"static" => {
+            nothing(rest)?;
+            Some(Cmd::Static(StaticSlice::new(STATIC_BYTES)))
+        }
         b"clone" => Some(Cmd::Clone {
             window: one_number(rest)?,
         }),
@@ -263,7 +288,7 @@ fn plain_command<A: Allocator>(verb: &[u8], rest: Rest) -> Option<Cmd<Vec<u8, A>
 /// The command that the words of a line say, or `None` where they say none. `Err` where memory is
 /// refused for items.
 #[tactic(auto, unfolding(crate::specs::Reading::command_of))]
-fn command<A: Allocator>(alloc: A, line: &[u8]) -> Result<Option<Cmd<Vec<u8, A>>>, AllocError>
+fn command<A: Allocator>(alloc: A, line: &[u8]) -> Result<Option<Command<A>>, AllocError>
     ensures ok { IfOk result (λ said.
         option_map seen_command said ≡ command_of (words_of_line line.now)) }
     ensures err { OnErr result (IsSomeAnd (command_of (words_of_line line.now)) BringsItems) }
@@ -284,13 +309,10 @@ fn command<A: Allocator>(alloc: A, line: &[u8]) -> Result<Option<Cmd<Vec<u8, A>>
 /// line of more than `LONGEST_LINE` bytes says none. Takes memory for the items of a command alone,
 /// once, for their number of bytes. `Err` where that memory is refused: the line then says a
 /// command that brings items.
-pub fn parse<A: Allocator + Copy>(
-    alloc: A,
-    line: &[u8],
-) -> Result<Option<Cmd<Vec<u8, A>>>, AllocError>
+pub fn parse<A: Allocator + Copy>(alloc: A, line: &[u8]) -> Result<Option<Command<A>>, AllocError>
     ensures ok { IfOk result (λ said.
         MatchOption said (IsBad line.now) (λ c. Says line.now (seen_command c))) }
-    ensures err { OnErr result ((c : Cmd (List ℕ)) × Says line.now c × BringsItems c) }
+    ensures err { OnErr result ((c : Cmd (List ℕ) (List ℕ)) × Says line.now c × BringsItems c) }
 {
     if line.len() > LONGEST_LINE {
         return Ok(None);
@@ -300,7 +322,7 @@ pub fn parse<A: Allocator + Copy>(
 
 /// No line says two commands. Does nothing: its contract is the law.
 pub fn one_command()
-    ensures { (line : List ℕ) (c d : Cmd (List ℕ)) → Says line c → Says line d → c ≡ d }
+    ensures { (line : List ℕ) (c d : Cmd (List ℕ) (List ℕ)) → Says line c → Says line d → c ≡ d }
 {}
 
 #[cfg(test)]

@@ -20,7 +20,7 @@ ghost use Rattle.arcs.specs.declared.parse.TheConstants.{LONGEST_LINE};
 ghost use Rattle.arcs.specs.declared.script.ScriptError.TheVariants as script_error;
 
 use crate::io::{Sink, Source};
-use crate::parse::{LONGEST_LINE, parse};
+use crate::parse::{Command, LONGEST_LINE, parse};
 use crate::text::push_answer;
 use arc_block::layout::DefaultLayout;
 use arc_buffer::kinds::Plain;
@@ -97,7 +97,7 @@ type ByteTable<A> = Table<Plain<u8>, DefaultLayout, A>;
 fn answer<A: Allocator + Copy>(
     table: &mut ByteTable<A>,
     rt: &impl Wait,
-    said: Option<Cmd<Vec<u8, A>>>,
+    said: Option<Command<A>>,
     out: &mut Vec<u8, A>,
 ) -> Result<(), AllocError>
     ensures ok { OnOk result (AnswersInto (option_map seen_command said) table.old table.new
@@ -168,7 +168,7 @@ impl<A: Allocator + Copy> Engine<A> {
     }
 
     /// Reads the line that is held.
-    fn read_line(&self) -> Result<Option<Cmd<Vec<u8, A>>>, AllocError>
+    fn read_line(&self) -> Result<Option<Command<A>>, AllocError>
         ensures { IfOk result (λ said. (line : List ℕ)
             → Holds self.now.line.items self.now.too_long line → IsReadAs line said) }
     {

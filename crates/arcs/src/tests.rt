@@ -48,7 +48,7 @@ const LEFT: &[u8] =
 const LEFT_REPLIES: &[u8] = b"h0\nh1\nh2\nh3\nh4\nh5\nh6\nno\nok\nok\nh7\nyes\nno\n4243\n";
 
 /// Scripts, each with its replies.
-const SCRIPTS: [(&[u8], &[u8]); 25] = [
+const SCRIPTS: [(&[u8], &[u8]); 28] = [
     (HELLO, HELLO_REPLIES),
     (
         b"sub 0 0 1\nslice 0A\nslice -\nshow 0",
@@ -91,6 +91,15 @@ const SCRIPTS: [(&[u8], &[u8]); 25] = [
     (
         b"len\nlen 0 0\noff 0\nto 0\nadv 0\ntrunc 0\noff 0 0 0\nto x 0\nadv 0 -\ntrunc 0 00\n",
         b"bad line\nbad line\nbad line\nbad line\nbad line\nbad line\nbad line\nbad line\nbad line\nbad line\n",
+    ),
+    (
+        b"static\nsub 0 0 2\ntakestatic 1\nuniq 0\ntakestatic 0\nshow 0\n",
+        b"h0\nh1\n6162\nno\n61626364\nno window\n",
+    ),
+    (b"slice 0a\ntakestatic 0\nshow 0\n", b"h0\nrefused\n0a\n"),
+    (
+        b"static 0\nstatic -\ntakestatic\ntakestatic 0 0\ntakestatic 0\nslice -\ntakestatic 0\n",
+        b"bad line\nbad line\nbad line\nbad line\nno window\nh0\n-\n",
     ),
     (b"", b""),
     (b"\n", b"bad line\n"),

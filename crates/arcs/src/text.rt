@@ -109,6 +109,7 @@ fn push_reply<A: Allocator, X: AsSlice<u8>>(
         Reply::Number(number) => push_number(out, *number)?,
         Reply::NoWindow => out.extend_from_slice(b"no window")?,
         Reply::Kind => out.extend_from_slice(b"kind")?,
+        Reply::Refused => out.extend_from_slice(b"refused")?,
         Reply::Range(error) => out.extend_from_slice(range_words(*error))?,
         Reply::Owner(error) => out.extend_from_slice(owner_words(*error))?,
         Reply::Alloc => out.extend_from_slice(b"allocation error")?,

@@ -58,6 +58,13 @@ fn commands(rt: HostRuntime) {
             Ok(Some(Cmd::Drop { window: 0 }))
         )
     );
+    assert!(rt; matches!(parse(rt.alloc(), b"static"), Ok(Some(Cmd::Static(_)))));
+    assert!(rt;
+        matches!(
+            parse(rt.alloc(), b"takestatic 4"),
+            Ok(Some(Cmd::TakeStatic { window: 4 }))
+        )
+    );
 }
 
 #[test]
@@ -68,6 +75,7 @@ fn spaces(rt: HostRuntime) {
     assert!(rt; is_bad(&rt, b" show 0"));
     assert!(rt; is_bad(&rt, b"show 0 "));
     assert!(rt; is_bad(&rt, b"show 0\r"));
+    assert!(rt; is_bad(&rt, b"static "));
 }
 
 #[test]
@@ -83,6 +91,9 @@ fn numbers(rt: HostRuntime) {
     assert!(rt; is_bad(&rt, b"uniq 0 1"));
     assert!(rt; is_bad(&rt, b"sub 1 2"));
     assert!(rt; is_bad(&rt, b"sub 1 2 3 4"));
+    assert!(rt; is_bad(&rt, b"static 0"));
+    assert!(rt; is_bad(&rt, b"takestatic"));
+    assert!(rt; is_bad(&rt, b"takestatic 0 1"));
 }
 
 #[test]
@@ -94,5 +105,6 @@ fn items(rt: HostRuntime) {
     assert!(rt; is_bad(&rt, b"slice 00 11"));
     assert!(rt; is_bad(&rt, b"slice - -"));
     assert!(rt; is_bad(&rt, b"slice 00 "));
+    assert!(rt; is_bad(&rt, b"static 61626364"));
     assert!(rt; is_bad(&rt, b"\xff"));
 }
