@@ -14,7 +14,7 @@ use Rattle.arc_block.specs.Place.{Place, nowhere, static_data, on_block, moved}
 use Rattle.arc_block.specs.Table.{Row, Table, reader, row_at, is_alone, block_of}
 use Rattle.arc_table.specs.Step.{Setting, Shortage, no_shortage, of_table, of_clones, shortage}
 use Rattle.arc_table.specs.Step.{Step, answer}
-use Rattle.arc_table.specs.Step.{lodged, taken}
+use Rattle.arc_table.specs.Step.{with_static, taking_items}
 use Rattle.arc_table.specs.Step.{asking, founded, is_wanting, is_full, with_owner, part_of, cut_row}
 use Rattle.arc_table.specs.Step.{off_part, to_part, split_rows, changed, on_row, is_for, in_range}
 use Rattle.arc_table.specs.declared.command.Cmd.{Cmd}
@@ -64,7 +64,7 @@ module _ {T M : Type 0} (setting : Setting T) (short : Shortage) (t : Table T M)
       rows = t.rows ++ Some (record { items = items; place = place; role = reader }) ∷ [];
       blocks = option_map_or (λ block. t.blocks + 1) (block_of place) t.blocks;
     }))
-    (lodges : (items : List T) → Holds (reply.New (length t.rows)) (lodged t items).1)
+    (statics : (items : List T) → Holds (reply.New (length t.rows)) (with_static t items).1)
     (more : (i : ℕ) (row part : Row T M) → row_at t i ≡ Some row → StaysOn row.place part.place
     → Holds (reply.New (length t.rows))
     (record { rows = t.rows ++ Some part ∷ []; blocks = t.blocks }))
@@ -174,8 +174,8 @@ module _ {T M : Type 0} (setting : Setting T) (short : Shortage) (t : Table T M)
       asking_each short refl (founded setting t items)
       (founds items (setting.has_static && (length items == 0)))
   answer_each (Static items) =
-      either setting.has_static (asking short t (lodged t items)) (reply.Kind, t)
-      (asking_each short refl (lodged t items) (lodges items)) (same reply.Kind (inl refl))
+      either setting.has_static (asking short t (with_static t items)) (reply.Kind, t)
+      (asking_each short refl (with_static t items) (statics items)) (same reply.Kind (inl refl))
   answer_each (Clone i) =
       on_row_each i (Clone i) _ (λ row at.
       with_owner_each row.place (t.rows ++ Some row ∷ [])
@@ -222,9 +222,9 @@ module _ {T M : Type 0} (setting : Setting T) (short : Shortage) (t : Table T M)
   answer_each (Drop i) = on_row_each i (Drop i) _ (λ row at. goes reply.Ok (inl refl) i)
   answer_each (TakeStatic i) =
       on_row_each i (TakeStatic i) _ (λ row at.
-      either (is_some (block_of row.place)) (reply.Refused, t) (asking short t (taken t i row))
+      either (is_some (block_of row.place)) (reply.Refused, t) (asking short t (taking_items t i row))
       (same reply.Refused (inl refl))
-      (asking_each short refl (taken t i row) (goes (reply.Items row.items) (inl refl) i)))
+      (asking_each short refl (taking_items t i row) (goes (reply.Items row.items) (inl refl) i)))
 
 module _ {T M : Type 0} (setting : Setting T) (t : Table T M) where
   tells_none : (r : Reply (List T)) → MayTell no_shortage r → shortage r ≡ no_shortage

@@ -10,7 +10,7 @@ use Rattle.arc_block.specs.Place.{Place, nowhere, static_data, on_block, moved}
 use Rattle.arc_block.specs.Table.{Row, Table, row_at, reader, block_of}
 use Rattle.arc_block.proofs.Lists.{push-cases, set-cases}
 use Rattle.arc_table.specs.Blocks.{SaysOf, RowsAgree}
-use Rattle.arc_table.specs.Step.{Setting, Shortage, shortage, Step, Run, answer, lodged}
+use Rattle.arc_table.specs.Step.{Setting, Shortage, shortage, Step, Run, answer, with_static}
 use Rattle.arc_table.specs.declared.command.Cmd.{Cmd}
 use Rattle.arc_table.specs.declared.command.Reply.{Reply}
 use Rattle.arc_table.proofs.Answers.{StaysOn, answer_each}
@@ -151,8 +151,8 @@ module _ {T M : Type 0} where
           agree-after (record { rows = slice_set t.rows i None; blocks = t.blocks })
           (each-set IsSaid t.rows i None said-each tt) refl
 
-      lodges : (items : List T) → RowsAgree (lodged t items).1
-      lodges items =
+      statics : (items : List T) → RowsAgree (with_static t items).1
+      statics items =
           let row : Row T M = record { items = items; place = static_data; role = reader } in
           agree-after (record { rows = t.rows ++ Some row ∷ []; blocks = t.blocks })
           (each-push IsSaid t.rows (Some row) said-each tt) refl
@@ -195,7 +195,7 @@ module _ {T M : Type 0} where
     answer-agrees short t c agree =
         answer_each setting short t (λ reply new. RowsAgree new) (λ reply tells. agree)
         (λ items nothing. founds t agree nothing items (native_facts setting.drops (length items)))
-        (lodges t agree) (more t agree) (splits t agree) (becomes t agree)
+        (statics t agree) (more t agree) (splits t agree) (becomes t agree)
         (λ r tells i. goes t agree i) c
 
     pub step_agrees : (t : Table T M) (c : Cmd (List T) (List T)) (r : Reply (List T)) (new : Table T M)

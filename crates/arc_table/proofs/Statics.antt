@@ -15,7 +15,7 @@ use Rattle.arc_block.proofs.Owned.{kept-nowhere, kept-gone-nowhere}
 use Rattle.arc_table.specs.Slots.{SlotView, row_of, stand_of, stands_of}
 use Rattle.arc_table.specs.State.{State, state_of}
 use Rattle.arc_table.specs.Step.{Setting, Shortage, no_shortage, of_table, Step, answer, asking}
-use Rattle.arc_table.specs.Step.{lodged, taken}
+use Rattle.arc_table.specs.Step.{with_static, taking_items}
 use Rattle.arc_table.specs.declared.command.Cmd.TheVariants as command
 use Rattle.arc_table.specs.declared.command.Reply.TheVariants as reply
 use Rattle.arc_table.proofs.Done.{Done, Fact, done}
@@ -45,18 +45,18 @@ module _ {T : Type 0} (setting : Setting T) (slots : List (Option (SlotView T)))
   pub unlodged : (items : List T) → setting.has_static ≡ false
       → Step setting t (command.Static items) reply.Kind t
   unlodged items lacks =
-      ap (λ (b : Bool). if b then lodged t items else (reply.Kind, t)) lacks
+      ap (λ (b : Bool). if b then with_static t items else (reply.Kind, t)) lacks
 
-  pub lodge-alloc : (items : List T) → setting.has_static ≡ true
+  pub static-alloc : (items : List T) → setting.has_static ≡ true
       → answer setting of_table t (command.Static items) ≡ (reply.Alloc, t)
-  lodge-alloc items has =
-      ap (λ (b : Bool). if b then asking of_table t (lodged t items) else (reply.Kind, t)) has
+  static-alloc items has =
+      ap (λ (b : Bool). if b then asking of_table t (with_static t items) else (reply.Kind, t)) has
 
-  pub lodges : Fact slots passes → (items : List T) (number : ℕ)
+  pub statics : Fact slots passes → (items : List T) (number : ℕ)
       (slots' : List (Option (SlotView T))) → setting.has_static ≡ true
       → slots' ≡ slots ++ Some (static_slot items) ∷ [] → number ≡ length slots
       → Done setting old (command.Static items) (reply.New number) slots' passes
-  lodges fact items number slots' has more counted =
+  statics fact items number slots' has more counted =
       let s = static_slot items in
       let stands : stands_of slots' ≡ stands_of slots ++ None ∷ [] =
       ap stands_of more ∙ map-append stand_of slots (Some s ∷ []) in
@@ -64,8 +64,8 @@ module _ {T : Type 0} (setting : Setting T) (slots : List (Option (SlotView T)))
       ap (map (option_map row_of)) more ∙ map-append (option_map row_of) slots (Some s ∷ []) in
       done fact.1
       (subst (λ ss. IsKept MAX_OWNERS ss passes) (sym stands) (kept-nowhere fact.0))
-      (ap (λ (b : Bool). if b then lodged t items else (reply.Kind, t)) has
-      ∙ ap (λ n. (reply.New n, (lodged t items).1))
+      (ap (λ (b : Bool). if b then with_static t items else (reply.Kind, t)) has
+      ∙ ap (λ n. (reply.New n, (with_static t items).1))
       (length-map slots (option_map row_of) ∙ sym counted)
       ∙ ap (λ rs. (reply.New number, record { rows = rs; blocks = t.blocks })) (sym rows))
       (stands, refl)
@@ -73,13 +73,13 @@ module _ {T : Type 0} (setting : Setting T) (slots : List (Option (SlotView T)))
   module _ (i : ℕ) (s : SlotView T) (there : slice_get slots i ≡ Some (Some s)) where
     take-answers : (short : Shortage) (on : Bool) → is_some (block_of (row_of s).place) ≡ on
         → answer setting short t (command.TakeStatic i)
-        ≡ (if on then (reply.Refused, t) else asking short t (taken t i (row_of s)))
+        ≡ (if on then (reply.Refused, t) else asking short t (taking_items t i (row_of s)))
     take-answers short on is =
         answered slots passes i s there (command.TakeStatic i) (λ row.
         if is_some (block_of row.place) then (reply.Refused, t) else
-        asking short t (taken t i row))
+        asking short t (taking_items t i row))
         ∙ ap (λ (b : Bool). if b then (reply.Refused, t) else
-        asking short t (taken t i (row_of s))) is
+        asking short t (taking_items t i (row_of s))) is
 
     pub take-refused : (short : Shortage) → is_some (block_of (row_of s).place) ≡ true
         → answer setting short t (command.TakeStatic i) ≡ (reply.Refused, t)

@@ -92,8 +92,8 @@ founded setting t items =
     )
 
 -- a window over a slice that is there for good, which no block holds
-abbrev pub lodged : {T M : Type 0} → Table T M → List T → Reply (List T) × Table T M
-lodged t items = (
+abbrev pub with_static : {T M : Type 0} → Table T M → List T → Reply (List T) × Table T M
+with_static t items = (
   reply.New (length t.rows),
   record {
     rows = t.rows ++ Some (record { items = items; place = static_data; role = reader }) ∷ [];
@@ -102,8 +102,8 @@ lodged t items = (
 )
 
 -- the items of a row, which is gone
-abbrev pub taken : {T M : Type 0} → Table T M → ℕ → Row T M → Reply (List T) × Table T M
-taken t i row =
+abbrev pub taking_items : {T M : Type 0} → Table T M → ℕ → Row T M → Reply (List T) × Table T M
+taking_items t i row =
     (reply.Items row.items, record { rows = slice_set t.rows i None; blocks = t.blocks })
 
 -- whether the layout wants memory for an owner more at this place, and it was refused
@@ -184,7 +184,7 @@ abbrev pub answer : {T M : Type 0} → Setting T → Shortage → Table T M → 
     → Reply (List T) × Table T M
 answer setting short t (Slice items) = asking short t (founded setting t items)
 answer setting short t (Static items) =
-    if setting.has_static then asking short t (lodged t items) else (reply.Kind, t)
+    if setting.has_static then asking short t (with_static t items) else (reply.Kind, t)
 answer setting short t (Clone i) = on_row t i (Clone i) (λ row.
     asking short t (with_owner setting short t row.place (t.rows ++ Some row ∷ [])))
 answer setting short t (Sub i start end) = on_row t i (Sub i start end) (λ row.
@@ -217,7 +217,7 @@ answer setting short t (Trunc i len) = on_row t i (Trunc i len) (λ row.
 answer setting short t (Drop i) = on_row t i (Drop i) (λ row.
     (reply.Ok, record { rows = slice_set t.rows i None; blocks = t.blocks }))
 answer setting short t (TakeStatic i) = on_row t i (TakeStatic i) (λ row.
-    if is_some (block_of row.place) then (reply.Refused, t) else asking short t (taken t i row))
+    if is_some (block_of row.place) then (reply.Refused, t) else asking short t (taking_items t i row))
 
 -- From old, the table may give this reply to the command and go on to new: it is the answer, where
 -- memory was refused as the reply tells. A refusal changes nothing.

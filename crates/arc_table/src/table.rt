@@ -121,7 +121,7 @@ where
     {
         match command {
             Cmd::Slice(items) => self.slice(items),
-            Cmd::Static(items) => self.lodge(items),
+            Cmd::Static(items) => self.static_window(items),
             Cmd::Clone { window } => self.clone_window(rt, window),
             Cmd::Sub { window, start, end } => self.sub(rt, window, start, end),
             Cmd::Uniq { window } => self.uniq(window),
@@ -206,7 +206,7 @@ where
 
     /// A window over a slice that is there for good. `Kind` where the layout has no static data.
     /// Takes memory for the new slot; refused, the answer is `Alloc`.
-    fn lodge(&mut self, items: StaticSlice<S::Item>) -> Reply<Vec<S::Item, A>>
+    fn static_window(&mut self, items: StaticSlice<S::Item>) -> Reply<Vec<S::Item, A>>
         ensures rows { Step (setting_of L.STATIC L.clone_wants S.DROPS S.boundary) self.old.table
             (command.Static items) (seen_reply result) self.new.table }
         ensures passes { Adds self.old.table self.old.standing (command.Static items)

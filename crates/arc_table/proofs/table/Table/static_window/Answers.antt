@@ -2,8 +2,8 @@
 use Rattle.std.proofs.Common.{◌≡◌, ◌∷◌, ◌++◌, [], Some, true, refl, ap, ◌∙◌}
 use Rattle.arc_table.specs.Step.{Setting, setting_of}
 use Rattle.arc_table.proofs.Lists.{behind}
-use Rattle.arc_table.proofs.Statics.{lodges}
-use Rattle.arc_table.proofs.table.Table.lodge.Goals as goal
+use Rattle.arc_table.proofs.Statics.{statics}
+use Rattle.arc_table.proofs.table.Table.static_window.Goals as goal
 
 pub invariant_of-self-2 : goal.invariant_of-self-2
 invariant_of-self-2 g c =
@@ -11,7 +11,7 @@ invariant_of-self-2 g c =
     setting_of g.L.Layout.STATIC g.L.Layout.clone_wants g.S.Slice.DROPS g.S.Subsliceable.boundary in
     let slots = c.self.inside.slots.items in
     let has : g.L.Layout.STATIC ≡ true = search in
-    (lodges setting slots c.self.inside.passes.of_blocks.items c.self.invariant c.args.items _
+    (statics setting slots c.self.inside.passes.of_blocks.items c.self.invariant c.args.items _
     c.push_reserved.new.self.items has
     (behind slots _ c.push_reserved.ensures.items c.reserve.ensures.items
     ∙ ap (λ s. slots ++ Some s ∷ []) c.on_static.ensures) refl).kept
