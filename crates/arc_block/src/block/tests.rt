@@ -13,7 +13,9 @@ fn shared<A: Allocator + Copy>(
     pass: &mut Pass<Open>,
 ) -> Result<Block<Plain<u8>, A, 3, Open>, Fail>
     requires { IsPassFor block.now.owner pass.old }
-    ensures { IfOk result (λ other. MakesAnother block.now.owner pass.old pass.new other.owner) }
+    ensures made { IfOk result (λ other.
+        MakesAnother block.now.owner pass.old pass.new other.owner) }
+    ensures items { IfOk result (λ other. other.items ≡ block.now.items) }
 {
     match block.try_share_once_as(pass) {
         Some(made) => Ok(made?),
