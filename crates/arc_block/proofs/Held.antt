@@ -1,10 +1,10 @@
 -- What a layout holds it also holds after making, clones and cuts.
-use Rattle.std.proofs.Common.{◌≡◌, ℕ, ◌==◌, ◌&&◌, Bool, true, false, if◌then◌else◌, List, length, Option, Some, None, refl, sym, ap, subst}
+use Rattle.std.proofs.Common.{◌≡◌, ℕ, ◌==◌, ◌&&◌, Bool, true, false, if◌then◌else◌, List, length, Option, Some, None, refl, sym, subst}
 use Rattle.std.proofs.lemmas.Bool.{false≢true}
 use Rattle.arc_owners.specs.declared.count.tokens.Pass.{Pass}
 use Rattle.arc_owners.specs.count.Calls.{Owner}
 use Rattle.arc_block.specs.Block.{native_facts}
-use Rattle.arc_block.specs.Place.{Place, nowhere, static_data, on_block, moved, part_place, made_place}
+use Rattle.arc_block.specs.Place.{Place, nowhere, static_data, on_block, moved, part_place}
 use Rattle.arc_block.specs.Window.{Window, IsHeld}
 use Rattle.arc_block.specs.Steps.{Shares, Makes}
 

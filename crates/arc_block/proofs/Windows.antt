@@ -1,11 +1,10 @@
 -- What a window's parts are seen as: over a block, and cut.
-use Rattle.std.proofs.Common.{◌≡◌, ℕ, ◌+◌, ◌-◌, ◌≤◌, ◌==◌, ◌&&◌, Bool, true, false, if◌then◌else◌, List, [], length, take, drop, Option, Some, None, refl, sym, ap, ◌∙◌, subst, arith}
+use Rattle.std.proofs.Common.{◌≡◌, ℕ, ◌+◌, ◌-◌, ◌≤◌, ◌==◌, ◌&&◌, Bool, true, false, if◌then◌else◌, List, [], length, Option, Some, refl, sym, ap, ◌∙◌, subst, arith}
 use Rattle.std.proofs.lemmas.Bool.{eqb-true, false≢true}
 use Rattle.std.proofs.lemmas.List.{nil_from_length}
 use Rattle.arc_owners.specs.declared.count.tokens.Pass.{Pass}
 use Rattle.arc_owners.specs.count.Calls.{Owner, IsFirst, MakesAnother}
 use Rattle.arc_buffer.specs.Slice.{sub}
-use Rattle.arc_buffer.specs.Laws.{sub-slice_range}
 use Rattle.arc_buffer.proofs.Sub.{sub-sub, sub-whole, length-sub}
 use Rattle.arc_block.specs.Block.{BlockInfo, BlockView, native, native_facts, native_block}
 use Rattle.arc_block.specs.declared.block.TheConstants.{MAX_OWNERS}
@@ -13,7 +12,7 @@ use Rattle.arc_block.specs.Place.{Place, nowhere, static_data, on_block, moved, 
 use Rattle.arc_block.specs.Table.{reader}
 use Rattle.arc_block.specs.declared.parts.storage.Storage.{Storage}
 use Rattle.arc_block.specs.declared.parts.storage.Storage.TheVariants.{Nothing, Static, Block}
-use Rattle.arc_block.specs.Window.{Window, PartsView, parts_of, window_of, made_window, window_seen, IsWithin, IsNativeOf, IsWholeOf}
+use Rattle.arc_block.specs.Window.{PartsView, parts_of, window_of, made_window, window_seen, IsWithin, IsNativeOf, IsWholeOf}
 use Rattle.arc_block.specs.Steps.{Shares, Makes}
 
 stays : (place : Place (Option Owner) (Unit {0})) → moved 0 place ≡ place

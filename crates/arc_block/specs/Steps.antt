@@ -4,10 +4,10 @@ use Rattle.std.specs.Prelude.{◌≡◌, ℕ, Bool, true, false, Option, Some, N
 use Rattle.arc_owners.specs.declared.error.OwnerError.{OwnerError}
 use Rattle.arc_owners.specs.declared.error.OwnerError.TheVariants.{AllocError, CountFull}
 use Rattle.arc_owners.specs.declared.count.tokens.Pass.{Pass}
-use Rattle.arc_owners.specs.count.Invariant.{BlockId, Line}
-use Rattle.arc_owners.specs.count.Calls.{Owner, Appends, IsOfBlock, IsPassOf, IsPassOfNone}
-use Rattle.arc_owners.specs.count.Calls.{pass_block, pass_number, history_of, IsFirst, IsFreshPass}
-use Rattle.arc_owners.specs.count.Calls.{IsNewPass, FindsFull, MakesAnother, Asks}
+use Rattle.arc_owners.specs.count.Invariant.{Line}
+use Rattle.arc_owners.specs.count.Calls.{Owner, Appends, IsPassOf, IsPassOfNone}
+use Rattle.arc_owners.specs.count.Calls.{IsFirst, IsFreshPass}
+use Rattle.arc_owners.specs.count.Calls.{FindsFull, MakesAnother, Asks}
 use Rattle.arc_block.specs.Block.{Sort}
 use Rattle.arc_block.specs.Place.{Place, nowhere, static_data, on_block, at_owner}
 use Rattle.arc_block.specs.declared.block.TheConstants.{MAX_OWNERS}

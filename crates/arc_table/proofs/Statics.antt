@@ -42,9 +42,9 @@ module _ {T : Type 0} (setting : Setting T) (slots : List (Option (SlotView T)))
   t = old.table
 
   -- the layout has no static data
-  pub unlodged : (items : List T) → setting.has_static ≡ false
+  pub without_static : (items : List T) → setting.has_static ≡ false
       → Step setting t (command.Static items) reply.Kind t
-  unlodged items lacks =
+  without_static items lacks =
       ap (λ (b : Bool). if b then with_static t items else (reply.Kind, t)) lacks
 
   pub static-alloc : (items : List T) → setting.has_static ≡ true

@@ -178,8 +178,8 @@ in_range (Err e) t outcome = (reply.Range e, t)
 
 -- What a command is answered, and the table after it, where memory was refused so: after the tests
 -- of number, role and range, in this order, what it asks for, and then what it does. It is right of
--- rows that are read on native blocks, or on none: no command makes others yet. Of a writer it would
--- keep a capacity that isn't the part's, and `Uniq` doesn't ask the block's sort.
+-- rows that are read on native blocks, on static slices or on none: no command makes others yet. Of
+-- a writer it would keep a capacity that isn't the part's, and `Uniq` doesn't ask the block's sort.
 abbrev pub answer : {T M : Type 0} → Setting T → Shortage → Table T M → Cmd (List T) (List T)
     → Reply (List T) × Table T M
 answer setting short t (Slice items) = asking short t (founded setting t items)
@@ -217,7 +217,8 @@ answer setting short t (Trunc i len) = on_row t i (Trunc i len) (λ row.
 answer setting short t (Drop i) = on_row t i (Drop i) (λ row.
     (reply.Ok, record { rows = slice_set t.rows i None; blocks = t.blocks }))
 answer setting short t (TakeStatic i) = on_row t i (TakeStatic i) (λ row.
-    if is_some (block_of row.place) then (reply.Refused, t) else asking short t (taking_items t i row))
+    if is_some (block_of row.place) then (reply.Refused, t)
+    else asking short t (taking_items t i row))
 
 -- From old, the table may give this reply to the command and go on to new: it is the answer, where
 -- memory was refused as the reply tells. A refusal changes nothing.

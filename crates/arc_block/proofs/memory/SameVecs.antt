@@ -4,7 +4,7 @@ use mathlib.Core.HLevel.{is_prop→PathP}
 use native.Mathlib.Nat.{ℕ_set}
 use Rattle.std.proofs.Math.Bridge.{le_prop}
 use Rattle.std.specs.declared.vec.Vec.{Vec}
-use Rattle.arc_block.specs.Memory.{Extent, extent_of}
+use Rattle.arc_block.specs.Memory.{extent_of}
 
 pub same_vec : {T A : Type 0} (v w : Vec T A) → extent_of v ≡ extent_of w → v.items ≡ w.items → v ≡ w
 same_vec v w extent items = λ i. record {

@@ -1,5 +1,5 @@
 -- The vector that comes back is the one that came in.
-use Rattle.std.proofs.Common.{IfErr, ap, ◌∙◌, subst}
+use Rattle.std.proofs.Common.{ap, ◌∙◌}
 use Rattle.arc_block.proofs.memory.SameVecs.{same_vec}
 use Rattle.arc_block.proofs.block.Block.try_from_exact.Goals as goal
 

@@ -1,5 +1,5 @@
 -- The parts are all of the new block.
-use Rattle.std.proofs.Common.{Some, length, sym, ap, ◌∙◌, subst}
+use Rattle.std.proofs.Common.{sym, ap, ◌∙◌, subst}
 use Rattle.arc_block.specs.Block.{BlockView}
 use Rattle.arc_block.specs.declared.parts.storage.Storage.TheVariants.{Block}
 use Rattle.arc_block.specs.Window.{parts_of, window_of, window_seen}

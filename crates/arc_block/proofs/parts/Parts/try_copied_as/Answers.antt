@@ -1,5 +1,5 @@
 -- No items stand on nothing.
-use Rattle.std.proofs.Common.{◌&&◌, ◌==◌, length, ap, sym, ◌∙◌, subst}
+use Rattle.std.proofs.Common.{sym, subst}
 use Rattle.arc_block.specs.Window.{window_of}
 use Rattle.arc_block.specs.Steps.{Makes}
 use Rattle.arc_block.proofs.Windows.{made_on_nothing, owner_for}
