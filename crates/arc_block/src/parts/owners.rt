@@ -23,7 +23,8 @@ impl<S: Slice, A: Allocator + Copy, H: Mark> Parts<S, A, H> {
     ///
     /// # Errors
     ///
-    /// `CountFull` exactly where `MAX_OWNERS` owners live.
+    /// On a block `CountFull`, exactly where `MAX_OWNERS` owners live, and `AllocError`, only where
+    /// the layout's clones may want memory on a block of its sort.
     ///
     /// # History
     ///
@@ -66,7 +67,7 @@ impl<S: Slice, A: Allocator + Copy, H: Mark> Parts<S, A, H> {
     ///
     /// # Errors
     ///
-    /// `CountFull` exactly where `MAX_OWNERS` owners live.
+    /// Those of `try_clone_once_as`, where the part stands on a block.
     ///
     /// # History
     ///

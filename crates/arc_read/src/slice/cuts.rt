@@ -36,12 +36,13 @@ impl<S: Slice, L: Layout, A: Allocator + Copy, H: Mark> ArcSlice<S, L, A, H> {
 
     /// Another window with the same items at the same place, an owner more of the block.
     ///
-    /// Takes no memory and copies no item. It takes `rt` since an attempt that another thread
-    /// disturbs is tried again.
+    /// Copies no item, and takes no memory but where the layout's clones want it. It takes `rt`
+    /// since an attempt that another thread disturbs is tried again.
     ///
     /// # Errors
     ///
-    /// `CountFull` exactly where `MAX_OWNERS` owners live.
+    /// On a block `CountFull`, exactly where `MAX_OWNERS` owners live, and `AllocError`, only where
+    /// the layout's clones may want memory on a block of its sort.
     ///
     /// # History
     ///
@@ -103,12 +104,12 @@ impl<S: Slice, L: Layout, A: Allocator + Copy, H: Mark> ArcSlice<S, L, A, H> {
     /// A window over the items from `start` to `end`, an owner more of the block. With no items it
     /// stands on nothing where the layout has static data, and nothing is added.
     ///
-    /// Takes no memory and copies no item. It takes `rt` since an attempt that another thread
-    /// disturbs is tried again.
+    /// Copies no item, and takes no memory but where the layout's clones want it. It takes `rt`
+    /// since an attempt that another thread disturbs is tried again.
     ///
     /// # Errors
     ///
-    /// `CountFull` exactly where `MAX_OWNERS` owners live.
+    /// Those of `try_clone_as`, where the part stands on a block.
     ///
     /// # History
     ///

@@ -60,7 +60,9 @@ impl<S: Slice, L: Layout, A: Allocator + Copy, H: Stepping> ArcSlice<S, L, A, H>
 
     /// Another window with the same items at the same place: `try_clone_as` with a new pass.
     ///
-    /// Takes no memory and copies no item. `CountFull` exactly where `MAX_OWNERS` owners live.
+    /// # Errors
+    ///
+    /// Those of `try_clone_as`.
     #[inline(always)]
     pub fn try_clone(&self, rt: &impl Wait) -> Result<Self, OwnerError>
         ensures items { IfOk result (λ window. window.items ≡ self.now.items) }
@@ -80,7 +82,9 @@ impl<S: Slice, L: Layout, A: Allocator + Copy, H: Stepping> ArcSlice<S, L, A, H>
     /// A window over the items from `start` to `end`: `try_subslice_as` with a new pass of this
     /// window's block.
     ///
-    /// Takes no memory and copies no item. `CountFull` exactly where `MAX_OWNERS` owners live.
+    /// # Errors
+    ///
+    /// Those of `try_subslice_as`.
     #[inline(always)]
     pub fn try_subslice(&self, rt: &impl Wait, start: usize, end: usize) -> Result<Self, OwnerError>
     where

@@ -30,8 +30,12 @@ impl<S: Subsliceable, L: Layout, A: Allocator + Copy, H: Mark> ArcSlice<S, L, A,
     /// items. That part stands on nothing where it has no items and the layout has static data;
     /// else Up is added, or Full where refused.
     ///
-    /// Takes no memory and copies no item. `CountFull` exactly where `MAX_OWNERS` owners live; the
-    /// window is then as before.
+    /// Copies no item.
+    ///
+    /// # Errors
+    ///
+    /// Those of `try_clone_as`, where the part that is new stands on a block. The window is then as
+    /// before.
     pub fn try_split_off_as(
         &mut self,
         rt: &impl Wait,
@@ -63,8 +67,12 @@ impl<S: Subsliceable, L: Layout, A: Allocator + Copy, H: Mark> ArcSlice<S, L, A,
     /// has no items. That part stands on nothing where it has no items and the layout has static
     /// data; else Up is added, or Full where refused.
     ///
-    /// Takes no memory and copies no item. `CountFull` exactly where `MAX_OWNERS` owners live; the
-    /// window is then as before.
+    /// Copies no item.
+    ///
+    /// # Errors
+    ///
+    /// Those of `try_clone_as`, where the part that is new stands on a block. The window is then as
+    /// before.
     pub fn try_split_to_as(
         &mut self,
         rt: &impl Wait,
@@ -96,8 +104,12 @@ impl<S: Subsliceable, L: Layout, A: Allocator + Copy, H: Mark> ArcSlice<S, L, A,
 impl<S: Subsliceable, L: Layout, A: Allocator + Copy, H: Stepping> ArcSlice<S, L, A, H> {
     /// Splits the window at `at` and hands out the back: `try_split_off_as` with a new pass.
     ///
-    /// Takes no memory and copies no item. `CountFull` exactly where `MAX_OWNERS` owners live; the
-    /// window is then as before.
+    /// Copies no item.
+    ///
+    /// # Errors
+    ///
+    /// Those of `try_clone_as`, where the part that is new stands on a block. The window is then as
+    /// before.
     pub fn try_split_off(&mut self, rt: &impl Wait, at: usize) -> Result<Self, OwnerError>
         requires { IsEdge S.boundary self.old.items at }
         ensures ok { IfOk result (λ back. WithNewPass {H = H} H.real self.old.place (λ first last.
@@ -117,8 +129,12 @@ impl<S: Subsliceable, L: Layout, A: Allocator + Copy, H: Stepping> ArcSlice<S, L
 
     /// Splits the window at `at` and hands out the front: `try_split_to_as` with a new pass.
     ///
-    /// Takes no memory and copies no item. `CountFull` exactly where `MAX_OWNERS` owners live; the
-    /// window is then as before.
+    /// Copies no item.
+    ///
+    /// # Errors
+    ///
+    /// Those of `try_clone_as`, where the part that is new stands on a block. The window is then as
+    /// before.
     pub fn try_split_to(&mut self, rt: &impl Wait, at: usize) -> Result<Self, OwnerError>
         requires { IsEdge S.boundary self.old.items at }
         ensures ok { IfOk result (λ front. WithNewPass {H = H} H.real self.old.place (λ first last.
