@@ -1,11 +1,11 @@
 -- What is lent for good can be had again, is had for any lifetime, and the items before an end are
 -- a slice. Assumes `Logic`.
-use Rattle.std.proofs.Common.{◌≡◌, ℕ, zero, suc, ◌+◌, ◌*◌, ◌^◌, ◌≤◌, List, [], ◌∷◌, length, take, refl, sym, ap, length-take-le, arith}
+use Rattle.std.proofs.Common.{◌≡◌, ℕ, zero, suc, ◌+◌, ◌*◌, ◌^◌, ◌≤◌, List, [], ◌∷◌, length, take, refl, sym, ap, subst, length-take-le, arith}
 use native.Mathlib.Nat.{mul-le-mul_right, lt_of_le_of_lt}
 use seplogic.Ra.Ura.{Ura}
 use mir.Syntax.{Lifetime}
 use mir.Val.{Val, vstruct, vcons, vnil}
-use base.Logic.{ent, sep, wand, mono_r, apply∗}
+use base.Logic.{ent, id⊢, sep, wand, mono_r, apply∗}
 use contract.Conj.{top}
 use base.Fml.{Lft, Fml, ftrue, fsep, fbor}
 use base.Shift.{Keyless}
@@ -26,7 +26,7 @@ use denote.Slice.{ShrSlice, room, elements_shared, elements_shr_laws, slice_val}
 use denote.Struct.Lending.{Lends, in_block_pure, in_block_says}
 use denote.Struct.Owning.{shape, to}
 use denote.Struct.Struct.{Struct}
-use Rattle.arc_block.specs.contracts.static_slice.Forever as Forever
+use Rattle.arc_block.specs.contracts.static_slice.StaticShare as StaticShare
 use Rattle.arc_block.specs.StaticSlices.{slice_lent}
 
 -- a slice begins where its items do
@@ -81,13 +81,22 @@ module _ (R : RattleType) {M : Type 1} {𝓤 : Ura M} (𝓛 : Logic 𝓤) (κ : 
       flt_i ! (length ys * (mem R).size) (2 ^ 63) (lt_of_le_of_lt (mul-le-mul_right (mem R).size fewer) bytes) $ flt_i ! (length ys) (2 ^ 64) (lt_of_le_of_lt fewer count) $ fjoin ! $
       feq_i ! (List Val) (slice_val (start_of p) n ∷ []) (slice_val (start_of p) (length ys) ∷ []) (ap (λ k. slice_val (start_of p) k ∷ []) (sym long)) $ fjoin ! $ fjoin ! $ move ! (1 ∷ 0 ∷ []) $ done !))
 
+-- where no items lie, none are lent for good
+pub none_lent : (R : RattleType) (p : Ptr) (xs : List R.Denot) (κ : Lft) {M : Type 1} {𝓤 : Ura M}
+    (𝓛 : Logic 𝓤) → xs ≡ []
+    → ent 𝓤 (sem 𝓛 (slice_lent R p xs κ)) (sem 𝓛 (slice_lent R p [] []))
+none_lent R p xs κ {𝓤 = 𝓤} 𝓛 is =
+    subst (λ (ys : List R.Denot).
+    ent 𝓤 (sem 𝓛 (slice_lent R p ys κ)) (sem 𝓛 (slice_lent R p [] []))) (sym is)
+    (id⊢ 𝓤 (sem 𝓛 (slice_lent R p [] [])))
+
 -- the one machine value of what is lent for good: it has no bytes
 abbrev pub token : Val
 token = vstruct (vcons (vstruct vnil) vnil)
 
-pub forever_made : (R : RattleType) {M : Type 1} {𝓤 : Ura M} (𝓛 : Logic 𝓤) (d : (Forever.the_row R).Denot)
-    → ent 𝓤 (sem 𝓛 (slice_lent R d.ptr d.items [])) (sem 𝓛 ((Forever.the_row R).own_val d (token ∷ [])))
-forever_made R 𝓛 d = let fields : Fml = (Struct (shape (Forever.the_type R))).own_val (to (Forever.the_type R) d) (token ∷ []) in
+pub share_made : (R : RattleType) {M : Type 1} {𝓤 : Ura M} (𝓛 : Logic 𝓤) (d : (StaticShare.the_row R).Denot)
+    → ent 𝓤 (sem 𝓛 (slice_lent R d.ptr d.items [])) (sem 𝓛 ((StaticShare.the_row R).own_val d (token ∷ [])))
+share_made R 𝓛 d = let fields : Fml = (Struct (shape (StaticShare.the_type R))).own_val (to (StaticShare.the_type R) d) (token ∷ []) in
     qed 𝓛 (‵ (slice_lent R d.ptr d.items []) ∷ []) ∵
     use0 𝓛 (‵ fields) (makes_shadow 𝓛 fields (λ vss. (tt, ((λ uss. (tt, tt)), tt))) ((vstruct vnil ∷ [], tt), (refl, ((tt, (refl, tt)), tt)))) $ fjoin ! $ done !
 

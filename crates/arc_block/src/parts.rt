@@ -5,7 +5,7 @@
 //! kind, and where it may be cut, is known to the windows alone.
 ghost use Rattle.std.specs.Prelude.{◌≡◌, ◌≤◌, ◌==◌, ◌&&◌, false, length, [], IfOk, IfErr, OnErr};
 ghost use Rattle.arc_buffer.specs.Slice.{sub};
-ghost use Rattle.arc_owners.specs.count.Calls.{IsFirst, IsFreshPass};
+ghost use Rattle.arc_owners.specs.count.Calls.{IsFirst, IsFreshPass, IsPassOfNone};
 ghost use Rattle.arc_block.specs.Block.{native_block};
 ghost use Rattle.arc_block.specs.Place.{nowhere, static_data, moved};
 ghost use Rattle.arc_block.specs.Table.{reader};
@@ -78,15 +78,14 @@ impl<S: Slice, A: Allocator + Copy, H: Mark> Parts<S, A, H> {
     }
 
     /// A slice that is there for good. No owner has it.
-    pub fn on_static(alloc: A, items: &'static [S::Item]) -> Self
-    where
-        S::Item: 'static,
-        ensures { result ≡ record { items = items.now; place = static_data; role = reader } }
+    pub fn on_static(alloc: A, items: StaticSlice<S::Item>) -> Self
+        ensures { result ≡ record { items = items; place = static_data; role = reader } }
     {
+        let StaticSlice { items, start, end } = items;
         Parts {
-            on: Storage::Static(StaticSlice::new(items)),
-            start: 0,
-            end: items.len(),
+            on: Storage::Static(items),
+            start,
+            end,
             alloc,
         }
     }
@@ -126,13 +125,14 @@ impl<S: Slice, A: Allocator + Copy, H: Mark> Parts<S, A, H> {
     /// # Allocates
     ///
     /// Where the items need a block.
-    pub fn try_copied_as<L: Layout>(
+    pub fn try_from_slice_as<L: Layout>(
         alloc: A,
         items: &[S::Item],
         pass: &mut Pass<H>,
     ) -> Result<Self, AllocError>
     where
         S::Item: Copy,
+        requires pass { IsPassOfNone pass.old }
         ensures made { IfOk result (λ parts.
             Makes L.STATIC S.DROPS H.whole items.now (window_of parts)) }
         ensures role { IfOk result (λ parts. parts.role ≡ reader) }
@@ -146,7 +146,7 @@ impl<S: Slice, A: Allocator + Copy, H: Mark> Parts<S, A, H> {
         Ok(Self::over_new::<L>(alloc, block, new, pass))
     }
 
-    /// An array's items, which are moved as `try_copied_as` copies.
+    /// An array's items, which are moved as `try_from_slice_as` copies.
     ///
     /// # Errors
     ///
@@ -155,11 +155,12 @@ impl<S: Slice, A: Allocator + Copy, H: Mark> Parts<S, A, H> {
     /// # Allocates
     ///
     /// Where the items need a block.
-    pub fn try_moved_as<L: Layout, const N: usize>(
+    pub fn try_from_array_as<L: Layout, const N: usize>(
         alloc: A,
         array: [S::Item; N],
         pass: &mut Pass<H>,
     ) -> Result<Self, [S::Item; N]>
+        requires pass { IsPassOfNone pass.old }
         ensures made { IfOk result (λ parts.
             Makes L.STATIC S.DROPS H.whole array (window_of parts)) }
         ensures role { IfOk result (λ parts. parts.role ≡ reader) }
@@ -200,7 +201,8 @@ impl<S: Slice, A: Allocator + Copy, H: Mark> Parts<S, A, H> {
     /// Leaves the items from `start` to `end`, where they stand, also where these are none.
     #[inline(always)]
     pub fn keep(&mut self, start: usize, end: usize)
-        requires { (start ≤ end) × (end ≤ length self.old.items) }
+        requires range { (start ≤ end) × (end ≤ length self.old.items) }
+        requires role { self.old.role ≡ reader }
         ensures { self.new ≡ record {
           items = sub self.old.items start end;
           place = moved start self.old.place;

@@ -4,38 +4,36 @@ ghost use denote.RawPtr.{Ptr};
 ghost use Rattle.arc_buffer.specs.Slice.{sub};
 ghost use Rattle.arc_block.specs.StaticSlices.{slice_lent};
 
+use crate::memory::Base;
 use std::marker::{Model, PhantomData};
 use std::slice;
 
 /// That items lie side by side at a place for good, for all to read. It has no bytes, and can be
-/// had again.
-///
-/// It is for who keeps the place and a range himself: then a read is one sum and one difference,
-/// and no load. Contracts see the place and the items.
+/// had again. Contracts see the place and the items.
 #[derive(Drop)]
-pub struct Forever<T> {
+struct StaticShare<T> {
     mark: PhantomData<*const T>,
-    pub ghost ptr: { Ptr },
-    pub ghost items: { List T },
+    ghost ptr: { Ptr },
+    ghost items: { List T },
 }
 
-impl<T> Model for Forever<T> {
+impl<T> Model for StaticShare<T> {
     ghost also_owns = { λ f. slice_lent T.row f.ptr f.items [] };
 
     ghost also_shares = { λ f _ _. slice_lent T.row f.ptr f.items [] };
 }
 
-unsafe impl<T: Sync> Send for Forever<T> {}
+unsafe impl<T: Sync> Send for StaticShare<T> {}
 
-unsafe impl<T: Sync> Sync for Forever<T> {}
+unsafe impl<T: Sync> Sync for StaticShare<T> {}
 
-impl<T: 'static> Forever<T> {
+impl<T: 'static> StaticShare<T> {
     /// Where a slice's items begin, and that they lie there for good.
     #[inline(always)]
-    pub fn of(items: &'static [T]) -> (*const T, Forever<T>)
+    fn of(items: &'static [T]) -> (*const T, StaticShare<T>)
         ensures { (result.1.ptr ≡ result.0) × (result.1.items ≡ items.now) }
     {
-        (items.as_ptr(), Forever { mark: PhantomData })
+        (items.as_ptr(), StaticShare { mark: PhantomData })
     }
 
     /// The items before `end`, for good. `base` is where they begin.
@@ -50,7 +48,7 @@ impl<T: 'static> Forever<T> {
     /// The items from `start` to before `end`, for good. `base` is where all begin. Reads no
     /// memory.
     #[inline(always)]
-    pub fn as_static(&self, base: *const T, start: usize, end: usize) -> &'static [T]
+    fn as_static(&self, base: *const T, start: usize, end: usize) -> &'static [T]
         requires place { base ≡ self.now.ptr }
         requires range { (start ≤ end) × (end ≤ length self.now.items) }
         ensures { result.now ≡ sub self.now.items start end }
@@ -59,13 +57,22 @@ impl<T: 'static> Forever<T> {
     }
 }
 
-impl<T> Forever<T> {
+impl<T> StaticShare<T> {
+    /// No items lie where a slice without items begins, for good, whatever its lifetime.
+    #[inline(always)]
+    fn of_none(none: &[T]) -> (*const T, StaticShare<T>)
+        requires { none.now ≡ [] }
+        ensures { (result.1.ptr ≡ result.0) × (result.1.items ≡ []) }
+    {
+        (none.as_ptr(), StaticShare { mark: PhantomData })
+    }
+
     /// The same again.
     #[inline(always)]
-    pub fn again(&self) -> Forever<T>
+    fn again(&self) -> StaticShare<T>
         ensures { result ≡ self.now }
     {
-        Forever { mark: PhantomData }
+        StaticShare { mark: PhantomData }
     }
 
     /// The items before `end`. `base` is where they begin.
@@ -79,7 +86,7 @@ impl<T> Forever<T> {
 
     /// The items from `start` to before `end`. `base` is where all begin. Reads no memory.
     #[inline(always)]
-    pub fn as_slice(&self, base: *const T, start: usize, end: usize) -> &[T]
+    fn as_slice(&self, base: *const T, start: usize, end: usize) -> &[T]
         requires place { base ≡ self.now.ptr }
         requires range { (start ≤ end) × (end ≤ length self.now.items) }
         ensures { result.now ≡ sub self.now.items start end }
@@ -88,29 +95,77 @@ impl<T> Forever<T> {
     }
 }
 
+/// Items that lie side by side for good, with the place where they begin. Contracts see the items.
+///
+/// It is one word, for who keeps a range himself: a read is one sum and one difference, and reads
+/// no memory.
+#[derive(Drop)]
+pub(crate) struct StaticItems<T> {
+    base: Base<T>,
+    share: StaticShare<T>,
+}
+
+impl<T> Model for StaticItems<T> {
+    ghost Value = { List T };
+
+    ghost view = { λ s. s.share.items };
+
+    ghost invariant = { λ s. s.base.at ≡ s.share.ptr };
+}
+
+impl<T> StaticItems<T> {
+    /// No items.
+    #[inline(always)]
+    fn none() -> Self
+        ensures { result ≡ [] }
+    {
+        let (at, share) = StaticShare::of_none(&[]);
+        StaticItems {
+            base: Base { at },
+            share,
+        }
+    }
+
+    /// The items from `start` to before `end`.
+    #[inline(always)]
+    pub(crate) fn range(&self, start: usize, end: usize) -> &[T]
+        requires { (start ≤ end) × (end ≤ length self.now) }
+        ensures { result.now ≡ sub self.now start end }
+    {
+        self.share.as_slice(self.base.at, start, end)
+    }
+
+    /// The same again.
+    #[inline(always)]
+    pub(crate) fn again(&self) -> Self
+        ensures { result ≡ self.now }
+    {
+        StaticItems {
+            base: Base { at: self.base.at },
+            share: self.share.again(),
+        }
+    }
+}
+
 /// A slice that is there for good, without a lifetime in its type: it may lie in a vector or an
 /// enum, and go to generic functions and other threads. Contracts see its items.
 ///
-/// It is two words, a place and a length, whatever its items are. No call takes memory or copies an
-/// item, and a drop does nothing.
+/// It is three words, a place and a range, whatever its items are. No call takes memory or copies
+/// an item, and a drop does nothing.
 #[derive(Drop)]
 pub struct StaticSlice<T> {
-    ptr: *const T,
-    len: usize,
-    kept: Forever<T>,
+    pub(crate) items: StaticItems<T>,
+    pub(crate) start: usize,
+    pub(crate) end: usize,
 }
 
 impl<T> Model for StaticSlice<T> {
     ghost Value = { List T };
 
-    ghost view = { λ s. s.kept.items };
+    ghost view = { λ s. sub s.items s.start s.end };
 
-    ghost invariant = { λ s. (s.ptr ≡ s.kept.ptr) × (s.len ≡ length s.kept.items) };
+    ghost invariant = { λ s. (s.start ≤ s.end) × (s.end ≤ length s.items) };
 }
-
-unsafe impl<T: Sync> Send for StaticSlice<T> {}
-
-unsafe impl<T: Sync> Sync for StaticSlice<T> {}
 
 impl<T: 'static> StaticSlice<T> {
     /// The slice, without its lifetime.
@@ -118,11 +173,12 @@ impl<T: 'static> StaticSlice<T> {
     pub fn new(items: &'static [T]) -> Self
         ensures { result ≡ items.now }
     {
-        let (ptr, kept) = Forever::of(items);
+        let (at, share) = StaticShare::of(items);
+        let base = Base { at };
         StaticSlice {
-            ptr,
-            len: items.len(),
-            kept,
+            items: StaticItems { base, share },
+            start: 0,
+            end: items.len(),
         }
     }
 
@@ -131,7 +187,8 @@ impl<T: 'static> StaticSlice<T> {
     pub fn as_static(&self) -> &'static [T]
         ensures { result.now ≡ self.now }
     {
-        self.kept.as_static(self.ptr, 0, self.len)
+        let StaticItems { base, share } = &self.items;
+        share.as_static(base.at, self.start, self.end)
     }
 
     /// The items, for good.
@@ -148,26 +205,29 @@ impl<T: 'static> StaticSlice<T> {
         requires { (start ≤ end) × (end ≤ length self.now) }
         ensures { result.now ≡ sub self.now start end }
     {
-        self.kept.as_static(self.ptr, start, end)
-    }
-
-    /// The items from `start` to before `end`.
-    #[inline(always)]
-    pub fn part(&self, start: usize, end: usize) -> Self
-        requires { (start ≤ end) × (end ≤ length self.now) }
-        ensures { result ≡ sub self.now start end }
-    {
-        Self::new(self.range_static(start, end))
+        self.part(start, end).into_static()
     }
 }
 
 impl<T> StaticSlice<T> {
+    /// No items.
+    #[inline(always)]
+    pub fn empty() -> Self
+        ensures { result ≡ [] }
+    {
+        StaticSlice {
+            items: StaticItems::none(),
+            start: 0,
+            end: 0,
+        }
+    }
+
     /// How many items there are.
     #[inline(always)]
     pub fn len(&self) -> usize
         ensures { result ≡ length self.now }
     {
-        self.len
+        self.end - self.start
     }
 
     /// Whether there are no items.
@@ -175,7 +235,7 @@ impl<T> StaticSlice<T> {
     pub fn is_empty(&self) -> bool
         ensures { result ≡ (length self.now == 0) }
     {
-        self.len == 0
+        self.len() == 0
     }
 
     /// The items from `start` to before `end`. Reads no memory.
@@ -184,7 +244,7 @@ impl<T> StaticSlice<T> {
         requires { (start ≤ end) × (end ≤ length self.now) }
         ensures { result.now ≡ sub self.now start end }
     {
-        self.kept.as_slice(self.ptr, start, end)
+        &self.as_slice()[..end][start..]
     }
 
     /// The items.
@@ -192,7 +252,20 @@ impl<T> StaticSlice<T> {
     pub fn as_slice(&self) -> &[T]
         ensures { result.now ≡ self.now }
     {
-        self.kept.as_slice(self.ptr, 0, self.len)
+        self.items.range(self.start, self.end)
+    }
+
+    /// The items from `start` to before `end`.
+    #[inline(always)]
+    pub fn part(&self, start: usize, end: usize) -> Self
+        requires { (start ≤ end) × (end ≤ length self.now) }
+        ensures { result ≡ sub self.now start end }
+    {
+        StaticSlice {
+            items: self.items.again(),
+            start: self.start + start,
+            end: self.start + end,
+        }
     }
 
     /// The same again.
@@ -201,9 +274,9 @@ impl<T> StaticSlice<T> {
         ensures { result ≡ self.now }
     {
         StaticSlice {
-            ptr: self.ptr,
-            len: self.len,
-            kept: self.kept.again(),
+            items: self.items.again(),
+            start: self.start,
+            end: self.end,
         }
     }
 }

@@ -8,6 +8,7 @@ ghost use Rattle.arc_block.specs.Steps.{IsPassAt, RefusesArray};
 
 use super::Parts;
 use super::storage::Storage;
+use crate::static_slice::StaticSlice;
 use arc_buffer::kinds::Slice;
 use arc_owners::mark::Mark;
 use arc_owners::owners::Pass;
@@ -151,17 +152,19 @@ impl<S: Slice, A: Allocator + Copy, H: Mark> Parts<S, A, H> {
     /// # Errors
     ///
     /// The parts, exactly where they stand on a block.
-    pub fn try_into_static(self) -> Result<&'static [S::Item], Self>
-    where
-        S::Item: 'static,
-        ensures taken { IfOk result (λ items. (items.now ≡ self.items)
-            × ¬ IsOnBlock self.place) }
+    pub fn try_into_static(self) -> Result<StaticSlice<S::Item>, Self>
+        requires role { self.role ≡ reader }
+        ensures taken { IfOk result (λ items. (items ≡ self.items) × ¬ IsOnBlock self.place) }
         ensures refused { IfErr result (λ parts. (parts ≡ self) × IsOnBlock self.place) }
     {
         match &self.on {
             Storage::Block(_) => Err(self),
-            Storage::Static(items) => Ok(items.range_static(self.start, self.end)),
-            Storage::Nothing => Ok(&[]),
+            Storage::Static(items) => Ok(StaticSlice {
+                items: items.again(),
+                start: self.start,
+                end: self.end,
+            }),
+            Storage::Nothing => Ok(StaticSlice::empty()),
         }
     }
 }

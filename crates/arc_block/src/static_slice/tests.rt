@@ -1,4 +1,4 @@
-ghost use Rattle.std.specs.Prelude.{◌≡◌, ◌≤◌, length};
+ghost use Rattle.std.specs.Prelude.{◌≡◌, ◌≤◌, [], length};
 ghost use Rattle.arc_buffer.specs.Slice.{sub};
 
 use super::*;
@@ -36,6 +36,14 @@ fn lengths<T>(one: &StaticSlice<T>, two: &StaticSlice<T>) -> (usize, usize)
     (one.as_slice().len(), two.len())
 }
 
+/// No items, of the type of these.
+fn empty_beside<T>(items: &[T]) -> StaticSlice<T>
+    ensures { result ≡ [] }
+{
+    let _ = items;
+    StaticSlice::empty()
+}
+
 #[test]
 fn made_read_and_cut(rt: HostRuntime) -> Result<(), Fail> {
     let whole = StaticSlice::new(b"Hello");
@@ -49,6 +57,17 @@ fn made_read_and_cut(rt: HostRuntime) -> Result<(), Fail> {
     assert!(rt; none.is_empty());
     assert_eq!(rt; none.as_slice(), b"".as_slice());
     assert_eq!(rt; lengths(&whole, &none), (5, 0));
+    Ok(())
+}
+
+/// No items, of a type with any lifetime.
+#[test]
+fn empty_of_any_items(rt: HostRuntime) -> Result<(), Fail> {
+    let number = 7u32;
+    let one: [&u32; 1] = [&number];
+    let none = empty_beside(&one);
+    assert!(rt; none.is_empty());
+    assert_eq!(rt; none.part(0, 0).as_slice().len(), 0);
     Ok(())
 }
 
@@ -122,7 +141,7 @@ fn items_that_are_references(rt: HostRuntime) -> Result<(), Fail> {
 /// Who keeps place and range asks what is lent for good alone.
 #[test]
 fn read_by_place_and_range(rt: HostRuntime) -> Result<(), Fail> {
-    let (base, kept) = Forever::of(b"Hello");
+    let (base, kept) = StaticShare::of(b"Hello");
     let again = kept.again();
     assert_eq!(rt; kept.as_slice(base, 0, 5), b"Hello".as_slice());
     assert_eq!(rt; again.as_slice(base, 1, 4), b"ell".as_slice());
@@ -134,8 +153,9 @@ fn read_by_place_and_range(rt: HostRuntime) -> Result<(), Fail> {
 }
 
 #[test]
-fn two_words_of_memory(rt: HostRuntime) -> Result<(), Fail> {
-    assert_eq!(rt; Layout::new::<StaticSlice<u8>>().size(), 16);
-    assert_eq!(rt; Layout::new::<Forever<u8>>().size(), 0);
+fn three_words_of_memory(rt: HostRuntime) -> Result<(), Fail> {
+    assert_eq!(rt; Layout::new::<StaticSlice<u8>>().size(), 24);
+    assert_eq!(rt; Layout::new::<StaticItems<u8>>().size(), 8);
+    assert_eq!(rt; Layout::new::<StaticShare<u8>>().size(), 0);
     Ok(())
 }

@@ -8,6 +8,7 @@ ghost use Rattle.arc_block.specs.Steps.{Makes, Begins};
 use super::ArcSlice;
 use arc_block::layout::{Layout, StaticLayout};
 use arc_block::parts::Parts;
+use arc_block::static_slice::StaticSlice;
 use arc_buffer::kinds::{AnyItems, CopySlice, Slice};
 use arc_owners::error::AllocError;
 use arc_owners::mark::{Mark, Open};
@@ -17,7 +18,7 @@ use std::alloc::Allocator;
 impl<S: Slice, L: Layout, A: Allocator + Copy, H: Mark> ArcSlice<S, L, A, H> {
     /// A window over a copy of the items, which are legal.
     #[tactic(auto, using(arc_block::proofs::Held::made_held))]
-    pub(super) fn try_copied_as(
+    pub(super) fn try_from_legal_slice_as(
         alloc: A,
         items: &[S::Item],
         pass: &mut Pass<H>,
@@ -25,11 +26,12 @@ impl<S: Slice, L: Layout, A: Allocator + Copy, H: Mark> ArcSlice<S, L, A, H> {
     where
         S::Item: Copy,
         requires legal { ∥ S.is_legal items.now ∥₁ }
+        requires pass { IsPassOfNone pass.old }
         ensures ok { IfOk result (λ window. Makes L.STATIC S.DROPS H.whole items.now window) }
         ensures pass { IfOk result (λ window. Begins window pass.old pass.new) }
         ensures refused { OnErr result (NeedsBlock L.STATIC items.now × (pass.new ≡ pass.old)) }
     {
-        match Parts::try_copied_as::<L>(alloc, items, pass) {
+        match Parts::try_from_slice_as::<L>(alloc, items, pass) {
             Ok(parts) => Ok(Self::from_parts(parts)),
             Err(e) => Err(e),
         }
@@ -53,7 +55,7 @@ impl<S: Slice, L: Layout, A: Allocator + Copy, H: Mark> ArcSlice<S, L, A, H> {
         ensures pass { IfOk result (λ window. Begins window pass.old pass.new) }
         ensures refused { OnErr result (NeedsBlock L.STATIC items.now × (pass.new ≡ pass.old)) }
     {
-        Self::try_copied_as(alloc, items, pass)
+        Self::try_from_legal_slice_as(alloc, items, pass)
     }
 
     /// A window over an array's items, which are moved into a block as by `try_from_slice_as`.
@@ -72,7 +74,7 @@ impl<S: Slice, L: Layout, A: Allocator + Copy, H: Mark> ArcSlice<S, L, A, H> {
         ensures refused { IfErr result (λ back. (back ≡ array) × NeedsBlock L.STATIC array
             × (pass.new ≡ pass.old)) }
     {
-        match Parts::try_moved_as::<L, N>(alloc, array, pass) {
+        match Parts::try_from_array_as::<L, N>(alloc, array, pass) {
             Ok(parts) => Ok(Self::from_parts(parts)),
             Err(back) => Err(back),
         }
@@ -87,7 +89,7 @@ impl<S: AnyItems, L: StaticLayout, A: Allocator + Copy, H: Mark> ArcSlice<S, L, 
         S::Item: 'static,
         ensures { result ≡ record { items = items.now; place = static_data } }
     {
-        Self::from_parts(Parts::on_static(alloc, items))
+        Self::from_parts(Parts::on_static(alloc, StaticSlice::new(items)))
     }
 }
 

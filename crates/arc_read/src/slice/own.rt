@@ -60,7 +60,7 @@ impl<S: Slice, L: Layout, A: Allocator + Copy, H: Mark> ArcSlice<S, L, A, H> {
         ensures refused { IfErr result (λ window. (window ≡ self) × IsOnBlock self.place) }
     {
         match self.into_parts().try_into_static() {
-            Ok(items) => Ok(items),
+            Ok(items) => Ok(items.into_static()),
             Err(parts) => Err(Self::from_parts(parts)),
         }
     }

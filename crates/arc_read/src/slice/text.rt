@@ -10,6 +10,7 @@ ghost use Rattle.arc_block.specs.Steps.{Makes, Begins};
 use super::ArcSlice;
 use arc_block::layout::{Layout, StaticLayout};
 use arc_block::parts::Parts;
+use arc_block::static_slice::StaticSlice;
 use arc_buffer::kinds::{ByteText, Plain, Slice, Text};
 use arc_owners::error::AllocError;
 use arc_owners::mark::{Mark, Open};
@@ -31,7 +32,7 @@ impl<L: Layout, A: Allocator + Copy, H: Mark> ArcSlice<Text, L, A, H> {
         ensures pass { IfOk result (λ window. Begins window pass.old pass.new) }
         ensures refused { OnErr result (NeedsBlock L.STATIC text.now × (pass.new ≡ pass.old)) }
     {
-        Self::try_copied_as(alloc, text.as_bytes(), pass)
+        Self::try_from_legal_slice_as(alloc, text.as_bytes(), pass)
     }
 
     /// The text.
@@ -71,7 +72,7 @@ impl<L: StaticLayout, A: Allocator + Copy, H: Mark> ArcSlice<Text, L, A, H> {
     pub fn from_static_str(alloc: A, text: &'static str) -> Self
         ensures { result ≡ record { items = text.now; place = static_data } }
     {
-        Self::from_parts(Parts::on_static(alloc, text.as_bytes()))
+        Self::from_parts(Parts::on_static(alloc, StaticSlice::new(text.as_bytes())))
     }
 }
 

@@ -7,4 +7,4 @@ pub returns : goal.returns
 returns g c =
     let long = how_long _ _ _ c.args.self.now c.self.view_is c.self.invariant in
     kept_seen _ _ _ c.args.start c.args.end c.args.self.now c.self.view_is c.self.invariant
-    c.requires.0 (omega (arith, long, c.requires.1))
+    c.requires.range.0 (omega (arith, long, c.requires.range.1))

@@ -28,16 +28,16 @@ use denote.Triple.Walked.{Stays, stay_dropped, walk_of, Goes-dropped}
 use Rattle.std.specs.contracts.marker.PhantomData as marker
 use Rattle.std.proofs.raw_atomic.Walks.{proved, leaves}
 use Rattle.arc_block.specs.StaticSlices.{slice_lent}
-use Rattle.arc_block.proofs.StaticSlices.{token, forever_made}
-use Rattle.arc_block.specs.contracts.static_slice.Forever as Forever
-use Rattle.arc_block.specs.contracts.static_slice.Forever.again as f
-use Rattle.arc_block.proofs.static_slice.Forever.again.Statement.{statement}
-use Rattle.arc_block.proofs.static_slice.Forever.again.Code as code
+use Rattle.arc_block.proofs.StaticSlices.{token, share_made}
+use Rattle.arc_block.specs.contracts.static_slice.StaticShare as StaticShare
+use Rattle.arc_block.specs.contracts.static_slice.StaticShare.again as f
+use Rattle.arc_block.proofs.static_slice.StaticShare.again.Statement.{statement}
+use Rattle.arc_block.proofs.static_slice.StaticShare.again.Code as code
 
 pub again_spec : {M : Type 1} → statement M
 again_spec 𝓤 𝓛 𝓜 𝓡 wired T L =
     let H = 𝓛.H in let 𝓣 = tables 𝓤 H 𝓜 𝓡 𝓡.env in let R : RattleType = param 0 T in let En = f.ended T in let c = f.clauses T 𝓛 𝓜.mem 𝓡.returns in
-    let inst = layouts (a_type ∷ []) (T, tt) in let fn = inst_fn inst code.function in let Row : RattleType = Forever.the_row R in
+    let inst = layouts (a_type ∷ []) (T, tt) in let fn = inst_fn inst code.function in let Row : RattleType = StaticShare.the_row R in
     let hs : Stays En.signature.params En.kept = (stay_dropped (RefOf (0 ∷ []) tt (plain (λ _. Row)) (λ _. tt)) yes, tt) in
     proved 𝓛 En hs c 𝓜 𝓡 (Goes-dropped 𝓛 2 (RefOf (0 ∷ []) tt (plain (λ _. Row)) (λ _. tt)) yes (λ κs x w. refl), tt) (f.Key.name inst) fn (code.unfolded 𝓤 H 𝓜 𝓡 wired (T, tt))
     (λ κs. (shr_vals, tt)) (λ κs. (shr_Tells (named 0) κs.0 Row, tt)) (λ κs qs bounds a gh are.
@@ -46,9 +46,9 @@ again_spec 𝓤 𝓛 𝓜 𝓡 wired T L =
     qed 𝓛 ((‵ (fsep (flft κs.0 qs.0) (fsep (flft κs.1.0 qs.1.0) ftrue)) ⊛ ‵ (owns (types_at En.signature.params κs) a y.0.4)) ∷ raw ((c κs a).requires gh) ∷ []) ∵ keep ! (0 ∷ []) $ split ! $
     move ! (1 ∷ []) $ fsplit ! $ fsplit ! $ keep ! (1 ∷ 3 ∷ []) $
     -- [what is lent of it; the tokens]
-    use1 𝓛 (‵ (hidden_shr (Struct (shape (Forever.the_type R))) κs.0 (to (Forever.the_type R) me) b o) ⊛ ‵ (fhide (slice_lent R me.ptr me.items [])))
-    (lent_out 𝓛 (Forever.struct R) (Forever.the_codes R.Denot R.coded (marker.the_row RawPtr).coded) (Forever.the_heap R) (Forever.the_lent R) κs.0 me b o) $ split ! $ drop ! $ unhide ! $
-    use1 𝓛 (‵ (Row.own_val me (token ∷ []))) (forever_made R 𝓛 me) $
+    use1 𝓛 (‵ (hidden_shr (Struct (shape (StaticShare.the_type R))) κs.0 (to (StaticShare.the_type R) me) b o) ⊛ ‵ (fhide (slice_lent R me.ptr me.items [])))
+    (lent_out 𝓛 (StaticShare.struct R) (StaticShare.the_codes R.Denot R.coded (marker.the_row RawPtr).coded) (StaticShare.the_heap R) (StaticShare.the_lent R) κs.0 me b o) $ split ! $ drop ! $ unhide ! $
+    use1 𝓛 (‵ (Row.own_val me (token ∷ []))) (share_made R 𝓛 me) $
     enter ! 𝓣.C 𝓣.Λ fn (vptr b o ∷ []) Post $ alloc_all ! (λ l. pass_all ! refl ((tt, tt), tt) $
     sets ! (agg ! (no_more !)) refl (tt, tt) $ sets ! (agg ! (and_then ! (get ! refl) (no_more !))) refl (tt, (tt, tt)) $
     let Told : Type 0 = me ≡ me in use0 𝓛 (raw (fact 𝓤 Told)) (fact_i 𝓤 Told (emp 𝓤) refl) $ nothing ! $ nothing ! $ fjoin ! $

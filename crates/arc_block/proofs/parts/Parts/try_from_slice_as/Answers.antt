@@ -3,7 +3,7 @@ use Rattle.std.proofs.Common.{sym, subst}
 use Rattle.arc_block.specs.Window.{window_of}
 use Rattle.arc_block.specs.Steps.{Makes}
 use Rattle.arc_block.proofs.Windows.{made_on_nothing, owner_for}
-use Rattle.arc_block.proofs.parts.Parts.try_copied_as.Goals as goal
+use Rattle.arc_block.proofs.parts.Parts.try_from_slice_as.Goals as goal
 
 pub returns-then-stands_on_nothing-clause-made : goal.returns-then-stands_on_nothing-clause-made
 returns-then-stands_on_nothing-clause-made g c =

@@ -1,6 +1,6 @@
--- The items before an end are shown for as long as what is lent for good is borrowed.
+-- The items before an end are shown for good.
 use Rattle.std.proofs.Common.{◌≡◌, ◌≤◌, List, [], ◌∷◌, length, take, refl, sym, ap, ◌∙◌, subst}
-use mir.Syntax.{a_type, named, w64}
+use mir.Syntax.{a_type, named, static, w64}
 use mir.Val.{Val, vptr, vint}
 use mir.MapTy.{inst_fn}
 use base.Logic.{SProp, ent, emp, id⊢}
@@ -25,7 +25,6 @@ use denote.RawPtr.{Ptr, RawPtr, InBlock, block_ptr, ptr_val, block_of, count_of,
 use denote.Slice.{ShrSlice, slice_val}
 use denote.Steps.{nothing, heard}
 use denote.Param.{param, layouts}
-use denote.Param.Laws.{param_laws}
 use denote.Struct.Lending.{lent_out}
 use denote.Struct.Owning.{shape, to}
 use denote.Struct.Struct.{Struct}
@@ -34,30 +33,29 @@ use Rattle.std.specs.contracts.marker.PhantomData as marker
 use Rattle.std.proofs.VecSteps.Shapes.{after}
 use Rattle.std.proofs.raw_atomic.Walks.{proved, leaves}
 use Rattle.arc_block.specs.StaticSlices.{slice_lent}
-use Rattle.arc_block.proofs.StaticSlices.{start_of, kept_for, prefix_seen}
-use Rattle.arc_block.specs.contracts.static_slice.Forever as Forever
-use Rattle.arc_block.specs.contracts.static_slice.Forever.prefix as f
-use Rattle.arc_block.proofs.static_slice.Forever.prefix.Statement.{statement}
-use Rattle.arc_block.proofs.static_slice.Forever.prefix.Code as code
+use Rattle.arc_block.proofs.StaticSlices.{start_of, prefix_seen}
+use Rattle.arc_block.specs.contracts.static_slice.StaticShare as StaticShare
+use Rattle.arc_block.specs.contracts.static_slice.StaticShare.prefix_static as f
+use Rattle.arc_block.proofs.static_slice.StaticShare.prefix_static.Statement.{statement}
+use Rattle.arc_block.proofs.static_slice.StaticShare.prefix_static.Code as code
 
-pub prefix_spec : {M : Type 1} → statement M
-prefix_spec 𝓤 𝓛 𝓜 𝓡 wired T L =
-    let H = 𝓛.H in let 𝓣 = tables 𝓤 H 𝓜 𝓡 𝓡.env in let R : RattleType = param 0 T in let LR = param_laws 0 T L in let En = f.ended T in let c = f.clauses T 𝓛 𝓜.mem 𝓡.returns in
-    let inst = layouts (a_type ∷ []) (T, tt) in let fn = inst_fn inst code.function in let Row : RattleType = Forever.the_row R in
+pub prefix_static_spec : {M : Type 1} → statement M
+prefix_static_spec 𝓤 𝓛 𝓜 𝓡 wired T L =
+    let H = 𝓛.H in let 𝓣 = tables 𝓤 H 𝓜 𝓡 𝓡.env in let R : RattleType = param 0 T in let En = f.ended T in let c = f.clauses T 𝓛 𝓜.mem 𝓡.returns in
+    let inst = layouts (a_type ∷ []) (T, tt) in let fn = inst_fn inst code.function in let Row : RattleType = StaticShare.the_row R in
     let hs : Stays En.signature.params En.kept = (stay_dropped (RefOf (0 ∷ []) tt (plain (λ _. Row)) (λ _. tt)) yes, (stay_dropped (plain (λ _. RawPtr)) yes, (stay_dropped (plain (λ _. usize)) yes, tt))) in
     proved 𝓛 En hs c 𝓜 𝓡 (Goes-dropped 𝓛 2 (RefOf (0 ∷ []) tt (plain (λ _. Row)) (λ _. tt)) yes (λ κs x w. refl), (Goes-dropped 𝓛 2 (plain (λ _. RawPtr)) yes (λ κs x w. refl), (Goes-dropped 𝓛 2 (plain (λ _. usize)) yes (λ κs x w. refl), tt))) (f.Key.name inst) fn (code.unfolded 𝓤 H 𝓜 𝓡 wired (T, tt))
     (λ κs. (shr_vals, (rawptr_vals, (uint_vals w64, tt)))) (λ κs. (shr_Tells (named 0) κs.0 Row, (rawptr_Tells, (uint_Tells w64, tt)))) (λ κs qs bounds a gh are.
     let me = a.0.now in let b = a.0.ref_ptr.0 in let o = a.0.ref_ptr.1 in let base : Ptr = a.1.0 in let n = a.1.1.0 in let κ : Lft = κs.0 in
     let pb = block_of me.ptr in let po = count_of me.ptr in let seen = take n me.items in let fits = are.1.1.0.1 in
     let y : (walk_of 𝓛 En hs c).Ghost = ((κs, qs, bounds, a, (vptr b o ∷ [], (rawptr_vals base, (uint_vals w64 n, tt)))), gh) in let Post : Val → SProp 𝓤 = (walk_of 𝓛 En hs c).post y in let Run : List Val → SProp 𝓤 = λ ws. WpFn 𝓤 H 𝓣.C 𝓣.Λ fn ws Post in
-    let Asked : Type 0 = (base ≡ me.ptr) × (n ≤ length me.items) in let Shown : Fml = (ShrSlice (named 0) κ R).own_val (record { ref_ptr = start_of me.ptr; now = seen }) (slice_val (start_of me.ptr) n ∷ []) in
-    qed 𝓛 ((‵ (fsep (flft κs.0 qs.0) (fsep (flft κs.1.0 qs.1.0) ftrue)) ⊛ ‵ (owns (types_at En.signature.params κs) a y.0.4)) ∷ raw (fact 𝓤 (κs.1.0 ⊑ T.lives)) ∷ raw (fact 𝓤 Asked) ∷ []) ∵
-    move ! (2 ∷ []) $ heard ! Asked (λ asked. keep ! (0 ∷ []) $ split ! $ move ! (1 ∷ []) $ fsplit ! $ fsplit ! $ keep ! (1 ∷ 3 ∷ []) $
+    let Asked : Type 0 = (base ≡ me.ptr) × (n ≤ length me.items) in let Shown : Fml = (ShrSlice static [] R).own_val (record { ref_ptr = start_of me.ptr; now = seen }) (slice_val (start_of me.ptr) n ∷ []) in
+    qed 𝓛 ((‵ (fsep (flft κs.0 qs.0) (fsep (flft κs.1.0 qs.1.0) ftrue)) ⊛ ‵ (owns (types_at En.signature.params κs) a y.0.4)) ∷ raw (fact 𝓤 (κs.1.0 ⊑ T.lives)) ∷ raw (fact 𝓤 ([] ⊑ T.lives)) ∷ raw (fact 𝓤 Asked) ∷ []) ∵
+    move ! (3 ∷ []) $ heard ! Asked (λ asked. keep ! (0 ∷ []) $ split ! $ move ! (1 ∷ []) $ fsplit ! $ fsplit ! $ keep ! (1 ∷ 3 ∷ []) $
     -- [what is lent of it; the tokens]
-    use1 𝓛 (‵ (hidden_shr (Struct (shape (Forever.the_type R))) κ (to (Forever.the_type R) me) b o) ⊛ ‵ (fhide (slice_lent R me.ptr me.items [])))
-    (lent_out 𝓛 (Forever.struct R) (Forever.the_codes R.Denot R.coded (marker.the_row RawPtr).coded) (Forever.the_heap R) (Forever.the_lent R) κ me b o) $ split ! $ drop ! $ unhide ! $
-    use1 𝓛 (‵ (slice_lent R me.ptr me.items κ)) (kept_for R LR.shr_laws me.ptr me.items 𝓛 κ) $
-    use1 𝓛 (raw (fact 𝓤 (InBlock me.ptr)) ⊛ ‵ Shown) (prefix_seen R 𝓛 κ (named 0) me.ptr me.items n asked.1) $ split ! $ heard ! (InBlock me.ptr) (λ inb.
+    use1 𝓛 (‵ (hidden_shr (Struct (shape (StaticShare.the_type R))) κ (to (StaticShare.the_type R) me) b o) ⊛ ‵ (fhide (slice_lent R me.ptr me.items [])))
+    (lent_out 𝓛 (StaticShare.struct R) (StaticShare.the_codes R.Denot R.coded (marker.the_row RawPtr).coded) (StaticShare.the_heap R) (StaticShare.the_lent R) κ me b o) $ split ! $ drop ! $ unhide ! $
+    use1 𝓛 (raw (fact 𝓤 (InBlock me.ptr)) ⊛ ‵ Shown) (prefix_seen R 𝓛 [] static me.ptr me.items n asked.1) $ split ! $ heard ! (InBlock me.ptr) (λ inb.
     let here : base ≡ block_ptr pb po = asked.0 ∙ at_block me.ptr inb in
     suffices ! (Run (vptr b o ∷ vptr pb po ∷ vint w64 n ∷ [])) (subst (λ (us : List Val). ent 𝓤 (Run (vptr b o ∷ vptr pb po ∷ vint w64 n ∷ [])) (Run us)) (sym (ap (λ (r : Ptr). vptr b o ∷ ptr_val r ∷ vint w64 n ∷ []) here)) (id⊢ 𝓤 (Run (vptr b o ∷ vptr pb po ∷ vint w64 n ∷ [])))) $
     enter ! 𝓣.C 𝓣.Λ fn (vptr b o ∷ vptr pb po ∷ vint w64 n ∷ []) Post $ alloc_all ! (λ l. pass_all ! refl ((tt, tt), ((tt, tt), ((tt, record { fits = fits }), tt))) $ let Ev = env fn.locals l in

@@ -3,7 +3,7 @@ use Rattle.std.proofs.Common.{◌&&◌, ◌==◌, length, ap, sym, ◌∙◌, su
 use Rattle.arc_block.specs.Window.{window_of}
 use Rattle.arc_block.specs.Steps.{Makes}
 use Rattle.arc_block.proofs.Windows.{made_on_nothing, owner_for}
-use Rattle.arc_block.proofs.parts.Parts.try_moved_as.Goals as goal
+use Rattle.arc_block.proofs.parts.Parts.try_from_array_as.Goals as goal
 
 pub returns-then-stands_on_nothing-clause-made : goal.returns-then-stands_on_nothing-clause-made
 returns-then-stands_on_nothing-clause-made g c =

@@ -6,9 +6,9 @@ use denote.Param.Shared.{copy_shared}
 use denote.Struct.Laws.{field_copy}
 use denote.Struct.Lending.{of_Lends}
 use Rattle.std.specs.contracts.marker.PhantomData as marker
-use Rattle.arc_block.specs.contracts.static_slice.Forever as C
+use Rattle.arc_block.specs.contracts.static_slice.StaticShare as C
 use Rattle.arc_block.proofs.StaticSlices.{kept_laws, kept_lends}
-use Rattle.arc_block.proofs.static_slice.Forever.TheLaw.Statement.{statement}
+use Rattle.arc_block.proofs.static_slice.StaticShare.TheLaw.Statement.{statement}
 
 pub shares : (T : RattleType) (L : Laws T) → statement T L
 shares T L = of_Lends (C.struct T) (C.the_codes T.Denot T.coded (marker.the_row RawPtr).coded) (C.the_heap T) (C.the_lent T) (λ d p. kept_laws T L.shr_laws d.ptr d.items)

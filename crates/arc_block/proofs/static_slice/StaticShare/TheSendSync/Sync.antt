@@ -4,7 +4,7 @@ use denote.Param.Send.{IsSync, sendable}
 use denote.Struct.Struct.{Struct}
 use denote.Struct.Owning.{shape, to}
 use Rattle.arc_block.proofs.StaticSlices.{lent_keyless}
-use Rattle.arc_block.specs.contracts.static_slice.Forever.{the_row, the_type}
+use Rattle.arc_block.specs.contracts.static_slice.StaticShare.{the_row, the_type}
 
 pub sync : (T : RattleType) → IsSync T → IsSync (the_row T)
 sync T y = let fields : IsSync (Struct (shape (the_type T))) = search sendable depth 20 in
