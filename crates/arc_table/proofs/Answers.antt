@@ -14,7 +14,7 @@ use Rattle.arc_block.specs.Place.{Place, nowhere, static_data, on_block, moved}
 use Rattle.arc_block.specs.Table.{Row, Table, reader, row_at, is_alone, block_of}
 use Rattle.arc_table.specs.Step.{Setting, Shortage, no_shortage, of_table, of_clones, shortage}
 use Rattle.arc_table.specs.Step.{Step, answer}
-use Rattle.arc_table.specs.Step.{with_static, taking_items}
+use Rattle.arc_table.specs.Step.{with_static, take_items}
 use Rattle.arc_table.specs.Step.{asking, founded, is_wanting, is_full, with_owner, part_of, cut_row}
 use Rattle.arc_table.specs.Step.{off_part, to_part, split_rows, changed, on_row, is_for, in_range}
 use Rattle.arc_table.specs.declared.command.Cmd.{Cmd}
@@ -49,14 +49,14 @@ module _ {M : Type 0} where
   stays-part false by place = stays-moved by place
 
 -- no shortage is told, or this one
-abbrev pub MayTell : {X : Type 0} → Shortage → Reply X → Type 0
+abbrev pub MayTell : {X F : Type 0} → Shortage → Reply X F → Type 0
 MayTell short r = (shortage r ≡ no_shortage) ⊎ (shortage r ≡ short)
 
 -- Whatever holds of each way in which a command may be answered holds of its answer: the table
 -- stays, or has a window more, or a row was split, or became a part of itself, or went.
 module _ {T M : Type 0} (setting : Setting T) (short : Shortage) (t : Table T M)
-    (Holds : Reply (List T) → Table T M → Type 0)
-    (same : (r : Reply (List T)) → MayTell short r → Holds r t)
+    (Holds : Reply (List T) (List T) → Table T M → Type 0)
+    (same : (r : Reply (List T) (List T)) → MayTell short r → Holds r t)
     (founds : (items : List T) (nothing : Bool)
     → let info = native_facts setting.drops (length items) in
     let place = if nothing then nowhere else moved 0 (on_block t.blocks 0 info) in
@@ -77,10 +77,10 @@ module _ {T M : Type 0} (setting : Setting T) (short : Shortage) (t : Table T M)
     (becomes : (i : ℕ) (row part : Row T M) → row_at t i ≡ Some row
     → StaysOn row.place part.place
     → Holds reply.Ok (record { rows = slice_set t.rows i (Some part); blocks = t.blocks }))
-    (goes : (r : Reply (List T)) → MayTell short r → (i : ℕ)
+    (goes : (r : Reply (List T) (List T)) → MayTell short r → (i : ℕ)
     → Holds r (record { rows = slice_set t.rows i None; blocks = t.blocks })) where
   abbrev Outcome : Type 0
-  Outcome = Reply (List T) × Table T M
+  Outcome = Reply (List T) (List T) × Table T M
 
   abbrev After : Outcome → Type 0
   After o = Holds o.0 o.1
@@ -165,7 +165,7 @@ module _ {T M : Type 0} (setting : Setting T) (short : Shortage) (t : Table T M)
       one-stays (at == length row.items) row (part_of setting row at at)
       (part_of setting row 0 at) (part_stays row at at) (part_stays row 0 at)
 
-  yes_or_no : (yes : Bool) → MayTell {X = List T} short (if yes then reply.Yes else reply.No)
+  yes_or_no : (yes : Bool) → MayTell {X = List T} {F = List T} short (if yes then reply.Yes else reply.No)
   yes_or_no true = inl refl
   yes_or_no false = inl refl
 
@@ -222,12 +222,11 @@ module _ {T M : Type 0} (setting : Setting T) (short : Shortage) (t : Table T M)
   answer_each (Drop i) = on_row_each i (Drop i) _ (λ row at. goes reply.Ok (inl refl) i)
   answer_each (TakeStatic i) =
       on_row_each i (TakeStatic i) _ (λ row at.
-      either (is_some (block_of row.place)) (reply.Refused, t) (asking short t (taking_items t i row))
-      (same reply.Refused (inl refl))
-      (asking_each short refl (taking_items t i row) (goes (reply.Items row.items) (inl refl) i)))
+      either (is_some (block_of row.place)) (reply.Refused, t) (take_items t i row)
+      (same reply.Refused (inl refl)) (goes (reply.Static row.items) (inl refl) i))
 
 module _ {T M : Type 0} (setting : Setting T) (t : Table T M) where
-  tells_none : (r : Reply (List T)) → MayTell no_shortage r → shortage r ≡ no_shortage
+  tells_none : (r : Reply (List T) (List T)) → MayTell no_shortage r → shortage r ≡ no_shortage
   tells_none r (inl is) = is
   tells_none r (inr is) = is
 

@@ -198,13 +198,13 @@ module _ {T M : Type 0} where
         (statics t agree) (more t agree) (splits t agree) (becomes t agree)
         (λ r tells i. goes t agree i) c
 
-    pub step_agrees : (t : Table T M) (c : Cmd (List T) (List T)) (r : Reply (List T)) (new : Table T M)
+    pub step_agrees : (t : Table T M) (c : Cmd (List T) (List T)) (r : Reply (List T) (List T)) (new : Table T M)
         → Step setting t c r new → RowsAgree t → RowsAgree new
     step_agrees t c r new step agree =
-        subst (λ (o : Reply (List T) × Table T M). RowsAgree o.1) step
+        subst (λ (o : Reply (List T) (List T) × Table T M). RowsAgree o.1) step
         (answer-agrees (shortage r) t c agree)
 
-    pub run_agrees : (t : Table T M) (cs : List (Cmd (List T) (List T))) (rs : List (Reply (List T)))
+    pub run_agrees : (t : Table T M) (cs : List (Cmd (List T) (List T))) (rs : List (Reply (List T) (List T)))
         (new : Table T M) → Run setting t cs rs new → RowsAgree t → RowsAgree new
     run_agrees t [] [] new run agree = subst RowsAgree (sym run) agree
     run_agrees t (c ∷ cs) (r ∷ rs) new run agree =

@@ -36,7 +36,7 @@ Fact slots passes = IsKept MAX_OWNERS (stands_of slots) passes
     × RowsAgree (state_of slots passes).table
 
 pub record Done {T : Type 0} (setting : Setting T) (old : State T) (c : Cmd (List T) (List T))
-    (r : Reply (List T)) (slots : List (Option (SlotView T))) (passes : List (Pass Whole))
+    (r : Reply (List T) (List T)) (slots : List (Option (SlotView T))) (passes : List (Pass Whole))
     : Type 0 where
   pub kept : Fact slots passes
   pub rows : Step setting old.table c r (state_of slots passes).table
@@ -44,7 +44,7 @@ pub record Done {T : Type 0} (setting : Setting T) (old : State T) (c : Cmd (Lis
 
 -- the fact of the type follows of the owners, and of the step
 pub done : {T : Type 0} {setting : Setting T} {old : State T} {c : Cmd (List T) (List T)}
-    {r : Reply (List T)} {slots : List (Option (SlotView T))} {passes : List (Pass Whole)}
+    {r : Reply (List T) (List T)} {slots : List (Option (SlotView T))} {passes : List (Pass Whole)}
     → RowsAgree old.table → IsKept MAX_OWNERS (stands_of slots) passes
     → Step setting old.table c r (state_of slots passes).table
     → Adds old.table old.standing c r (state_of slots passes).standing

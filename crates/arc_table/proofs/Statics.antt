@@ -15,7 +15,7 @@ use Rattle.arc_block.proofs.Owned.{kept-nowhere, kept-gone-nowhere}
 use Rattle.arc_table.specs.Slots.{SlotView, row_of, stand_of, stands_of}
 use Rattle.arc_table.specs.State.{State, state_of}
 use Rattle.arc_table.specs.Step.{Setting, Shortage, no_shortage, of_table, Step, answer, asking}
-use Rattle.arc_table.specs.Step.{with_static, taking_items}
+use Rattle.arc_table.specs.Step.{with_static, take_items}
 use Rattle.arc_table.specs.declared.command.Cmd.TheVariants as command
 use Rattle.arc_table.specs.declared.command.Reply.TheVariants as reply
 use Rattle.arc_table.proofs.Done.{Done, Fact, done}
@@ -73,26 +73,20 @@ module _ {T : Type 0} (setting : Setting T) (slots : List (Option (SlotView T)))
   module _ (i : ℕ) (s : SlotView T) (there : slice_get slots i ≡ Some (Some s)) where
     take-answers : (short : Shortage) (on : Bool) → is_some (block_of (row_of s).place) ≡ on
         → answer setting short t (command.TakeStatic i)
-        ≡ (if on then (reply.Refused, t) else asking short t (taking_items t i (row_of s)))
+        ≡ (if on then (reply.Refused, t) else take_items t i (row_of s))
     take-answers short on is =
         answered slots passes i s there (command.TakeStatic i) (λ row.
-        if is_some (block_of row.place) then (reply.Refused, t) else
-        asking short t (taking_items t i row))
-        ∙ ap (λ (b : Bool). if b then (reply.Refused, t) else
-        asking short t (taking_items t i (row_of s))) is
+        if is_some (block_of row.place) then (reply.Refused, t) else take_items t i row)
+        ∙ ap (λ (b : Bool). if b then (reply.Refused, t) else take_items t i (row_of s)) is
 
     pub take-refused : (short : Shortage) → is_some (block_of (row_of s).place) ≡ true
         → answer setting short t (command.TakeStatic i) ≡ (reply.Refused, t)
     take-refused short on = take-answers short true on
 
-    pub take-alloc : is_some (block_of (row_of s).place) ≡ false
-        → answer setting of_table t (command.TakeStatic i) ≡ (reply.Alloc, t)
-    take-alloc off = take-answers of_table false off
-
     pub takes : Fact slots passes → (items : List T) (slots' : List (Option (SlotView T)))
         → is_some (block_of (row_of s).place) ≡ false → items ≡ s.window.items
         → slots' ≡ slice_set slots i None
-        → Done setting old (command.TakeStatic i) (reply.Items items) slots' passes
+        → Done setting old (command.TakeStatic i) (reply.Static items) slots' passes
     takes fact items slots' off same set =
         let none =
         nowhere-stand (stand_of (Some s)) (block_of (row_of s).place)
@@ -105,7 +99,7 @@ module _ {T : Type 0} (setting : Setting T) (slots : List (Option (SlotView T)))
         (subst (λ ss. IsKept MAX_OWNERS ss passes) (sym stands)
         (kept-gone-nowhere i fact.0 (stand-there slots passes i s there ∙ ap Some none)))
         (take-answers no_shortage false off
-        ∙ ap (λ xs. (reply.Items xs, record { rows = slice_set t.rows i None; blocks = t.blocks }))
+        ∙ ap (λ xs. (reply.Static xs, record { rows = slice_set t.rows i None; blocks = t.blocks }))
         (sym same)
-        ∙ ap (λ rs. (reply.Items items, record { rows = rs; blocks = t.blocks })) (sym rows))
+        ∙ ap (λ rs. (reply.Static items, record { rows = rs; blocks = t.blocks })) (sym rows))
         (stands, refl)

@@ -65,7 +65,7 @@ alone-at t (on_block n offset facts) b is =
 
 -- a reply, and the table after it
 abbrev Outcome : Type 0 → Type 0
-Outcome T = Reply (List T) × Table T (Unit {0})
+Outcome T = Reply (List T) (List T) × Table T (Unit {0})
 
 module _ {T : Type 0} (slots : List (Option (SlotView T))) (passes : List (Pass Whole)) where
   abbrev t : Table T (Unit {0})

@@ -96,8 +96,8 @@ module _ {H : Type 0} where
 
   -- what a command adds, by what it is answered. A split that leaves nothing hands out the window
   -- itself
-  abbrev pub Adds : {T M : Type 0} → Table T M → Standing H → Cmd (List T) (List T) → Reply (List T)
-      → Standing H → Type 0
+  abbrev pub Adds : {T M : Type 0} → Table T M → Standing H → Cmd (List T) (List T)
+      → Reply (List T) (List T) → Standing H → Type 0
   Adds t old (Slice items) (reply.New number) new = (made : Stand)
       × Founds made old.passes new.passes × (new.stands ≡ old.stands ++ made ∷ [])
   Adds t old (Static items) (reply.New number) new =
@@ -115,6 +115,6 @@ module _ {H : Type 0} where
   Adds t old (Uniq i) reply.No new = Enters old i (asked false) new
   Adds t old (Drop i) reply.Ok new = (new.stands ≡ slice_set old.stands i None)
       × AddsAt (stand_in old i) (λ o history. entry.Down o.number ∷ []) old.passes new.passes
-  Adds t old (TakeStatic i) (reply.Items items) new =
+  Adds t old (TakeStatic i) (reply.Static items) new =
       (new.stands ≡ slice_set old.stands i None) × (new.passes ≡ old.passes)
   Adds t old command reply new = new ≡ old

@@ -25,12 +25,13 @@ map_command f (Trunc i len) = Trunc i len
 map_command f (Drop i) = Drop i
 map_command f (TakeStatic i) = TakeStatic i
 
-abbrev pub map_reply : {X Y : Type 0} → (X → Y) → Reply X → Reply Y
+abbrev pub map_reply : {X Y F : Type 0} → (X → Y) → Reply X F → Reply Y F
 map_reply f (reply.New number) = reply.New number
 map_reply f reply.Ok = reply.Ok
 map_reply f reply.Yes = reply.Yes
 map_reply f reply.No = reply.No
 map_reply f (reply.Items items) = reply.Items (f items)
+map_reply f (reply.Static items) = reply.Static items
 map_reply f (reply.Number n) = reply.Number n
 map_reply f reply.NoWindow = reply.NoWindow
 map_reply f reply.Kind = reply.Kind
@@ -43,5 +44,5 @@ map_reply f reply.Alloc = reply.Alloc
 abbrev pub seen_command : {T A : Type 0} → Cmd (Vec T A) (List T) → Cmd (List T) (List T)
 seen_command c = map_command vec_items c
 
-abbrev pub seen_reply : {T A : Type 0} → Reply (Vec T A) → Reply (List T)
+abbrev pub seen_reply : {T A : Type 0} → Reply (Vec T A) (List T) → Reply (List T) (List T)
 seen_reply r = map_reply vec_items r

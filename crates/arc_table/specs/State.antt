@@ -37,7 +37,7 @@ Agrees s = map (option_and_then (λ row. block_of row.place)) s.table.rows
 
 -- a command is carried out: one step of the table, which adds what it adds to the histories
 pub record CarriesOut {T : Type 0} (setting : Setting T) (old : State T) (c : Cmd (List T) (List T))
-    (reply : Reply (List T)) (new : State T) : Type 0 where
+    (reply : Reply (List T) (List T)) (new : State T) : Type 0 where
   pub rows : Step setting old.table c reply new.table
   pub passes : Adds old.table old.standing c reply new.standing
   pub agree : Agrees new
@@ -48,7 +48,7 @@ drops n = map Drop (range_with_len 0 n)
 
 -- every window that is left ends by a `Drop` of its own
 pub record EndsAll {T : Type 0} (setting : Setting T) (old new : State T) : Type 0 where
-  pub replies : List (Reply (List T))
+  pub replies : List (Reply (List T) (List T))
   pub run : RunOf (CarriesOut setting) old (drops (length old.table.rows)) replies new
   pub none_left : (i : ℕ) → row_at new.table i ≡ None
 

@@ -47,7 +47,7 @@ pub data Shortage : Type 0 where
   of_clones : Shortage
 
 -- where it was refused, as the reply tells
-abbrev pub shortage : {X : Type 0} → Reply X → Shortage
+abbrev pub shortage : {X F : Type 0} → Reply X F → Shortage
 shortage reply.Alloc = of_table
 shortage (reply.Owner AllocError) = of_clones
 shortage other = no_shortage
@@ -74,13 +74,14 @@ is_for (Drop i) role = true
 is_for command role = false
 
 -- memory is asked for: where it is refused, nothing changes
-abbrev pub asking : {X S : Type 0} → Shortage → S → Reply X × S → Reply X × S
+abbrev pub asking : {X F S : Type 0} → Shortage → S → Reply X F × S → Reply X F × S
 asking no_shortage t outcome = outcome
 asking of_table t outcome = (reply.Alloc, t)
 asking of_clones t outcome = outcome
 
 -- a window over a copy of the items
-abbrev pub founded : {T M : Type 0} → Setting T → Table T M → List T → Reply (List T) × Table T M
+abbrev pub founded : {T M : Type 0} → Setting T → Table T M → List T
+    → Reply (List T) (List T) × Table T M
 founded setting t items =
     let place =
     made_place setting.has_static t.blocks (native_facts setting.drops (length items)) items in (
@@ -92,7 +93,8 @@ founded setting t items =
     )
 
 -- a window over a slice that is there for good, which no block holds
-abbrev pub with_static : {T M : Type 0} → Table T M → List T → Reply (List T) × Table T M
+abbrev pub with_static : {T M : Type 0} → Table T M → List T
+    → Reply (List T) (List T) × Table T M
 with_static t items = (
   reply.New (length t.rows),
   record {
@@ -101,10 +103,11 @@ with_static t items = (
   },
 )
 
--- the items of a row, which is gone
-abbrev pub taking_items : {T M : Type 0} → Table T M → ℕ → Row T M → Reply (List T) × Table T M
-taking_items t i row =
-    (reply.Items row.items, record { rows = slice_set t.rows i None; blocks = t.blocks })
+-- the slice on which a row stands, which is gone then
+abbrev pub take_items : {T M : Type 0} → Table T M → ℕ → Row T M
+    → Reply (List T) (List T) × Table T M
+take_items t i row =
+    (reply.Static row.items, record { rows = slice_set t.rows i None; blocks = t.blocks })
 
 -- whether the layout wants memory for an owner more at this place, and it was refused
 abbrev pub is_wanting : {M : Type 0} → Shortage → (Sort → Bool) → Place ℕ M → Bool
@@ -117,7 +120,7 @@ is_full t place = option_map_or (λ block. owners t block == MAX_OWNERS) (block_
 
 -- an owner more at this place, and then these rows: one more than before
 abbrev pub with_owner : {T M : Type 0} → Setting T → Shortage → Table T M → Place ℕ M
-    → List (Option (Row T M)) → Reply (List T) × Table T M
+    → List (Option (Row T M)) → Reply (List T) (List T) × Table T M
 with_owner setting short t place rows =
     if is_wanting short setting.clone_wants place then (reply.Owner AllocError, t) else
     if is_full t place then (reply.Owner CountFull, t) else
@@ -160,19 +163,20 @@ split_rows t i handed_out row cut part =
     ++ Some (if handed_out then row else part) ∷ []
 
 -- the row with this number has become another one
-abbrev pub changed : {T M : Type 0} → Table T M → ℕ → Row T M → Reply (List T) × Table T M
+abbrev pub changed : {T M : Type 0} → Table T M → ℕ → Row T M
+    → Reply (List T) (List T) × Table T M
 changed t i row = (reply.Ok, record { rows = slice_set t.rows i (Some row); blocks = t.blocks })
 
 -- the row with this number, if there is one, and if the command is for its role
 abbrev pub on_row : {T M : Type 0} → Table T M → ℕ → Cmd (List T) (List T)
-    → (Row T M → Reply (List T) × Table T M) → Reply (List T) × Table T M
+    → (Row T M → Reply (List T) (List T) × Table T M) → Reply (List T) (List T) × Table T M
 on_row t i command found =
     option_map_or (λ row. if is_for command row.role then found row else (reply.Kind, t))
     (row_at t i) (reply.NoWindow, t)
 
 -- only in range
 abbrev pub in_range : {T M : Type 0} → Result (Unit {0}) RangeError → Table T M
-    → Reply (List T) × Table T M → Reply (List T) × Table T M
+    → Reply (List T) (List T) × Table T M → Reply (List T) (List T) × Table T M
 in_range (Ok done) t outcome = outcome
 in_range (Err e) t outcome = (reply.Range e, t)
 
@@ -181,7 +185,7 @@ in_range (Err e) t outcome = (reply.Range e, t)
 -- rows that are read on native blocks, on static slices or on none: no command makes others yet. Of
 -- a writer it would keep a capacity that isn't the part's, and `Uniq` doesn't ask the block's sort.
 abbrev pub answer : {T M : Type 0} → Setting T → Shortage → Table T M → Cmd (List T) (List T)
-    → Reply (List T) × Table T M
+    → Reply (List T) (List T) × Table T M
 answer setting short t (Slice items) = asking short t (founded setting t items)
 answer setting short t (Static items) =
     if setting.has_static then asking short t (with_static t items) else (reply.Kind, t)
@@ -218,15 +222,15 @@ answer setting short t (Drop i) = on_row t i (Drop i) (λ row.
     (reply.Ok, record { rows = slice_set t.rows i None; blocks = t.blocks }))
 answer setting short t (TakeStatic i) = on_row t i (TakeStatic i) (λ row.
     if is_some (block_of row.place) then (reply.Refused, t)
-    else asking short t (taking_items t i row))
+    else take_items t i row)
 
 -- From old, the table may give this reply to the command and go on to new: it is the answer, where
 -- memory was refused as the reply tells. A refusal changes nothing.
-abbrev pub Step : {T M : Type 0} → Setting T → Table T M → Cmd (List T) (List T) → Reply (List T)
-    → Table T M → Type 0
+abbrev pub Step : {T M : Type 0} → Setting T → Table T M → Cmd (List T) (List T)
+    → Reply (List T) (List T) → Table T M → Type 0
 Step setting old c reply new = answer setting (shortage reply) old c ≡ (reply, new)
 
 -- the table may give these replies to these commands, one after another
 abbrev pub Run : {T M : Type 0} → Setting T → Table T M → List (Cmd (List T) (List T))
-    → List (Reply (List T)) → Table T M → Type 0
+    → List (Reply (List T) (List T)) → Table T M → Type 0
 Run setting = RunOf (Step setting)

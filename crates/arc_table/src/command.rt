@@ -1,4 +1,5 @@
 //! What a table is asked, and what it answers.
+use arc_block::static_slice::StaticSlice;
 use arc_owners::error::{OwnerError, RangeError};
 
 /// A command, where X holds items and F a slice that is there for good. Windows go by their
@@ -61,9 +62,9 @@ pub enum Cmd<X, F> {
     },
 }
 
-/// What a command is answered, where X holds items.
+/// What a command is answered, where X holds items and F a slice that is there for good.
 #[derive(Debug, Drop)]
-pub enum Reply<X> {
+pub enum Reply<X, F> {
     /// A window was made, and has this number.
     New(usize),
     /// It is done.
@@ -74,6 +75,8 @@ pub enum Reply<X> {
     No,
     /// The items of the window.
     Items(X),
+    /// The slice on which the window stood, which is gone, or no items where it stood on nothing.
+    Static(F),
     /// So many items.
     Number(usize),
     /// No window has this number, or none has it any more.
@@ -89,3 +92,6 @@ pub enum Reply<X> {
     /// Memory was refused; nothing changed.
     Alloc,
 }
+
+/// What a table of windows over items of type T answers: what it shows lies in a vector.
+pub type TableReply<T, A> = Reply<Vec<T, A>, StaticSlice<T>>;

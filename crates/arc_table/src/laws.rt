@@ -15,13 +15,14 @@ ghost use Rattle.arc_table.specs.declared.command.Reply.{Reply};
 pub fn rows_agree<T, M>()
     ensures empty { RowsAgree {T = T} {M = M} empty_table }
     ensures step { (setting : Setting T) (old : Table T M) (command : Cmd (List T) (List T))
-        (reply : Reply (List T)) (new : Table T M) → Step setting old command reply new
+        (reply : Reply (List T) (List T)) (new : Table T M) → Step setting old command reply new
         → RowsAgree old → RowsAgree new }
     ensures run { (setting : Setting T) (old : Table T M) (commands : List (Cmd (List T) (List T)))
-        (replies : List (Reply (List T))) (new : Table T M)
+        (replies : List (Reply (List T) (List T))) (new : Table T M)
         → Run setting old commands replies new → RowsAgree old → RowsAgree new }
     ensures carried_out { (setting : Setting T) (old : State T)
-        (commands : List (Cmd (List T) (List T))) (replies : List (Reply (List T))) (new : State T)
+        (commands : List (Cmd (List T) (List T))) (replies : List (Reply (List T) (List T)))
+        (new : State T)
         → RunOf (CarriesOut setting) old commands replies new
         → RowsAgree old.table → RowsAgree new.table }
 {}

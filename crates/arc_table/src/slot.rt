@@ -61,7 +61,6 @@ impl<S: Slice, L: Layout, A: Allocator + Copy> Slot<S, L, A> {
     pub fn on_static(alloc: A, items: StaticSlice<S::Item>) -> Self
     where
         S: AnyItems,
-        S::Item: 'static,
         requires { L.STATIC ≡ true }
         ensures { result ≡ record {
           window = record { items = items; place = static_data };
@@ -69,7 +68,7 @@ impl<S: Slice, L: Layout, A: Allocator + Copy> Slot<S, L, A> {
         } }
     {
         Slot {
-            window: ArcSlice::from_parts(Parts::on_static(alloc, items.into_static())),
+            window: ArcSlice::from_parts(Parts::on_static(alloc, items)),
             block: None,
         }
     }
@@ -81,15 +80,13 @@ impl<S: Slice, L: Layout, A: Allocator + Copy> Slot<S, L, A> {
         self.block.is_some()
     }
 
-    /// The items of a window that stands on no block, for good: also after this value is gone.
-    pub fn into_static(self) -> &'static [S::Item]
-    where
-        S::Item: 'static,
+    /// The items of a window that stands on no block, for good. Takes no memory.
+    pub fn into_static(self) -> StaticSlice<S::Item>
         requires { is_some (block_of (row_of self).place) ≡ false }
-        ensures { result.now ≡ self.window.items }
+        ensures { result ≡ self.window.items }
     {
         let Slot { window, block: _ } = self;
-        match window.try_into_static() {
+        match window.into_parts().try_into_static() {
             Ok(items) => items,
             Err(_) => unreachable!(),
         }

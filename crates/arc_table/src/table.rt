@@ -2,7 +2,7 @@
 ghost use Rattle.std.specs.Prelude.{◌≡◌, ℕ, Some, None, MatchOption, slice_get};
 ghost use Rattle.std.specs.Option.{option_flatten};
 
-use crate::command::{Cmd, Reply};
+use crate::command::{Cmd, Reply, TableReply};
 use crate::passes::Passes;
 use crate::slot::Slot;
 use arc_block::layout::{DefaultLayout, Layout, stands_on_nothing};
@@ -66,7 +66,7 @@ fn end_slots<S: Slice, L: Layout, A: Allocator + Copy>(mut slots: Vec<Option<Slo
 
 impl<S: CopySlice + Subsliceable, L: Layout, A: Allocator + Copy> Table<S, L, A>
 where
-    S::Item: Copy + 'static,
+    S::Item: Copy,
 {
     ghost use Rattle.std.specs.Prelude.{◌≡◌, [], length, slice_set};
     ghost use Rattle.arc_block.specs.declared.block.TheConstants.{MAX_OWNERS};
@@ -99,7 +99,7 @@ where
         &mut self,
         rt: &impl Wait,
         command: Cmd<Vec<S::Item, A>, StaticSlice<S::Item>>,
-    ) -> Reply<Vec<S::Item, A>>
+    ) -> TableReply<S::Item, A>
         ensures { CarriesOut (setting_of L.STATIC L.clone_wants S.DROPS S.boundary) self.old
             (seen_command command) (seen_reply result) self.new }
     {
@@ -113,7 +113,7 @@ where
         &mut self,
         rt: &impl Wait,
         command: Cmd<Vec<S::Item, A>, StaticSlice<S::Item>>,
-    ) -> Reply<Vec<S::Item, A>>
+    ) -> TableReply<S::Item, A>
         ensures rows { Step (setting_of L.STATIC L.clone_wants S.DROPS S.boundary) self.old.table
             (seen_command command) (seen_reply result) self.new.table }
         ensures passes { Adds self.old.table self.old.standing (seen_command command)
@@ -177,7 +177,7 @@ where
     }
 
     /// A window over a copy of the items.
-    fn slice(&mut self, items: Vec<S::Item, A>) -> Reply<Vec<S::Item, A>>
+    fn slice(&mut self, items: Vec<S::Item, A>) -> TableReply<S::Item, A>
         ensures rows { Step (setting_of L.STATIC L.clone_wants S.DROPS S.boundary) self.old.table
             (command.Slice items.items) (seen_reply result) self.new.table }
         ensures passes { Adds self.old.table self.old.standing (command.Slice items.items)
@@ -206,7 +206,7 @@ where
 
     /// A window over a slice that is there for good. `Kind` where the layout has no static data.
     /// Takes memory for the new slot; refused, the answer is `Alloc`.
-    fn static_window(&mut self, items: StaticSlice<S::Item>) -> Reply<Vec<S::Item, A>>
+    fn static_window(&mut self, items: StaticSlice<S::Item>) -> TableReply<S::Item, A>
         ensures rows { Step (setting_of L.STATIC L.clone_wants S.DROPS S.boundary) self.old.table
             (command.Static items) (seen_reply result) self.new.table }
         ensures passes { Adds self.old.table self.old.standing (command.Static items)
@@ -227,7 +227,7 @@ where
     /// Another window with the same items at the same place. `NoWindow` where the window isn't
     /// there, `Owner` where its block has as many owners as it can have. Takes memory for the new
     /// slot; refused, the answer is `Alloc`.
-    fn clone_window(&mut self, rt: &impl Wait, i: usize) -> Reply<Vec<S::Item, A>>
+    fn clone_window(&mut self, rt: &impl Wait, i: usize) -> TableReply<S::Item, A>
         ensures rows { Step (setting_of L.STATIC L.clone_wants S.DROPS S.boundary) self.old.table
             (command.Clone i) (seen_reply result) self.new.table }
         ensures passes { Adds self.old.table self.old.standing (command.Clone i) (seen_reply result)
@@ -253,7 +253,7 @@ where
     }
 
     /// A window over the part from `start` to `end` of another.
-    fn sub(&mut self, rt: &impl Wait, i: usize, start: usize, end: usize) -> Reply<Vec<S::Item, A>>
+    fn sub(&mut self, rt: &impl Wait, i: usize, start: usize, end: usize) -> TableReply<S::Item, A>
         ensures rows { Step (setting_of L.STATIC L.clone_wants S.DROPS S.boundary) self.old.table
             (command.Sub i start end) (seen_reply result) self.new.table }
         ensures passes { Adds self.old.table self.old.standing (command.Sub i start end)
@@ -282,7 +282,7 @@ where
     }
 
     /// Whether a window is the only owner of its block. `No` where it stands on no block.
-    fn uniq(&mut self, i: usize) -> Reply<Vec<S::Item, A>>
+    fn uniq(&mut self, i: usize) -> TableReply<S::Item, A>
         ensures rows { Step (setting_of L.STATIC L.clone_wants S.DROPS S.boundary) self.old.table
             (command.Uniq i) (seen_reply result) self.new.table }
         ensures passes { Adds self.old.table self.old.standing (command.Uniq i) (seen_reply result)
@@ -299,7 +299,7 @@ where
     }
 
     /// The items of a window.
-    fn show(&self, i: usize) -> Reply<Vec<S::Item, A>>
+    fn show(&self, i: usize) -> TableReply<S::Item, A>
         ensures rows { Step (setting_of L.STATIC L.clone_wants S.DROPS S.boundary) self.now.table
             (command.Show i) (seen_reply result) self.now.table }
         ensures passes { Adds self.now.table self.now.standing (command.Show i) (seen_reply result)
@@ -316,7 +316,7 @@ where
 
     /// Carries out a `Cmd::Show`, and answers with the items where they stand in the window. Takes
     /// no memory.
-    pub fn show_in_place(&self, i: usize) -> Reply<&[S::Item]>
+    pub fn show_in_place(&self, i: usize) -> Reply<&[S::Item], StaticSlice<S::Item>>
         ensures carried { CarriesOut (setting_of L.STATIC L.clone_wants S.DROPS S.boundary) self.now
             (command.Show i) (map_reply (λ items. items.now) result) self.now }
         ensures lent { shortage result ≡ no_shortage }
@@ -329,7 +329,7 @@ where
     }
 
     /// Splits a window, and hands out the back under the next number.
-    fn split_off(&mut self, rt: &impl Wait, i: usize, at: usize) -> Reply<Vec<S::Item, A>>
+    fn split_off(&mut self, rt: &impl Wait, i: usize, at: usize) -> TableReply<S::Item, A>
         ensures rows { Step (setting_of L.STATIC L.clone_wants S.DROPS S.boundary) self.old.table
             (command.Off i at) (seen_reply result) self.new.table }
         ensures passes { Adds self.old.table self.old.standing (command.Off i at)
@@ -358,7 +358,7 @@ where
     }
 
     /// Splits a window, and hands out the front under the next number.
-    fn split_to(&mut self, rt: &impl Wait, i: usize, at: usize) -> Reply<Vec<S::Item, A>>
+    fn split_to(&mut self, rt: &impl Wait, i: usize, at: usize) -> TableReply<S::Item, A>
         ensures rows { Step (setting_of L.STATIC L.clone_wants S.DROPS S.boundary) self.old.table
             (command.To i at) (seen_reply result) self.new.table }
         ensures passes { Adds self.old.table self.old.standing (command.To i at) (seen_reply result)
@@ -387,7 +387,7 @@ where
     }
 
     /// How many items a window has.
-    fn len(&self, i: usize) -> Reply<Vec<S::Item, A>>
+    fn len(&self, i: usize) -> TableReply<S::Item, A>
         ensures rows { Step (setting_of L.STATIC L.clone_wants S.DROPS S.boundary) self.now.table
             (command.Len i) (seen_reply result) self.now.table }
         ensures passes { Adds self.now.table self.now.standing (command.Len i) (seen_reply result)
@@ -400,7 +400,7 @@ where
     }
 
     /// Takes the first `by` items off a window.
-    fn advance(&mut self, i: usize, by: usize) -> Reply<Vec<S::Item, A>>
+    fn advance(&mut self, i: usize, by: usize) -> TableReply<S::Item, A>
         ensures rows { Step (setting_of L.STATIC L.clone_wants S.DROPS S.boundary) self.old.table
             (command.Adv i by) (seen_reply result) self.new.table }
         ensures passes { Adds self.old.table self.old.standing (command.Adv i by)
@@ -420,7 +420,7 @@ where
     }
 
     /// Leaves the first `len` items of a window, or all where it has no more.
-    fn truncate(&mut self, i: usize, len: usize) -> Reply<Vec<S::Item, A>>
+    fn truncate(&mut self, i: usize, len: usize) -> TableReply<S::Item, A>
         ensures rows { Step (setting_of L.STATIC L.clone_wants S.DROPS S.boundary) self.old.table
             (command.Trunc i len) (seen_reply result) self.new.table }
         ensures passes { Adds self.old.table self.old.standing (command.Trunc i len)
@@ -443,7 +443,7 @@ where
     }
 
     /// The end of a window.
-    fn release(&mut self, i: usize) -> Reply<Vec<S::Item, A>>
+    fn release(&mut self, i: usize) -> TableReply<S::Item, A>
         ensures rows { Step (setting_of L.STATIC L.clone_wants S.DROPS S.boundary) self.old.table
             (command.Drop i) (seen_reply result) self.new.table }
         ensures passes { Adds self.old.table self.old.standing (command.Drop i) (seen_reply result)
@@ -461,10 +461,9 @@ where
         Reply::Ok
     }
 
-    /// The items of a window that stands on no block, and its end. `Refused` where it stands on a
-    /// block. Takes memory for a copy of the items; refused, the answer is `Alloc`, and the window
-    /// is still there.
-    fn take_static(&mut self, i: usize) -> Reply<Vec<S::Item, A>>
+    /// The slice on which a window stands that is on no block, and the window's end. `Refused`
+    /// where it stands on a block. Takes no memory.
+    fn take_static(&mut self, i: usize) -> TableReply<S::Item, A>
         ensures rows { Step (setting_of L.STATIC L.clone_wants S.DROPS S.boundary) self.old.table
             (command.TakeStatic i) (seen_reply result) self.new.table }
         ensures passes { Adds self.old.table self.old.standing (command.TakeStatic i)
@@ -476,13 +475,9 @@ where
         if slot.is_on_block() {
             return Reply::Refused;
         }
-        let Ok(items) = Vec::from_slice(self.alloc, slot.as_slice()) else {
-            return Reply::Alloc;
-        };
         let Some(slot) = mem::replace(&mut self.slots[i], None) else {
             unreachable!()
         };
-        let _ = slot.into_static();
-        Reply::Items(items)
+        Reply::Static(slot.into_static())
     }
 }

@@ -1,6 +1,6 @@
 //! Commands and their replies: the worked rows, each call once, and memory that runs out.
 use super::*;
-use crate::command::{Cmd, Reply};
+use crate::command::{Cmd, Reply, TableReply};
 use crate::table::Table;
 use arc_block::layout::{ArcLayout, DefaultLayout};
 use arc_block::static_slice::StaticSlice;
@@ -12,9 +12,17 @@ use std::sync::Wait;
 use std::test::Fail;
 
 /// The bytes of a reply that has items.
-fn has_items<A: Allocator>(reply: &Reply<Vec<u8, A>>, items: &[u8]) -> bool {
+fn has_items<A: Allocator>(reply: &TableReply<u8, A>, items: &[u8]) -> bool {
     match reply {
         Reply::Items(shown) => shown.as_slice() == items,
+        _ => false,
+    }
+}
+
+/// Whether a reply is a static slice with these bytes.
+fn is_slice<A: Allocator>(reply: &TableReply<u8, A>, items: &[u8]) -> bool {
+    match reply {
+        Reply::Static(slice) => slice.as_slice() == items,
         _ => false,
     }
 }
@@ -130,7 +138,7 @@ fn numbers_without_static_data(rt: HostRuntime) -> Result<(), Fail> {
     Ok(())
 }
 
-/// Windows over a static slice come back as items, and one on a block stays.
+/// Windows over a static slice come back as slices, and one on a block stays.
 #[test]
 fn taken_or_refused(rt: HostRuntime) {
     let mut table = table_of(&rt, rt.alloc(), b"Hello");
@@ -143,6 +151,15 @@ fn taken_or_refused(rt: HostRuntime) {
             end: 2,
         },
     );
+    let none = table.step(
+        &rt,
+        Cmd::Sub {
+            window: 1,
+            start: 4,
+            end: 4,
+        },
+    );
+    let nothing = table.step(&rt, Cmd::TakeStatic { window: 3 });
     let part = table.step(&rt, Cmd::TakeStatic { window: 2 });
     let alone = table.step(&rt, Cmd::Uniq { window: 1 });
     let whole = table.step(&rt, Cmd::TakeStatic { window: 1 });
@@ -152,12 +169,40 @@ fn taken_or_refused(rt: HostRuntime) {
     let _ = table.end();
     assert!(rt; matches!(made, Reply::New(1)));
     assert!(rt; matches!(cut, Reply::New(2)));
-    assert!(rt; has_items(&part, b"ab"));
+    assert!(rt; matches!(none, Reply::New(3)));
+    assert!(rt; is_slice(&nothing, b""));
+    assert!(rt; is_slice(&part, b"ab"));
     assert!(rt; matches!(alone, Reply::No));
-    assert!(rt; has_items(&whole, b"abcd"));
+    assert!(rt; is_slice(&whole, b"abcd"));
     assert!(rt; matches!(gone, Reply::NoWindow));
     assert!(rt; matches!(refused, Reply::Refused));
     assert!(rt; has_items(&shown, b"Hello"));
+}
+
+/// The items needn't be `'static`: a window on nothing comes back as a slice of none.
+#[test]
+fn items_with_a_lifetime(rt: HostRuntime) -> Result<(), Fail> {
+    let number = 7u32;
+    let items = Vec::from_slice(rt.alloc(), &[&number])?;
+    let mut table: Table<Plain<&u32>, DefaultLayout, _> = Table::new(rt.alloc());
+    let made = table.step(&rt, Cmd::Slice(items));
+    let none = table.step(
+        &rt,
+        Cmd::Sub {
+            window: 0,
+            start: 1,
+            end: 1,
+        },
+    );
+    let slice = table.step(&rt, Cmd::TakeStatic { window: 1 });
+    let _ = table.end();
+    assert!(rt; matches!(made, Reply::New(0)));
+    assert!(rt; matches!(none, Reply::New(1)));
+    let Reply::Static(slice) = slice else {
+        return Err("a slice".into());
+    };
+    assert!(rt; slice.is_empty());
+    Ok(())
 }
 
 /// A layout without static data has no window over a static slice.
@@ -171,37 +216,33 @@ fn no_static_data(rt: HostRuntime) {
     assert!(rt; matches!(taken, Reply::NoWindow));
 }
 
-/// With more and more memory the window is refused, then the copy of its items, then neither; a
-/// window whose items are refused is still there.
+/// With more and more memory the window is refused, and then made; what was made is taken back
+/// without memory, also where there is none left.
 #[test]
 fn static_memory_refused(rt: HostRuntime) -> Result<(), Fail> {
     let mut unmade = 0u32;
-    let mut kept = 0u32;
     let mut taken = 0u32;
     for units in 1..128usize {
         let heap = LocalHeap::new(rt.alloc(), units * 16)?;
         let mut table: ByteTable<_> = Table::new(&heap);
         let made = table.step(&rt, Cmd::Static(StaticSlice::new(b"abcd")));
-        let items = table.step(&rt, Cmd::TakeStatic { window: 0 });
-        let len = table.step(&rt, Cmd::Len { window: 0 });
-        if matches!(made, Reply::Alloc) {
+        let used = heap.used();
+        let slice = table.step(&rt, Cmd::TakeStatic { window: 0 });
+        assert_eq!(rt; heap.used(), used);
+        if matches!(made, Reply::Alloc) && matches!(slice, Reply::NoWindow) {
             unmade = unmade.wrapping_add(1);
         }
-        if matches!(items, Reply::Alloc) && matches!(len, Reply::Number(4)) {
-            kept = kept.wrapping_add(1);
-        }
-        if has_items(&items, b"abcd") && matches!(len, Reply::NoWindow) {
+        if matches!(made, Reply::New(0)) && is_slice(&slice, b"abcd") {
             taken = taken.wrapping_add(1);
         }
-        drop(items);
+        drop(slice);
         drop(made);
-        drop(len);
         let _ = table.end();
         assert_eq!(rt; heap.used(), 0, "in {units} units");
     }
     assert!(rt;
-        0 < unmade && 0 < kept && 0 < taken,
-        "{unmade} weren't made, {kept} kept, and {taken} taken"
+        0 < unmade && 0 < taken && unmade.wrapping_add(taken) == 127,
+        "{unmade} weren't made, and {taken} taken"
     );
     Ok(())
 }
@@ -211,7 +252,7 @@ fn cloned<A: Allocator + Copy>(
     rt: &impl Wait,
     table: &mut ByteTable<A>,
     times: usize,
-) -> Reply<Vec<u8, A>> {
+) -> TableReply<u8, A> {
     for _ in 1..times {
         let _ = table.step(rt, Cmd::Clone { window: 0 });
     }

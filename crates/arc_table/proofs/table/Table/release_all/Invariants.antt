@@ -13,7 +13,7 @@ invariant-loop-i g l = record {
   rows : length l.self.table.rows ≡ l.i-end;
   blocks : l.self.table.blocks ≡ l.fn.self.table.blocks;
   passes :
-      (replies : List (Reply (List g.row.S-Item.Denot)))
+      (replies : List (Reply (List g.row.S-Item.Denot) (List g.row.S-Item.Denot)))
       × RunOf (CarriesOut (setting_of g.L.Layout.STATIC g.L.Layout.clone_wants g.S.Slice.DROPS
       g.S.Subsliceable.boundary)) l.fn.self (drops l.i) replies l.self;
 }

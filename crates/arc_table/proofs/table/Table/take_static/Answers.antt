@@ -19,7 +19,7 @@ setting g =
     setting_of g.L.Layout.STATIC g.L.Layout.clone_wants g.S.Slice.DROPS g.S.Subsliceable.boundary
 
 did : (g : Over) (c : After-into_static g)
-    → Done (setting g) c.args.self.now (command.TakeStatic c.args.i) (reply.Items c.in-Ok.items.items)
+    → Done (setting g) c.args.self.now (command.TakeStatic c.args.i) (reply.Static c.into_static.result)
     (slice_set c.self.inside.slots.items c.args.i c.replace.new.dest)
     c.self.inside.passes.of_blocks.items
 did g c =
@@ -27,7 +27,7 @@ did g c =
     let passes = c.self.inside.passes.of_blocks.items in
     let i = c.args.i in
     let s = c.in-Some-replace.slot in
-    let items = c.in-Ok.items.items in
+    let items = c.into_static.result in
     let got = ap (λ ss. slice_get ss i) (sym c.deref.ensures.value) ∙ c.in-Some.ensures in
     let there =
     read-there slots i c.index_mut.result.now _ got c.index_mut.ensures.value
@@ -36,12 +36,10 @@ did g c =
     let off : is_some (block_of (row_of s).place) ≡ false =
     ap (λ (v : SlotView g.row.S-Item.Denot). is_some (block_of (row_of v).place)) (sym one)
     ∙ sym c.is_on_block.ensures ∙ c.if-is_on_block.false in
-    let same : items ≡ s.window.items =
-    c.in-Ok.ensures.items ∙ c.as_slice.ensures
-    ∙ ap (λ (v : SlotView g.row.S-Item.Denot). v.window.items) one in
+    let same : items ≡ s.window.items = c.into_static.ensures in
     let slots' = slice_set slots i c.replace.new.dest in
     subst (λ (o : State g.row.S-Item.Denot).
-    Done (setting g) o (command.TakeStatic i) (reply.Items items) slots' passes) c.self.view_is
+    Done (setting g) o (command.TakeStatic i) (reply.Static items) slots' passes) c.self.view_is
     (takes (setting g) slots passes i s there c.self.invariant items slots' off same
     (ap (slice_set slots i) c.replace.ensures.after))
 
