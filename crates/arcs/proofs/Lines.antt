@@ -24,7 +24,7 @@ use Rattle.arcs.proofs.Words.{all_by}
 -- ---- each line, and each list of lines
 
 -- what a line is answered where nothing is short, by what it says
-abbrev pub answered : ByteTable → Option (Cmd (List ℕ) (List ℕ)) → Option (Reply (List ℕ)) × ByteTable
+abbrev pub answered : ByteTable → Option (Cmd (List ℕ) (List ℕ)) → Option (Reply (List ℕ) (List ℕ)) × ByteTable
 answered old None = (None, old)
 answered old (Some c) =
     (Some (answer byte_setting no_shortage old c).0, (answer byte_setting no_shortage old c).1)
@@ -36,11 +36,11 @@ answered_is old line (Some c) e = (c, reading_says line c e, answer_step byte_se
 pub line_answered : (old : ByteTable) (line : List ℕ) → Answers old line (answered old (reading line)).0 (answered old (reading line)).1
 line_answered old line = answered_is old line (reading line) refl
 
-pub answers_exist : (old : ByteTable) (line : List ℕ) → (a : Option (Reply (List ℕ))) × (new : ByteTable) × Answers old line a new
+pub answers_exist : (old : ByteTable) (line : List ℕ) → (a : Option (Reply (List ℕ) (List ℕ))) × (new : ByteTable) × Answers old line a new
 answers_exist old line = ((answered old (reading line)).0, (answered old (reading line)).1, line_answered old line)
 
 -- the replies to lines where nothing is short, and the table after them
-abbrev pub script : ByteTable → List (List ℕ) → List (Option (Reply (List ℕ))) × ByteTable
+abbrev pub script : ByteTable → List (List ℕ) → List (Option (Reply (List ℕ) (List ℕ))) × ByteTable
 script old [] = ([], old)
 script old (line ∷ lines) =
     let first = answered old (reading line) in
@@ -51,7 +51,7 @@ pub script_runs : (old : ByteTable) (lines : List (List ℕ)) → RunOf Answers 
 script_runs old [] = refl
 script_runs old (line ∷ lines) = (_, line_answered old line, script_runs (answered old (reading line)).1 lines)
 
-pub run_exists : (old : ByteTable) (lines : List (List ℕ)) → (replies : List (Option (Reply (List ℕ)))) × (new : ByteTable) × RunOf Answers old lines replies new
+pub run_exists : (old : ByteTable) (lines : List (List ℕ)) → (replies : List (Option (Reply (List ℕ) (List ℕ)))) × (new : ByteTable) × RunOf Answers old lines replies new
 run_exists old lines = ((script old lines).0, (script old lines).1, script_runs old lines)
 
 -- ---- no line feed
@@ -78,12 +78,12 @@ want_answers old line said = (said.0, said.1, items_want byte_setting old said.0
 
 -- ---- a text that goes on
 
-ended_append : (xs ys : List (Option (Reply (List ℕ)))) → ended (map answer_text (xs ++ ys)) ≡ ended (map answer_text xs) ++ ended (map answer_text ys)
+ended_append : (xs ys : List (Option (Reply (List ℕ) (List ℕ)))) → ended (map answer_text (xs ++ ys)) ≡ ended (map answer_text xs) ++ ended (map answer_text ys)
 ended_append xs ys = ap ended (map-append answer_text xs ys) ∙ flat_map-append (λ (line : List ℕ). line ++ line_feed ∷ []) (map answer_text xs) (map answer_text ys)
 
 -- What is written before the replies to some first lines are all written begins what is written for
 -- the input.
-pub begins : (input text more : List ℕ) (lines rest : List (List ℕ)) (replies : List (Option (Reply (List ℕ)))) (mid : ByteTable)
+pub begins : (input text more : List ℕ) (lines rest : List (List ℕ)) (replies : List (Option (Reply (List ℕ) (List ℕ)))) (mid : ByteTable)
     → AreLines input (lines ++ rest) → RunOf Answers empty_table lines replies mid → text ++ more ≡ ended (map answer_text replies) → BeginsReplyText input text
 begins input text more lines rest replies mid cut run written =
     let others = (script mid rest).0 in

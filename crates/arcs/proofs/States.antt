@@ -21,7 +21,7 @@ use Rattle.arc_table.proofs.Runs.{run_seen}
 
 -- a line that was read is answered
 pub line_carried_out : {A : Type 0} (old : ByteState) (said : Option (Cmd (Vec ℕ A) (List ℕ)))
-    (answer : Option (Reply (List ℕ))) (new : ByteState)
+    (answer : Option (Reply (List ℕ) (List ℕ))) (new : ByteState)
     → CarriesOutSaid old (option_map seen_command said) answer new
     → (line : List ℕ) → IsReadAs line said → AnswersLine old line answer new
 line_carried_out old None None new same line bad = (bad, same)
@@ -46,7 +46,7 @@ line_ends held too_long old new said out out' read into = record {
 pub line_may_end : {A : Type 0} (held : List ℕ) (too_long : Bool) (old new : ByteState)
     (said : Option (Cmd (Vec ℕ A) (List ℕ)))
     → ((line : List ℕ) → Holds held too_long line → IsReadAs line said)
-    → (answer : Option (Reply (List ℕ)))
+    → (answer : Option (Reply (List ℕ) (List ℕ)))
     × CarriesOutSaid old (option_map seen_command said) answer new
     → MayEnd held too_long old new
 line_may_end held too_long old new said read does = inr (
@@ -55,12 +55,12 @@ line_may_end held too_long old new said read does = inr (
 )
 
 -- the tables answer it so, too
-table_answers : (old : ByteState) (line : List ℕ) (answer : Option (Reply (List ℕ))) (new : ByteState)
+table_answers : (old : ByteState) (line : List ℕ) (answer : Option (Reply (List ℕ) (List ℕ))) (new : ByteState)
     → AnswersLine old line answer new → Answers old.table line answer new.table
 table_answers old line (Some reply) new does = (does.0, does.1, does.2.rows)
 table_answers old line None new bad = (bad.0, ap (λ (s : ByteState). s.table) bad.1)
 
-table_run : (old : ByteState) (lines : List (List ℕ)) (replies : List (Option (Reply (List ℕ))))
+table_run : (old : ByteState) (lines : List (List ℕ)) (replies : List (Option (Reply (List ℕ) (List ℕ))))
     (new : ByteState) → RunOf AnswersLine old lines replies new
     → RunOf Answers old.table lines replies new.table
 table_run = run_seen AnswersLine Answers (λ (s : ByteState). s.table) table_answers

@@ -25,7 +25,7 @@ ended-append : (xs ys : List (List ℕ)) → ended (xs ++ ys) ≡ ended xs ++ en
 ended-append = flat_map-append (λ line. line ++ line_feed ∷ [])
 
 -- the texts of one answer more stand behind those so far
-texts-push : (xs : List (Option (Reply (List ℕ)))) (x : Option (Reply (List ℕ)))
+texts-push : (xs : List (Option (Reply (List ℕ) (List ℕ)))) (x : Option (Reply (List ℕ) (List ℕ)))
     → ended (map answer_text (xs ++ x ∷ []))
     ≡ ended (map answer_text xs) ++ (answer_text x ++ line_feed ∷ [])
 texts-push xs x =
@@ -164,7 +164,7 @@ module _ {start input out held : List ℕ} {writer : Traffic} {state : ByteState
   all_ended = all-append HasNoFeed u.whole (u.line ∷ []) u.each (u.last, tt)
 
   -- the replies with one more
-  one_answered : (answer : Option (Reply (List ℕ)))
+  one_answered : (answer : Option (Reply (List ℕ) (List ℕ)))
       → u.text ++ (out ++ (answer_text answer ++ line_feed ∷ []))
       ≡ ended (map answer_text (u.replies ++ answer ∷ []))
   one_answered answer =
@@ -172,7 +172,7 @@ module _ {start input out held : List ℕ} {writer : Traffic} {state : ByteState
       ∙ ap (λ xs. xs ++ (answer_text answer ++ line_feed ∷ [])) u.written
       ∙ sym (texts-push u.replies answer)
 
-  run_on : (answer : Option (Reply (List ℕ))) (state' : ByteState)
+  run_on : (answer : Option (Reply (List ℕ) (List ℕ))) (state' : ByteState)
       → AnswersHeld held too_long state answer state'
       → RunOf AnswersLine empty_state (u.whole ++ u.line ∷ []) (u.replies ++ answer ∷ []) state'
   run_on answer state' answered =

@@ -44,17 +44,18 @@ IsBad line = (c : Cmd (List ℕ) (List ℕ)) → ¬ Says line c
 
 -- what a line is answered: one step of the command that it says, or None where it says none and
 -- nothing changes
-abbrev pub AnswersBy : {S : Type 0} → (S → Cmd (List ℕ) (List ℕ) → Reply (List ℕ) → S → Type 0)
-    → S → List ℕ → Option (Reply (List ℕ)) → S → Type 0
+abbrev pub AnswersBy : {S : Type 0}
+    → (S → Cmd (List ℕ) (List ℕ) → Reply (List ℕ) (List ℕ) → S → Type 0) → S → List ℕ
+    → Option (Reply (List ℕ) (List ℕ)) → S → Type 0
 AnswersBy step old line (Some reply) new = (c : Cmd (List ℕ) (List ℕ)) × Says line c
     × step old c reply new
 AnswersBy step old line None new = IsBad line × (new ≡ old)
 
 -- of a table
-abbrev pub Answers : ByteTable → List ℕ → Option (Reply (List ℕ)) → ByteTable → Type 0
+abbrev pub Answers : ByteTable → List ℕ → Option (Reply (List ℕ) (List ℕ)) → ByteTable → Type 0
 Answers old line answer new = AnswersBy (Step byte_setting) old line answer new
 
-abbrev pub answer_text : Option (Reply (List ℕ)) → List ℕ
+abbrev pub answer_text : Option (Reply (List ℕ) (List ℕ)) → List ℕ
 answer_text (Some reply) = reply_text reply
 answer_text None = codes "bad line"
 
@@ -62,7 +63,7 @@ answer_text None = codes "bad line"
 -- line feed
 pub record IsReplyText (input text : List ℕ) : Type 0 where
   pub lines : List (List ℕ)
-  pub replies : List (Option (Reply (List ℕ)))
+  pub replies : List (Option (Reply (List ℕ) (List ℕ)))
   pub after : ByteTable
   pub cut : AreLines input lines
   pub run : RunOf Answers empty_table lines replies after

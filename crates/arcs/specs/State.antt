@@ -10,12 +10,12 @@ abbrev pub ByteState : Type 0
 ByteState = State ℕ
 
 -- the command that a line says is carried out; where it says none, nothing changes
-abbrev pub CarriesOutSaid : ByteState → Option (Cmd (List ℕ) (List ℕ)) → Option (Reply (List ℕ))
-    → ByteState → Type 0
+abbrev pub CarriesOutSaid : ByteState → Option (Cmd (List ℕ) (List ℕ))
+    → Option (Reply (List ℕ) (List ℕ)) → ByteState → Type 0
 CarriesOutSaid old (Some c) (Some reply) new = CarriesOut byte_setting old c reply new
 CarriesOutSaid old None None new = new ≡ old
 CarriesOutSaid old said answer new = ⊥
 
 -- what a line is answered, where the command that it says is carried out
-abbrev pub AnswersLine : ByteState → List ℕ → Option (Reply (List ℕ)) → ByteState → Type 0
+abbrev pub AnswersLine : ByteState → List ℕ → Option (Reply (List ℕ) (List ℕ)) → ByteState → Type 0
 AnswersLine old line answer new = AnswersBy (CarriesOut byte_setting) old line answer new

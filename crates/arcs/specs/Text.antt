@@ -103,12 +103,13 @@ owner_text owner.AllocError = codes "allocation error"
 owner_text owner.CountFull = codes "count full"
 
 -- a reply as a text
-abbrev pub reply_text : Reply (List ℕ) → List ℕ
+abbrev pub reply_text : Reply (List ℕ) (List ℕ) → List ℕ
 reply_text (reply.New number) = codes "h" ++ decimal number
 reply_text reply.Ok = codes "ok"
 reply_text reply.Yes = codes "yes"
 reply_text reply.No = codes "no"
 reply_text (reply.Items items) = items_word items
+reply_text (reply.Static items) = items_word items
 reply_text (reply.Number n) = decimal n
 reply_text reply.NoWindow = codes "no window"
 reply_text reply.Kind = codes "kind"

@@ -21,7 +21,7 @@ use Rattle.arcs.specs.declared.script.ScriptError.TheVariants.{Read, Write, Allo
 pub record HasRun (state : ByteState) (input text : List ℕ) (left : List (List ℕ))
     (unwritten : List ℕ) : Type 0 where
   pub lines : List (List ℕ)
-  pub replies : List (Option (Reply (List ℕ)))
+  pub replies : List (Option (Reply (List ℕ) (List ℕ)))
   pub cut : AreLines input (lines ++ left)
   pub run : RunOf AnswersLine empty_state lines replies state
   pub written : text ++ unwritten ≡ ended (map answer_text replies)
@@ -36,7 +36,7 @@ IsThrough state input text = HasRun state input text [] []
 abbrev pub MayLack : ScriptError → List ℕ → Type 0
 MayLack Read unwritten = unwritten ≡ []
 MayLack Write unwritten = ⊤
-MayLack Alloc unwritten = (unwritten ≡ []) ⊎ ((answer : Option (Reply (List ℕ)))
+MayLack Alloc unwritten = (unwritten ≡ []) ⊎ ((answer : Option (Reply (List ℕ) (List ℕ)))
     × (unwritten ≡ answer_text answer ++ line_feed ∷ []))
 
 -- it was broken off by this fault
@@ -62,7 +62,7 @@ pub record IsUnderway (start input : List ℕ) (writer : Traffic) (out : List �
   pub text : List ℕ
   pub whole : List (List ℕ)
   pub line : List ℕ
-  pub replies : List (Option (Reply (List ℕ)))
+  pub replies : List (Option (Reply (List ℕ) (List ℕ)))
   pub taken : writer.bytes ≡ start ++ text
   pub cut : input ≡ ended whole ++ line
   pub each : AllByRecursion HasNoFeed whole
@@ -92,25 +92,27 @@ pub record IsBegun (fault : ScriptError) (start input : List ℕ) (writer : Traf
   pub lacks : MayLack fault lacking
 
 -- whatever line was held, it is answered so
-abbrev pub AnswersHeld : List ℕ → Bool → ByteState → Option (Reply (List ℕ)) → ByteState → Type 0
+abbrev pub AnswersHeld : List ℕ → Bool → ByteState → Option (Reply (List ℕ) (List ℕ)) → ByteState
+    → Type 0
 AnswersHeld held too_long old answer new =
     (line : List ℕ) → Holds held too_long line → AnswersLine old line answer new
 
 -- What a line was read as is carried out, and what it is answered stands in out too.
 pub record AnswersInto (said : Option (Cmd (List ℕ) (List ℕ))) (old new : ByteState)
     (out out' : List ℕ) : Type 0 where
-  pub answer : Option (Reply (List ℕ))
+  pub answer : Option (Reply (List ℕ) (List ℕ))
   pub does : CarriesOutSaid old said answer new
   pub appended : out' ≡ out ++ (answer_text answer ++ line_feed ∷ [])
 
 -- The line that was held is answered, in out too.
 pub record Ends (held : List ℕ) (too_long : Bool) (old new : ByteState)
     (out out' : List ℕ) : Type 0 where
-  pub answer : Option (Reply (List ℕ))
+  pub answer : Option (Reply (List ℕ) (List ℕ))
   pub answered : AnswersHeld held too_long old answer new
   pub appended : out' ≡ out ++ (answer_text answer ++ line_feed ∷ [])
 
 -- The line that was held isn't answered, or is, but not in out.
 abbrev pub MayEnd : List ℕ → Bool → ByteState → ByteState → Type 0
 MayEnd held too_long old new =
-    (new ≡ old) ⊎ ((answer : Option (Reply (List ℕ))) × AnswersHeld held too_long old answer new)
+    (new ≡ old) ⊎ ((answer : Option (Reply (List ℕ) (List ℕ)))
+    × AnswersHeld held too_long old answer new)

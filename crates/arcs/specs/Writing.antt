@@ -12,5 +12,5 @@ pub record Extends (old new : List ℕ) : Type 0 where
   pub is : new ≡ old ++ more
 
 -- what a line is answered, with its line feed, where X holds items
-abbrev pub answer_line : {X : Type 0} → (X → List ℕ) → Option (Reply X) → List ℕ
+abbrev pub answer_line : {X : Type 0} → (X → List ℕ) → Option (Reply X (List ℕ)) → List ℕ
 answer_line items answer = answer_text (option_map (map_reply items) answer) ++ line_feed ∷ []

@@ -23,6 +23,7 @@ use crate::io::{Sink, Source};
 use crate::parse::{Command, LONGEST_LINE, parse};
 use crate::text::push_answer;
 use arc_block::layout::DefaultLayout;
+use arc_block::static_slice::StaticSlice;
 use arc_buffer::kinds::Plain;
 use arc_owners::error::AllocError;
 use arc_table::command::{Cmd, Reply};
@@ -103,7 +104,7 @@ fn answer<A: Allocator + Copy>(
     ensures ok { OnOk result (AnswersInto (option_map seen_command said) table.old table.new
         out.old.items out.new.items) }
     ensures err { OnErr result (out.new.items ≡ out.old.items) }
-    ensures broken { OnErr result ((reply : Option (Reply (List ℕ)))
+    ensures broken { OnErr result ((reply : Option (Reply (List ℕ) (List ℕ)))
         × CarriesOutSaid table.old (option_map seen_command said) reply table.new) }
 {
     match said {
@@ -112,7 +113,7 @@ fn answer<A: Allocator + Copy>(
             let reply = table.step(rt, command);
             push_answer(out, &Some(reply))
         }
-        None => push_answer(out, &None::<Reply<&[u8]>>),
+        None => push_answer(out, &None::<Reply<&[u8], StaticSlice<u8>>>),
     }
 }
 

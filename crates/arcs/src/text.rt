@@ -4,6 +4,7 @@ ghost use Rattle.arcs.specs.Text.{hex, hex_digit, items_word, owner_text, range_
 ghost use Rattle.arc_table.specs.Seen.{map_reply};
 ghost use Rattle.arcs.specs.Writing.{Extends, answer_line};
 
+use arc_block::static_slice::StaticSlice;
 use arc_owners::error::{AllocError, OwnerError, RangeError};
 use arc_table::command::Reply;
 use itoa::Buffer;
@@ -91,7 +92,7 @@ fn push_items<A: Allocator>(out: &mut Vec<u8, A>, items: &[u8]) -> Result<(), Al
 /// Appends the text of a reply. An `Err` may leave a part of it.
 fn push_reply<A: Allocator, X: AsSlice<u8>>(
     out: &mut Vec<u8, A>,
-    reply: &Reply<X>,
+    reply: &Reply<X, StaticSlice<u8>>,
 ) -> Result<(), AllocError>
     ensures ok { OnOk result
         (out.new.items ≡ out.old.items ++ reply_text (map_reply X.items reply.now)) }
@@ -106,6 +107,7 @@ fn push_reply<A: Allocator, X: AsSlice<u8>>(
         Reply::Yes => out.extend_from_slice(b"yes")?,
         Reply::No => out.extend_from_slice(b"no")?,
         Reply::Items(items) => push_items(out, items.as_slice())?,
+        Reply::Static(items) => push_items(out, items.as_slice())?,
         Reply::Number(number) => push_number(out, *number)?,
         Reply::NoWindow => out.extend_from_slice(b"no window")?,
         Reply::Kind => out.extend_from_slice(b"kind")?,
@@ -120,7 +122,7 @@ fn push_reply<A: Allocator, X: AsSlice<u8>>(
 /// Appends what a line is answered. An `Err` may leave a part of it.
 fn push_line<A: Allocator, X: AsSlice<u8>>(
     out: &mut Vec<u8, A>,
-    answer: &Option<Reply<X>>,
+    answer: &Option<Reply<X, StaticSlice<u8>>>,
 ) -> Result<(), AllocError>
     ensures ok { OnOk result (out.new.items ≡ out.old.items ++ answer_line X.items answer.now) }
     ensures err { OnErr result (Extends out.old.items out.new.items) }
@@ -138,7 +140,7 @@ fn push_line<A: Allocator, X: AsSlice<u8>>(
 /// room: `Err` where that is refused, and `out` then has the bytes that it had.
 pub fn push_answer<A: Allocator, X: AsSlice<u8>>(
     out: &mut Vec<u8, A>,
-    answer: &Option<Reply<X>>,
+    answer: &Option<Reply<X, StaticSlice<u8>>>,
 ) -> Result<(), AllocError>
     ensures ok { OnOk result (out.new.items ≡ out.old.items ++ answer_line X.items answer.now) }
     ensures err { OnErr result (out.new.items ≡ out.old.items) }

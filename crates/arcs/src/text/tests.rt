@@ -2,7 +2,7 @@ use super::*;
 
 fn writes(
     rt: &HostRuntime,
-    answer: Option<Reply<Vec<u8>>>,
+    answer: Option<Reply<Vec<u8>, StaticSlice<u8>>>,
     text: &[u8],
 ) -> Result<bool, AllocError> {
     let mut out = Vec::new(rt.alloc());
@@ -73,5 +73,8 @@ fn items(rt: HostRuntime) -> Result<(), AllocError> {
     assert!(rt; writes(&rt, Some(Reply::Items(hello)), b"48656c6c6f\n")?);
     let ends = Vec::from_slice(rt.alloc(), &[0, 255])?;
     assert!(rt; writes(&rt, Some(Reply::Items(ends)), b"00ff\n")?);
+    let slice = StaticSlice::new(b"Hello");
+    assert!(rt; writes(&rt, Some(Reply::Static(slice)), b"48656c6c6f\n")?);
+    assert!(rt; writes(&rt, Some(Reply::Static(StaticSlice::empty())), b"-\n")?);
     Ok(())
 }
