@@ -51,7 +51,7 @@ impl<S: Slice, L: Layout, A: Allocator + Copy, H: Mark> Drop for ArcSlice<S, L, 
 }
 
 impl<S: Slice, L: Layout, A: Allocator + Copy, H: Mark> ArcSlice<S, L, A, H> {
-    /// A window with no items, which stands on nothing. Takes no memory.
+    /// A window with no items, which stands on nothing.
     pub fn new(alloc: A) -> Self
     where
         S: Emptyable,
@@ -62,7 +62,7 @@ impl<S: Slice, L: Layout, A: Allocator + Copy, H: Mark> ArcSlice<S, L, A, H> {
     }
 
     /// The window of these parts, which are those of a window that is read, with a list that is
-    /// legal, on what the layout holds. It adds nothing and takes no memory.
+    /// legal, on what the layout holds. It adds nothing.
     #[inline(always)]
     pub fn from_parts(parts: Parts<S, A, H>) -> Self
         requires role { parts.role ≡ reader }
@@ -76,7 +76,7 @@ impl<S: Slice, L: Layout, A: Allocator + Copy, H: Mark> ArcSlice<S, L, A, H> {
         }
     }
 
-    /// What the window is made of. It adds nothing and takes no memory.
+    /// What the window is made of. It adds nothing.
     #[inline(always)]
     pub fn into_parts(self) -> Parts<S, A, H>
         ensures parts { result ≡ parts_of self }

@@ -36,13 +36,16 @@ impl<S: Slice, L: Layout, A: Allocator + Copy, H: Mark> ArcSlice<S, L, A, H> {
 
     /// Another window with the same items at the same place, an owner more of the block.
     ///
-    /// Copies no item, and takes no memory but where the layout's clones want it. It takes `rt`
-    /// since an attempt that another thread disturbs is tried again.
+    /// Copies no item. It takes `rt` since an attempt that another thread disturbs is tried again.
     ///
     /// # Errors
     ///
     /// On a block `CountFull`, exactly where `MAX_OWNERS` owners live, and `AllocError`, only where
     /// the layout's clones may want memory on a block of its sort.
+    ///
+    /// # Allocates
+    ///
+    /// Only where the layout's clones want memory on a block of its sort.
     ///
     /// # History
     ///
@@ -104,12 +107,15 @@ impl<S: Slice, L: Layout, A: Allocator + Copy, H: Mark> ArcSlice<S, L, A, H> {
     /// A window over the items from `start` to `end`, an owner more of the block. With no items it
     /// stands on nothing where the layout has static data, and nothing is added.
     ///
-    /// Copies no item, and takes no memory but where the layout's clones want it. It takes `rt`
-    /// since an attempt that another thread disturbs is tried again.
+    /// Copies no item. It takes `rt` since an attempt that another thread disturbs is tried again.
     ///
     /// # Errors
     ///
     /// Those of `try_clone_as`, where the part stands on a block.
+    ///
+    /// # Allocates
+    ///
+    /// Only where `try_clone_as` does.
     ///
     /// # History
     ///
@@ -148,8 +154,8 @@ impl<S: Slice, L: Layout, A: Allocator + Copy, H: Mark> ArcSlice<S, L, A, H> {
 }
 
 impl<S: Subsliceable, L: Layout, A: Allocator + Copy, H: Mark> ArcSlice<S, L, A, H> {
-    /// Takes the first `n` items off the window, which stays on its block, also with no items.
-    /// Takes no memory and adds nothing.
+    /// Takes the first `n` items off the window, which stays on its block, also with no items. It
+    /// adds nothing.
     pub fn advance(&mut self, n: usize)
         requires { IsEdge S.boundary self.old.items n }
         ensures { self.new ≡ record {
@@ -162,7 +168,7 @@ impl<S: Subsliceable, L: Layout, A: Allocator + Copy, H: Mark> ArcSlice<S, L, A,
     }
 
     /// Leaves the window's first `n` items, or all where it has no more. It stays on its block,
-    /// also with no items. Takes no memory and adds nothing.
+    /// also with no items. It adds nothing.
     pub fn truncate(&mut self, n: usize)
         requires { n < length self.old.items → IsEdge S.boundary self.old.items n }
         ensures { self.new ≡ record { items = take n self.old.items; place = self.old.place } }

@@ -41,7 +41,13 @@ impl<S: Slice, L: Layout, A: Allocator + Copy, H: Mark> ArcSlice<S, L, A, H> {
     /// data, else they stand on a new native block with exactly a place for each. The pass, which
     /// is of no block, becomes the block's; the window is owner 0.
     ///
-    /// Takes memory for a block; refused, the answer is `AllocError`, and the pass is as before.
+    /// # Errors
+    ///
+    /// `AllocError` where memory for a block is refused; the pass is then as before.
+    ///
+    /// # Allocates
+    ///
+    /// Where the items need a block.
     pub fn try_from_slice_as(
         alloc: A,
         items: &[S::Item],
@@ -59,7 +65,14 @@ impl<S: Slice, L: Layout, A: Allocator + Copy, H: Mark> ArcSlice<S, L, A, H> {
     }
 
     /// A window over an array's items, which are moved into a block as by `try_from_slice_as`.
-    /// Refused memory, the array comes back.
+    ///
+    /// # Errors
+    ///
+    /// The array comes back where memory for a block is refused; the pass is then as before.
+    ///
+    /// # Allocates
+    ///
+    /// Where the items need a block.
     #[tactic(auto, using(arc_block::proofs::Held::made_held))]
     pub fn try_from_array_as<const N: usize>(
         alloc: A,
@@ -83,7 +96,7 @@ impl<S: Slice, L: Layout, A: Allocator + Copy, H: Mark> ArcSlice<S, L, A, H> {
 
 impl<S: AnyItems, L: StaticLayout, A: Allocator + Copy, H: Mark> ArcSlice<S, L, A, H> {
     /// A window over a slice that is there for good. It is no owner: its clones and cuts add
-    /// nothing and are never refused. Takes no memory.
+    /// nothing and are never refused.
     pub fn from_static(alloc: A, items: &'static [S::Item]) -> Self
     where
         S::Item: 'static,
@@ -96,7 +109,13 @@ impl<S: AnyItems, L: StaticLayout, A: Allocator + Copy, H: Mark> ArcSlice<S, L, 
 impl<S: Slice, L: Layout, A: Allocator + Copy> ArcSlice<S, L, A, Open> {
     /// A window over a copy of the items: `try_from_slice_as` with a new pass.
     ///
-    /// Takes memory for a block; refused, the answer is `AllocError`.
+    /// # Errors
+    ///
+    /// `AllocError` where memory for a block is refused.
+    ///
+    /// # Allocates
+    ///
+    /// Where the items need a block.
     pub fn try_from_slice(alloc: A, items: &[S::Item]) -> Result<Self, AllocError>
     where
         S: CopySlice,
@@ -107,8 +126,15 @@ impl<S: Slice, L: Layout, A: Allocator + Copy> ArcSlice<S, L, A, Open> {
         Self::try_from_slice_as(alloc, items, &mut Pass::none())
     }
 
-    /// A window over an array's items: `try_from_array_as` with a new pass. Refused memory, the
-    /// array comes back.
+    /// A window over an array's items: `try_from_array_as` with a new pass.
+    ///
+    /// # Errors
+    ///
+    /// The array comes back where memory for a block is refused.
+    ///
+    /// # Allocates
+    ///
+    /// Where the items need a block.
     pub fn try_from_array<const N: usize>(
         alloc: A,
         array: [S::Item; N],

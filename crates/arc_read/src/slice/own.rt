@@ -15,8 +15,11 @@ use arc_owners::owners::Pass;
 use std::alloc::Allocator;
 
 impl<S: Slice, L: Layout, A: Allocator + Copy, H: Mark> ArcSlice<S, L, A, H> {
-    /// Whether no other owner of the block lives, by one load: on a block it adds Alone with the
-    /// answer. `false` on no block. Takes no memory.
+    /// Whether no other owner of the block lives, by one load. `false` on no block.
+    ///
+    /// # History
+    ///
+    /// On a block Alone with the answer.
     #[inline(always)]
     pub fn is_unique_as(&self, pass: &mut Pass<H>) -> bool
         requires pass { IsPassAt self.now.place pass.old }
@@ -27,11 +30,16 @@ impl<S: Slice, L: Layout, A: Allocator + Copy, H: Mark> ArcSlice<S, L, A, H> {
     }
 
     /// The items as an array, where the window has `N` of them, which are all places of a native
-    /// block, and no other owner lives. On success it adds Alone and Down. Else the window comes
-    /// back, and Alone was added with no where only the count could decide; on no block it always
-    /// comes back.
+    /// block, and no other owner lives. Else the window comes back.
     ///
-    /// Takes no memory.
+    /// # Errors
+    ///
+    /// The window, on no block always.
+    ///
+    /// # History
+    ///
+    /// Taken, Alone and Down. Refused, Alone with no where only the count could decide, and else
+    /// nothing.
     pub fn try_into_array_as<const N: usize>(self, pass: &mut Pass<H>) -> Result<[S::Item; N], Self>
         requires pass { IsPassAt self.place pass.old }
         ensures taken { IfOk result (λ array. IsWholeOf N self × (array ≡ self.items)) }
@@ -47,7 +55,6 @@ impl<S: Slice, L: Layout, A: Allocator + Copy, H: Mark> ArcSlice<S, L, A, H> {
     }
 
     /// The items as a slice that is there for good, where the window stands on one, or on nothing.
-    /// It adds nothing and takes no memory.
     ///
     /// # Errors
     ///
@@ -65,8 +72,11 @@ impl<S: Slice, L: Layout, A: Allocator + Copy, H: Mark> ArcSlice<S, L, A, H> {
         }
     }
 
-    /// Ends the window. On a block it adds Down, and the last owner gives the block back. Takes no
-    /// memory.
+    /// Ends the window. The last owner gives the block back.
+    ///
+    /// # History
+    ///
+    /// On a block Down.
     #[inline(always)]
     pub fn release_as(self, pass: &mut Pass<H>)
         requires pass { IsPassAt self.place pass.old }
@@ -77,8 +87,11 @@ impl<S: Slice, L: Layout, A: Allocator + Copy, H: Mark> ArcSlice<S, L, A, H> {
     }
 
     /// Ends the window: it reads the count first, and gives the block back without a further step
-    /// where no other owner lives, else it counts down. On a block it adds Alone with what was
-    /// found, then Down. Takes no memory.
+    /// where no other owner lives, else it counts down.
+    ///
+    /// # History
+    ///
+    /// On a block Alone with what was found, then Down.
     pub fn drop_with_unique_hint_as(self, pass: &mut Pass<H>)
         requires pass { IsPassAt self.place pass.old }
         ensures entries { at_owner self.place (pass.new ≡ pass.old) (λ o.
@@ -96,8 +109,7 @@ impl<S: Slice, L: Layout, A: Allocator + Copy, H: Mark> ArcSlice<S, L, A, H> {
         ArcSlice::from_parts(self.into_parts().into_kind())
     }
 
-    /// Afterwards the first pass has seen at least what the other had. It adds nothing and takes no
-    /// memory.
+    /// Afterwards the first pass has seen at least what the other had. It adds nothing.
     pub fn learn(&self, pass: &mut Pass<H>, other: &Pass<H>)
         requires pass { IsPassAt self.now.place pass.old }
         requires other { IsPassAt self.now.place other.now }
@@ -121,7 +133,7 @@ impl<S: Slice, L: Layout, A: Allocator + Copy, H: Mark> ArcSlice<S, L, A, H> {
 
 impl<S: Slice, L: Layout, A: Allocator + Copy, H: Stepping> ArcSlice<S, L, A, H> {
     /// A new pass of the window's block, which has seen at least how the window became an owner,
-    /// and made nothing; on no block a pass of none. It adds nothing and takes no memory.
+    /// and made nothing; on no block a pass of none. It adds nothing.
     pub fn pass(&self) -> Pass<H>
         ensures { at_owner self.now.place (IsPassOfNone result) (λ o. IsNewPass o result) }
     {

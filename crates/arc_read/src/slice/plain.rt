@@ -21,6 +21,10 @@ use std::sync::Wait;
 impl<S: Slice, L: Layout, A: Allocator + Copy, H: Stepping> ArcSlice<S, L, A, H> {
     /// Whether no other owner of the block lives: `is_unique_as` with a new pass. `false` on no
     /// block.
+    ///
+    /// # History
+    ///
+    /// That of `is_unique_as`.
     #[inline(always)]
     pub fn is_unique(&self) -> bool
         ensures entry { WithNewPass {H = H} H.real self.now.place (λ first last.
@@ -34,6 +38,14 @@ impl<S: Slice, L: Layout, A: Allocator + Copy, H: Stepping> ArcSlice<S, L, A, H>
     }
 
     /// The items as an array: `try_into_array_as` with a new pass.
+    ///
+    /// # Errors
+    ///
+    /// Those of `try_into_array_as`.
+    ///
+    /// # History
+    ///
+    /// That of `try_into_array_as`.
     pub fn try_into_array<const N: usize>(self) -> Result<[S::Item; N], Self>
         ensures taken { IfOk result (λ array. IsWholeOf N self × (array ≡ self.items)) }
         ensures entries { IfOk result (λ _. WithNewPass {H = H} H.real self.place (λ first last.
@@ -49,6 +61,10 @@ impl<S: Slice, L: Layout, A: Allocator + Copy, H: Stepping> ArcSlice<S, L, A, H>
     }
 
     /// Ends the window: `drop_with_unique_hint_as` with a new pass.
+    ///
+    /// # History
+    ///
+    /// That of `drop_with_unique_hint_as`.
     pub fn drop_with_unique_hint(self)
         ensures entries { WithNewPass {H = H} H.real self.place (λ first last.
             at_owner self.place (last ≡ first) (λ o. AsksAndLeaves o first last)) }
@@ -63,6 +79,10 @@ impl<S: Slice, L: Layout, A: Allocator + Copy, H: Stepping> ArcSlice<S, L, A, H>
     /// # Errors
     ///
     /// Those of `try_clone_as`.
+    ///
+    /// # History
+    ///
+    /// That of `try_clone_as`.
     #[inline(always)]
     pub fn try_clone(&self, rt: &impl Wait) -> Result<Self, OwnerError>
         ensures items { IfOk result (λ window. window.items ≡ self.now.items) }
@@ -85,6 +105,10 @@ impl<S: Slice, L: Layout, A: Allocator + Copy, H: Stepping> ArcSlice<S, L, A, H>
     /// # Errors
     ///
     /// Those of `try_subslice_as`.
+    ///
+    /// # History
+    ///
+    /// That of `try_subslice_as`.
     #[inline(always)]
     pub fn try_subslice(&self, rt: &impl Wait, start: usize, end: usize) -> Result<Self, OwnerError>
     where

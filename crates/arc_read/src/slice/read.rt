@@ -36,9 +36,12 @@ impl<S: Slice, L: Layout, A: Allocator + Copy, H: Mark> ArcSlice<S, L, A, H> {
 }
 
 impl<S: Subsliceable, L: Layout, A: Allocator + Copy, H: Mark> ArcSlice<S, L, A, H> {
-    /// Whether `start` to `end` is a range of the window. `OutOfRange` where the end is past the
-    /// length, else `InvalidRange` where the start is past the end, else `NotBoundary` where the
-    /// kind may not be cut at one of them.
+    /// Whether `start` to `end` is a range of the window.
+    ///
+    /// # Errors
+    ///
+    /// `OutOfRange` where the end is past the length, else `InvalidRange` where the start is past
+    /// the end, else `NotBoundary` where the kind may not be cut at one of them.
     pub fn check_range(&self, start: usize, end: usize) -> Result<(), RangeError>
         ensures answer { result ≡ range_answer S.boundary self.now.items start end }
         ensures ok { IsOk result ↔ IsRange S.boundary self.now.items start end }
@@ -57,8 +60,12 @@ impl<S: Subsliceable, L: Layout, A: Allocator + Copy, H: Mark> ArcSlice<S, L, A,
         }
     }
 
-    /// Whether the window may be cut at `at`. `OutOfRange` where that is past the length, else
-    /// `NotBoundary` where the kind may not be cut there.
+    /// Whether the window may be cut at `at`.
+    ///
+    /// # Errors
+    ///
+    /// `OutOfRange` where that is past the length, else `NotBoundary` where the kind may not be cut
+    /// there.
     pub fn check_at(&self, at: usize) -> Result<(), RangeError>
         ensures answer { result ≡ edge_answer S.boundary self.now.items at }
         ensures ok { IsOk result ↔ IsEdge S.boundary self.now.items at }

@@ -27,8 +27,7 @@ impl<S: Subsliceable, L: Layout, A: Allocator + Copy, H: Mark> ArcSlice<S, L, A,
 
     /// Splits the window at `at`: it keeps the front, and the back is handed out. An owner more of
     /// the block has the part that is new: the back, or for `at` of 0 the front, which then has no
-    /// items. That part stands on nothing where it has no items and the layout has static data;
-    /// else Up is added, or Full where refused.
+    /// items. That part stands on nothing where it has no items and the layout has static data.
     ///
     /// Copies no item.
     ///
@@ -36,6 +35,10 @@ impl<S: Subsliceable, L: Layout, A: Allocator + Copy, H: Mark> ArcSlice<S, L, A,
     ///
     /// Those of `try_clone_as`, where the part that is new stands on a block. The window is then as
     /// before.
+    ///
+    /// # History
+    ///
+    /// Where the part that is new stands on a block Up, or Full where refused.
     pub fn try_split_off_as(
         &mut self,
         rt: &impl Wait,
@@ -65,7 +68,7 @@ impl<S: Subsliceable, L: Layout, A: Allocator + Copy, H: Mark> ArcSlice<S, L, A,
     /// Splits the window at `at`: the front is handed out, and it keeps the back. An owner more of
     /// the block has the part that is new: the front, or for `at` at the end the back, which then
     /// has no items. That part stands on nothing where it has no items and the layout has static
-    /// data; else Up is added, or Full where refused.
+    /// data.
     ///
     /// Copies no item.
     ///
@@ -73,6 +76,10 @@ impl<S: Subsliceable, L: Layout, A: Allocator + Copy, H: Mark> ArcSlice<S, L, A,
     ///
     /// Those of `try_clone_as`, where the part that is new stands on a block. The window is then as
     /// before.
+    ///
+    /// # History
+    ///
+    /// Where the part that is new stands on a block Up, or Full where refused.
     pub fn try_split_to_as(
         &mut self,
         rt: &impl Wait,
@@ -110,6 +117,10 @@ impl<S: Subsliceable, L: Layout, A: Allocator + Copy, H: Stepping> ArcSlice<S, L
     ///
     /// Those of `try_clone_as`, where the part that is new stands on a block. The window is then as
     /// before.
+    ///
+    /// # History
+    ///
+    /// That of `try_split_off_as`.
     pub fn try_split_off(&mut self, rt: &impl Wait, at: usize) -> Result<Self, OwnerError>
         requires { IsEdge S.boundary self.old.items at }
         ensures ok { IfOk result (λ back. WithNewPass {H = H} H.real self.old.place (λ first last.
@@ -135,6 +146,10 @@ impl<S: Subsliceable, L: Layout, A: Allocator + Copy, H: Stepping> ArcSlice<S, L
     ///
     /// Those of `try_clone_as`, where the part that is new stands on a block. The window is then as
     /// before.
+    ///
+    /// # History
+    ///
+    /// That of `try_split_to_as`.
     pub fn try_split_to(&mut self, rt: &impl Wait, at: usize) -> Result<Self, OwnerError>
         requires { IsEdge S.boundary self.old.items at }
         ensures ok { IfOk result (λ front. WithNewPass {H = H} H.real self.old.place (λ first last.

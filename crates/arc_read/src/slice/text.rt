@@ -25,7 +25,13 @@ impl<L: Layout, A: Allocator + Copy, H: Mark> ArcSlice<Text, L, A, H> {
     /// data, else it stands on a new native block with exactly a place for each byte. The pass,
     /// which is of no block, becomes the block's; the window is owner 0.
     ///
-    /// Takes memory for a block; refused, the answer is `AllocError`, and the pass is as before.
+    /// # Errors
+    ///
+    /// `AllocError` where memory for a block is refused; the pass is then as before.
+    ///
+    /// # Allocates
+    ///
+    /// Where the text needs a block.
     pub fn try_from_str_as(alloc: A, text: &str, pass: &mut Pass<H>) -> Result<Self, AllocError>
         requires pass { IsPassOfNone pass.old }
         ensures ok { IfOk result (λ window. Makes L.STATIC false H.whole text.now window) }
@@ -43,15 +49,18 @@ impl<L: Layout, A: Allocator + Copy, H: Mark> ArcSlice<Text, L, A, H> {
         unsafe { str::from_utf8_unchecked(self.as_slice()) }
     }
 
-    /// The same window, over bytes. Takes no memory and adds nothing.
+    /// The same window, over bytes. It adds nothing.
     pub fn into_arc_slice(self) -> ArcSlice<Plain<u8>, L, A, H>
         ensures { result ≡ self }
     {
         self.into_kind()
     }
 
-    /// The same window, over text, exactly where its bytes are valid UTF-8: else the bytes come
-    /// back, with what is wrong with them. Takes no memory and adds nothing.
+    /// The same window, over text. It adds nothing.
+    ///
+    /// # Errors
+    ///
+    /// The bytes, with what is wrong with them, exactly where they aren't valid UTF-8.
     pub fn try_from_arc_slice(
         bytes: ArcSlice<Plain<u8>, L, A, H>,
     ) -> Result<Self, (Utf8Error, ArcSlice<Plain<u8>, L, A, H>)>
@@ -68,7 +77,7 @@ impl<L: Layout, A: Allocator + Copy, H: Mark> ArcSlice<Text, L, A, H> {
 }
 
 impl<L: StaticLayout, A: Allocator + Copy, H: Mark> ArcSlice<Text, L, A, H> {
-    /// A window over a text that is there for good, as `from_static` of items. Takes no memory.
+    /// A window over a text that is there for good, as `from_static` of items.
     pub fn from_static_str(alloc: A, text: &'static str) -> Self
         ensures { result ≡ record { items = text.now; place = static_data } }
     {
@@ -79,7 +88,13 @@ impl<L: StaticLayout, A: Allocator + Copy, H: Mark> ArcSlice<Text, L, A, H> {
 impl<L: Layout, A: Allocator + Copy> ArcSlice<Text, L, A, Open> {
     /// A window over a copy of the text: `try_from_str_as` with a new pass.
     ///
-    /// Takes memory for a block; refused, the answer is `AllocError`.
+    /// # Errors
+    ///
+    /// `AllocError` where memory for a block is refused.
+    ///
+    /// # Allocates
+    ///
+    /// Where the text needs a block.
     pub fn try_from_str(alloc: A, text: &str) -> Result<Self, AllocError>
         ensures ok { IfOk result (λ window. Makes L.STATIC false false text.now window) }
         ensures refused { OnErr result (NeedsBlock L.STATIC text.now) }
@@ -89,14 +104,14 @@ impl<L: Layout, A: Allocator + Copy> ArcSlice<Text, L, A, Open> {
 }
 
 impl<L: Layout, A: Allocator + Copy, H: Mark> ArcSlice<ByteText, L, A, H> {
-    /// The same window, over bytes. Takes no memory and adds nothing.
+    /// The same window, over bytes. It adds nothing.
     pub fn into_arc_slice(self) -> ArcSlice<Plain<u8>, L, A, H>
         ensures { result ≡ self }
     {
         self.into_kind()
     }
 
-    /// The same window, over byte text. Takes no memory and adds nothing.
+    /// The same window, over byte text. It adds nothing. Never refused.
     pub fn try_from_arc_slice(
         bytes: ArcSlice<Plain<u8>, L, A, H>,
     ) -> Result<Self, (Infallible, ArcSlice<Plain<u8>, L, A, H>)>
