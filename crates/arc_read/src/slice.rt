@@ -96,8 +96,4 @@ mod own;
 mod plain;
 mod read;
 mod splits;
-#[cfg(test)]
-mod static_tests;
-#[cfg(test)]
-mod tests;
 mod text;

@@ -1,14 +1,16 @@
+//! Read windows: made, cut, split, cloned, read, taken back, and ended, each by one call or more.
 ghost use Rattle.std.specs.Prelude.{◌≡◌, IfOk};
 ghost use Rattle.arc_owners.specs.count.Calls.{IsPassOfNone};
 ghost use Rattle.arc_block.specs.Steps.{IsPassAt};
 
-use super::*;
-use arc_block::layout::{ArcLayout, BoxedSliceLayout, RawLayout, VecLayout};
+use arc_block::layout::{ArcLayout, BoxedSliceLayout, DefaultLayout, Layout, RawLayout, VecLayout};
 use arc_buffer::kinds::{AnyItems, ByteText, CopySlice, Owned, Plain, Subsliceable, Text};
 use arc_owners::error::{AllocError, OwnerError, RangeError};
-use arc_owners::mark::{Stepping, Whole};
+use arc_owners::mark::{Open, Stepping, Whole};
 use arc_owners::owners::Pass;
+use arc_read::slice::ArcSlice;
 use linked_list_allocator::LocalHeap;
+use std::alloc::Global;
 use std::sync::{Arc, Wait};
 use std::test::Fail;
 use std::thread;

@@ -1,12 +1,16 @@
+//! Windows over static slices, and windows taken apart and put together.
 ghost use Rattle.std.specs.Prelude.{◌≡◌, IfOk, IfSome};
 ghost use Rattle.arc_block.specs.Place.{nowhere};
 ghost use Rattle.arc_buffer.specs.Slice.{IsRange, sub};
 
-use super::*;
-use arc_block::layout::{ArcLayout, BoxedSliceLayout, RawLayout, VecLayout};
-use arc_buffer::kinds::{AnyItems, ByteText, Owned, Subsliceable, Text};
+use arc_block::layout::{
+    ArcLayout, BoxedSliceLayout, DefaultLayout, RawLayout, StaticLayout, VecLayout,
+};
+use arc_buffer::kinds::{AnyItems, ByteText, Owned, Plain, Subsliceable, Text};
 use arc_owners::error::{OwnerError, RangeError};
+use arc_read::slice::ArcSlice;
 use linked_list_allocator::LocalHeap;
+use std::alloc::Global;
 use std::sync::Wait;
 use std::test::Fail;
 use std::thread;

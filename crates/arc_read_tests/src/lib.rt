@@ -1,0 +1,8 @@
+//! Tests of the public functions of `arc_read`, which stand in a crate of their own so that the
+//! check of the tests doesn't prove `arc_read` once more.
+#![tactic(auto)]
+
+#[cfg(test)]
+mod static_windows;
+#[cfg(test)]
+mod windows;
