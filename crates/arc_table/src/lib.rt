@@ -6,5 +6,3 @@ pub mod laws;
 pub mod passes;
 mod slot;
 pub mod table;
-#[cfg(test)]
-mod tests;

@@ -1,11 +1,10 @@
 //! Commands and their replies: the worked rows, each call once, and memory that runs out.
-use super::*;
-use crate::command::{Cmd, Reply, TableReply};
-use crate::table::Table;
 use arc_block::layout::{ArcLayout, DefaultLayout};
 use arc_block::static_slice::StaticSlice;
 use arc_buffer::kinds::Plain;
 use arc_owners::error::RangeError;
+use arc_table::command::{Cmd, Reply, TableReply};
+use arc_table::table::Table;
 use linked_list_allocator::LocalHeap;
 use std::alloc::Allocator;
 use std::sync::Wait;
