@@ -1,14 +1,9 @@
-//! Windows driven by a script: lines in, replies out.
+//! The program `arcs`: a script over windows, from standard input to standard output.
 #![tactic(auto)]
 
-mod io;
-mod parse;
-mod program;
-mod script;
-mod text;
-
-use io::Counted;
-use program::OfSystem;
+use arc_script::io::Counted;
+use arc_script::program;
+use arc_script::program::OfSystem;
 use std::process::ExitCode;
 
 fn main(rt: HostRuntime) -> ExitCode {
@@ -25,6 +20,3 @@ fn main(rt: HostRuntime) -> ExitCode {
         &mut faults,
     ))
 }
-
-#[cfg(test)]
-mod tests;

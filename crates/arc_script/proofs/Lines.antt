@@ -1,0 +1,101 @@
+-- Each line has an answer, and each list of lines a run.
+use Rattle.std.proofs.Common.{◌≡◌, ◌≢◌, ℕ, Bool, not, eqb, true, List, [], ◌∷◌, ◌++◌, Option, Some, None, refl, sym, ap, ◌∙◌, append_assoc}
+use Rattle.std.specs.Prelude.{map}
+use Rattle.std.specs.List.{list_all, AllByRecursion}
+use Rattle.std.proofs.lemmas.Bool.{eqb-false, not-true}
+use Rattle.std.proofs.lemmas.List.{map-append}
+use Rattle.std.proofs.lemmas.List.Concat.{flat_map-append}
+use Rattle.std.proofs.lemmas.List.Elements.{All-contains, recursion_from_All}
+use Rattle.arc_block.specs.Table.{Table, empty_table}
+use Rattle.arc_table.specs.declared.command.Cmd.{Cmd}
+use Rattle.arc_table.specs.declared.command.Cmd.TheVariants.{Slice}
+use Rattle.arc_table.specs.declared.command.Reply.{Reply}
+use Rattle.arc_table.specs.declared.command.Reply.TheVariants as reply
+use Rattle.arc_table.specs.RunOf.{RunOf}
+use Rattle.arc_table.specs.Step.{Setting, no_shortage, of_table, answer}
+use Rattle.arc_script.specs.Text.{line_feed, Says}
+use Rattle.arc_script.specs.Script.{ended, HasNoFeed, AreLines, byte_setting, ByteTable, Answers, answer_text, BeginsReplyText}
+use Rattle.arc_script.specs.Reading.{BringsItems}
+use Rattle.arc_script.proofs.Forms.{reading, reading_says, unread_is_none}
+use Rattle.arc_table.proofs.Answers.{answer_step}
+use Rattle.arc_table.proofs.Runs.{run_append}
+use Rattle.arc_script.proofs.Words.{all_by}
+
+-- ---- each line, and each list of lines
+
+-- what a line is answered where nothing is short, by what it says
+abbrev pub answered : ByteTable → Option (Cmd (List ℕ) (List ℕ)) → Option (Reply (List ℕ) (List ℕ)) × ByteTable
+answered old None = (None, old)
+answered old (Some c) =
+    (Some (answer byte_setting no_shortage old c).0, (answer byte_setting no_shortage old c).1)
+
+answered_is : (old : ByteTable) (line : List ℕ) (said : Option (Cmd (List ℕ) (List ℕ))) → reading line ≡ said → Answers old line (answered old said).0 (answered old said).1
+answered_is old line None e = (unread_is_none line e, refl)
+answered_is old line (Some c) e = (c, reading_says line c e, answer_step byte_setting old c)
+
+pub line_answered : (old : ByteTable) (line : List ℕ) → Answers old line (answered old (reading line)).0 (answered old (reading line)).1
+line_answered old line = answered_is old line (reading line) refl
+
+pub answers_exist : (old : ByteTable) (line : List ℕ) → (a : Option (Reply (List ℕ) (List ℕ))) × (new : ByteTable) × Answers old line a new
+answers_exist old line = ((answered old (reading line)).0, (answered old (reading line)).1, line_answered old line)
+
+-- the replies to lines where nothing is short, and the table after them
+abbrev pub script : ByteTable → List (List ℕ) → List (Option (Reply (List ℕ) (List ℕ))) × ByteTable
+script old [] = ([], old)
+script old (line ∷ lines) =
+    let first = answered old (reading line) in
+    let rest = script first.1 lines in
+    (first.0 ∷ rest.0, rest.1)
+
+pub script_runs : (old : ByteTable) (lines : List (List ℕ)) → RunOf Answers old lines (script old lines).0 (script old lines).1
+script_runs old [] = refl
+script_runs old (line ∷ lines) = (_, line_answered old line, script_runs (answered old (reading line)).1 lines)
+
+pub run_exists : (old : ByteTable) (lines : List (List ℕ)) → (replies : List (Option (Reply (List ℕ) (List ℕ)))) × (new : ByteTable) × RunOf Answers old lines replies new
+run_exists old lines = ((script old lines).0, (script old lines).1, script_runs old lines)
+
+-- ---- no line feed
+
+abbrev pub is_line : List ℕ → Bool
+is_line line = list_all (λ byte. not (eqb byte line_feed)) line
+
+pub no_feed : (line : List ℕ) → is_line line ≡ true → HasNoFeed line
+no_feed line pass has = All-contains (λ byte. byte ≢ line_feed) line line_feed (all_by (λ byte. not (eqb byte line_feed)) (λ byte. byte ≢ line_feed) (λ byte e. eqb-false _ _ (not-true _ e)) line pass) has refl
+
+pub no_feeds : (lines : List (List ℕ)) → list_all is_line lines ≡ true → AllByRecursion HasNoFeed lines
+no_feeds lines pass = recursion_from_All HasNoFeed lines (all_by is_line HasNoFeed no_feed lines pass)
+
+-- ---- memory may be short for a command that brings items
+
+pub items_want : {M : Type 0} (setting : Setting ℕ) (old : Table ℕ M) (c : Cmd (List ℕ) (List ℕ))
+    → BringsItems c → answer setting of_table old c ≡ (reply.Alloc, old)
+items_want setting old (Slice items) brings = refl
+items_want setting old other brings = absurd (cc)
+
+-- then the line may be answered so, and nothing changes
+pub want_answers : (old : ByteTable) (line : List ℕ) → (c : Cmd (List ℕ) (List ℕ)) × Says line c × BringsItems c → Answers old line (Some reply.Alloc) old
+want_answers old line said = (said.0, said.1, items_want byte_setting old said.0 said.2)
+
+-- ---- a text that goes on
+
+ended_append : (xs ys : List (Option (Reply (List ℕ) (List ℕ)))) → ended (map answer_text (xs ++ ys)) ≡ ended (map answer_text xs) ++ ended (map answer_text ys)
+ended_append xs ys = ap ended (map-append answer_text xs ys) ∙ flat_map-append (λ (line : List ℕ). line ++ line_feed ∷ []) (map answer_text xs) (map answer_text ys)
+
+-- What is written before the replies to some first lines are all written begins what is written for
+-- the input.
+pub begins : (input text more : List ℕ) (lines rest : List (List ℕ)) (replies : List (Option (Reply (List ℕ) (List ℕ)))) (mid : ByteTable)
+    → AreLines input (lines ++ rest) → RunOf Answers empty_table lines replies mid → text ++ more ≡ ended (map answer_text replies) → BeginsReplyText input text
+begins input text more lines rest replies mid cut run written =
+    let others = (script mid rest).0 in
+    let all = replies ++ others in
+    record {
+      rest = more ++ ended (map answer_text others);
+      whole = record {
+        lines = lines ++ rest;
+        replies = all;
+        after = (script mid rest).1;
+        cut = cut;
+        run = run_append Answers empty_table lines replies mid rest others (script mid rest).1 run (script_runs mid rest);
+        written = sym (append_assoc text more (ended (map answer_text others))) ∙ ap (λ (front : List ℕ). front ++ ended (map answer_text others)) written ∙ sym (ended_append replies others);
+      };
+    }

@@ -1,0 +1,98 @@
+-- What commands do to the windows as a whole, and what of it the table and the texts see.
+use Rattle.std.proofs.Common.{ℕ, Bool, List, Option, Some, None}
+use Rattle.std.proofs.Common.{ap, sym, ◌∙◌, subst, inr}
+use Rattle.std.proofs.lemmas.List.{append-nil}
+use Rattle.std.specs.Option.{option_map}
+use Rattle.arc_table.specs.RunOf.{RunOf}
+use Rattle.arc_script.specs.Script.{AreLines, Answers, IsReplyText, BeginsReplyText}
+use Rattle.arc_script.specs.Seen.{IsReadAs}
+use Rattle.arc_table.specs.Seen.{seen_command}
+use Rattle.arc_table.specs.State.{empty_state}
+use Rattle.arc_script.specs.State.{ByteState}
+use Rattle.arc_script.specs.State.{CarriesOutSaid, AnswersLine}
+use Rattle.arc_script.specs.Traffic.{Traffic, Exchanges}
+use Rattle.arc_script.specs.Underway.{IsThrough, IsBrokenOff, Holds, Ends, MayEnd, AnswersInto}
+use Rattle.arc_table.specs.declared.command.Cmd.{Cmd}
+use Rattle.arc_table.specs.declared.command.Reply.{Reply}
+use Rattle.arc_script.specs.declared.script.ScriptError.{ScriptError}
+use Rattle.std.specs.declared.vec.Vec.{Vec}
+use Rattle.arc_script.proofs.Lines.{begins}
+use Rattle.arc_table.proofs.Runs.{run_seen}
+
+-- a line that was read is answered
+pub line_carried_out : {A : Type 0} (old : ByteState) (said : Option (Cmd (Vec ℕ A) (List ℕ)))
+    (answer : Option (Reply (List ℕ) (List ℕ))) (new : ByteState)
+    → CarriesOutSaid old (option_map seen_command said) answer new
+    → (line : List ℕ) → IsReadAs line said → AnswersLine old line answer new
+line_carried_out old None None new same line bad = (bad, same)
+line_carried_out old (Some c) (Some reply) new does line says = (seen_command c, says, does)
+line_carried_out old None (Some reply) new does line read = absurd does
+line_carried_out old (Some c) None new does line read = absurd does
+
+-- so the line that was held is answered, whichever it was
+pub line_ends : {A : Type 0} (held : List ℕ) (too_long : Bool) (old new : ByteState)
+    (said : Option (Cmd (Vec ℕ A) (List ℕ))) (out out' : List ℕ)
+    → ((line : List ℕ) → Holds held too_long line → IsReadAs line said)
+    → AnswersInto (option_map seen_command said) old new out out'
+    → Ends held too_long old new out out'
+line_ends held too_long old new said out out' read into = record {
+  answer = into.answer;
+  answered = λ line holds.
+      line_carried_out old said into.answer new into.does line (read line holds);
+  appended = into.appended;
+}
+
+-- or it is answered, but not in out
+pub line_may_end : {A : Type 0} (held : List ℕ) (too_long : Bool) (old new : ByteState)
+    (said : Option (Cmd (Vec ℕ A) (List ℕ)))
+    → ((line : List ℕ) → Holds held too_long line → IsReadAs line said)
+    → (answer : Option (Reply (List ℕ) (List ℕ)))
+    × CarriesOutSaid old (option_map seen_command said) answer new
+    → MayEnd held too_long old new
+line_may_end held too_long old new said read does = inr (
+  does.0,
+  λ line holds. line_carried_out old said does.0 new does.1 line (read line holds),
+)
+
+-- the tables answer it so, too
+table_answers : (old : ByteState) (line : List ℕ) (answer : Option (Reply (List ℕ) (List ℕ))) (new : ByteState)
+    → AnswersLine old line answer new → Answers old.table line answer new.table
+table_answers old line (Some reply) new does = (does.0, does.1, does.2.rows)
+table_answers old line None new bad = (bad.0, ap (λ (s : ByteState). s.table) bad.1)
+
+table_run : (old : ByteState) (lines : List (List ℕ)) (replies : List (Option (Reply (List ℕ) (List ℕ))))
+    (new : ByteState) → RunOf AnswersLine old lines replies new
+    → RunOf Answers old.table lines replies new.table
+table_run = run_seen AnswersLine Answers (λ (s : ByteState). s.table) table_answers
+
+-- what a run that went through has written is a reply text
+pub through_text : (state : ByteState) (input text : List ℕ)
+    → IsThrough state input text → IsReplyText input text
+through_text state input text h = record {
+  lines = h.lines;
+  replies = h.replies;
+  after = state.table;
+  cut = subst (AreLines input) (append-nil h.lines) h.cut;
+  run = table_run empty_state h.lines h.replies state h.run;
+  written = sym (append-nil text) ∙ h.written;
+}
+
+-- and of one that was broken off, a beginning of one
+pub broken_text : (fault : ScriptError) (state : ByteState) (input text : List ℕ)
+    → IsBrokenOff fault state input text → BeginsReplyText input text
+broken_text fault state input text h =
+    let run = h.2 in
+    begins input text h.1 run.lines h.0 run.replies state.table run.cut
+    (table_run empty_state run.lines run.replies state run.run) run.written
+
+-- what goes together, goes together in another way
+pub exchange_as : (P Q : List ℕ → List ℕ → Type 0) (r r' w w' : Traffic)
+    → ((input text : List ℕ) → P input text → Q input text)
+    → Exchanges P r r' w w' → Exchanges Q r r' w w'
+exchange_as P Q r r' w w' fit e = record {
+  input = e.input;
+  text = e.text;
+  given = e.given;
+  taken = e.taken;
+  fit = fit e.input e.text e.fit;
+}

@@ -1,0 +1,399 @@
+-- How a script that is being run goes on.
+use Rattle.std.proofs.Common.{◌≡◌, ℕ, Bool, true, false, List, [], ◌∷◌, ◌++◌, map, Option, refl}
+use Rattle.std.proofs.Common.{sym, ap, ◌∙◌, subst, append_assoc, arith, inl, inr}
+use Rattle.std.proofs.lemmas.List.{map-append, append-nil}
+use Rattle.std.proofs.lemmas.Grind.{flat_map-append}
+use Rattle.std.specs.List.{AllByRecursion}
+use Rattle.arc_block.specs.Table.{empty_table}
+use Rattle.arc_table.specs.RunOf.{RunOf}
+use Rattle.arc_table.specs.State.{empty_state}
+use Rattle.arc_script.specs.State.{AnswersLine, ByteState}
+use Rattle.arc_script.specs.Text.{line_feed}
+use Rattle.arc_script.specs.Script.{HasNoFeed, AreLines, ended, last_line, answer_text, IsReplyText}
+use Rattle.arc_script.specs.Traffic.{Traffic, TakesFront}
+use Rattle.arc_script.specs.Underway.{AnswersHeld, Holds, IsUnderway, IsAnswered}
+use Rattle.arc_script.specs.Underway.{IsBegun, Ends, MayEnd, MayLack}
+use Rattle.arc_script.specs.declared.script.ScriptError.{ScriptError}
+use Rattle.arc_script.specs.declared.script.ScriptError.TheVariants.{Read, Write, Alloc}
+use Rattle.arc_table.specs.declared.command.Reply.{Reply}
+use Rattle.arc_table.proofs.Runs.{run_push}
+use Rattle.arc_script.proofs.Lines.{run_exists}
+use Rattle.arc_script.proofs.Splits.{split_exists, empty_has_no_feed, no_feed-append, all-append}
+
+-- lines with their line feeds, joined
+ended-append : (xs ys : List (List ℕ)) → ended (xs ++ ys) ≡ ended xs ++ ended ys
+ended-append = flat_map-append (λ line. line ++ line_feed ∷ [])
+
+-- the texts of one answer more stand behind those so far
+texts-push : (xs : List (Option (Reply (List ℕ) (List ℕ)))) (x : Option (Reply (List ℕ) (List ℕ)))
+    → ended (map answer_text (xs ++ x ∷ []))
+    ≡ ended (map answer_text xs) ++ (answer_text x ++ line_feed ∷ [])
+texts-push xs x =
+    ap ended (map-append answer_text xs (x ∷ []))
+    ∙ ended-append (map answer_text xs) (answer_text x ∷ [])
+    ∙ ap (λ zs. ended (map answer_text xs) ++ zs) (append-nil (answer_text x ++ line_feed ∷ []))
+
+-- one line more
+ended-push : (xs : List (List ℕ)) (x : List ℕ)
+    → ended (xs ++ x ∷ []) ≡ ended xs ++ (x ++ line_feed ∷ [])
+ended-push xs x =
+    ended-append xs (x ∷ []) ∙ ap (λ zs. ended xs ++ zs) (append-nil (x ++ line_feed ∷ []))
+
+-- whatever stands behind whole lines, they are the first ones
+cut_behind : (whole : List (List ℕ)) (line more input : List ℕ) → AllByRecursion HasNoFeed whole
+    → input ≡ ended whole ++ line
+    → (left : List (List ℕ)) × AreLines (input ++ more) (whole ++ left)
+cut_behind whole line more input each cut =
+    let s = split_exists (line ++ more) in (
+      s.whole ++ last_line s.rest,
+      record {
+        whole = whole ++ s.whole;
+        rest = s.rest;
+        cut =
+            ap (λ xs. xs ++ more) cut ∙ append_assoc (ended whole) line more
+            ∙ ap (λ xs. ended whole ++ xs) s.cut
+            ∙ sym (append_assoc (ended whole) (ended s.whole) s.rest)
+            ∙ ap (λ xs. xs ++ s.rest) (sym (ended-append whole s.whole));
+        each = all-append HasNoFeed whole s.whole each s.each;
+        last = s.last;
+        are = sym (append_assoc whole s.whole (last_line s.rest));
+      },
+    )
+
+-- a line of which something is held isn't empty
+held_is_line : (held line : List ℕ) (too_long : Bool) → (held ≡ [] → too_long ≡ false → ⊥)
+    → Holds held too_long line → last_line line ≡ line ∷ []
+held_is_line held [] false some holds = absurd (some holds refl)
+held_is_line held [] true some holds = absurd (omega arith)
+held_is_line held (byte ∷ bytes) too_long some holds = refl
+
+-- a fault need leave nothing unwritten
+none_lacks : (fault : ScriptError) → MayLack fault []
+none_lacks Read = refl
+none_lacks Write = tt
+none_lacks Alloc = inl refl
+
+module _ {fault : ScriptError} {start input out : List ℕ} {writer : Traffic} {state : ByteState}
+    (b : IsBegun fault start input writer out state) where
+  -- after a fault what is held goes out
+  pub begun_out : (writer' : Traffic) → writer'.bytes ≡ writer.bytes ++ out
+      → IsBegun fault start input writer' [] state
+  begun_out writer' taken = record {
+    text = b.text ++ out;
+    left = b.left;
+    lacking = b.lacking;
+    taken = taken ∙ ap (λ xs. xs ++ out) b.taken ∙ append_assoc start b.text out;
+    begins = record {
+      lines = b.begins.lines;
+      replies = b.begins.replies;
+      cut = b.begins.cut;
+      run = b.begins.run;
+      written = append_assoc b.text out b.lacking ∙ b.begins.written;
+    };
+    lacks = b.lacks;
+  }
+
+  -- or a front of it, where a write fails then
+  pub begun_front : (writer' : Traffic) → TakesFront out writer writer'
+      → IsBegun Write start input writer' [] state
+  begun_front writer' front = record {
+    text = b.text ++ front.sent;
+    left = b.left;
+    lacking = front.rest ++ b.lacking;
+    taken =
+        front.taken ∙ ap (λ xs. xs ++ front.sent) b.taken
+        ∙ append_assoc start b.text front.sent;
+    begins = record {
+      lines = b.begins.lines;
+      replies = b.begins.replies;
+      cut = b.begins.cut;
+      run = b.begins.run;
+      written =
+          append_assoc b.text front.sent (front.rest ++ b.lacking)
+          ∙ ap (λ xs. b.text ++ xs)
+          (sym (append_assoc front.sent front.rest b.lacking)
+          ∙ ap (λ xs. xs ++ b.lacking) (sym front.parts)) ∙ b.begins.written;
+    };
+    lacks = tt;
+  }
+
+-- before the first byte
+pub nothing_read : (writer : Traffic) (state : ByteState) → state ≡ empty_state
+    → IsUnderway writer.bytes [] writer [] state [] false
+nothing_read writer state empty = record {
+  text = [];
+  whole = [];
+  line = [];
+  replies = [];
+  taken = sym (append-nil writer.bytes);
+  cut = refl;
+  each = tt;
+  last = empty_has_no_feed;
+  holds = refl;
+  run = empty;
+  written = refl;
+}
+
+module _ {start input out held : List ℕ} {writer : Traffic} {state : ByteState} {too_long : Bool}
+    (u : IsUnderway start input writer out state held too_long) where
+  -- more of a line has come
+  pub more_held : (held' : List ℕ) (too_long' : Bool) (bytes : List ℕ) → HasNoFeed bytes
+      → ((line : List ℕ) → Holds held too_long line → Holds held' too_long' (line ++ bytes))
+      → IsUnderway start (input ++ bytes) writer out state held' too_long'
+  more_held held' too_long' bytes plain holds = record {
+    text = u.text;
+    whole = u.whole;
+    line = u.line ++ bytes;
+    replies = u.replies;
+    taken = u.taken;
+    cut = ap (λ xs. xs ++ bytes) u.cut ∙ append_assoc (ended u.whole) u.line bytes;
+    each = u.each;
+    last = no_feed-append u.line bytes u.last plain;
+    holds = holds u.line u.holds;
+    run = u.run;
+    written = u.written;
+  }
+
+  -- the whole lines and one more stand before a line feed
+  one_ended : input ++ line_feed ∷ [] ≡ ended (u.whole ++ u.line ∷ [])
+  one_ended =
+      ap (λ xs. xs ++ line_feed ∷ []) u.cut
+      ∙ append_assoc (ended u.whole) u.line (line_feed ∷ []) ∙ sym (ended-push u.whole u.line)
+
+  all_ended : AllByRecursion HasNoFeed (u.whole ++ u.line ∷ [])
+  all_ended = all-append HasNoFeed u.whole (u.line ∷ []) u.each (u.last, tt)
+
+  -- the replies with one more
+  one_answered : (answer : Option (Reply (List ℕ) (List ℕ)))
+      → u.text ++ (out ++ (answer_text answer ++ line_feed ∷ []))
+      ≡ ended (map answer_text (u.replies ++ answer ∷ []))
+  one_answered answer =
+      sym (append_assoc u.text out (answer_text answer ++ line_feed ∷ []))
+      ∙ ap (λ xs. xs ++ (answer_text answer ++ line_feed ∷ [])) u.written
+      ∙ sym (texts-push u.replies answer)
+
+  run_on : (answer : Option (Reply (List ℕ) (List ℕ))) (state' : ByteState)
+      → AnswersHeld held too_long state answer state'
+      → RunOf AnswersLine empty_state (u.whole ++ u.line ∷ []) (u.replies ++ answer ∷ []) state'
+  run_on answer state' answered =
+      run_push AnswersLine empty_state u.whole u.replies state u.line answer state' u.run
+      (answered u.line u.holds)
+
+  -- the line has ended, and is answered
+  pub line_ended : (state' : ByteState) (out' : List ℕ) → Ends held too_long state state' out out'
+      → IsUnderway start (input ++ line_feed ∷ []) writer out' state' [] false
+  line_ended state' out' ends = record {
+    text = u.text;
+    whole = u.whole ++ u.line ∷ [];
+    line = [];
+    replies = u.replies ++ ends.answer ∷ [];
+    taken = u.taken;
+    cut = one_ended ∙ sym (append-nil (ended (u.whole ++ u.line ∷ [])));
+    each = all_ended;
+    last = empty_has_no_feed;
+    holds = refl;
+    run = run_on ends.answer state' ends.answered;
+    written = ap (λ xs. u.text ++ xs) ends.appended ∙ one_answered ends.answer;
+  }
+
+  -- the replies have gone out
+  pub went_out : (writer' : Traffic) → writer'.bytes ≡ writer.bytes ++ out
+      → IsUnderway start input writer' [] state held too_long
+  went_out writer' taken = record {
+    text = u.text ++ out;
+    whole = u.whole;
+    line = u.line;
+    replies = u.replies;
+    taken = taken ∙ ap (λ xs. xs ++ out) u.taken ∙ append_assoc start u.text out;
+    cut = u.cut;
+    each = u.each;
+    last = u.last;
+    holds = u.holds;
+    run = u.run;
+    written = append-nil (u.text ++ out) ∙ u.written;
+  }
+
+  -- whatever is read more, what was written and what is held begins the replies
+  pub still_begun : (fault : ScriptError) (more : List ℕ)
+      → IsBegun fault start (input ++ more) writer out state
+  still_begun fault more =
+      let cut = cut_behind u.whole u.line more input u.each u.cut in
+      record {
+        text = u.text;
+        left = cut.0;
+        lacking = [];
+        taken = u.taken;
+        begins = record {
+          lines = u.whole;
+          replies = u.replies;
+          cut = cut.1;
+          run = u.run;
+          written = ap (λ xs. u.text ++ xs) (append-nil out) ∙ u.written;
+        };
+        lacks = none_lacks fault;
+      }
+
+  -- so also where a line feed has come, and the line isn't answered, or not in out
+  pub line_broken : (state' : ByteState) (more : List ℕ) → MayEnd held too_long state state'
+      → IsBegun Alloc start (input ++ (line_feed ∷ [] ++ more)) writer out state'
+  line_broken state' more (inl same) =
+      subst (IsBegun Alloc start (input ++ (line_feed ∷ [] ++ more)) writer out) (sym same)
+      (still_begun Alloc (line_feed ∷ [] ++ more))
+  line_broken state' more (inr does) =
+      let lines = u.whole ++ u.line ∷ [] in
+      let cut =
+      cut_behind lines [] more (input ++ line_feed ∷ []) all_ended
+      (one_ended ∙ sym (append-nil (ended lines))) in
+      record {
+        text = u.text;
+        left = cut.0;
+        lacking = answer_text does.0 ++ line_feed ∷ [];
+        taken = u.taken;
+        begins = record {
+          lines = lines;
+          replies = u.replies ++ does.0 ∷ [];
+          cut =
+              subst (λ xs. AreLines xs (lines ++ cut.0)) (append_assoc input (line_feed ∷ []) more)
+              cut.1;
+          run = run_on does.0 state' does.1;
+          written = one_answered does.0;
+        };
+        lacks = inr (does.0, refl);
+      }
+
+  -- at the end of the input what is held of a line is the last line
+  module _ (some : held ≡ [] → too_long ≡ false → ⊥) where
+    last_cut : AreLines input ((u.whole ++ u.line ∷ []) ++ [])
+    last_cut = record {
+      whole = u.whole;
+      rest = u.line;
+      cut = u.cut;
+      each = u.each;
+      last = u.last;
+      are =
+          append-nil (u.whole ++ u.line ∷ [])
+          ∙ ap (λ xs. u.whole ++ xs) (sym (held_is_line held u.line too_long some u.holds));
+    }
+
+    -- it is answered
+    pub last_answered : (state' : ByteState) (out' : List ℕ) → Ends held too_long state state' out out'
+        → IsAnswered start input writer out' state'
+    last_answered state' out' ends = record {
+      text = u.text;
+      taken = u.taken;
+      all = record {
+        lines = u.whole ++ u.line ∷ [];
+        replies = u.replies ++ ends.answer ∷ [];
+        cut = last_cut;
+        run = run_on ends.answer state' ends.answered;
+        written = ap (λ xs. u.text ++ xs) ends.appended ∙ one_answered ends.answer;
+      };
+    }
+
+    -- or not, or not in out
+    pub last_broken : (state' : ByteState) → MayEnd held too_long state state'
+        → IsBegun Alloc start input writer out state'
+    last_broken state' (inl same) =
+        subst (IsBegun Alloc start input writer out) (sym same)
+        (subst (λ xs. IsBegun Alloc start xs writer out state) (append-nil input)
+        (still_begun Alloc []))
+    last_broken state' (inr does) = record {
+      text = u.text;
+      left = [];
+      lacking = answer_text does.0 ++ line_feed ∷ [];
+      taken = u.taken;
+      begins = record {
+        lines = u.whole ++ u.line ∷ [];
+        replies = u.replies ++ does.0 ∷ [];
+        cut = last_cut;
+        run = run_on does.0 state' does.1;
+        written = one_answered does.0;
+      };
+      lacks = inr (does.0, refl);
+    }
+
+-- at the end of the input nothing is left of a line
+pub all_answered : {start input out : List ℕ} {writer : Traffic} {state : ByteState}
+    → IsUnderway start input writer out state [] false → IsAnswered start input writer out state
+all_answered u = record {
+  text = u.text;
+  taken = u.taken;
+  all = record {
+    lines = u.whole;
+    replies = u.replies;
+    cut = record {
+      whole = u.whole;
+      rest = [];
+      cut = u.cut ∙ ap (λ xs. ended u.whole ++ xs) (sym u.holds);
+      each = u.each;
+      last = empty_has_no_feed;
+      are = refl;
+    };
+    run = u.run;
+    written = u.written;
+  };
+}
+
+-- the last replies go out, or a front of them
+pub all_out : {start input out : List ℕ} {writer : Traffic} {state : ByteState} (writer' : Traffic)
+    → IsAnswered start input writer out state → writer'.bytes ≡ writer.bytes ++ out
+    → IsAnswered start input writer' [] state
+all_out {start} {input} {out} writer' a taken = record {
+  text = a.text ++ out;
+  taken = taken ∙ ap (λ xs. xs ++ out) a.taken ∙ append_assoc start a.text out;
+  all = record {
+    lines = a.all.lines;
+    replies = a.all.replies;
+    cut = a.all.cut;
+    run = a.all.run;
+    written = append-nil (a.text ++ out) ∙ a.all.written;
+  };
+}
+
+-- or a fault comes before that
+pub answered_begun : {start input out : List ℕ} {writer : Traffic} {state : ByteState}
+    (fault : ScriptError) → IsAnswered start input writer out state
+    → IsBegun fault start input writer out state
+answered_begun {out = out} fault a = record {
+  text = a.text;
+  left = [];
+  lacking = [];
+  taken = a.taken;
+  begins = record {
+    lines = a.all.lines;
+    replies = a.all.replies;
+    cut = a.all.cut;
+    run = a.all.run;
+    written = ap (λ xs. a.text ++ xs) (append-nil out) ∙ a.all.written;
+  };
+  lacks = none_lacks fault;
+}
+
+-- of nothing that was read nothing was written
+pub begun_nothing : (fault : ScriptError) (writer : Traffic) (state : ByteState)
+    → state ≡ empty_state → IsBegun fault writer.bytes [] writer [] state
+begun_nothing fault writer state empty = still_begun (nothing_read writer state empty) fault []
+
+-- each input has a reply text
+pub reply_text_exists : (input : List ℕ) → (text : List ℕ) × IsReplyText input text
+reply_text_exists input =
+    let s = split_exists input in
+    let lines : List (List ℕ) = s.whole ++ last_line s.rest in
+    let r = run_exists empty_table lines in (
+      ended (map answer_text r.0),
+      record {
+        lines = lines;
+        replies = r.0;
+        after = r.1;
+        cut = record {
+          whole = s.whole;
+          rest = s.rest;
+          cut = s.cut;
+          each = s.each;
+          last = s.last;
+          are = refl;
+        };
+        run = r.2;
+        written = refl;
+      },
+    )

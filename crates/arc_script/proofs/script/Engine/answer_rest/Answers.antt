@@ -1,0 +1,37 @@
+-- What stands behind the last line feed is the last line.
+use Rattle.std.proofs.Common.{◌≡◌, [], false, length, vec_len, sym, subst, ap, ◌∙◌, arith}
+use Rattle.std.proofs.lemmas.Bool.{eqb-false}
+use Rattle.arc_script.specs.Underway.{IsBegun}
+use Rattle.arc_script.specs.declared.script.ScriptError.TheVariants.{Alloc}
+use Rattle.arc_script.proofs.Going.{on_err}
+use Rattle.arc_script.proofs.Underway.{last_answered, last_broken}
+use Rattle.arc_script.proofs.script.Engine.answer_rest.Goals as goal
+use Rattle.arc_script.proofs.script.Engine.answer_rest.Goals.{else-not-self-via-then-not-self+else-is_empty, else-not-self-via-else-not-self}
+
+pub returns-in_err-end_line-clause-err : goal.returns-in_err-end_line-clause-err
+returns-in_err-end_line-clause-err g c =
+    let engine = c.args.self.now in
+    let some : engine.line.items ≡ [] → engine.too_long ≡ false → ⊥ = λ none short.
+    elim c.else-not-self.branch [
+      | else-not-self-via-then-not-self+else-is_empty w ↦
+          let empty : vec_len engine.line ≡ 0 = omega (arith, engine.line.ok.0, ap length none) in
+          eqb-false _ _ (sym w.is_empty.ensures ∙ w.if-is_empty.false) empty
+      | else-not-self-via-else-not-self w ↦ cc
+    ] in
+    let end = c.in_err-end_line.ensures in
+    on_err c.from_residual.result (λ start input writer read.
+    subst (λ o. IsBegun Alloc start input writer o c.end_line.new.self.table) (sym end.err)
+    (last_broken read some c.end_line.new.self.table end.broken))
+
+pub returns-clause-ok : goal.returns-clause-ok
+returns-clause-ok g c = λ start input writer read.
+    let engine = c.args.self.now in
+    let some : engine.line.items ≡ [] → engine.too_long ≡ false → ⊥ = λ none short.
+    elim c.else-not-self.branch [
+      | else-not-self-via-then-not-self+else-is_empty w ↦
+          let empty : vec_len engine.line ≡ 0 = omega (arith, engine.line.ok.0, ap length none) in
+          eqb-false _ _ (sym w.is_empty.ensures ∙ w.if-is_empty.false) empty
+      | else-not-self-via-else-not-self w ↦ cc
+    ] in
+    last_answered read some c.end_line.new.self.table c.end_line.new.self.out.items
+    c.in_ok-end_line.ensures.ok

@@ -1,0 +1,71 @@
+-- What the program does with its words.
+use Rattle.std.specs.Prelude.{◌≡◌, ◌<◌, ℕ, List, [], ◌∷◌, map, Result, Ok, Err, MatchResult, String}
+use Rattle.std.specs.Prelude.{string_bytes, codes, ◌⊎◌, ◌++◌}
+use Rattle.std.specs.declared.alloc.Global.{Global}
+use Rattle.arc_script.specs.Arguments.{Answer, AreWords}
+use Rattle.arc_script.specs.Script.{IsReplyText, BeginsReplyText}
+use Rattle.arc_script.specs.Text.{line_feed}
+use Rattle.arc_script.specs.Traffic.{Traffic, Exchanges, NoFault, Tells}
+use Rattle.arc_script.specs.Faults.{IsCause}
+use Rattle.arc_script.specs.declared.script.ScriptError.{ScriptError}
+use Rattle.arc_script.specs.declared.script.ScriptError.TheVariants.{Read, Write, Alloc}
+
+-- the words are the one word `arc`
+abbrev pub IsArc : List (String Global) → Type 0
+IsArc words = map string_bytes words ≡ codes "arc" ∷ []
+
+-- the status of a run
+abbrev pub status_of : Result (Unit {0}) ScriptError → ℕ
+status_of (Ok done) = 0
+status_of (Err Alloc) = 1
+status_of (Err Read) = 3
+status_of (Err Write) = 4
+
+-- the line in which a fault is told
+abbrev pub fault_text : ScriptError → List ℕ
+fault_text Alloc = codes "allocation error" ++ line_feed ∷ []
+fault_text Read = codes "read failed" ++ line_feed ∷ []
+fault_text Write = codes "write failed" ++ line_feed ∷ []
+
+-- the line that tells how the program is called
+abbrev pub usage_text : List ℕ
+usage_text = codes "usage: arcs arc|boxed|vec|raw|storm N" ++ line_feed ∷ []
+
+-- a run to the end of the input
+pub record IsWhole (reader reader' writer writer' : Traffic) : Type 0 where
+  pub text : Exchanges IsReplyText reader reader' writer writer'
+  pub end : reader.empties < reader'.empties
+  pub failures : reader'.failures ≡ reader.failures
+  pub clean : NoFault writer writer'
+
+-- a run that was given up
+pub record IsCut (reader reader' writer writer' : Traffic) (error : ScriptError) : Type 0 where
+  pub text : Exchanges BeginsReplyText reader reader' writer writer'
+  pub cause : IsCause reader reader' writer writer' error
+
+-- a run of the script, its status, and what is told of it: nothing, or the line of its fault
+pub record IsRun (reader reader' writer writer' faults faults' : Traffic) (status : ℕ)
+    : Type 0 where
+  pub outcome : Result (Unit {0}) ScriptError
+  pub told : status ≡ status_of outcome
+  pub run : MatchResult outcome
+      (λ done. IsWhole reader reader' writer writer') (IsCut reader reader' writer writer')
+  pub line : MatchResult outcome
+      (λ done. faults' ≡ faults) (λ error. Tells (fault_text error) faults faults')
+
+-- what the program does for these words
+pub record Runs (words : List (String Global)) (reader reader' writer writer' : Traffic)
+    (faults faults' : Traffic) (status : ℕ) : Type 0 where
+  pub arc : IsArc words → IsRun reader reader' writer writer' faults faults' status
+  pub usage : ¬ IsArc words → (status ≡ 2) × (reader' ≡ reader) × (writer' ≡ writer)
+      × Tells usage_text faults faults'
+
+-- It does so for the words that it was given, or memory was refused for them, before anything was
+-- read or written, and that was told.
+abbrev pub RunsGiven : (ℕ → Answer → Type 0) → Traffic → Traffic → Traffic → Traffic → Traffic
+    → Traffic → ℕ → Type 0
+RunsGiven answers reader reader' writer writer' faults faults' status =
+    ((words : List (String Global)) × AreWords answers (map string_bytes words)
+    × Runs words reader reader' writer writer' faults faults' status)
+    ⊎ ((status ≡ 1) × (reader' ≡ reader) × (writer' ≡ writer)
+    × Tells (fault_text Alloc) faults faults')

@@ -1,0 +1,134 @@
+//! Readers and writers that tell what passed.
+ghost use Rattle.std.specs.Prelude.{◌≡◌, ◌≤◌, ℕ, List, Option, length, IfOk};
+ghost use Rattle.std.specs.Borrow.{ftrue};
+ghost use Rattle.std.specs.Io.KnownBytes.{ReadConsumes, WriteAppends};
+ghost use Rattle.std.specs.Result.{result_ok};
+ghost use Rattle.arc_script.specs.Traffic.{Traffic, WithTraffic, after_call, no_traffic};
+
+use std::io;
+use std::io::{Read, Write};
+use std::marker::Model;
+
+/// What gives a script its bytes: std's `read`, which tells its bytes and counts its failures and
+/// the ends it found.
+pub trait Source {
+    /// What its reads have given so far.
+    ghost traffic: { Self → Traffic };
+
+    /// What its reads will give from here on, where that is known.
+    ghost remaining: { Self → Option (List ℕ) };
+
+    /// Reads into the front of `buf`, and answers how many bytes: none where `buf` is empty or the
+    /// end was found.
+    fn read(&mut self, buf: &mut [u8]) -> io::Result<usize>
+        ensures bound { IfOk result (λ n. n ≤ length buf.new) }
+        ensures told { traffic self.new ≡ after_call (traffic self.old) buf.new (result_ok result) }
+        ensures bytes { ReadConsumes (remaining self.old) (remaining self.new) result buf.new };
+}
+
+/// What takes a script's replies: std's `write`, which tells its bytes and counts its failures and
+/// the writes that took nothing.
+pub trait Sink {
+    /// What its writes have taken so far.
+    ghost traffic: { Self → Traffic };
+
+    /// What it holds, where that is known.
+    ghost contents: { Self → Option (List ℕ) };
+
+    /// Writes from the front of `buf`, and answers how many bytes it took.
+    fn write(&mut self, buf: &[u8]) -> io::Result<usize>
+        ensures bound { IfOk result (λ n. n ≤ length buf.now) }
+        ensures told { traffic self.new ≡ after_call (traffic self.old) buf.now (result_ok result) }
+        ensures bytes { WriteAppends (contents self.old) (contents self.new) result buf.now };
+}
+
+/// A call: the slice, and how many of its first bytes passed, `None` where the call failed.
+#[derive(Clone, Copy)]
+pub struct Call<'a> {
+    pub slice: &'a [u8],
+    pub passed: Option<usize>,
+}
+
+/// All the calls so far. It has no bytes, and its methods do nothing at run time.
+#[derive(Drop)]
+pub struct Log {
+    pub ghost traffic: { Traffic },
+}
+
+impl Model for Log {
+    ghost also_owns = { λ _. ftrue };
+}
+
+impl Log {
+    /// No call yet.
+    pub fn new() -> Log
+        ensures { result.traffic ≡ no_traffic }
+    {
+        Log {}
+    }
+
+    /// The calls so far, and then this one.
+    pub fn then(&self, _call: &Call) -> Log
+        ensures { result.traffic
+            ≡ after_call self.now.traffic _call.now.slice.now _call.now.passed }
+    {
+        Log {}
+    }
+}
+
+/// A reader or a writer of std's, with what it has told.
+#[derive(Drop)]
+pub struct Counted<T> {
+    device: T,
+    log: Log,
+}
+
+impl<T> Model for Counted<T> {
+    ghost Value = { WithTraffic T };
+
+    ghost view = { λ c. record { device = c.device; traffic = c.log.traffic } };
+}
+
+impl<T> Counted<T> {
+    /// A device from which nothing was asked yet.
+    pub fn new(device: T) -> Self
+        ensures { result ≡ record { device = device; traffic = no_traffic } }
+    {
+        Counted {
+            device,
+            log: Log::new(),
+        }
+    }
+}
+
+impl<T: Read> Source for Counted<T> {
+    ghost traffic = { λ c. c.traffic };
+
+    ghost remaining = { λ c. T.remaining c.device };
+
+    fn read(&mut self, buf: &mut [u8]) -> io::Result<usize> {
+        let result = self.device.read(buf);
+        let passed = match &result {
+            Ok(n) => Some(*n),
+            Err(_) => None,
+        };
+        self.log = self.log.then(&Call { slice: buf, passed });
+        result
+    }
+}
+
+impl<T: Write> Sink for Counted<T> {
+    ghost traffic = { λ c. c.traffic };
+
+    ghost contents = { λ c. T.contents c.device };
+
+    fn write(&mut self, buf: &[u8]) -> io::Result<usize> {
+        let result = self.device.write(buf);
+        let passed = match &result {
+            Ok(n) => Some(*n),
+            Err(_) => None,
+        };
+        self.log = self.log.then(&Call { slice: buf, passed });
+        result
+    }
+}

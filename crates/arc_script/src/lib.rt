@@ -1,0 +1,8 @@
+//! Windows driven by a script: lines in, replies out.
+#![tactic(auto)]
+
+pub mod io;
+pub mod parse;
+pub mod program;
+pub mod script;
+pub mod text;

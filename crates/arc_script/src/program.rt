@@ -1,0 +1,191 @@
+//! The program: its words, its statuses, and its lines on standard error.
+ghost use Rattle.std.specs.Prelude.{◌≡◌, ◌↔◌, ◌⊎◌, ℕ, List, IsTrue, Err, IfOk, MatchOption};
+ghost use Rattle.std.specs.Prelude.{String, length, map, string_bytes};
+ghost use Rattle.std.specs.declared.alloc.Global.{Global};
+ghost use Rattle.std.specs.declared.env.FillError.TheVariants.{NotPresent};
+ghost use Rattle.arc_script.specs.Arguments.{AreWords, IsTextOf, IsWord};
+ghost use Rattle.arc_script.specs.Traffic.{Gives, GivesAll, Takes, Tells};
+ghost use Rattle.arc_script.specs.Program.{IsArc, IsRun, RunsGiven, fault_text, status_of, usage_text};
+
+use crate::io::{Sink, Source};
+use crate::script::{ScriptError, ScriptLayout, run_script, write_out};
+use arc_owners::error::AllocError;
+use std::alloc::{Allocator, Global};
+use std::env::FillError;
+use std::rt::Env;
+use std::str;
+use std::sync::Wait;
+
+/// How long a word of the program's may be, in bytes: each that it knows is shorter.
+const WORD: usize = 64;
+
+/// What a program was started with.
+pub trait Arguments {
+    ghost use Rattle.std.specs.Io.{WritesAtMost};
+    ghost use Rattle.arc_script.specs.Arguments.{Answer, filled};
+
+    /// What may be answered for an argument: by its number, and the room that there is for it.
+    ghost answers: { Self → ℕ → ℕ → Answer → Type 0 };
+
+    /// Writes argument `i` to the front of `buf`, and answers its length.
+    ///
+    /// # Errors
+    ///
+    /// `NotPresent` behind the last argument, `TooLong` where it has no room in `buf`.
+    fn arg(&self, i: usize, buf: &mut [u8]) -> Result<usize, FillError>
+        ensures bound { WritesAtMost result buf.new }
+        ensures answer { answers self.now i (length buf.new) (filled result buf.new) };
+}
+
+/// The arguments that the system gives. Of them nothing is known: std's contract says no more than
+/// how long an answer is.
+#[derive(Clone, Copy)]
+pub struct OfSystem<'a, E> {
+    pub env: &'a E,
+}
+
+impl<E: Env> Arguments for OfSystem<'_, E> {
+    ghost answers = { λ _ i room answer. Unit {0} };
+
+    fn arg(&self, i: usize, buf: &mut [u8]) -> Result<usize, FillError> {
+        self.env.arg(i, buf)
+    }
+}
+
+/// The line in which a fault is told.
+fn fault_line(error: ScriptError) -> &'static [u8]
+    ensures { result.now ≡ fault_text error }
+{
+    match error {
+        ScriptError::Alloc => b"allocation error\n",
+        ScriptError::Read => b"read failed\n",
+        ScriptError::Write => b"write failed\n",
+    }
+}
+
+/// The status that a fault ends with, and its line on standard error. A failed write of the line
+/// changes no status.
+fn report<F: Sink>(faults: &mut F, error: ScriptError) -> u8
+    ensures status { result ≡ status_of (Err error) }
+    ensures told { Tells (fault_text error) (F.traffic faults.old) (F.traffic faults.new) }
+{
+    let _ = write_out(faults, fault_line(error));
+    match error {
+        ScriptError::Alloc => 1,
+        ScriptError::Read => 3,
+        ScriptError::Write => 4,
+    }
+}
+
+/// Runs the program on its words, and answers its status.
+///
+/// For the one word `arc` it runs the script that the reader gives: 0 where all of it was answered,
+/// 1 where memory was refused, 3 where a read failed, 4 where a write failed or took nothing; a
+/// fault is told to `faults` in one line. For any other words it tells the usage there, and answers
+/// 2 before any input is read.
+pub fn run_args<R: Source, W: Sink, F: Sink, A: Allocator + Copy>(
+    rt: &impl Wait,
+    alloc: A,
+    words: &[String],
+    reader: &mut R,
+    writer: &mut W,
+    faults: &mut F,
+) -> u8
+    ensures arc { IsArc words.now
+        → IsRun (R.traffic reader.old) (R.traffic reader.new) (W.traffic writer.old)
+        (W.traffic writer.new) (F.traffic faults.old) (F.traffic faults.new) result }
+    ensures given { Gives (R.traffic reader.old) (R.traffic reader.new)
+        (R.remaining reader.old) (R.remaining reader.new) }
+    ensures taken { Takes (W.traffic writer.old) (W.traffic writer.new)
+        (W.contents writer.old) (W.contents writer.new) }
+    ensures drained { result ≡ 0
+        → GivesAll (R.traffic reader.old) (R.traffic reader.new) (R.remaining reader.old) }
+    ensures usage { ¬ IsArc words.now → (result ≡ 2) × (R.traffic reader.new ≡ R.traffic reader.old)
+        × (W.traffic writer.new ≡ W.traffic writer.old)
+        × Tells usage_text (F.traffic faults.old) (F.traffic faults.new) }
+{
+    if !is_arc(words) {
+        let _ = write_out(faults, b"usage: arcs arc|boxed|vec|raw|storm N\n");
+        return 2;
+    }
+    match run_script(rt, alloc, reader, writer, ScriptLayout::Arc) {
+        Ok(()) => 0,
+        Err(error) => report(faults, error),
+    }
+}
+
+/// Whether the words are the one word `arc`.
+fn is_arc(words: &[String]) -> bool
+    ensures { IsTrue result ↔ IsArc words.now }
+{
+    match words {
+        [word] => word.as_str() == "arc",
+        _ => false,
+    }
+}
+
+/// The text of some bytes, empty where they are none.
+fn text_of(bytes: &[u8]) -> &str
+    ensures { IsTextOf bytes.now result.now }
+{
+    match str::from_utf8(bytes) {
+        Ok(text) => text,
+        Err(_) => "",
+    }
+}
+
+/// The word of argument `i`, if there is one.
+fn word<G: Arguments>(given: &G, alloc: Global, i: usize) -> Result<Option<String>, AllocError>
+    ensures { IfOk result (λ found. MatchOption found
+        (G.answers given.now i WORD (Err NotPresent))
+        (λ word. IsWord (G.answers given.now i WORD) (string_bytes word))) }
+{
+    let mut buf = [0u8; WORD];
+    match given.arg(i, &mut buf) {
+        Ok(len) => Ok(Some(String::from_str(alloc, text_of(&buf[..len]))?)),
+        Err(FillError::TooLong) => Ok(Some(String::new(alloc))),
+        Err(FillError::NotPresent) => Ok(None),
+    }
+}
+
+/// The words behind the program's name, each in its order. One that isn't text, or is longer than
+/// each word that the program knows, stands here as an empty word.
+pub fn words<G: Arguments>(given: &G, alloc: Global) -> Result<Vec<String>, AllocError>
+    ensures { IfOk result (λ words. AreWords (λ i. G.answers given.now i WORD)
+        (map string_bytes words.items)) }
+{
+    let mut words = Vec::new(alloc);
+    'words: for i in 1..usize::MAX {
+        let Some(word) = word(given, alloc, i)? else {
+            return Ok(words);
+        };
+        words.push(word)?;
+    }
+    unreachable!()
+}
+
+/// Runs the program on the words that it was given, as `run_args` says, and answers its status. 1
+/// where memory is refused for them; that is told to `faults` too.
+pub fn start<G: Arguments, R: Source, W: Sink, F: Sink>(
+    rt: &impl Wait,
+    alloc: Global,
+    given: &G,
+    reader: &mut R,
+    writer: &mut W,
+    faults: &mut F,
+) -> u8
+    ensures ran { RunsGiven (λ i. G.answers given.now i WORD) (R.traffic reader.old)
+        (R.traffic reader.new) (W.traffic writer.old) (W.traffic writer.new)
+        (F.traffic faults.old) (F.traffic faults.new) result }
+    ensures given { Gives (R.traffic reader.old) (R.traffic reader.new)
+        (R.remaining reader.old) (R.remaining reader.new) }
+    ensures taken { Takes (W.traffic writer.old) (W.traffic writer.new)
+        (W.contents writer.old) (W.contents writer.new) }
+    ensures drained { result ≡ 0
+        → GivesAll (R.traffic reader.old) (R.traffic reader.new) (R.remaining reader.old) }
+{
+    match words(given, alloc) {
+        Ok(words) => run_args(rt, alloc, &words, reader, writer, faults),
+        Err(_) => report(faults, ScriptError::Alloc),
+    }
+}

@@ -1,0 +1,542 @@
+//! Running a script: lines from a reader, replies to a writer.
+ghost use Rattle.std.specs.Prelude.{◌≡◌, ◌<◌, ◌≤◌, ◌+◌, ◌++◌, ◌∷◌, List, ℕ, [], false, length};
+ghost use Rattle.std.specs.Prelude.{take, drop, OnOk, OnErr, IfOk, IfErr, IfSome, MatchOption};
+ghost use Rattle.std.specs.Prelude.{Option, vec_len};
+ghost use Rattle.arc_script.specs.Text.{line_feed};
+ghost use Rattle.arc_script.specs.Script.{AreLines, BeginsReplyText, HasNoFeed, IsReplyText};
+ghost use Rattle.arc_block.specs.Owned.{IsKept};
+ghost use Rattle.arc_block.specs.declared.block.TheConstants.{MAX_OWNERS};
+ghost use Rattle.arc_script.specs.State.{CarriesOutSaid};
+ghost use Rattle.arc_script.specs.Script.{byte_setting};
+ghost use Rattle.arc_table.specs.Seen.{seen_command};
+ghost use Rattle.arc_table.specs.declared.command.Reply.{Reply};
+ghost use Rattle.std.specs.Option.{option_map};
+ghost use Rattle.arc_script.specs.Underway.{AnswersInto, IsBrokenOff, IsThrough, ThenEnds};
+ghost use Rattle.std.specs.Io.KnownBytes.{IsAtEnd};
+ghost use Rattle.arc_script.specs.Traffic.{Exchanges, Gives, GivesAll, NoFault, Takes, TakesFront};
+ghost use Rattle.arc_script.specs.Traffic.{Traffic, faults};
+ghost use Rattle.arc_script.specs.Faults.{IsCause, IsWhy};
+ghost use Rattle.arc_script.specs.declared.parse.TheConstants.{LONGEST_LINE};
+ghost use Rattle.arc_script.specs.declared.script.ScriptError.TheVariants as script_error;
+
+use crate::io::{Sink, Source};
+use crate::parse::{Command, LONGEST_LINE, parse};
+use crate::text::push_answer;
+use arc_block::layout::DefaultLayout;
+use arc_block::static_slice::StaticSlice;
+use arc_buffer::kinds::Plain;
+use arc_owners::error::AllocError;
+use arc_table::command::{Cmd, Reply};
+use arc_table::passes::Passes;
+use arc_table::table::Table;
+use memchr::memchr;
+use std::alloc::Allocator;
+use std::sync::Wait;
+use thiserror::Error;
+
+/// How many bytes are read at once, and how many bytes of replies are held at most before they go
+/// out.
+const PIECE: usize = 65536;
+
+/// Why a script was not run to its end.
+#[derive(Clone, Copy, Debug, PartialEq, Eq, Error)]
+pub enum ScriptError {
+    /// A read failed.
+    #[error("read failed")]
+    Read,
+    /// A write failed, or took nothing.
+    #[error("write failed")]
+    Write,
+    /// Memory for a piece of the input, for a line, for its items or for replies was refused.
+    #[error("allocation error")]
+    Alloc,
+}
+
+impl From<AllocError> for ScriptError {
+    ghost from_gives = { λ _ e. e ≡ script_error.Alloc };
+
+    fn from(_: AllocError) -> Self {
+        ScriptError::Alloc
+    }
+}
+
+/// The layouts under which a script may be run.
+#[derive(Clone, Copy, Debug, PartialEq, Eq)]
+pub enum ScriptLayout {
+    /// `ArcLayout<true, true>`.
+    Arc,
+}
+
+/// Writes the bytes, in as many calls as it takes.
+pub fn write_out<W: Sink>(writer: &mut W, bytes: &[u8]) -> Result<(), ScriptError>
+    ensures ok { OnOk result
+        ((W.traffic writer.new).bytes ≡ (W.traffic writer.old).bytes ++ bytes.now) }
+    ensures taken { Takes (W.traffic writer.old) (W.traffic writer.new)
+        (W.contents writer.old) (W.contents writer.new) }
+    ensures clean { OnOk result (NoFault (W.traffic writer.old) (W.traffic writer.new)) }
+    ensures err { OnErr result
+        (TakesFront bytes.now (W.traffic writer.old) (W.traffic writer.new)) }
+    ensures write { IfErr result (λ e. e ≡ ScriptError.Write) }
+    ensures fault { OnErr result (faults (W.traffic writer.old) < faults (W.traffic writer.new)) }
+{
+    let mut rest = bytes;
+    while !rest.is_empty() {
+        match writer.write(rest) {
+            Ok(0) | Err(_) => return Err(ScriptError::Write),
+            Ok(n) => rest = &rest[n..],
+        }
+    }
+    Ok(())
+}
+
+/// The windows of a script, over bytes.
+type ByteTable<A> = Table<Plain<u8>, DefaultLayout, A>;
+
+/// Carries out the command that a line was read as, and appends what it is answered; a line that
+/// says none changes nothing else. The items that a `show` is answered go from the window into the
+/// reply's text. `Err` where memory is refused for that text, of which nothing is left then.
+fn answer<A: Allocator + Copy>(
+    table: &mut ByteTable<A>,
+    rt: &impl Wait,
+    said: Option<Command<A>>,
+    out: &mut Vec<u8, A>,
+) -> Result<(), AllocError>
+    ensures ok { OnOk result (AnswersInto (option_map seen_command said) table.old table.new
+        out.old.items out.new.items) }
+    ensures err { OnErr result (out.new.items ≡ out.old.items) }
+    ensures broken { OnErr result ((reply : Option (Reply (List ℕ) (List ℕ)))
+        × CarriesOutSaid table.old (option_map seen_command said) reply table.new) }
+{
+    match said {
+        Some(Cmd::Show { window }) => push_answer(out, &Some(table.show_in_place(window))),
+        Some(command) => {
+            let reply = table.step(rt, command);
+            push_answer(out, &Some(reply))
+        }
+        None => push_answer(out, &None::<Reply<&[u8], StaticSlice<u8>>>),
+    }
+}
+
+/// A script that is being run: its windows, what has come of a line, and the replies that have not
+/// gone out. It can't be dropped: it ends by `end`, which ends its windows.
+struct Engine<A: Allocator + Copy> {
+    table: ByteTable<A>,
+    line: Vec<u8, A>,
+    too_long: bool,
+    out: Vec<u8, A>,
+    alloc: A,
+    ghost short: { vec_len line ≤ LONGEST_LINE },
+}
+
+impl<A: Allocator + Copy> Engine<A> {
+    ghost use Rattle.std.specs.Prelude.{◌≡◌};
+    ghost use Rattle.arc_block.specs.Owned.{IsKept};
+    ghost use Rattle.arc_block.specs.declared.block.TheConstants.{MAX_OWNERS};
+    ghost use Rattle.arc_script.specs.Seen.{IsReadAs};
+    ghost use Rattle.arc_table.specs.State.{EndsWith, empty_state};
+    ghost use Rattle.arc_script.specs.Underway.{Holds, Ends, MayEnd, IsAnswered, IsBegun};
+    ghost use Rattle.arc_script.specs.Script.{HasNoFeed};
+    ghost use Rattle.arc_script.specs.Engine.{HasRead, IsRunning, Reads, Stops};
+
+    fn new(alloc: A) -> Self
+        ensures windows { result.table ≡ empty_state }
+        ensures line { (result.line.items ≡ []) × (result.too_long ≡ false) }
+        ensures out { result.out.items ≡ [] }
+    {
+        Engine {
+            table: Table::new(alloc),
+            line: Vec::new(alloc),
+            too_long: false,
+            out: Vec::new(alloc),
+            alloc,
+        }
+    }
+
+    /// Holds more of the line, or only that it is too long.
+    fn hold(&mut self, bytes: &[u8]) -> Result<(), AllocError>
+        ensures ok { OnOk result ((line : List ℕ) → Holds self.old.line.items self.old.too_long line
+            → Holds self.new.line.items self.new.too_long (line ++ bytes.now)) }
+        ensures windows { self.new.table ≡ self.old.table }
+        ensures out { self.new.out.items ≡ self.old.out.items }
+    {
+        if self.too_long || bytes.len() > LONGEST_LINE - self.line.len() {
+            self.too_long = true;
+            self.line.clear();
+        } else {
+            self.line.extend_from_slice(bytes)?;
+        }
+        Ok(())
+    }
+
+    /// Reads the line that is held.
+    fn read_line(&self) -> Result<Option<Command<A>>, AllocError>
+        ensures { IfOk result (λ said. (line : List ℕ)
+            → Holds self.now.line.items self.now.too_long line → IsReadAs line said) }
+    {
+        if self.too_long {
+            return Ok(None);
+        }
+        parse(self.alloc, &self.line)
+    }
+
+    /// Answers the line that is held.
+    fn end_line(&mut self, rt: &impl Wait) -> Result<(), AllocError>
+        ensures ok { OnOk result
+            (Ends self.old.line.items self.old.too_long self.old.table
+            self.new.table self.old.out.items self.new.out.items) }
+        ensures line { OnOk result ((self.new.line.items ≡ []) × (self.new.too_long ≡ false)) }
+        ensures err { OnErr result (self.new.out.items ≡ self.old.out.items) }
+        ensures broken { OnErr result
+            (MayEnd self.old.line.items self.old.too_long self.old.table
+            self.new.table) }
+    {
+        let said = self.read_line()?;
+        answer(&mut self.table, rt, said, &mut self.out)?;
+        self.line.clear();
+        self.too_long = false;
+        Ok(())
+    }
+
+    /// Answers a line where it stands. Of the line that is held nothing changes.
+    fn answer_in_place(&mut self, rt: &impl Wait, line: &[u8]) -> Result<(), AllocError>
+        ensures ok { OnOk result (Ends line.now false self.old.table self.new.table
+            self.old.out.items self.new.out.items) }
+        ensures line { (self.new.line.items ≡ self.old.line.items)
+            × (self.new.too_long ≡ self.old.too_long) }
+        ensures err { OnErr result (self.new.out.items ≡ self.old.out.items) }
+        ensures broken { OnErr result (MayEnd line.now false self.old.table self.new.table) }
+    {
+        let said = parse(self.alloc, line)?;
+        answer(&mut self.table, rt, said, &mut self.out)
+    }
+
+    /// Takes the end of a line and its line feed, and answers the line: where it stands, if nothing
+    /// of it came before.
+    fn close_line(&mut self, rt: &impl Wait, bytes: &[u8]) -> Result<(), AllocError>
+        requires { HasNoFeed bytes.now }
+        ensures ok { OnOk result ((writer : Traffic)
+            → Reads (bytes.now ++ line_feed ∷ []) writer writer self.old self.new) }
+        ensures out { OnErr result (self.new.out.items ≡ self.old.out.items) }
+        ensures err { OnErr result ((writer : Traffic)
+            → Stops (bytes.now ++ line_feed ∷ []) writer writer self.old self.new
+            ScriptError.Alloc) }
+    {
+        if !self.too_long && self.line.is_empty() {
+            self.answer_in_place(rt, bytes)?;
+            return Ok(());
+        }
+        self.hold(bytes)?;
+        self.end_line(rt)?;
+        Ok(())
+    }
+
+    /// Writes the replies that are held. None is held afterwards, also where the write failed:
+    /// nothing goes out behind a gap.
+    fn flush<W: Sink>(&mut self, writer: &mut W) -> Result<(), ScriptError>
+        ensures ok { OnOk result
+            ((W.traffic writer.new).bytes ≡ (W.traffic writer.old).bytes ++ self.old.out.items) }
+        ensures out { self.new.out.items ≡ [] }
+        ensures windows { self.new.table ≡ self.old.table }
+        ensures line { (self.new.line.items ≡ self.old.line.items)
+            × (self.new.too_long ≡ self.old.too_long) }
+        ensures taken { Takes (W.traffic writer.old) (W.traffic writer.new)
+            (W.contents writer.old) (W.contents writer.new) }
+        ensures clean { OnOk result (NoFault (W.traffic writer.old) (W.traffic writer.new)) }
+        ensures err { OnErr result
+            (TakesFront self.old.out.items (W.traffic writer.old) (W.traffic writer.new)) }
+        ensures write { IfErr result (λ e. e ≡ ScriptError.Write) }
+        ensures fault { IfErr result (IsWhy (W.traffic writer.old) (W.traffic writer.new)) }
+    {
+        let written = write_out(writer, &self.out);
+        self.out.clear();
+        written
+    }
+
+    /// Takes the end of a line and its line feed, and answers the line. Replies go out where many
+    /// are held, so that between two lines fewer than `PIECE` bytes of them are held.
+    fn take_line<W: Sink>(
+        &mut self,
+        rt: &impl Wait,
+        writer: &mut W,
+        bytes: &[u8],
+    ) -> Result<(), ScriptError>
+        requires { HasNoFeed bytes.now }
+        ensures few { length self.old.out.items < PIECE → length self.new.out.items < PIECE }
+        ensures ok { OnOk result
+            (Reads (bytes.now ++ line_feed ∷ []) (W.traffic writer.old)
+            (W.traffic writer.new) self.old self.new) }
+        ensures taken { Takes (W.traffic writer.old) (W.traffic writer.new)
+            (W.contents writer.old) (W.contents writer.new) }
+        ensures clean { OnOk result (NoFault (W.traffic writer.old) (W.traffic writer.new)) }
+        ensures err { IfErr result
+            (Stops (bytes.now ++ line_feed ∷ []) (W.traffic writer.old)
+            (W.traffic writer.new) self.old self.new) }
+        ensures fault { IfErr result (IsWhy (W.traffic writer.old) (W.traffic writer.new)) }
+    {
+        self.close_line(rt, bytes)?;
+        if self.out.len() >= PIECE {
+            self.flush(writer)?;
+        }
+        Ok(())
+    }
+
+    /// Takes a piece of the input.
+    fn feed<W: Sink>(
+        &mut self,
+        rt: &impl Wait,
+        writer: &mut W,
+        piece: &[u8],
+    ) -> Result<(), ScriptError>
+        ensures few { length self.old.out.items < PIECE → length self.new.out.items < PIECE }
+        ensures ok { OnOk result
+            (Reads piece.now (W.traffic writer.old) (W.traffic writer.new) self.old self.new) }
+        ensures taken { Takes (W.traffic writer.old) (W.traffic writer.new)
+            (W.contents writer.old) (W.contents writer.new) }
+        ensures clean { OnOk result (NoFault (W.traffic writer.old) (W.traffic writer.new)) }
+        ensures err { IfErr result
+            (Stops piece.now (W.traffic writer.old) (W.traffic writer.new) self.old self.new) }
+        ensures fault { IfErr result (IsWhy (W.traffic writer.old) (W.traffic writer.new)) }
+    {
+        let mut rest = piece;
+        'lines: while let Some((line, behind)) = first_line(rest) {
+            self.take_line(rt, writer, line)?;
+            rest = behind;
+        }
+        self.hold(rest)?;
+        Ok(())
+    }
+
+    /// Reads a piece of the input, answers its lines and writes their replies, also those to the
+    /// lines before one for which memory was refused. `false` at the end of the input.
+    fn take_piece<R: Source, W: Sink>(
+        &mut self,
+        rt: &impl Wait,
+        reader: &mut R,
+        writer: &mut W,
+        piece: &mut [u8],
+    ) -> Result<bool, ScriptError>
+        requires { 0 < length piece.old }
+        ensures ok { OnOk result ((r w : Traffic)
+            → IsRunning r (R.traffic reader.old) w (W.traffic writer.old) self.old
+            → IsRunning r (R.traffic reader.new) w (W.traffic writer.new) self.new) }
+        ensures end { IfOk result (λ more. more ≡ false
+            → (R.traffic reader.old).empties < (R.traffic reader.new).empties) }
+        ensures empties { (R.traffic reader.old).empties ≤ (R.traffic reader.new).empties }
+        ensures given { Gives (R.traffic reader.old) (R.traffic reader.new)
+            (R.remaining reader.old) (R.remaining reader.new) }
+        ensures taken { Takes (W.traffic writer.old) (W.traffic writer.new)
+            (W.contents writer.old) (W.contents writer.new) }
+        ensures drained { IfOk result (λ more. more ≡ false → IsAtEnd (R.remaining reader.new)) }
+        ensures begun { IfErr result (λ fault. (r w : Traffic)
+            → IsRunning r (R.traffic reader.old) w (W.traffic writer.old) self.old
+            → Exchanges (IsBrokenOff fault self.new.table) r (R.traffic reader.new)
+            w (W.traffic writer.new)) }
+        ensures fault { IfErr result
+            (IsCause (R.traffic reader.old) (R.traffic reader.new) (W.traffic writer.old)
+            (W.traffic writer.new)) }
+    {
+        let Ok(read) = reader.read(piece) else {
+            return Err(ScriptError::Read);
+        };
+        if read == 0 {
+            return Ok(false);
+        }
+        // A write that fails is the fault, also where memory was refused before: `Alloc` says that
+        // every reply that had room was taken.
+        let fed = self.feed(rt, writer, &piece[..read]);
+        self.flush(writer)?;
+        fed?;
+        Ok(true)
+    }
+
+    /// Answers what stands behind the last line feed, unless it is empty.
+    fn answer_rest(&mut self, rt: &impl Wait) -> Result<(), AllocError>
+        ensures ok { OnOk result ((start input : List ℕ) (writer : Traffic)
+            → HasRead start input writer self.old
+            → IsAnswered start input writer self.new.out.items self.new.table) }
+        ensures err { OnErr result ((start input : List ℕ) (writer : Traffic)
+            → HasRead start input writer self.old
+            → IsBegun ScriptError.Alloc start input writer self.new.out.items self.new.table) }
+    {
+        if !self.too_long && self.line.is_empty() {
+            return Ok(());
+        }
+        self.end_line(rt)?;
+        Ok(())
+    }
+
+    /// Answers what stands behind the last line feed, unless it is empty, and writes what is held,
+    /// also where memory was refused for that line.
+    fn finish<W: Sink>(&mut self, rt: &impl Wait, writer: &mut W) -> Result<(), ScriptError>
+        ensures ok { OnOk result ((start input : List ℕ)
+            → HasRead start input (W.traffic writer.old) self.old
+            → IsAnswered start input (W.traffic writer.new) [] self.new.table) }
+        ensures taken { Takes (W.traffic writer.old) (W.traffic writer.new)
+            (W.contents writer.old) (W.contents writer.new) }
+        ensures clean { OnOk result (NoFault (W.traffic writer.old) (W.traffic writer.new)) }
+        ensures err { IfErr result (λ fault. (start input : List ℕ)
+            → HasRead start input (W.traffic writer.old) self.old
+            → IsBegun fault start input (W.traffic writer.new) [] self.new.table) }
+        ensures fault { IfErr result (IsWhy (W.traffic writer.old) (W.traffic writer.new)) }
+    {
+        let answered = self.answer_rest(rt);
+        self.flush(writer)?;
+        answered?;
+        Ok(())
+    }
+
+    /// Runs a script to its end, or to the first fault. The windows that are left then stay as they
+    /// are.
+    fn run<R: Source, W: Sink>(
+        &mut self,
+        rt: &impl Wait,
+        reader: &mut R,
+        writer: &mut W,
+    ) -> Result<(), ScriptError>
+        requires windows { self.old.table ≡ empty_state }
+        requires line { (self.old.line.items ≡ []) × (self.old.too_long ≡ false) }
+        requires out { self.old.out.items ≡ [] }
+        ensures ok { OnOk result
+            (Exchanges (IsThrough self.new.table) (R.traffic reader.old)
+            (R.traffic reader.new) (W.traffic writer.old) (W.traffic writer.new)) }
+        ensures end { OnOk result
+            ((R.traffic reader.old).empties < (R.traffic reader.new).empties) }
+        ensures given { Gives (R.traffic reader.old) (R.traffic reader.new)
+            (R.remaining reader.old) (R.remaining reader.new) }
+        ensures taken { Takes (W.traffic writer.old) (W.traffic writer.new)
+            (W.contents writer.old) (W.contents writer.new) }
+        ensures drained { OnOk result
+            (GivesAll (R.traffic reader.old) (R.traffic reader.new) (R.remaining reader.old)) }
+        ensures clean { OnOk result
+            (((R.traffic reader.new).failures ≡ (R.traffic reader.old).failures)
+            × NoFault (W.traffic writer.old) (W.traffic writer.new)) }
+        ensures begun { IfErr result (λ fault.
+            Exchanges (IsBrokenOff fault self.new.table) (R.traffic reader.old)
+            (R.traffic reader.new) (W.traffic writer.old) (W.traffic writer.new)) }
+        ensures fault { IfErr result
+            (IsCause (R.traffic reader.old) (R.traffic reader.new) (W.traffic writer.old)
+            (W.traffic writer.new)) }
+    {
+        let mut piece = room(self.alloc)?;
+        'pieces: for _ in rt.forever() {
+            if !self.take_piece(rt, reader, writer, &mut piece)? {
+                return self.finish(rt, writer);
+            }
+        }
+        unreachable!()
+    }
+
+    /// Ends the engine, and with it the windows that are left. Answers the passes of their blocks,
+    /// none of which has a live owner.
+    fn end(self) -> Passes<A>
+        ensures ended { IsKept MAX_OWNERS [] result.of_blocks.items }
+        ensures blocks { length result.of_blocks.items ≡ self.table.table.blocks }
+        ensures passes { EndsWith byte_setting self.table result.of_blocks.items }
+    {
+        let Engine {
+            table,
+            line: _,
+            too_long: _,
+            out: _,
+            alloc: _,
+        } = self;
+        table.end()
+    }
+}
+
+/// The bytes before the first line feed, and those behind it.
+fn first_line(bytes: &[u8]) -> Option<(&[u8], &[u8])>
+    ensures { MatchOption result (HasNoFeed bytes.now) (λ parts. HasNoFeed parts.0.now
+        × (bytes.now ≡ parts.0.now ++ line_feed ∷ parts.1.now)) }
+{
+    let end = memchr(b'\n', bytes)?;
+    Some((&bytes[..end], &bytes[end + 1..]))
+}
+
+/// Room for a piece of the input.
+fn room<A: Allocator>(alloc: A) -> Result<Vec<u8, A>, AllocError>
+    ensures { IfOk result (λ piece. vec_len piece ≡ PIECE) }
+{
+    Ok(vec![in alloc; 0u8; PIECE]?)
+}
+
+/// Runs a script as `run_script` says, ends every window that is left, and answers with the result
+/// the passes of the blocks, which tell all that was done to them.
+fn run_to_end<R: Source, W: Sink, A: Allocator + Copy>(
+    rt: &impl Wait,
+    alloc: A,
+    reader: &mut R,
+    writer: &mut W,
+) -> (Result<(), ScriptError>, Passes<A>)
+    ensures ok { OnOk result.0
+        (Exchanges (ThenEnds IsThrough result.1.of_blocks.items) (R.traffic reader.old)
+        (R.traffic reader.new) (W.traffic writer.old) (W.traffic writer.new)) }
+    ensures end { OnOk result.0 ((R.traffic reader.old).empties < (R.traffic reader.new).empties) }
+    ensures given { Gives (R.traffic reader.old) (R.traffic reader.new)
+        (R.remaining reader.old) (R.remaining reader.new) }
+    ensures taken { Takes (W.traffic writer.old) (W.traffic writer.new)
+        (W.contents writer.old) (W.contents writer.new) }
+    ensures drained { OnOk result.0
+        (GivesAll (R.traffic reader.old) (R.traffic reader.new) (R.remaining reader.old)) }
+    ensures clean { OnOk result.0
+        (((R.traffic reader.new).failures ≡ (R.traffic reader.old).failures)
+        × NoFault (W.traffic writer.old) (W.traffic writer.new)) }
+    ensures ended { IsKept MAX_OWNERS [] result.1.of_blocks.items }
+    ensures begun { IfErr result.0 (λ fault.
+        Exchanges (ThenEnds (IsBrokenOff fault) result.1.of_blocks.items) (R.traffic reader.old)
+        (R.traffic reader.new) (W.traffic writer.old) (W.traffic writer.new)) }
+    ensures fault { IfErr result.0
+        (IsCause (R.traffic reader.old) (R.traffic reader.new) (W.traffic writer.old)
+        (W.traffic writer.new)) }
+{
+    let mut engine = Engine::new(alloc);
+    let result = engine.run(rt, reader, writer);
+    (result, engine.end())
+}
+
+/// Runs a script: each line of the input is answered by one line of the output, and the windows go
+/// with the run.
+///
+/// It reads in pieces of at most 65,536 bytes, holds no more of a line than 65,536 bytes, and
+/// writes the replies when a piece is done and whenever 65,536 bytes of them are held. `Read` where
+/// a read failed, `Write` where a write failed or took nothing, `Alloc` where memory was refused
+/// for a line, for its items or for replies that are held; what was written is then a beginning of
+/// the replies: all of those to the lines that were carried out where a read failed, and all but
+/// one at most where memory was refused. Each window is released at the end and on every fault.
+pub fn run_script<R: Source, W: Sink, A: Allocator + Copy>(
+    rt: &impl Wait,
+    alloc: A,
+    reader: &mut R,
+    writer: &mut W,
+    layout: ScriptLayout,
+) -> Result<(), ScriptError>
+    ensures ok { OnOk result
+        (Exchanges IsReplyText (R.traffic reader.old) (R.traffic reader.new) (W.traffic writer.old)
+        (W.traffic writer.new)) }
+    ensures end { OnOk result ((R.traffic reader.old).empties < (R.traffic reader.new).empties) }
+    ensures given { Gives (R.traffic reader.old) (R.traffic reader.new)
+        (R.remaining reader.old) (R.remaining reader.new) }
+    ensures taken { Takes (W.traffic writer.old) (W.traffic writer.new)
+        (W.contents writer.old) (W.contents writer.new) }
+    ensures drained { OnOk result
+        (GivesAll (R.traffic reader.old) (R.traffic reader.new) (R.remaining reader.old)) }
+    ensures clean { OnOk result (((R.traffic reader.new).failures ≡ (R.traffic reader.old).failures)
+        × NoFault (W.traffic writer.old) (W.traffic writer.new)) }
+    ensures begun { OnErr result
+        (Exchanges BeginsReplyText (R.traffic reader.old) (R.traffic reader.new)
+        (W.traffic writer.old) (W.traffic writer.new)) }
+    ensures fault { IfErr result
+        (IsCause (R.traffic reader.old) (R.traffic reader.new) (W.traffic writer.old)
+        (W.traffic writer.new)) }
+{
+    let ScriptLayout::Arc = layout;
+    let (result, _) = run_to_end(rt, alloc, reader, writer);
+    result
+}
+
+/// Each input has replies, and is cut into lines in one way.
+pub fn every_input_is_answered()
+    ensures answered { (input : List ℕ) → (text : List ℕ) × IsReplyText input text }
+    ensures lines { (input : List ℕ) (lines others : List (List ℕ)) → AreLines input lines
+        → AreLines input others → lines ≡ others }
+{}
