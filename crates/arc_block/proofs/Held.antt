@@ -28,10 +28,10 @@ module _ (has_static has_any : Bool) where
   part_held items start place held = either_held (has_static && (length items == 0)) (moved start place) (left_true has_static (length items == 0)) (moved_held start place held)
 
   -- what was made
-  pub made_held : {T : Type 0} (drops one_pass : Bool) (items : List T) (w : Window T) → Makes has_static drops one_pass items w → IsHeld has_static has_any w.place
-  made_held {T} drops one_pass items w makes =
-      let P : Window T → Type 0 = λ v. IsHeld has_static has_any v.place in
-      let there : Place (Option Owner) (Unit {0}) = on_block (Some makes.owner) 0 (native_facts drops (length items)) in
+  pub made_held : {T M : Type 0} (drops one_pass : Bool) (items : List T) (w : Window T M) → Makes has_static drops one_pass items w → IsHeld has_static has_any w.place
+  made_held {T} {M} drops one_pass items w makes =
+      let P : Window T M → Type 0 = λ v. IsHeld has_static has_any v.place in
+      let there : Place (Option Owner) M = on_block (Some makes.owner) 0 (native_facts drops (length items)) in
       subst P (sym makes.made) (part_held items 0 there tt)
 
   -- another owner

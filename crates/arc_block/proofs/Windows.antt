@@ -3,64 +3,64 @@ use Rattle.std.proofs.Common.{◌≡◌, ℕ, ◌+◌, ◌-◌, ◌≤◌, ◌==
 use Rattle.std.proofs.lemmas.Bool.{eqb-true, false≢true}
 use Rattle.std.proofs.lemmas.List.{nil_from_length}
 use Rattle.arc_owners.specs.declared.count.tokens.Pass.{Pass}
-use Rattle.arc_owners.specs.count.Calls.{Owner, IsFirst, MakesAnother}
+use Rattle.arc_owners.specs.count.Calls.{Owner, IsFirst, MakesAnother, Asks}
 use Rattle.arc_buffer.specs.Slice.{sub}
 use Rattle.arc_buffer.proofs.Sub.{sub-sub, sub-whole, length-sub}
 use Rattle.arc_block.specs.Block.{BlockInfo, BlockView, native, native_facts, native_block}
 use Rattle.arc_block.specs.declared.block.TheConstants.{MAX_OWNERS}
-use Rattle.arc_block.specs.Place.{Place, nowhere, static_data, on_block, moved, part_place}
+use Rattle.arc_block.specs.Place.{Place, nowhere, static_data, on_block, moved, part_place, at_owner}
 use Rattle.arc_block.specs.Table.{reader}
 use Rattle.arc_block.specs.declared.parts.storage.Storage.{Storage}
 use Rattle.arc_block.specs.declared.parts.storage.Storage.TheVariants.{Nothing, Static, Block}
 use Rattle.arc_block.specs.Window.{PartsView, parts_of, window_of, made_window, window_seen, IsWithin, IsNativeOf, IsWholeOf}
-use Rattle.arc_block.specs.Steps.{Shares, Makes}
+use Rattle.arc_block.specs.Steps.{Shares, Makes, RefusesArray}
 
-stays : (place : Place (Option Owner) (Unit {0})) → moved 0 place ≡ place
+stays : {M : Type 0} (place : Place (Option Owner) M) → moved 0 place ≡ place
 stays nowhere = refl
 stays static_data = refl
 stays (on_block owner offset facts) = let same : offset + 0 ≡ offset = omega arith in ap (λ n. on_block owner n facts) same
 
-module _ {T : Type 0} where
+module _ {T M : Type 0} where
   -- how many items there are
-  pub how_long : (inner : Storage T (BlockView T (Unit {0}))) (from to : ℕ) (p : PartsView T) → parts_of (window_seen inner from to) ≡ p → IsWithin inner from to → from + length p.items ≡ to
-  how_long Nothing from to p view within = omega (arith, ap (λ (v : PartsView T). length v.items) view, within.0, within.1)
-  how_long (Static items) from to p view within = omega (arith, ap (λ (v : PartsView T). length v.items) view, length-sub items from to within.0 within.1, within.0)
-  how_long (Block b) from to p view within = omega (arith, ap (λ (v : PartsView T). length v.items) view, length-sub b.items from to within.0 within.1, within.0)
+  pub how_long : (inner : Storage T (BlockView T M)) (from to : ℕ) (p : PartsView T M) → parts_of (window_seen inner from to) ≡ p → IsWithin inner from to → from + length p.items ≡ to
+  how_long Nothing from to p view within = omega (arith, ap (λ (v : PartsView T M). length v.items) view, within.0, within.1)
+  how_long (Static items) from to p view within = omega (arith, ap (λ (v : PartsView T M). length v.items) view, length-sub items from to within.0 within.1, within.0)
+  how_long (Block b) from to p view within = omega (arith, ap (λ (v : PartsView T M). length v.items) view, length-sub b.items from to within.0 within.1, within.0)
 
   -- what is left between two ends lies within the block
-  pub kept_within : (inner : Storage T (BlockView T (Unit {0}))) (from to start end : ℕ) → IsWithin inner from to → start ≤ end → from + end ≤ to → IsWithin inner (from + start) (from + end)
+  pub kept_within : (inner : Storage T (BlockView T M)) (from to start end : ℕ) → IsWithin inner from to → start ≤ end → from + end ≤ to → IsWithin inner (from + start) (from + end)
   kept_within Nothing from to start end within ordered inside = (omega (arith, within.0, within.1, ordered, inside), omega (arith, within.0, within.1, inside))
   kept_within (Static items) from to start end within ordered inside = (omega (arith, ordered), omega (arith, inside, within.1))
   kept_within (Block b) from to start end within ordered inside = (omega (arith, ordered), omega (arith, inside, within.1), within.2)
 
   -- and is seen as the items between them, that much further in
-  pub kept_seen : (inner : Storage T (BlockView T (Unit {0}))) (from to start end : ℕ) (p : PartsView T) → parts_of (window_seen inner from to) ≡ p → IsWithin inner from to → start ≤ end → from + end ≤ to
+  pub kept_seen : (inner : Storage T (BlockView T M)) (from to start end : ℕ) (p : PartsView T M) → parts_of (window_seen inner from to) ≡ p → IsWithin inner from to → start ≤ end → from + end ≤ to
       → parts_of (window_seen inner (from + start) (from + end)) ≡ record { items = sub p.items start end; place = moved start p.place; role = p.role }
   kept_seen Nothing from to start end p view within ordered inside =
       let nil : List T = [] in
       let empty : sub nil start end ≡ [] = nil_from_length (sub nil start end) (omega (arith, length-sub nil start end ordered (omega (arith, within.0, within.1, inside)), within.0, within.1, inside)) in
-      let seen : PartsView T → Type 0 = λ v. parts_of (window_seen {T = T} Nothing (from + start) (from + end)) ≡ record { items = sub v.items start end; place = moved start v.place; role = v.role } in
+      let seen : PartsView T M → Type 0 = λ v. parts_of (window_seen {T = T} Nothing (from + start) (from + end)) ≡ record { items = sub v.items start end; place = moved start v.place; role = v.role } in
       subst seen view (ap (λ xs. record { items = xs; place = nowhere; role = reader }) (sym empty))
   kept_seen (Static items) from to start end p view within ordered inside =
-      let seen : PartsView T → Type 0 = λ v. parts_of (window_seen {T = T} (Static items) (from + start) (from + end)) ≡ record { items = sub v.items start end; place = moved start v.place; role = v.role } in
+      let seen : PartsView T M → Type 0 = λ v. parts_of (window_seen {T = T} (Static items) (from + start) (from + end)) ≡ record { items = sub v.items start end; place = moved start v.place; role = v.role } in
       subst seen view (ap (λ xs. record { items = xs; place = static_data; role = reader }) (sym (sub-sub items from to start end inside)))
   kept_seen (Block b) from to start end p view within ordered inside =
-      let seen : PartsView T → Type 0 = λ v. parts_of (window_seen (Block b) (from + start) (from + end)) ≡ record { items = sub v.items start end; place = moved start v.place; role = v.role } in
-      let there : Place (Option Owner) (Unit {0}) = on_block (Some b.owner) (from + start) b.facts in
+      let seen : PartsView T M → Type 0 = λ v. parts_of (window_seen (Block b) (from + start) (from + end)) ≡ record { items = sub v.items start end; place = moved start v.place; role = v.role } in
+      let there : Place (Option Owner) M = on_block (Some b.owner) (from + start) b.facts in
       subst seen view (ap (λ xs. record { items = xs; place = there; role = reader }) (sym (sub-sub b.items from to start end inside)))
 
 -- the block that another owner stands on: its items and what is known of it are the same
-abbrev reowned : {T : Type 0} → BlockView T (Unit {0}) → Owner → BlockView T (Unit {0})
+abbrev reowned : {T M : Type 0} → BlockView T M → Owner → BlockView T M
 reowned b other = record { owner = other; items = b.items; facts = b.facts }
 
-as_reowned : {T : Type 0} (b b' : BlockView T (Unit {0})) → b'.items ≡ b.items → b'.facts ≡ b.facts → reowned b b'.owner ≡ b'
-as_reowned {T} b b' items facts =
-    let f : List T → BlockView T (Unit {0}) = λ xs. record { owner = b'.owner; items = xs; facts = b.facts } in
-    let g : BlockInfo (Unit {0}) → BlockView T (Unit {0}) = λ x. record { owner = b'.owner; items = b'.items; facts = x } in
+as_reowned : {T M : Type 0} (b b' : BlockView T M) → b'.items ≡ b.items → b'.facts ≡ b.facts → reowned b b'.owner ≡ b'
+as_reowned {T} {M} b b' items facts =
+    let f : List T → BlockView T M = λ xs. record { owner = b'.owner; items = xs; facts = b.facts } in
+    let g : BlockInfo M → BlockView T M = λ x. record { owner = b'.owner; items = b'.items; facts = x } in
     ap f (sym items) ∙ ap g (sym facts)
 
 -- parts that stand on a block b
-module _ {T : Type 0} (inner : Storage T (BlockView T (Unit {0}))) (from to : ℕ) (p : PartsView T) (b : BlockView T (Unit {0})) (view : parts_of (window_seen inner from to) ≡ p) (is : inner ≡ Block b) (within : IsWithin inner from to) where
+module _ {T M : Type 0} (inner : Storage T (BlockView T M)) (from to : ℕ) (p : PartsView T M) (b : BlockView T M) (view : parts_of (window_seen inner from to) ≡ p) (is : inner ≡ Block b) (within : IsWithin inner from to) where
   here : IsWithin (Block b) from to
   here = subst (λ x. IsWithin x from to) is within
 
@@ -69,11 +69,11 @@ module _ {T : Type 0} (inner : Storage T (BlockView T (Unit {0}))) (from to : �
 
   -- the items are those of the block between the ends
   pub items_on_block : (items : List T) → items ≡ sub b.items from to → items ≡ p.items
-  items_on_block items read = read ∙ ap (λ (v : PartsView T). v.items) (sym on_block_seen)
+  items_on_block items read = read ∙ ap (λ (v : PartsView T M). v.items) (sym on_block_seen)
 
   -- there are as many as lie between the ends
   pub between : length p.items ≡ to - from
-  between = ap (λ (v : PartsView T). length v.items) on_block_seen ∙ length-sub b.items from to here.0 here.1
+  between = ap (λ (v : PartsView T M). length v.items) on_block_seen ∙ length-sub b.items from to here.0 here.1
 
   module _ (has_static : Bool) (start end : ℕ) (ordered : start ≤ end) (inside : end ≤ length p.items) (kept : (has_static && ((end - start) == 0)) ≡ false) where
     upto : from + end ≤ to
@@ -85,71 +85,82 @@ module _ {T : Type 0} (inner : Storage T (BlockView T (Unit {0}))) (from to : �
         let parts : sub b.items (from + start) (from + end) ≡ sub (sub b.items from to) start end = sym (sub-sub b.items from to start end upto) in
         let whole : length (sub b.items from to) ≡ to - from = length-sub b.items from to here.0 here.1 in
         let long : length (sub (sub b.items from to) start end) ≡ end - start = length-sub (sub b.items from to) start end ordered (omega (arith, inside, between, whole)) in
-        let there : Place (Option Owner) (Unit {0}) = on_block (Some b.owner) (from + start) b.facts in
-        let P : PartsView T → Type 0 = λ v. parts_of (window_seen (Block b) (from + start) (from + end)) ≡ record { items = sub v.items start end; place = part_place has_static (sub v.items start end) start v.place; role = reader } in
+        let there : Place (Option Owner) M = on_block (Some b.owner) (from + start) b.facts in
+        let P : PartsView T M → Type 0 = λ v. parts_of (window_seen (Block b) (from + start) (from + end)) ≡ record { items = sub v.items start end; place = part_place has_static (sub v.items start end) start v.place; role = reader } in
         subst P (sym on_block_seen)
         (ap (λ xs. record { items = xs; place = there; role = reader }) parts
         ∙ ap (λ t. record { items = sub (sub b.items from to) start end; place = if t then nowhere else there; role = reader }) (sym (ap (λ n. has_static && (n == 0)) long ∙ kept)))
 
     -- also as parts of another owner
-    module _ (b' : BlockView T (Unit {0})) (items : b'.items ≡ b.items) (facts : b'.facts ≡ b.facts) where
+    module _ (b' : BlockView T M) (items : b'.items ≡ b.items) (facts : b'.facts ≡ b.facts) where
       pub part_items : (window_seen (Block b') (from + start) (from + end)).items ≡ sub p.items start end
-      part_items = ap (λ xs. sub xs (from + start) (from + end)) items ∙ ap (λ (v : PartsView T). v.items) part_seen
+      part_items = ap (λ xs. sub xs (from + start) (from + end)) items ∙ ap (λ (v : PartsView T M). v.items) part_seen
 
       pub part_shares : {H : Type 0} (old new : Pass H) → MakesAnother b.owner old new b'.owner → Shares (part_place has_static (sub p.items start end) start p.place) old new (window_seen (Block b') (from + start) (from + end)).place
       part_shares old new makes =
-          let P : Place (Option Owner) (Unit {0}) → Type 0 = λ place. Shares place old new (on_block (Some b'.owner) (from + start) b'.facts) in
-          subst P (ap (λ (v : PartsView T). v.place) part_seen) (b'.owner, makes, ap (λ x. on_block (Some b'.owner) (from + start) x) facts)
+          let P : Place (Option Owner) M → Type 0 = λ place. Shares place old new (on_block (Some b'.owner) (from + start) b'.facts) in
+          subst P (ap (λ (v : PartsView T M). v.place) part_seen) (b'.owner, makes, ap (λ x. on_block (Some b'.owner) (from + start) x) facts)
 
   -- as many items as the block has places are all of it
   pub whole_is_all : (size : ℕ) → IsWholeOf size (window_of p) → (length b.items ≡ size) × (b.items ≡ p.items)
   whole_is_all size whole =
-      let places : b.facts.size ≡ size = (subst (λ (v : PartsView T). IsNativeOf size v.place) on_block_seen whole.block).1 in
+      let places : b.facts.size ≡ size = (subst (λ (v : PartsView T M). IsNativeOf size v.place) on_block_seen whole.block).1 in
       let long : to - from ≡ size = sym between ∙ whole.items in
       let start : from ≡ 0 = omega (arith, here.0, here.1, here.2, places, long) in
       let last : to ≡ length b.items = omega (arith, here.0, here.1, here.2, places, long) in
-      (omega (arith, here.0, here.1, here.2, places, long), sym (ap (λ (v : PartsView T). v.items) on_block_seen ∙ ap (λ n. sub b.items n to) start ∙ ap (λ n. sub b.items 0 n) last ∙ sub-whole b.items))
+      (omega (arith, here.0, here.1, here.2, places, long), sym (ap (λ (v : PartsView T M). v.items) on_block_seen ∙ ap (λ n. sub b.items n to) start ∙ ap (λ n. sub b.items 0 n) last ∙ sub-whole b.items))
 
   -- they are all of a native block where the numbers say so
   pub whole_told : (n : ℕ) → b.facts.sort ≡ native → (length p.items ≡ n) × (b.facts.size ≡ n) → IsWholeOf n (window_of p)
-  whole_told n sort told = record { items = told.0; block = subst (λ (v : PartsView T). IsNativeOf n v.place) (sym on_block_seen) (sort, told.1) }
+  whole_told n sort told = record { items = told.0; block = subst (λ (v : PartsView T M). IsNativeOf n v.place) (sym on_block_seen) (sort, told.1) }
+
+  -- they come back on the same block, beside another owner
+  pub back_on_block : {H : Type 0} (b' : BlockView T M) → b' ≡ b → (size : ℕ) → IsWholeOf size (window_of p) → (old new : Pass H) → Asks b.owner old new false
+      → (parts_of (window_seen (Block b') from to) ≡ p) × RefusesArray size (window_of p) old new
+  back_on_block b' same size whole old new asks = (
+    ap (λ x. parts_of (window_seen (Block x) from to)) same ∙ sym on_block_seen,
+    record {
+      asked = λ _. subst (λ (v : PartsView T M). at_owner v.place ⊥ (λ o. Asks o old new false)) (sym on_block_seen) asks;
+      unasked = λ part. absurd (part whole);
+    },
+  )
 
 -- parts that stand on a static slice
-module _ {T : Type 0} (inner : Storage T (BlockView T (Unit {0}))) (from to : ℕ) (p : PartsView T) (all : List T) (view : parts_of (window_seen inner from to) ≡ p) (is : inner ≡ Static all) (within : IsWithin inner from to) where
-  inside_slice : IsWithin {T = T} (Static all) from to
+module _ {T M : Type 0} (inner : Storage T (BlockView T M)) (from to : ℕ) (p : PartsView T M) (all : List T) (view : parts_of (window_seen inner from to) ≡ p) (is : inner ≡ Static all) (within : IsWithin inner from to) where
+  inside_slice : IsWithin {T = T} {M = M} (Static all) from to
   inside_slice = subst (λ x. IsWithin x from to) is within
 
   on_slice_seen : p ≡ parts_of (window_seen (Static all) from to)
   on_slice_seen = sym view ∙ ap (λ x. parts_of (window_seen x from to)) is
 
   in_slice : length p.items ≡ to - from
-  in_slice = ap (λ (v : PartsView T). length v.items) on_slice_seen ∙ length-sub all from to inside_slice.0 inside_slice.1
+  in_slice = ap (λ (v : PartsView T M). length v.items) on_slice_seen ∙ length-sub all from to inside_slice.0 inside_slice.1
 
   -- a part of them
   module _ (start end : ℕ) (ordered : start ≤ end) (inside : end ≤ length p.items) where
     pub slice_items : (items : List T) → items ≡ all → sub items (from + start) (from + end) ≡ sub p.items start end
     slice_items items same =
         ap (λ xs. sub xs (from + start) (from + end)) same ∙ sym (sub-sub all from to start end (omega (arith, inside, in_slice, inside_slice.0)))
-        ∙ ap (λ (v : PartsView T). sub v.items start end) (sym on_slice_seen)
+        ∙ ap (λ (v : PartsView T M). sub v.items start end) (sym on_slice_seen)
 
     pub slice_shares : {H : Type 0} (has_static : Bool) (old : Pass H) → (has_static && ((end - start) == 0)) ≡ false
         → Shares (part_place has_static (sub p.items start end) start p.place) old old static_data
     slice_shares has_static old kept =
         let long : length (sub p.items start end) ≡ end - start = length-sub p.items start end ordered inside in
-        let P : Place (Option Owner) (Unit {0}) → Type 0 = λ place. Shares place old old static_data in
-        subst P (ap (λ b. if b then nowhere else static_data) (sym (ap (λ n. has_static && (n == 0)) long ∙ kept)) ∙ ap (λ (v : PartsView T). part_place has_static (sub p.items start end) start v.place) (sym on_slice_seen)) (refl, refl)
+        let P : Place (Option Owner) M → Type 0 = λ place. Shares place old old static_data in
+        subst P (ap (λ b. if b then nowhere else static_data) (sym (ap (λ n. has_static && (n == 0)) long ∙ kept)) ∙ ap (λ (v : PartsView T M). part_place has_static (sub p.items start end) start v.place) (sym on_slice_seen)) (refl, refl)
 
 both_true : (b : Bool) (n : ℕ) → (b && (n == 0)) ≡ true → n ≡ 0
 both_true true n both = eqb-true n 0 both
 both_true false n both = absurd (false≢true both)
 
-module _ {T : Type 0} (has_static drops one_pass : Bool) (items : List T) where
+module _ {T M : Type 0} (has_static drops one_pass : Bool) (items : List T) where
   -- all of a new block
-  pub made_on_block : (b : BlockView T (Unit {0})) → b ≡ native_block drops b.owner items → IsFirst MAX_OWNERS one_pass b.owner → (has_static && (length items == 0)) ≡ false
+  pub made_on_block : (b : BlockView T M) → b ≡ native_block drops b.owner items → IsFirst MAX_OWNERS one_pass b.owner → (has_static && (length items == 0)) ≡ false
       → Makes has_static drops one_pass items (window_of (parts_of (window_seen (Block b) 0 (length items))))
   made_on_block b is first kept =
-      let there : Bool → Place (Option Owner) (Unit {0}) = λ nothing. if nothing then nowhere else on_block (Some b.owner) 0 (native_facts drops (length items)) in
-      let P : BlockView T (Unit {0}) → Type 0 = λ x. window_of (parts_of (window_seen (Block x) 0 (length items))) ≡ made_window has_static drops b.owner items in record {
+      let there : Bool → Place (Option Owner) M = λ nothing. if nothing then nowhere else on_block (Some b.owner) 0 (native_facts drops (length items)) in
+      let P : BlockView T M → Type 0 = λ x. window_of (parts_of (window_seen (Block x) 0 (length items))) ≡ made_window has_static drops b.owner items in record {
         owner = b.owner;
         made = subst P (sym is) (ap (λ xs. record { items = xs; place = there false }) (sub-whole items) ∙ ap (λ nothing. record { items = items; place = there nothing }) (sym kept));
         first = first;
@@ -157,17 +168,17 @@ module _ {T : Type 0} (has_static drops one_pass : Bool) (items : List T) where
 
   -- no items, on nothing
   pub made_on_nothing : (owner : Owner) → (has_static && (length items == 0)) ≡ true
-      → Makes has_static drops one_pass items (record { items = []; place = nowhere })
+      → Makes {M = M} has_static drops one_pass items (record { items = []; place = nowhere })
   made_on_nothing owner nothing =
       let empty : items ≡ [] = nil_from_length items (both_true has_static (length items) nothing) in
-      let there : Bool → Place (Option Owner) (Unit {0}) = λ b. if b then nowhere else on_block (Some owner) 0 (native_facts drops (length items)) in record {
+      let there : Bool → Place (Option Owner) M = λ b. if b then nowhere else on_block (Some owner) 0 (native_facts drops (length items)) in record {
         owner = owner;
         made = ap (λ xs. record { items = xs; place = nowhere }) (sym empty) ∙ ap (λ b. record { items = items; place = there b }) (sym nothing);
         first = tt;
       }
 
   -- what is made on a new block lies within it
-  pub made_within : (b : BlockView T (Unit {0})) → b ≡ native_block drops b.owner items → IsWithin (Block b) 0 (length items)
+  pub made_within : (b : BlockView T M) → b ≡ native_block drops b.owner items → IsWithin (Block b) 0 (length items)
   made_within b is = subst (λ x. IsWithin (Block x) 0 (length items)) (sym is) (omega arith, omega arith, omega arith)
 
 -- an owner, for parts that stand on nothing and have none

@@ -40,21 +40,22 @@ module _ {M H : Type 0} where
   Refuses wants (on_block (Some o) offset facts) old new AllocError =
       (wants facts.sort ≡ true) × (before : List Line) × Appends o.block old new before []
 
-module _ {T : Type 0} where
+module _ {T M : Type 0} where
   -- a window was made of a list: on a block it is its first owner
-  pub record Makes (has_static drops one_pass : Bool) (items : List T) (w : Window T) : Type 0 where
+  pub record Makes (has_static drops one_pass : Bool) (items : List T) (w : Window T M)
+      : Type 0 where
     pub owner : Owner
     pub made : w ≡ made_window has_static drops owner items
     pub first : at_owner w.place (Unit {0}) (λ o. IsFirst MAX_OWNERS one_pass o)
 
-module _ {T H : Type 0} where
+module _ {T M H : Type 0} where
   -- an array was refused: where only the count could decide, it was asked and said no, and else
   -- nothing was asked
-  pub record RefusesArray (size : ℕ) (w : Window T) (old new : Pass H) : Type 0 where
+  pub record RefusesArray (size : ℕ) (w : Window T M) (old new : Pass H) : Type 0 where
     pub asked : IsWholeOf size w → at_owner w.place ⊥ (λ o. Asks o old new false)
     pub unasked : ¬ IsWholeOf size w → new ≡ old
 
   -- the pass, which was of no block, is that of the window's new block, in which nothing has
   -- happened yet
-  abbrev pub Begins : Window T → Pass H → Pass H → Type 0
+  abbrev pub Begins : Window T M → Pass H → Pass H → Type 0
   Begins w old new = at_owner w.place (new ≡ old) (λ o. IsFreshPass o new)

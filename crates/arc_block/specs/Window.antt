@@ -12,13 +12,13 @@ use Rattle.arc_block.specs.declared.parts.storage.Storage.TheVariants.{Nothing, 
 
 -- what is seen of a window: its items, and where it stands: on a block as one of its owners, where
 -- the block counts them
-pub record Window (T : Type 0) : Type 0 where
+pub record Window (T M : Type 0) : Type 0 where
   pub items : List T
-  pub place : Place (Option Owner) (Unit {0})
+  pub place : Place (Option Owner) M
 
 -- the window that is made of a list, where its block has this owner: a native block has a place for
 -- each item
-abbrev pub made_window : {T : Type 0} → Bool → Bool → Owner → List T → Window T
+abbrev pub made_window : {T M : Type 0} → Bool → Bool → Owner → List T → Window T M
 made_window has_static drops owner items = record {
   items = items;
   place = made_place has_static (Some owner) (native_facts drops (length items)) items;
@@ -31,7 +31,7 @@ NeedsBlock {T} has_static items =
     IsOnBlock (made_place {T = T} {N = Unit {0}} has_static tt facts items)
 
 -- the part from start to end of what a window stands on
-abbrev pub window_seen : {T : Type 0} → Storage T (BlockView T (Unit {0})) → ℕ → ℕ → Window T
+abbrev pub window_seen : {T M : Type 0} → Storage T (BlockView T M) → ℕ → ℕ → Window T M
 window_seen Nothing start end = record { items = []; place = nowhere }
 window_seen (Static items) start end = record { items = sub items start end; place = static_data }
 window_seen (Block block) start end = record {
@@ -41,7 +41,7 @@ window_seen (Block block) start end = record {
 
 -- start to end lies within what the window stands on; a block has a place for each item; a window
 -- on nothing has no items
-abbrev pub IsWithin : {T : Type 0} → Storage T (BlockView T (Unit {0})) → ℕ → ℕ → Type 0
+abbrev pub IsWithin : {T M : Type 0} → Storage T (BlockView T M) → ℕ → ℕ → Type 0
 IsWithin Nothing start end = (start ≡ 0) × (end ≡ 0)
 IsWithin (Static items) start end = (start ≤ end) × (end ≤ length items)
 IsWithin (Block block) start end = (start ≤ end) × (end ≤ length block.items)
@@ -54,20 +54,20 @@ IsNativeOf size static_data = ⊥
 IsNativeOf size (on_block block offset facts) = (facts.sort ≡ native) × (facts.size ≡ size)
 
 -- a window with so many items, which are all places of a native block
-pub record IsWholeOf {T : Type 0} (size : ℕ) (w : Window T) : Type 0 where
+pub record IsWholeOf {T M : Type 0} (size : ℕ) (w : Window T M) : Type 0 where
   pub items : length w.items ≡ size
   pub block : IsNativeOf size w.place
 
 -- what is seen of a window's parts: a row of the table of lists, with its owner
-abbrev pub PartsView : Type 0 → Type 0
-PartsView T = RowOf (Option Owner) T (Unit {0})
+abbrev pub PartsView : Type 0 → Type 0 → Type 0
+PartsView T M = RowOf (Option Owner) T M
 
 -- the window that is read through these parts
-abbrev pub window_of : {T : Type 0} → PartsView T → Window T
+abbrev pub window_of : {T M : Type 0} → PartsView T M → Window T M
 window_of p = record { items = p.items; place = p.place }
 
 -- the parts of a window that is read
-abbrev pub parts_of : {T : Type 0} → Window T → PartsView T
+abbrev pub parts_of : {T M : Type 0} → Window T M → PartsView T M
 parts_of w = record { items = w.items; place = w.place; role = reader }
 
 -- a layout holds blocks of a sort

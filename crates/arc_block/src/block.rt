@@ -13,7 +13,7 @@ use arc_owners::error::{AllocError, CountFull};
 use arc_owners::mark::{Mark, Open, Stepping};
 use arc_owners::owners::{CountedBox, Pass};
 use std::alloc::Allocator;
-use std::marker::Model;
+use std::marker::{Model, PhantomData};
 
 /// How many owners a window's block may have at once: 9,223,372,036,854,775,807.
 pub const MAX_OWNERS: u64 = 9223372036854775807;
@@ -28,19 +28,24 @@ pub fn max_owners() -> u64
 /// An owner of a block, which at most `MAX` owners share. The block is given back with its last
 /// owner.
 ///
+/// `B` is the type of callers' buffers and `M` that of their metadata. No block is made of a buffer
+/// yet, so they stand in the type alone.
+///
 /// Dropped, it ends with a new pass under the mark `Open`. Under `Whole` it is a forgotten owner:
 /// the block stays for good.
-pub struct Block<S: Slice, A: Allocator + Copy, const MAX: u64, H: Mark = Open> {
+pub struct Block<S: Slice, B, M, A: Allocator + Copy, const MAX: u64, H: Mark = Open> {
     piece: CountedBox<Native<S::Item, A>, A, MAX, H>,
     base: Base<S::Item>,
+    of: PhantomData<(B, M)>,
 }
 
-impl<S: Slice, A: Allocator + Copy, const MAX: u64, H: Mark> Model for Block<S, A, MAX, H> {
+impl<S: Slice, B, M, A: Allocator + Copy, const MAX: u64, H: Mark> Model
+    for Block<S, B, M, A, MAX, H> {
     ghost use Rattle.std.specs.Prelude.{◌≡◌};
     ghost use Rattle.arc_owners.specs.memory.Boxes.{owner_in, value_of};
     ghost use Rattle.arc_block.specs.Block.{BlockView, held_in, IsLimited};
 
-    ghost Value = { BlockView S.Item (Unit {0}) };
+    ghost Value = { BlockView S.Item M };
 
     ghost view = { λ b. held_in S.DROPS (owner_in b.piece) (value_of b.piece) };
 
@@ -48,10 +53,15 @@ impl<S: Slice, A: Allocator + Copy, const MAX: u64, H: Mark> Model for Block<S, 
         × (b.base.at ≡ (value_of b.piece).places.base) };
 }
 
-impl<S: Slice, A: Allocator + Copy, const MAX: u64, H: Mark> Drop for Block<S, A, MAX, H> {
+impl<S: Slice, B, M, A: Allocator + Copy, const MAX: u64, H: Mark> Drop
+    for Block<S, B, M, A, MAX, H> {
     #[inline(always)]
     fn drop(self) {
-        let Block { piece, base: _ } = self;
+        let Block {
+            piece,
+            base: _,
+            of: _,
+        } = self;
         drop(piece);
     }
 }
@@ -129,7 +139,7 @@ fn moved<T: Drop, A: Allocator + Copy, const N: usize>(
     }
 }
 
-impl<S: Slice, A: Allocator + Copy, const MAX: u64, H: Mark> Block<S, A, MAX, H> {
+impl<S: Slice, B, M, A: Allocator + Copy, const MAX: u64, H: Mark> Block<S, B, M, A, MAX, H> {
     /// The first owner of a new native block with the items of a vector that has exactly a place
     /// for each, with a pass of the block.
     ///
@@ -147,8 +157,9 @@ impl<S: Slice, A: Allocator + Copy, const MAX: u64, H: Mark> Block<S, A, MAX, H>
     {
         let (at, native) = Native::of(items);
         let base = Base { at };
+        let of = PhantomData;
         match CountedBox::new(alloc, native) {
-            Ok((piece, pass)) => Ok((Block { piece, base }, pass)),
+            Ok((piece, pass)) => Ok((Block { piece, base, of }, pass)),
             Err(native) => Err(native.into_vec()),
         }
     }
@@ -216,14 +227,15 @@ impl<S: Slice, A: Allocator + Copy, const MAX: u64, H: Mark> Block<S, A, MAX, H>
         ensures again { IfNone result (pass.new ≡ pass.old) }
     {
         let base = Base { at: self.base.at };
+        let of = PhantomData;
         match self.piece.try_clone_once_as(pass)? {
-            Ok(piece) => Some(Ok(Block { piece, base })),
+            Ok(piece) => Some(Ok(Block { piece, base, of })),
             Err(e) => Some(Err(e)),
         }
     }
 }
 
-impl<S: Slice, A: Allocator + Copy, const MAX: u64, H: Mark> Block<S, A, MAX, H> {
+impl<S: Slice, B, M, A: Allocator + Copy, const MAX: u64, H: Mark> Block<S, B, M, A, MAX, H> {
     /// The items from the place `start` on and before the place `end`. It reads no memory.
     #[inline(always)]
     pub fn range(&self, start: usize, end: usize) -> &[S::Item]
@@ -276,10 +288,10 @@ impl<S: Slice, A: Allocator + Copy, const MAX: u64, H: Mark> Block<S, A, MAX, H>
         ensures others { IfErr result (λ back. (back ≡ self)
             × Asks self.owner pass.old pass.new false) }
     {
-        let Block { piece, base } = self;
+        let Block { piece, base, of } = self;
         match piece.try_into_value_as(pass) {
             Ok(native) => Ok(native.into_vec()),
-            Err(piece) => Err(Block { piece, base }),
+            Err(piece) => Err(Block { piece, base, of }),
         }
     }
 
@@ -290,7 +302,11 @@ impl<S: Slice, A: Allocator + Copy, const MAX: u64, H: Mark> Block<S, A, MAX, H>
         requires pass { IsPassFor self.owner pass.old }
         ensures entry { Leaves self.owner pass.old pass.new result }
     {
-        let Block { piece, base: _ } = self;
+        let Block {
+            piece,
+            base: _,
+            of: _,
+        } = self;
         match piece.release_as(pass) {
             Some(native) => {
                 drop(native);
@@ -311,18 +327,18 @@ impl<S: Slice, A: Allocator + Copy, const MAX: u64, H: Mark> Block<S, A, MAX, H>
     }
 }
 
-impl<S: Slice, A: Allocator + Copy, const MAX: u64, H: Mark> Block<S, A, MAX, H> {
+impl<S: Slice, B, M, A: Allocator + Copy, const MAX: u64, H: Mark> Block<S, B, M, A, MAX, H> {
     /// The same owner, of items of another kind. Takes no memory and adds nothing.
-    pub fn into_kind<K: Slice<Item = S::Item>>(self) -> Block<K, A, MAX, H>
+    pub fn into_kind<K: Slice<Item = S::Item>>(self) -> Block<K, B, M, A, MAX, H>
         requires { K.DROPS ≡ S.DROPS }
         ensures { result ≡ self }
     {
-        let Block { piece, base } = self;
-        Block { piece, base }
+        let Block { piece, base, of } = self;
+        Block { piece, base, of }
     }
 }
 
-impl<S: Slice, A: Allocator + Copy, const MAX: u64, H: Stepping> Block<S, A, MAX, H> {
+impl<S: Slice, B, M, A: Allocator + Copy, const MAX: u64, H: Stepping> Block<S, B, M, A, MAX, H> {
     /// A new pass, which has seen at least the entry that made this owner, and made nothing. It
     /// adds no entry and takes no memory.
     pub fn pass(&self) -> Pass<H>

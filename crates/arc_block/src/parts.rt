@@ -19,33 +19,41 @@ use arc_buffer::kinds::Slice;
 use arc_owners::error::AllocError;
 use arc_owners::mark::{Mark, Open};
 use arc_owners::owners::Pass;
-use std::alloc::Allocator;
+use std::alloc::{Allocator, Global};
 use std::marker::Model;
 use storage::Storage;
 
 /// A row of the table of lists, with its owner: the items, where they stand, and what may be done
 /// with them.
 ///
+/// `B` is the type of callers' buffers and `M` that of their metadata.
+///
 /// Dropped, parts end as a window does: under the mark `Open` with a new pass; under `Whole` their
 /// owner is a forgotten one.
-pub struct Parts<S: Slice, A: Allocator + Copy, H: Mark = Open> {
-    on: Storage<S::Item, Block<S, A, MAX_OWNERS, H>>,
+pub struct Parts<
+    S: Slice,
+    B = Vec<<S as Slice>::Item>,
+    M = (),
+    A: Allocator + Copy = Global,
+    H: Mark = Open,
+> {
+    on: Storage<S::Item, Block<S, B, M, A, MAX_OWNERS, H>>,
     start: usize,
     end: usize,
     alloc: A,
 }
 
-impl<S: Slice, A: Allocator + Copy, H: Mark> Model for Parts<S, A, H> {
+impl<S: Slice, B, M, A: Allocator + Copy, H: Mark> Model for Parts<S, B, M, A, H> {
     ghost use Rattle.arc_block.specs.Window.{PartsView, parts_of, window_seen, IsWithin};
 
-    ghost Value = { PartsView S.Item };
+    ghost Value = { PartsView S.Item M };
 
     ghost view = { λ p. parts_of (window_seen p.on p.start p.end) };
 
     ghost invariant = { λ p. IsWithin p.on p.start p.end };
 }
 
-impl<S: Slice, A: Allocator + Copy, H: Mark> Drop for Parts<S, A, H> {
+impl<S: Slice, B, M, A: Allocator + Copy, H: Mark> Drop for Parts<S, B, M, A, H> {
     #[inline(always)]
     fn drop(self) {
         let Parts {
@@ -63,7 +71,7 @@ impl<S: Slice, A: Allocator + Copy, H: Mark> Drop for Parts<S, A, H> {
     }
 }
 
-impl<S: Slice, A: Allocator + Copy, H: Mark> Parts<S, A, H> {
+impl<S: Slice, B, M, A: Allocator + Copy, H: Mark> Parts<S, B, M, A, H> {
     /// No items, on nothing.
     #[inline(always)]
     pub fn on_nothing(alloc: A) -> Self
@@ -93,7 +101,7 @@ impl<S: Slice, A: Allocator + Copy, H: Mark> Parts<S, A, H> {
     /// All of a block that was just made; the pass becomes the block's.
     fn over_new<L: Layout>(
         alloc: A,
-        block: Block<S, A, MAX_OWNERS, H>,
+        block: Block<S, B, M, A, MAX_OWNERS, H>,
         new: Pass<H>,
         pass: &mut Pass<H>,
     ) -> Self
@@ -177,7 +185,7 @@ impl<S: Slice, A: Allocator + Copy, H: Mark> Parts<S, A, H> {
     }
 }
 
-impl<S: Slice, A: Allocator + Copy, H: Mark> Parts<S, A, H> {
+impl<S: Slice, B, M, A: Allocator + Copy, H: Mark> Parts<S, B, M, A, H> {
     /// How many items there are.
     #[inline(always)]
     pub fn len(&self) -> usize

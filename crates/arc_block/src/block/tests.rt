@@ -7,11 +7,11 @@ use linked_list_allocator::LocalHeap;
 use std::test::Fail;
 use std::thread;
 
+/// An owner of bytes, which three may share.
+type Bytes<A> = Block<Plain<u8>, Vec<u8>, (), A, 3, Open>;
+
 /// Another owner of a block on which no other thread steps, so that one attempt is enough.
-fn shared<A: Allocator + Copy>(
-    block: &Block<Plain<u8>, A, 3, Open>,
-    pass: &mut Pass<Open>,
-) -> Result<Block<Plain<u8>, A, 3, Open>, Fail>
+fn shared<A: Allocator + Copy>(block: &Bytes<A>, pass: &mut Pass<Open>) -> Result<Bytes<A>, Fail>
     requires { IsPassFor block.now.owner pass.old }
     ensures made { IfOk result (λ other.
         MakesAnother block.now.owner pass.old pass.new other.owner) }
@@ -25,7 +25,7 @@ fn shared<A: Allocator + Copy>(
 
 #[test]
 fn shared_up_to_three(rt: HostRuntime) -> Result<(), Fail> {
-    let (first, mut pass) = Block::<Plain<u8>, _, 3, Open>::try_from_slice(rt.alloc(), b"Hello")?;
+    let (first, mut pass) = Bytes::try_from_slice(rt.alloc(), b"Hello")?;
     assert_eq!(rt; first.range(0, 5), b"Hello".as_slice());
     assert_eq!(rt; first.size(), 5);
     assert!(rt; first.is_unique_as(&mut pass));
@@ -46,7 +46,7 @@ fn shared_up_to_three(rt: HostRuntime) -> Result<(), Fail> {
 
 #[test]
 fn items_taken_back_where_alone(rt: HostRuntime) -> Result<(), Fail> {
-    let (first, mut pass) = Block::<Plain<u8>, _, 3, Open>::try_from_slice(rt.alloc(), b"Hello")?;
+    let (first, mut pass) = Bytes::try_from_slice(rt.alloc(), b"Hello")?;
     let second = shared(&first, &mut pass)?;
     let Err(first) = first.try_into_items_as(&mut pass) else {
         return Err("beside another owner".into());
@@ -65,7 +65,7 @@ fn items_taken_back_where_alone(rt: HostRuntime) -> Result<(), Fail> {
 /// An owner that another thread ends is asked by both threads before.
 #[test]
 fn shared_by_two_threads(rt: HostRuntime) -> Result<(), Fail> {
-    let (first, mut pass) = Block::<Plain<u8>, _, 3, Open>::try_from_slice(rt.alloc(), b"Hello")?;
+    let (first, mut pass) = Bytes::try_from_slice(rt.alloc(), b"Hello")?;
     let second = shared(&first, &mut pass)?;
     let (one, two) = thread::join(&rt, || first.size(), move || second.size());
     assert_eq!(rt; (one, two), (5, 5));
@@ -84,7 +84,7 @@ fn memory_refused(rt: HostRuntime) -> Result<(), Fail> {
     for blocks in 2..16usize {
         let heap = LocalHeap::new(rt.alloc(), blocks * 16)?;
         let has_room = Vec::from_slice(&heap, &items).is_ok();
-        match Block::<Plain<u8>, _, 3, Open>::try_from_slice(&heap, &items) {
+        match Bytes::try_from_slice(&heap, &items) {
             Ok((block, mut pass)) => {
                 let other = shared(&block, &mut pass)?;
                 let taken = heap.used();

@@ -14,7 +14,7 @@ use arc_owners::mark::Mark;
 use arc_owners::owners::Pass;
 use std::alloc::Allocator;
 
-impl<S: Slice, A: Allocator + Copy, H: Mark> Parts<S, A, H> {
+impl<S: Slice, B, M, A: Allocator + Copy, H: Mark> Parts<S, B, M, A, H> {
     /// Whether there are `n` items, which are all places of a native block.
     fn is_whole(&self, n: usize) -> bool
         ensures { IsTrue result ↔ IsWholeOf n (window_of self.now) }
@@ -123,7 +123,7 @@ impl<S: Slice, A: Allocator + Copy, H: Mark> Parts<S, A, H> {
     }
 
     /// The same parts, of items of another kind. It adds nothing.
-    pub fn into_kind<K: Slice<Item = S::Item>>(self) -> Parts<K, A, H>
+    pub fn into_kind<K: Slice<Item = S::Item>>(self) -> Parts<K, B, M, A, H>
         requires { K.DROPS ≡ S.DROPS }
         ensures { result ≡ self }
     {

@@ -17,7 +17,7 @@ use arc_owners::mark::{Mark, Stepping};
 use arc_owners::owners::Pass;
 use std::alloc::Allocator;
 
-impl<S: Slice, A: Allocator + Copy, H: Mark> Parts<S, A, H> {
+impl<S: Slice, B, M, A: Allocator + Copy, H: Mark> Parts<S, B, M, A, H> {
     /// One attempt to make another owner of the same items at the same place: nothing where another
     /// thread's step came between, which only a block's owner can meet, and then no entry is added.
     ///
@@ -163,7 +163,7 @@ impl<S: Slice, A: Allocator + Copy, H: Mark> Parts<S, A, H> {
     }
 }
 
-impl<S: Slice, A: Allocator + Copy, H: Stepping> Parts<S, A, H> {
+impl<S: Slice, B, M, A: Allocator + Copy, H: Stepping> Parts<S, B, M, A, H> {
     /// A new pass of the block, which has seen at least how this owner became one, and made
     /// nothing; on no block a pass of none. It adds nothing.
     pub fn pass(&self) -> Pass<H>

@@ -12,5 +12,5 @@ returns-clause-made g c =
     let made = c.requires.made in
     let static = g.L.Layout.STATIC in let drops = g.S.Slice.DROPS in let whole = g.H.Mark.whole in
     subst (λ n. Makes static drops whole c.args.block.items (window_of (parts_of (window_seen (Block c.args.block) 0 n))))
-    (sym (c.size-end.ensures ∙ ap (λ (b : BlockView g.row.S-Item.Denot (Unit {0})). b.facts.size) made.0))
+    (sym (c.size-end.ensures ∙ ap (λ (b : BlockView g.row.S-Item.Denot g.row.M.Denot). b.facts.size) made.0))
     (made_on_block static drops whole c.args.block.items c.args.block made.0 made.1 c.requires.stands)
