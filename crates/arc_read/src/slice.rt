@@ -14,6 +14,9 @@ use std::marker::{Model, PhantomData};
 /// A part of a block that may have other owners, of a slice that is there for good, or of nothing.
 /// Clones and cuts share the block and copy no item.
 ///
+/// `B` is the type of callers' buffers and `M` that of their metadata. No window is made of a
+/// buffer yet.
+///
 /// Each call that makes, steps on or leaves a block has a form that ends in `_as` and takes a pass
 /// of the block, in which contracts read what was added to the block's history; a window that
 /// stands on no block has a pass of none. The plain form is that form with a new pass. Dropped,
@@ -22,19 +25,21 @@ use std::marker::{Model, PhantomData};
 pub struct ArcSlice<
     S: Slice,
     L: Layout = DefaultLayout,
+    B = Vec<<S as Slice>::Item>,
+    M = (),
     A: Allocator + Copy = Global,
     H: Mark = Open,
 > {
-    parts: Parts<S, A, H>,
+    parts: Parts<S, B, M, A, H>,
     of: PhantomData<L>,
 }
 
-impl<S: Slice, L: Layout, A: Allocator + Copy, H: Mark> Model for ArcSlice<S, L, A, H> {
+impl<S: Slice, L: Layout, B, M, A: Allocator + Copy, H: Mark> Model for ArcSlice<S, L, B, M, A, H> {
     ghost use Rattle.std.specs.Prelude.{◌≡◌};
     ghost use Rattle.arc_block.specs.Table.{reader};
     ghost use Rattle.arc_block.specs.Window.{IsHeld, Window, window_of};
 
-    ghost Value = { Window S.Item };
+    ghost Value = { Window S.Item M };
 
     ghost view = { λ w. window_of w.parts };
 
@@ -42,7 +47,7 @@ impl<S: Slice, L: Layout, A: Allocator + Copy, H: Mark> Model for ArcSlice<S, L,
         × ∥ S.is_legal w.parts.items ∥₁ };
 }
 
-impl<S: Slice, L: Layout, A: Allocator + Copy, H: Mark> Drop for ArcSlice<S, L, A, H> {
+impl<S: Slice, L: Layout, B, M, A: Allocator + Copy, H: Mark> Drop for ArcSlice<S, L, B, M, A, H> {
     #[inline(always)]
     fn drop(self) {
         let ArcSlice { parts, of: _ } = self;
@@ -50,7 +55,7 @@ impl<S: Slice, L: Layout, A: Allocator + Copy, H: Mark> Drop for ArcSlice<S, L, 
     }
 }
 
-impl<S: Slice, L: Layout, A: Allocator + Copy, H: Mark> ArcSlice<S, L, A, H> {
+impl<S: Slice, L: Layout, B, M, A: Allocator + Copy, H: Mark> ArcSlice<S, L, B, M, A, H> {
     /// A window with no items, which stands on nothing.
     pub fn new(alloc: A) -> Self
     where
@@ -64,7 +69,7 @@ impl<S: Slice, L: Layout, A: Allocator + Copy, H: Mark> ArcSlice<S, L, A, H> {
     /// The window of these parts, which are those of a window that is read, with a list that is
     /// legal, on what the layout holds. It adds nothing.
     #[inline(always)]
-    pub fn from_parts(parts: Parts<S, A, H>) -> Self
+    pub fn from_parts(parts: Parts<S, B, M, A, H>) -> Self
         requires role { parts.role ≡ reader }
         requires held { IsHeld L.STATIC L.ANY parts.place }
         requires legal { ∥ S.is_legal parts.items ∥₁ }
@@ -78,7 +83,7 @@ impl<S: Slice, L: Layout, A: Allocator + Copy, H: Mark> ArcSlice<S, L, A, H> {
 
     /// What the window is made of. It adds nothing.
     #[inline(always)]
-    pub fn into_parts(self) -> Parts<S, A, H>
+    pub fn into_parts(self) -> Parts<S, B, M, A, H>
         ensures parts { result ≡ parts_of self }
         ensures held { IsHeld L.STATIC L.ANY result.place }
         ensures legal { ∥ S.is_legal result.items ∥₁ }

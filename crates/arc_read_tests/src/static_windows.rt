@@ -16,7 +16,7 @@ use std::test::Fail;
 use std::thread;
 
 /// A window over bytes, whose memory is counted.
-type Counted<'a> = ArcSlice<Plain<u8>, DefaultLayout, &'a LocalHeap>;
+type Counted<'a> = ArcSlice<Plain<u8>, DefaultLayout, Vec<u8>, (), &'a LocalHeap>;
 
 #[test]
 fn cut_cloned_and_split(rt: HostRuntime) -> Result<(), Fail> {

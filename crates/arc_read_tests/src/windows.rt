@@ -18,6 +18,9 @@ use std::thread;
 /// Windows that stand on a block even where they are empty.
 type WithoutStatic = ArcLayout<true, false>;
 
+/// Windows whose memory comes from a heap of its own.
+type InHeap<'a, T, H = Open> = ArcSlice<Plain<T>, DefaultLayout, Vec<T>, (), &'a LocalHeap, H>;
+
 #[test]
 fn cut_and_cloned(rt: HostRuntime) -> Result<(), Fail> {
     let text: ArcSlice<Plain<u8>> = ArcSlice::try_from_slice(rt.alloc(), b"Hello world")?;
@@ -139,10 +142,7 @@ fn memory_given_back_once(rt: HostRuntime) -> Result<(), Fail> {
     let heap = LocalHeap::new(rt.alloc(), 1024)?;
     let before = heap.used();
     for order in 0..6u32 {
-        let window: ArcSlice<Plain<u32>, DefaultLayout, &LocalHeap> = ArcSlice::try_from_slice(
-            &heap,
-            &[1, 2, 3],
-        )?;
+        let window: InHeap<'_, u32> = ArcSlice::try_from_slice(&heap, &[1, 2, 3])?;
         let taken = heap.used();
         assert!(rt; before < taken);
         let clone = window.try_clone(&rt)?;
@@ -180,21 +180,14 @@ fn memory_given_back_once(rt: HostRuntime) -> Result<(), Fail> {
 fn memory_of_arrays_and_of_forgotten_windows(rt: HostRuntime) -> Result<(), Fail> {
     let heap = LocalHeap::new(rt.alloc(), 1024)?;
     let before = heap.used();
-    let Ok(window) = ArcSlice::<Plain<u32>, DefaultLayout, &LocalHeap>::try_from_array(
-        &heap,
-        [1, 2, 3],
-    ) else {
+    let Ok(window) = InHeap::<'_, u32>::try_from_array(&heap, [1, 2, 3]) else {
         return Err("no memory".into());
     };
     assert!(rt; before < heap.used());
     assert!(rt; window.try_into_array::<3>().is_ok());
     assert_eq!(rt; heap.used(), before);
     let mut pass = Pass::none();
-    let kept = ArcSlice::<Plain<u32>, DefaultLayout, &LocalHeap, Whole>::try_from_slice_as(
-        &heap,
-        &[1, 2, 3],
-        &mut pass,
-    )?;
+    let kept = InHeap::<'_, u32, Whole>::try_from_slice_as(&heap, &[1, 2, 3], &mut pass)?;
     let clone = kept.try_clone_as(&rt, &mut pass)?;
     assert!(rt; !kept.is_unique_as(&mut pass));
     clone.release_as(&mut pass);
@@ -213,17 +206,14 @@ fn memory_refused(rt: HostRuntime) -> Result<(), Fail> {
     for units in 1..17usize {
         let heap = LocalHeap::new(rt.alloc(), units * 16)?;
         let before = heap.used();
-        let made = ArcSlice::<Plain<u64>, DefaultLayout, &LocalHeap>::try_from_slice(
-            &heap,
-            &[1, 2, 3],
-        );
+        let made = InHeap::<'_, u64>::try_from_slice(&heap, &[1, 2, 3]);
         if made.is_err() {
             refused = refused.wrapping_add(1);
             assert_eq!(rt; heap.used(), before);
         }
         drop(made);
         assert_eq!(rt; heap.used(), before);
-        match ArcSlice::<Plain<u64>, DefaultLayout, &LocalHeap>::try_from_array(&heap, [1, 2, 3]) {
+        match InHeap::<'_, u64>::try_from_array(&heap, [1, 2, 3]) {
             Ok(window) => drop(window),
             Err(back) => assert_eq!(rt; back, [1, 2, 3]),
         }

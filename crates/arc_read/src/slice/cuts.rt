@@ -13,7 +13,7 @@ use arc_owners::owners::Pass;
 use std::alloc::Allocator;
 use std::sync::Wait;
 
-impl<S: Slice, L: Layout, A: Allocator + Copy, H: Mark> ArcSlice<S, L, A, H> {
+impl<S: Slice, L: Layout, B, M, A: Allocator + Copy, H: Mark> ArcSlice<S, L, B, M, A, H> {
     /// One attempt of `try_clone_as`: nothing where another thread's step came between, which only
     /// a block's owner can meet, and then no entry is added.
     #[tactic(auto, using(arc_block::proofs::Held::shared_held))]
@@ -153,7 +153,7 @@ impl<S: Slice, L: Layout, A: Allocator + Copy, H: Mark> ArcSlice<S, L, A, H> {
     }
 }
 
-impl<S: Subsliceable, L: Layout, A: Allocator + Copy, H: Mark> ArcSlice<S, L, A, H> {
+impl<S: Subsliceable, L: Layout, B, M, A: Allocator + Copy, H: Mark> ArcSlice<S, L, B, M, A, H> {
     /// Takes the first `n` items off the window, which stays on its block, also with no items. It
     /// adds nothing.
     pub fn advance(&mut self, n: usize)

@@ -15,7 +15,7 @@ use arc_owners::mark::{Mark, Open};
 use arc_owners::owners::Pass;
 use std::alloc::Allocator;
 
-impl<S: Slice, L: Layout, A: Allocator + Copy, H: Mark> ArcSlice<S, L, A, H> {
+impl<S: Slice, L: Layout, B, M, A: Allocator + Copy, H: Mark> ArcSlice<S, L, B, M, A, H> {
     /// A window over a copy of the items, which are legal.
     #[tactic(auto, using(arc_block::proofs::Held::made_held))]
     pub(super) fn try_from_legal_slice_as(
@@ -94,7 +94,7 @@ impl<S: Slice, L: Layout, A: Allocator + Copy, H: Mark> ArcSlice<S, L, A, H> {
     }
 }
 
-impl<S: AnyItems, L: StaticLayout, A: Allocator + Copy, H: Mark> ArcSlice<S, L, A, H> {
+impl<S: AnyItems, L: StaticLayout, B, M, A: Allocator + Copy, H: Mark> ArcSlice<S, L, B, M, A, H> {
     /// A window over a slice that is there for good. It is no owner: its clones and cuts add
     /// nothing and are never refused.
     pub fn from_static(alloc: A, items: &'static [S::Item]) -> Self
@@ -106,7 +106,7 @@ impl<S: AnyItems, L: StaticLayout, A: Allocator + Copy, H: Mark> ArcSlice<S, L, 
     }
 }
 
-impl<S: Slice, L: Layout, A: Allocator + Copy> ArcSlice<S, L, A, Open> {
+impl<S: Slice, L: Layout, B, M, A: Allocator + Copy> ArcSlice<S, L, B, M, A, Open> {
     /// A window over a copy of the items: `try_from_slice_as` with a new pass.
     ///
     /// # Errors

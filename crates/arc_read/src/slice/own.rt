@@ -14,7 +14,7 @@ use arc_owners::mark::{Mark, Stepping};
 use arc_owners::owners::Pass;
 use std::alloc::Allocator;
 
-impl<S: Slice, L: Layout, A: Allocator + Copy, H: Mark> ArcSlice<S, L, A, H> {
+impl<S: Slice, L: Layout, B, M, A: Allocator + Copy, H: Mark> ArcSlice<S, L, B, M, A, H> {
     /// Whether no other owner of the block lives, by one load. `false` on no block.
     ///
     /// # History
@@ -101,7 +101,7 @@ impl<S: Slice, L: Layout, A: Allocator + Copy, H: Mark> ArcSlice<S, L, A, H> {
     }
 
     /// The same window, of items of another kind, for which its list is legal.
-    pub(super) fn into_kind<K: Slice<Item = S::Item>>(self) -> ArcSlice<K, L, A, H>
+    pub(super) fn into_kind<K: Slice<Item = S::Item>>(self) -> ArcSlice<K, L, B, M, A, H>
         requires drops { K.DROPS ≡ S.DROPS }
         requires legal { ∥ K.is_legal self.items ∥₁ }
         ensures { result ≡ self }
@@ -120,7 +120,7 @@ impl<S: Slice, L: Layout, A: Allocator + Copy, H: Mark> ArcSlice<S, L, A, H> {
     }
 }
 
-impl<S: Slice, L: Layout, A: Allocator + Copy, H: Mark> ArcSlice<S, L, A, H> {
+impl<S: Slice, L: Layout, B, M, A: Allocator + Copy, H: Mark> ArcSlice<S, L, B, M, A, H> {
     /// How many owners the window's block may have at once, and under which mark it is.
     pub fn max_owners(&self) -> u64
         ensures answer { result ≡ 9223372036854775807 }
@@ -131,7 +131,7 @@ impl<S: Slice, L: Layout, A: Allocator + Copy, H: Mark> ArcSlice<S, L, A, H> {
     }
 }
 
-impl<S: Slice, L: Layout, A: Allocator + Copy, H: Stepping> ArcSlice<S, L, A, H> {
+impl<S: Slice, L: Layout, B, M, A: Allocator + Copy, H: Stepping> ArcSlice<S, L, B, M, A, H> {
     /// A new pass of the window's block, which has seen at least how the window became an owner,
     /// and made nothing; on no block a pass of none. It adds nothing.
     pub fn pass(&self) -> Pass<H>

@@ -18,7 +18,7 @@ use std::sync::Wait;
 // The plain forms. They are generic over the marks under which a block has many passes, which
 // `Open` alone is: so a body can show a pass only by one that is there (`Pass::show`), and none
 // that it made up.
-impl<S: Slice, L: Layout, A: Allocator + Copy, H: Stepping> ArcSlice<S, L, A, H> {
+impl<S: Slice, L: Layout, B, M, A: Allocator + Copy, H: Stepping> ArcSlice<S, L, B, M, A, H> {
     /// Whether no other owner of the block lives: `is_unique_as` with a new pass. `false` on no
     /// block.
     ///

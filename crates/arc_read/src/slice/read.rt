@@ -9,7 +9,7 @@ use arc_owners::error::RangeError;
 use arc_owners::mark::Mark;
 use std::alloc::Allocator;
 
-impl<S: Slice, L: Layout, A: Allocator + Copy, H: Mark> ArcSlice<S, L, A, H> {
+impl<S: Slice, L: Layout, B, M, A: Allocator + Copy, H: Mark> ArcSlice<S, L, B, M, A, H> {
     /// How many items the window has.
     #[inline(always)]
     pub fn len(&self) -> usize
@@ -35,7 +35,7 @@ impl<S: Slice, L: Layout, A: Allocator + Copy, H: Mark> ArcSlice<S, L, A, H> {
     }
 }
 
-impl<S: Subsliceable, L: Layout, A: Allocator + Copy, H: Mark> ArcSlice<S, L, A, H> {
+impl<S: Subsliceable, L: Layout, B, M, A: Allocator + Copy, H: Mark> ArcSlice<S, L, B, M, A, H> {
     /// Whether `start` to `end` is a range of the window.
     ///
     /// # Errors

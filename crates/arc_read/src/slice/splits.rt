@@ -16,7 +16,7 @@ use std::alloc::Allocator;
 use std::mem;
 use std::sync::Wait;
 
-impl<S: Subsliceable, L: Layout, A: Allocator + Copy, H: Mark> ArcSlice<S, L, A, H> {
+impl<S: Subsliceable, L: Layout, B, M, A: Allocator + Copy, H: Mark> ArcSlice<S, L, B, M, A, H> {
     /// Both ends of a window are places at which it may be cut.
     fn has_edges(&self)
         ensures start { IsEdge S.boundary self.now.items 0 }
@@ -108,7 +108,14 @@ impl<S: Subsliceable, L: Layout, A: Allocator + Copy, H: Mark> ArcSlice<S, L, A,
     }
 }
 
-impl<S: Subsliceable, L: Layout, A: Allocator + Copy, H: Stepping> ArcSlice<S, L, A, H> {
+impl<S: Subsliceable, L: Layout, B, M, A: Allocator + Copy, H: Stepping> ArcSlice<
+    S,
+    L,
+    B,
+    M,
+    A,
+    H,
+> {
     /// Splits the window at `at` and hands out the back: `try_split_off_as` with a new pass.
     ///
     /// Copies no item.

@@ -20,7 +20,7 @@ use std::convert::Infallible;
 use std::str;
 use std::str::Utf8Error;
 
-impl<L: Layout, A: Allocator + Copy, H: Mark> ArcSlice<Text, L, A, H> {
+impl<L: Layout, B, M, A: Allocator + Copy, H: Mark> ArcSlice<Text, L, B, M, A, H> {
     /// A window over a copy of the text: no text stands on nothing where the layout has static
     /// data, else it stands on a new native block with exactly a place for each byte. The pass,
     /// which is of no block, becomes the block's; the window is owner 0.
@@ -50,7 +50,7 @@ impl<L: Layout, A: Allocator + Copy, H: Mark> ArcSlice<Text, L, A, H> {
     }
 
     /// The same window, over bytes. It adds nothing.
-    pub fn into_arc_slice(self) -> ArcSlice<Plain<u8>, L, A, H>
+    pub fn into_arc_slice(self) -> ArcSlice<Plain<u8>, L, B, M, A, H>
         ensures { result ≡ self }
     {
         self.into_kind()
@@ -62,8 +62,8 @@ impl<L: Layout, A: Allocator + Copy, H: Mark> ArcSlice<Text, L, A, H> {
     ///
     /// The bytes, with what is wrong with them, exactly where they aren't valid UTF-8.
     pub fn try_from_arc_slice(
-        bytes: ArcSlice<Plain<u8>, L, A, H>,
-    ) -> Result<Self, (Utf8Error, ArcSlice<Plain<u8>, L, A, H>)>
+        bytes: ArcSlice<Plain<u8>, L, B, M, A, H>,
+    ) -> Result<Self, (Utf8Error, ArcSlice<Plain<u8>, L, B, M, A, H>)>
         ensures ok { IfOk result (λ text. (text ≡ bytes) × IsUtf8 bytes.items) }
         ensures back { IfErr result (λ r. (r.1 ≡ bytes) × ¬ (IsUtf8 bytes.items)) }
         ensures error { IfErr result (λ r. (valid_up_to r.0 ≡ utf8_valid_len bytes.items)
@@ -76,7 +76,7 @@ impl<L: Layout, A: Allocator + Copy, H: Mark> ArcSlice<Text, L, A, H> {
     }
 }
 
-impl<L: StaticLayout, A: Allocator + Copy, H: Mark> ArcSlice<Text, L, A, H> {
+impl<L: StaticLayout, B, M, A: Allocator + Copy, H: Mark> ArcSlice<Text, L, B, M, A, H> {
     /// A window over a text that is there for good, as `from_static` of items.
     pub fn from_static_str(alloc: A, text: &'static str) -> Self
         ensures { result ≡ record { items = text.now; place = static_data } }
@@ -85,7 +85,7 @@ impl<L: StaticLayout, A: Allocator + Copy, H: Mark> ArcSlice<Text, L, A, H> {
     }
 }
 
-impl<L: Layout, A: Allocator + Copy> ArcSlice<Text, L, A, Open> {
+impl<L: Layout, B, M, A: Allocator + Copy> ArcSlice<Text, L, B, M, A, Open> {
     /// A window over a copy of the text: `try_from_str_as` with a new pass.
     ///
     /// # Errors
@@ -103,9 +103,9 @@ impl<L: Layout, A: Allocator + Copy> ArcSlice<Text, L, A, Open> {
     }
 }
 
-impl<L: Layout, A: Allocator + Copy, H: Mark> ArcSlice<ByteText, L, A, H> {
+impl<L: Layout, B, M, A: Allocator + Copy, H: Mark> ArcSlice<ByteText, L, B, M, A, H> {
     /// The same window, over bytes. It adds nothing.
-    pub fn into_arc_slice(self) -> ArcSlice<Plain<u8>, L, A, H>
+    pub fn into_arc_slice(self) -> ArcSlice<Plain<u8>, L, B, M, A, H>
         ensures { result ≡ self }
     {
         self.into_kind()
@@ -113,8 +113,8 @@ impl<L: Layout, A: Allocator + Copy, H: Mark> ArcSlice<ByteText, L, A, H> {
 
     /// The same window, over byte text. It adds nothing. Never refused.
     pub fn try_from_arc_slice(
-        bytes: ArcSlice<Plain<u8>, L, A, H>,
-    ) -> Result<Self, (Infallible, ArcSlice<Plain<u8>, L, A, H>)>
+        bytes: ArcSlice<Plain<u8>, L, B, M, A, H>,
+    ) -> Result<Self, (Infallible, ArcSlice<Plain<u8>, L, B, M, A, H>)>
         ensures { IfOk result (λ text. text ≡ bytes) }
     {
         Ok(bytes.into_kind())

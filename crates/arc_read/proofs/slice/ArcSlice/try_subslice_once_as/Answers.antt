@@ -13,7 +13,7 @@ from_parts-requires-clause-legal g c κs within =
     let p = c.self.inside.parts in
     let boundary = g.S.Subsliceable.boundary in
     let items = subst (λ r. IfOk r (λ part. part.items ≡ sub p.items c.args.start c.args.end)) c.in-Ok.is c.in_ok-parts.ensures.items in
-    let range = subst (λ (w : Window g.row.S-Item.Denot). IsRange boundary w.items c.args.start c.args.end) (sym c.self.view_is) c.requires.range in
+    let range = subst (λ (w : Window g.row.S-Item.Denot g.row.M.Denot). IsRange boundary w.items c.args.start c.args.end) (sym c.self.view_is) c.requires.range in
     subst (λ xs. ∥ g.S.Slice.is_legal xs ∥₁) (sym items)
     (part_legal g.S.Slice.is_legal boundary g.met.S.Subsliceable.range_is_legal p.items c.args.start c.args.end c.self.invariant.2 (λ _. range))
 
