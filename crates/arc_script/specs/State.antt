@@ -7,7 +7,7 @@ use Rattle.arc_table.specs.declared.command.Reply.{Reply}
 
 -- the windows of a script: a table of bytes, with its histories
 abbrev pub ByteState : Type 0
-ByteState = State ℕ
+ByteState = State ℕ (Unit {0})
 
 -- the command that a line says is carried out; where it says none, nothing changes
 abbrev pub CarriesOutSaid : ByteState → Option (Cmd (List ℕ) (List ℕ))

@@ -90,7 +90,7 @@ pub fn write_out<W: Sink>(writer: &mut W, bytes: &[u8]) -> Result<(), ScriptErro
 }
 
 /// The windows of a script, over bytes.
-type ByteTable<A> = Table<Plain<u8>, DefaultLayout, A>;
+type ByteTable<A> = Table<Plain<u8>, DefaultLayout, Vec<u8>, (), A>;
 
 /// Carries out the command that a line was read as, and appends what it is answered; a line that
 /// says none changes nothing else. The items that a `show` is answered go from the window into the

@@ -139,7 +139,7 @@ module _ {H : Type 0} where
           raised-next o through.before through.after made through.whole through.called,
         )
 
-    refuses-at : (wants : Sort → Bool) (place : Place ℕ (Unit {0})) (e : OwnerError) (s : Stand)
+    refuses-at : {M : Type 0} (wants : Sort → Bool) (place : Place ℕ M) (e : OwnerError) (s : Stand)
         → RefusesAt wants place s passes passes' e → AddsAt s (refused e) passes passes'
     refuses-at wants place CountFull None why = absurd why
     refuses-at wants place CountFull (Some (n, o)) why =
@@ -147,12 +147,12 @@ module _ {H : Type 0} where
     refuses-at wants place AllocError s why =
         enters-along AddsNothing (refused AllocError) nothing-comes s why.1
 
-module _ {T : Type 0} (slots : List (Option (SlotView T))) (passes : List (Pass Whole)) where
+module _ {T M : Type 0} (slots : List (Option (SlotView T M))) (passes : List (Pass Whole)) where
   abbrev before : Standing Whole
   before = (state_of slots passes).standing
 
-  module _ (i : ℕ) (s : SlotView T) (there : slice_get slots i ≡ Some (Some s))
-      (slots' : List (Option (SlotView T))) (passes' : List (Pass Whole)) where
+  module _ (i : ℕ) (s : SlotView T M) (there : slice_get slots i ≡ Some (Some s))
+      (slots' : List (Option (SlotView T M))) (passes' : List (Pass Whole)) where
     abbrev after : Standing Whole
     after = (state_of slots' passes').standing
 
@@ -165,7 +165,7 @@ module _ {T : Type 0} (slots : List (Option (SlotView T))) (passes : List (Pass 
     enters-at entries adds =
         subst (λ st. AddsAt st entries passes passes') (sym stand-in) adds
 
-    pub joins-added : (made : SlotView T) → slots' ≡ slots ++ Some made ∷ []
+    pub joins-added : (made : SlotView T M) → slots' ≡ slots ++ Some made ∷ []
         → Beside (stand_of (Some s)) passes passes' (stand_of (Some made))
         → Joins before i false after
     joins-added made more joins = (
@@ -175,7 +175,7 @@ module _ {T : Type 0} (slots : List (Option (SlotView T))) (passes : List (Pass 
       ap stands_of more ∙ map-append stand_of slots (Some made ∷ []),
     )
 
-    pub refused-added : (wants : Sort → Bool) (place : Place ℕ (Unit {0})) (e : OwnerError)
+    pub refused-added : (wants : Sort → Bool) (place : Place ℕ M) (e : OwnerError)
         → slots' ≡ slots → RefusesAt wants place (stand_of (Some s)) passes passes' e
         → Enters before i (refused e) after
     refused-added wants place e same why = (
@@ -205,7 +205,7 @@ module _ {T : Type 0} (slots : List (Option (SlotView T))) (passes : List (Pass 
     )
 
     -- the window was split: the part with its owner stands under its number, or under the next
-    module _ (kept handed : SlotView T)
+    module _ (kept handed : SlotView T M)
         (more : slots' ≡ slice_set slots i (Some kept) ++ Some handed ∷ []) where
       split-stands : stands_of slots' ≡ slice_set (stands_of slots) i (stand_of (Some kept))
           ++ stand_of (Some handed) ∷ []
@@ -214,7 +214,7 @@ module _ {T : Type 0} (slots : List (Option (SlotView T))) (passes : List (Pass 
           ∙ ap (λ ss. ss ++ stand_of (Some handed) ∷ [])
           (map-slice_set stand_of slots i (Some kept))
 
-      split-raises : (made : SlotView T)
+      split-raises : (made : SlotView T M)
           → Beside (stand_of (Some s)) passes passes' (stand_of (Some made))
           → Raises (stand_in before i) (stand_of (Some made)) passes passes'
       split-raises made joins =

@@ -31,20 +31,20 @@ use Rattle.arc_table.proofs.Added.{joins-added, refused-added, stays-added, goes
 use Rattle.arc_table.proofs.Added.{asked-added, end-added}
 
 -- the fact of the type
-abbrev pub Fact : {T : Type 0} → List (Option (SlotView T)) → List (Pass Whole) → Type 0
+abbrev pub Fact : {T M : Type 0} → List (Option (SlotView T M)) → List (Pass Whole) → Type 0
 Fact slots passes = IsKept MAX_OWNERS (stands_of slots) passes
     × RowsAgree (state_of slots passes).table
 
-pub record Done {T : Type 0} (setting : Setting T) (old : State T) (c : Cmd (List T) (List T))
-    (r : Reply (List T) (List T)) (slots : List (Option (SlotView T))) (passes : List (Pass Whole))
+pub record Done {T M : Type 0} (setting : Setting T) (old : State T M) (c : Cmd (List T) (List T))
+    (r : Reply (List T) (List T)) (slots : List (Option (SlotView T M))) (passes : List (Pass Whole))
     : Type 0 where
   pub kept : Fact slots passes
   pub rows : Step setting old.table c r (state_of slots passes).table
   pub passes_are : Adds old.table old.standing c r (state_of slots passes).standing
 
 -- the fact of the type follows of the owners, and of the step
-pub done : {T : Type 0} {setting : Setting T} {old : State T} {c : Cmd (List T) (List T)}
-    {r : Reply (List T) (List T)} {slots : List (Option (SlotView T))} {passes : List (Pass Whole)}
+pub done : {T M : Type 0} {setting : Setting T} {old : State T M} {c : Cmd (List T) (List T)}
+    {r : Reply (List T) (List T)} {slots : List (Option (SlotView T M))} {passes : List (Pass Whole)}
     → RowsAgree old.table → IsKept MAX_OWNERS (stands_of slots) passes
     → Step setting old.table c r (state_of slots passes).table
     → Adds old.table old.standing c r (state_of slots passes).standing
@@ -56,23 +56,24 @@ done {setting = setting} {old = old} {c = c} {r = r} {slots = slots} {passes = p
       passes_are = adds;
     }
 
-module _ {T : Type 0} (setting : Setting T) (slots : List (Option (SlotView T)))
-    (passes : List (Pass Whole)) (i : ℕ) (s : SlotView T)
+module _ {T M : Type 0} (setting : Setting T) (slots : List (Option (SlotView T M)))
+    (passes : List (Pass Whole)) (i : ℕ) (s : SlotView T M)
     (there : slice_get slots i ≡ Some (Some s)) (fact : Fact slots passes)
-    (c : Cmd (List T) (List T)) (slots' : List (Option (SlotView T))) (passes' : List (Pass Whole)) where
-  abbrev old : State T
+    (c : Cmd (List T) (List T)) (slots' : List (Option (SlotView T M)))
+    (passes' : List (Pass Whole)) where
+  abbrev old : State T M
   old = state_of slots passes
 
-  abbrev new : State T
+  abbrev new : State T M
   new = state_of slots' passes'
 
   -- a window more, beside the one that the command names
-  pub joined : (r : Row T (Unit {0}))
+  pub joined : (r : Row T M)
       → ((short : Shortage) → answer setting short old.table c
       ≡ asks setting short old.table r (old.table.rows ++ Some r ∷ []))
       → ((number : ℕ) → Joins old.standing i false new.standing
       → Adds old.table old.standing c (reply.New number) new.standing)
-      → (made : SlotView T) (number : ℕ) → row_of made ≡ r
+      → (made : SlotView T M) (number : ℕ) → row_of made ≡ r
       → Beside (stand_of (Some s)) passes passes' (stand_of (Some made))
       → slots' ≡ slots ++ Some made ∷ [] → number ≡ length slots
       → Done setting old c (reply.New number) slots' passes'
@@ -81,12 +82,12 @@ module _ {T : Type 0} (setting : Setting T) (slots : List (Option (SlotView T)))
       (kept-made slots passes i s there fact.0 passes' made slots' more joins)
       (makes-step slots passes i s there fact.0 passes' setting c r.place
       (old.table.rows ++ Some r ∷ []) answers made slots' number
-      (ap (λ (x : Row T (Unit {0})). x.place) (sym row)) joins
+      (ap (λ (x : Row T M). x.place) (sym row)) joins
       (rows-more slots passes i s there made r slots' row more) counted)
       (adds number (joins-added slots passes i s there slots' passes' made more joins))
 
   -- the call refused it
-  pub unmade : (r : Row T (Unit {0})) (rows : List (Option (Row T (Unit {0}))))
+  pub unmade : (r : Row T M) (rows : List (Option (Row T M)))
       → ((short : Shortage) → answer setting short old.table c
       ≡ asks setting short old.table r rows)
       → ((e : OwnerError) → Enters old.standing i (refused e) new.standing
@@ -104,13 +105,13 @@ module _ {T : Type 0} (setting : Setting T) (slots : List (Option (SlotView T)))
       same why))
 
   -- the window was split in two
-  module _ (out : Bool) (cut part : Row T (Unit {0}))
+  module _ (out : Bool) (cut part : Row T M)
       (answers : (short : Shortage) → answer setting short old.table c
       ≡ asks setting short old.table part
       (split_rows old.table i out (row_of s) cut part))
       (adds : (number : ℕ) → Joins old.standing i out new.standing
       → Adds old.table old.standing c (reply.New number) new.standing)
-      (kept handed : SlotView T) (number : ℕ)
+      (kept handed : SlotView T M) (number : ℕ)
       (more : slots' ≡ slice_set slots i (Some kept) ++ Some handed ∷ [])
       (counted : number ≡ length slots) where
     -- and handed out itself
@@ -122,7 +123,7 @@ module _ {T : Type 0} (setting : Setting T) (slots : List (Option (SlotView T)))
         (kept-goes slots passes i s there fact.0 passes' kept handed slots' more h.owner h.added)
         (makes-step slots passes i s there fact.0 passes' setting c part.place
         (split_rows old.table i out (row_of s) cut part) answers kept slots' number
-        (ap (λ (x : Row T (Unit {0})). x.place) (sym h.made_is)) h.added
+        (ap (λ (x : Row T M). x.place) (sym h.made_is)) h.added
         (split-rows-are slots passes i s there fact.0 passes' kept handed slots' more out (row_of s)
         cut part (ap (λ b. if b then part else cut) is ∙ sym h.made_is)
         (ap (λ b. if b then row_of s else part) is ∙ sym h.same_is)) counted)
@@ -137,18 +138,18 @@ module _ {T : Type 0} (setting : Setting T) (slots : List (Option (SlotView T)))
         (kept-stays slots passes i s there fact.0 passes' kept handed slots' more h.owner h.added)
         (makes-step slots passes i s there fact.0 passes' setting c part.place
         (split_rows old.table i out (row_of s) cut part) answers handed slots' number
-        (ap (λ (x : Row T (Unit {0})). x.place) (sym h.made_is)) h.added
+        (ap (λ (x : Row T M). x.place) (sym h.made_is)) h.added
         (split-rows-are slots passes i s there fact.0 passes' kept handed slots' more out (row_of s)
         cut part (ap (λ b. if b then part else cut) is ∙ sym h.same_is)
         (ap (λ b. if b then row_of s else part) is ∙ sym h.made_is)) counted)
         (adds number (stays-added slots passes i s there slots' passes' kept handed more out is
         h.owner h.added))
 
-module _ {T : Type 0} (setting : Setting T) (slots : List (Option (SlotView T)))
-    (passes : List (Pass Whole)) (i : ℕ) (s : SlotView T)
+module _ {T M : Type 0} (setting : Setting T) (slots : List (Option (SlotView T M)))
+    (passes : List (Pass Whole)) (i : ℕ) (s : SlotView T M)
     (there : slice_get slots i ≡ Some (Some s)) (fact : Fact slots passes)
   where
-    abbrev t : State T
+    abbrev t : State T M
     t = state_of slots passes
 
     -- the window asked whether it is alone
@@ -170,7 +171,7 @@ module _ {T : Type 0} (setting : Setting T) (slots : List (Option (SlotView T)))
         (asked-added slots passes i s there slots passes' false refl along)
 
     -- the window ended
-    pub dropped : (slots' : List (Option (SlotView T))) (passes' : List (Pass Whole))
+    pub dropped : (slots' : List (Option (SlotView T M))) (passes' : List (Pass Whole))
         → slots' ≡ slice_set slots i None → Along (stand_of (Some s)) passes passes' Ended
         → Done setting t (command.Drop i) reply.Ok slots' passes'
     dropped slots' passes' set along =
@@ -180,7 +181,7 @@ module _ {T : Type 0} (setting : Setting T) (slots : List (Option (SlotView T)))
         (end-added slots passes i s there slots' passes' set along)
 
     -- the window has become a part of itself
-    pub become : (c : Cmd (List T) (List T)) (s' : SlotView T) (part : Row T (Unit {0}))
+    pub become : (c : Cmd (List T) (List T)) (s' : SlotView T M) (part : Row T M)
         → answer setting no_shortage t.table c ≡ changed t.table i part
         → ((new : Standing Whole) → new ≡ t.standing → Adds t.table t.standing c reply.Ok new)
         → stand_of (Some s') ≡ stand_of (Some s) → row_of s' ≡ part

@@ -12,21 +12,21 @@ use Rattle.arc_table.specs.Slots.{SlotView, row_of, stand_of, stands_of}
 abbrev pub AllGone : {X : Type 0} → List (Option X) → Type 0
 AllGone xs = (i : ℕ) → option_flatten (slice_get xs i) ≡ None
 
-module _ {T : Type 0} where
-  no_row : (x : Option (Option (SlotView T)))
+module _ {T M : Type 0} where
+  no_row : (x : Option (Option (SlotView T M)))
       → option_flatten (option_map (option_map row_of) x) ≡ None → option_flatten x ≡ None
   no_row None none = refl
   no_row (Some None) none = refl
   no_row (Some (Some s)) none = cc
 
   -- where no row is left, no slot has a window
-  pub slots-gone : (slots : List (Option (SlotView T)))
+  pub slots-gone : (slots : List (Option (SlotView T M)))
       → AllGone (map (option_map row_of) slots) → AllGone slots
   slots-gone slots gone i =
       let row = slice_get-map (option_map row_of) slots i in
       no_row (slice_get slots i) (ap option_flatten (sym row) ∙ gone i)
 
-  none_on : (slots : List (Option (SlotView T)))
+  none_on : (slots : List (Option (SlotView T M)))
       → AllGone slots → (n : ℕ) → owners_on n (stands_of slots) ≡ []
   none_on [] gone n = refl
   none_on (x ∷ xs) gone n =
@@ -34,7 +34,7 @@ module _ {T : Type 0} where
       ∙ none_on xs (λ i. gone (suc i)) n
 
   -- and no block has a live owner
-  pub kept-gone-all : {H : Type 0} (most : ℕ) (slots : List (Option (SlotView T)))
+  pub kept-gone-all : {H : Type 0} (most : ℕ) (slots : List (Option (SlotView T M)))
       (passes : List (Pass H))
       → IsKept most (stands_of slots) passes → AllGone slots → IsKept most [] passes
   kept-gone-all most slots passes k gone = record {

@@ -30,16 +30,16 @@ use Rattle.arc_table.specs.Slots.{SlotView, stand_of, stands_of}
 use Rattle.arc_table.specs.Stands.{stand_at}
 use Rattle.arc_table.specs.State.{state_of}
 
-abbrev At : Type 0
-At = Place (Option Owner) (Unit {0})
+abbrev At : Type 0 → Type 0
+At M = Place (Option Owner) M
 
-stand-none : (place : At) → stand_at None place ≡ None
+stand-none : {M : Type 0} (place : At M) → stand_at None place ≡ None
 stand-none nowhere = refl
 stand-none (on_block None offset facts) = refl
 stand-none static_data = refl
 stand-none (on_block (Some owner) offset facts) = refl
 
-module _ {T : Type 0} (slots slots' : List (Option (SlotView T))) (s : SlotView T)
+module _ {T M : Type 0} (slots slots' : List (Option (SlotView T M))) (s : SlotView T M)
     (more : slots' ≡ slots ++ Some s ∷ []) where
   stands-more : stands_of slots' ≡ stands_of slots ++ stand_of (Some s) ∷ []
   stands-more = ap stands_of more ∙ map-append stand_of slots (Some s ∷ [])
@@ -74,9 +74,9 @@ module _ {T : Type 0} (slots slots' : List (Option (SlotView T))) (s : SlotView 
           × IsFirst MAX_OWNERS true owner × IsFreshPass owner new
       founded =
           let owner = makes.owner in
-          let there : At = on_block (Some owner) 0 (native_facts drops (length items)) in
+          let there : At M = on_block (Some owner) 0 (native_facts drops (length items)) in
           let place : s.window.place ≡ there =
-          ap (λ (w : Window T). w.place) makes.made
+          ap (λ (w : Window T M). w.place) makes.made
           ∙ ap (λ b. if b then nowhere else there) some in
           let first : IsFirst MAX_OWNERS true owner =
           subst (λ p. at_owner p (Unit {0}) (λ o. IsFirst MAX_OWNERS true o)) place makes.first in
@@ -109,10 +109,10 @@ module _ {T : Type 0} (slots slots' : List (Option (SlotView T))) (s : SlotView 
     abbrev nothing : Bool
     nothing = setting.has_static && (length items == 0)
 
-    abbrev facts : BlockInfo (Unit {0})
+    abbrev facts : BlockInfo M
     facts = native_facts setting.drops (length items)
 
-    abbrev stands : Bool → Place ℕ (Unit {0})
+    abbrev stands : Bool → Place ℕ M
     stands b = if b then nowhere else moved 0 (on_block (length passes) 0 facts)
 
     numbered-so : (b : Bool) → numbered (if b then None else Some (length passes))
@@ -125,13 +125,13 @@ module _ {T : Type 0} (slots slots' : List (Option (SlotView T))) (s : SlotView 
     blocks-so true = refl
     blocks-so false = refl
 
-    abbrev row : Place ℕ (Unit {0}) → Row T (Unit {0})
+    abbrev row : Place ℕ M → Row T M
     row place = record { items = items; place = place; role = reader }
 
     founded-row : s.block ≡ (if nothing then None else Some (length passes))
         → row_of s ≡ row (stands nothing)
     founded-row block =
-        ap (λ (w : Window T). record {
+        ap (λ (w : Window T M). record {
           items = w.items;
           place = numbered s.block w.place;
           role = reader;

@@ -73,7 +73,7 @@ module _ {H : Type 0} {stands : List Stand} {passes : List (Pass H)} (i : ℕ)
     many-beside (Some (n, o)) (Some made) joins =
         ap length joins.1.others ∙ length-set passes n joins.1.after
 
-    pub many-refused : (wants : Sort → Bool) (place : Place ℕ (Unit {0})) (s : Stand)
+    pub many-refused : {M : Type 0} (wants : Sort → Bool) (place : Place ℕ M) (s : Stand)
         (e : OwnerError) → RefusesAt wants place s passes passes' e
         → length passes' ≡ length passes
     many-refused wants place None CountFull why = absurd why
@@ -92,7 +92,7 @@ module _ {H : Type 0} {stands : List Stand} {passes : List (Pass H)} (i : ℕ)
         (subst (λ ps. IsKept MAX_OWNERS (stands ++ Some (n, made.1) ∷ []) ps)
         (sym joins.1.others) (kept-shared i n k at joins.1.was joins.1.called))
 
-    pub kept-refused : (wants : Sort → Bool) (place : Place ℕ (Unit {0})) (s : Stand)
+    pub kept-refused : {M : Type 0} (wants : Sort → Bool) (place : Place ℕ M) (s : Stand)
         (e : OwnerError) → slice_get stands i ≡ Some s → RefusesAt wants place s passes passes' e
         → IsKept MAX_OWNERS stands passes'
     kept-refused wants place None CountFull at why = absurd why

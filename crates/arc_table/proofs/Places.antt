@@ -13,17 +13,17 @@ use Rattle.arc_table.specs.Slots.{SlotView, row_of, stand_of, stands_of}
 use Rattle.arc_table.specs.Stands.{numbered, stand_at}
 use Rattle.arc_table.specs.State.{state_of, Agrees}
 
-abbrev At : Type 0
-At = Place (Option Owner) (Unit {0})
+abbrev At : Type 0 → Type 0
+At M = Place (Option Owner) M
 
 -- the number of the block on which a row lies, and on which a window stands
-abbrev row_block : {T : Type 0} → Option (Row T (Unit {0})) → Option ℕ
+abbrev row_block : {T M : Type 0} → Option (Row T M) → Option ℕ
 row_block row = option_and_then (λ r. block_of r.place) row
 
 abbrev pub stand_block : Stand → Option ℕ
 stand_block stand = option_map (λ s. s.0) stand
 
-pub place_agrees : (b : Option ℕ) (place : At)
+pub place_agrees : {M : Type 0} (b : Option ℕ) (place : At M)
     → block_of (numbered b place) ≡ stand_block (stand_at b place)
 place_agrees b nowhere = refl
 place_agrees b static_data = refl
@@ -36,7 +36,7 @@ number-if true n = refl
 number-if false n = refl
 
 -- a row stands on a block where the window is one of its owners
-place-counted : (b : Option ℕ) (place : At) (n : ℕ)
+place-counted : {M : Type 0} (b : Option ℕ) (place : At M) (n : ℕ)
     → option_map_or (λ m. m == n) (block_of (numbered b place)) false
     ≡ is_some (number_on n (stand_at b place))
 place-counted b nowhere n = refl
@@ -45,13 +45,13 @@ place-counted b static_data n = refl
 place-counted None (on_block (Some owner) offset facts) n = refl
 place-counted (Some m) (on_block (Some owner) offset facts) n = number-if (m == n) owner.number
 
-module _ {T : Type 0} where
-  slot-agrees : (x : Option (SlotView T))
+module _ {T M : Type 0} where
+  slot-agrees : (x : Option (SlotView T M))
       → row_block (option_map row_of x) ≡ stand_block (stand_of x)
   slot-agrees None = refl
   slot-agrees (Some s) = place_agrees s.block s.window.place
 
-  slots-agree : (slots : List (Option (SlotView T)))
+  slots-agree : (slots : List (Option (SlotView T M)))
       → map row_block (map (option_map row_of) slots) ≡ map stand_block (stands_of slots)
   slots-agree [] = refl
   slots-agree (x ∷ xs) =
@@ -59,16 +59,16 @@ module _ {T : Type 0} where
       ∙ ap (λ bs. stand_block (stand_of x) ∷ bs) (slots-agree xs)
 
   -- each window stands on the block of its row
-  pub state-agrees : (slots : List (Option (SlotView T))) (passes : List (Pass Whole))
+  pub state-agrees : (slots : List (Option (SlotView T M))) (passes : List (Pass Whole))
       → Agrees (state_of slots passes)
   state-agrees slots passes = slots-agree slots
 
-  slot-counted : (x : Option (SlotView T)) (n : ℕ)
+  slot-counted : (x : Option (SlotView T M)) (n : ℕ)
       → stands_on n (option_map row_of x) ≡ is_some (number_on n (stand_of x))
   slot-counted None n = refl
   slot-counted (Some s) n = place-counted s.block s.window.place n
 
   -- so many rows stand on a block as the block has owners
-  pub rows-counted : (slots : List (Option (SlotView T))) (passes : List (Pass Whole)) (n : ℕ)
+  pub rows-counted : (slots : List (Option (SlotView T M))) (passes : List (Pass Whole)) (n : ℕ)
       → owners (state_of slots passes).table n ≡ length (owners_on n (stands_of slots))
   rows-counted slots passes n = same_owners (option_map row_of) stand_of slot-counted slots n

@@ -21,27 +21,27 @@ use Rattle.arc_table.specs.declared.command.Reply.TheVariants as reply
 use Rattle.arc_table.proofs.Tables.{answered, same-table}
 
 -- what is answered where an owner more is asked for at this row's place, and then these rows are
-abbrev pub asks : {T : Type 0} → Setting T → Shortage → Table T (Unit {0}) → Row T (Unit {0})
-    → List (Option (Row T (Unit {0}))) → Reply (List T) (List T) × Table T (Unit {0})
+abbrev pub asks : {T M : Type 0} → Setting T → Shortage → Table T M → Row T M
+    → List (Option (Row T M)) → Reply (List T) (List T) × Table T M
 asks setting short t made rows =
     asking short t (with_owner setting short t made.place rows)
 
-module _ {T : Type 0} (setting : Setting T) (slots : List (Option (SlotView T)))
+module _ {T M : Type 0} (setting : Setting T) (slots : List (Option (SlotView T M)))
     (passes : List (Pass Whole)) where
-  abbrev t : Table T (Unit {0})
+  abbrev t : Table T M
   t = (state_of slots passes).table
 
   -- memory is asked for, and refused
-  pub alloc-step : (c : Cmd (List T) (List T)) (slots' : List (Option (SlotView T)))
+  pub alloc-step : (c : Cmd (List T) (List T)) (slots' : List (Option (SlotView T M)))
       → answer setting of_table t c ≡ (reply.Alloc, t) → slots' ≡ slots
       → Step setting t c reply.Alloc (state_of slots' passes).table
   alloc-step c slots' answers same =
       answers
-      ∙ ap (λ (x : Table T (Unit {0})). (reply.Alloc, x))
+      ∙ ap (λ (x : Table T M). (reply.Alloc, x))
       (sym (same-table slots passes slots' passes same refl))
 
-  module _ (i : ℕ) (s : SlotView T) (there : slice_get slots i ≡ Some (Some s)) where
-    abbrev r : Row T (Unit {0})
+  module _ (i : ℕ) (s : SlotView T M) (there : slice_get slots i ≡ Some (Some s)) where
+    abbrev r : Row T M
     r = row_of s
 
     pub clone-answers : (short : Shortage)
@@ -69,7 +69,7 @@ module _ {T : Type 0} (setting : Setting T) (slots : List (Option (SlotView T)))
         (t.rows ++ Some (part_of setting r start end) ∷ []))) ranged
 
     module _ (at : ℕ) (edge : edge_answer setting.boundary r.items at ≡ Ok tt) where
-      abbrev off-found : Shortage → Row T (Unit {0}) → Reply (List T) (List T) × Table T (Unit {0})
+      abbrev off-found : Shortage → Row T M → Reply (List T) (List T) × Table T M
       off-found short row =
           asks setting short t (off_part setting row at)
           (split_rows t i (at == 0) row (cut_row row 0 at) (off_part setting row at))
@@ -82,7 +82,7 @@ module _ {T : Type 0} (setting : Setting T) (slots : List (Option (SlotView T)))
           in_range (edge_answer setting.boundary row.items at) t (off-found short row))
           ∙ ap (λ a. in_range a t (off-found short r)) edge
 
-      abbrev to-found : Shortage → Row T (Unit {0}) → Reply (List T) (List T) × Table T (Unit {0})
+      abbrev to-found : Shortage → Row T M → Reply (List T) (List T) × Table T M
       to-found short row =
           asks setting short t (to_part setting row at)
           (split_rows t i (at == length row.items) row (cut_row row at (length row.items))
@@ -97,7 +97,7 @@ module _ {T : Type 0} (setting : Setting T) (slots : List (Option (SlotView T)))
           in_range (edge_answer setting.boundary row.items at) t (to-found short row))
           ∙ ap (λ a. in_range a t (to-found short r)) edge
 
-      abbrev adv-found : Row T (Unit {0}) → Reply (List T) (List T) × Table T (Unit {0})
+      abbrev adv-found : Row T M → Reply (List T) (List T) × Table T M
       adv-found row =
           changed t i (record row { items = drop at row.items; place = moved at row.place })
 
@@ -108,7 +108,7 @@ module _ {T : Type 0} (setting : Setting T) (slots : List (Option (SlotView T)))
           in_range (edge_answer setting.boundary row.items at) t (adv-found row))
           ∙ ap (λ a. in_range a t (adv-found r)) edge
 
-      abbrev trunc-found : Row T (Unit {0}) → Reply (List T) (List T) × Table T (Unit {0})
+      abbrev trunc-found : Row T M → Reply (List T) (List T) × Table T M
       trunc-found row =
           in_range (edge_answer setting.boundary row.items at) t
           (changed t i (record row { items = take at row.items }))

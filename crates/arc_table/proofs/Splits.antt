@@ -15,18 +15,18 @@ use Rattle.arc_table.specs.Step.{Setting, part_of, cut_row, off_part, to_part}
 use Rattle.arc_table.proofs.Slots.{shares-part, part-place, moved-numbered, moved-stand}
 
 -- a slot of these
-abbrev pub slot : {T : Type 0} → Window T → Option ℕ → SlotView T
+abbrev pub slot : {T M : Type 0} → Window T M → Option ℕ → SlotView T M
 slot w b = record { window = w; block = b }
 
-module _ {T H : Type 0} (setting : Setting T) (passes left : List (Pass H)) (p new : Pass H)
-    (after : List (Pass H)) (w : Window T) (b : Option ℕ)
+module _ {T M H : Type 0} (setting : Setting T) (passes left : List (Pass H)) (p new : Pass H)
+    (after : List (Pass H)) (w : Window T M) (b : Option ℕ)
     (back : after ≡ put_back left b new) (fits : is_numbered b w.place ≡ true)
     (has : HasPassFor passes (stand_at b w.place)) (took : TakenOut passes b p left) where
-  abbrev s : SlotView T
+  abbrev s : SlotView T M
   s = slot w b
 
   -- a part that was made, and the block that its length tells
-  module _ (start end : ℕ) (part : Window T) (block : Option ℕ) (len : ℕ)
+  module _ (start end : ℕ) (part : Window T M) (block : Option ℕ) (len : ℕ)
       (made : SharesPart setting.has_static w start end p new part) (counted : len ≡ length part.items)
       (is : block ≡ (if setting.has_static && (len == 0) then None else b)) where
     abbrev nothing : Bool
@@ -56,19 +56,19 @@ module _ {T H : Type 0} (setting : Setting T) (passes left : List (Pass H)) (p n
         (shares-part passes left p new nothing start b w.place part.place fits has took made.1))
 
   -- the window itself, cut
-  cut-row : (start end : ℕ) (one : Window T) → one ≡ cut_window w start end
+  cut-row : (start end : ℕ) (one : Window T M) → one ≡ cut_window w start end
       → row_of (slot one b) ≡ cut_row (row_of s) start end
   cut-row start end one is =
       ap (λ v. row_of (slot v b)) is
       ∙ ap (λ q. record { items = sub w.items start end; place = q; role = reader })
       (moved-numbered b start w.place)
 
-  cut-stand : (start end : ℕ) (one : Window T) → one ≡ cut_window w start end
+  cut-stand : (start end : ℕ) (one : Window T M) → one ≡ cut_window w start end
       → stand_of (Some (slot one b)) ≡ stand_of (Some s)
   cut-stand start end one is =
-      ap (λ (v : Window T). stand_at b v.place) is ∙ moved-stand b start w.place
+      ap (λ (v : Window T M). stand_at b v.place) is ∙ moved-stand b start w.place
 
-  pub off-start : (at : ℕ) (front behind : Window T) (block : Option ℕ) (len : ℕ)
+  pub off-start : (at : ℕ) (front behind : Window T M) (block : Option ℕ) (len : ℕ)
       → SplitsOff setting.has_static w at p new front behind → len ≡ length front.items
       → block ≡ (if setting.has_static && (len == 0) then None else b) → at ≡ 0
       → IsSplit s (slot behind b) (slot front block) (row_of s) (off_part setting (row_of s) at)
@@ -80,11 +80,11 @@ module _ {T H : Type 0} (setting : Setting T) (passes left : List (Pass H)) (p n
       record {
         same_is = ap (λ v. row_of (slot v b)) parts.0;
         made_is = part-row 0 0 front block len parts.1 counted is ∙ sym pick;
-        owner = ap (λ (v : Window T). stand_at b v.place) parts.0;
+        owner = ap (λ (v : Window T M). stand_at b v.place) parts.0;
         added = part-added 0 0 front block len parts.1 counted is;
       }
 
-  pub off-later : (at : ℕ) (front behind : Window T) (block : Option ℕ) (len : ℕ)
+  pub off-later : (at : ℕ) (front behind : Window T M) (block : Option ℕ) (len : ℕ)
       → SplitsOff setting.has_static w at p new front behind → len ≡ length behind.items
       → block ≡ (if setting.has_static && (len == 0) then None else b) → 0 < at
       → IsSplit s (slot front b) (slot behind block) (cut_row (row_of s) 0 at)
@@ -101,7 +101,7 @@ module _ {T H : Type 0} (setting : Setting T) (passes left : List (Pass H)) (p n
         added = part-added at long behind block len parts.1 counted is;
       }
 
-  pub to-end : (at : ℕ) (front behind : Window T) (block : Option ℕ) (len : ℕ)
+  pub to-end : (at : ℕ) (front behind : Window T M) (block : Option ℕ) (len : ℕ)
       → SplitsTo setting.has_static w at p new front behind → len ≡ length behind.items
       → block ≡ (if setting.has_static && (len == 0) then None else b) → at ≡ length w.items
       → IsSplit s (slot front b) (slot behind block) (row_of s) (to_part setting (row_of s) at)
@@ -113,11 +113,11 @@ module _ {T H : Type 0} (setting : Setting T) (passes left : List (Pass H)) (p n
       record {
         same_is = ap (λ v. row_of (slot v b)) parts.0;
         made_is = part-row at at behind block len parts.1 counted is ∙ sym pick;
-        owner = ap (λ (v : Window T). stand_at b v.place) parts.0;
+        owner = ap (λ (v : Window T M). stand_at b v.place) parts.0;
         added = part-added at at behind block len parts.1 counted is;
       }
 
-  pub to-earlier : (at : ℕ) (front behind : Window T) (block : Option ℕ) (len : ℕ)
+  pub to-earlier : (at : ℕ) (front behind : Window T M) (block : Option ℕ) (len : ℕ)
       → SplitsTo setting.has_static w at p new front behind → len ≡ length front.items
       → block ≡ (if setting.has_static && (len == 0) then None else b) → at < length w.items
       → IsSplit s (slot behind b) (slot front block) (cut_row (row_of s) at (length w.items))

@@ -9,8 +9,9 @@ use Rattle.arc_table.specs.declared.command.Reply.{Reply}
 use Rattle.arc_table.proofs.Runs.{run_push}
 
 -- one window more has ended
-pub dropped_more : {T : Type 0} (setting : Setting T) (old : State T) (n : ℕ)
-    (replies : List (Reply (List T) (List T))) (mid : State T) (reply : Reply (List T) (List T)) (new : State T)
+pub dropped_more : {T M : Type 0} (setting : Setting T) (old : State T M) (n : ℕ)
+    (replies : List (Reply (List T) (List T))) (mid : State T M)
+    (reply : Reply (List T) (List T)) (new : State T M)
     → RunOf (CarriesOut setting) old (drops n) replies mid
     → CarriesOut setting mid (Drop n) reply new
     → RunOf (CarriesOut setting) old (drops (n + 1)) (replies ++ reply ∷ []) new

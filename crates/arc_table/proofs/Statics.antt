@@ -27,18 +27,18 @@ nowhere-stand None b is off = refl
 nowhere-stand (Some x) b is off = absurd (false≢true (sym off ∙ ap is_some is))
 
 -- a slot over such a slice
-abbrev pub static_slot : {T : Type 0} → List T → SlotView T
+abbrev pub static_slot : {T M : Type 0} → List T → SlotView T M
 static_slot items = record {
   window = record { items = items; place = static_data };
   block = None;
 }
 
-module _ {T : Type 0} (setting : Setting T) (slots : List (Option (SlotView T)))
+module _ {T M : Type 0} (setting : Setting T) (slots : List (Option (SlotView T M)))
     (passes : List (Pass Whole)) where
-  abbrev old : State T
+  abbrev old : State T M
   old = state_of slots passes
 
-  abbrev t : Table T (Unit {0})
+  abbrev t : Table T M
   t = old.table
 
   -- the layout has no static data
@@ -53,7 +53,7 @@ module _ {T : Type 0} (setting : Setting T) (slots : List (Option (SlotView T)))
       ap (λ (b : Bool). if b then asking of_table t (with_static t items) else (reply.Kind, t)) has
 
   pub statics : Fact slots passes → (items : List T) (number : ℕ)
-      (slots' : List (Option (SlotView T))) → setting.has_static ≡ true
+      (slots' : List (Option (SlotView T M))) → setting.has_static ≡ true
       → slots' ≡ slots ++ Some (static_slot items) ∷ [] → number ≡ length slots
       → Done setting old (command.Static items) (reply.New number) slots' passes
   statics fact items number slots' has more counted =
@@ -70,7 +70,7 @@ module _ {T : Type 0} (setting : Setting T) (slots : List (Option (SlotView T)))
       ∙ ap (λ rs. (reply.New number, record { rows = rs; blocks = t.blocks })) (sym rows))
       (stands, refl)
 
-  module _ (i : ℕ) (s : SlotView T) (there : slice_get slots i ≡ Some (Some s)) where
+  module _ (i : ℕ) (s : SlotView T M) (there : slice_get slots i ≡ Some (Some s)) where
     take-answers : (short : Shortage) (on : Bool) → is_some (block_of (row_of s).place) ≡ on
         → answer setting short t (command.TakeStatic i)
         ≡ (if on then (reply.Refused, t) else take_items t i (row_of s))
@@ -83,7 +83,7 @@ module _ {T : Type 0} (setting : Setting T) (slots : List (Option (SlotView T)))
         → answer setting short t (command.TakeStatic i) ≡ (reply.Refused, t)
     take-refused short on = take-answers short true on
 
-    pub takes : Fact slots passes → (items : List T) (slots' : List (Option (SlotView T)))
+    pub takes : Fact slots passes → (items : List T) (slots' : List (Option (SlotView T M)))
         → is_some (block_of (row_of s).place) ≡ false → items ≡ s.window.items
         → slots' ≡ slice_set slots i None
         → Done setting old (command.TakeStatic i) (reply.Static items) slots' passes

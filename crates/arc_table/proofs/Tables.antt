@@ -40,7 +40,7 @@ map-slice_set f (y ∷ ys) zero x = refl
 map-slice_set f (y ∷ ys) (suc i) x = ap (λ zs. f y ∷ zs) (map-slice_set f ys i x)
 
 -- where no window stands, no row goes
-pub none-there : {T : Type 0} (slots : List (Option (SlotView T))) (i : ℕ)
+pub none-there : {T M : Type 0} (slots : List (Option (SlotView T M))) (i : ℕ)
     → option_flatten (slice_get slots i) ≡ None
     → map (option_map row_of) slots ≡ slice_set (map (option_map row_of) slots) i None
 none-there [] i none = refl
@@ -49,14 +49,14 @@ none-there (x ∷ xs) zero none =
 none-there (x ∷ xs) (suc i) none =
     ap (λ ys. option_map row_of x ∷ ys) (none-there xs i none)
 
-no-row : {T : Type 0} (x : Option (Option (SlotView T))) → option_flatten x ≡ None
+no-row : {T M : Type 0} (x : Option (Option (SlotView T M))) → option_flatten x ≡ None
     → option_flatten (option_map (option_map row_of) x) ≡ None
 no-row None none = refl
 no-row (Some None) none = refl
 no-row (Some (Some s)) none = cc
 
 -- a row is alone where one window owns its block, and never on no block
-alone-at : {T : Type 0} (t : Table T (Unit {0})) (place : Place ℕ (Unit {0})) (b : Option ℕ)
+alone-at : {T M : Type 0} (t : Table T M) (place : Place ℕ M) (b : Option ℕ)
     → block_of place ≡ b → is_alone t place ≡ option_map_or (λ n. owners t n == 1) b false
 alone-at t nowhere b is = ap (λ x. option_map_or (λ n. owners t n == 1) x false) is
 alone-at t static_data b is = ap (λ x. option_map_or (λ n. owners t n == 1) x false) is
@@ -64,29 +64,29 @@ alone-at t (on_block n offset facts) b is =
     ap (λ x. option_map_or (λ n. owners t n == 1) x false) is
 
 -- a reply, and the table after it
-abbrev Outcome : Type 0 → Type 0
-Outcome T = Reply (List T) (List T) × Table T (Unit {0})
+abbrev Outcome : Type 0 → Type 0 → Type 0
+Outcome T M = Reply (List T) (List T) × Table T M
 
-module _ {T : Type 0} (slots : List (Option (SlotView T))) (passes : List (Pass Whole)) where
-  abbrev t : Table T (Unit {0})
+module _ {T M : Type 0} (slots : List (Option (SlotView T M))) (passes : List (Pass Whole)) where
+  abbrev t : Table T M
   t = (state_of slots passes).table
 
   -- the same slots, with as many passes
-  pub same-table : (slots' : List (Option (SlotView T))) (passes' : List (Pass Whole))
+  pub same-table : (slots' : List (Option (SlotView T M))) (passes' : List (Pass Whole))
       → slots' ≡ slots → length passes' ≡ length passes → (state_of slots' passes').table ≡ t
   same-table slots' passes' same many =
       ap (λ ss. (state_of ss passes').table) same
       ∙ ap (λ n. record { rows = map (option_map row_of) slots; blocks = n }) many
 
   -- where there is no window, the answer is so
-  pub unanswered : (i : ℕ) (c : Cmd (List T) (List T)) (found : Row T (Unit {0}) → Outcome T)
+  pub unanswered : (i : ℕ) (c : Cmd (List T) (List T)) (found : Row T M → Outcome T M)
       → option_flatten (slice_get slots i) ≡ None → on_row t i c found ≡ (reply.NoWindow, t)
   unanswered i c found none =
       let row = ap option_flatten (slice_get-map (option_map row_of) slots i) in
       ap (λ r. option_map_or (λ row. if is_for c row.role then found row else (reply.Kind, t)) r
       (reply.NoWindow, t)) (row ∙ no-row (slice_get slots i) none)
 
-  module _ (i : ℕ) (s : SlotView T) (there : slice_get slots i ≡ Some (Some s)) where
+  module _ (i : ℕ) (s : SlotView T M) (there : slice_get slots i ≡ Some (Some s)) where
     pub row-there : row_at t i ≡ Some (row_of s)
     row-there =
         ap option_flatten (slice_get-map (option_map row_of) slots i
@@ -96,15 +96,15 @@ module _ {T : Type 0} (slots : List (Option (SlotView T))) (passes : List (Pass 
     stand-there = slice_get-map stand_of slots i ∙ ap (option_map stand_of) there
 
     -- what is answered for a row is what is answered for this one
-    pub answered : (c : Cmd (List T) (List T)) (found : Row T (Unit {0}) → Outcome T)
+    pub answered : (c : Cmd (List T) (List T)) (found : Row T M → Outcome T M)
         → on_row t i c found ≡ (if is_for c reader then found (row_of s) else (reply.Kind, t))
     answered c found =
         ap (λ r. option_map_or (λ row. if is_for c row.role then found row else (reply.Kind, t)) r
         (reply.NoWindow, t)) row-there
 
     -- a window more, behind the others
-    pub rows-more : (made : SlotView T) (r : Row T (Unit {0}))
-        (slots' : List (Option (SlotView T))) → row_of made ≡ r → slots' ≡ slots ++ Some made ∷ []
+    pub rows-more : (made : SlotView T M) (r : Row T M)
+        (slots' : List (Option (SlotView T M))) → row_of made ≡ r → slots' ≡ slots ++ Some made ∷ []
         → t.rows ++ Some r ∷ [] ≡ map (option_map row_of) slots'
     rows-more made r slots' same more =
         ap (λ x. t.rows ++ Some x ∷ []) (sym same)
@@ -112,7 +112,7 @@ module _ {T : Type 0} (slots : List (Option (SlotView T))) (passes : List (Pass 
         ∙ map-append (option_map row_of) slots (Some made ∷ []))
 
     -- the window has become another part, as the same owner
-    module _ (s' : SlotView T) (same : stand_of (Some s') ≡ stand_of (Some s)) where
+    module _ (s' : SlotView T M) (same : stand_of (Some s') ≡ stand_of (Some s)) where
       pub same-stands : stands_of (slice_set slots i (Some s')) ≡ stands_of slots
       same-stands =
           map-slice_set stand_of slots i (Some s') ∙ ap (slice_set (stands_of slots) i) same
@@ -122,7 +122,7 @@ module _ {T : Type 0} (slots : List (Option (SlotView T))) (passes : List (Pass 
           → IsKept MAX_OWNERS (stands_of (slice_set slots i (Some s'))) passes
       kept-changed k = subst (λ ss. IsKept MAX_OWNERS ss passes) (sym same-stands) k
 
-      pub changed-row : (r : Row T (Unit {0})) → row_of s' ≡ r
+      pub changed-row : (r : Row T M) → row_of s' ≡ r
           → changed t i r ≡ (reply.Ok, (state_of (slice_set slots i (Some s')) passes).table)
       changed-row r row =
           ap (λ x. changed t i x) (sym row)
@@ -135,7 +135,7 @@ module _ {T : Type 0} (slots : List (Option (SlotView T))) (passes : List (Pass 
 
     module _ (k : IsKept MAX_OWNERS (stands_of slots) passes) (passes' : List (Pass Whole)) where
       -- the live owners of each block are its windows still: one more was made, or none
-      pub kept-made : (made : SlotView T) (slots' : List (Option (SlotView T)))
+      pub kept-made : (made : SlotView T M) (slots' : List (Option (SlotView T M)))
           → slots' ≡ slots ++ Some made ∷ []
           → Beside (stand_of (Some s)) passes passes' (stand_of (Some made))
           → IsKept MAX_OWNERS (stands_of slots') passes'
@@ -146,15 +146,15 @@ module _ {T : Type 0} (slots : List (Option (SlotView T))) (passes : List (Pass 
           subst (λ ss. IsKept MAX_OWNERS ss passes') (sym stands)
           (kept-beside i k passes' (stand_of (Some s)) st stand-there joins)
 
-      pub kept-unmade : (slots' : List (Option (SlotView T))) → slots' ≡ slots
-          → (wants : Sort → Bool) (place : Place ℕ (Unit {0})) (e : OwnerError)
+      pub kept-unmade : (slots' : List (Option (SlotView T M))) → slots' ≡ slots
+          → (wants : Sort → Bool) (place : Place ℕ M) (e : OwnerError)
           → RefusesAt wants place (stand_of (Some s)) passes passes' e
           → IsKept MAX_OWNERS (stands_of slots') passes'
       kept-unmade slots' same wants place e why =
           subst (λ ss. IsKept MAX_OWNERS (stands_of ss) passes') (sym same)
           (kept-refused i k passes' wants place (stand_of (Some s)) e stand-there why)
 
-      pub kept-dropped : (slots' : List (Option (SlotView T))) → slots' ≡ slice_set slots i None
+      pub kept-dropped : (slots' : List (Option (SlotView T M))) → slots' ≡ slice_set slots i None
           → Along (stand_of (Some s)) passes passes' Ended
           → IsKept MAX_OWNERS (stands_of slots') passes'
       kept-dropped slots' set along =
@@ -164,7 +164,7 @@ module _ {T : Type 0} (slots : List (Option (SlotView T))) (passes : List (Pass 
           (kept-gone-along i k passes' (stand_of (Some s)) stand-there along)
 
       not-full : (st : Stand) → slice_get (stands_of slots) i ≡ Some st
-          → (place : Place ℕ (Unit {0})) (made : Stand) → block_of place ≡ stand_block made
+          → (place : Place ℕ M) (made : Stand) → block_of place ≡ stand_block made
           → Beside st passes passes' made → is_full t place ≡ false
       not-full st at place None on joins =
           ap (λ b. option_map_or (λ n. owners t n == MAX_OWNERS) b false) on
@@ -177,7 +177,7 @@ module _ {T : Type 0} (slots : List (Option (SlotView T))) (passes : List (Pass 
           ∙ ne_eqb (owners t n) MAX_OWNERS (λ e. omega (arith, room, many, e))
 
       found-full : (st : Stand) → slice_get (stands_of slots) i ≡ Some st
-          → (wants : _) (place : Place ℕ (Unit {0}))
+          → (wants : _) (place : Place ℕ M)
           → RefusesAt wants place st passes passes' CountFull → is_full t place ≡ true
       found-full None at wants place why = absurd why
       found-full (Some (n, o)) at wants place why =
@@ -186,12 +186,12 @@ module _ {T : Type 0} (slots : List (Option (SlotView T))) (passes : List (Pass 
           (rows-counted slots passes n ∙ full-along i k passes' n o at why.1)
 
       -- a command that asks for an owner more at this place, and then leads to these rows
-      module _ (setting : Setting T) (c : Cmd (List T) (List T)) (place : Place ℕ (Unit {0}))
-          (rows : List (Option (Row T (Unit {0}))))
+      module _ (setting : Setting T) (c : Cmd (List T) (List T)) (place : Place ℕ M)
+          (rows : List (Option (Row T M)))
           (answers : (short : Shortage) → answer setting short t c
           ≡ asking short t (with_owner setting short t place rows)) where
         -- the window was made
-        pub makes-step : (made : SlotView T) (slots' : List (Option (SlotView T))) (number : ℕ)
+        pub makes-step : (made : SlotView T M) (slots' : List (Option (SlotView T M))) (number : ℕ)
             → place ≡ (row_of made).place
             → Beside (stand_of (Some s)) passes passes' (stand_of (Some made))
             → rows ≡ map (option_map row_of) slots' → number ≡ length slots
@@ -214,7 +214,7 @@ module _ {T : Type 0} (slots : List (Option (SlotView T))) (passes : List (Pass 
             )) (sym many)
 
         -- the call refused it
-        pub refused-step : (e : OwnerError) (slots' : List (Option (SlotView T)))
+        pub refused-step : (e : OwnerError) (slots' : List (Option (SlotView T M)))
             → RefusesAt setting.clone_wants place (stand_of (Some s)) passes passes' e
             → slots' ≡ slots → Step setting t c (reply.Owner e) (state_of slots' passes').table
         refused-step CountFull slots' why same =
@@ -235,7 +235,7 @@ module _ {T : Type 0} (slots : List (Option (SlotView T))) (passes : List (Pass 
             ∙ ap (λ x. (reply.Owner AllocError, x)) (sym (same-table slots' passes' same many))
 
       -- the window was split: one part has its owner, and the other was made beside it
-      module _ (i_kept i_handed : SlotView T) (slots' : List (Option (SlotView T)))
+      module _ (i_kept i_handed : SlotView T M) (slots' : List (Option (SlotView T M)))
           (more : slots' ≡ slice_set slots i (Some i_kept) ++ Some i_handed ∷ []) where
         split-stands : stands_of slots'
             ≡ slice_set (stands_of slots) i (stand_of (Some i_kept))
@@ -289,7 +289,7 @@ module _ {T : Type 0} (slots : List (Option (SlotView T))) (passes : List (Pass 
             stand-there)
 
         -- the rows are those after a split
-        pub split-rows-are : (out : Bool) (row cut part : Row T (Unit {0}))
+        pub split-rows-are : (out : Bool) (row cut part : Row T M)
             → (if out then part else cut) ≡ row_of i_kept
             → (if out then row else part) ≡ row_of i_handed
             → split_rows t i out row cut part ≡ map (option_map row_of) slots'
@@ -301,14 +301,14 @@ module _ {T : Type 0} (slots : List (Option (SlotView T))) (passes : List (Pass 
       -- whether a window is alone
       alone-told : (st : Stand) → slice_get (stands_of slots) i ≡ Some st → (found : Bool)
           → Along st passes passes' (λ o p q. Asks o p q found) → (st ≡ None → found ≡ false)
-          → (place : Place ℕ (Unit {0})) → block_of place ≡ stand_block st
+          → (place : Place ℕ M) → block_of place ≡ stand_block st
           → is_alone t place ≡ found
       alone-told None at found along none place on = alone-at t place None on ∙ sym (none refl)
       alone-told (Some (n, o)) at found along none place on =
           alone-at t place (Some n) on ∙ ap (λ m. m == 1) (rows-counted slots passes n)
           ∙ sym (alone-along i k passes' found n o at along)
 
-      asked : (setting : Setting T) (found : Bool) (slots' : List (Option (SlotView T)))
+      asked : (setting : Setting T) (found : Bool) (slots' : List (Option (SlotView T M)))
           → Along (stand_of (Some s)) passes passes' (λ o p q. Asks o p q found)
           → (stand_of (Some s) ≡ None → found ≡ false) → slots' ≡ slots
           → answer setting no_shortage t (command.Uniq i)
@@ -324,7 +324,7 @@ module _ {T : Type 0} (slots : List (Option (SlotView T))) (passes : List (Pass 
           ∙ ap (λ x. (if found then reply.Yes else reply.No, x))
           (sym (same-table slots' passes' same many))
 
-      pub asked-row : (setting : Setting T) (found : Bool) (slots' : List (Option (SlotView T)))
+      pub asked-row : (setting : Setting T) (found : Bool) (slots' : List (Option (SlotView T M)))
           → Along (stand_of (Some s)) passes passes' (λ o p q. Asks o p q found)
           → (stand_of (Some s) ≡ None → found ≡ false) → slots' ≡ slots
           → Step setting t (command.Uniq i) (if found then reply.Yes else reply.No)
@@ -333,7 +333,7 @@ module _ {T : Type 0} (slots : List (Option (SlotView T))) (passes : List (Pass 
       asked-row setting false slots' along none same = asked setting false slots' along none same
 
       -- a window less
-      pub dropped-row : (setting : Setting T) (slots' : List (Option (SlotView T)))
+      pub dropped-row : (setting : Setting T) (slots' : List (Option (SlotView T M)))
           → Along (stand_of (Some s)) passes passes' Ended → slots' ≡ slice_set slots i None
           → Step setting t (command.Drop i) reply.Ok (state_of slots' passes').table
       dropped-row setting slots' along set =

@@ -44,14 +44,14 @@ module _ {H : Type 0} where
 
   -- the block on which a window stands had as many owners as it may have, and it is the block of
   -- this place
-  abbrev pub FindsFullAt : Place ℕ (Unit {0}) → Stand → List (Pass H) → List (Pass H) → Type 0
+  abbrev pub FindsFullAt : {M : Type 0} → Place ℕ M → Stand → List (Pass H) → List (Pass H) → Type 0
   FindsFullAt place None old new = ⊥
   FindsFullAt place (Some (number, owner)) old new = (block_of place ≡ Some number)
       × Through number owner old new FindsFull
 
   -- no window was made at this place, beside one that stands here: why, and what was added
-  abbrev pub RefusesAt : (Sort → Bool) → Place ℕ (Unit {0}) → Stand → List (Pass H) → List (Pass H)
-      → OwnerError → Type 0
+  abbrev pub RefusesAt : {M : Type 0} → (Sort → Bool) → Place ℕ M → Stand → List (Pass H)
+      → List (Pass H) → OwnerError → Type 0
   RefusesAt wants place s old new CountFull = FindsFullAt place s old new
   RefusesAt wants place s old new AllocError = (is_wanting of_clones wants place ≡ true)
       × Along s old new AddsNothing

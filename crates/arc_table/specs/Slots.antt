@@ -6,13 +6,13 @@ use Rattle.arc_block.specs.Table.{Row, reader}
 use Rattle.arc_table.specs.Stands.{numbered, stand_at}
 
 -- what is seen of a slot: its window, and the number of the block on which that stands
-pub record SlotView (T : Type 0) : Type 0 where
-  pub window : Window T
+pub record SlotView (T M : Type 0) : Type 0 where
+  pub window : Window T M
   pub block : Option ℕ
 
-module _ {T : Type 0} where
+module _ {T M : Type 0} where
   -- a slot as a row
-  abbrev pub row_of : SlotView T → Row T (Unit {0})
+  abbrev pub row_of : SlotView T M → Row T M
   row_of s = record {
     items = s.window.items;
     place = numbered s.block s.window.place;
@@ -20,9 +20,9 @@ module _ {T : Type 0} where
   }
 
   -- where its window stands, if that hasn't gone
-  abbrev pub stand_of : Option (SlotView T) → Stand
+  abbrev pub stand_of : Option (SlotView T M) → Stand
   stand_of None = None
   stand_of (Some s) = stand_at s.block s.window.place
 
-  abbrev pub stands_of : List (Option (SlotView T)) → List Stand
+  abbrev pub stands_of : List (Option (SlotView T M)) → List Stand
   stands_of slots = map stand_of slots

@@ -6,8 +6,8 @@ use Rattle.arc_table.specs.Calls.{Beside}
 use Rattle.arc_table.specs.Slots.{SlotView, row_of, stand_of}
 
 -- of the two parts of a slot one has its owner, and the other was made beside it
-pub record IsSplit {T H : Type 0} (old same made : SlotView T)
-    (same_row made_row : Row T (Unit {0})) (before after : List (Pass H)) : Type 0 where
+pub record IsSplit {T M H : Type 0} (old same made : SlotView T M)
+    (same_row made_row : Row T M) (before after : List (Pass H)) : Type 0 where
   pub same_is : row_of same ≡ same_row
   pub made_is : row_of made ≡ made_row
   pub owner : stand_of (Some same) ≡ stand_of (Some old)

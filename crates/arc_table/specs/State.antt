@@ -14,30 +14,31 @@ use Rattle.arc_table.specs.declared.command.Cmd.TheVariants.{Drop}
 use Rattle.arc_table.specs.declared.command.Reply.{Reply}
 
 -- the table, and beside it where the windows stand, with the passes of the blocks
-pub record State (T : Type 0) : Type 0 where
-  pub table : Table T (Unit {0})
+pub record State (T M : Type 0) : Type 0 where
+  pub table : Table T M
   pub standing : Standing Whole
 
 -- no window, and no block
-abbrev pub empty_state : {T : Type 0} → State T
+abbrev pub empty_state : {T M : Type 0} → State T M
 empty_state = record { table = empty_table; standing = record { stands = []; passes = [] } }
 
 -- what these slots are seen as, with the passes of the blocks: there were as many blocks as there
 -- are passes
-abbrev pub state_of : {T : Type 0} → List (Option (SlotView T)) → List (Pass Whole) → State T
+abbrev pub state_of : {T M : Type 0} → List (Option (SlotView T M)) → List (Pass Whole) → State T M
 state_of slots passes = record {
   table = record { rows = map (option_map row_of) slots; blocks = length passes };
   standing = record { stands = stands_of slots; passes = passes };
 }
 
 -- each window stands on the block of its row
-abbrev pub Agrees : {T : Type 0} → State T → Type 0
+abbrev pub Agrees : {T M : Type 0} → State T M → Type 0
 Agrees s = map (option_and_then (λ row. block_of row.place)) s.table.rows
     ≡ map (option_map (λ stand. stand.0)) s.standing.stands
 
 -- a command is carried out: one step of the table, which adds what it adds to the histories
-pub record CarriesOut {T : Type 0} (setting : Setting T) (old : State T) (c : Cmd (List T) (List T))
-    (reply : Reply (List T) (List T)) (new : State T) : Type 0 where
+pub record CarriesOut {T M : Type 0} (setting : Setting T) (old : State T M)
+    (c : Cmd (List T) (List T)) (reply : Reply (List T) (List T)) (new : State T M)
+    : Type 0 where
   pub rows : Step setting old.table c reply new.table
   pub passes : Adds old.table old.standing c reply new.standing
   pub agree : Agrees new
@@ -47,12 +48,12 @@ abbrev pub drops : {T : Type 0} → ℕ → List (Cmd (List T) (List T))
 drops n = map Drop (range_with_len 0 n)
 
 -- every window that is left ends by a `Drop` of its own
-pub record EndsAll {T : Type 0} (setting : Setting T) (old new : State T) : Type 0 where
+pub record EndsAll {T M : Type 0} (setting : Setting T) (old new : State T M) : Type 0 where
   pub replies : List (Reply (List T) (List T))
   pub run : RunOf (CarriesOut setting) old (drops (length old.table.rows)) replies new
   pub none_left : (i : ℕ) → row_at new.table i ≡ None
 
 -- and these are the passes of the blocks after that
-abbrev pub EndsWith : {T : Type 0} → Setting T → State T → List (Pass Whole) → Type 0
-EndsWith {T} setting old passes = (new : State T) × EndsAll setting old new
+abbrev pub EndsWith : {T M : Type 0} → Setting T → State T M → List (Pass Whole) → Type 0
+EndsWith {T} {M} setting old passes = (new : State T M) × EndsAll setting old new
     × (new.standing.passes ≡ passes)

@@ -20,9 +20,9 @@ pub fn rows_agree<T, M>()
     ensures run { (setting : Setting T) (old : Table T M) (commands : List (Cmd (List T) (List T)))
         (replies : List (Reply (List T) (List T))) (new : Table T M)
         → Run setting old commands replies new → RowsAgree old → RowsAgree new }
-    ensures carried_out { (setting : Setting T) (old : State T)
+    ensures carried_out { (setting : Setting T) (old : State T M)
         (commands : List (Cmd (List T) (List T))) (replies : List (Reply (List T) (List T)))
-        (new : State T)
+        (new : State T M)
         → RunOf (CarriesOut setting) old commands replies new
         → RowsAgree old.table → RowsAgree new.table }
 {}

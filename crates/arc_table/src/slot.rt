@@ -16,17 +16,17 @@ use std::sync::Wait;
 /// A window, and the number of the block that it stands on, if it stands on one. It can't be
 /// dropped: each ends by `release`, since a window that is dropped would stay an owner of its block
 /// for good.
-pub struct Slot<S: Slice, L: Layout, A: Allocator + Copy> {
-    pub window: ArcSlice<S, L, A, Whole>,
+pub struct Slot<S: Slice, L: Layout, B, M, A: Allocator + Copy> {
+    pub window: ArcSlice<S, L, B, M, A, Whole>,
     pub block: Option<usize>,
 }
 
-impl<S: Slice, L: Layout, A: Allocator + Copy> Model for Slot<S, L, A> {
+impl<S: Slice, L: Layout, B, M, A: Allocator + Copy> Model for Slot<S, L, B, M, A> {
     ghost use Rattle.std.specs.Prelude.{◌≡◌, true};
     ghost use Rattle.arc_table.specs.Stands.{is_numbered};
     ghost use Rattle.arc_table.specs.Slots.{SlotView};
 
-    ghost Value = { SlotView S.Item };
+    ghost Value = { SlotView S.Item M };
 
     ghost view = { λ s. record { window = s.window; block = s.block } };
 
@@ -43,7 +43,7 @@ fn part_block<L: Layout>(block: Option<usize>, len: usize) -> Option<usize>
     block
 }
 
-impl<S: Slice, L: Layout, A: Allocator + Copy> Slot<S, L, A> {
+impl<S: Slice, L: Layout, B, M, A: Allocator + Copy> Slot<S, L, B, M, A> {
     ghost use Rattle.std.specs.Prelude.{◌≡◌, ◌<◌, ◌↔◌, length, Bool, false, None, Some};
     ghost use Rattle.std.specs.Prelude.{IfOk, IfErr, IsOk, take, drop, true, is_some};
     ghost use Rattle.arc_buffer.specs.Slice.{IsRange, IsEdge, sub, range_answer, edge_answer};

@@ -21,20 +21,26 @@ use std::sync::Wait;
 /// At every moment the live owners of each block's history are the windows that stand on it, so
 /// being alone is what the table says. It can't be dropped: it ends by `end`, which releases every
 /// window that is left.
-pub struct Table<S: Slice, L: Layout = DefaultLayout, A: Allocator + Copy = Global> {
-    slots: Vec<Option<Slot<S, L, A>>, A>,
+pub struct Table<
+    S: Slice,
+    L: Layout = DefaultLayout,
+    B = Vec<<S as Slice>::Item>,
+    M = (),
+    A: Allocator + Copy = Global,
+> {
+    slots: Vec<Option<Slot<S, L, B, M, A>>, A>,
     passes: Passes<A>,
     alloc: A,
 }
 
-impl<S: Slice, L: Layout, A: Allocator + Copy> Model for Table<S, L, A> {
+impl<S: Slice, L: Layout, B, M, A: Allocator + Copy> Model for Table<S, L, B, M, A> {
     ghost use Rattle.arc_block.specs.declared.block.TheConstants.{MAX_OWNERS};
     ghost use Rattle.arc_block.specs.Owned.{IsKept};
     ghost use Rattle.arc_table.specs.Blocks.{RowsAgree};
     ghost use Rattle.arc_table.specs.Slots.{stands_of};
     ghost use Rattle.arc_table.specs.State.{State, state_of};
 
-    ghost Value = { State S.Item };
+    ghost Value = { State S.Item M };
 
     ghost view = { λ t. state_of t.slots.items t.passes.of_blocks.items };
 
@@ -44,10 +50,10 @@ impl<S: Slice, L: Layout, A: Allocator + Copy> Model for Table<S, L, A> {
 }
 
 /// The slot with this number, if its window was made and hasn't gone.
-fn slot_at<S: Slice, L: Layout, A: Allocator + Copy>(
-    slots: &[Option<Slot<S, L, A>>],
+fn slot_at<S: Slice, L: Layout, B, M, A: Allocator + Copy>(
+    slots: &[Option<Slot<S, L, B, M, A>>],
     i: usize,
-) -> Option<&Slot<S, L, A>>
+) -> Option<&Slot<S, L, B, M, A>>
     ensures { MatchOption result (option_flatten (slice_get slots.now i) ≡ None) (λ slot.
         slice_get slots.now i ≡ Some (Some slot.now)) }
 {
@@ -55,7 +61,9 @@ fn slot_at<S: Slice, L: Layout, A: Allocator + Copy>(
 }
 
 /// Gives back the memory of slots whose windows have all gone.
-fn end_slots<S: Slice, L: Layout, A: Allocator + Copy>(mut slots: Vec<Option<Slot<S, L, A>>, A>)
+fn end_slots<S: Slice, L: Layout, B, M, A: Allocator + Copy>(
+    mut slots: Vec<Option<Slot<S, L, B, M, A>>, A>,
+)
     requires { (i : ℕ) → option_flatten (slice_get slots.items i) ≡ None }
 {
     while let Some(slot) = slots.pop() {
@@ -64,7 +72,7 @@ fn end_slots<S: Slice, L: Layout, A: Allocator + Copy>(mut slots: Vec<Option<Slo
     slots.destroy_empty();
 }
 
-impl<S: CopySlice + Subsliceable, L: Layout, A: Allocator + Copy> Table<S, L, A>
+impl<S: CopySlice + Subsliceable, L: Layout, B, M, A: Allocator + Copy> Table<S, L, B, M, A>
 where
     S::Item: Copy,
 {

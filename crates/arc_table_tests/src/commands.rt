@@ -36,7 +36,7 @@ fn table_of<A: Allocator + Copy>(rt: &impl Wait, alloc: A, items: &[u8]) -> Byte
 }
 
 /// A table of windows over bytes.
-type ByteTable<A> = Table<Plain<u8>, DefaultLayout, A>;
+type ByteTable<A> = Table<Plain<u8>, DefaultLayout, Vec<u8>, (), A>;
 
 #[test]
 fn hello(rt: HostRuntime) {
@@ -183,7 +183,7 @@ fn taken_or_refused(rt: HostRuntime) {
 fn items_with_a_lifetime(rt: HostRuntime) -> Result<(), Fail> {
     let number = 7u32;
     let items = Vec::from_slice(rt.alloc(), &[&number])?;
-    let mut table: Table<Plain<&u32>, DefaultLayout, _> = Table::new(rt.alloc());
+    let mut table: Table<Plain<&u32>, DefaultLayout, Vec<&u32>, (), _> = Table::new(rt.alloc());
     let made = table.step(&rt, Cmd::Slice(items));
     let none = table.step(
         &rt,
@@ -207,7 +207,9 @@ fn items_with_a_lifetime(rt: HostRuntime) -> Result<(), Fail> {
 /// A layout without static data has no window over a static slice.
 #[test]
 fn no_static_data(rt: HostRuntime) {
-    let mut table: Table<Plain<u8>, ArcLayout<true, false>, _> = Table::new(rt.alloc());
+    let mut table: Table<Plain<u8>, ArcLayout<true, false>, Vec<u8>, (), _> = Table::new(
+        rt.alloc(),
+    );
     let made = table.step(&rt, Cmd::Static(StaticSlice::new(b"abcd")));
     let taken = table.step(&rt, Cmd::TakeStatic { window: 0 });
     let _ = table.end();

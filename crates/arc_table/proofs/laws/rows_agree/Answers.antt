@@ -15,5 +15,6 @@ returns-clause-run g c setting old commands replies new =
 pub returns-clause-carried_out : goal.returns-clause-carried_out
 returns-clause-carried_out g c setting old commands replies new run =
     run_agrees setting old.table commands replies new.table
-    (run_seen (CarriesOut setting) (Step setting) (λ (s : State g.row.T.Denot). s.table)
+    (run_seen (CarriesOut setting) (Step setting)
+    (λ (s : State g.row.T.Denot g.row.M.Denot). s.table)
     (λ before command reply after carried. carried.rows) old commands replies new run)

@@ -25,7 +25,7 @@ returns-in-Err-clause-refused g c =
     let has =
     subst (λ s. HasPassFor passes (stand_of (Some s))) (sym c.self.view_is) c.requires.pass in
     let e = c.in-Err.e in
-    let P : SlotView g.row.S-Item.Denot → Type 0 = λ s.
+    let P : SlotView g.row.S-Item.Denot g.row.M.Denot → Type 0 = λ s.
     RefusesAt g.L.Layout.clone_wants (numbered s.block s.window.place)
     (stand_at s.block s.window.place) passes c.give_back.new.self.of_blocks.items e in
     let at =
@@ -46,7 +46,7 @@ returns-in-Ok-clause-stand g c =
     let has =
     subst (λ s. HasPassFor passes (stand_of (Some s))) (sym c.self.view_is) c.requires.pass in
     let there = c.in-Ok.window.place in
-    let P : SlotView g.row.S-Item.Denot → Type 0 = λ s.
+    let P : SlotView g.row.S-Item.Denot g.row.M.Denot → Type 0 = λ s.
     Beside (stand_at s.block s.window.place) passes c.give_back.new.self.of_blocks.items
     (stand_at b there) in
     let at =

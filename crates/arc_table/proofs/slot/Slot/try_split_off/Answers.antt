@@ -29,7 +29,7 @@ returns-then-at-eq0-clause-start g c =
     subst (λ s. HasPassFor passes (stand_of (Some s))) (sym c.self.view_is) c.requires.pass in
     let one = slot c.in-Ok.window b in
     let other = slot c.try_split_off_as-made.new.self c.part_block-self-inside.result in
-    subst (λ (s : SlotView g.row.S-Item.Denot). c.args.at ≡ 0 → IsSplit s one other
+    subst (λ (s : SlotView g.row.S-Item.Denot g.row.M.Denot). c.args.at ≡ 0 → IsSplit s one other
     (row_of s) (off_part setting (row_of s) c.args.at) passes after)
     c.self.view_is
     (off-start setting passes c.lend-pass.new.self.of_blocks.items c.lend-pass.result
@@ -49,7 +49,7 @@ returns-clause-later g c =
     subst (λ s. HasPassFor passes (stand_of (Some s))) (sym c.self.view_is) c.requires.pass in
     let one = slot c.try_split_off_as-made.new.self b in
     let other = slot c.in-Ok.window c.part_block-block.result in
-    subst (λ (s : SlotView g.row.S-Item.Denot). 0 < c.args.at → IsSplit s one other
+    subst (λ (s : SlotView g.row.S-Item.Denot g.row.M.Denot). 0 < c.args.at → IsSplit s one other
     (cut_row (row_of s) 0 c.args.at) (off_part setting (row_of s) c.args.at) passes after)
     c.self.view_is
     (off-later setting passes c.lend-pass.new.self.of_blocks.items c.lend-pass.result

@@ -29,7 +29,8 @@ returns-then-len-at-clause-end g c =
     subst (λ s. HasPassFor passes (stand_of (Some s))) (sym c.self.view_is) c.requires.pass in
     let one = slot c.in-Ok.window b in
     let other = slot c.try_split_to_as-made.new.self c.part_block-self-inside.result in
-    subst (λ (s : SlotView g.row.S-Item.Denot). c.args.at ≡ length s.window.items → IsSplit s one other
+    subst (λ (s : SlotView g.row.S-Item.Denot g.row.M.Denot).
+    c.args.at ≡ length s.window.items → IsSplit s one other
     (row_of s) (to_part setting (row_of s) c.args.at) passes after)
     c.self.view_is
     (to-end setting passes c.lend-pass.new.self.of_blocks.items c.lend-pass.result
@@ -49,7 +50,8 @@ returns-clause-earlier g c =
     subst (λ s. HasPassFor passes (stand_of (Some s))) (sym c.self.view_is) c.requires.pass in
     let one = slot c.try_split_to_as-made.new.self b in
     let other = slot c.in-Ok.window c.part_block-block.result in
-    subst (λ (s : SlotView g.row.S-Item.Denot). c.args.at < length s.window.items → IsSplit s one other
+    subst (λ (s : SlotView g.row.S-Item.Denot g.row.M.Denot).
+    c.args.at < length s.window.items → IsSplit s one other
     (cut_row (row_of s) c.args.at (length s.window.items)) (to_part setting (row_of s) c.args.at) passes after)
     c.self.view_is
     (to-earlier setting passes c.lend-pass.new.self.of_blocks.items c.lend-pass.result

@@ -35,7 +35,7 @@ returns-in-Err-clause-refused g c =
     let wants = g.L.Layout.clone_wants in
     let after = c.give_back.new.self.of_blocks.items in
     let nothing = g.L.Layout.STATIC && (length (sub items start end) == 0) in
-    let P : SlotView g.row.S-Item.Denot → Type 0 = λ s.
+    let P : SlotView g.row.S-Item.Denot g.row.M.Denot → Type 0 = λ s.
     RefusesAt wants
     (part_place g.L.Layout.STATIC (sub s.window.items start end) start
     (numbered s.block s.window.place))
@@ -65,13 +65,14 @@ returns-in-Ok-clause-stand g c =
     let after = c.give_back.new.self.of_blocks.items in
     let nothing = g.L.Layout.STATIC && (length (sub items start end) == 0) in
     let long =
-    ap (λ (s : SlotView g.row.S-Item.Denot). length (sub s.window.items start end)) c.self.view_is
+    ap (λ (s : SlotView g.row.S-Item.Denot g.row.M.Denot).
+    length (sub s.window.items start end)) c.self.view_is
     ∙ length-sub c.args.self.now.window.items start end c.requires.range.ordered
     c.requires.range.within in
     let block : c.part_block.result ≡ (if nothing then None else b) =
     c.part_block.ensures
     ∙ ap (λ n. if g.L.Layout.STATIC && (n == 0) then None else b) (sym long) in
-    let P : SlotView g.row.S-Item.Denot → Type 0 = λ s.
+    let P : SlotView g.row.S-Item.Denot g.row.M.Denot → Type 0 = λ s.
     Beside (stand_at s.block s.window.place) passes after (stand_at c.part_block.result there) in
     let at =
     shares-part passes left p new nothing start b place there c.self.invariant has

@@ -36,13 +36,13 @@ did g c =
     let s' = c.advance.new.self in
     let one = same_entry slots i c.in-Some.slot.now s got there in
     let may : edge_answer (setting g).boundary s.window.items c.args.by ≡ Ok tt =
-    ap (λ (v : SlotView g.row.S-Item.Denot).
+    ap (λ (v : SlotView g.row.S-Item.Denot g.row.M.Denot).
     edge_answer (setting g).boundary v.window.items c.args.by) (sym one)
     ∙ sym c.in_default-check_at.ensures.answer in
-    let r : Row g.row.S-Item.Denot (Unit {0}) = row_of s in
-    let part : Row g.row.S-Item.Denot (Unit {0}) =
+    let r : Row g.row.S-Item.Denot g.row.M.Denot = row_of s in
+    let part : Row g.row.S-Item.Denot g.row.M.Denot =
     record r { items = drop c.args.by r.items; place = moved c.args.by r.place } in
-    subst (λ (o : State g.row.S-Item.Denot).
+    subst (λ (o : State g.row.S-Item.Denot g.row.M.Denot).
     Done (setting g) o (command.Adv i c.args.by) reply.Ok (slice_set slots i (Some s')) passes)
     c.self.view_is
     (become (setting g) slots passes i s there c.self.invariant (command.Adv i c.args.by) s' part

@@ -6,9 +6,10 @@ use Rattle.arc_table.proofs.table.Table.agree.Goals as goal
 
 pub returns-clause-stands : goal.returns-clause-stands
 returns-clause-stands g c =
-    subst (λ (o : State g.row.S-Item.Denot). Agrees o) c.self.view_is
+    subst (λ (o : State g.row.S-Item.Denot g.row.M.Denot). Agrees o) c.self.view_is
     (state-agrees c.self.inside.slots.items c.self.inside.passes.of_blocks.items)
 
 pub returns-clause-blocks : goal.returns-clause-blocks
 returns-clause-blocks g c =
-    subst (λ (o : State g.row.S-Item.Denot). RowsAgree o.table) c.self.view_is c.self.invariant.1
+    subst (λ (o : State g.row.S-Item.Denot g.row.M.Denot). RowsAgree o.table) c.self.view_is
+    c.self.invariant.1

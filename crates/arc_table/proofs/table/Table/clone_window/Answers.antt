@@ -34,7 +34,7 @@ made g c =
     let number = c.len-number.result in
     let counted : number ≡ length slots =
     c.len-number.ensures ∙ c.reserve.new.self.ok.0 ∙ ap length c.reserve.ensures.items in
-    subst (λ (o : State g.row.S-Item.Denot).
+    subst (λ (o : State g.row.S-Item.Denot g.row.M.Denot).
     Done (setting g) o (command.Clone c.args.i) (reply.New number) slots' after) c.self.view_is
     (joined (setting g) slots passes c.args.i s at c.self.invariant (command.Clone c.args.i) slots'
     after (row_of s) (clone-answers (setting g) slots passes c.args.i s at) (λ n adds. adds)
@@ -55,7 +55,7 @@ refused g c =
     let slots' = c.reserve.new.self.items in
     let after = c.try_clone.new.passes.of_blocks.items in
     let rows = (state_of slots passes).table.rows ++ Some (row_of s) ∷ [] in
-    subst (λ (o : State g.row.S-Item.Denot).
+    subst (λ (o : State g.row.S-Item.Denot g.row.M.Denot).
     Done (setting g) o (command.Clone c.args.i) (reply.Owner c.in-Err.e) slots' after)
     c.self.view_is
     (unmade (setting g) slots passes c.args.i s at c.self.invariant (command.Clone c.args.i) slots'
@@ -69,7 +69,7 @@ returns-then-is_err-clause-rows g c =
     let i = c.args.i in
     let s = c.in-Some.field-0.now in
     let at = ap (λ ss. slice_get ss i) (sym c.deref.ensures.value) ∙ c.in-Some.ensures in
-    subst (λ (o : State g.row.S-Item.Denot).
+    subst (λ (o : State g.row.S-Item.Denot g.row.M.Denot).
     Step (setting g) o.table (command.Clone i) reply.Alloc
     (state_of c.reserve.new.self.items passes).table)
     c.self.view_is

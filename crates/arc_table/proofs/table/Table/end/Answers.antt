@@ -9,14 +9,16 @@ use Rattle.arc_table.proofs.table.Table.end.Goals as goal
 pub end_slots-requires-after_bounds : goal.end_slots-requires-after_bounds
 end_slots-requires-after_bounds g c κs within =
     let none =
-    subst (λ (o : State g.row.S-Item.Denot). (i : ℕ) → row_at o.table i ≡ None) (sym c.self.view_is)
+    subst (λ (o : State g.row.S-Item.Denot g.row.M.Denot). (i : ℕ) → row_at o.table i ≡ None)
+    (sym c.self.view_is)
     c.release_all.ensures.passes.none_left in
     slots-gone c.self.inside.slots.items none
 
 pub returns-clause-ended : goal.returns-clause-ended
 returns-clause-ended g c =
     let none =
-    subst (λ (o : State g.row.S-Item.Denot). (i : ℕ) → row_at o.table i ≡ None) (sym c.self.view_is)
+    subst (λ (o : State g.row.S-Item.Denot g.row.M.Denot). (i : ℕ) → row_at o.table i ≡ None)
+    (sym c.self.view_is)
     c.release_all.ensures.passes.none_left in
     kept-gone-all MAX_OWNERS c.self.inside.slots.items c.self.inside.passes.of_blocks.items
     c.self.invariant.0 (slots-gone c.self.inside.slots.items none)
@@ -25,5 +27,5 @@ pub returns-clause-passes : goal.returns-clause-passes
 returns-clause-passes g c = (
   c.release_all.new.self,
   c.release_all.ensures.passes,
-  sym (ap (λ (o : State g.row.S-Item.Denot). o.standing.passes) c.self.view_is),
+  sym (ap (λ (o : State g.row.S-Item.Denot g.row.M.Denot). o.standing.passes) c.self.view_is),
 )

@@ -34,7 +34,7 @@ did g c =
     ∙ ap Some (sym c.replace.ensures.value ∙ c.in-Some-replace.is) in
     let after = c.release.new.passes.of_blocks.items in
     let slots' = slice_set slots i c.replace.new.dest in
-    subst (λ (o : State g.row.S-Item.Denot).
+    subst (λ (o : State g.row.S-Item.Denot g.row.M.Denot).
     Done (setting g) o (command.Drop i) reply.Ok slots' after) c.self.view_is
     (dropped (setting g) slots passes i s there c.self.invariant slots' after
     (ap (slice_set slots i) c.replace.ensures.after) c.release.ensures)
@@ -45,7 +45,7 @@ returns-in_default-clause-gone g c =
     let none =
     ap (λ ss. option_flatten (slice_get ss c.args.i)) (sym c.deref.ensures.value)
     ∙ c.in_default.ensures in
-    subst (λ (o : State g.row.S-Item.Denot).
+    subst (λ (o : State g.row.S-Item.Denot g.row.M.Denot).
     o.table.rows ≡ slice_set o.table.rows c.args.i None) c.self.view_is
     (none-there slots c.args.i none)
 
@@ -75,7 +75,7 @@ returns-clause-gone g c =
     let slots = c.self.inside.slots.items in
     let i = c.args.i in
     let slots' = slice_set slots i c.replace.new.dest in
-    subst (λ (o : State g.row.S-Item.Denot).
+    subst (λ (o : State g.row.S-Item.Denot g.row.M.Denot).
     map (option_map row_of) slots' ≡ slice_set o.table.rows i None) c.self.view_is
     (ap (map (option_map row_of)) (ap (slice_set slots i) c.replace.ensures.after)
     ∙ map-slice_set (option_map row_of) slots i None)
@@ -91,5 +91,6 @@ returns-clause-blocks g c =
     read-there slots i c.index_mut.result.now _ got c.index_mut.ensures.value
     ∙ ap Some (sym c.replace.ensures.value ∙ c.in-Some-replace.is) in
     let after = c.release.new.passes.of_blocks.items in
-    subst (λ (o : State g.row.S-Item.Denot). length after ≡ o.table.blocks) c.self.view_is
+    subst (λ (o : State g.row.S-Item.Denot g.row.M.Denot). length after ≡ o.table.blocks)
+    c.self.view_is
     (many-along i c.self.invariant.0 after (stand_of (Some s)) Ended c.release.ensures)

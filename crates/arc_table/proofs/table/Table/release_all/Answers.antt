@@ -40,7 +40,7 @@ returns-clause-passes g c =
     let new = c.loop-i.self in
     let said = c.loop-i.invariant in
     let many : length old.table.rows ≡ c.loop-i.i =
-    sym (ap (λ (o : State g.row.S-Item.Denot). length o.table.rows) c.self.view_is)
+    sym (ap (λ (o : State g.row.S-Item.Denot g.row.M.Denot). length o.table.rows) c.self.view_is)
     ∙ length-map c.self.inside.slots.items (option_map row_of)
     ∙ (omega (arith, c.len-i-end.ensures, c.loop-i.auto.i-end, c.loop-i-test.false)) in
     record {

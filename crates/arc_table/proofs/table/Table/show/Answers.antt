@@ -16,6 +16,6 @@ returns-in-Err-clause-rows g c =
     let setting : Setting g.row.S-Item.Denot =
     setting_of g.L.Layout.STATIC g.L.Layout.clone_wants g.S.Slice.DROPS g.S.Subsliceable.boundary in
     let passes = c.self.inside.passes.of_blocks.items in
-    subst (λ (o : State g.row.S-Item.Denot).
+    subst (λ (o : State g.row.S-Item.Denot g.row.M.Denot).
     Step setting o.table (command.Show c.args.i) reply.Alloc o.table) c.self.view_is
     (show-answers setting slots passes c.args.i s there of_table)

@@ -7,7 +7,8 @@ use Rattle.arc_table.specs.State.{State, state_of}
 use Rattle.arc_table.specs.declared.command.Cmd.TheVariants as command
 use Rattle.arc_table.specs.declared.command.Reply.TheVariants as reply
 use Rattle.arc_table.proofs.Lists.{behind, no_error}
-use Rattle.arc_table.proofs.Founded.{nowhere-kept, block-kept, block-added, founded-agrees}
+use Rattle.arc_table.proofs.Founded.{nowhere-kept, nowhere-added, block-kept, block-added}
+use Rattle.arc_table.proofs.Founded.{founded-agrees}
 use Rattle.std.proofs.lemmas.List.{length-append}
 use Rattle.arc_table.specs.Step.{Setting, setting_of}
 use Rattle.arc_table.proofs.table.Table.slice.Given.{Over}
@@ -61,12 +62,26 @@ invariant_of-self-2 g c =
           ∙ length-append passes (_ ∷ [])) c.self.invariant.1,
     )
 
+pub returns-then-stands_on_nothing-clause-passes : goal.returns-then-stands_on_nothing-clause-passes
+returns-then-stands_on_nothing-clause-passes g c =
+    let slots = c.self.inside.slots.items in
+    let passes = c.self.inside.passes.of_blocks.items in
+    let room = c.reserve-else-is_err in
+    subst (λ (o : State g.row.S-Item.Denot g.row.M.Denot).
+    Adds {T = g.row.S-Item.Denot} o.table o.standing (command.Slice c.args.items.items)
+    (reply.New c.len-number.result)
+    (state_of c.push_reserved.new.self.items room.new.self.items).standing)
+    c.self.view_is
+    (nowhere-added slots c.push_reserved.new.self.items _
+    (behind slots _ c.push_reserved.ensures.items c.reserve.ensures.items)
+    passes room.new.self.items c.self.invariant.0 refl room.ensures.items)
+
 pub returns-clause-passes : goal.returns-clause-passes
 returns-clause-passes g c =
     let slots = c.self.inside.slots.items in
     let passes = c.self.inside.passes.of_blocks.items in
     let room = c.reserve-else-is_err in
-    subst (λ (o : State g.row.S-Item.Denot).
+    subst (λ (o : State g.row.S-Item.Denot g.row.M.Denot).
     Adds {T = g.row.S-Item.Denot} o.table o.standing (command.Slice c.args.items.items)
     (reply.New c.len-number.result)
     (state_of c.push_reserved-3.new.self.items c.push_reserved-2.new.self.items).standing)

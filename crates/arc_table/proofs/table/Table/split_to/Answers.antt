@@ -45,11 +45,11 @@ made g c =
     let there = ap (λ ss. slice_get ss i) (sym c.reserve.ensures.items) ∙ there_read in
     let one = same_entry slots i c.in-Some.slot.now s first there in
     let edge : IsEdge g.S.Subsliceable.boundary s.window.items c.args.at =
-    subst (λ (v : SlotView g.row.S-Item.Denot).
+    subst (λ (v : SlotView g.row.S-Item.Denot g.row.M.Denot).
     IsEdge g.S.Subsliceable.boundary v.window.items c.args.at) one
     (c.in_default-check_at.ensures.ok.0 refl) in
     let may : edge_answer (setting g).boundary s.window.items c.args.at ≡ Ok tt =
-    ap (λ (v : SlotView g.row.S-Item.Denot).
+    ap (λ (v : SlotView g.row.S-Item.Denot g.row.M.Denot).
     edge_answer (setting g).boundary v.window.items c.args.at) (sym one)
     ∙ sym c.in_default-check_at.ensures.answer in
     let slots' = c.push_reserved.new.self.items in
@@ -66,13 +66,13 @@ made g c =
     let then = (state_of slots' after).standing in
     let adds = λ (n : ℕ) (joins : Joins before i (c.args.at == length s.window.items) then).
     subst (λ b. Joins before i b then)
-    (sym (ap (λ (r : Option (Row g.row.S-Item.Denot (Unit {0}))).
+    (sym (ap (λ (r : Option (Row g.row.S-Item.Denot g.row.M.Denot)).
     option_map_or (λ row. c.args.at == length row.items) r false)
     (row-there slots passes i s there))) joins in
     let answers = to-answers (setting g) slots passes i s there c.args.at may in
     let cut = cut_row (row_of s) c.args.at (length s.window.items) in
     let part = to_part (setting g) (row_of s) c.args.at in
-    subst (λ (o : State g.row.S-Item.Denot).
+    subst (λ (o : State g.row.S-Item.Denot g.row.M.Denot).
     Done (setting g) o (command.To i c.args.at) (reply.New number) slots' after) c.self.view_is
     (elim (cases_eq c.args.at (length s.window.items)) [
       | inl e ↦
@@ -104,7 +104,7 @@ refused g c =
     let there = ap (λ ss. slice_get ss i) (sym c.reserve.ensures.items) ∙ there_read in
     let one = same_entry slots i c.in-Some.slot.now s first there in
     let may : edge_answer (setting g).boundary s.window.items c.args.at ≡ Ok tt =
-    ap (λ (v : SlotView g.row.S-Item.Denot).
+    ap (λ (v : SlotView g.row.S-Item.Denot g.row.M.Denot).
     edge_answer (setting g).boundary v.window.items c.args.at) (sym one)
     ∙ sym c.in_default-check_at.ensures.answer in
     let after = c.try_split_to.new.passes.of_blocks.items in
@@ -115,7 +115,7 @@ refused g c =
     ∙ set-back read i (Some s) there_read ∙ c.reserve.ensures.items in
     let cut = cut_row (row_of s) c.args.at (length s.window.items) in
     let part = to_part (setting g) (row_of s) c.args.at in
-    subst (λ (o : State g.row.S-Item.Denot).
+    subst (λ (o : State g.row.S-Item.Denot g.row.M.Denot).
     Done (setting g) o (command.To i c.args.at) (reply.Owner e) slots' after) c.self.view_is
     (unmade (setting g) slots passes i s there c.self.invariant (command.To i c.args.at) slots'
     after part (split_rows (state_of slots passes).table i
@@ -130,7 +130,7 @@ returns-then-is_err-clause-rows g c =
     let i = c.args.i in
     let first = ap (λ ss. slice_get ss i) (sym c.deref.ensures.value) ∙ c.in-Some.ensures in
     let s = c.in-Some.slot.now in
-    subst (λ (o : State g.row.S-Item.Denot).
+    subst (λ (o : State g.row.S-Item.Denot g.row.M.Denot).
     Step (setting g) o.table (command.To i c.args.at) reply.Alloc
     (state_of c.reserve.new.self.items passes).table)
     c.self.view_is
@@ -176,7 +176,7 @@ try_split_to-requires-clause-at g c κs within =
     let there = ap (λ ss. slice_get ss i) (sym c.reserve.ensures.items) ∙ there_read in
     let one = same_entry slots i c.in-Some.slot.now s first there in
     let edge : IsEdge g.S.Subsliceable.boundary s.window.items c.args.at =
-    subst (λ (v : SlotView g.row.S-Item.Denot).
+    subst (λ (v : SlotView g.row.S-Item.Denot g.row.M.Denot).
     IsEdge g.S.Subsliceable.boundary v.window.items c.args.at) one
     (c.in_default-check_at.ensures.ok.0 refl) in
     edge

@@ -36,7 +36,7 @@ made g c =
     let first = ap (λ ss. slice_get ss i) (sym c.deref.ensures.value) ∙ c.in-Some.ensures in
     let one = same_entry slots i c.in-Some.slot.now s first there in
     let ranged : range_answer (setting g).boundary s.window.items c.args.start c.args.end ≡ Ok tt =
-    ap (λ (v : SlotView g.row.S-Item.Denot).
+    ap (λ (v : SlotView g.row.S-Item.Denot g.row.M.Denot).
     range_answer (setting g).boundary v.window.items c.args.start c.args.end) (sym one)
     ∙ sym c.in_default-check_range.ensures.answer in
     let slots' = c.push_reserved.new.self.items in
@@ -45,7 +45,7 @@ made g c =
     let counted : number ≡ length slots =
     c.len-number.ensures ∙ c.reserve.new.self.ok.0 ∙ ap length c.reserve.ensures.items in
     let part = part_of (setting g) (row_of s) c.args.start c.args.end in
-    subst (λ (o : State g.row.S-Item.Denot).
+    subst (λ (o : State g.row.S-Item.Denot g.row.M.Denot).
     Done (setting g) o (command.Sub i c.args.start c.args.end) (reply.New number) slots' after)
     c.self.view_is
     (joined (setting g) slots passes i s there c.self.invariant
@@ -70,14 +70,14 @@ refused g c =
     let first = ap (λ ss. slice_get ss i) (sym c.deref.ensures.value) ∙ c.in-Some.ensures in
     let one = same_entry slots i c.in-Some.slot.now s first there in
     let ranged : range_answer (setting g).boundary s.window.items c.args.start c.args.end ≡ Ok tt =
-    ap (λ (v : SlotView g.row.S-Item.Denot).
+    ap (λ (v : SlotView g.row.S-Item.Denot g.row.M.Denot).
     range_answer (setting g).boundary v.window.items c.args.start c.args.end) (sym one)
     ∙ sym c.in_default-check_range.ensures.answer in
     let slots' = c.reserve.new.self.items in
     let after = c.try_subslice.new.passes.of_blocks.items in
     let e = c.in-Err-try_subslice.e in
     let part = part_of (setting g) (row_of s) c.args.start c.args.end in
-    subst (λ (o : State g.row.S-Item.Denot).
+    subst (λ (o : State g.row.S-Item.Denot g.row.M.Denot).
     Done (setting g) o (command.Sub i c.args.start c.args.end) (reply.Owner e) slots' after)
     c.self.view_is
     (unmade (setting g) slots passes i s there c.self.invariant
@@ -92,7 +92,7 @@ returns-then-is_err-clause-rows g c =
     let passes = c.self.inside.passes.of_blocks.items in
     let i = c.args.i in
     let there = ap (λ ss. slice_get ss i) (sym c.deref.ensures.value) ∙ c.in-Some.ensures in
-    subst (λ (o : State g.row.S-Item.Denot).
+    subst (λ (o : State g.row.S-Item.Denot g.row.M.Denot).
     Step (setting g) o.table (command.Sub i c.args.start c.args.end) reply.Alloc
     (state_of c.reserve.new.self.items passes).table)
     c.self.view_is
@@ -113,7 +113,7 @@ try_subslice-requires-clause-range g c κs within =
     let first = ap (λ ss. slice_get ss i) (sym c.deref.ensures.value) ∙ c.in-Some.ensures in
     let one = same_entry slots i c.in-Some.slot.now s first there in
     let range : IsRange g.S.Subsliceable.boundary s.window.items c.args.start c.args.end =
-    subst (λ (v : SlotView g.row.S-Item.Denot).
+    subst (λ (v : SlotView g.row.S-Item.Denot g.row.M.Denot).
     IsRange g.S.Subsliceable.boundary v.window.items c.args.start c.args.end) one
     (c.in_default-check_range.ensures.ok.0 refl) in
     range

@@ -34,11 +34,12 @@ did g c =
     ∙ ap Some (sym c.replace.ensures.value ∙ c.in-Some-replace.is) in
     let one = same_entry slots i c.in-Some.slot.now s got there in
     let off : is_some (block_of (row_of s).place) ≡ false =
-    ap (λ (v : SlotView g.row.S-Item.Denot). is_some (block_of (row_of v).place)) (sym one)
+    ap (λ (v : SlotView g.row.S-Item.Denot g.row.M.Denot).
+    is_some (block_of (row_of v).place)) (sym one)
     ∙ sym c.is_on_block.ensures ∙ c.if-is_on_block.false in
     let same : items ≡ s.window.items = c.into_static.ensures in
     let slots' = slice_set slots i c.replace.new.dest in
-    subst (λ (o : State g.row.S-Item.Denot).
+    subst (λ (o : State g.row.S-Item.Denot g.row.M.Denot).
     Done (setting g) o (command.TakeStatic i) (reply.Static items) slots' passes) c.self.view_is
     (takes (setting g) slots passes i s there c.self.invariant items slots' off same
     (ap (slice_set slots i) c.replace.ensures.after))

@@ -38,16 +38,18 @@ did g c =
     let s' = c.truncate.new.self in
     let one = same_entry slots i c.in-Some.slot.now s got there in
     let may : edge_answer (setting g).boundary s.window.items c.args.len ≡ Ok tt =
-    ap (λ (v : SlotView g.row.S-Item.Denot).
+    ap (λ (v : SlotView g.row.S-Item.Denot g.row.M.Denot).
     edge_answer (setting g).boundary v.window.items c.args.len) (sym one)
     ∙ sym c.in_default-check_at.ensures.answer in
     let short : nat_lt c.args.len (length s.window.items) ≡ true =
-    ap (λ (v : SlotView g.row.S-Item.Denot). nat_lt c.args.len (length v.window.items)) (sym one)
+    ap (λ (v : SlotView g.row.S-Item.Denot g.row.M.Denot).
+    nat_lt c.args.len (length v.window.items)) (sym one)
     ∙ lt-ltb c.args.len (length c.in-Some.slot.now.window.items)
     (omega (arith, c.len.ensures, c.if-len.false)) in
-    let r : Row g.row.S-Item.Denot (Unit {0}) = row_of s in
-    let part : Row g.row.S-Item.Denot (Unit {0}) = record r { items = take c.args.len r.items } in
-    subst (λ (o : State g.row.S-Item.Denot).
+    let r : Row g.row.S-Item.Denot g.row.M.Denot = row_of s in
+    let part : Row g.row.S-Item.Denot g.row.M.Denot =
+    record r { items = take c.args.len r.items } in
+    subst (λ (o : State g.row.S-Item.Denot g.row.M.Denot).
     Done (setting g) o (command.Trunc i c.args.len) reply.Ok (slice_set slots i (Some s')) passes)
     c.self.view_is
     (become (setting g) slots passes i s there c.self.invariant (command.Trunc i c.args.len) s' part

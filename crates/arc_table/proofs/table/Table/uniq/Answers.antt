@@ -29,7 +29,7 @@ did g c found is =
     let there = ap (λ ss. slice_get ss i) (sym c.deref.ensures.value) ∙ c.in-Some.ensures in
     let question = c.is_unique-alone in
     let after = question.new.passes.of_blocks.items in
-    subst (λ (o : State g.row.S-Item.Denot).
+    subst (λ (o : State g.row.S-Item.Denot g.row.M.Denot).
     Done (setting g) o (command.Uniq i) (if found then reply.Yes else reply.No) slots after)
     c.self.view_is
     (asked (setting g) slots passes i s there c.self.invariant after found
