@@ -7,10 +7,31 @@ use arc_read::slice::ArcSlice;
 use std::alloc::Global;
 
 /// A window over bytes.
-pub type ArcBytes<L = DefaultLayout, A = Global, H = Open> = ArcSlice<Plain<u8>, L, A, H>;
+pub type ArcBytes<L = DefaultLayout, B = Vec<u8>, M = (), A = Global, H = Open> = ArcSlice<
+    Plain<u8>,
+    L,
+    B,
+    M,
+    A,
+    H,
+>;
 
 /// A window over text, which is always valid UTF-8.
-pub type ArcStr<L = DefaultLayout, A = Global, H = Open> = ArcSlice<Text, L, A, H>;
+pub type ArcStr<L = DefaultLayout, B = Vec<u8>, M = (), A = Global, H = Open> = ArcSlice<
+    Text,
+    L,
+    B,
+    M,
+    A,
+    H,
+>;
 
 /// A window over bytes that are text by convention.
-pub type ArcByteText<L = DefaultLayout, A = Global, H = Open> = ArcSlice<ByteText, L, A, H>;
+pub type ArcByteText<L = DefaultLayout, B = Vec<u8>, M = (), A = Global, H = Open> = ArcSlice<
+    ByteText,
+    L,
+    B,
+    M,
+    A,
+    H,
+>;
