@@ -10,8 +10,3 @@ pub(crate) mod word;
 
 pub use tokens::{LifetimeEnd, Owners, Pass, Release, Share, Sole};
 pub use word::{OwnerToken, WordBorrow};
-
-#[cfg(test)]
-mod counted_tests;
-#[cfg(test)]
-mod raise_tests;

@@ -12,6 +12,3 @@ pub use event::Event;
 pub use laws::{is_run, keeps};
 pub use replays::{replay, replay_lone};
 pub use world::World;
-
-#[cfg(test)]
-mod tests;

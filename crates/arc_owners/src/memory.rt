@@ -13,12 +13,3 @@ mod sole_box;
 pub use counted_box::CountedBox;
 pub use lent_value::LentValue;
 pub use sole_box::SoleBox;
-
-#[cfg(test)]
-mod counted_box_tests;
-#[cfg(test)]
-mod forget_tests;
-#[cfg(test)]
-mod lent_value_tests;
-#[cfg(test)]
-mod sole_box_tests;

@@ -6,7 +6,7 @@ use Rattle.arc_owners.specs.count.Invariant.{BlockId}
 use Rattle.arc_owners.specs.count.Calls.{Owner, IsFirst, IsFreshPass, IsPassOf, HasCountIn, MakesAnother, FindsFull, Leaves, seen}
 use Rattle.arc_owners.proofs.count.Runs.{Ran, ran-none, made-one, ran-up, ran-full, ran-down, no-up, no-full, not-last}
 use Rattle.arc_owners.proofs.count.Wholes.{same-made, same-left}
-use Rattle.arc_owners.proofs.count.counted_tests.worked_run.Goals as goal
+use Rattle.arc_owners_tests.proofs.counted.worked_run.Goals as goal
 
 -- the history after each call of the run, all of them through the first owner but for the end
 module _ {H : Type 0} {o : Owner} (f : IsFirst 3 true o) where

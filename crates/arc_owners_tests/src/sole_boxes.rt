@@ -3,10 +3,9 @@
 ghost use Rattle.std.specs.Prelude.{◌≡◌};
 ghost use Rattle.arc_owners.specs.memory.SoleBoxes.{sole_in, sole_value};
 
-use super::counted_box::CountedBox;
-use super::sole_box::SoleBox;
-use crate::error::AllocError;
-use crate::mark::{Mark, Open, Whole};
+use arc_owners::error::AllocError;
+use arc_owners::mark::{Mark, Open, Whole};
+use arc_owners::owners::{CountedBox, SoleBox};
 use linked_list_allocator::LocalHeap;
 use std::alloc::Global;
 use std::test::Fail;

@@ -1,8 +1,8 @@
 //! A value with memory of its own: it ends, and gives that back, with the last owner's drop.
 
-use super::counted_box::CountedBox;
-use crate::error::{AllocError, OwnerError};
-use crate::mark::Open;
+use arc_owners::error::{AllocError, OwnerError};
+use arc_owners::mark::Open;
+use arc_owners::owners::CountedBox;
 use linked_list_allocator::LocalHeap;
 use std::alloc::Allocator;
 use std::sync::Wait;

@@ -1,7 +1,7 @@
 use Rattle.std.proofs.Common.{lit<}
 use Rattle.arc_owners.specs.count.Calls.{owner_of}
 use Rattle.arc_owners.proofs.count.Wholes.{knows-first, knows-made, knows-tried, knows-asked, knows-left}
-use Rattle.arc_owners.proofs.count.counted_tests.full_at_three.Goals as goal
+use Rattle.arc_owners_tests.proofs.counted.full_at_three.Goals as goal
 
 pub up_as-requires-2 : goal.up_as-requires-2
 up_as-requires-2 g c =

@@ -1,8 +1,8 @@
 //! Memory of a caller's own, lent to the owners of a count.
-use super::lent_value::LentValue;
-use crate::count::tokens::{Owners, Release};
-use crate::error::AllocError;
-use crate::mark::Open;
+use arc_owners::error::AllocError;
+use arc_owners::lend::LentValue;
+use arc_owners::mark::Open;
+use arc_owners::owners::{Owners, Release};
 use linked_list_allocator::LocalHeap;
 use std::test::Fail;
 use std::thread::join;

@@ -1,7 +1,7 @@
 use Rattle.std.proofs.Common.{refl, sym, subst}
 use Rattle.arc_owners.proofs.count.Wholes.{KnowsCount, knows-made, knows-full, knows-left}
-use Rattle.arc_owners.proofs.count.counted_tests.thousand.Goals as goal
-use Rattle.arc_owners.proofs.count.counted_tests.thousand.Goals.{in-Ok, in_default}
+use Rattle.arc_owners_tests.proofs.counted.thousand.Goals as goal
+use Rattle.arc_owners_tests.proofs.counted.thousand.Goals.{in-Ok, in_default}
 
 pub loop-preserved : goal.loop-preserved
 loop-preserved g c =

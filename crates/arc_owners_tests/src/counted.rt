@@ -6,9 +6,9 @@ ghost use Rattle.arc_owners.specs.declared.history.entry.Entry.TheVariants.{Up, 
 ghost use Rattle.arc_owners.specs.count.Calls.{block_of, owner_of, seen, mine, history_of};
 ghost use Rattle.arc_owners.specs.count.Calls.{IsOwnerOf, IsPassOf, IsSamePass, HasCountIn, Asks};
 
-use super::{Owners, Pass, Release, Share};
-use crate::error::CountFull;
-use crate::mark::{Open, Whole};
+use arc_owners::error::CountFull;
+use arc_owners::mark::{Open, Whole};
+use arc_owners::owners::{Owners, Pass, Release, Share};
 use std::sync::Wait;
 use std::test::Fail;
 use std::thread::{Threads, join};

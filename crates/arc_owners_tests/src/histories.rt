@@ -1,6 +1,6 @@
 //! The worked runs, the events that change nothing, and a refused request for memory.
-use super::*;
-use crate::error::AllocError;
+use arc_owners::error::AllocError;
+use arc_owners::owners::{Entry, Event, World, is_run, keeps, replay, replay_lone};
 use linked_list_allocator::LocalHeap;
 use std::alloc::{Allocator, Global};
 use std::process::Abort;

@@ -1,5 +1,5 @@
 use Rattle.arc_owners.proofs.count.Runs.{ended-in}
-use Rattle.arc_owners.proofs.count.counted_tests.ended.Goals as goal
+use Rattle.arc_owners_tests.proofs.counted.ended.Goals as goal
 
 pub returns-clause-ended : goal.returns-clause-ended
 returns-clause-ended c = ended-in c.down_as.ensures.entry

@@ -1,7 +1,7 @@
 use Rattle.std.proofs.Common.{◌∙◌, ap, lit<}
 use Rattle.arc_owners.specs.count.Calls.{Owner}
 use Rattle.arc_owners.proofs.count.Wholes.{knows-first, knows-made, knows-asked, knows-left}
-use Rattle.arc_owners.proofs.count.counted_tests.sole_owner_takes_back.Goals as goal
+use Rattle.arc_owners_tests.proofs.counted.sole_owner_takes_back.Goals as goal
 
 pub up_as-requires-2 : goal.up_as-requires-2
 up_as-requires-2 g c =

@@ -3,10 +3,9 @@ ghost use Rattle.std.specs.Prelude.{◌≡◌};
 ghost use Rattle.arc_owners.specs.count.Calls.{IsPassFor};
 ghost use Rattle.arc_owners.specs.memory.Boxes.{owner_in, value_of};
 
-use super::counted_box::CountedBox;
-use crate::count::tokens::Pass;
-use crate::error::AllocError;
-use crate::mark::{Open, Whole};
+use arc_owners::error::AllocError;
+use arc_owners::mark::{Open, Whole};
+use arc_owners::owners::{CountedBox, Pass};
 use linked_list_allocator::LocalHeap;
 use std::alloc::Global;
 use std::test::Fail;

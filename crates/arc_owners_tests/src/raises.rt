@@ -2,8 +2,8 @@
 ghost use Rattle.std.specs.Prelude.{◌≡◌, []};
 ghost use Rattle.arc_owners.specs.count.Calls.{block_of, HasCountIn, IsOwnerOf};
 
-use super::{Owners, Share};
-use crate::mark::Open;
+use arc_owners::mark::Open;
+use arc_owners::owners::{Owners, Share};
 use std::sync::Wait;
 use std::sync::atomic::AtomicU64;
 use std::sync::atomic::Ordering::SeqCst;
