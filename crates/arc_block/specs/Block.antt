@@ -1,6 +1,8 @@
 -- Blocks: what a window may stand on, and what is known of it.
 use Rattle.std.specs.Prelude.{◌≡◌, ℕ, Bool, if◌then◌else◌, Option, Some, None, List, length}
 use Rattle.arc_owners.specs.count.Calls.{Owner}
+use Rattle.std.specs.declared.vec.Vec.{Vec}
+use Rattle.std.specs.Vec.{vec_capacity}
 use Rattle.arc_block.specs.declared.memory.native.Native.{Native}
 
 -- how a block keeps its items
@@ -59,6 +61,19 @@ held_in drops owner memory = record {
     sort = native;
     size = memory.allocation.count;
     full = full_places drops (length memory.places.items);
+    metadata = None;
+  };
+}
+
+-- a native block whose only owner has its items as this vector, with a place for each of its places
+abbrev pub held_as : {T M A : Type 0} → Bool → Owner → Vec T A → BlockView T M
+held_as drops owner items = record {
+  owner = owner;
+  items = items.items;
+  facts = record {
+    sort = native;
+    size = vec_capacity items;
+    full = full_places drops (length items.items);
     metadata = None;
   };
 }

@@ -7,11 +7,14 @@ ghost use Rattle.arc_owners.specs.count.Calls.{Asks, FindsFull, MakesAnother, Le
 ghost use Rattle.arc_buffer.specs.Slice.{sub};
 ghost use Rattle.arc_block.specs.Block.{native, native_block, IsLimited};
 
+mod sole;
+
 use crate::memory::{Base, Native};
 use arc_buffer::kinds::Slice;
 use arc_owners::error::{AllocError, CountFull};
 use arc_owners::mark::{Mark, Open, Stepping};
 use arc_owners::owners::{CountedBox, Pass};
+pub use sole::SoleBlock;
 use std::alloc::Allocator;
 use std::marker::{Model, PhantomData};
 
