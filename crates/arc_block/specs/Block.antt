@@ -78,6 +78,18 @@ held_as drops owner items = record {
   };
 }
 
+module _ {T M : Type 0} where
+  -- the same owner of the same block, whose full places hold these items
+  abbrev pub with_block_items : Bool → BlockView T M → List T → BlockView T M
+  with_block_items drops b xs = record b {
+    items = xs;
+    facts = record b.facts { full = full_places drops (length xs) };
+  }
+
+  -- the same, of a block with so many places
+  abbrev pub with_block_size : BlockView T M → ℕ → BlockView T M
+  with_block_size b size = record b { facts = record b.facts { size = size } }
+
 -- an owner of a block that so many owners may have at once, under a mark
 pub record IsLimited (greatest : ℕ) (one_pass : Bool) (o : Owner) : Type 0 where
   pub most : o.block.most ≡ greatest

@@ -1,14 +1,15 @@
 //! Blocks of one owner, who may write.
-ghost use Rattle.std.specs.Prelude.{◌≡◌, ◌≤◌, true, [], length, is_ok, IfOk, IfErr};
-ghost use Rattle.std.specs.Vec.{vec_capacity};
-ghost use Rattle.arc_owners.specs.count.Calls.{IsFirst, IsPassFor, IsFreshPass, Asks, Leaves};
-ghost use Rattle.arc_block.specs.Block.{held_as};
+ghost use Rattle.std.specs.Prelude.{◌≡◌, ◌≤◌, ◌<◌, ◌+◌, ◌++◌, ◌∷◌, true, [], length, take, drop};
+ghost use Rattle.std.specs.Prelude.{is_ok, IfOk, IfErr, OnOk, OnErr};
+ghost use Rattle.arc_owners.specs.count.Calls.{IsFirst, IsPassFor, IsFreshPass, IsNewPass};
+ghost use Rattle.arc_owners.specs.count.Calls.{Asks, Leaves, Learns, SeesAlone};
+ghost use Rattle.arc_block.specs.Block.{held_as, with_block_items, with_block_size};
 
 use super::{Base, Block};
 use crate::memory::Native;
 use arc_buffer::kinds::Slice;
 use arc_owners::error::AllocError;
-use arc_owners::mark::{Mark, Open};
+use arc_owners::mark::{Mark, Open, Stepping};
 use arc_owners::owners::{Pass, SoleBox};
 use std::alloc::Allocator;
 use std::marker::Model;
@@ -113,6 +114,124 @@ impl<S: Slice, A: Allocator + Copy, const MAX: u64, H: Mark> SoleBlock<S, A, MAX
         let SoleBlock { piece, items } = self;
         drop(piece.into_value_as(pass));
         drop(items);
+    }
+}
+
+impl<S: Slice, A: Allocator + Copy, const MAX: u64, H: Mark> SoleBlock<S, A, MAX, H> {
+    /// How many places are full.
+    #[inline(always)]
+    pub fn len(&self) -> usize
+        ensures { result ≡ length self.now.items }
+    {
+        self.items.len()
+    }
+
+    /// How many places the block has.
+    #[inline(always)]
+    pub fn size(&self) -> usize
+        ensures { result ≡ self.now.facts.size }
+    {
+        self.items.capacity()
+    }
+
+    /// The items.
+    #[inline(always)]
+    pub fn as_slice(&self) -> &[S::Item]
+        ensures { result.now ≡ self.now.items }
+    {
+        self.items.as_slice()
+    }
+
+    /// An item more, behind the others, where the block has a place for it.
+    #[inline(always)]
+    pub fn push_reserved(&mut self, item: S::Item)
+        requires { length self.old.items < self.old.facts.size }
+        ensures { self.new
+            ≡ with_block_items S.DROPS self.old (self.old.items ++ item ∷ []) }
+    {
+        self.items.push_reserved(item);
+    }
+
+    /// The first so many items. The others are dropped.
+    pub fn truncate(&mut self, len: usize)
+        ensures { self.new ≡ with_block_items S.DROPS self.old (take len self.old.items) }
+    {
+        self.items.truncate(len);
+    }
+
+    /// The items but for the first so many, from the front of the block on. Those are dropped.
+    pub fn drop_front(&mut self, count: usize)
+        requires { count ≤ length self.old.items }
+        ensures { self.new ≡ with_block_items S.DROPS self.old (drop count self.old.items) }
+    {
+        let rest = self.items.len() - count;
+        self.items.rotate_left(count);
+        self.items.truncate(rest);
+    }
+
+    /// Room for so many places in all: at least as many as there are.
+    ///
+    /// # Errors
+    ///
+    /// `AllocError` where memory is refused; the block is then as before.
+    ///
+    /// # Allocates
+    ///
+    /// Where there are fewer.
+    pub fn try_grow(&mut self, size: usize) -> Result<(), AllocError>
+        requires { self.old.facts.size ≤ size }
+        ensures grown { OnOk result (self.new ≡ with_block_size self.old size) }
+        ensures refused { OnErr result (self.new ≡ self.old) }
+    {
+        match self.items.reserve_exact(size - self.items.len()) {
+            Ok(()) => Ok(()),
+            Err(_) => Err(AllocError),
+        }
+    }
+
+    /// Shows a pass the block's whole history so far, in which no other owner lives. It adds no
+    /// entry and takes no memory.
+    pub fn only(&self, pass: &mut Pass<H>)
+        requires { IsPassFor self.now.owner pass.old }
+        ensures { SeesAlone self.now.owner pass.old pass.new }
+    {
+        self.piece.only(pass);
+    }
+
+    /// Afterwards the first pass has seen at least what the other had. It adds no entry and takes
+    /// no memory.
+    pub fn learn(&self, pass: &mut Pass<H>, other: &Pass<H>)
+        requires pass { IsPassFor self.now.owner pass.old }
+        requires other { IsPassFor self.now.owner other.now }
+        ensures { Learns self.now.owner.block pass.old other.now pass.new }
+    {
+        self.piece.learn(pass, other);
+    }
+}
+
+impl<S: Slice, A: Allocator + Copy, const MAX: u64, H: Mark> SoleBlock<S, A, MAX, H>
+where
+    S::Item: Copy,
+{
+    /// A copy of the items more, behind the others, where the block has a place for each.
+    pub fn extend_reserved(&mut self, items: &[S::Item])
+        requires { length self.old.items + length items.now ≤ self.old.facts.size }
+        ensures { self.new
+            ≡ with_block_items S.DROPS self.old (self.old.items ++ items.now) }
+    {
+        for item in items {
+            self.items.push_reserved(*item);
+        }
+    }
+}
+
+impl<S: Slice, A: Allocator + Copy, const MAX: u64, H: Stepping> SoleBlock<S, A, MAX, H> {
+    /// A new pass, which has seen at least the entry that made this owner, and made nothing. It
+    /// adds no entry and takes no memory.
+    pub fn pass(&self) -> Pass<H>
+        ensures { IsNewPass self.now.owner result }
+    {
+        self.piece.pass()
     }
 }
 
