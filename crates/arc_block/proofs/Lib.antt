@@ -5,3 +5,4 @@ pub mod Alone
 pub mod Windows
 pub mod Held
 pub mod StaticSlices
+pub mod Writers

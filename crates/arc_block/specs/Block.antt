@@ -37,6 +37,15 @@ native_facts drops size = record {
   metadata = None;
 }
 
+-- a native block of this many places, of which so many are full
+abbrev pub partly_full : {M : Type 0} → Bool → (size full : ℕ) → BlockInfo M
+partly_full drops size full = record {
+  sort = native;
+  size = size;
+  full = full_places drops full;
+  metadata = None;
+}
+
 -- what is seen of a block through one of its owners: who that is, the items, and what is known of
 -- the block
 pub record BlockView (T M : Type 0) : Type 0 where
@@ -77,18 +86,6 @@ held_as drops owner items = record {
     metadata = None;
   };
 }
-
-module _ {T M : Type 0} where
-  -- the same owner of the same block, whose full places hold these items
-  abbrev pub with_block_items : Bool → BlockView T M → List T → BlockView T M
-  with_block_items drops b xs = record b {
-    items = xs;
-    facts = record b.facts { full = full_places drops (length xs) };
-  }
-
-  -- the same, of a block with so many places
-  abbrev pub with_block_size : BlockView T M → ℕ → BlockView T M
-  with_block_size b size = record b { facts = record b.facts { size = size } }
 
 -- an owner of a block that so many owners may have at once, under a mark
 pub record IsLimited (greatest : ℕ) (one_pass : Bool) (o : Owner) : Type 0 where

@@ -8,3 +8,5 @@ pub mod Steps
 pub mod StaticSlices
 pub mod Memory
 pub mod Allocations
+pub mod Room
+pub mod Writers

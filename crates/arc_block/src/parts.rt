@@ -19,6 +19,7 @@ use arc_buffer::kinds::Slice;
 use arc_owners::error::AllocError;
 use arc_owners::mark::{Mark, Open};
 use arc_owners::owners::Pass;
+pub use sole::SoleParts;
 use std::alloc::{Allocator, Global};
 use std::marker::Model;
 use storage::Storage;
@@ -224,4 +225,6 @@ impl<S: Slice, B, M, A: Allocator + Copy, H: Mark> Parts<S, B, M, A, H> {
 
 mod ends;
 mod owners;
+pub mod room;
+mod sole;
 mod storage;

@@ -1,0 +1,50 @@
+-- Room for a writer's items: where it comes from, by the cases in their order, and what the window
+-- is with it.
+use Rattle.std.specs.Prelude.{◌≡◌, ℕ, ◌+◌, ◌-◌, ◌*◌, ◌^◌, ◌≤◌, ◌==◌, nat_lt, Bool, true, false}
+use Rattle.std.specs.Prelude.{◌&&◌, ◌||◌, not, if◌then◌else◌, max, List, [], ◌++◌, length}
+use Rattle.std.specs.Prelude.{Option, Some, None, Result, Ok, Err}
+use Rattle.std.specs.Option.{option_map_or}
+use Rattle.arc_owners.specs.count.Calls.{Owner}
+use Rattle.arc_owners.specs.declared.error.TryReserveError.TheVariants.{NotUnique, Unsupported}
+use Rattle.arc_owners.specs.declared.error.TryReserveError.TheVariants.{CapacityOverflow}
+use Rattle.arc_buffer.specs.Slice.{sub}
+use Rattle.arc_block.specs.Block.{BlockInfo, BlockView, full_places}
+use Rattle.arc_block.specs.Place.{Place, nowhere, static_data, on_block}
+use Rattle.arc_block.specs.Table.{RowOf, Role, reader, sole_writer, one_writer_of_several}
+use Rattle.arc_block.specs.Table.{inline, forgotten}
+use Rattle.arc_block.specs.declared.parts.room.TheConstants.{MOST}
+use Rattle.arc_block.specs.declared.parts.room.Room.{Room}
+use Rattle.arc_block.specs.declared.parts.room.Room.TheVariants.{Spare, Fresh, Behind, Front}
+use Rattle.arc_block.specs.declared.parts.room.Room.TheVariants.{Growth, Refused}
+
+-- whether a window that ends here ends where the block's full places do, where these are counted
+abbrev pub ends_full : {M : Type 0} → BlockInfo M → ℕ → Bool
+ends_full info end = option_map_or (λ full. end == full) info.full true
+
+-- A block of so many places grows so that it has those that are needed: to twice its size, or to
+-- what is needed, where that is more or where twice the size is no number of 64 bits. No block has
+-- 2^63 places, or bytes.
+abbrev pub growth : (item_size size needed : ℕ) → Room
+growth item_size size needed =
+    let places = if nat_lt (2 * size) (2 ^ 64) then max (2 * size) needed else needed in
+    if nat_lt MOST needed || nat_lt MOST (places * item_size) then Refused CapacityOverflow else
+    Growth places
+
+-- where a writer of so many items, at this offset in a block, has room for more of them
+abbrev pub room_in : {M : Type 0} → (drops : Bool) → (item_size : ℕ) → BlockInfo M
+    → (offset len additional : ℕ) → Room
+room_in drops item_size info offset len additional =
+    if drops && not (ends_full info (offset + len)) then Refused Unsupported else
+    if not (nat_lt (info.size - offset - len) additional) then Behind else
+    if not drops && not (nat_lt offset len) && not (nat_lt (info.size - len) additional) then Front else
+    growth item_size info.size (offset + len + additional)
+
+-- what holds of the places that a block is to have, where it is to grow, and what holds where the
+-- items are to stand at its front
+abbrev pub IfGrowth : Room → (ℕ → Type 0) → Type 0
+IfGrowth (Growth places) P = P places
+IfGrowth other P = Unit {0}
+
+abbrev pub IfFront : Room → Type 0 → Type 0
+IfFront Front P = P
+IfFront other P = Unit {0}

@@ -1,0 +1,249 @@
+//! Parts of a window that writes as the only owner of its block.
+ghost use Rattle.std.specs.Prelude.{false, ◌≡◌, ◌≤◌, ◌<◌, ◌+◌, ◌++◌, ◌∷◌, [], length, if◌then◌else◌, ◌==◌, IfOk, IfErr, OnErr};
+ghost use Rattle.std.specs.Mem.{FitsInMemory, type_size};
+ghost use Rattle.arc_block.specs.Place.{nowhere};
+ghost use Rattle.arc_block.specs.Table.{sole_writer};
+ghost use Rattle.std.specs.Vec.{vec_capacity};
+ghost use Rattle.arc_owners.specs.count.Calls.{IsPassOfNone};
+ghost use Rattle.arc_block.specs.Steps.{IsPassAt};
+ghost use Rattle.arc_block.specs.Writers.{capacity_of, room as room_of, MakesWriter};
+ghost use Rattle.arc_block.specs.Writers.{IsNewWriter, MakesRoom, with_room, size_at};
+ghost use Rattle.arc_block.specs.Room.{IfGrowth, IfFront};
+ghost use Rattle.arc_block.specs.declared.parts.room.Room.TheVariants.{Front};
+
+use super::room::{Room, room_in};
+use crate::block::{MAX_OWNERS, SoleCount, end, new_count};
+use arc_buffer::kinds::Slice;
+use arc_owners::error::{AllocError, TryReserveError};
+use arc_owners::mark::{Mark, Open};
+use arc_owners::owners::Pass;
+use std::alloc::Allocator;
+use std::cmp::max;
+use std::marker::Model;
+
+/// A row of the table of lists that its only owner writes: the items, where they stand, and how
+/// many places they have.
+///
+/// Dropped, they end as a window does.
+pub struct SoleParts<S: Slice, A: Allocator + Copy, H: Mark = Open> {
+    // None where they stand on nothing: then the vector is empty.
+    count: Option<SoleCount<S::Item, A, MAX_OWNERS, H>>,
+    items: Vec<S::Item, A>,
+    start: usize,
+    end: usize,
+    alloc: A,
+}
+
+impl<S: Slice, A: Allocator + Copy, H: Mark> Model for SoleParts<S, A, H> {
+    ghost use Rattle.arc_block.specs.Window.{PartsView};
+    ghost use Rattle.arc_block.specs.Writers.{sole_seen, IsSoleWithin};
+    ghost use Rattle.std.specs.Option.{option_map};
+    ghost use Rattle.arc_owners.specs.memory.SoleBoxes.{sole_in};
+
+    ghost Value = { PartsView S.Item };
+
+    ghost view = { λ p. sole_seen S.DROPS (option_map sole_in p.count) p.items p.start p.end };
+
+    ghost invariant = { λ p. IsSoleWithin S.DROPS H.whole (option_map sole_in p.count) p.items p.start p.end };
+}
+
+impl<S: Slice, A: Allocator + Copy, H: Mark> Drop for SoleParts<S, A, H> {
+    fn drop(self) {
+        let SoleParts {
+            count,
+            items,
+            start: _,
+            end: _,
+            alloc,
+        } = self;
+        match count {
+            Some(count) => end(count, items),
+            None => drop(items),
+        }
+        drop(alloc);
+    }
+}
+
+impl<S: Slice, A: Allocator + Copy, H: Mark> SoleParts<S, A, H> {
+    /// No items and no places, on nothing.
+    pub fn on_nothing(alloc: A) -> Self
+        ensures { result ≡ record { items = []; place = nowhere; role = sole_writer 0 } }
+    {
+        SoleParts {
+            count: None,
+            items: Vec::new(alloc),
+            start: 0,
+            end: 0,
+            alloc,
+        }
+    }
+
+    /// How many items there are.
+    #[inline(always)]
+    pub fn len(&self) -> usize
+        ensures { result ≡ length self.now.items }
+    {
+        self.end - self.start
+    }
+
+    /// The items.
+    #[inline(always)]
+    #[tactic(auto, using(crate::proofs::Writers::slice_is_sub))]
+    pub fn as_slice(&self) -> &[S::Item]
+        ensures { result.now ≡ self.now.items }
+    {
+        match &self.count {
+            Some(_) => &self.items.as_slice()[self.start..self.end],
+            None => &[],
+        }
+    }
+
+    /// How many places there are for items, from the first of them on.
+    #[inline(always)]
+    pub fn capacity(&self) -> usize
+        ensures capacity { result ≡ capacity_of self.now.role }
+        ensures enough { length self.now.items ≤ result }
+    {
+        if self.count.is_none() {
+            return 0;
+        }
+        if S::DROPS && self.end != self.items.len() {
+            return self.end - self.start;
+        }
+        self.items.capacity() - self.start
+    }
+
+    /// Where there is room for so many items more.
+    pub fn room(&self, additional: usize) -> Room
+        requires item { FitsInMemory S.Item.row }
+        ensures room { result ≡ room_of S.DROPS (if type_size S.Item.row == 1 then 8 else 4)
+            (type_size S.Item.row) self.now additional }
+        ensures grows { IfGrowth result (λ places. size_at self.now.place ≤ places) }
+        ensures front { IfFront result (S.DROPS ≡ false) }
+    {
+        if additional <= self.capacity() - self.len() {
+            return Room::Spare;
+        }
+        if self.count.is_none() {
+            return Room::Fresh(max(S::first(), additional));
+        }
+        let (size, full) = (self.items.capacity(), self.items.len());
+        room_in::<S>(size, full, self.start, self.end - self.start, additional)
+    }
+
+    /// No items, with so many places: for none on nothing, else on a new native block. The pass,
+    /// which is of no block, becomes the block's.
+    ///
+    /// # Errors
+    ///
+    /// `AllocError` where memory for the block is refused; the pass is then as before.
+    ///
+    /// # Allocates
+    ///
+    /// Twice, except for none.
+    pub fn try_with_capacity_as(
+        alloc: A,
+        capacity: usize,
+        pass: &mut Pass<H>,
+    ) -> Result<Self, AllocError>
+        requires pass { IsPassOfNone pass.old }
+        ensures made { IfOk result (λ parts.
+            MakesWriter S.DROPS H.whole [] capacity parts pass.old pass.new) }
+        ensures refused { OnErr result ((1 ≤ capacity) × (pass.new ≡ pass.old)) }
+    {
+        if capacity == 0 {
+            return Ok(Self::on_nothing(alloc));
+        }
+        match Vec::with_capacity(alloc, capacity) {
+            Ok(items) => match Self::try_over(alloc, items, pass) {
+                Ok(parts) => Ok(parts),
+                Err(_) => Err(AllocError),
+            },
+            Err(_) => Err(AllocError),
+        }
+    }
+
+    /// All items of a vector, which becomes a native block's memory; the pass becomes the block's.
+    ///
+    /// # Errors
+    ///
+    /// The vector comes back where memory for the count is refused; the pass is then as before.
+    fn try_over(
+        alloc: A,
+        items: Vec<S::Item, A>,
+        pass: &mut Pass<H>,
+    ) -> Result<Self, Vec<S::Item, A>>
+        ensures made { IfOk result (λ parts.
+            IsNewWriter S.DROPS H.whole items.items (vec_capacity items) parts pass.new) }
+        ensures refused { IfErr result (λ back. (back ≡ items) × (pass.new ≡ pass.old)) }
+    {
+        let end = items.len();
+        match new_count(alloc) {
+            Ok((count, new)) => {
+                *pass = new;
+                Ok(SoleParts {
+                    count: Some(count),
+                    items,
+                    start: 0,
+                    end,
+                    alloc,
+                })
+            }
+            Err(AllocError) => Err(items),
+        }
+    }
+
+    /// Makes room for so many items more.
+    ///
+    /// # Errors
+    ///
+    /// - `Unsupported` where items that are dropped one by one end before the block's full places.
+    /// - `CapacityOverflow` where the block would pass 2^63 - 1 places or bytes.
+    /// - `AllocError` where memory is refused for a first block, or for a larger one.
+    ///
+    /// Everything is then as before.
+    ///
+    /// # Allocates
+    ///
+    /// Where neither the places behind the items nor, of items that aren't dropped one by one,
+    /// those in front of them are enough.
+    pub fn try_reserve_as(
+        &mut self,
+        additional: usize,
+        pass: &mut Pass<H>,
+    ) -> Result<(), TryReserveError>
+        requires item { FitsInMemory S.Item.row }
+        requires pass { IsPassAt self.old.place pass.old }
+        ensures { MakesRoom S.DROPS H.whole
+            (room_of S.DROPS (if type_size S.Item.row == 1 then 8 else 4) (type_size S.Item.row)
+            self.old additional) self.old self.new pass.old pass.new result }
+    {
+        match self.room(additional) {
+            Room::Spare | Room::Behind => Ok(()),
+            Room::Refused(e) => Err(e),
+            Room::Fresh(places) => {
+                *self = Self::try_with_capacity_as(self.alloc, places, pass)?;
+                Ok(())
+            }
+            Room::Front => {
+                self.to_front();
+                Ok(())
+            }
+            Room::Growth(places) => match self.items.reserve_exact(places - self.items.len()) {
+                Ok(()) => Ok(()),
+                Err(_) => Err(TryReserveError::AllocError),
+            },
+        }
+    }
+
+    /// Moves the items to the front of their memory; those before them are dropped.
+    fn to_front(&mut self)
+        requires { S.DROPS ≡ false }
+        ensures { self.new ≡ with_room Front self.old }
+    {
+        self.items.rotate_left(self.start);
+        self.items.truncate(self.end - self.start);
+        self.end = self.end - self.start;
+        self.start = 0;
+    }
+}
