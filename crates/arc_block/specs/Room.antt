@@ -39,11 +39,20 @@ room_in drops item_size info offset len additional =
     if not drops && not (nat_lt offset len) && not (nat_lt (info.size - len) additional) then Front else
     growth item_size info.size (offset + len + additional)
 
+-- what holds of the places of a new block, where there is to be one
+abbrev pub IfFresh : Room → (ℕ → Type 0) → Type 0
+IfFresh (Fresh places) P = P places
+IfFresh other P = Unit {0}
+
 -- what holds of the places that a block is to have, where it is to grow, and what holds where the
 -- items are to stand at its front
 abbrev pub IfGrowth : Room → (ℕ → Type 0) → Type 0
 IfGrowth (Growth places) P = P places
 IfGrowth other P = Unit {0}
+
+abbrev pub IfBehind : Room → Type 0 → Type 0
+IfBehind Behind P = P
+IfBehind other P = Unit {0}
 
 abbrev pub IfFront : Room → Type 0 → Type 0
 IfFront Front P = P

@@ -15,7 +15,7 @@ use Rattle.arc_block.specs.declared.parts.room.Room.{Room}
 use Rattle.arc_block.specs.declared.parts.room.Room.TheVariants.{Spare, Fresh, Behind, Front}
 use Rattle.arc_block.specs.declared.parts.room.Room.TheVariants.{Growth, Refused}
 use Rattle.arc_block.specs.Block.{BlockInfo, IsLimited, partly_full}
-use Rattle.arc_block.specs.Place.{Place, nowhere, static_data, on_block}
+use Rattle.arc_block.specs.Place.{Place, nowhere, static_data, on_block, IsOnBlock}
 use Rattle.arc_block.specs.Table.{RowOf, Role, reader, sole_writer, one_writer_of_several}
 use Rattle.arc_block.specs.Table.{inline, forgotten}
 use Rattle.arc_block.specs.Window.{PartsView}
@@ -122,6 +122,12 @@ module _ {N T M : Type 0} where
     role = with_capacity row.role (places - offset_at row.place);
   }
   with_room room row = row
+
+-- a writer on a block, whose places go up to the end of the block, which isn't to have fewer
+pub record CanGrow {T : Type 0} (w : PartsView T) (places : ℕ) : Type 0 where
+  pub stands : IsOnBlock w.place
+  pub larger : size_at w.place ≤ places
+  pub behind : capacity_of w.role ≡ size_at w.place - offset_at w.place
 
 -- a writer without items on nothing
 abbrev pub idle_writer : {T : Type 0} → PartsView T

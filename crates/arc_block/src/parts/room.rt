@@ -1,8 +1,8 @@
 //! Room for more items: where it comes from.
-ghost use Rattle.std.specs.Prelude.{◌≡◌, ◌≤◌, ◌+◌, false};
+ghost use Rattle.std.specs.Prelude.{◌≡◌, ◌≤◌, ◌+◌, ◌-◌, true, false};
 ghost use Rattle.std.specs.Mem.{FitsInMemory, type_size};
 ghost use Rattle.arc_block.specs.Block.{partly_full};
-ghost use Rattle.arc_block.specs.Room.{growth, room_in as room_by, IfGrowth, IfFront};
+ghost use Rattle.arc_block.specs.Room.{growth, room_in as room_by, IfBehind, IfGrowth, IfFront};
 
 use arc_buffer::kinds::Slice;
 use arc_owners::error::TryReserveError;
@@ -54,6 +54,8 @@ pub(super) fn room_in<S: Slice>(
     requires within { (offset + len ≤ full) × (full ≤ size) }
     ensures room { result ≡ room_by {M = Unit {0}} S.DROPS (type_size S.Item.row)
         (partly_full S.DROPS size full) offset len additional }
+    ensures behind { IfBehind result ((additional ≤ size - offset - len)
+        × (S.DROPS ≡ true → offset + len ≡ full)) }
     ensures grows { IfGrowth result (λ places. size ≤ places) }
     ensures front { IfFront result (S.DROPS ≡ false) }
 {

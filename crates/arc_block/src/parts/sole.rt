@@ -1,5 +1,5 @@
 //! Parts of a window that writes as the only owner of its block.
-ghost use Rattle.std.specs.Prelude.{false, ◌≡◌, ◌≤◌, ◌<◌, ◌+◌, ◌++◌, ◌∷◌, [], length, if◌then◌else◌, ◌==◌, IfOk, IfErr, OnErr};
+ghost use Rattle.std.specs.Prelude.{false, ◌≡◌, ◌≤◌, ◌<◌, ◌+◌, ◌++◌, ◌∷◌, [], length, if◌then◌else◌, ◌==◌, IfOk, IfErr, OnOk, OnErr};
 ghost use Rattle.std.specs.Mem.{FitsInMemory, type_size};
 ghost use Rattle.arc_block.specs.Place.{nowhere};
 ghost use Rattle.arc_block.specs.Table.{sole_writer};
@@ -7,9 +7,9 @@ ghost use Rattle.std.specs.Vec.{vec_capacity};
 ghost use Rattle.arc_owners.specs.count.Calls.{IsPassOfNone};
 ghost use Rattle.arc_block.specs.Steps.{IsPassAt};
 ghost use Rattle.arc_block.specs.Writers.{capacity_of, room as room_of, MakesWriter};
-ghost use Rattle.arc_block.specs.Writers.{IsNewWriter, MakesRoom, with_room, size_at};
-ghost use Rattle.arc_block.specs.Room.{IfGrowth, IfFront};
-ghost use Rattle.arc_block.specs.declared.parts.room.Room.TheVariants.{Front};
+ghost use Rattle.arc_block.specs.Writers.{IsNewWriter, MakesRoom, with_room, CanGrow};
+ghost use Rattle.arc_block.specs.Room.{IfFresh, IfBehind, IfGrowth, IfFront};
+ghost use Rattle.arc_block.specs.declared.parts.room.Room.TheVariants.{Front, Growth};
 
 use super::room::{Room, room_in};
 use crate::block::{MAX_OWNERS, SoleCount, end, new_count};
@@ -118,7 +118,9 @@ impl<S: Slice, A: Allocator + Copy, H: Mark> SoleParts<S, A, H> {
         requires item { FitsInMemory S.Item.row }
         ensures room { result ≡ room_of S.DROPS (if type_size S.Item.row == 1 then 8 else 4)
             (type_size S.Item.row) self.now additional }
-        ensures grows { IfGrowth result (λ places. size_at self.now.place ≤ places) }
+        ensures fresh { IfFresh result (λ places. (self.now.place ≡ nowhere) × (1 ≤ places)) }
+        ensures behind { IfBehind result ⊥ }
+        ensures grows { IfGrowth result (λ places. CanGrow self.now places) }
         ensures front { IfFront result (S.DROPS ≡ false) }
     {
         if additional <= self.capacity() - self.len() {
@@ -219,20 +221,46 @@ impl<S: Slice, A: Allocator + Copy, H: Mark> SoleParts<S, A, H> {
             self.old additional) self.old self.new pass.old pass.new result }
     {
         match self.room(additional) {
-            Room::Spare | Room::Behind => Ok(()),
+            Room::Spare => Ok(()),
+            // A sole writer's places go up to the end of the block.
+            Room::Behind => unreachable!(),
             Room::Refused(e) => Err(e),
-            Room::Fresh(places) => {
-                *self = Self::try_with_capacity_as(self.alloc, places, pass)?;
-                Ok(())
-            }
+            Room::Fresh(places) => match self.try_fresh(places, pass) {
+                Ok(()) => Ok(()),
+                Err(AllocError) => Err(TryReserveError::AllocError),
+            },
             Room::Front => {
                 self.to_front();
                 Ok(())
             }
-            Room::Growth(places) => match self.items.reserve_exact(places - self.items.len()) {
+            Room::Growth(places) => match self.try_grow(places) {
                 Ok(()) => Ok(()),
-                Err(_) => Err(TryReserveError::AllocError),
+                Err(AllocError) => Err(TryReserveError::AllocError),
             },
+        }
+    }
+
+    /// Stands on a new block of so many places instead.
+    fn try_fresh(&mut self, places: usize, pass: &mut Pass<H>) -> Result<(), AllocError>
+        requires places { 1 ≤ places }
+        requires pass { IsPassOfNone pass.old }
+        ensures made { OnOk result
+            (IsNewWriter S.DROPS H.whole [] places self.new pass.new) }
+        ensures refused { OnErr result ((self.new ≡ self.old) × (pass.new ≡ pass.old)) }
+    {
+        *self = Self::try_with_capacity_as(self.alloc, places, pass)?;
+        Ok(())
+    }
+
+    /// Makes the block one of so many places.
+    fn try_grow(&mut self, places: usize) -> Result<(), AllocError>
+        requires { CanGrow self.old places }
+        ensures grown { OnOk result (self.new ≡ with_room (Growth places) self.old) }
+        ensures refused { OnErr result (self.new ≡ self.old) }
+    {
+        match self.items.reserve_exact(places - self.items.len()) {
+            Ok(()) => Ok(()),
+            Err(_) => Err(AllocError),
         }
     }
 
