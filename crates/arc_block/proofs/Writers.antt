@@ -1,10 +1,139 @@
 -- Writers: what is seen of them.
-use Rattle.std.proofs.Common.{◌≡◌, ℕ, ◌+◌, ◌-◌, ◌≤◌, List, take, drop, sym, ap, ◌∙◌, arith}
-use Rattle.std.proofs.lemmas.List.{drop-take}
+use Rattle.std.proofs.Common.{◌≡◌, ℕ, zero, suc, ◌+◌, ◌-◌, ◌≤◌, ◌<◌, ◌==◌, Bool, true, false, not, if◌then◌else◌, List, [], ◌++◌, length, take, drop, Option, Some, None, refl, sym, ap, ◌∙◌, subst, arith}
+use Rattle.std.specs.Option.{option_map}
+use Rattle.std.specs.declared.vec.Vec.{Vec}
+use Rattle.std.specs.Vec.{vec_capacity}
+use Rattle.std.proofs.lemmas.Bool.{eq-eqb, eqb-true, ne_eqb, lt-ltb, false≢true}
+use Rattle.std.proofs.lemmas.List.{drop-take, take-take, take_all, append-nil, drop-append-le, length-append}
+use Rattle.arc_owners.specs.count.Calls.{Owner}
 use Rattle.arc_buffer.specs.Slice.{sub}
+use Rattle.arc_buffer.proofs.Sub.{length-sub}
+use Rattle.arc_block.specs.Block.{BlockInfo, native, full_places, partly_full}
+use Rattle.arc_block.specs.Place.{Place, nowhere, static_data, on_block}
+use Rattle.arc_block.specs.Table.{sole_writer}
+use Rattle.arc_block.specs.Window.{PartsView}
+use Rattle.arc_block.specs.Writers.{writer_capacity, capacity_of, sole_seen, sole_part, IsSoleWithin, with_more, truncated, filled}
 
 -- a slice from start to end is what is there between these
 pub slice_is_sub : {T : Type 0} (xs : List T) (start end : ℕ) → start ≤ end → take (end - start) (drop start xs) ≡ sub xs start end
 slice_is_sub xs start end ordered =
     let whole : start + (end - start) ≡ end = omega (arith, ordered) in
     sym (drop-take start (end - start) xs) ∙ ap (λ n. drop start (take n xs)) whole
+
+-- an item pushed behind all
+pub sub_pushed : {T : Type 0} (xs ys : List T) (start : ℕ) → start ≤ length xs → sub (xs ++ ys) start (length xs + length ys) ≡ sub xs start (length xs) ++ ys
+sub_pushed xs ys start inside =
+    let all : take (length xs + length ys) (xs ++ ys) ≡ xs ++ ys = take_all (length xs + length ys) (xs ++ ys) (omega (arith, length-append xs ys)) in
+    let same : take (length xs) xs ≡ xs = take_all (length xs) xs (omega arith) in
+    ap (drop start) all ∙ drop-append-le start xs ys inside ∙ ap (λ zs. drop start zs ++ ys) (sym same)
+
+-- a writer's places go up to the end of the block where its items end where the full places do
+full-capacity : (drops : Bool) (places start end full : ℕ) → start ≤ end → end ≡ full → writer_capacity {M = Unit {0}} drops (partly_full drops places full) start (end - start) ≡ places - start
+full-capacity false places start end full ordered ends = refl
+full-capacity true places start end full ordered ends =
+    let last : start + (end - start) ≡ full = omega (arith, ordered, ends) in
+    ap (λ b. if not b then end - start else places - start) (eq-eqb (start + (end - start)) full last)
+
+-- where there is room behind the items, they end where the full places do
+ends-where : (b : Bool) (places start end full more : ℕ) → start ≤ end → ((start + (end - start)) == full) ≡ b → (end - start) + more ≤ (if not b then end - start else places - start) → 1 ≤ more → end ≡ full
+ends-where true places start end full more ordered same room some = omega (arith, eqb-true (start + (end - start)) full same, ordered)
+ends-where false places start end full more ordered same room some = absurd (omega (arith, room, some))
+
+ends-full : (drops : Bool) (places start end full more : ℕ) → start ≤ end → (drops ≡ false → end ≡ full) → (end - start) + more ≤ writer_capacity {M = Unit {0}} drops (partly_full drops places full) start (end - start) → 1 ≤ more → end ≡ full
+ends-full false places start end full more ordered kept room some = kept refl
+ends-full true places start end full more ordered kept room some = ends-where ((start + (end - start)) == full) places start end full more ordered refl room some
+
+more-full : (drops : Bool) (full more : ℕ) → full_places drops (full + more) ≡ option_map (λ n. n + more) (full_places drops full)
+more-full false full more = refl
+more-full true full more = refl
+
+-- with no items more nothing changes
+none-full : (full : Option ℕ) → full ≡ option_map (λ n. n + 0) full
+none-full None = refl
+none-full (Some full) = let same : full ≡ full + 0 = omega arith in ap Some same
+
+none-filled : (place : Place (Option Owner) (Unit {0})) → place ≡ filled 0 place
+none-filled nowhere = refl
+none-filled static_data = refl
+none-filled (on_block owner offset info) = ap (λ full. on_block owner offset (record info { full = full })) (none-full info.full)
+
+pub nothing_more : {T : Type 0} (w : PartsView T) → w ≡ with_more [] w
+nothing_more w =
+    ap (λ xs. record w { items = xs }) (sym (append-nil w.items))
+    ∙ ap (λ place. record w { items = w.items ++ []; place = place }) (none-filled w.place)
+
+pub some_from_test : (n : ℕ) → (n == 0) ≡ false → 1 ≤ n
+some_from_test zero test = absurd (false≢true (sym test))
+some_from_test (suc n) test = omega arith
+
+-- the first items of a part
+part-take : {T : Type 0} (xs : List T) (start end n : ℕ) → start ≤ end → n ≤ end - start → sub xs start (start + n) ≡ take n (sub xs start end)
+part-take xs start end n ordered short =
+    drop-take start n xs ∙ sym (take-take n (end - start) (drop start xs) short) ∙ ap (take n) (slice_is_sub xs start end ordered)
+
+module _ {T A : Type 0} where
+  -- items behind the others, in the same places
+  pushed-behind : (drops : Bool) (o : Owner) (v w : Vec T A) (start end : ℕ) (ys : List T) → start ≤ end → end ≡ length v.items → w.items ≡ v.items ++ ys → vec_capacity w ≡ vec_capacity v
+      → sole_part drops o w start (end + length ys) ≡ with_more ys (sole_part drops o v start end)
+  pushed-behind drops o v w start end ys ordered last items places =
+      let make : List T → ℕ → Option ℕ → ℕ → PartsView T = λ xs size full room. record { items = xs; place = on_block (Some o) start (record { sort = native; size = size; full = full; metadata = None }); role = sole_writer room } in
+      let behind : sub w.items start (end + length ys) ≡ sub v.items start end ++ ys =
+      ap (λ zs. sub zs start (end + length ys)) items ∙ ap (λ n. sub (v.items ++ ys) start (n + length ys)) last
+      ∙ sub_pushed v.items ys start (omega (arith, ordered, last)) ∙ ap (λ n. sub v.items start n ++ ys) (sym last) in
+      let long : length w.items ≡ length v.items + length ys = ap length items ∙ length-append v.items ys in
+      let full : full_places drops (length w.items) ≡ option_map (λ n. n + length ys) (full_places drops (length v.items)) = ap (full_places drops) long ∙ more-full drops (length v.items) (length ys) in
+      let room : writer_capacity {M = Unit {0}} drops (partly_full drops (vec_capacity w) (length w.items)) start ((end + length ys) - start) ≡ writer_capacity {M = Unit {0}} drops (partly_full drops (vec_capacity v) (length v.items)) start (end - start) =
+      full-capacity drops (vec_capacity w) start (end + length ys) (length w.items) (omega (arith, ordered)) (omega (arith, long, last))
+      ∙ ap (λ n. n - start) places ∙ sym (full-capacity drops (vec_capacity v) start end (length v.items) ordered last) in
+      ap (λ xs. make xs (vec_capacity w) (full_places drops (length w.items)) (writer_capacity {M = Unit {0}} drops (partly_full drops (vec_capacity w) (length w.items)) start ((end + length ys) - start))) behind
+      ∙ ap (λ n. make (sub v.items start end ++ ys) n (full_places drops (length w.items)) (writer_capacity {M = Unit {0}} drops (partly_full drops (vec_capacity w) (length w.items)) start ((end + length ys) - start))) places
+      ∙ ap (λ f. make (sub v.items start end ++ ys) (vec_capacity v) f (writer_capacity {M = Unit {0}} drops (partly_full drops (vec_capacity w) (length w.items)) start ((end + length ys) - start))) full
+      ∙ ap (make (sub v.items start end ++ ys) (vec_capacity v) (option_map (λ n. n + length ys) (full_places drops (length v.items)))) room
+
+  -- and where the writer has room for them
+  pub pushed : (drops one_pass : Bool) (owner : Option Owner) (v w : Vec T A) (start end : ℕ) (ys : List T) (seen : PartsView T) → sole_seen drops owner v start end ≡ seen → IsSoleWithin drops one_pass owner v start end
+      → w.items ≡ v.items ++ ys → vec_capacity w ≡ vec_capacity v → length seen.items + length ys ≤ capacity_of seen.role → 1 ≤ length ys
+      → sole_seen drops owner w start (end + length ys) ≡ with_more ys seen
+  pushed drops one_pass None v w start end ys seen view within items places room some =
+      absurd (omega (arith, subst (λ s. length s.items + length ys ≤ capacity_of s.role) (sym view) room, some))
+  pushed drops one_pass (Some o) v w start end ys seen view within items places room some =
+      let there = subst (λ s. length s.items + length ys ≤ capacity_of s.role) (sym view) room in
+      let long : length (sub v.items start end) ≡ end - start = length-sub v.items start end within.1 within.2 in
+      let fits = subst (λ n. n + length ys ≤ writer_capacity {M = Unit {0}} drops (partly_full drops (vec_capacity v) (length v.items)) start (end - start)) long there in
+      let last = ends-full drops (vec_capacity v) start end (length v.items) (length ys) within.1 within.3 fits some in
+      subst (λ s. sole_part drops o w start (end + length ys) ≡ with_more ys s) view (pushed-behind drops o v w start end ys within.1 last items places)
+
+  -- the items cut short, where those behind them are gone from the vector
+  cut-copied : (o : Owner) (v w : Vec T A) (start end n : ℕ) → start ≤ end → end ≤ length v.items → n < end - start → w.items ≡ take (start + n) v.items → vec_capacity w ≡ vec_capacity v
+      → sole_part false o w start (start + n) ≡ truncated false n (sole_part false o v start end)
+  cut-copied o v w start end n ordered inside short items places =
+      let make : List T → ℕ → PartsView T = λ xs size. record { items = xs; place = on_block (Some o) start (record { sort = native; size = size; full = None; metadata = None }); role = sole_writer (size - start) } in
+      let part = sub v.items start end in
+      let fewer : sub w.items start (start + n) ≡ take n part =
+      ap (λ zs. sub zs start (start + n)) items ∙ ap (drop start) (take-take (start + n) (start + n) v.items (omega arith)) ∙ part-take v.items start end n ordered (omega (arith, short)) in
+      let some : n < length part = omega (arith, short, length-sub v.items start end ordered inside) in
+      ap (λ xs. make xs (vec_capacity w)) fewer ∙ ap (make (take n part)) places
+      ∙ ap (λ b. if b then make (take n part) (vec_capacity v) else make part (vec_capacity v)) (sym (lt-ltb n (length part) some))
+
+  -- and where they stay there
+  cut-owned : (o : Owner) (v : Vec T A) (start end n : ℕ) → start ≤ end → end ≤ length v.items → n < end - start → sole_part true o v start (start + n) ≡ truncated true n (sole_part true o v start end)
+  cut-owned o v start end n ordered inside short =
+      let info = partly_full true (vec_capacity v) (length v.items) in
+      let make : List T → ℕ → PartsView T = λ xs room. record { items = xs; place = on_block (Some o) start info; role = sole_writer room } in
+      let part = sub v.items start end in
+      let some : n < length part = omega (arith, short, length-sub v.items start end ordered inside) in
+      let apart : ((start + ((start + n) - start)) == length v.items) ≡ false = ne_eqb (start + ((start + n) - start)) (length v.items) (λ same. omega (arith, same, short, inside)) in
+      let left : (start + n) - start ≡ n = omega arith in
+      let room : writer_capacity {M = Unit {0}} true info start ((start + n) - start) ≡ n = ap (λ b. if not b then (start + n) - start else vec_capacity v - start) apart ∙ left in
+      ap (λ xs. make xs (writer_capacity {M = Unit {0}} true info start ((start + n) - start))) (part-take v.items start end n ordered (omega (arith, short)))
+      ∙ ap (make (take n part)) room
+      ∙ ap (λ b. if b then make (take n part) n else make part (writer_capacity {M = Unit {0}} true info start (end - start))) (sym (lt-ltb n (length part) some))
+
+  pub cut : (drops one_pass : Bool) (owner : Option Owner) (v w : Vec T A) (start end n : ℕ) (seen : PartsView T) → sole_seen drops owner v start end ≡ seen → IsSoleWithin drops one_pass owner v start end → n < end - start
+      → (drops ≡ true → w ≡ v) → (drops ≡ false → (w.items ≡ take (start + n) v.items) × (vec_capacity w ≡ vec_capacity v)) → sole_seen drops owner w start (start + n) ≡ truncated drops n seen
+  cut drops one_pass None v w start end n seen view within short owned copied = absurd (omega (arith, short, within.0, within.1))
+  cut true one_pass (Some o) v w start end n seen view within short owned copied =
+      ap (λ u. sole_part true o u start (start + n)) (owned refl)
+      ∙ subst (λ s. sole_part true o v start (start + n) ≡ truncated true n s) view (cut-owned o v start end n within.1 within.2 short)
+  cut false one_pass (Some o) v w start end n seen view within short owned copied =
+      subst (λ s. sole_part false o w start (start + n) ≡ truncated false n s) view (cut-copied o v w start end n within.1 within.2 short (copied refl).0 (copied refl).1)

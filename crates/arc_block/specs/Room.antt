@@ -50,6 +50,10 @@ abbrev pub IfGrowth : Room → (ℕ → Type 0) → Type 0
 IfGrowth (Growth places) P = P places
 IfGrowth other P = Unit {0}
 
+abbrev pub IfSpare : Room → Type 0 → Type 0
+IfSpare Spare P = P
+IfSpare other P = Unit {0}
+
 abbrev pub IfBehind : Room → Type 0 → Type 0
 IfBehind Behind P = P
 IfBehind other P = Unit {0}

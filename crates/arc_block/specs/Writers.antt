@@ -1,7 +1,7 @@
 -- Writers: what is seen of a sole writer's parts, and what making room does to them.
 use Rattle.std.specs.Prelude.{◌≡◌, ℕ, ◌+◌, ◌-◌, ◌≤◌, ◌==◌, nat_lt, Bool, true, false, ◌&&◌, not}
 use Rattle.std.specs.Prelude.{if◌then◌else◌, max, List, [], ◌++◌, length, Option, Some, None}
-use Rattle.std.specs.Prelude.{Result, Ok, Err}
+use Rattle.std.specs.Prelude.{Result, Ok, Err, take, drop}
 use Rattle.std.specs.Option.{option_map}
 use Rattle.std.specs.declared.vec.Vec.{Vec}
 use Rattle.std.specs.Vec.{vec_capacity}
@@ -15,7 +15,7 @@ use Rattle.arc_block.specs.declared.parts.room.Room.{Room}
 use Rattle.arc_block.specs.declared.parts.room.Room.TheVariants.{Spare, Fresh, Behind, Front}
 use Rattle.arc_block.specs.declared.parts.room.Room.TheVariants.{Growth, Refused}
 use Rattle.arc_block.specs.Block.{BlockInfo, IsLimited, partly_full}
-use Rattle.arc_block.specs.Place.{Place, nowhere, static_data, on_block, IsOnBlock}
+use Rattle.arc_block.specs.Place.{Place, nowhere, static_data, on_block, IsOnBlock, moved}
 use Rattle.arc_block.specs.Table.{RowOf, Role, reader, sole_writer, one_writer_of_several}
 use Rattle.arc_block.specs.Table.{inline, forgotten}
 use Rattle.arc_block.specs.Window.{PartsView}
@@ -28,12 +28,9 @@ writer_capacity drops info offset len =
     if drops && not (ends_full info (offset + len)) then len else info.size - offset
 
 module _ {T A : Type 0} where
-  -- what is seen of a sole writer from start to end of a vector, which is the memory of a block
-  -- that has this owner; or who stands on nothing
-  abbrev pub sole_seen : Bool → Option Owner → Vec T A → (start end : ℕ) → PartsView T
-  sole_seen drops None v start end =
-      record { items = []; place = nowhere; role = sole_writer 0 }
-  sole_seen drops (Some owner) v start end =
+  -- the part from start to end of a vector that is a block's memory, as its only owner's
+  abbrev pub sole_part : Bool → Owner → Vec T A → (start end : ℕ) → PartsView T
+  sole_part drops owner v start end =
       let info = partly_full drops (vec_capacity v) (length v.items) in
       record {
         items = sub v.items start end;
@@ -41,10 +38,17 @@ module _ {T A : Type 0} where
         role = sole_writer (writer_capacity drops info start (end - start));
       }
 
+  -- what is seen of a sole writer from start to end of a vector, which is the memory of a block
+  -- that has this owner; or who stands on nothing
+  abbrev pub sole_seen : Bool → Option Owner → Vec T A → (start end : ℕ) → PartsView T
+  sole_seen drops None v start end =
+      record { items = []; place = nowhere; role = sole_writer 0 }
+  sole_seen drops (Some owner) v start end = sole_part drops owner v start end
+
   -- Start to end lies within the full places of a block of this project's. Items that aren't
   -- dropped one by one end where these do.
   abbrev pub IsSoleWithin : Bool → Bool → Option Owner → Vec T A → (start end : ℕ) → Type 0
-  IsSoleWithin drops one_pass None v start end = (start ≡ 0) × (end ≡ 0)
+  IsSoleWithin drops one_pass None v start end = (start ≡ 0) × (end ≡ 0) × (v.items ≡ [])
   IsSoleWithin drops one_pass (Some owner) v start end = IsLimited MAX_OWNERS one_pass owner
       × (start ≤ end) × (end ≤ length v.items) × (drops ≡ false → end ≡ length v.items)
 
@@ -128,6 +132,47 @@ pub record CanGrow {T : Type 0} (w : PartsView T) (places : ℕ) : Type 0 where
   pub stands : IsOnBlock w.place
   pub larger : size_at w.place ≤ places
   pub behind : capacity_of w.role ≡ size_at w.place - offset_at w.place
+
+abbrev pub sole_at : {T : Type 0} → Bool → List T → Place (Option Owner) (Unit {0}) → PartsView T
+sole_at drops items nowhere = record { items = []; place = nowhere; role = sole_writer 0 }
+sole_at drops items static_data = record { items = []; place = nowhere; role = sole_writer 0 }
+sole_at drops items (on_block owner offset info) = record {
+  items = items;
+  place = on_block owner offset info;
+  role = sole_writer (writer_capacity drops info offset (length items));
+}
+
+-- the window is that many items further in, and so has that many places less
+abbrev pub advanced : {T : Type 0} → ℕ → PartsView T → PartsView T
+advanced n w = record {
+  items = drop n w.items;
+  place = moved n w.place;
+  role = with_capacity w.role (capacity_of w.role - n);
+}
+
+-- The first so many items, if there are more. What is dropped one by one stays in the block behind
+-- them, so they have no places beside their own.
+abbrev pub truncated : {T : Type 0} → Bool → ℕ → PartsView T → PartsView T
+truncated drops n w =
+    if nat_lt n (length w.items) then record w {
+      items = take n w.items;
+      role = if drops then with_capacity w.role n else w.role;
+    } else w
+
+-- the same items and places, as a reader
+abbrev pub frozen : {T : Type 0} → PartsView T → PartsView T
+frozen w = record w { role = reader }
+
+-- The same items at the same place, as their only writer. On no block there are none.
+abbrev pub as_sole : {T : Type 0} → Bool → PartsView T → PartsView T
+as_sole drops w = sole_at drops w.items w.place
+
+-- Room for more items without memory: whether there is some, and the window with it.
+abbrev pub Reclaims : {T : Type 0} → Room → (old new : PartsView T) → Bool → Type 0
+Reclaims (Fresh places) old new found = (found ≡ false) × (new ≡ old)
+Reclaims (Growth places) old new found = (found ≡ false) × (new ≡ old)
+Reclaims (Refused e) old new found = (found ≡ false) × (new ≡ old)
+Reclaims room old new found = (found ≡ true) × (new ≡ with_room room old)
 
 -- a writer without items on nothing
 abbrev pub idle_writer : {T : Type 0} → PartsView T

@@ -56,8 +56,9 @@ pub(super) fn room_in<S: Slice>(
         (partly_full S.DROPS size full) offset len additional }
     ensures behind { IfBehind result ((additional ≤ size - offset - len)
         × (S.DROPS ≡ true → offset + len ≡ full)) }
-    ensures grows { IfGrowth result (λ places. size ≤ places) }
-    ensures front { IfFront result (S.DROPS ≡ false) }
+    ensures grows { IfGrowth result (λ places. (size ≤ places)
+        × (offset + len + additional ≤ places)) }
+    ensures front { IfFront result ((S.DROPS ≡ false) × (len + additional ≤ size)) }
 {
     if S::DROPS && offset + len != full {
         return Room::Refused(TryReserveError::Unsupported);

@@ -1,14 +1,18 @@
 //! Parts of a window that writes as the only owner of its block.
-ghost use Rattle.std.specs.Prelude.{false, ◌≡◌, ◌≤◌, ◌<◌, ◌+◌, ◌++◌, ◌∷◌, [], length, if◌then◌else◌, ◌==◌, IfOk, IfErr, OnOk, OnErr};
+ghost use Rattle.std.specs.Prelude.{false, ◌≡◌, ◌≤◌, ◌<◌, ◌+◌, ◌-◌, ◌++◌, ◌∷◌, [], length, if◌then◌else◌, ◌==◌, IfOk, IfErr, OnOk, OnErr};
 ghost use Rattle.std.specs.Mem.{FitsInMemory, type_size};
 ghost use Rattle.arc_block.specs.Place.{nowhere};
 ghost use Rattle.arc_block.specs.Table.{sole_writer};
-ghost use Rattle.std.specs.Vec.{vec_capacity};
+ghost use Rattle.std.specs.Vec.{vec_capacity, vec_len};
+ghost use Rattle.arc_owners.specs.memory.SoleBoxes.{sole_in};
+ghost use Rattle.arc_block.specs.declared.block.TheConstants.{MAX_OWNERS};
+ghost use Rattle.arc_block.specs.Block.{IsLimited};
+ghost use Rattle.arc_block.specs.Writers.{sole_part};
 ghost use Rattle.arc_owners.specs.count.Calls.{IsPassOfNone};
 ghost use Rattle.arc_block.specs.Steps.{IsPassAt};
 ghost use Rattle.arc_block.specs.Writers.{capacity_of, room as room_of, MakesWriter};
-ghost use Rattle.arc_block.specs.Writers.{IsNewWriter, MakesRoom, with_room, CanGrow};
-ghost use Rattle.arc_block.specs.Room.{IfFresh, IfBehind, IfGrowth, IfFront};
+ghost use Rattle.arc_block.specs.Writers.{IsNewWriter, MakesRoom, with_room, CanGrow, size_at, offset_at};
+ghost use Rattle.arc_block.specs.Room.{IfSpare, IfFresh, IfBehind, IfGrowth, IfFront};
 ghost use Rattle.arc_block.specs.declared.parts.room.Room.TheVariants.{Front, Growth};
 
 use super::room::{Room, room_in};
@@ -118,10 +122,16 @@ impl<S: Slice, A: Allocator + Copy, H: Mark> SoleParts<S, A, H> {
         requires item { FitsInMemory S.Item.row }
         ensures room { result ≡ room_of S.DROPS (if type_size S.Item.row == 1 then 8 else 4)
             (type_size S.Item.row) self.now additional }
-        ensures fresh { IfFresh result (λ places. (self.now.place ≡ nowhere) × (1 ≤ places)) }
+        ensures fresh { IfFresh result (λ places. (self.now.place ≡ nowhere)
+            × (length self.now.items ≡ 0) × (1 ≤ places) × (additional ≤ places)) }
         ensures behind { IfBehind result ⊥ }
-        ensures grows { IfGrowth result (λ places. CanGrow self.now places) }
+        ensures grows { IfGrowth result (λ places. CanGrow self.now places
+            × (length self.now.items + additional ≤ places - offset_at self.now.place)) }
         ensures front { IfFront result (S.DROPS ≡ false) }
+        ensures shift { IfFront result
+            (length self.now.items + additional ≤ size_at self.now.place) }
+        ensures spare { IfSpare result
+            (length self.now.items + additional ≤ capacity_of self.now.role) }
     {
         if additional <= self.capacity() - self.len() {
             return Room::Spare;
@@ -195,6 +205,32 @@ impl<S: Slice, A: Allocator + Copy, H: Mark> SoleParts<S, A, H> {
         }
     }
 
+    /// Items from start to end of a block's memory, whose only owner this is. Those behind them are
+    /// dropped, unless they are dropped one by one.
+    fn over(
+        alloc: A,
+        count: SoleCount<S::Item, A, MAX_OWNERS, H>,
+        items: Vec<S::Item, A>,
+        start: usize,
+        end: usize,
+    ) -> Self
+        requires count { IsLimited MAX_OWNERS H.whole (sole_in count) }
+        requires range { (start ≤ end) × (end ≤ vec_len items) }
+        ensures { result ≡ sole_part S.DROPS (sole_in count) items start end }
+    {
+        let mut items = items;
+        if !S::DROPS {
+            items.truncate(end);
+        }
+        SoleParts {
+            count: Some(count),
+            items,
+            start,
+            end,
+            alloc,
+        }
+    }
+
     /// Makes room for so many items more.
     ///
     /// # Errors
@@ -216,9 +252,11 @@ impl<S: Slice, A: Allocator + Copy, H: Mark> SoleParts<S, A, H> {
     ) -> Result<(), TryReserveError>
         requires item { FitsInMemory S.Item.row }
         requires pass { IsPassAt self.old.place pass.old }
-        ensures { MakesRoom S.DROPS H.whole
+        ensures room { MakesRoom S.DROPS H.whole
             (room_of S.DROPS (if type_size S.Item.row == 1 then 8 else 4) (type_size S.Item.row)
             self.old additional) self.old self.new pass.old pass.new result }
+        ensures enough { OnOk result
+            (length self.new.items + additional ≤ capacity_of self.new.role) }
     {
         match self.room(additional) {
             Room::Spare => Ok(()),
@@ -256,6 +294,8 @@ impl<S: Slice, A: Allocator + Copy, H: Mark> SoleParts<S, A, H> {
     fn try_grow(&mut self, places: usize) -> Result<(), AllocError>
         requires { CanGrow self.old places }
         ensures grown { OnOk result (self.new ≡ with_room (Growth places) self.old) }
+        ensures room { OnOk result ((length self.new.items ≡ length self.old.items)
+            × (capacity_of self.new.role ≡ places - offset_at self.old.place)) }
         ensures refused { OnErr result (self.new ≡ self.old) }
     {
         match self.items.reserve_exact(places - self.items.len()) {
@@ -267,7 +307,9 @@ impl<S: Slice, A: Allocator + Copy, H: Mark> SoleParts<S, A, H> {
     /// Moves the items to the front of their memory; those before them are dropped.
     fn to_front(&mut self)
         requires { S.DROPS ≡ false }
-        ensures { self.new ≡ with_room Front self.old }
+        ensures shifted { self.new ≡ with_room Front self.old }
+        ensures room { (length self.new.items ≡ length self.old.items)
+            × (size_at self.old.place ≤ capacity_of self.new.role) }
     {
         self.items.rotate_left(self.start);
         self.items.truncate(self.end - self.start);
@@ -275,3 +317,6 @@ impl<S: Slice, A: Allocator + Copy, H: Mark> SoleParts<S, A, H> {
         self.start = 0;
     }
 }
+
+mod ends;
+mod write;

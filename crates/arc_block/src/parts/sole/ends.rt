@@ -1,0 +1,140 @@
+//! How a sole writer's parts end, and what they become.
+ghost use Rattle.std.specs.Prelude.{◌≡◌, ◌≤◌, true, false, length, IfOk, IfErr};
+ghost use Rattle.arc_owners.specs.count.Calls.{Asks, Leaves, Learns, IsNewPass, IsPassOfNone};
+ghost use Rattle.arc_block.specs.Place.{at_owner};
+ghost use Rattle.arc_block.specs.Table.{reader};
+ghost use Rattle.arc_block.specs.Steps.{IsPassAt};
+ghost use Rattle.arc_block.specs.Writers.{frozen, as_sole};
+
+use super::SoleParts;
+use crate::block::Block;
+use crate::parts::Parts;
+use crate::parts::storage::Storage;
+use arc_buffer::kinds::Slice;
+use arc_owners::mark::{Mark, Stepping};
+use arc_owners::owners::Pass;
+use std::alloc::Allocator;
+
+impl<S: Slice, A: Allocator + Copy, H: Mark> SoleParts<S, A, H> {
+    /// The same items and places, which others may read from now on. It adds nothing and takes no
+    /// memory.
+    pub fn freeze(self) -> Parts<S, A, H>
+        ensures { result ≡ frozen self }
+    {
+        let SoleParts {
+            count,
+            items,
+            start,
+            end,
+            alloc,
+        } = self;
+        match count {
+            Some(count) => Parts {
+                on: Storage::Block(Block::of_sole(count, items)),
+                start,
+                end,
+                alloc,
+            },
+            None => {
+                drop(items);
+                Parts::on_nothing(alloc)
+            }
+        }
+    }
+
+    /// Ends the parts, and gives the block back.
+    ///
+    /// # History
+    ///
+    /// On a block Down, without a step.
+    pub fn release_as(self, pass: &mut Pass<H>)
+        requires pass { IsPassAt self.place pass.old }
+        ensures entry { at_owner self.place (pass.new ≡ pass.old) (λ o.
+            Leaves o pass.old pass.new true) }
+    {
+        let SoleParts {
+            count,
+            items,
+            start: _,
+            end: _,
+            alloc: _,
+        } = self;
+        if let Some(count) = count {
+            drop(count.into_value_as(pass));
+        }
+        drop(items);
+    }
+
+    /// Afterwards the first pass has seen at least what the other had. It adds nothing.
+    pub fn learn(&self, pass: &mut Pass<H>, other: &Pass<H>)
+        requires pass { IsPassAt self.now.place pass.old }
+        requires other { IsPassAt self.now.place other.now }
+        ensures { at_owner self.now.place (pass.new ≡ pass.old) (λ o.
+            Learns o.block pass.old other.now pass.new) }
+    {
+        if let Some(count) = &self.count {
+            count.learn(pass, other);
+        }
+    }
+}
+
+impl<S: Slice, A: Allocator + Copy, H: Stepping> SoleParts<S, A, H> {
+    /// A new pass of the block, which has seen at least how this owner became one, and made
+    /// nothing; on no block a pass of none. It adds nothing.
+    pub fn pass(&self) -> Pass<H>
+        ensures { at_owner self.now.place (IsPassOfNone result) (λ o. IsNewPass o result) }
+    {
+        match &self.count {
+            Some(count) => count.pass(),
+            None => Pass::none(),
+        }
+    }
+}
+
+impl<S: Slice, A: Allocator + Copy, H: Mark> Parts<S, A, H> {
+    /// The same items at the same place, as their only writer, where they stand on a block that no
+    /// other owner has, or where there are none and they stand on no block.
+    ///
+    /// # Errors
+    ///
+    /// The parts, where another owner lives, or where there are items of a static slice.
+    ///
+    /// # History
+    ///
+    /// On a block Alone with the answer.
+    pub fn try_into_sole_as(self, pass: &mut Pass<H>) -> Result<SoleParts<S, A, H>, Self>
+        requires role { self.role ≡ reader }
+        requires pass { IsPassAt self.place pass.old }
+        ensures sole { IfOk result (λ sole. (sole ≡ as_sole S.DROPS self)
+            × at_owner self.place ((length self.items ≡ 0) × (pass.new ≡ pass.old))
+            (λ o. Asks o pass.old pass.new true)) }
+        ensures refused { IfErr result (λ back. (back ≡ self)
+            × at_owner self.place ((1 ≤ length self.items) × (pass.new ≡ pass.old))
+            (λ o. Asks o pass.old pass.new false)) }
+    {
+        let Parts {
+            on,
+            start,
+            end,
+            alloc,
+        } = self;
+        match on {
+            Storage::Block(block) => match block.try_into_sole_as(alloc, pass) {
+                Ok((count, items)) => Ok(SoleParts::over(alloc, count, items, start, end)),
+                Err(block) => Err(Parts {
+                    on: Storage::Block(block),
+                    start,
+                    end,
+                    alloc,
+                }),
+            },
+            Storage::Static(items) if start < end => Err(Parts {
+                on: Storage::Static(items),
+                start,
+                end,
+                alloc,
+            }),
+            _ => Ok(SoleParts::on_nothing(alloc)),
+        }
+    }
+}

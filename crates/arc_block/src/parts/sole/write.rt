@@ -1,0 +1,159 @@
+//! What a sole writer does to its items.
+ghost use Rattle.std.specs.Prelude.{◌≡◌, ◌≤◌, ◌+◌, ◌++◌, ◌∷◌, [], length, ◌==◌, if◌then◌else◌, OnErr};
+ghost use Rattle.std.specs.Prelude.{IfOk, IfErr, OnOk, Ok, Err};
+ghost use Rattle.std.specs.Mem.{FitsInMemory, type_size};
+ghost use Rattle.std.specs.Vec.{vec_len, vec_capacity};
+ghost use Rattle.arc_block.specs.Steps.{IsPassAt};
+ghost use Rattle.arc_block.specs.Writers.{capacity_of, room, MakesRoom, Pushes, Reclaims};
+ghost use Rattle.arc_block.specs.Writers.{with_more, advanced, truncated};
+
+use super::SoleParts;
+use crate::parts::room::Room;
+use arc_buffer::kinds::Slice;
+use arc_owners::error::TryReserveError;
+use arc_owners::mark::Mark;
+use arc_owners::owners::Pass;
+use std::alloc::Allocator;
+
+impl<S: Slice, A: Allocator + Copy, H: Mark> SoleParts<S, A, H> {
+    /// Whether there is room for so many items more without memory; then it is made.
+    pub fn try_reclaim(&mut self, additional: usize) -> bool
+        requires item { FitsInMemory S.Item.row }
+        ensures { Reclaims (room S.DROPS (if type_size S.Item.row == 1 then 8 else 4)
+            (type_size S.Item.row) self.old additional) self.old self.new result }
+    {
+        match self.room(additional) {
+            Room::Spare => true,
+            Room::Front => {
+                self.to_front();
+                true
+            }
+            Room::Behind => unreachable!(),
+            _ => false,
+        }
+    }
+
+    /// An item more, behind the others, once there is room for it.
+    ///
+    /// # Errors
+    ///
+    /// Those of `try_reserve_as`, with the item.
+    ///
+    /// # Allocates
+    ///
+    /// As `try_reserve_as`.
+    pub fn try_push_as(
+        &mut self,
+        item: S::Item,
+        pass: &mut Pass<H>,
+    ) -> Result<(), (TryReserveError, S::Item)>
+        requires item { FitsInMemory S.Item.row }
+        requires pass { IsPassAt self.old.place pass.old }
+        ensures pushed { OnOk result (Pushes S.DROPS H.whole
+            (room S.DROPS (if type_size S.Item.row == 1 then 8 else 4) (type_size S.Item.row)
+            self.old 1) (item ∷ []) self.old self.new pass.old pass.new) }
+        ensures refused { IfErr result (λ r. (r.1 ≡ item) × MakesRoom S.DROPS H.whole
+            (room S.DROPS (if type_size S.Item.row == 1 then 8 else 4) (type_size S.Item.row)
+            self.old 1) self.old self.new pass.old pass.new (Err r.0)) }
+    {
+        match self.try_reserve_as(1, pass) {
+            Ok(()) => {
+                self.push_reserved(item);
+                Ok(())
+            }
+            Err(e) => Err((e, item)),
+        }
+    }
+
+    /// An item more, behind the others, where there is a place for it.
+    #[inline(always)]
+    fn push_reserved(&mut self, item: S::Item)
+        requires { length self.old.items + 1 ≤ capacity_of self.old.role }
+        ensures { self.new ≡ with_more (item ∷ []) self.old }
+    {
+        self.items.push_reserved(item);
+        self.end += 1;
+    }
+
+    /// Takes so many items off the front; their places are none of the window's any more.
+    #[inline(always)]
+    pub fn advance(&mut self, count: usize)
+        requires { count ≤ length self.old.items }
+        ensures { self.new ≡ advanced count self.old }
+    {
+        self.start += count;
+    }
+
+    /// Leaves the first so many items, if there are more.
+    pub fn truncate(&mut self, len: usize)
+        ensures { self.new ≡ truncated S.DROPS len self.old }
+    {
+        if self.end - self.start <= len {
+            return;
+        }
+        self.end = self.start + len;
+        if !S::DROPS {
+            self.items.truncate(self.end);
+        }
+    }
+}
+
+impl<S: Slice, A: Allocator + Copy, H: Mark> SoleParts<S, A, H>
+where
+    S::Item: Copy,
+{
+    /// A copy of the items more, behind the others, once there is room for them.
+    ///
+    /// # Errors
+    ///
+    /// Those of `try_reserve_as`.
+    ///
+    /// # Allocates
+    ///
+    /// As `try_reserve_as`.
+    pub fn try_extend_from_slice_as(
+        &mut self,
+        items: &[S::Item],
+        pass: &mut Pass<H>,
+    ) -> Result<(), TryReserveError>
+        requires item { FitsInMemory S.Item.row }
+        requires pass { IsPassAt self.old.place pass.old }
+        ensures extended { OnOk result (Pushes S.DROPS H.whole
+            (room S.DROPS (if type_size S.Item.row == 1 then 8 else 4) (type_size S.Item.row)
+            self.old (length items.now)) items.now self.old self.new pass.old pass.new) }
+        ensures refused { IfErr result (λ e. MakesRoom S.DROPS H.whole
+            (room S.DROPS (if type_size S.Item.row == 1 then 8 else 4) (type_size S.Item.row)
+            self.old (length items.now)) self.old self.new pass.old pass.new (Err e)) }
+    {
+        match self.try_reserve_as(items.len(), pass) {
+            Ok(()) => {
+                self.extend_reserved(items);
+                Ok(())
+            }
+            Err(e) => Err(e),
+        }
+    }
+
+    /// A copy of the items more, behind the others, where there are places for them.
+    fn extend_reserved(&mut self, items: &[S::Item])
+        requires { length self.old.items + length items.now ≤ capacity_of self.old.role }
+        ensures { self.new ≡ with_more items.now self.old }
+    {
+        if items.is_empty() {
+            return;
+        }
+        push_all(&mut self.items, items);
+        self.end += items.len();
+    }
+}
+
+/// A copy of the items behind those of a vector, which has places for them.
+fn push_all<T: Copy + Drop, A: Allocator>(vec: &mut Vec<T, A>, items: &[T])
+    requires { vec_len vec.old + length items.now ≤ vec_capacity vec.old }
+    ensures items { vec.new.items ≡ vec.old.items ++ items.now }
+    ensures capacity { vec_capacity vec.new ≡ vec_capacity vec.old }
+{
+    for item in items {
+        vec.push_reserved(*item);
+    }
+}
