@@ -8,7 +8,7 @@ use Rattle.std.proofs.lemmas.List.{drop-take, take-take, take_all, append-nil, d
 use Rattle.arc_owners.specs.count.Calls.{Owner}
 use Rattle.arc_buffer.specs.Slice.{sub}
 use Rattle.arc_buffer.proofs.Sub.{length-sub}
-use Rattle.arc_block.specs.Block.{BlockInfo, native, full_places, partly_full}
+use Rattle.arc_block.specs.Block.{native, full_places, partly_full}
 use Rattle.arc_block.specs.Place.{Place, nowhere, static_data, on_block}
 use Rattle.arc_block.specs.Table.{sole_writer}
 use Rattle.arc_block.specs.Window.{PartsView}

@@ -1,17 +1,11 @@
 -- Room for a writer's items: where it comes from, by the cases in their order, and what the window
 -- is with it.
-use Rattle.std.specs.Prelude.{◌≡◌, ℕ, ◌+◌, ◌-◌, ◌*◌, ◌^◌, ◌≤◌, ◌==◌, nat_lt, Bool, true, false}
-use Rattle.std.specs.Prelude.{◌&&◌, ◌||◌, not, if◌then◌else◌, max, List, [], ◌++◌, length}
-use Rattle.std.specs.Prelude.{Option, Some, None, Result, Ok, Err}
+use Rattle.std.specs.Prelude.{ℕ, ◌+◌, ◌-◌, ◌*◌, ◌^◌, ◌==◌, nat_lt, Bool, true}
+use Rattle.std.specs.Prelude.{◌&&◌, ◌||◌, not, if◌then◌else◌, max}
 use Rattle.std.specs.Option.{option_map_or}
-use Rattle.arc_owners.specs.count.Calls.{Owner}
-use Rattle.arc_owners.specs.declared.error.TryReserveError.TheVariants.{NotUnique, Unsupported}
+use Rattle.arc_owners.specs.declared.error.TryReserveError.TheVariants.{Unsupported}
 use Rattle.arc_owners.specs.declared.error.TryReserveError.TheVariants.{CapacityOverflow}
-use Rattle.arc_buffer.specs.Slice.{sub}
-use Rattle.arc_block.specs.Block.{BlockInfo, BlockView, full_places}
-use Rattle.arc_block.specs.Place.{Place, nowhere, static_data, on_block}
-use Rattle.arc_block.specs.Table.{RowOf, Role, reader, sole_writer, one_writer_of_several}
-use Rattle.arc_block.specs.Table.{inline, forgotten}
+use Rattle.arc_block.specs.Block.{BlockInfo}
 use Rattle.arc_block.specs.declared.parts.room.TheConstants.{MOST}
 use Rattle.arc_block.specs.declared.parts.room.Room.{Room}
 use Rattle.arc_block.specs.declared.parts.room.Room.TheVariants.{Spare, Fresh, Behind, Front}

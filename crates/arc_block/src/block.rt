@@ -98,7 +98,7 @@ fn exact<T: Drop, A: Allocator + Copy>(alloc: A, items: Vec<T, A>) -> Result<Vec
 
 /// A vector with a copy of the items, and a place for each. Takes memory; refused, the answer is
 /// `AllocError`.
-fn copied<T: Copy + Drop, A: Allocator + Copy>(
+pub(crate) fn copied<T: Copy + Drop, A: Allocator + Copy>(
     alloc: A,
     items: &[T],
 ) -> Result<Vec<T, A>, AllocError>
@@ -112,7 +112,7 @@ fn copied<T: Copy + Drop, A: Allocator + Copy>(
 }
 
 /// The items of a vector as an array.
-fn array_of<T: Drop, A: Allocator, const N: usize>(items: Vec<T, A>) -> [T; N]
+pub(crate) fn array_of<T: Drop, A: Allocator, const N: usize>(items: Vec<T, A>) -> [T; N]
     requires { vec_len items ≡ N }
     ensures { result ≡ items.items }
 {
@@ -124,7 +124,7 @@ fn array_of<T: Drop, A: Allocator, const N: usize>(items: Vec<T, A>) -> [T; N]
 
 /// A vector with the items of an array, and a place for each. Takes memory; refused, the array
 /// comes back.
-fn moved<T: Drop, A: Allocator + Copy, const N: usize>(
+pub(crate) fn moved<T: Drop, A: Allocator + Copy, const N: usize>(
     alloc: A,
     array: [T; N],
 ) -> Result<Vec<T, A>, [T; N]>

@@ -16,7 +16,7 @@ ghost use Rattle.arc_block.specs.Room.{IfSpare, IfFresh, IfBehind, IfGrowth, IfF
 ghost use Rattle.arc_block.specs.declared.parts.room.Room.TheVariants.{Front, Growth};
 
 use super::room::{Room, room_in};
-use crate::block::{MAX_OWNERS, SoleCount, end, new_count};
+use crate::block::{MAX_OWNERS, SoleCount, array_of, copied, end, moved, new_count};
 use arc_buffer::kinds::Slice;
 use arc_owners::error::{AllocError, TryReserveError};
 use arc_owners::mark::{Mark, Open};
@@ -175,6 +175,71 @@ impl<S: Slice, A: Allocator + Copy, H: Mark> SoleParts<S, A, H> {
         }
     }
 
+    /// A copy of the items, on a new native block with exactly a place for each; no items stand on
+    /// nothing. The pass, which is of no block, becomes the block's.
+    ///
+    /// # Errors
+    ///
+    /// `AllocError` where memory for the block is refused; the pass is then as before.
+    ///
+    /// # Allocates
+    ///
+    /// Twice, except for no items.
+    pub fn try_from_slice_as(
+        alloc: A,
+        items: &[S::Item],
+        pass: &mut Pass<H>,
+    ) -> Result<Self, AllocError>
+    where
+        S::Item: Copy,
+        requires pass { IsPassOfNone pass.old }
+        ensures made { IfOk result (λ parts.
+            MakesWriter S.DROPS H.whole items.now (length items.now) parts pass.old pass.new) }
+        ensures refused { OnErr result ((1 ≤ length items.now) × (pass.new ≡ pass.old)) }
+    {
+        if items.is_empty() {
+            return Ok(Self::on_nothing(alloc));
+        }
+        match copied(alloc, items) {
+            Ok(items) => match Self::try_over(alloc, items, pass) {
+                Ok(parts) => Ok(parts),
+                Err(_) => Err(AllocError),
+            },
+            Err(AllocError) => Err(AllocError),
+        }
+    }
+
+    /// An array's items, which are moved as `try_from_slice_as` copies.
+    ///
+    /// # Errors
+    ///
+    /// The array comes back where memory for the block is refused; the pass is then as before.
+    ///
+    /// # Allocates
+    ///
+    /// Twice, except for no items.
+    pub fn try_from_array_as<const N: usize>(
+        alloc: A,
+        array: [S::Item; N],
+        pass: &mut Pass<H>,
+    ) -> Result<Self, [S::Item; N]>
+        requires pass { IsPassOfNone pass.old }
+        ensures made { IfOk result (λ parts.
+            MakesWriter S.DROPS H.whole array (length array) parts pass.old pass.new) }
+        ensures refused { IfErr result (λ back. (back ≡ array) × (1 ≤ length array)
+            × (pass.new ≡ pass.old)) }
+    {
+        if array.as_slice().is_empty() {
+            drop(array);
+            return Ok(Self::on_nothing(alloc));
+        }
+        let items = moved(alloc, array)?;
+        match Self::try_over(alloc, items, pass) {
+            Ok(parts) => Ok(parts),
+            Err(items) => Err(array_of(items)),
+        }
+    }
+
     /// All items of a vector, which becomes a native block's memory; the pass becomes the block's.
     ///
     /// # Errors
@@ -319,4 +384,6 @@ impl<S: Slice, A: Allocator + Copy, H: Mark> SoleParts<S, A, H> {
 }
 
 mod ends;
+#[cfg(test)]
+mod tests;
 mod write;
