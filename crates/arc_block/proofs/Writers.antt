@@ -12,7 +12,7 @@ use Rattle.arc_block.specs.Block.{native, full_places, partly_full}
 use Rattle.arc_block.specs.Place.{Place, nowhere, static_data, on_block}
 use Rattle.arc_block.specs.Table.{sole_writer}
 use Rattle.arc_block.specs.Window.{PartsView}
-use Rattle.arc_block.specs.Writers.{writer_capacity, capacity_of, sole_seen, sole_part, IsSoleWithin, with_more, truncated, filled}
+use Rattle.arc_block.specs.Writers.{writer_capacity, capacity_of, sole_seen, sole_part, IsSoleWithin, with_more, after_truncate, with_full}
 
 -- a slice from start to end is what is there between these
 pub slice_is_sub : {T : Type 0} (xs : List T) (start end : ℕ) → start ≤ end → take (end - start) (drop start xs) ≡ sub xs start end
@@ -52,15 +52,15 @@ none-full : (full : Option ℕ) → full ≡ option_map (λ n. n + 0) full
 none-full None = refl
 none-full (Some full) = let same : full ≡ full + 0 = omega arith in ap Some same
 
-none-filled : (place : Place (Option Owner) (Unit {0})) → place ≡ filled 0 place
-none-filled nowhere = refl
-none-filled static_data = refl
-none-filled (on_block owner offset info) = ap (λ full. on_block owner offset (record info { full = full })) (none-full info.full)
+none-full_there : (place : Place (Option Owner) (Unit {0})) → place ≡ with_full 0 place
+none-full_there nowhere = refl
+none-full_there static_data = refl
+none-full_there (on_block owner offset info) = ap (λ full. on_block owner offset (record info { full = full })) (none-full info.full)
 
 pub nothing_more : {T : Type 0} (w : PartsView T) → w ≡ with_more [] w
 nothing_more w =
     ap (λ xs. record w { items = xs }) (sym (append-nil w.items))
-    ∙ ap (λ place. record w { items = w.items ++ []; place = place }) (none-filled w.place)
+    ∙ ap (λ place. record w { items = w.items ++ []; place = place }) (none-full_there w.place)
 
 pub some_from_test : (n : ℕ) → (n == 0) ≡ false → 1 ≤ n
 some_from_test zero test = absurd (false≢true (sym test))
@@ -73,9 +73,9 @@ part-take xs start end n ordered short =
 
 module _ {T A : Type 0} where
   -- items behind the others, in the same places
-  pushed-behind : (drops : Bool) (o : Owner) (v w : Vec T A) (start end : ℕ) (ys : List T) → start ≤ end → end ≡ length v.items → w.items ≡ v.items ++ ys → vec_capacity w ≡ vec_capacity v
+  push-behind : (drops : Bool) (o : Owner) (v w : Vec T A) (start end : ℕ) (ys : List T) → start ≤ end → end ≡ length v.items → w.items ≡ v.items ++ ys → vec_capacity w ≡ vec_capacity v
       → sole_part drops o w start (end + length ys) ≡ with_more ys (sole_part drops o v start end)
-  pushed-behind drops o v w start end ys ordered last items places =
+  push-behind drops o v w start end ys ordered last items places =
       let make : List T → ℕ → Option ℕ → ℕ → PartsView T = λ xs size full room. record { items = xs; place = on_block (Some o) start (record { sort = native; size = size; full = full; metadata = None }); role = sole_writer room } in
       let behind : sub w.items start (end + length ys) ≡ sub v.items start end ++ ys =
       ap (λ zs. sub zs start (end + length ys)) items ∙ ap (λ n. sub (v.items ++ ys) start (n + length ys)) last
@@ -91,21 +91,21 @@ module _ {T A : Type 0} where
       ∙ ap (make (sub v.items start end ++ ys) (vec_capacity v) (option_map (λ n. n + length ys) (full_places drops (length v.items)))) room
 
   -- and where the writer has room for them
-  pub pushed : (drops one_pass : Bool) (owner : Option Owner) (v w : Vec T A) (start end : ℕ) (ys : List T) (seen : PartsView T) → sole_seen drops owner v start end ≡ seen → IsSoleWithin drops one_pass owner v start end
+  pub push_seen : (drops one_pass : Bool) (owner : Option Owner) (v w : Vec T A) (start end : ℕ) (ys : List T) (seen : PartsView T) → sole_seen drops owner v start end ≡ seen → IsSoleWithin drops one_pass owner v start end
       → w.items ≡ v.items ++ ys → vec_capacity w ≡ vec_capacity v → length seen.items + length ys ≤ capacity_of seen.role → 1 ≤ length ys
       → sole_seen drops owner w start (end + length ys) ≡ with_more ys seen
-  pushed drops one_pass None v w start end ys seen view within items places room some =
+  push_seen drops one_pass None v w start end ys seen view within items places room some =
       absurd (omega (arith, subst (λ s. length s.items + length ys ≤ capacity_of s.role) (sym view) room, some))
-  pushed drops one_pass (Some o) v w start end ys seen view within items places room some =
+  push_seen drops one_pass (Some o) v w start end ys seen view within items places room some =
       let there = subst (λ s. length s.items + length ys ≤ capacity_of s.role) (sym view) room in
       let long : length (sub v.items start end) ≡ end - start = length-sub v.items start end within.1 within.2 in
       let fits = subst (λ n. n + length ys ≤ writer_capacity {M = Unit {0}} drops (partly_full drops (vec_capacity v) (length v.items)) start (end - start)) long there in
       let last = ends-full drops (vec_capacity v) start end (length v.items) (length ys) within.1 within.3 fits some in
-      subst (λ s. sole_part drops o w start (end + length ys) ≡ with_more ys s) view (pushed-behind drops o v w start end ys within.1 last items places)
+      subst (λ s. sole_part drops o w start (end + length ys) ≡ with_more ys s) view (push-behind drops o v w start end ys within.1 last items places)
 
   -- the items cut short, where those behind them are gone from the vector
   cut-copied : (o : Owner) (v w : Vec T A) (start end n : ℕ) → start ≤ end → end ≤ length v.items → n < end - start → w.items ≡ take (start + n) v.items → vec_capacity w ≡ vec_capacity v
-      → sole_part false o w start (start + n) ≡ truncated false n (sole_part false o v start end)
+      → sole_part false o w start (start + n) ≡ after_truncate false n (sole_part false o v start end)
   cut-copied o v w start end n ordered inside short items places =
       let make : List T → ℕ → PartsView T = λ xs size. record { items = xs; place = on_block (Some o) start (record { sort = native; size = size; full = None; metadata = None }); role = sole_writer (size - start) } in
       let part = sub v.items start end in
@@ -116,7 +116,7 @@ module _ {T A : Type 0} where
       ∙ ap (λ b. if b then make (take n part) (vec_capacity v) else make part (vec_capacity v)) (sym (lt-ltb n (length part) some))
 
   -- and where they stay there
-  cut-owned : (o : Owner) (v : Vec T A) (start end n : ℕ) → start ≤ end → end ≤ length v.items → n < end - start → sole_part true o v start (start + n) ≡ truncated true n (sole_part true o v start end)
+  cut-owned : (o : Owner) (v : Vec T A) (start end n : ℕ) → start ≤ end → end ≤ length v.items → n < end - start → sole_part true o v start (start + n) ≡ after_truncate true n (sole_part true o v start end)
   cut-owned o v start end n ordered inside short =
       let info = partly_full true (vec_capacity v) (length v.items) in
       let make : List T → ℕ → PartsView T = λ xs room. record { items = xs; place = on_block (Some o) start info; role = sole_writer room } in
@@ -129,11 +129,11 @@ module _ {T A : Type 0} where
       ∙ ap (make (take n part)) room
       ∙ ap (λ b. if b then make (take n part) n else make part (writer_capacity {M = Unit {0}} true info start (end - start))) (sym (lt-ltb n (length part) some))
 
-  pub cut : (drops one_pass : Bool) (owner : Option Owner) (v w : Vec T A) (start end n : ℕ) (seen : PartsView T) → sole_seen drops owner v start end ≡ seen → IsSoleWithin drops one_pass owner v start end → n < end - start
-      → (drops ≡ true → w ≡ v) → (drops ≡ false → (w.items ≡ take (start + n) v.items) × (vec_capacity w ≡ vec_capacity v)) → sole_seen drops owner w start (start + n) ≡ truncated drops n seen
-  cut drops one_pass None v w start end n seen view within short owned copied = absurd (omega (arith, short, within.0, within.1))
-  cut true one_pass (Some o) v w start end n seen view within short owned copied =
+  pub cut_seen : (drops one_pass : Bool) (owner : Option Owner) (v w : Vec T A) (start end n : ℕ) (seen : PartsView T) → sole_seen drops owner v start end ≡ seen → IsSoleWithin drops one_pass owner v start end → n < end - start
+      → (drops ≡ true → w ≡ v) → (drops ≡ false → (w.items ≡ take (start + n) v.items) × (vec_capacity w ≡ vec_capacity v)) → sole_seen drops owner w start (start + n) ≡ after_truncate drops n seen
+  cut_seen drops one_pass None v w start end n seen view within short owned copied = absurd (omega (arith, short, within.0, within.1))
+  cut_seen true one_pass (Some o) v w start end n seen view within short owned copied =
       ap (λ u. sole_part true o u start (start + n)) (owned refl)
-      ∙ subst (λ s. sole_part true o v start (start + n) ≡ truncated true n s) view (cut-owned o v start end n within.1 within.2 short)
-  cut false one_pass (Some o) v w start end n seen view within short owned copied =
-      subst (λ s. sole_part false o w start (start + n) ≡ truncated false n s) view (cut-copied o v w start end n within.1 within.2 short (copied refl).0 (copied refl).1)
+      ∙ subst (λ s. sole_part true o v start (start + n) ≡ after_truncate true n s) view (cut-owned o v start end n within.1 within.2 short)
+  cut_seen false one_pass (Some o) v w start end n seen view within short owned copied =
+      subst (λ s. sole_part false o w start (start + n) ≡ after_truncate false n s) view (cut-copied o v w start end n within.1 within.2 short (copied refl).0 (copied refl).1)

@@ -76,17 +76,17 @@ module _ {N M : Type 0} where
       room_in drops item_size info offset len additional
 
   -- the same place, in a block with so many places
-  abbrev pub resized : ℕ → Place N M → Place N M
-  resized places nowhere = nowhere
-  resized places static_data = static_data
-  resized places (on_block block offset info) =
+  abbrev pub with_size : ℕ → Place N M → Place N M
+  with_size places nowhere = nowhere
+  with_size places static_data = static_data
+  with_size places (on_block block offset info) =
       on_block block offset (record info { size = places })
 
   -- the same place, in a block of which so many places more are full
-  abbrev pub filled : ℕ → Place N M → Place N M
-  filled more nowhere = nowhere
-  filled more static_data = static_data
-  filled more (on_block block offset info) =
+  abbrev pub with_full : ℕ → Place N M → Place N M
+  with_full more nowhere = nowhere
+  with_full more static_data = static_data
+  with_full more (on_block block offset info) =
       on_block block offset (record info { full = option_map (λ full. full + more) info.full })
 
   -- how many places the block has, how far into it a place is, and the place at its front
@@ -122,7 +122,7 @@ module _ {N T M : Type 0} where
     role = with_capacity row.role (size_at row.place);
   }
   with_room (Growth places) row = record row {
-    place = resized places row.place;
+    place = with_size places row.place;
     role = with_capacity row.role (places - offset_at row.place);
   }
   with_room room row = row
@@ -143,8 +143,8 @@ sole_at drops items (on_block owner offset info) = record {
 }
 
 -- the window is that many items further in, and so has that many places less
-abbrev pub advanced : {T : Type 0} → ℕ → PartsView T → PartsView T
-advanced n w = record {
+abbrev pub after_advance : {T : Type 0} → ℕ → PartsView T → PartsView T
+after_advance n w = record {
   items = drop n w.items;
   place = moved n w.place;
   role = with_capacity w.role (capacity_of w.role - n);
@@ -152,16 +152,16 @@ advanced n w = record {
 
 -- The first so many items, if there are more. What is dropped one by one stays in the block behind
 -- them, so they have no places beside their own.
-abbrev pub truncated : {T : Type 0} → Bool → ℕ → PartsView T → PartsView T
-truncated drops n w =
+abbrev pub after_truncate : {T : Type 0} → Bool → ℕ → PartsView T → PartsView T
+after_truncate drops n w =
     if nat_lt n (length w.items) then record w {
       items = take n w.items;
       role = if drops then with_capacity w.role n else w.role;
     } else w
 
 -- the same items and places, as a reader
-abbrev pub frozen : {T : Type 0} → PartsView T → PartsView T
-frozen w = record w { role = reader }
+abbrev pub as_reader : {T : Type 0} → PartsView T → PartsView T
+as_reader w = record w { role = reader }
 
 -- The same items at the same place, as their only writer. On no block there are none.
 abbrev pub as_sole : {T : Type 0} → Bool → PartsView T → PartsView T
@@ -190,7 +190,7 @@ new_writer drops owner items places = record {
 abbrev pub with_more : {T : Type 0} → List T → PartsView T → PartsView T
 with_more xs w = record w {
   items = w.items ++ xs;
-  place = filled (length xs) w.place;
+  place = with_full (length xs) w.place;
 }
 
 module _ {T H : Type 0} where

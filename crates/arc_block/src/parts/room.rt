@@ -29,7 +29,7 @@ pub enum Room {
 pub const MOST: usize = 9223372036854775807;
 
 /// Room by growth of a block of `size` places, so that it has `needed` places.
-fn grown<T>(size: usize, needed: usize) -> Room
+fn growth_to<T>(size: usize, needed: usize) -> Room
     requires { FitsInMemory T.row }
     ensures { result ≡ growth (type_size T.row) size needed }
 {
@@ -70,7 +70,7 @@ pub(super) fn room_in<S: Slice>(
         return Room::Front;
     }
     match (offset + len).checked_add(additional) {
-        Some(needed) => grown::<S::Item>(size, needed),
+        Some(needed) => growth_to::<S::Item>(size, needed),
         None => Room::Refused(TryReserveError::CapacityOverflow),
     }
 }

@@ -4,7 +4,7 @@ ghost use Rattle.arc_owners.specs.count.Calls.{Asks, Leaves, Learns, IsNewPass, 
 ghost use Rattle.arc_block.specs.Place.{at_owner};
 ghost use Rattle.arc_block.specs.Table.{reader};
 ghost use Rattle.arc_block.specs.Steps.{IsPassAt};
-ghost use Rattle.arc_block.specs.Writers.{frozen, as_sole};
+ghost use Rattle.arc_block.specs.Writers.{as_reader, as_sole};
 
 use super::SoleParts;
 use crate::block::Block;
@@ -19,7 +19,7 @@ impl<S: Slice, A: Allocator + Copy, H: Mark> SoleParts<S, A, H> {
     /// The same items and places, which others may read from now on. It adds nothing and takes no
     /// memory.
     pub fn freeze(self) -> Parts<S, A, H>
-        ensures { result ≡ frozen self }
+        ensures { result ≡ as_reader self }
     {
         let SoleParts {
             count,

@@ -123,7 +123,7 @@ fn too_much_room_is_refused(rt: HostRuntime) -> Result<(), Fail> {
 
 /// Read by others it can't be written, and once they are gone it can, in its places.
 #[test]
-fn frozen_and_written_again(rt: HostRuntime) -> Result<(), Fail> {
+fn written_again_after_freezing(rt: HostRuntime) -> Result<(), Fail> {
     let reader = bytes(rt.alloc(), &[1, 2])?.freeze();
     let other = shared(&reader)?;
     let Err(reader) = alone(reader) else {

@@ -5,7 +5,7 @@ ghost use Rattle.std.specs.Mem.{FitsInMemory, type_size};
 ghost use Rattle.std.specs.Vec.{vec_len, vec_capacity};
 ghost use Rattle.arc_block.specs.Steps.{IsPassAt};
 ghost use Rattle.arc_block.specs.Writers.{capacity_of, room, MakesRoom, Pushes, Reclaims};
-ghost use Rattle.arc_block.specs.Writers.{with_more, advanced, truncated};
+ghost use Rattle.arc_block.specs.Writers.{with_more, after_advance, after_truncate};
 
 use super::SoleParts;
 use crate::parts::room::Room;
@@ -79,14 +79,14 @@ impl<S: Slice, A: Allocator + Copy, H: Mark> SoleParts<S, A, H> {
     #[inline(always)]
     pub fn advance(&mut self, count: usize)
         requires { count ≤ length self.old.items }
-        ensures { self.new ≡ advanced count self.old }
+        ensures { self.new ≡ after_advance count self.old }
     {
         self.start += count;
     }
 
     /// Leaves the first so many items, if there are more.
     pub fn truncate(&mut self, len: usize)
-        ensures { self.new ≡ truncated S.DROPS len self.old }
+        ensures { self.new ≡ after_truncate S.DROPS len self.old }
     {
         if self.end - self.start <= len {
             return;

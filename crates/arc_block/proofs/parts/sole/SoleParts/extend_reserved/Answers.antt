@@ -5,7 +5,7 @@ use Rattle.std.proofs.lemmas.List.{nil_from_length}
 use Rattle.std.specs.Option.{option_map}
 use Rattle.arc_owners.specs.memory.SoleBoxes.{sole_in}
 use Rattle.arc_block.specs.Writers.{with_more}
-use Rattle.arc_block.proofs.Writers.{pushed, nothing_more, some_from_test}
+use Rattle.arc_block.proofs.Writers.{push_seen, nothing_more, some_from_test}
 use Rattle.arc_block.proofs.parts.sole.SoleParts.extend_reserved.Goals as goal
 
 pub returns-then-is_empty : goal.returns-then-is_empty
@@ -15,7 +15,7 @@ returns-then-is_empty g c =
 
 pub returns : goal.returns
 returns g c =
-    pushed g.S.Slice.DROPS g.H.Mark.whole (option_map sole_in c.self.inside.count) c.self.inside.items c.push_all.new.vec
+    push_seen g.S.Slice.DROPS g.H.Mark.whole (option_map sole_in c.self.inside.count) c.self.inside.items c.push_all.new.vec
     c.self.inside.start c.self.inside.end c.args.items.now c.args.self.now c.self.view_is c.self.invariant
     c.push_all.ensures.items c.push_all.ensures.capacity c.requires
     (some_from_test (length c.args.items.now) (sym c.is_empty.ensures ∙ c.if-is_empty.false))
