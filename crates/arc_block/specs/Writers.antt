@@ -27,9 +27,9 @@ abbrev pub writer_capacity : {M : Type 0} → (drops : Bool) → BlockInfo M →
 writer_capacity drops info offset len =
     if drops && not (ends_full info (offset + len)) then len else info.size - offset
 
-module _ {T A : Type 0} where
+module _ {T M A : Type 0} where
   -- the part from start to end of a vector that is a block's memory, as its only owner's
-  abbrev pub sole_part : Bool → Owner → Vec T A → (start end : ℕ) → PartsView T
+  abbrev pub sole_part : Bool → Owner → Vec T A → (start end : ℕ) → PartsView T M
   sole_part drops owner v start end =
       let info = partly_full drops (vec_capacity v) (length v.items) in
       record {
@@ -40,11 +40,12 @@ module _ {T A : Type 0} where
 
   -- what is seen of a sole writer from start to end of a vector, which is the memory of a block
   -- that has this owner; or who stands on nothing
-  abbrev pub sole_seen : Bool → Option Owner → Vec T A → (start end : ℕ) → PartsView T
+  abbrev pub sole_seen : Bool → Option Owner → Vec T A → (start end : ℕ) → PartsView T M
   sole_seen drops None v start end =
       record { items = []; place = nowhere; role = sole_writer 0 }
   sole_seen drops (Some owner) v start end = sole_part drops owner v start end
 
+module _ {T A : Type 0} where
   -- Start to end lies within the full places of a block of this project's. Items that aren't
   -- dropped one by one end where these do.
   abbrev pub IsSoleWithin : Bool → Bool → Option Owner → Vec T A → (start end : ℕ) → Type 0
@@ -128,12 +129,12 @@ module _ {N T M : Type 0} where
   with_room room row = row
 
 -- a writer on a block, whose places go up to the end of the block, which isn't to have fewer
-pub record CanGrow {T : Type 0} (w : PartsView T) (places : ℕ) : Type 0 where
+pub record CanGrow {T M : Type 0} (w : PartsView T M) (places : ℕ) : Type 0 where
   pub stands : IsOnBlock w.place
   pub larger : size_at w.place ≤ places
   pub behind : capacity_of w.role ≡ size_at w.place - offset_at w.place
 
-abbrev pub sole_at : {T : Type 0} → Bool → List T → Place (Option Owner) (Unit {0}) → PartsView T
+abbrev pub sole_at : {T M : Type 0} → Bool → List T → Place (Option Owner) M → PartsView T M
 sole_at drops items nowhere = record { items = []; place = nowhere; role = sole_writer 0 }
 sole_at drops items static_data = record { items = []; place = nowhere; role = sole_writer 0 }
 sole_at drops items (on_block owner offset info) = record {
@@ -143,7 +144,7 @@ sole_at drops items (on_block owner offset info) = record {
 }
 
 -- the window is that many items further in, and so has that many places less
-abbrev pub after_advance : {T : Type 0} → ℕ → PartsView T → PartsView T
+abbrev pub after_advance : {T M : Type 0} → ℕ → PartsView T M → PartsView T M
 after_advance n w = record {
   items = drop n w.items;
   place = moved n w.place;
@@ -152,7 +153,7 @@ after_advance n w = record {
 
 -- The first so many items, if there are more. What is dropped one by one stays in the block behind
 -- them, so they have no places beside their own.
-abbrev pub after_truncate : {T : Type 0} → Bool → ℕ → PartsView T → PartsView T
+abbrev pub after_truncate : {T M : Type 0} → Bool → ℕ → PartsView T M → PartsView T M
 after_truncate drops n w =
     if nat_lt n (length w.items) then record w {
       items = take n w.items;
@@ -160,26 +161,26 @@ after_truncate drops n w =
     } else w
 
 -- the same items and places, as a reader
-abbrev pub as_reader : {T : Type 0} → PartsView T → PartsView T
+abbrev pub as_reader : {T M : Type 0} → PartsView T M → PartsView T M
 as_reader w = record w { role = reader }
 
 -- The same items at the same place, as their only writer. On no block there are none.
-abbrev pub as_sole : {T : Type 0} → Bool → PartsView T → PartsView T
+abbrev pub as_sole : {T M : Type 0} → Bool → PartsView T M → PartsView T M
 as_sole drops w = sole_at drops w.items w.place
 
 -- Room for more items without memory: whether there is some, and the window with it.
-abbrev pub Reclaims : {T : Type 0} → Room → (old new : PartsView T) → Bool → Type 0
+abbrev pub Reclaims : {T M : Type 0} → Room → (old new : PartsView T M) → Bool → Type 0
 Reclaims (Fresh places) old new found = (found ≡ false) × (new ≡ old)
 Reclaims (Growth places) old new found = (found ≡ false) × (new ≡ old)
 Reclaims (Refused e) old new found = (found ≡ false) × (new ≡ old)
 Reclaims room old new found = (found ≡ true) × (new ≡ with_room room old)
 
 -- a writer without items on nothing
-abbrev pub idle_writer : {T : Type 0} → PartsView T
+abbrev pub idle_writer : {T M : Type 0} → PartsView T M
 idle_writer = record { items = []; place = nowhere; role = sole_writer 0 }
 
 -- a writer of these items, which are all that a native block of so many places holds
-abbrev pub new_writer : {T : Type 0} → Bool → Owner → List T → ℕ → PartsView T
+abbrev pub new_writer : {T M : Type 0} → Bool → Owner → List T → ℕ → PartsView T M
 new_writer drops owner items places = record {
   items = items;
   place = on_block (Some owner) 0 (partly_full drops places (length items));
@@ -187,15 +188,15 @@ new_writer drops owner items places = record {
 }
 
 -- the items stand behind the others, and the block's full places are as many more
-abbrev pub with_more : {T : Type 0} → List T → PartsView T → PartsView T
+abbrev pub with_more : {T M : Type 0} → List T → PartsView T M → PartsView T M
 with_more xs w = record w {
   items = w.items ++ xs;
   place = with_full (length xs) w.place;
 }
 
-module _ {T H : Type 0} where
+module _ {T M H : Type 0} where
   -- a writer of these items was made, as the first owner of a new block of so many places
-  pub record IsNewWriter (drops one_pass : Bool) (items : List T) (places : ℕ) (w : PartsView T)
+  pub record IsNewWriter (drops one_pass : Bool) (items : List T) (places : ℕ) (w : PartsView T M)
       (p : Pass H) : Type 0 where
     pub owner : Owner
     pub made : w ≡ new_writer drops owner items places
@@ -203,14 +204,14 @@ module _ {T H : Type 0} where
     pub pass : IsFreshPass owner p
 
   -- a writer of these items was made, with so many places: for none on nothing
-  pub record MakesWriter (drops one_pass : Bool) (items : List T) (places : ℕ) (w : PartsView T)
+  pub record MakesWriter (drops one_pass : Bool) (items : List T) (places : ℕ) (w : PartsView T M)
       (before after : Pass H) : Type 0 where
     pub idle : places ≡ 0 → (w ≡ idle_writer) × (after ≡ before)
     pub new : 1 ≤ places → IsNewWriter drops one_pass items places w after
 
   -- From this room there was made some, or it was refused, and then nothing changed. Of memory it
   -- is refused only where a block is made or grows.
-  abbrev pub MakesRoom : (drops one_pass : Bool) → Room → (old new : PartsView T)
+  abbrev pub MakesRoom : (drops one_pass : Bool) → Room → (old new : PartsView T M)
       → (before after : Pass H) → Result (Unit {0}) TryReserveError → Type 0
   MakesRoom drops one_pass (Fresh places) old new before after (Ok done) =
       IsNewWriter drops one_pass [] places new after
@@ -224,8 +225,8 @@ module _ {T H : Type 0} where
       (reply ≡ Ok tt) × (new ≡ with_room room old) × (after ≡ before)
 
   -- Items were pushed: behind the others, after room was made for as many.
-  abbrev pub Pushes : (drops one_pass : Bool) → Room → List T → (old new : PartsView T)
+  abbrev pub Pushes : (drops one_pass : Bool) → Room → List T → (old new : PartsView T M)
       → (before after : Pass H) → Type 0
-  Pushes drops one_pass room xs old new before after = (between : PartsView T)
+  Pushes drops one_pass room xs old new before after = (between : PartsView T M)
       × MakesRoom drops one_pass room old between before after (Ok tt)
       × (new ≡ with_more xs between)

@@ -14,6 +14,7 @@ use arc_owners::error::AllocError;
 use arc_owners::mark::Mark;
 use arc_owners::owners::{Pass, SoleBox};
 use std::alloc::Allocator;
+use std::marker::PhantomData;
 use std::mem;
 
 /// The count of a block, and its only owner, who has the block's items elsewhere.
@@ -68,7 +69,7 @@ pub(crate) fn end<T: Drop, A: Allocator + Copy, const MAX: u64, H: Mark>(
     }
 }
 
-impl<S: Slice, A: Allocator + Copy, const MAX: u64, H: Mark> Block<S, A, MAX, H> {
+impl<S: Slice, B, M, A: Allocator + Copy, const MAX: u64, H: Mark> Block<S, B, M, A, MAX, H> {
     /// The same owner of the same block, which may be shared from now on. It adds no entry and
     /// takes no memory.
     pub(crate) fn of_sole(count: SoleCount<S::Item, A, MAX, H>, items: Vec<S::Item, A>) -> Self
@@ -81,6 +82,7 @@ impl<S: Slice, A: Allocator + Copy, const MAX: u64, H: Mark> Block<S, A, MAX, H>
         Block {
             piece: count.lend(),
             base: Base { at },
+            of: PhantomData,
         }
     }
 
@@ -101,14 +103,14 @@ impl<S: Slice, A: Allocator + Copy, const MAX: u64, H: Mark> Block<S, A, MAX, H>
             × IsLimited MAX H.whole (sole_in r.0)) }
         ensures others { IfErr result (λ back. back ≡ self) }
     {
-        let Block { piece, base } = self;
+        let Block { piece, base, of } = self;
         match piece.try_into_sole_as(pass) {
             Ok(mut count) => {
                 let (_, empty) = Native::of(Vec::new(alloc));
                 let items = mem::replace(count.get_mut(), empty).into_vec();
                 Ok((count, items))
             }
-            Err(piece) => Err(Block { piece, base }),
+            Err(piece) => Err(Block { piece, base, of }),
         }
     }
 }

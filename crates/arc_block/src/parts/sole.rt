@@ -21,37 +21,44 @@ use arc_buffer::kinds::Slice;
 use arc_owners::error::{AllocError, TryReserveError};
 use arc_owners::mark::{Mark, Open};
 use arc_owners::owners::Pass;
-use std::alloc::Allocator;
+use std::alloc::{Allocator, Global};
 use std::cmp::max;
-use std::marker::Model;
+use std::marker::{Model, PhantomData};
 
 /// A row of the table of lists that its only owner writes: the items, where they stand, and how
 /// many places they have.
 ///
 /// Dropped, they end as a window does.
-pub struct SoleParts<S: Slice, A: Allocator + Copy, H: Mark = Open> {
+pub struct SoleParts<
+    S: Slice,
+    B = Vec<<S as Slice>::Item>,
+    M = (),
+    A: Allocator + Copy = Global,
+    H: Mark = Open,
+> {
     // None where they stand on nothing: then the vector is empty.
     count: Option<SoleCount<S::Item, A, MAX_OWNERS, H>>,
     items: Vec<S::Item, A>,
     start: usize,
     end: usize,
     alloc: A,
+    of: PhantomData<(B, M)>,
 }
 
-impl<S: Slice, A: Allocator + Copy, H: Mark> Model for SoleParts<S, A, H> {
+impl<S: Slice, B, M, A: Allocator + Copy, H: Mark> Model for SoleParts<S, B, M, A, H> {
     ghost use Rattle.arc_block.specs.Window.{PartsView};
     ghost use Rattle.arc_block.specs.Writers.{sole_seen, IsSoleWithin};
     ghost use Rattle.std.specs.Option.{option_map};
     ghost use Rattle.arc_owners.specs.memory.SoleBoxes.{sole_in};
 
-    ghost Value = { PartsView S.Item };
+    ghost Value = { PartsView S.Item M };
 
     ghost view = { λ p. sole_seen S.DROPS (option_map sole_in p.count) p.items p.start p.end };
 
     ghost invariant = { λ p. IsSoleWithin S.DROPS H.whole (option_map sole_in p.count) p.items p.start p.end };
 }
 
-impl<S: Slice, A: Allocator + Copy, H: Mark> Drop for SoleParts<S, A, H> {
+impl<S: Slice, B, M, A: Allocator + Copy, H: Mark> Drop for SoleParts<S, B, M, A, H> {
     fn drop(self) {
         let SoleParts {
             count,
@@ -59,6 +66,7 @@ impl<S: Slice, A: Allocator + Copy, H: Mark> Drop for SoleParts<S, A, H> {
             start: _,
             end: _,
             alloc,
+            of: _,
         } = self;
         match count {
             Some(count) => end(count, items),
@@ -68,7 +76,7 @@ impl<S: Slice, A: Allocator + Copy, H: Mark> Drop for SoleParts<S, A, H> {
     }
 }
 
-impl<S: Slice, A: Allocator + Copy, H: Mark> SoleParts<S, A, H> {
+impl<S: Slice, B, M, A: Allocator + Copy, H: Mark> SoleParts<S, B, M, A, H> {
     /// No items and no places, on nothing.
     pub fn on_nothing(alloc: A) -> Self
         ensures { result ≡ record { items = []; place = nowhere; role = sole_writer 0 } }
@@ -79,6 +87,7 @@ impl<S: Slice, A: Allocator + Copy, H: Mark> SoleParts<S, A, H> {
             start: 0,
             end: 0,
             alloc,
+            of: PhantomData,
         }
     }
 
@@ -264,6 +273,7 @@ impl<S: Slice, A: Allocator + Copy, H: Mark> SoleParts<S, A, H> {
                     start: 0,
                     end,
                     alloc,
+                    of: PhantomData,
                 })
             }
             Err(AllocError) => Err(items),
@@ -293,6 +303,7 @@ impl<S: Slice, A: Allocator + Copy, H: Mark> SoleParts<S, A, H> {
             start,
             end,
             alloc,
+            of: PhantomData,
         }
     }
 

@@ -15,10 +15,10 @@ use arc_owners::mark::{Mark, Stepping};
 use arc_owners::owners::Pass;
 use std::alloc::Allocator;
 
-impl<S: Slice, A: Allocator + Copy, H: Mark> SoleParts<S, A, H> {
+impl<S: Slice, B, M, A: Allocator + Copy, H: Mark> SoleParts<S, B, M, A, H> {
     /// The same items and places, which others may read from now on. It adds nothing and takes no
     /// memory.
-    pub fn freeze(self) -> Parts<S, A, H>
+    pub fn freeze(self) -> Parts<S, B, M, A, H>
         ensures { result ≡ as_reader self }
     {
         let SoleParts {
@@ -27,6 +27,7 @@ impl<S: Slice, A: Allocator + Copy, H: Mark> SoleParts<S, A, H> {
             start,
             end,
             alloc,
+            of: _,
         } = self;
         match count {
             Some(count) => Parts {
@@ -58,6 +59,7 @@ impl<S: Slice, A: Allocator + Copy, H: Mark> SoleParts<S, A, H> {
             start: _,
             end: _,
             alloc: _,
+            of: _,
         } = self;
         if let Some(count) = count {
             drop(count.into_value_as(pass));
@@ -78,7 +80,7 @@ impl<S: Slice, A: Allocator + Copy, H: Mark> SoleParts<S, A, H> {
     }
 }
 
-impl<S: Slice, A: Allocator + Copy, H: Stepping> SoleParts<S, A, H> {
+impl<S: Slice, B, M, A: Allocator + Copy, H: Stepping> SoleParts<S, B, M, A, H> {
     /// A new pass of the block, which has seen at least how this owner became one, and made
     /// nothing; on no block a pass of none. It adds nothing.
     pub fn pass(&self) -> Pass<H>
@@ -91,7 +93,7 @@ impl<S: Slice, A: Allocator + Copy, H: Stepping> SoleParts<S, A, H> {
     }
 }
 
-impl<S: Slice, A: Allocator + Copy, H: Mark> Parts<S, A, H> {
+impl<S: Slice, B, M, A: Allocator + Copy, H: Mark> Parts<S, B, M, A, H> {
     /// The same items at the same place, as their only writer, where they stand on a block that no
     /// other owner has, or where there are none and they stand on no block.
     ///
@@ -102,7 +104,7 @@ impl<S: Slice, A: Allocator + Copy, H: Mark> Parts<S, A, H> {
     /// # History
     ///
     /// On a block Alone with the answer.
-    pub fn try_into_sole_as(self, pass: &mut Pass<H>) -> Result<SoleParts<S, A, H>, Self>
+    pub fn try_into_sole_as(self, pass: &mut Pass<H>) -> Result<SoleParts<S, B, M, A, H>, Self>
         requires role { self.role ≡ reader }
         requires pass { IsPassAt self.place pass.old }
         ensures sole { IfOk result (λ sole. (sole ≡ as_sole S.DROPS self)

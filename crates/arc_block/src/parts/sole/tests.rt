@@ -10,13 +10,17 @@ use arc_owners::owners::Pass;
 use std::alloc::Allocator;
 use std::test::Fail;
 
+type Writer<A> = SoleParts<Plain<u8>, Vec<u8>, (), A>;
+
+type Reader<A> = Parts<Plain<u8>, Vec<u8>, (), A>;
+
 /// A writer of a copy of the bytes.
-fn bytes<A: Allocator + Copy>(alloc: A, items: &[u8]) -> Result<SoleParts<Plain<u8>, A>, Fail> {
+fn bytes<A: Allocator + Copy>(alloc: A, items: &[u8]) -> Result<Writer<A>, Fail> {
     Ok(SoleParts::try_from_slice_as(alloc, items, &mut Pass::none())?)
 }
 
 fn push<A: Allocator + Copy>(
-    writer: &mut SoleParts<Plain<u8>, A>,
+    writer: &mut Writer<A>,
     item: u8,
 ) -> Result<(), (TryReserveError, u8)> {
     let mut pass = writer.pass();
@@ -24,7 +28,7 @@ fn push<A: Allocator + Copy>(
 }
 
 fn extend<A: Allocator + Copy>(
-    writer: &mut SoleParts<Plain<u8>, A>,
+    writer: &mut Writer<A>,
     items: &[u8],
 ) -> Result<(), TryReserveError> {
     let mut pass = writer.pass();
@@ -32,7 +36,7 @@ fn extend<A: Allocator + Copy>(
 }
 
 fn reserve<A: Allocator + Copy>(
-    writer: &mut SoleParts<Plain<u8>, A>,
+    writer: &mut Writer<A>,
     additional: usize,
 ) -> Result<(), TryReserveError> {
     let mut pass = writer.pass();
@@ -40,7 +44,7 @@ fn reserve<A: Allocator + Copy>(
 }
 
 /// Another reader of parts on which no other thread steps, so that one attempt is enough.
-fn shared<A: Allocator + Copy>(reader: &Parts<Plain<u8>, A>) -> Result<Parts<Plain<u8>, A>, Fail>
+fn shared<A: Allocator + Copy>(reader: &Reader<A>) -> Result<Reader<A>, Fail>
     requires { reader.now.role ≡ reader_only }
     ensures { IfOk result (λ other. other.role ≡ reader_only) }
 {
@@ -51,9 +55,7 @@ fn shared<A: Allocator + Copy>(reader: &Parts<Plain<u8>, A>) -> Result<Parts<Pla
     }
 }
 
-fn alone<A: Allocator + Copy>(
-    reader: Parts<Plain<u8>, A>,
-) -> Result<SoleParts<Plain<u8>, A>, Parts<Plain<u8>, A>>
+fn alone<A: Allocator + Copy>(reader: Reader<A>) -> Result<Writer<A>, Reader<A>>
     requires { reader.role ≡ reader_only }
     ensures { IfErr result (λ back. back.role ≡ reader_only) }
 {
@@ -86,7 +88,7 @@ fn native_growth_is_exact(rt: HostRuntime) -> Result<(), Fail> {
 #[test]
 fn room_is_reclaimed_in_front(rt: HostRuntime) -> Result<(), Fail> {
     let mut pass = Pass::none();
-    let made = SoleParts::<Plain<u8>, _>::try_with_capacity_as(rt.alloc(), 8, &mut pass);
+    let made = Writer::<_>::try_with_capacity_as(rt.alloc(), 8, &mut pass);
     let mut writer = made?;
     assert_eq!(rt; extend(&mut writer, &[1, 2, 3]), Ok(()));
     if writer.len() < 3 {
@@ -110,7 +112,7 @@ fn too_much_room_is_refused(rt: HostRuntime) -> Result<(), Fail> {
     );
     assert!(rt; writer.as_slice() == [1].as_slice());
     assert_eq!(rt; writer.capacity(), 1);
-    let mut idle = SoleParts::<Plain<u8>, _>::on_nothing(rt.alloc());
+    let mut idle = Writer::<_>::on_nothing(rt.alloc());
     assert_eq!(rt;
         reserve(&mut idle, usize::MAX),
         Err(TryReserveError::AllocError)
@@ -147,7 +149,7 @@ fn owned_items_cut_short(rt: HostRuntime) -> Result<(), Fail> {
         Box::new(alloc, 8)?,
         Box::new(alloc, 9)?,
     ];
-    let made = SoleParts::<Owned<_>, _>::try_from_array_as(alloc, boxes, &mut Pass::none());
+    let made = SoleParts::<Owned<_>, (), (), _>::try_from_array_as(alloc, boxes, &mut Pass::none());
     let Ok(mut writer) = made else {
         return Err("no memory".into());
     };

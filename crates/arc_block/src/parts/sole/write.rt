@@ -15,7 +15,7 @@ use arc_owners::mark::Mark;
 use arc_owners::owners::Pass;
 use std::alloc::Allocator;
 
-impl<S: Slice, A: Allocator + Copy, H: Mark> SoleParts<S, A, H> {
+impl<S: Slice, B, M, A: Allocator + Copy, H: Mark> SoleParts<S, B, M, A, H> {
     /// Whether there is room for so many items more without memory; then it is made.
     pub fn try_reclaim(&mut self, additional: usize) -> bool
         requires item { FitsInMemory S.Item.row }
@@ -98,7 +98,7 @@ impl<S: Slice, A: Allocator + Copy, H: Mark> SoleParts<S, A, H> {
     }
 }
 
-impl<S: Slice, A: Allocator + Copy, H: Mark> SoleParts<S, A, H>
+impl<S: Slice, B, M, A: Allocator + Copy, H: Mark> SoleParts<S, B, M, A, H>
 where
     S::Item: Copy,
 {
