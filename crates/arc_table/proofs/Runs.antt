@@ -1,5 +1,6 @@
 -- Runs one after another.
-use Rattle.std.proofs.Common.{List, [], ◌∷◌, ◌++◌, refl, ap, subst}
+use Rattle.std.proofs.Common.{List, [], ◌∷◌, ◌++◌, map, refl, sym, ap, subst}
+use Rattle.std.proofs.lemmas.List.{map-append}
 use Rattle.arc_table.specs.RunOf.{RunOf}
 
 -- a run, and a run from where it ends
@@ -19,6 +20,16 @@ pub run_push : {S A B : Type 0} (step : S → A → B → S → Type 0) (old : S
     → step mid x u new → RunOf step old (xs ++ x ∷ []) (us ++ u ∷ []) new
 run_push step old xs us mid x u new one last =
     run_append step old xs us mid (x ∷ []) (u ∷ []) new one (new, last, refl)
+
+-- the same, of inputs and outputs as they are seen by f and g
+pub run_push_seen : {S X Y A B : Type 0} (step : S → A → B → S → Type 0) (f : X → A) (g : Y → B)
+    (old : S) (xs : List X) (us : List Y) (mid : S) (x : X) (u : Y) (new : S)
+    → RunOf step old (map f xs) (map g us) mid → step mid (f x) (g u) new
+    → RunOf step old (map f (xs ++ x ∷ [])) (map g (us ++ u ∷ [])) new
+run_push_seen step f g old xs us mid x u new one last =
+    subst (λ cs. RunOf step old cs (map g (us ++ u ∷ [])) new) (sym (map-append f xs (x ∷ [])))
+    (subst (λ rs. RunOf step old (map f xs ++ f x ∷ []) rs new) (sym (map-append g us (u ∷ [])))
+    (run_push step old (map f xs) (map g us) mid (f x) (g u) new one last))
 
 -- a run, as its states are seen by f
 pub run_seen : {S T A B : Type 0} (step : S → A → B → S → Type 0)

@@ -93,5 +93,8 @@ pub enum Reply<X, F> {
     Alloc,
 }
 
+/// What a table of windows over items of type T is asked: what it copies lies in a vector.
+pub type TableCmd<T, A> = Cmd<Vec<T, A>, StaticSlice<T>>;
+
 /// What a table of windows over items of type T answers: what it shows lies in a vector.
 pub type TableReply<T, A> = Reply<Vec<T, A>, StaticSlice<T>>;

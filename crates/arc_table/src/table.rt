@@ -489,3 +489,5 @@ where
         Reply::Static(slot.into_static())
     }
 }
+
+mod run;

@@ -3,10 +3,10 @@ use arc_block::layout::{ArcLayout, DefaultLayout};
 use arc_block::static_slice::StaticSlice;
 use arc_buffer::kinds::Plain;
 use arc_owners::error::RangeError;
-use arc_table::command::{Cmd, Reply, TableReply};
+use arc_table::command::{Cmd, Reply, TableCmd, TableReply};
 use arc_table::table::Table;
 use linked_list_allocator::LocalHeap;
-use std::alloc::Allocator;
+use std::alloc::{AllocError, Allocator};
 use std::sync::Wait;
 use std::test::Fail;
 
@@ -53,6 +53,106 @@ fn hello(rt: HostRuntime) {
     let _ = table.end();
     assert!(rt; matches!(cut, Reply::New(1)));
     assert!(rt; has_items(&shown, b"Hello"));
+}
+
+/// The commands of `hello`, in a list.
+fn hello_commands<A: Allocator + Copy>(alloc: A) -> Result<Vec<TableCmd<u8, A>, A>, AllocError> {
+    let items = Vec::from_slice(alloc, b"Hello world")?;
+    let mut commands = Vec::with_capacity(alloc, 3)?;
+    commands.push_reserved(Cmd::Slice(items));
+    commands.push_reserved(Cmd::Sub {
+        window: 0,
+        start: 0,
+        end: 5,
+    });
+    commands.push_reserved(Cmd::Show { window: 1 });
+    Ok(commands)
+}
+
+/// A list is answered in its order, and an empty one by an empty one.
+#[test]
+fn hello_as_list(rt: HostRuntime) -> Result<(), Fail> {
+    let commands = hello_commands(rt.alloc())?;
+    let mut table: ByteTable<_> = Table::new(rt.alloc());
+    let replies = table.run(&rt, commands);
+    let none = table.run(&rt, Vec::new(rt.alloc()));
+    let _ = table.end();
+    let (Ok(replies), Ok(none)) = (replies, none) else {
+        return Err("memory".into());
+    };
+    let [first, second, third] = replies.as_slice() else {
+        return Err("three replies".into());
+    };
+    assert!(rt; matches!(first, Reply::New(0)));
+    assert!(rt; matches!(second, Reply::New(1)));
+    assert!(rt; has_items(third, b"Hello"));
+    assert!(rt; none.is_empty());
+    Ok(())
+}
+
+/// Whether these are the commands of `hello`.
+fn are_hello<A: Allocator>(commands: &[TableCmd<u8, A>]) -> bool {
+    match commands {
+        [
+            Cmd::Slice(items),
+            Cmd::Sub {
+                window: 0,
+                start: 0,
+                end: 5,
+            },
+            Cmd::Show { window: 1 },
+        ] => items.as_slice() == b"Hello world".as_slice(),
+        _ => false,
+    }
+}
+
+/// Whether the first window shows `A` where it stands.
+fn shows_a<A: Allocator + Copy>(table: &ByteTable<A>) -> bool {
+    match table.show_in_place(0) {
+        Reply::Items(items) => items == b"A".as_slice(),
+        _ => false,
+    }
+}
+
+/// With more and more memory that for the replies is refused, so that the commands come back and
+/// the table is as it was, and then each command's own.
+#[test]
+fn list_refused(rt: HostRuntime) -> Result<(), Fail> {
+    let mut back = 0u32;
+    let mut short = 0u32;
+    let mut whole = 0u32;
+    for units in 1..128usize {
+        let heap = LocalHeap::new(rt.alloc(), units * 16)?;
+        let Ok(commands) = hello_commands(&heap) else {
+            continue;
+        };
+        let mut table = table_of(&rt, &heap, b"A");
+        let had = shows_a(&table);
+        let used = heap.used();
+        let answered = table.run(&rt, commands);
+        let has = shows_a(&table);
+        match answered {
+            Err((commands, _)) => {
+                assert!(rt; are_hello(&commands) && had == has, "in {units} units");
+                assert_eq!(rt; heap.used(), used, "in {units} units");
+                back = back.wrapping_add(1);
+            }
+            Ok(replies) => match replies.as_slice() {
+                [Reply::Alloc, ..] => short = short.wrapping_add(1),
+                [Reply::New(1), _, last] if has_items(last, b"Hello world") => {
+                    whole = whole.wrapping_add(1);
+                }
+                _ => {}
+            },
+        }
+        let _ = table.end();
+        assert_eq!(rt; heap.used(), 0, "in {units} units");
+    }
+    assert!(rt;
+        0 < back && 0 < short && 0 < whole,
+        "{back} came back, {short} were short, and {whole} whole"
+    );
+    Ok(())
 }
 
 /// Ranges are answered in the order of their tests, and an empty cut stands on nothing.

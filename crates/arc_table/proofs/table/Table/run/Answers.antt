@@ -1,0 +1,48 @@
+-- One command more is carried out, until none is left.
+use Rattle.std.proofs.Common.{◌≡◌, [], ◌∷◌, ◌++◌, length, map, sym, ap, subst, ◌∙◌}
+use Rattle.std.proofs.Common.{append_assoc, append-nil, arith}
+use Rattle.std.proofs.lemmas.List.{nil_from_length}
+use Rattle.std.specs.Vec.Iter.{into_iter_items}
+use Rattle.arc_table.specs.RunOf.{RunOf}
+use Rattle.arc_table.specs.Seen.{seen_command, seen_reply}
+use Rattle.arc_table.specs.State.{CarriesOut}
+use Rattle.arc_table.specs.Step.{Setting, setting_of}
+use Rattle.arc_table.proofs.Runs.{run_push_seen}
+use Rattle.arc_table.proofs.table.Table.run.Goals as goal
+
+pub loop-command-preserved : goal.loop-command-preserved
+loop-command-preserved g c =
+    let setting : Setting g.row.S-Item.Denot =
+    setting_of g.L.Layout.STATIC g.L.Layout.clone_wants g.S.Slice.DROPS g.S.Subsliceable.boundary in
+    let at = c.loop-command in
+    let said = at.invariant in
+    let command = c.in-Some.command in
+    let next : into_iter_items at.command-iterator ≡ command ∷ into_iter_items c.next.new.self =
+    c.in-Some.ensures.steps.0 in
+    record {
+      commands = append_assoc at.yielded (command ∷ []) _ ∙ rw (← next) said.commands;
+      left = omega (arith, said.left, c.in-Some.ensures.steps.1, ap length next);
+      run =
+          subst (λ rs. RunOf (CarriesOut setting) c.args.self.now
+          (map seen_command (at.yielded ++ command ∷ [])) (map seen_reply rs) c.step.new.self)
+          (sym c.push_reserved.ensures.items)
+          (run_push_seen (CarriesOut setting) seen_command seen_reply c.args.self.now at.yielded
+          at.replies.items at.self command c.step.result c.step.new.self said.run c.step.ensures);
+      many =
+          omega (arith, said.many, c.in-Some.ensures.steps.1, c.push_reserved.ensures.len);
+      room = omega (arith, said.room, c.push_reserved.ensures.capacity);
+    }
+
+pub returns-clause-run : goal.returns-clause-run
+returns-clause-run g c =
+    let setting : Setting g.row.S-Item.Denot =
+    setting_of g.L.Layout.STATIC g.L.Layout.clone_wants g.S.Slice.DROPS g.S.Subsliceable.boundary in
+    let at = c.loop-command in
+    let said = at.invariant in
+    let none : into_iter_items at.command-iterator ≡ [] =
+    nil_from_length (into_iter_items at.command-iterator)
+    (sym said.left ∙ c.in-None.ensures.steps.0) in
+    let all : at.yielded ≡ c.args.commands.items =
+    sym (append-nil at.yielded) ∙ rw none at said.commands in
+    subst (λ cs. RunOf (CarriesOut setting) c.args.self.now (map seen_command cs)
+    (map seen_reply at.replies.items) at.self) all said.run

@@ -1,0 +1,21 @@
+use Rattle.std.proofs.Common.{◌≡◌, ◌+◌, ◌≤◌, ◌++◌, length, map}
+use Rattle.std.specs.Vec.{vec_len, vec_capacity}
+use Rattle.std.specs.Vec.Iter.{into_iter_items, into_iter_len}
+use Rattle.arc_table.specs.RunOf.{RunOf}
+use Rattle.arc_table.specs.Seen.{seen_command, seen_reply}
+use Rattle.arc_table.specs.State.{CarriesOut}
+use Rattle.arc_table.specs.Step.{setting_of}
+use Rattle.arc_table.proofs.table.Table.run.Given as goal
+
+-- the commands up to here were carried out, and there is room for the replies to the others
+abbrev pub invariant-loop-command : goal.invariant-loop-command
+invariant-loop-command g l = record {
+  commands : l.yielded ++ into_iter_items l.command-iterator ≡ l.fn.commands.items;
+  left : into_iter_len l.command-iterator ≡ length (into_iter_items l.command-iterator);
+  run :
+      RunOf (CarriesOut (setting_of g.L.Layout.STATIC g.L.Layout.clone_wants g.S.Slice.DROPS
+      g.S.Subsliceable.boundary)) l.fn.self (map seen_command l.yielded)
+      (map seen_reply l.replies.items) l.self;
+  many : vec_len l.replies + into_iter_len l.command-iterator ≡ vec_len l.fn.commands;
+  room : vec_len l.fn.commands ≤ vec_capacity l.replies;
+}

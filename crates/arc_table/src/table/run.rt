@@ -1,0 +1,59 @@
+//! A list of commands, carried out one after another.
+ghost use Rattle.std.specs.Prelude.{◌≡◌, map, IfOk, IfErr, IsOk};
+ghost use Rattle.std.specs.Vec.{vec_len};
+
+use super::Table;
+use crate::command::{TableCmd, TableReply};
+use arc_block::layout::Layout;
+use arc_buffer::kinds::{CopySlice, Subsliceable};
+use arc_owners::error::AllocError;
+use std::alloc::Allocator;
+use std::sync::Wait;
+
+impl<S: CopySlice + Subsliceable, L: Layout, B, M, A: Allocator + Copy> Table<S, L, B, M, A>
+where
+    S::Item: Copy,
+{
+    ghost use Rattle.arc_table.specs.RunOf.{RunOf};
+    ghost use Rattle.arc_table.specs.Seen.{seen_command, seen_reply};
+    ghost use Rattle.arc_table.specs.State.{CarriesOut};
+    ghost use Rattle.arc_table.specs.Step.{setting_of};
+
+    /// Carries out the commands one after another, each as `step` does, and answers the reply to
+    /// each at its place.
+    ///
+    /// # Errors
+    ///
+    /// The commands and `AllocError`, where memory for the replies is refused. It is asked for
+    /// before the first command, so the table is as it was.
+    ///
+    /// # Allocates
+    ///
+    /// Room for the replies, unless there are no commands, and what each command asks for. Where
+    /// that is refused, the command's reply tells it, and the commands behind it are carried out.
+    ///
+    /// # History
+    ///
+    /// What each command adds, in their order (`CarriesOut`).
+    pub fn run(
+        &mut self,
+        rt: &impl Wait,
+        commands: Vec<TableCmd<S::Item, A>, A>,
+    ) -> Result<Vec<TableReply<S::Item, A>, A>, (Vec<TableCmd<S::Item, A>, A>, AllocError)>
+        ensures run { IfOk result (λ replies.
+            RunOf (CarriesOut (setting_of L.STATIC L.clone_wants S.DROPS S.boundary)) self.old
+            (map seen_command commands.items) (map seen_reply replies.items) self.new) }
+        ensures many { IfOk result (λ replies. vec_len replies ≡ vec_len commands) }
+        ensures succeeds { vec_len commands ≡ 0 → IsOk result }
+        ensures back { IfErr result (λ refused. refused.0 ≡ commands) }
+        ensures kept { IfErr result (λ _. self.new ≡ self.old) }
+    {
+        let Ok(mut replies) = Vec::with_capacity(self.alloc, commands.len()) else {
+            return Err((commands, AllocError));
+        };
+        for command in commands {
+            replies.push_reserved(self.step(rt, command));
+        }
+        Ok(replies)
+    }
+}
