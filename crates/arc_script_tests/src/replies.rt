@@ -1,4 +1,5 @@
 //! Each reply as it is written.
+use arc_block::static_slice::StaticSlice;
 use arc_owners::error::{AllocError, OwnerError, RangeError};
 use arc_script::text::push_answer;
 use arc_table::command::Reply;
