@@ -6,7 +6,6 @@ use Rattle.std.specs.Option.{option_map_or}
 use Rattle.arc_owners.specs.declared.error.TryReserveError.TheVariants.{Unsupported}
 use Rattle.arc_owners.specs.declared.error.TryReserveError.TheVariants.{CapacityOverflow}
 use Rattle.arc_block.specs.Block.{BlockInfo}
-use Rattle.arc_block.specs.declared.parts.room.TheConstants.{MOST}
 use Rattle.arc_block.specs.declared.parts.room.Room.{Room}
 use Rattle.arc_block.specs.declared.parts.room.Room.TheVariants.{Spare, Fresh, Behind, Front}
 use Rattle.arc_block.specs.declared.parts.room.Room.TheVariants.{Growth, Refused}
@@ -21,8 +20,8 @@ ends_full info end = option_map_or (λ full. end == full) info.full true
 abbrev pub growth : (item_size size needed : ℕ) → Room
 growth item_size size needed =
     let places = if nat_lt (2 * size) (2 ^ 64) then max (2 * size) needed else needed in
-    if nat_lt MOST needed || nat_lt MOST (places * item_size) then Refused CapacityOverflow else
-    Growth places
+    if nat_lt 9223372036854775807 needed || nat_lt 9223372036854775807 (places * item_size)
+    then Refused CapacityOverflow else Growth places
 
 -- where a writer of so many items, at this offset in a block, has room for more of them
 abbrev pub room_in : {M : Type 0} → (drops : Bool) → (item_size : ℕ) → BlockInfo M
@@ -30,7 +29,8 @@ abbrev pub room_in : {M : Type 0} → (drops : Bool) → (item_size : ℕ) → B
 room_in drops item_size info offset len additional =
     if drops && not (ends_full info (offset + len)) then Refused Unsupported else
     if not (nat_lt (info.size - offset - len) additional) then Behind else
-    if not drops && not (nat_lt offset len) && not (nat_lt (info.size - len) additional) then Front else
+    if not drops && not (nat_lt offset len) && not (nat_lt (info.size - len) additional)
+    then Front else
     growth item_size info.size (offset + len + additional)
 
 -- what holds of the places of a new block, where there is to be one
@@ -38,8 +38,7 @@ abbrev pub IfFresh : Room → (ℕ → Type 0) → Type 0
 IfFresh (Fresh places) P = P places
 IfFresh other P = Unit {0}
 
--- what holds of the places that a block is to have, where it is to grow, and what holds where the
--- items are to stand at its front
+-- what holds, by case, of the places that the block is to have, and where there are places already
 abbrev pub IfGrowth : Room → (ℕ → Type 0) → Type 0
 IfGrowth (Growth places) P = P places
 IfGrowth other P = Unit {0}

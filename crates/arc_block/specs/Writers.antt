@@ -27,6 +27,10 @@ abbrev pub writer_capacity : {M : Type 0} → (drops : Bool) → BlockInfo M →
 writer_capacity drops info offset len =
     if drops && not (ends_full info (offset + len)) then len else info.size - offset
 
+-- a writer without items on nothing
+abbrev pub idle_writer : {T M : Type 0} → PartsView T M
+idle_writer = record { items = []; place = nowhere; role = sole_writer 0 }
+
 module _ {T M A : Type 0} where
   -- the part from start to end of a vector that is a block's memory, as its only owner's
   abbrev pub sole_part : Bool → Owner → Vec T A → (start end : ℕ) → PartsView T M
@@ -41,8 +45,7 @@ module _ {T M A : Type 0} where
   -- what is seen of a sole writer from start to end of a vector, which is the memory of a block
   -- that has this owner; or who stands on nothing
   abbrev pub sole_seen : Bool → Option Owner → Vec T A → (start end : ℕ) → PartsView T M
-  sole_seen drops None v start end =
-      record { items = []; place = nowhere; role = sole_writer 0 }
+  sole_seen drops None v start end = idle_writer
   sole_seen drops (Some owner) v start end = sole_part drops owner v start end
 
 module _ {T A : Type 0} where
@@ -134,9 +137,10 @@ pub record CanGrow {T M : Type 0} (w : PartsView T M) (places : ℕ) : Type 0 wh
   pub larger : size_at w.place ≤ places
   pub behind : capacity_of w.role ≡ size_at w.place - offset_at w.place
 
+-- the only writer of these items at a place; on no block he has none
 abbrev pub sole_at : {T M : Type 0} → Bool → List T → Place (Option Owner) M → PartsView T M
-sole_at drops items nowhere = record { items = []; place = nowhere; role = sole_writer 0 }
-sole_at drops items static_data = record { items = []; place = nowhere; role = sole_writer 0 }
+sole_at drops items nowhere = idle_writer
+sole_at drops items static_data = idle_writer
 sole_at drops items (on_block owner offset info) = record {
   items = items;
   place = on_block owner offset info;
@@ -174,10 +178,6 @@ Reclaims (Fresh places) old new found = (found ≡ false) × (new ≡ old)
 Reclaims (Growth places) old new found = (found ≡ false) × (new ≡ old)
 Reclaims (Refused e) old new found = (found ≡ false) × (new ≡ old)
 Reclaims room old new found = (found ≡ true) × (new ≡ with_room room old)
-
--- a writer without items on nothing
-abbrev pub idle_writer : {T M : Type 0} → PartsView T M
-idle_writer = record { items = []; place = nowhere; role = sole_writer 0 }
 
 -- a writer of these items, which are all that a native block of so many places holds
 abbrev pub new_writer : {T M : Type 0} → Bool → Owner → List T → ℕ → PartsView T M

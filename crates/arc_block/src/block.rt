@@ -14,7 +14,7 @@ use arc_buffer::kinds::Slice;
 use arc_owners::error::{AllocError, CountFull};
 use arc_owners::mark::{Mark, Open, Stepping};
 use arc_owners::owners::{CountedBox, Pass};
-pub(crate) use sole::{SoleCount, end, new_count};
+pub(crate) use sole::{SoleCount, end_sole, new_count};
 use std::alloc::Allocator;
 use std::marker::{Model, PhantomData};
 

@@ -10,7 +10,6 @@ pub mod Parts
 pub mod Places
 pub mod Returns
 pub mod Rolls
-pub mod Runs
 pub mod Shared
 pub mod Stakes
 pub mod States

@@ -33,7 +33,7 @@ fn wait_for_four(come: &AtomicU64) {
 /// Makes owners through one owner, once four threads have come. It answers how many were made.
 ///
 /// Each is forgotten and so lives on: the number that a raise once found never comes back.
-#[tactic(auto, using(crate::proofs::count::Wholes::counted_ever))]
+#[tactic(auto, using(arc_owners::proofs::Wholes::counted_ever))]
 fn raised<R: Wait>(
     rt: &R,
     owners: &Owners<MOST, Open>,

@@ -1,8 +1,8 @@
-//! Blocks of one owner, who has their items as a vector.
+//! Blocks with one owner, who has their items as a vector.
 //!
-//! So he reads and writes them by the vector's own code, and nothing is asked of the count. While he
-//! does, the memory of the count holds none of them.
-ghost use Rattle.std.specs.Prelude.{◌≡◌, ◌≤◌, is_ok, IfOk, IfErr};
+//! So they are read and written by the vector's own code, and nothing is asked of the count.
+//! Meanwhile the memory of the count holds none of them.
+ghost use Rattle.std.specs.Prelude.{◌≡◌, ◌≤◌, true, false, is_ok, IfOk, IfErr};
 ghost use Rattle.arc_owners.specs.count.Calls.{IsFirst, IsPassFor, IsFreshPass, Asks};
 ghost use Rattle.arc_owners.specs.memory.SoleBoxes.{sole_in};
 ghost use Rattle.arc_block.specs.Block.{held_as, IsLimited};
@@ -17,7 +17,7 @@ use std::alloc::Allocator;
 use std::marker::PhantomData;
 use std::mem;
 
-/// The count of a block, and its only owner, who has the block's items elsewhere.
+/// The count of a block, with its only owner, who has the block's items elsewhere.
 pub(crate) type SoleCount<T, A, const MAX: u64, H> = SoleBox<Native<T, A>, A, MAX, H>;
 
 /// The only owner of a new block, with a pass of it. `MAX` is at least 2.
@@ -46,23 +46,26 @@ pub(crate) fn new_count<T: Drop, A: Allocator + Copy, const MAX: u64, H: Mark>(
     }
 }
 
-/// Ends an owner whose value is elsewhere, with a new pass, and answers whether it did: under the
-/// mark `Whole` the owner is forgotten.
-fn is_ended<V: Drop, A: Allocator + Copy, const MAX: u64, H: Mark>(
-    piece: SoleBox<V, A, MAX, H>,
-) -> bool {
-    let (value, pass) = piece.let_go();
+/// Lets an owner go whose value is elsewhere, and answers whether it ended: under `Open` it does,
+/// with a new pass, and under `Whole` it is forgotten.
+fn let_go<V: Drop, A: Allocator + Copy, const MAX: u64, H: Mark>(
+    count: SoleBox<V, A, MAX, H>,
+) -> bool
+    ensures open { H.whole ≡ false → result ≡ true }
+    ensures forgotten { H.whole ≡ true → result ≡ false }
+{
+    let (value, pass) = count.let_go();
     drop(pass);
     value.is_some()
 }
 
 /// What a drop does: under `Open` the owner ends with a new pass, and its items are dropped; under
 /// `Whole` both are forgotten.
-pub(crate) fn end<T: Drop, A: Allocator + Copy, const MAX: u64, H: Mark>(
+pub(crate) fn end_sole<T: Drop, A: Allocator + Copy, const MAX: u64, H: Mark>(
     count: SoleCount<T, A, MAX, H>,
     items: Vec<T, A>,
 ) {
-    if is_ended(count) {
+    if let_go(count) {
         drop(items);
     } else {
         mem::forget(items);

@@ -1,22 +1,23 @@
 //! Parts of a window that writes as the only owner of its block.
-ghost use Rattle.std.specs.Prelude.{false, ◌≡◌, ◌≤◌, ◌<◌, ◌+◌, ◌-◌, ◌++◌, ◌∷◌, [], length, if◌then◌else◌, ◌==◌, IfOk, IfErr, OnOk, OnErr};
+ghost use Rattle.std.specs.Prelude.{◌≡◌, ◌≤◌, ◌<◌, ◌+◌, ◌-◌, ◌++◌, ◌∷◌, ◌==◌, if◌then◌else◌};
+ghost use Rattle.std.specs.Prelude.{[], length, false, IfOk, IfErr, OnOk, OnErr};
 ghost use Rattle.std.specs.Mem.{FitsInMemory, type_size};
-ghost use Rattle.arc_block.specs.Place.{nowhere};
-ghost use Rattle.arc_block.specs.Table.{sole_writer};
 ghost use Rattle.std.specs.Vec.{vec_capacity, vec_len};
+ghost use Rattle.arc_owners.specs.count.Calls.{IsPassOfNone};
 ghost use Rattle.arc_owners.specs.memory.SoleBoxes.{sole_in};
 ghost use Rattle.arc_block.specs.declared.block.TheConstants.{MAX_OWNERS};
-ghost use Rattle.arc_block.specs.Block.{IsLimited};
-ghost use Rattle.arc_block.specs.Writers.{sole_part};
-ghost use Rattle.arc_owners.specs.count.Calls.{IsPassOfNone};
-ghost use Rattle.arc_block.specs.Steps.{IsPassAt};
-ghost use Rattle.arc_block.specs.Writers.{capacity_of, room as room_of, MakesWriter};
-ghost use Rattle.arc_block.specs.Writers.{IsNewWriter, MakesRoom, with_room, CanGrow, size_at, offset_at};
-ghost use Rattle.arc_block.specs.Room.{IfSpare, IfFresh, IfBehind, IfGrowth, IfFront};
 ghost use Rattle.arc_block.specs.declared.parts.room.Room.TheVariants.{Front, Growth};
+ghost use Rattle.arc_block.specs.Block.{IsLimited};
+ghost use Rattle.arc_block.specs.Place.{nowhere};
+ghost use Rattle.arc_block.specs.Room.{IfSpare, IfFresh, IfBehind, IfGrowth, IfFront};
+ghost use Rattle.arc_block.specs.Steps.{IsPassAt};
+ghost use Rattle.arc_block.specs.Table.{sole_writer};
+ghost use Rattle.arc_block.specs.Writers.{capacity_of, room as room_of, sole_part, with_room};
+ghost use Rattle.arc_block.specs.Writers.{IsNewWriter, MakesWriter, MakesRoom, CanGrow};
+ghost use Rattle.arc_block.specs.Writers.{size_at, offset_at};
 
 use super::room::{Room, room_in};
-use crate::block::{MAX_OWNERS, SoleCount, array_of, copied, end, moved, new_count};
+use crate::block::{MAX_OWNERS, SoleCount, array_of, copied, end_sole, moved, new_count};
 use arc_buffer::kinds::Slice;
 use arc_owners::error::{AllocError, TryReserveError};
 use arc_owners::mark::{Mark, Open};
@@ -55,7 +56,8 @@ impl<S: Slice, B, M, A: Allocator + Copy, H: Mark> Model for SoleParts<S, B, M, 
 
     ghost view = { λ p. sole_seen S.DROPS (option_map sole_in p.count) p.items p.start p.end };
 
-    ghost invariant = { λ p. IsSoleWithin S.DROPS H.whole (option_map sole_in p.count) p.items p.start p.end };
+    ghost invariant = { λ p.
+        IsSoleWithin S.DROPS H.whole (option_map sole_in p.count) p.items p.start p.end };
 }
 
 impl<S: Slice, B, M, A: Allocator + Copy, H: Mark> Drop for SoleParts<S, B, M, A, H> {
@@ -69,7 +71,7 @@ impl<S: Slice, B, M, A: Allocator + Copy, H: Mark> Drop for SoleParts<S, B, M, A
             of: _,
         } = self;
         match count {
-            Some(count) => end(count, items),
+            Some(count) => end_sole(count, items),
             None => drop(items),
         }
         drop(alloc);
@@ -281,7 +283,7 @@ impl<S: Slice, B, M, A: Allocator + Copy, H: Mark> SoleParts<S, B, M, A, H> {
     }
 
     /// Items from start to end of a block's memory, whose only owner this is. Those behind them are
-    /// dropped, unless they are dropped one by one.
+    /// let go, but for items that are dropped one by one, which stay.
     fn over(
         alloc: A,
         count: SoleCount<S::Item, A, MAX_OWNERS, H>,
@@ -312,15 +314,22 @@ impl<S: Slice, B, M, A: Allocator + Copy, H: Mark> SoleParts<S, B, M, A, H> {
     /// # Errors
     ///
     /// - `Unsupported` where items that are dropped one by one end before the block's full places.
-    /// - `CapacityOverflow` where the block would pass 2^63 - 1 places or bytes.
+    /// - `CapacityOverflow` where more than 2^63 - 1 places are needed, or the new size in bytes
+    ///   passes that.
     /// - `AllocError` where memory is refused for a first block, or for a larger one.
     ///
     /// Everything is then as before.
     ///
     /// # Allocates
     ///
-    /// Where neither the places behind the items nor, of items that aren't dropped one by one,
-    /// those in front of them are enough.
+    /// Twice for a first block, and once where the block grows: where the places behind the items
+    /// aren't enough, unless items that aren't dropped one by one are no more than the places in
+    /// front of them, and the whole block is large enough.
+    ///
+    /// # History
+    ///
+    /// Nothing is added. Where a first block is made, the pass, which was of none, becomes that
+    /// block's.
     pub fn try_reserve_as(
         &mut self,
         additional: usize,

@@ -7,6 +7,7 @@ use crate::parts::Parts;
 use arc_buffer::kinds::{Owned, Plain};
 use arc_owners::error::TryReserveError;
 use arc_owners::owners::Pass;
+use linked_list_allocator::LocalHeap;
 use std::alloc::Allocator;
 use std::test::Fail;
 
@@ -162,5 +163,27 @@ fn owned_items_cut_short(rt: HostRuntime) -> Result<(), Fail> {
         Err(TryReserveError::Unsupported)
     );
     assert!(rt; writer.as_slice().iter().all(|item| **item < 9));
+    Ok(())
+}
+
+fn release<A: Allocator + Copy>(writer: Writer<A>) {
+    let mut pass = writer.pass();
+    writer.release_as(&mut pass);
+}
+
+/// However a writer's parts end, their memory is given back.
+#[test]
+fn memory_is_given_back(rt: HostRuntime) -> Result<(), Fail> {
+    let heap = LocalHeap::new(rt.alloc(), 4096)?;
+    drop(bytes(&heap, &[1, 2, 3])?);
+    assert_eq!(rt; heap.used(), 0);
+    release(bytes(&heap, &[1, 2, 3])?);
+    assert_eq!(rt; heap.used(), 0);
+    drop(bytes(&heap, &[1, 2, 3])?.freeze());
+    assert_eq!(rt; heap.used(), 0);
+    let mut writer = bytes(&heap, &[1, 2, 3])?;
+    assert!(rt; push(&mut writer, 4).is_ok());
+    drop(writer);
+    assert_eq!(rt; heap.used(), 0);
     Ok(())
 }

@@ -1,6 +1,6 @@
 //! What a sole writer does to its items.
-ghost use Rattle.std.specs.Prelude.{◌≡◌, ◌≤◌, ◌+◌, ◌++◌, ◌∷◌, [], length, ◌==◌, if◌then◌else◌, OnErr};
-ghost use Rattle.std.specs.Prelude.{IfOk, IfErr, OnOk, Ok, Err};
+ghost use Rattle.std.specs.Prelude.{◌≡◌, ◌≤◌, ◌+◌, ◌++◌, ◌∷◌, ◌==◌, if◌then◌else◌, [], length};
+ghost use Rattle.std.specs.Prelude.{IfOk, IfErr, OnOk, OnErr, Ok, Err};
 ghost use Rattle.std.specs.Mem.{FitsInMemory, type_size};
 ghost use Rattle.std.specs.Vec.{vec_len, vec_capacity};
 ghost use Rattle.arc_block.specs.Steps.{IsPassAt};
@@ -40,6 +40,10 @@ impl<S: Slice, B, M, A: Allocator + Copy, H: Mark> SoleParts<S, B, M, A, H> {
     /// Those of `try_reserve_as`, with the item.
     ///
     /// # Allocates
+    ///
+    /// As `try_reserve_as`.
+    ///
+    /// # History
     ///
     /// As `try_reserve_as`.
     pub fn try_push_as(
@@ -109,6 +113,10 @@ where
     /// Those of `try_reserve_as`.
     ///
     /// # Allocates
+    ///
+    /// As `try_reserve_as`.
+    ///
+    /// # History
     ///
     /// As `try_reserve_as`.
     pub fn try_extend_from_slice_as(

@@ -1,7 +1,7 @@
 use Rattle.std.proofs.Common.{◌∙◌, subst}
 use Rattle.arc_owners.specs.count.Invariant.{BlockId}
 use Rattle.arc_owners.specs.count.Calls.{seen, HasCountIn}
-use Rattle.arc_owners.proofs.count.Wholes.{counted_first, counted_forked}
+use Rattle.arc_owners.proofs.Wholes.{counted_first, counted_forked}
 use Rattle.arc_owners_tests.proofs.counted.alone_after_two.Goals as goal
 
 pub join-ones-requires-after_bounds : goal.join-ones-requires-after_bounds

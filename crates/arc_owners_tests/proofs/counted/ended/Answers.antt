@@ -1,4 +1,4 @@
-use Rattle.arc_owners.proofs.count.Runs.{ended-in}
+use Rattle.arc_owners_tests.proofs.Runs.{ended-in}
 use Rattle.arc_owners_tests.proofs.counted.ended.Goals as goal
 
 pub returns-clause-ended : goal.returns-clause-ended

@@ -1,6 +1,6 @@
 use Rattle.std.proofs.Common.{lit<}
 use Rattle.arc_owners.specs.count.Calls.{owner_of}
-use Rattle.arc_owners.proofs.count.Wholes.{knows-first, knows-made, knows-tried, knows-asked, knows-left}
+use Rattle.arc_owners.proofs.Wholes.{knows-first, knows-made, knows-tried, knows-asked, knows-left}
 use Rattle.arc_owners_tests.proofs.counted.full_at_three.Goals as goal
 
 pub up_as-requires-2 : goal.up_as-requires-2

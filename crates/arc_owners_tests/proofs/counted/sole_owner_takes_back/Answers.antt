@@ -1,6 +1,6 @@
 use Rattle.std.proofs.Common.{◌∙◌, ap, lit<}
 use Rattle.arc_owners.specs.count.Calls.{Owner}
-use Rattle.arc_owners.proofs.count.Wholes.{knows-first, knows-made, knows-asked, knows-left}
+use Rattle.arc_owners.proofs.Wholes.{knows-first, knows-made, knows-asked, knows-left}
 use Rattle.arc_owners_tests.proofs.counted.sole_owner_takes_back.Goals as goal
 
 pub up_as-requires-2 : goal.up_as-requires-2

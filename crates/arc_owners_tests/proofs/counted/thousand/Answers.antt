@@ -1,5 +1,5 @@
 use Rattle.std.proofs.Common.{refl, sym, subst}
-use Rattle.arc_owners.proofs.count.Wholes.{KnowsCount, knows-made, knows-full, knows-left}
+use Rattle.arc_owners.proofs.Wholes.{KnowsCount, knows-made, knows-full, knows-left}
 use Rattle.arc_owners_tests.proofs.counted.thousand.Goals as goal
 use Rattle.arc_owners_tests.proofs.counted.thousand.Goals.{in-Ok, in_default}
 

@@ -4,8 +4,8 @@ use Rattle.arc_owners.specs.declared.count.tokens.Pass.{Pass}
 use Rattle.arc_owners.specs.history.Histories.{owners_ever, owners_ended, live_owners}
 use Rattle.arc_owners.specs.count.Invariant.{BlockId}
 use Rattle.arc_owners.specs.count.Calls.{Owner, IsFirst, IsFreshPass, IsPassOf, HasCountIn, MakesAnother, FindsFull, Leaves, seen}
-use Rattle.arc_owners.proofs.count.Runs.{Ran, ran-none, made-one, ran-up, ran-full, ran-down, no-up, no-full, not-last}
-use Rattle.arc_owners.proofs.count.Wholes.{same-made, same-left}
+use Rattle.arc_owners_tests.proofs.Runs.{Ran, ran-none, made-one, ran-up, ran-full, ran-down, no-up, no-full, not-last}
+use Rattle.arc_owners.proofs.Wholes.{same-made, same-left}
 use Rattle.arc_owners_tests.proofs.counted.worked_run.Goals as goal
 
 -- the history after each call of the run, all of them through the first owner but for the end

@@ -1,5 +1,5 @@
 use Rattle.arc_owners.specs.history.Histories.{Counted}
-use Rattle.arc_owners.proofs.history.Legality.{legal-nil}
+use Rattle.arc_owners.proofs.Legality.{legal-nil}
 use Rattle.arc_owners_tests.proofs.histories.history_of_no_entries.Goals as goal
 
 pub is_run-requires : goal.is_run-requires

@@ -9,7 +9,7 @@ use Rattle.arc_owners.specs.declared.count.tokens.Pass.{Pass}
 use Rattle.arc_owners.specs.history.Histories.{owners_ever, live_owners, LivesAlone}
 use Rattle.arc_owners.specs.count.Invariant.{BlockId, Line, entries_of, made_by, next_owner}
 use Rattle.arc_owners.specs.count.Calls.{Owner, IsFirst, IsFreshPass, Appends, MakesAnother, FindsFull, Leaves, HasCountIn, mine, seen}
-use Rattle.arc_owners.proofs.count.Wholes.{counted_first, seen-after, seen-more, mine-more, before-is, counted-still, may-stand, counted-makes, counted-full, full-exact, last-exact, made-number}
+use Rattle.arc_owners.proofs.Wholes.{counted_first, seen-after, seen-more, mine-more, before-is, counted-still, may-stand, counted-makes, counted-full, full-exact, last-exact, made-number}
 
 -- the pass has seen this history of a block that has a count, and made all of it
 pub record Ran {H : Type 0} (t : BlockId) (p : Pass H) (h : List Entry) : Type 0 where
