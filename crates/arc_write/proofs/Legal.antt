@@ -1,0 +1,153 @@
+-- What is written stays legal.
+use Rattle.std.proofs.Common.{◌≡◌, ℕ, ◌≤◌, ◌<◌, Bool, true, false, List, [], ◌∷◌, ◌++◌, length, take, drop, if◌then◌else◌, Option, Some, None, Result, Ok, Err, OnOk, IfErr, refl, sym, ap, ◌∙◌, subst, arith}
+use Rattle.std.specs.Prelude.{nat_lt}
+use Rattle.std.proofs.Math.Logic.{∥∥₁_map}
+use Rattle.std.proofs.Math.Dec.{T}
+use Rattle.std.proofs.Math.Facts.{ltb_yes}
+use Rattle.std.proofs.lemmas.Bool.{false≢true}
+use Rattle.std.proofs.lemmas.List.{take_all}
+use Rattle.arc_owners.specs.declared.error.TryReserveError.{TryReserveError}
+use Rattle.arc_owners.specs.declared.count.tokens.Pass.{Pass}
+use Rattle.arc_block.specs.declared.parts.room.Room.{Room}
+use Rattle.arc_block.specs.declared.parts.room.Room.TheVariants.{Spare, Fresh, Behind, Front}
+use Rattle.arc_block.specs.declared.parts.room.Room.TheVariants.{Growth, Refused}
+use Rattle.arc_owners.specs.count.Calls.{Owner}
+use Rattle.arc_buffer.specs.Slice.{sub, IsEdge, IsRange}
+use Rattle.arc_block.specs.Place.{Place, nowhere, static_data, on_block, at_owner}
+use Rattle.arc_block.specs.Window.{PartsView}
+use Rattle.arc_block.specs.Writers.{MakesRoom, Pushes, Reclaims, MakesWriter, as_sole, sole_at, after_advance, after_truncate, with_capacity}
+
+yes : (b : Bool) → b ≡ true → T b
+yes true e = tt
+yes false e = absurd (false≢true e)
+
+-- a list of no length has no items
+no-items : {T : Type 0} → (xs : List T) → length xs ≡ 0 → xs ≡ []
+no-items [] e = refl
+no-items (x ∷ xs) e = absurd (omega (arith, e))
+
+module _ {X : Type 0} (legal : List X → Type 0) where
+  -- the same items are as legal
+  same : {old new : List X} → new ≡ old → ∥ legal old ∥₁ → ∥ legal new ∥₁
+  same e l = subst (λ xs. ∥ legal xs ∥₁) (sym e) l
+
+  cut-legal : (boundary : List X → ℕ → Bool)
+      → ((xs : List X) (s e : ℕ) → legal xs → IsRange boundary xs s e → legal (sub xs s e))
+      → ((xs : List X) → legal xs → IsEdge boundary xs 0 × IsEdge boundary xs (length xs))
+      → (xs : List X) (n : ℕ) → IsEdge boundary xs n → ∥ legal xs ∥₁ → ∥ legal (take n xs) ∥₁
+  cut-legal boundary part ends xs n edge l = ∥∥₁_map l (λ h. part xs 0 n h (record {
+      ordered = omega arith; within = edge.within; from = (ends xs h).0.cuts; to = edge.cuts }))
+
+  by_test : (boundary : List X → ℕ → Bool)
+      → ((xs : List X) (s e : ℕ) → legal xs → IsRange boundary xs s e → legal (sub xs s e))
+      → ((xs : List X) → legal xs → IsEdge boundary xs 0 × IsEdge boundary xs (length xs))
+      → (xs : List X) (n : ℕ) → (n < length xs → IsEdge boundary xs n) → ∥ legal xs ∥₁
+      → (b : Bool) → nat_lt n (length xs) ≡ b → ∥ legal (if b then take n xs else xs) ∥₁
+  by_test boundary part ends xs n edge l true short = cut-legal boundary part ends xs n (edge (ltb_yes (yes (nat_lt n (length xs)) short))) l
+  by_test boundary part ends xs n edge l false short = l
+
+module _ {T M : Type 0} (legal : List T → Type 0) where
+  -- room keeps a list legal
+  pub room_legal : {H : Type 0} → ∥ legal [] ∥₁ → (drops one_pass : Bool) (room : Room) (old new : PartsView T M)
+      (before after : Pass H) (reply : Result (Unit {0}) TryReserveError)
+      → MakesRoom drops one_pass room old new before after reply → ∥ legal old.items ∥₁
+      → ∥ legal new.items ∥₁
+  room_legal none drops one_pass Spare old new before after reply r l =
+      same legal (ap (λ w. w.items) r.1) l
+  room_legal none drops one_pass Behind old new before after reply r l =
+      same legal (ap (λ w. w.items) r.1) l
+  room_legal none drops one_pass Front old new before after reply r l =
+      same legal (ap (λ w. w.items) r.1) l
+  room_legal none drops one_pass (Fresh places) old new before after (Ok u) r l =
+      subst (λ xs. ∥ legal xs ∥₁) (sym (ap (λ w. w.items) r.made)) none
+  room_legal none drops one_pass (Fresh places) old new before after (Err e) r l =
+      same legal (ap (λ w. w.items) r.1) l
+  room_legal none drops one_pass (Growth places) old new before after (Ok u) r l =
+      same legal (ap (λ w. w.items) r.1) l
+  room_legal none drops one_pass (Growth places) old new before after (Err e) r l =
+      same legal (ap (λ w. w.items) r.1) l
+  room_legal none drops one_pass (Refused e) old new before after reply r l =
+      same legal (ap (λ w. w.items) r.1) l
+
+  -- so does room that is had without memory
+  pub reclaimed_legal : (room : Room) (old new : PartsView T M) (found : Bool) → Reclaims room old new found → ∥ legal old.items ∥₁
+      → ∥ legal new.items ∥₁
+  reclaimed_legal Spare old new found r l = same legal (ap (λ w. w.items) r.1) l
+  reclaimed_legal Behind old new found r l = same legal (ap (λ w. w.items) r.1) l
+  reclaimed_legal Front old new found r l = same legal (ap (λ w. w.items) r.1) l
+  reclaimed_legal (Fresh places) old new found r l = same legal (ap (λ w. w.items) r.1) l
+  reclaimed_legal (Growth places) old new found r l = same legal (ap (λ w. w.items) r.1) l
+  reclaimed_legal (Refused e) old new found r l = same legal (ap (λ w. w.items) r.1) l
+
+  -- and items behind a list that are legal there
+  pub pushed_legal : {H : Type 0} → ∥ legal [] ∥₁ → (drops one_pass : Bool) (room : Room) (xs : List T) (old new : PartsView T M)
+      (before after : Pass H) → ((ys : List T) → legal ys → legal (ys ++ xs))
+      → Pushes drops one_pass room xs old new before after → ∥ legal old.items ∥₁ → ∥ legal new.items ∥₁
+  pushed_legal none drops one_pass room xs old new before after more (between, made, is) l =
+      subst (λ zs. ∥ legal zs ∥₁) (sym (ap (λ w. w.items) is))
+      (∥∥₁_map (room_legal none drops one_pass room old between before after (Ok tt) made l) (λ h. more between.items h))
+
+  -- the first items of a legal list, and those behind them, where it may be cut there
+  pub advanced_legal : (boundary : List T → ℕ → Bool)
+      → ((xs : List T) (s e : ℕ) → legal xs → IsRange boundary xs s e → legal (sub xs s e))
+      → ((xs : List T) → legal xs → IsEdge boundary xs 0 × IsEdge boundary xs (length xs))
+      → (n : ℕ) (old new : PartsView T M) → new ≡ after_advance n old → IsEdge boundary old.items n
+      → ∥ legal old.items ∥₁ → ∥ legal new.items ∥₁
+  advanced_legal boundary part ends n old new is edge l =
+      let xs = old.items in
+      let all : sub xs n (length xs) ≡ drop n xs = ap (drop n) (take_all (length xs) xs (omega arith)) in
+      subst (λ zs. ∥ legal zs ∥₁) (sym (ap (λ w. w.items) is))
+      (∥∥₁_map l (λ h. subst legal all (part xs n (length xs) h (record {
+        ordered = edge.within; within = omega arith; from = edge.cuts; to = (ends xs h).1.cuts }))))
+
+  items_of : (drops : Bool) (n : ℕ) (w : PartsView T M) (b : Bool)
+      → (if b then record w { items = take n w.items; role = if drops then with_capacity w.role n else w.role } else w).items
+      ≡ (if b then take n w.items else w.items)
+  items_of drops n w true = refl
+  items_of drops n w false = refl
+
+  pub truncated_legal : (boundary : List T → ℕ → Bool)
+      → ((xs : List T) (s e : ℕ) → legal xs → IsRange boundary xs s e → legal (sub xs s e))
+      → ((xs : List T) → legal xs → IsEdge boundary xs 0 × IsEdge boundary xs (length xs))
+      → (drops : Bool) (n : ℕ) (old new : PartsView T M) → new ≡ after_truncate drops n old
+      → (n < length old.items → IsEdge boundary old.items n)
+      → ∥ legal old.items ∥₁ → ∥ legal new.items ∥₁
+  truncated_legal boundary part ends drops n old new is edge l =
+      let shorter : List T = take n old.items in
+      let first : (b : Bool) → nat_lt n (length old.items) ≡ b → ∥ legal (if b then shorter else old.items) ∥₁ = λ b e. by_test legal boundary part ends old.items n edge l b e in
+      subst (λ zs. ∥ legal zs ∥₁) (sym (ap (λ w. w.items) is ∙ items_of drops n old (nat_lt n (length old.items)))) (first (nat_lt n (length old.items)) refl)
+
+  sole-at-legal : (Q : Owner → Type 0) (R : Type 0) (drops : Bool) (xs : List T) (place : Place (Option Owner) M) (v : PartsView T M) → v ≡ sole_at drops xs place
+      → at_owner place ((length xs ≡ 0) × R) Q → ∥ legal xs ∥₁ → ∥ legal v.items ∥₁
+  sole-at-legal Q R drops xs nowhere v is none l = subst (λ zs. ∥ legal zs ∥₁) (no-items xs none.0 ∙ sym (ap (λ w. w.items) is)) l
+  sole-at-legal Q R drops xs static_data v is none l = subst (λ zs. ∥ legal zs ∥₁) (no-items xs none.0 ∙ sym (ap (λ w. w.items) is)) l
+  sole-at-legal Q R drops xs (on_block owner offset info) v is asked l = subst (λ zs. ∥ legal zs ∥₁) (sym (ap (λ w. w.items) is)) l
+
+  -- what becomes a sole writer's
+  pub sole_legal : (Q : Owner → Type 0) (R : Type 0) (drops : Bool) (w v : PartsView T M) → v ≡ as_sole drops w
+      → at_owner w.place ((length w.items ≡ 0) × R) Q → ∥ legal w.items ∥₁ → ∥ legal v.items ∥₁
+  sole_legal Q R drops w v is asked l = sole-at-legal Q R drops w.items w.place v is asked l
+
+  -- whether an item was pushed or handed back, what is there is legal
+  pub push_legal : {H : Type 0} → ∥ legal [] ∥₁ → (drops one_pass : Bool) (room : Room) (x : T) (old new : PartsView T M)
+      (before after : Pass H) → ((ys : List T) → legal ys → legal (ys ++ x ∷ []))
+      → (reply : Result (Unit {0}) (TryReserveError × T))
+      → OnOk reply (Pushes drops one_pass room (x ∷ []) old new before after)
+      → IfErr reply (λ r. (r.1 ≡ x) × MakesRoom drops one_pass room old new before after (Err r.0))
+      → ∥ legal old.items ∥₁ → ∥ legal new.items ∥₁
+  push_legal none drops one_pass room x old new before after more (Ok u) pushed refused l =
+      pushed_legal none drops one_pass room (x ∷ []) old new before after more pushed l
+  push_legal none drops one_pass room x old new before after more (Err r) pushed refused l =
+      room_legal none drops one_pass room old new before after (Err r.0) refused.1 l
+
+  -- and whether a list was, or nothing
+  pub extend_legal : {H : Type 0} → ∥ legal [] ∥₁ → (drops one_pass : Bool) (room : Room) (xs : List T) (old new : PartsView T M)
+      (before after : Pass H) → ((ys : List T) → legal ys → legal (ys ++ xs))
+      → (reply : Result (Unit {0}) TryReserveError)
+      → OnOk reply (Pushes drops one_pass room xs old new before after)
+      → IfErr reply (λ e. MakesRoom drops one_pass room old new before after (Err e))
+      → ∥ legal old.items ∥₁ → ∥ legal new.items ∥₁
+  extend_legal none drops one_pass room xs old new before after more (Ok u) pushed refused l =
+      pushed_legal none drops one_pass room xs old new before after more pushed l
+  extend_legal none drops one_pass room xs old new before after more (Err e) pushed refused l =
+      room_legal none drops one_pass room old new before after (Err e) refused l

@@ -1,0 +1,110 @@
+//! `ArcSliceMut`, a window that is written.
+ghost use Rattle.std.specs.Prelude.{◌≡◌};
+ghost use Rattle.arc_block.specs.Writers.{idle_writer};
+
+pub use change::try_into_mut_as;
+pub use plain::try_into_mut;
+
+use arc_block::layout::{DefaultLayoutMut, LayoutMut};
+use arc_block::parts::SoleParts;
+use arc_buffer::kinds::{Emptyable, Plain, Slice, Text};
+use arc_owners::mark::{Mark, Open};
+use std::alloc::{Allocator, Global};
+use std::marker::{Model, PhantomData};
+
+/// A list with a capacity: the only owner of its block writes into the block's places, or it
+/// stands on nothing, with no items and no places.
+///
+/// `UNIQUE` is 1: the window is its block's only owner. `B` is the type of callers' buffers and
+/// `M` that of their metadata. No window is made of a buffer yet.
+///
+/// Each call that makes a block, writes to it or leaves it has a form that ends in `_as` and takes
+/// a pass of the block, in which contracts read what was added to the block's history; a window
+/// that stands on no block has a pass of none. The plain form is that form with a new pass.
+/// Dropped, a window under the mark `Open` ends with a new pass, and one under `Whole` is a
+/// forgotten owner of its block.
+pub struct ArcSliceMut<
+    S: Slice,
+    L: LayoutMut,
+    const UNIQUE: u8,
+    B = Vec<<S as Slice>::Item>,
+    M = (),
+    A: Allocator + Copy = Global,
+    H: Mark = Open,
+> {
+    parts: SoleParts<S, B, M, A, H>,
+    of: PhantomData<L>,
+}
+
+/// A window that writes bytes.
+pub type ArcBytesMut<L = DefaultLayoutMut, A = Global> =
+    ArcSliceMut<Plain<u8>, L, 1, Vec<u8>, (), A>;
+
+/// A window that writes text.
+pub type ArcStrMut<L = DefaultLayoutMut, A = Global> = ArcSliceMut<Text, L, 1, Vec<u8>, (), A>;
+
+impl<S: Slice, L: LayoutMut, const UNIQUE: u8, B, M, A: Allocator + Copy, H: Mark> Model
+    for ArcSliceMut<S, L, UNIQUE, B, M, A, H>
+{
+    ghost use Rattle.arc_block.specs.Window.{PartsView};
+
+    ghost Value = { PartsView S.Item M };
+
+    ghost view = { λ w. w.parts };
+
+    ghost invariant = { λ w. ∥ S.is_legal w.parts.items ∥₁ };
+}
+
+impl<S: Slice, L: LayoutMut, const UNIQUE: u8, B, M, A: Allocator + Copy, H: Mark> Drop
+    for ArcSliceMut<S, L, UNIQUE, B, M, A, H>
+{
+    #[inline(always)]
+    fn drop(self) {
+        let ArcSliceMut { parts, of: _ } = self;
+        drop(parts);
+    }
+}
+
+impl<S: Slice, L: LayoutMut, B, M, A: Allocator + Copy, H: Mark> ArcSliceMut<S, L, 1, B, M, A, H> {
+    /// A window with no items and no places, which stands on nothing.
+    pub fn new(alloc: A) -> Self
+    where
+        S: Emptyable,
+        ensures { result ≡ idle_writer }
+    {
+        Self::from_parts(SoleParts::on_nothing(alloc))
+    }
+
+    /// The window of these parts, with a list that is legal. It adds nothing.
+    #[inline(always)]
+    pub fn from_parts(parts: SoleParts<S, B, M, A, H>) -> Self
+        requires legal { ∥ S.is_legal parts.items ∥₁ }
+        ensures { result ≡ parts }
+    {
+        ArcSliceMut {
+            parts,
+            of: PhantomData,
+        }
+    }
+
+    /// What the window is made of. It adds nothing.
+    #[inline(always)]
+    pub fn into_parts(self) -> SoleParts<S, B, M, A, H>
+        ensures parts { result ≡ self }
+        ensures legal { ∥ S.is_legal result.items ∥₁ }
+    {
+        let ArcSliceMut { parts, of: _ } = self;
+        parts
+    }
+}
+
+mod change;
+mod cuts;
+mod make;
+mod own;
+mod plain;
+mod read;
+#[cfg(test)]
+mod tests;
+mod text;
+mod write;

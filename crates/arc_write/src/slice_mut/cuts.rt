@@ -1,0 +1,34 @@
+//! Cuts of a write window.
+ghost use Rattle.std.specs.Prelude.{◌≡◌, ◌<◌, length};
+ghost use Rattle.arc_buffer.specs.Slice.{IsEdge};
+ghost use Rattle.arc_block.specs.Writers.{after_advance, after_truncate};
+
+use super::ArcSliceMut;
+use arc_block::layout::LayoutMut;
+use arc_buffer::kinds::Subsliceable;
+use arc_owners::mark::Mark;
+use std::alloc::Allocator;
+
+impl<S: Subsliceable, L: LayoutMut, B, M, A: Allocator + Copy, H: Mark>
+    ArcSliceMut<S, L, 1, B, M, A, H>
+{
+    /// Takes the first `n` items and their places off the window, which stays on its block, also
+    /// with no items. It adds nothing.
+    pub fn advance(&mut self, n: usize)
+        requires { IsEdge S.boundary self.old.items n }
+        ensures { self.new ≡ after_advance n self.old }
+    {
+        self.parts.advance(n);
+    }
+
+    /// Leaves the window's first `n` items, or all where it has no more. It stays on its block,
+    /// also with no items. Items that are dropped one by one stay in the block until its release,
+    /// and what is left then has no places beside its own; others leave their places to the
+    /// window. It adds nothing.
+    pub fn truncate(&mut self, n: usize)
+        requires { n < length self.old.items → IsEdge S.boundary self.old.items n }
+        ensures { self.new ≡ after_truncate S.DROPS n self.old }
+    {
+        self.parts.truncate(n);
+    }
+}

@@ -1,0 +1,101 @@
+//! Making of windows that are written.
+ghost use Rattle.std.specs.Prelude.{◌≡◌, ◌≤◌, false, length, [], IfOk, IfErr, OnErr};
+ghost use Rattle.arc_owners.specs.count.Calls.{IsPassOfNone};
+ghost use Rattle.arc_block.specs.Writers.{MakesWriter};
+
+use super::ArcSliceMut;
+use arc_block::layout::LayoutMut;
+use arc_block::parts::SoleParts;
+use arc_buffer::kinds::{AnyItems, CopySlice, Emptyable, Slice};
+use arc_owners::error::AllocError;
+use arc_owners::mark::Mark;
+use arc_owners::owners::Pass;
+use std::alloc::Allocator;
+
+impl<S: Slice, L: LayoutMut, B, M, A: Allocator + Copy, H: Mark> ArcSliceMut<S, L, 1, B, M, A, H> {
+    /// A window with no items, and with so many places: for none on nothing, else on a new native
+    /// block. The pass, which is of no block, becomes the block's; the window is owner 0.
+    ///
+    /// # Errors
+    ///
+    /// `AllocError` where memory for the block is refused; the pass is then as before.
+    ///
+    /// # Allocates
+    ///
+    /// Twice, except for no places.
+    pub fn try_with_capacity_as(
+        alloc: A,
+        capacity: usize,
+        pass: &mut Pass<H>,
+    ) -> Result<Self, AllocError>
+    where
+        S: Emptyable,
+        requires pass { IsPassOfNone pass.old }
+        ensures made { IfOk result (λ window.
+            MakesWriter S.DROPS H.whole [] capacity window pass.old pass.new) }
+        ensures refused { OnErr result ((1 ≤ capacity) × (pass.new ≡ pass.old)) }
+    {
+        match SoleParts::try_with_capacity_as(alloc, capacity, pass) {
+            Ok(parts) => Ok(Self::from_parts(parts)),
+            Err(e) => Err(e),
+        }
+    }
+
+    /// A window over a copy of the items: no items stand on nothing, else they stand on a new
+    /// native block with exactly a place for each. The pass, which is of no block, becomes the
+    /// block's; the window is owner 0.
+    ///
+    /// # Errors
+    ///
+    /// `AllocError` where memory for the block is refused; the pass is then as before.
+    ///
+    /// # Allocates
+    ///
+    /// Twice, except for no items.
+    pub fn try_from_slice_as(
+        alloc: A,
+        items: &[S::Item],
+        pass: &mut Pass<H>,
+    ) -> Result<Self, AllocError>
+    where
+        S: CopySlice,
+        S::Item: Copy,
+        requires pass { IsPassOfNone pass.old }
+        ensures made { IfOk result (λ window.
+            MakesWriter S.DROPS H.whole items.now (length items.now) window pass.old pass.new) }
+        ensures refused { OnErr result ((1 ≤ length items.now) × (pass.new ≡ pass.old)) }
+    {
+        match SoleParts::try_from_slice_as(alloc, items, pass) {
+            Ok(parts) => Ok(Self::from_parts(parts)),
+            Err(e) => Err(e),
+        }
+    }
+
+    /// A window over an array's items, which are moved into a block as `try_from_slice_as` copies.
+    ///
+    /// # Errors
+    ///
+    /// The array comes back where memory for the block is refused; the pass is then as before.
+    ///
+    /// # Allocates
+    ///
+    /// Twice, except for no items.
+    pub fn try_from_array_as<const N: usize>(
+        alloc: A,
+        array: [S::Item; N],
+        pass: &mut Pass<H>,
+    ) -> Result<Self, [S::Item; N]>
+    where
+        S: AnyItems,
+        requires pass { IsPassOfNone pass.old }
+        ensures made { IfOk result (λ window.
+            MakesWriter S.DROPS H.whole array (length array) window pass.old pass.new) }
+        ensures refused { IfErr result (λ back. (back ≡ array) × (1 ≤ length array)
+            × (pass.new ≡ pass.old)) }
+    {
+        match SoleParts::try_from_array_as::<N>(alloc, array, pass) {
+            Ok(parts) => Ok(Self::from_parts(parts)),
+            Err(back) => Err(back),
+        }
+    }
+}

@@ -1,0 +1,268 @@
+//! The plain forms: calls with a new pass.
+ghost use Rattle.std.specs.Prelude.{◌≡◌, ◌≤◌, ◌+◌, ◌∷◌, ◌==◌, if◌then◌else◌, true, false, []};
+ghost use Rattle.std.specs.Prelude.{length, IfOk, IfErr, OnOk, OnErr, Err};
+ghost use Rattle.std.specs.Mem.{FitsInMemory, type_size};
+ghost use Rattle.arc_owners.specs.declared.count.tokens.Pass.{Pass};
+ghost use Rattle.arc_owners.specs.declared.mark.Open.{Open};
+ghost use Rattle.arc_owners.specs.count.Calls.{Asks};
+ghost use Rattle.arc_block.specs.Place.{at_owner};
+ghost use Rattle.arc_block.specs.Window.{parts_of};
+ghost use Rattle.arc_block.specs.Writers.{capacity_of, room, as_sole, MakesWriter, MakesRoom, Pushes};
+ghost use Rattle.arc_read.specs.Steps.{WithNewPass};
+
+use super::ArcSliceMut;
+use super::change::try_into_mut_as;
+use arc_block::layout::{Layout, LayoutMut};
+use arc_buffer::kinds::{AnyItems, CopySlice, Emptyable, Extendable, Slice, Text};
+use arc_owners::error::{AllocError, TryReserveError};
+use arc_owners::mark::{Open, Stepping};
+use arc_owners::owners::Pass;
+use arc_read::slice::ArcSlice;
+use std::alloc::Allocator;
+
+impl<S: Slice, L: LayoutMut, B, M, A: Allocator + Copy> ArcSliceMut<S, L, 1, B, M, A, Open> {
+    /// A window with no items, and with so many places: `try_with_capacity_as` with a new pass.
+    ///
+    /// # Errors
+    ///
+    /// `AllocError` where memory for the block is refused.
+    ///
+    /// # Allocates
+    ///
+    /// Twice, except for no places.
+    pub fn try_with_capacity(alloc: A, capacity: usize) -> Result<Self, AllocError>
+    where
+        S: Emptyable,
+        ensures made { IfOk result (λ window. (first : Pass Open) × (last : Pass Open)
+            × MakesWriter S.DROPS false [] capacity window first last) }
+        ensures refused { OnErr result (1 ≤ capacity) }
+    {
+        Self::try_with_capacity_as(alloc, capacity, &mut Pass::none())
+    }
+
+    /// A window over a copy of the items: `try_from_slice_as` with a new pass.
+    ///
+    /// # Errors
+    ///
+    /// `AllocError` where memory for the block is refused.
+    ///
+    /// # Allocates
+    ///
+    /// Twice, except for no items.
+    pub fn try_from_slice(alloc: A, items: &[S::Item]) -> Result<Self, AllocError>
+    where
+        S: CopySlice,
+        S::Item: Copy,
+        ensures made { IfOk result (λ window. (first : Pass Open) × (last : Pass Open)
+            × MakesWriter S.DROPS false items.now (length items.now) window first last) }
+        ensures refused { OnErr result (1 ≤ length items.now) }
+    {
+        Self::try_from_slice_as(alloc, items, &mut Pass::none())
+    }
+
+    /// A window over an array's items: `try_from_array_as` with a new pass.
+    ///
+    /// # Errors
+    ///
+    /// The array comes back where memory for the block is refused.
+    ///
+    /// # Allocates
+    ///
+    /// Twice, except for no items.
+    pub fn try_from_array<const N: usize>(
+        alloc: A,
+        array: [S::Item; N],
+    ) -> Result<Self, [S::Item; N]>
+    where
+        S: AnyItems,
+        ensures made { IfOk result (λ window. (first : Pass Open) × (last : Pass Open)
+            × MakesWriter S.DROPS false array (length array) window first last) }
+        ensures refused { IfErr result (λ back. (back ≡ array) × (1 ≤ length array)) }
+    {
+        Self::try_from_array_as(alloc, array, &mut Pass::none())
+    }
+}
+
+impl<L: LayoutMut, B, M, A: Allocator + Copy> ArcSliceMut<Text, L, 1, B, M, A, Open> {
+    /// A window over a copy of the text: `try_from_str_as` with a new pass.
+    ///
+    /// # Errors
+    ///
+    /// `AllocError` where memory for the block is refused.
+    ///
+    /// # Allocates
+    ///
+    /// Twice, except for no text.
+    pub fn try_from_str(alloc: A, text: &str) -> Result<Self, AllocError>
+        ensures made { IfOk result (λ window. (first : Pass Open) × (last : Pass Open)
+            × MakesWriter false false text.now (length text.now) window first last) }
+        ensures refused { OnErr result (1 ≤ length text.now) }
+    {
+        Self::try_from_str_as(alloc, text, &mut Pass::none())
+    }
+}
+
+// They are generic over the marks under which a block has many passes, which `Open` alone is: so a
+// body can show a pass only by one that is there (`Pass::show`), and none that it made up.
+impl<S: Emptyable, L: LayoutMut, B, M, A: Allocator + Copy, H: Stepping>
+    ArcSliceMut<S, L, 1, B, M, A, H>
+{
+    /// Makes room for so many items more: `try_reserve_as` with a new pass.
+    ///
+    /// # Errors
+    ///
+    /// Those of `try_reserve_as`.
+    ///
+    /// # Allocates
+    ///
+    /// As `try_reserve_as`.
+    ///
+    /// # History
+    ///
+    /// That of `try_reserve_as`.
+    pub fn try_reserve(&mut self, additional: usize) -> Result<(), TryReserveError>
+        requires item { FitsInMemory S.Item.row }
+        ensures room { WithNewPass {H = H} H.real self.old.place (λ first last.
+            MakesRoom S.DROPS H.whole
+            (room S.DROPS (if type_size S.Item.row == 1 then 8 else 4) (type_size S.Item.row)
+            self.old additional) self.old self.new first last result) }
+        ensures enough { OnOk result
+            (length self.new.items + additional ≤ capacity_of self.new.role) }
+    {
+        let mut pass = self.pass();
+        let made = self.try_reserve_as(additional, &mut pass);
+        pass.show();
+        made
+    }
+
+    /// An item more, behind the others: `try_push_as` with a new pass.
+    ///
+    /// # Errors
+    ///
+    /// Those of `try_push_as`.
+    ///
+    /// # Allocates
+    ///
+    /// As `try_reserve_as`.
+    ///
+    /// # History
+    ///
+    /// That of `try_reserve_as`.
+    #[inline(always)]
+    pub fn try_push(&mut self, item: S::Item) -> Result<(), (TryReserveError, S::Item)>
+    where
+        S: Extendable,
+        requires item { FitsInMemory S.Item.row }
+        ensures pushed { OnOk result (WithNewPass {H = H} H.real self.old.place (λ first last.
+            Pushes S.DROPS H.whole
+            (room S.DROPS (if type_size S.Item.row == 1 then 8 else 4) (type_size S.Item.row)
+            self.old 1) (item ∷ []) self.old self.new first last)) }
+        ensures refused { IfErr result (λ r. (r.1 ≡ item)
+            × WithNewPass {H = H} H.real self.old.place (λ first last.
+            MakesRoom S.DROPS H.whole
+            (room S.DROPS (if type_size S.Item.row == 1 then 8 else 4) (type_size S.Item.row)
+            self.old 1) self.old self.new first last (Err r.0))) }
+    {
+        let mut pass = self.pass();
+        let pushed = self.try_push_as(item, &mut pass);
+        pass.show();
+        pushed
+    }
+
+    /// A copy of the items more, behind the others: `try_extend_from_slice_as` with a new pass.
+    ///
+    /// # Errors
+    ///
+    /// Those of `try_extend_from_slice_as`.
+    ///
+    /// # Allocates
+    ///
+    /// As `try_reserve_as`.
+    ///
+    /// # History
+    ///
+    /// That of `try_reserve_as`.
+    pub fn try_extend_from_slice(&mut self, items: &[S::Item]) -> Result<(), TryReserveError>
+    where
+        S: CopySlice,
+        S::Item: Copy,
+        requires item { FitsInMemory S.Item.row }
+        ensures extended { OnOk result (WithNewPass {H = H} H.real self.old.place (λ first last.
+            Pushes S.DROPS H.whole
+            (room S.DROPS (if type_size S.Item.row == 1 then 8 else 4) (type_size S.Item.row)
+            self.old (length items.now)) items.now self.old self.new first last)) }
+        ensures refused { IfErr result (λ e.
+            WithNewPass {H = H} H.real self.old.place (λ first last.
+            MakesRoom S.DROPS H.whole
+            (room S.DROPS (if type_size S.Item.row == 1 then 8 else 4) (type_size S.Item.row)
+            self.old (length items.now)) self.old self.new first last (Err e))) }
+    {
+        let mut pass = self.pass();
+        let extended = self.try_extend_from_slice_as(items, &mut pass);
+        pass.show();
+        extended
+    }
+}
+
+impl<L: LayoutMut, B, M, A: Allocator + Copy, H: Stepping> ArcSliceMut<Text, L, 1, B, M, A, H> {
+    /// A copy of the text more, behind what is there: `try_extend_from_str_as` with a new pass.
+    ///
+    /// # Errors
+    ///
+    /// Those of `try_extend_from_str_as`.
+    ///
+    /// # Allocates
+    ///
+    /// As `try_reserve_as`.
+    ///
+    /// # History
+    ///
+    /// That of `try_reserve_as`.
+    pub fn try_extend_from_str(&mut self, text: &str) -> Result<(), TryReserveError>
+        ensures extended { OnOk result (WithNewPass {H = H} H.real self.old.place (λ first last.
+            Pushes false H.whole (room false 8 1 self.old (length text.now)) text.now
+            self.old self.new first last)) }
+        ensures refused { IfErr result (λ e.
+            WithNewPass {H = H} H.real self.old.place (λ first last.
+            MakesRoom false H.whole (room false 8 1 self.old (length text.now))
+            self.old self.new first last (Err e))) }
+    {
+        let mut pass = self.pass();
+        let extended = self.try_extend_from_str_as(text, &mut pass);
+        pass.show();
+        extended
+    }
+}
+
+/// The same items at the same place, as their only writer: `try_into_mut_as` with a new pass.
+///
+/// # Errors
+///
+/// Those of `try_into_mut_as`.
+///
+/// # History
+///
+/// That of `try_into_mut_as`.
+pub fn try_into_mut<S, L, K, B, M, A, H>(
+    window: ArcSlice<S, L, B, M, A, H>,
+) -> Result<ArcSliceMut<S, K, 1, B, M, A, H>, ArcSlice<S, L, B, M, A, H>>
+where
+    S: Slice,
+    L: Layout,
+    K: LayoutMut,
+    A: Allocator + Copy,
+    H: Stepping,
+    ensures sole { IfOk result (λ sole. (sole ≡ as_sole S.DROPS (parts_of window))
+        × WithNewPass {H = H} H.real window.place (λ first last.
+        at_owner window.place ((length window.items ≡ 0) × (last ≡ first))
+        (λ o. Asks o first last true))) }
+    ensures refused { IfErr result (λ back. (back ≡ window)
+        × WithNewPass {H = H} H.real window.place (λ first last.
+        at_owner window.place ((1 ≤ length window.items) × (last ≡ first))
+        (λ o. Asks o first last false))) }
+{
+    let mut pass = window.pass();
+    let changed = try_into_mut_as(window, &mut pass);
+    pass.show();
+    changed
+}

@@ -1,0 +1,68 @@
+//! Views of a write window, and the test of where it may be cut.
+ghost use Rattle.std.specs.Prelude.{◌≡◌, ◌≤◌, ◌==◌, ◌↔◌, length, IsOk};
+ghost use Rattle.arc_buffer.specs.Slice.{IsEdge, edge_answer};
+ghost use Rattle.arc_block.specs.Writers.{capacity_of};
+
+use super::ArcSliceMut;
+use arc_block::layout::LayoutMut;
+use arc_buffer::kinds::{Slice, Subsliceable};
+use arc_owners::error::RangeError;
+use arc_owners::mark::Mark;
+use std::alloc::Allocator;
+
+impl<S: Slice, L: LayoutMut, B, M, A: Allocator + Copy, H: Mark> ArcSliceMut<S, L, 1, B, M, A, H> {
+    /// How many items the window has.
+    #[inline(always)]
+    pub fn len(&self) -> usize
+        ensures { result ≡ length self.now.items }
+    {
+        self.parts.len()
+    }
+
+    /// Whether the window has no items.
+    #[inline(always)]
+    pub fn is_empty(&self) -> bool
+        ensures { result ≡ (length self.now.items == 0) }
+    {
+        self.len() == 0
+    }
+
+    /// The items.
+    #[inline(always)]
+    pub fn as_slice(&self) -> &[S::Item]
+        ensures { result.now ≡ self.now.items }
+    {
+        self.parts.as_slice()
+    }
+
+    /// How many places the window has, from its first item on.
+    #[inline(always)]
+    pub fn capacity(&self) -> usize
+        ensures capacity { result ≡ capacity_of self.now.role }
+        ensures enough { length self.now.items ≤ result }
+    {
+        self.parts.capacity()
+    }
+
+    /// Whether the window may be cut at `at`.
+    ///
+    /// # Errors
+    ///
+    /// `OutOfRange` where that is past the length, else `NotBoundary` where the kind may not be cut
+    /// there.
+    pub fn check_at(&self, at: usize) -> Result<(), RangeError>
+    where
+        S: Subsliceable,
+        ensures answer { result ≡ edge_answer S.boundary self.now.items at }
+        ensures ok { IsOk result ↔ IsEdge S.boundary self.now.items at }
+    {
+        if at > self.len() {
+            return Err(RangeError::OutOfRange);
+        }
+        if S::is_boundary(self.as_slice(), at) {
+            Ok(())
+        } else {
+            Err(RangeError::NotBoundary)
+        }
+    }
+}

@@ -1,0 +1,178 @@
+//! Write windows: the worked rows, under each form of the default layout, and each call once.
+use super::{ArcBytesMut, ArcSliceMut, ArcStrMut, try_into_mut, try_into_mut_as};
+use arc_block::layout::{ArcLayout, DefaultLayout, DefaultLayoutMut, LayoutMut, VecLayout};
+use arc_buffer::kinds::{ByteText, Owned, Plain};
+use arc_owners::error::{AllocError, RangeError, TryReserveError};
+use arc_owners::mark::Whole;
+use arc_owners::owners::Pass;
+use arc_read::slice::ArcSlice;
+use linked_list_allocator::LocalHeap;
+use std::alloc::Global;
+use std::test::Fail;
+
+/// Takes so many items off the front of a window that has them.
+fn cut<L: LayoutMut>(window: &mut ArcBytesMut<L>, n: usize) -> Result<(), Fail> {
+    match window.check_at(n) {
+        Ok(()) => {
+            window.advance(n);
+            Ok(())
+        }
+        Err(_) => Err("fewer items than that".into()),
+    }
+}
+
+/// A block grows to twice its size, or to what is needed, and the offset stays.
+fn grown<L: LayoutMut>(alloc: Global) -> Result<[usize; 2], Fail> {
+    let mut window: ArcBytesMut<L> = ArcSliceMut::try_from_slice(alloc, &[1, 2, 3, 4, 5, 6, 7, 8])?;
+    cut(&mut window, 3)?;
+    if window.try_push(9).is_err() {
+        return Err("no room for an item".into());
+    }
+    window.try_reserve(7)?;
+    let first = window.capacity();
+    window.try_reserve(8)?;
+    Ok([first, window.capacity()])
+}
+
+#[test]
+fn growth_is_exact(rt: HostRuntime) -> Result<(), Fail> {
+    assert_eq!(rt; grown::<ArcLayout<true, true>>(rt.alloc())?, [13, 29]);
+    assert_eq!(rt; grown::<ArcLayout<true, false>>(rt.alloc())?, [13, 29]);
+    assert_eq!(rt; grown::<ArcLayout<false, true>>(rt.alloc())?, [13, 29]);
+    assert_eq!(rt; grown::<ArcLayout<false, false>>(rt.alloc())?, [13, 29]);
+    assert_eq!(rt; grown::<VecLayout>(rt.alloc())?, [13, 29]);
+    Ok(())
+}
+
+/// The room in front of a short list is had without memory.
+fn reclaimed<L: LayoutMut>(alloc: Global) -> Result<([usize; 2], [bool; 2]), Fail> {
+    let mut window: ArcBytesMut<L> = ArcSliceMut::try_with_capacity(alloc, 8)?;
+    window.try_extend_from_slice(&[1, 2, 3])?;
+    cut(&mut window, 3)?;
+    let before = window.capacity();
+    let found = window.try_reclaim(8);
+    let after = window.capacity();
+    let more = window.try_reclaim(9);
+    Ok(([before, after], [found, more]))
+}
+
+#[test]
+fn room_in_front(rt: HostRuntime) -> Result<(), Fail> {
+    let expected = ([5, 8], [true, false]);
+    assert_eq!(rt; reclaimed::<ArcLayout<true, true>>(rt.alloc())?, expected);
+    assert_eq!(rt; reclaimed::<ArcLayout<true, false>>(rt.alloc())?, expected);
+    assert_eq!(rt; reclaimed::<ArcLayout<false, true>>(rt.alloc())?, expected);
+    assert_eq!(rt; reclaimed::<ArcLayout<false, false>>(rt.alloc())?, expected);
+    Ok(())
+}
+
+#[test]
+fn frozen_and_written_again(rt: HostRuntime) -> Result<(), Fail> {
+    let window: ArcBytesMut = ArcSliceMut::try_from_slice(rt.alloc(), &[1, 2])?;
+    let Ok(frozen) = window.try_freeze::<DefaultLayout>() else {
+        return Err("not frozen".into());
+    };
+    let clone = frozen.try_clone(&rt)?;
+    let frozen = match try_into_mut::<_, _, DefaultLayoutMut, _, _, _, _>(frozen) {
+        Ok(_) => return Err("another owner is there".into()),
+        Err(frozen) => frozen,
+    };
+    drop(clone);
+    let Ok(mut window) = try_into_mut::<_, _, DefaultLayoutMut, _, _, _, _>(frozen) else {
+        return Err("alone, and refused".into());
+    };
+    assert!(rt; window.try_push(3).is_ok());
+    assert_eq!(rt; window.as_slice(), [1, 2, 3].as_slice());
+    Ok(())
+}
+
+#[test]
+fn too_much_room(rt: HostRuntime) -> Result<(), Fail> {
+    let mut window: ArcBytesMut = ArcSliceMut::try_from_slice(rt.alloc(), &[1])?;
+    let most = 18446744073709551615;
+    assert_eq!(rt; window.try_reserve(most), Err(TryReserveError::CapacityOverflow));
+    assert_eq!(rt; window.as_slice(), [1].as_slice());
+    assert_eq!(rt; window.capacity(), 1);
+    let mut empty: ArcBytesMut = ArcSliceMut::new(rt.alloc());
+    assert_eq!(rt; empty.try_reserve(most), Err(TryReserveError::AllocError));
+    assert!(rt; empty.is_empty());
+    assert_eq!(rt; empty.capacity(), 0);
+    assert!(rt; empty.try_push(7).is_ok());
+    assert_eq!(rt; empty.capacity(), 8);
+    Ok(())
+}
+
+#[test]
+fn text_grows_and_is_cut(rt: HostRuntime) -> Result<(), Fail> {
+    let mut text: ArcStrMut = ArcSliceMut::try_from_str(rt.alloc(), "hé")?;
+    assert_eq!(rt; text.check_at(2), Err(RangeError::NotBoundary));
+    assert_eq!(rt; text.check_at(4), Err(RangeError::OutOfRange));
+    text.try_extend_from_str("llo")?;
+    assert_eq!(rt; text.as_str(), "héllo");
+    match text.check_at(3) {
+        Ok(()) => text.truncate(3),
+        Err(_) => return Err("no edge".into()),
+    }
+    assert_eq!(rt; text.as_str(), "hé");
+    assert_eq!(rt; text.len(), 3);
+    Ok(())
+}
+
+#[test]
+fn owned_items_and_units(rt: HostRuntime) -> Result<(), Fail> {
+    let mut boxes: ArcSliceMut<Owned<[u8; 3]>, DefaultLayoutMut, 1> =
+        ArcSliceMut::try_from_array(rt.alloc(), [[1, 2, 3], [4, 5, 6]])?;
+    boxes.truncate(1);
+    assert_eq!(rt; boxes.capacity(), 1);
+    match boxes.try_push([7, 8, 9]) {
+        Ok(()) => return Err("full places behind it".into()),
+        Err((e, item)) => {
+            assert_eq!(rt; e, TryReserveError::Unsupported);
+            assert_eq!(rt; item, [7, 8, 9]);
+        }
+    }
+    let mut units: ArcSliceMut<Plain<()>, DefaultLayoutMut, 1> =
+        ArcSliceMut::try_from_array(rt.alloc(), [(), ()])?;
+    assert!(rt; units.try_push(()).is_ok());
+    assert_eq!(rt; units.len(), 3);
+    let bytes: ArcSliceMut<ByteText, DefaultLayoutMut, 1> =
+        ArcSliceMut::try_from_slice(rt.alloc(), b"ab")?;
+    assert_eq!(rt; bytes.as_slice(), b"ab".as_slice());
+    Ok(())
+}
+
+#[test]
+fn one_pass_throughout(rt: HostRuntime) -> Result<(), Fail> {
+    let mut pass = Pass::none();
+    let mut window: ArcSliceMut<Plain<u8>, DefaultLayoutMut, 1, Vec<u8>, (), Global, Whole> =
+        ArcSliceMut::try_from_slice_as(rt.alloc(), &[1], &mut pass)?;
+    window.try_extend_from_slice_as(&[2, 3], &mut pass)?;
+    let frozen: ArcSlice<Plain<u8>, DefaultLayout, Vec<u8>, (), Global, Whole> =
+        ArcSlice::from_parts(window.into_parts().freeze());
+    match try_into_mut_as::<_, _, DefaultLayoutMut, _, _, _, _>(frozen, &mut pass) {
+        Ok(window) => {
+            assert_eq!(rt; window.as_slice(), [1, 2, 3].as_slice());
+            window.release_as(&mut pass);
+        }
+        Err(frozen) => {
+            frozen.release_as(&mut pass);
+            return Err("alone, and refused".into());
+        }
+    }
+    Ok(())
+}
+
+#[test]
+fn memory_refused(rt: HostRuntime) -> Result<(), Fail> {
+    let mut space = [0; 256];
+    let heap = LocalHeap::new(&mut space);
+    let mut window: ArcBytesMut<DefaultLayoutMut, &LocalHeap> =
+        ArcSliceMut::try_from_slice(&heap, &[1, 2])?;
+    assert_eq!(rt; window.try_reserve(1000), Err(TryReserveError::AllocError));
+    assert_eq!(rt; window.as_slice(), [1, 2].as_slice());
+    assert_eq!(rt; window.capacity(), 2);
+    let large: Result<ArcBytesMut<DefaultLayoutMut, &LocalHeap>, AllocError> =
+        ArcSliceMut::try_with_capacity(&heap, 1000);
+    assert!(rt; large.is_err());
+    Ok(())
+}

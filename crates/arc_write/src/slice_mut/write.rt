@@ -1,0 +1,132 @@
+//! Room in a write window, and what is written behind its items.
+ghost use Rattle.std.specs.Prelude.{◌≡◌, ◌≤◌, ◌+◌, ◌∷◌, ◌==◌, if◌then◌else◌, [], length};
+ghost use Rattle.std.specs.Prelude.{IfOk, IfErr, OnOk, OnErr, Ok, Err};
+ghost use Rattle.std.specs.Mem.{FitsInMemory, type_size};
+ghost use Rattle.arc_block.specs.Steps.{IsPassAt};
+ghost use Rattle.arc_block.specs.Writers.{capacity_of, room, MakesRoom, Pushes, Reclaims};
+
+use super::ArcSliceMut;
+use arc_block::layout::LayoutMut;
+use arc_buffer::kinds::{CopySlice, Emptyable, Extendable, Slice};
+use arc_owners::error::TryReserveError;
+use arc_owners::mark::Mark;
+use arc_owners::owners::Pass;
+use std::alloc::Allocator;
+
+impl<S: Emptyable, L: LayoutMut, B, M, A: Allocator + Copy, H: Mark>
+    ArcSliceMut<S, L, 1, B, M, A, H>
+{
+    /// Makes room for so many items more.
+    ///
+    /// # Errors
+    ///
+    /// - `Unsupported` where items that are dropped one by one end before the block's full places.
+    /// - `CapacityOverflow` where more than 2^63 - 1 places are needed, or the new size in bytes
+    ///   passes that.
+    /// - `AllocError` where memory is refused for a first block, or for a larger one.
+    ///
+    /// Everything is then as before.
+    ///
+    /// # Allocates
+    ///
+    /// Twice for a first block, and once where the block grows: where the places behind the items
+    /// aren't enough, unless items that aren't dropped one by one are no more than the places in
+    /// front of them, and the whole block is large enough.
+    ///
+    /// # History
+    ///
+    /// Nothing is added. Where a first block is made, the pass, which was of none, becomes that
+    /// block's.
+    pub fn try_reserve_as(
+        &mut self,
+        additional: usize,
+        pass: &mut Pass<H>,
+    ) -> Result<(), TryReserveError>
+        requires item { FitsInMemory S.Item.row }
+        requires pass { IsPassAt self.old.place pass.old }
+        ensures room { MakesRoom S.DROPS H.whole
+            (room S.DROPS (if type_size S.Item.row == 1 then 8 else 4) (type_size S.Item.row)
+            self.old additional) self.old self.new pass.old pass.new result }
+        ensures enough { OnOk result
+            (length self.new.items + additional ≤ capacity_of self.new.role) }
+    {
+        self.parts.try_reserve_as(additional, pass)
+    }
+
+    /// Whether there is room for so many items more without memory; then it is made. It adds
+    /// nothing.
+    #[tactic(auto, using(crate::proofs::Legal::reclaimed_legal))]
+    pub fn try_reclaim(&mut self, additional: usize) -> bool
+        requires item { FitsInMemory S.Item.row }
+        ensures { Reclaims (room S.DROPS (if type_size S.Item.row == 1 then 8 else 4)
+            (type_size S.Item.row) self.old additional) self.old self.new result }
+    {
+        self.parts.try_reclaim(additional)
+    }
+
+    /// An item more, behind the others, once there is room for it.
+    ///
+    /// # Errors
+    ///
+    /// Those of `try_reserve_as`, with the item.
+    ///
+    /// # Allocates
+    ///
+    /// As `try_reserve_as`.
+    ///
+    /// # History
+    ///
+    /// As `try_reserve_as`.
+    #[inline(always)]
+    pub fn try_push_as(
+        &mut self,
+        item: S::Item,
+        pass: &mut Pass<H>,
+    ) -> Result<(), (TryReserveError, S::Item)>
+    where
+        S: Extendable,
+        requires item { FitsInMemory S.Item.row }
+        requires pass { IsPassAt self.old.place pass.old }
+        ensures pushed { OnOk result (Pushes S.DROPS H.whole
+            (room S.DROPS (if type_size S.Item.row == 1 then 8 else 4) (type_size S.Item.row)
+            self.old 1) (item ∷ []) self.old self.new pass.old pass.new) }
+        ensures refused { IfErr result (λ r. (r.1 ≡ item) × MakesRoom S.DROPS H.whole
+            (room S.DROPS (if type_size S.Item.row == 1 then 8 else 4) (type_size S.Item.row)
+            self.old 1) self.old self.new pass.old pass.new (Err r.0)) }
+    {
+        self.parts.try_push_as(item, pass)
+    }
+
+    /// A copy of the items more, behind the others, once there is room for them.
+    ///
+    /// # Errors
+    ///
+    /// Those of `try_reserve_as`.
+    ///
+    /// # Allocates
+    ///
+    /// As `try_reserve_as`.
+    ///
+    /// # History
+    ///
+    /// As `try_reserve_as`.
+    pub fn try_extend_from_slice_as(
+        &mut self,
+        items: &[S::Item],
+        pass: &mut Pass<H>,
+    ) -> Result<(), TryReserveError>
+    where
+        S: CopySlice,
+        S::Item: Copy,
+        requires item { FitsInMemory S.Item.row }
+        requires pass { IsPassAt self.old.place pass.old }
+        ensures extended { OnOk result (Pushes S.DROPS H.whole
+            (room S.DROPS (if type_size S.Item.row == 1 then 8 else 4) (type_size S.Item.row)
+            self.old (length items.now)) items.now self.old self.new pass.old pass.new) }
+        ensures refused { IfErr result (λ e. MakesRoom S.DROPS H.whole
+            (room S.DROPS (if type_size S.Item.row == 1 then 8 else 4) (type_size S.Item.row)
+            self.old (length items.now)) self.old self.new pass.old pass.new (Err e)) }
+    {
+        self.parts.try_extend_from_slice_as(items, pass)
+    }
+}
