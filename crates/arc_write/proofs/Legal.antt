@@ -1,5 +1,5 @@
 -- What is written stays legal.
-use Rattle.std.proofs.Common.{◌≡◌, ℕ, ◌≤◌, ◌<◌, Bool, true, false, List, [], ◌∷◌, ◌++◌, length, take, drop, if◌then◌else◌, Option, Some, None, Result, Ok, Err, OnOk, IfErr, refl, sym, ap, ◌∙◌, subst, arith}
+use Rattle.std.proofs.Common.{◌≡◌, ℕ, ◌<◌, Bool, true, false, List, [], ◌∷◌, ◌++◌, length, take, drop, if◌then◌else◌, Option, Result, Ok, Err, OnOk, IfErr, refl, sym, ap, ◌∙◌, subst, arith}
 use Rattle.std.specs.Prelude.{nat_lt}
 use Rattle.std.proofs.Math.Logic.{∥∥₁_map}
 use Rattle.std.proofs.Math.Dec.{T}
@@ -15,7 +15,7 @@ use Rattle.arc_owners.specs.count.Calls.{Owner}
 use Rattle.arc_buffer.specs.Slice.{sub, IsEdge, IsRange}
 use Rattle.arc_block.specs.Place.{Place, nowhere, static_data, on_block, at_owner}
 use Rattle.arc_block.specs.Window.{PartsView}
-use Rattle.arc_block.specs.Writers.{MakesRoom, Pushes, Reclaims, MakesWriter, as_sole, sole_at, after_advance, after_truncate, with_capacity}
+use Rattle.arc_block.specs.Writers.{MakesRoom, Pushes, Reclaims, as_sole, sole_at, after_advance, after_truncate, with_capacity}
 
 yes : (b : Bool) → b ≡ true → T b
 yes true e = tt
@@ -36,7 +36,11 @@ module _ {X : Type 0} (legal : List X → Type 0) where
       → ((xs : List X) → legal xs → IsEdge boundary xs 0 × IsEdge boundary xs (length xs))
       → (xs : List X) (n : ℕ) → IsEdge boundary xs n → ∥ legal xs ∥₁ → ∥ legal (take n xs) ∥₁
   cut-legal boundary part ends xs n edge l = ∥∥₁_map l (λ h. part xs 0 n h (record {
-      ordered = omega arith; within = edge.within; from = (ends xs h).0.cuts; to = edge.cuts }))
+    ordered = omega arith;
+    within = edge.within;
+    from = (ends xs h).0.cuts;
+    to = edge.cuts;
+  }))
 
   by_test : (boundary : List X → ℕ → Bool)
       → ((xs : List X) (s e : ℕ) → legal xs → IsRange boundary xs s e → legal (sub xs s e))
@@ -98,7 +102,11 @@ module _ {T M : Type 0} (legal : List T → Type 0) where
       let all : sub xs n (length xs) ≡ drop n xs = ap (drop n) (take_all (length xs) xs (omega arith)) in
       subst (λ zs. ∥ legal zs ∥₁) (sym (ap (λ w. w.items) is))
       (∥∥₁_map l (λ h. subst legal all (part xs n (length xs) h (record {
-        ordered = edge.within; within = omega arith; from = edge.cuts; to = (ends xs h).1.cuts }))))
+        ordered = edge.within;
+        within = omega arith;
+        from = edge.cuts;
+        to = (ends xs h).1.cuts;
+      }))))
 
   items_of : (drops : Bool) (n : ℕ) (w : PartsView T M) (b : Bool)
       → (if b then record w { items = take n w.items; role = if drops then with_capacity w.role n else w.role } else w).items

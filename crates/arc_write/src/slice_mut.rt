@@ -2,13 +2,12 @@
 ghost use Rattle.std.specs.Prelude.{◌≡◌};
 ghost use Rattle.arc_block.specs.Writers.{idle_writer};
 
-pub use change::try_into_mut_as;
-pub use plain::try_into_mut;
-
 use arc_block::layout::{DefaultLayoutMut, LayoutMut};
 use arc_block::parts::SoleParts;
 use arc_buffer::kinds::{Emptyable, Plain, Slice, Text};
 use arc_owners::mark::{Mark, Open};
+pub use change::try_into_mut_as;
+pub use plain::try_into_mut;
 use std::alloc::{Allocator, Global};
 use std::marker::{Model, PhantomData};
 
@@ -37,15 +36,29 @@ pub struct ArcSliceMut<
 }
 
 /// A window that writes bytes.
-pub type ArcBytesMut<L = DefaultLayoutMut, A = Global> =
-    ArcSliceMut<Plain<u8>, L, 1, Vec<u8>, (), A>;
+pub type ArcBytesMut<L = DefaultLayoutMut, B = Vec<u8>, M = (), A = Global, H = Open> = ArcSliceMut<
+    Plain<u8>,
+    L,
+    1,
+    B,
+    M,
+    A,
+    H,
+>;
 
-/// A window that writes text.
-pub type ArcStrMut<L = DefaultLayoutMut, A = Global> = ArcSliceMut<Text, L, 1, Vec<u8>, (), A>;
+/// A window that writes text, which is always valid UTF-8.
+pub type ArcStrMut<L = DefaultLayoutMut, B = Vec<u8>, M = (), A = Global, H = Open> = ArcSliceMut<
+    Text,
+    L,
+    1,
+    B,
+    M,
+    A,
+    H,
+>;
 
 impl<S: Slice, L: LayoutMut, const UNIQUE: u8, B, M, A: Allocator + Copy, H: Mark> Model
-    for ArcSliceMut<S, L, UNIQUE, B, M, A, H>
-{
+    for ArcSliceMut<S, L, UNIQUE, B, M, A, H> {
     ghost use Rattle.arc_block.specs.Window.{PartsView};
 
     ghost Value = { PartsView S.Item M };
@@ -56,8 +69,7 @@ impl<S: Slice, L: LayoutMut, const UNIQUE: u8, B, M, A: Allocator + Copy, H: Mar
 }
 
 impl<S: Slice, L: LayoutMut, const UNIQUE: u8, B, M, A: Allocator + Copy, H: Mark> Drop
-    for ArcSliceMut<S, L, UNIQUE, B, M, A, H>
-{
+    for ArcSliceMut<S, L, UNIQUE, B, M, A, H> {
     #[inline(always)]
     fn drop(self) {
         let ArcSliceMut { parts, of: _ } = self;

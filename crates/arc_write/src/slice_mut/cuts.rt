@@ -9,9 +9,15 @@ use arc_buffer::kinds::Subsliceable;
 use arc_owners::mark::Mark;
 use std::alloc::Allocator;
 
-impl<S: Subsliceable, L: LayoutMut, B, M, A: Allocator + Copy, H: Mark>
-    ArcSliceMut<S, L, 1, B, M, A, H>
-{
+impl<S: Subsliceable, L: LayoutMut, B, M, A: Allocator + Copy, H: Mark> ArcSliceMut<
+    S,
+    L,
+    1,
+    B,
+    M,
+    A,
+    H,
+> {
     /// Takes the first `n` items and their places off the window, which stays on its block, also
     /// with no items. It adds nothing.
     pub fn advance(&mut self, n: usize)

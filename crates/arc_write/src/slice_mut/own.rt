@@ -36,9 +36,15 @@ impl<S: Slice, L: LayoutMut, B, M, A: Allocator + Copy, H: Mark> ArcSliceMut<S, 
     }
 }
 
-impl<S: Slice, L: LayoutMut, B, M, A: Allocator + Copy, H: Stepping>
-    ArcSliceMut<S, L, 1, B, M, A, H>
-{
+impl<S: Slice, L: LayoutMut, B, M, A: Allocator + Copy, H: Stepping> ArcSliceMut<
+    S,
+    L,
+    1,
+    B,
+    M,
+    A,
+    H,
+> {
     /// A new pass of the window's block, which has seen at least how the window became an owner,
     /// and made nothing; on no block a pass of none. It adds nothing.
     pub fn pass(&self) -> Pass<H>

@@ -13,9 +13,15 @@ use arc_owners::mark::Mark;
 use arc_owners::owners::Pass;
 use std::alloc::Allocator;
 
-impl<S: Emptyable, L: LayoutMut, B, M, A: Allocator + Copy, H: Mark>
-    ArcSliceMut<S, L, 1, B, M, A, H>
-{
+impl<S: Emptyable, L: LayoutMut, B, M, A: Allocator + Copy, H: Mark> ArcSliceMut<
+    S,
+    L,
+    1,
+    B,
+    M,
+    A,
+    H,
+> {
     /// Makes room for so many items more.
     ///
     /// # Errors
