@@ -340,6 +340,7 @@ impl<S: Slice, B, M, A: Allocator + Copy, H: Mark> SoleParts<S, B, M, A, H> {
         ensures room { MakesRoom S.DROPS H.whole
             (room_of S.DROPS (if type_size S.Item.row == 1 then 8 else 4) (type_size S.Item.row)
             self.old additional) self.old self.new pass.old pass.new result }
+        ensures items { self.new.items ≡ self.old.items }
         ensures enough { OnOk result
             (length self.new.items + additional ≤ capacity_of self.new.role) }
     {

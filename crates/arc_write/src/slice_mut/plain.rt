@@ -1,5 +1,5 @@
 //! The plain forms: calls with a new pass.
-ghost use Rattle.std.specs.Prelude.{◌≡◌, ◌≤◌, ◌+◌, ◌∷◌, ◌==◌, if◌then◌else◌, true, false, []};
+ghost use Rattle.std.specs.Prelude.{◌≡◌, ◌≤◌, ◌+◌, ◌++◌, ◌∷◌, ◌==◌, if◌then◌else◌, true, false, []};
 ghost use Rattle.std.specs.Prelude.{length, IfOk, IfErr, OnOk, OnErr, Err};
 ghost use Rattle.std.specs.Mem.{FitsInMemory, type_size};
 ghost use Rattle.arc_owners.specs.declared.count.tokens.Pass.{Pass};
@@ -132,6 +132,7 @@ impl<S: Emptyable, L: LayoutMut, B, M, A: Allocator + Copy, H: Stepping> ArcSlic
             MakesRoom S.DROPS H.whole
             (room S.DROPS (if type_size S.Item.row == 1 then 8 else 4) (type_size S.Item.row)
             self.old additional) self.old self.new first last result) }
+        ensures items { self.new.items ≡ self.old.items }
         ensures enough { OnOk result
             (length self.new.items + additional ≤ capacity_of self.new.role) }
     {
@@ -163,6 +164,7 @@ impl<S: Emptyable, L: LayoutMut, B, M, A: Allocator + Copy, H: Stepping> ArcSlic
             Pushes S.DROPS H.whole
             (room S.DROPS (if type_size S.Item.row == 1 then 8 else 4) (type_size S.Item.row)
             self.old 1) (item ∷ []) self.old self.new first last)) }
+        ensures items { OnOk result (self.new.items ≡ self.old.items ++ item ∷ []) }
         ensures refused { IfErr result (λ r. (r.1 ≡ item)
             × WithNewPass {H = H} H.real self.old.place (λ first last.
             MakesRoom S.DROPS H.whole
@@ -197,6 +199,7 @@ impl<S: Emptyable, L: LayoutMut, B, M, A: Allocator + Copy, H: Stepping> ArcSlic
             Pushes S.DROPS H.whole
             (room S.DROPS (if type_size S.Item.row == 1 then 8 else 4) (type_size S.Item.row)
             self.old (length items.now)) items.now self.old self.new first last)) }
+        ensures items { OnOk result (self.new.items ≡ self.old.items ++ items.now) }
         ensures refused { IfErr result (λ e.
             WithNewPass {H = H} H.real self.old.place (λ first last.
             MakesRoom S.DROPS H.whole
@@ -228,6 +231,7 @@ impl<L: LayoutMut, B, M, A: Allocator + Copy, H: Stepping> ArcSliceMut<Text, L, 
         ensures extended { OnOk result (WithNewPass {H = H} H.real self.old.place (λ first last.
             Pushes false H.whole (room false 8 1 self.old (length text.now)) text.now
             self.old self.new first last)) }
+        ensures items { OnOk result (self.new.items ≡ self.old.items ++ text.now) }
         ensures refused { IfErr result (λ e.
             WithNewPass {H = H} H.real self.old.place (λ first last.
             MakesRoom false H.whole (room false 8 1 self.old (length text.now))

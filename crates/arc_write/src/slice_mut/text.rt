@@ -1,5 +1,5 @@
 //! Write windows over text.
-ghost use Rattle.std.specs.Prelude.{◌≡◌, ◌≤◌, ◌==◌, if◌then◌else◌, false, length};
+ghost use Rattle.std.specs.Prelude.{◌≡◌, ◌≤◌, ◌++◌, ◌==◌, if◌then◌else◌, false, length};
 ghost use Rattle.std.specs.Prelude.{IfOk, IfErr, OnOk, OnErr, Err};
 ghost use Rattle.arc_owners.specs.count.Calls.{IsPassOfNone};
 ghost use Rattle.arc_block.specs.Steps.{IsPassAt};
@@ -69,6 +69,7 @@ impl<L: LayoutMut, B, M, A: Allocator + Copy, H: Mark> ArcSliceMut<Text, L, 1, B
         ensures extended { OnOk result (Pushes false H.whole
             (room false 8 1 self.old (length text.now)) text.now
             self.old self.new pass.old pass.new) }
+        ensures items { OnOk result (self.new.items ≡ self.old.items ++ text.now) }
         ensures refused { IfErr result (λ e. MakesRoom false H.whole
             (room false 8 1 self.old (length text.now))
             self.old self.new pass.old pass.new (Err e)) }

@@ -1,5 +1,5 @@
 //! Room in a write window, and what is written behind its items.
-ghost use Rattle.std.specs.Prelude.{◌≡◌, ◌≤◌, ◌+◌, ◌∷◌, ◌==◌, if◌then◌else◌, [], length};
+ghost use Rattle.std.specs.Prelude.{◌≡◌, ◌≤◌, ◌+◌, ◌++◌, ◌∷◌, ◌==◌, if◌then◌else◌, [], length};
 ghost use Rattle.std.specs.Prelude.{IfOk, IfErr, OnOk, OnErr, Ok, Err};
 ghost use Rattle.std.specs.Mem.{FitsInMemory, type_size};
 ghost use Rattle.arc_block.specs.Steps.{IsPassAt};
@@ -53,6 +53,7 @@ impl<S: Emptyable, L: LayoutMut, B, M, A: Allocator + Copy, H: Mark> ArcSliceMut
         ensures room { MakesRoom S.DROPS H.whole
             (room S.DROPS (if type_size S.Item.row == 1 then 8 else 4) (type_size S.Item.row)
             self.old additional) self.old self.new pass.old pass.new result }
+        ensures items { self.new.items ≡ self.old.items }
         ensures enough { OnOk result
             (length self.new.items + additional ≤ capacity_of self.new.role) }
     {
@@ -96,6 +97,7 @@ impl<S: Emptyable, L: LayoutMut, B, M, A: Allocator + Copy, H: Mark> ArcSliceMut
         ensures pushed { OnOk result (Pushes S.DROPS H.whole
             (room S.DROPS (if type_size S.Item.row == 1 then 8 else 4) (type_size S.Item.row)
             self.old 1) (item ∷ []) self.old self.new pass.old pass.new) }
+        ensures items { OnOk result (self.new.items ≡ self.old.items ++ item ∷ []) }
         ensures refused { IfErr result (λ r. (r.1 ≡ item) × MakesRoom S.DROPS H.whole
             (room S.DROPS (if type_size S.Item.row == 1 then 8 else 4) (type_size S.Item.row)
             self.old 1) self.old self.new pass.old pass.new (Err r.0)) }
@@ -129,6 +131,7 @@ impl<S: Emptyable, L: LayoutMut, B, M, A: Allocator + Copy, H: Mark> ArcSliceMut
         ensures extended { OnOk result (Pushes S.DROPS H.whole
             (room S.DROPS (if type_size S.Item.row == 1 then 8 else 4) (type_size S.Item.row)
             self.old (length items.now)) items.now self.old self.new pass.old pass.new) }
+        ensures items { OnOk result (self.new.items ≡ self.old.items ++ items.now) }
         ensures refused { IfErr result (λ e. MakesRoom S.DROPS H.whole
             (room S.DROPS (if type_size S.Item.row == 1 then 8 else 4) (type_size S.Item.row)
             self.old (length items.now)) self.old self.new pass.old pass.new (Err e)) }

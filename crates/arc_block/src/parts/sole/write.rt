@@ -56,6 +56,7 @@ impl<S: Slice, B, M, A: Allocator + Copy, H: Mark> SoleParts<S, B, M, A, H> {
         ensures pushed { OnOk result (Pushes S.DROPS H.whole
             (room S.DROPS (if type_size S.Item.row == 1 then 8 else 4) (type_size S.Item.row)
             self.old 1) (item ∷ []) self.old self.new pass.old pass.new) }
+        ensures items { OnOk result (self.new.items ≡ self.old.items ++ item ∷ []) }
         ensures refused { IfErr result (λ r. (r.1 ≡ item) × MakesRoom S.DROPS H.whole
             (room S.DROPS (if type_size S.Item.row == 1 then 8 else 4) (type_size S.Item.row)
             self.old 1) self.old self.new pass.old pass.new (Err r.0)) }
@@ -129,6 +130,7 @@ where
         ensures extended { OnOk result (Pushes S.DROPS H.whole
             (room S.DROPS (if type_size S.Item.row == 1 then 8 else 4) (type_size S.Item.row)
             self.old (length items.now)) items.now self.old self.new pass.old pass.new) }
+        ensures items { OnOk result (self.new.items ≡ self.old.items ++ items.now) }
         ensures refused { IfErr result (λ e. MakesRoom S.DROPS H.whole
             (room S.DROPS (if type_size S.Item.row == 1 then 8 else 4) (type_size S.Item.row)
             self.old (length items.now)) self.old self.new pass.old pass.new (Err e)) }
