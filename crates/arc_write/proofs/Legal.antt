@@ -15,7 +15,7 @@ use Rattle.arc_owners.specs.count.Calls.{Owner}
 use Rattle.arc_buffer.specs.Slice.{sub, IsEdge, IsRange}
 use Rattle.arc_block.specs.Place.{Place, nowhere, static_data, on_block, at_owner}
 use Rattle.arc_block.specs.Window.{PartsView}
-use Rattle.arc_block.specs.Writers.{MakesRoom, Pushes, Reclaims, as_sole, sole_at, after_advance, after_truncate, with_capacity}
+use Rattle.arc_block.specs.Writers.{MakesRoom, Reclaims, as_sole, sole_at, after_advance, after_truncate, with_capacity}
 
 yes : (b : Bool) → b ≡ true → T b
 yes true e = tt
@@ -51,29 +51,18 @@ module _ {X : Type 0} (legal : List X → Type 0) where
   by_test boundary part ends xs n edge l false short = l
 
 module _ {T M : Type 0} (legal : List T → Type 0) where
-  -- room keeps a list legal
-  pub room_legal : {H : Type 0} → ∥ legal [] ∥₁ → (drops one_pass : Bool) (room : Room) (old new : PartsView T M)
-      (before after : Pass H) (reply : Result (Unit {0}) TryReserveError)
-      → MakesRoom drops one_pass room old new before after reply → ∥ legal old.items ∥₁
-      → ∥ legal new.items ∥₁
-  room_legal none drops one_pass Spare old new before after reply r l =
-      same legal (ap (λ w. w.items) r.1) l
-  room_legal none drops one_pass Behind old new before after reply r l =
-      same legal (ap (λ w. w.items) r.1) l
-  room_legal none drops one_pass Front old new before after reply r l =
-      same legal (ap (λ w. w.items) r.1) l
-  room_legal none drops one_pass (Fresh places) old new before after (Ok u) r l =
-      subst (λ xs. ∥ legal xs ∥₁) (sym (ap (λ w. w.items) r.made)) none
-  room_legal none drops one_pass (Fresh places) old new before after (Err e) r l =
-      same legal (ap (λ w. w.items) r.1) l
-  room_legal none drops one_pass (Growth places) old new before after (Ok u) r l =
-      same legal (ap (λ w. w.items) r.1) l
-  room_legal none drops one_pass (Growth places) old new before after (Err e) r l =
-      same legal (ap (λ w. w.items) r.1) l
-  room_legal none drops one_pass (Refused e) old new before after reply r l =
-      same legal (ap (λ w. w.items) r.1) l
+  -- where room is refused, the items stay
+  refused-items : {H : Type 0} → (drops one_pass : Bool) (room : Room) (old new : PartsView T M)
+      (before after : Pass H) (e : TryReserveError)
+      → MakesRoom drops one_pass room old new before after (Err e) → new.items ≡ old.items
+  refused-items drops one_pass Spare old new before after e r = ap (λ w. w.items) r.1
+  refused-items drops one_pass Behind old new before after e r = ap (λ w. w.items) r.1
+  refused-items drops one_pass Front old new before after e r = ap (λ w. w.items) r.1
+  refused-items drops one_pass (Fresh places) old new before after e r = ap (λ w. w.items) r.1
+  refused-items drops one_pass (Growth places) old new before after e r = ap (λ w. w.items) r.1
+  refused-items drops one_pass (Refused refusal) old new before after e r = ap (λ w. w.items) r.1
 
-  -- so does room that is had without memory
+  -- room that is had without memory keeps a list legal
   pub reclaimed_legal : (room : Room) (old new : PartsView T M) (found : Bool) → Reclaims room old new found → ∥ legal old.items ∥₁
       → ∥ legal new.items ∥₁
   reclaimed_legal Spare old new found r l = same legal (ap (λ w. w.items) r.1) l
@@ -82,14 +71,6 @@ module _ {T M : Type 0} (legal : List T → Type 0) where
   reclaimed_legal (Fresh places) old new found r l = same legal (ap (λ w. w.items) r.1) l
   reclaimed_legal (Growth places) old new found r l = same legal (ap (λ w. w.items) r.1) l
   reclaimed_legal (Refused e) old new found r l = same legal (ap (λ w. w.items) r.1) l
-
-  -- and items behind a list that are legal there
-  pub pushed_legal : {H : Type 0} → ∥ legal [] ∥₁ → (drops one_pass : Bool) (room : Room) (xs : List T) (old new : PartsView T M)
-      (before after : Pass H) → ((ys : List T) → legal ys → legal (ys ++ xs))
-      → Pushes drops one_pass room xs old new before after → ∥ legal old.items ∥₁ → ∥ legal new.items ∥₁
-  pushed_legal none drops one_pass room xs old new before after more (between, made, is) l =
-      subst (λ zs. ∥ legal zs ∥₁) (sym (ap (λ w. w.items) is))
-      (∥∥₁_map (room_legal none drops one_pass room old between before after (Ok tt) made l) (λ h. more between.items h))
 
   -- the first items of a legal list, and those behind them, where it may be cut there
   pub advanced_legal : (boundary : List T → ℕ → Bool)
@@ -136,26 +117,27 @@ module _ {T M : Type 0} (legal : List T → Type 0) where
       → at_owner w.place ((length w.items ≡ 0) × R) Q → ∥ legal w.items ∥₁ → ∥ legal v.items ∥₁
   sole_legal Q R drops w v is asked l = sole-at-legal Q R drops w.items w.place v is asked l
 
-  -- whether an item was pushed or handed back, what is there is legal
-  pub push_legal : {H : Type 0} → ∥ legal [] ∥₁ → (drops one_pass : Bool) (room : Room) (x : T) (old new : PartsView T M)
-      (before after : Pass H) → ((ys : List T) → legal ys → legal (ys ++ x ∷ []))
+  -- whether a list was pushed or refused, what is there is legal
+  pub extend_legal : {E H : Type 0} → (drops one_pass : Bool) (room : Room) (xs : List T)
+      (old new : PartsView T M) (before after : Pass H) (why : E → TryReserveError)
+      → ((ys : List T) → legal ys → legal (ys ++ xs)) → (reply : Result (Unit {0}) E)
+      → OnOk reply (new.items ≡ old.items ++ xs)
+      → IfErr reply (λ e. MakesRoom drops one_pass room old new before after (Err (why e)))
+      → ∥ legal old.items ∥₁ → ∥ legal new.items ∥₁
+  extend_legal drops one_pass room xs old new before after why more (Ok u) pushed refused l =
+      same legal pushed (∥∥₁_map l (λ h. more old.items h))
+  extend_legal drops one_pass room xs old new before after why more (Err e) pushed refused l =
+      same legal (refused-items drops one_pass room old new before after (why e) refused) l
+
+  -- and whether an item was, or handed back
+  pub push_legal : {H : Type 0} → (drops one_pass : Bool) (room : Room) (x : T)
+      (old new : PartsView T M) (before after : Pass H)
+      → ((ys : List T) → legal ys → legal (ys ++ x ∷ []))
       → (reply : Result (Unit {0}) (TryReserveError × T))
-      → OnOk reply (Pushes drops one_pass room (x ∷ []) old new before after)
+      → OnOk reply (new.items ≡ old.items ++ x ∷ [])
       → IfErr reply (λ r. (r.1 ≡ x) × MakesRoom drops one_pass room old new before after (Err r.0))
       → ∥ legal old.items ∥₁ → ∥ legal new.items ∥₁
-  push_legal none drops one_pass room x old new before after more (Ok u) pushed refused l =
-      pushed_legal none drops one_pass room (x ∷ []) old new before after more pushed l
-  push_legal none drops one_pass room x old new before after more (Err r) pushed refused l =
-      room_legal none drops one_pass room old new before after (Err r.0) refused.1 l
-
-  -- and whether a list was, or nothing
-  pub extend_legal : {H : Type 0} → ∥ legal [] ∥₁ → (drops one_pass : Bool) (room : Room) (xs : List T) (old new : PartsView T M)
-      (before after : Pass H) → ((ys : List T) → legal ys → legal (ys ++ xs))
-      → (reply : Result (Unit {0}) TryReserveError)
-      → OnOk reply (Pushes drops one_pass room xs old new before after)
-      → IfErr reply (λ e. MakesRoom drops one_pass room old new before after (Err e))
-      → ∥ legal old.items ∥₁ → ∥ legal new.items ∥₁
-  extend_legal none drops one_pass room xs old new before after more (Ok u) pushed refused l =
-      pushed_legal none drops one_pass room xs old new before after more pushed l
-  extend_legal none drops one_pass room xs old new before after more (Err e) pushed refused l =
-      room_legal none drops one_pass room old new before after (Err e) refused l
+  push_legal drops one_pass room x old new before after more (Ok u) pushed refused l =
+      extend_legal drops one_pass room (x ∷ []) old new before after (λ (r : TryReserveError × T). r.0) more (Ok u) pushed tt l
+  push_legal drops one_pass room x old new before after more (Err r) pushed refused l =
+      extend_legal drops one_pass room (x ∷ []) old new before after (λ (r : TryReserveError × T). r.0) more (Err r) tt refused.1 l

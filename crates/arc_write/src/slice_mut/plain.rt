@@ -104,7 +104,7 @@ impl<L: LayoutMut, B, M, A: Allocator + Copy> ArcSliceMut<Text, L, 1, B, M, A, O
 
 // They are generic over the marks under which a block has many passes, which `Open` alone is: so a
 // body can show a pass only by one that is there (`Pass::show`), and none that it made up.
-impl<S: Emptyable, L: LayoutMut, B, M, A: Allocator + Copy, H: Stepping> ArcSliceMut<
+impl<S: Slice, L: LayoutMut, B, M, A: Allocator + Copy, H: Stepping> ArcSliceMut<
     S,
     L,
     1,

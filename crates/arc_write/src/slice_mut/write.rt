@@ -7,21 +7,13 @@ ghost use Rattle.arc_block.specs.Writers.{capacity_of, room, MakesRoom, Pushes, 
 
 use super::ArcSliceMut;
 use arc_block::layout::LayoutMut;
-use arc_buffer::kinds::{CopySlice, Emptyable, Extendable, Slice};
+use arc_buffer::kinds::{CopySlice, Extendable, Slice};
 use arc_owners::error::TryReserveError;
 use arc_owners::mark::Mark;
 use arc_owners::owners::Pass;
 use std::alloc::Allocator;
 
-impl<S: Emptyable, L: LayoutMut, B, M, A: Allocator + Copy, H: Mark> ArcSliceMut<
-    S,
-    L,
-    1,
-    B,
-    M,
-    A,
-    H,
-> {
+impl<S: Slice, L: LayoutMut, B, M, A: Allocator + Copy, H: Mark> ArcSliceMut<S, L, 1, B, M, A, H> {
     /// Makes room for so many items more.
     ///
     /// # Errors
