@@ -18,7 +18,8 @@ use Rattle.arc_block.specs.Block.{BlockInfo, IsLimited, partly_full}
 use Rattle.arc_block.specs.Place.{Place, nowhere, static_data, on_block, IsOnBlock, moved}
 use Rattle.arc_block.specs.Table.{RowOf, Role, reader, sole_writer, one_writer_of_several}
 use Rattle.arc_block.specs.Table.{inline, forgotten}
-use Rattle.arc_block.specs.Window.{PartsView}
+use Rattle.arc_block.specs.Window.{PartsView, IsNativeOf, window_of}
+use Rattle.arc_block.specs.Steps.{Makes, Begins}
 use Rattle.arc_block.specs.Room.{ends_full, room_in}
 
 -- How many places a writer of so many items has, from this offset of a block on: up to the block's
@@ -172,6 +173,11 @@ as_reader w = record w { role = reader }
 abbrev pub as_sole : {T M : Type 0} → Bool → PartsView T M → PartsView T M
 as_sole drops w = sole_at drops w.items w.place
 
+-- a writer with so many items, who on a block has them at all places of a native one
+pub record IsWholeWriter {T M : Type 0} (size : ℕ) (w : PartsView T M) : Type 0 where
+  pub items : length w.items ≡ size
+  pub block : IsOnBlock w.place → IsNativeOf size w.place
+
 -- Room for more items without memory: whether there is some, and the window with it.
 abbrev pub Reclaims : {T M : Type 0} → Room → (old new : PartsView T M) → Bool → Type 0
 Reclaims (Fresh places) old new found = (found ≡ false) × (new ≡ old)
@@ -230,3 +236,12 @@ module _ {T M H : Type 0} where
   Pushes drops one_pass room xs old new before after = (between : PartsView T M)
       × MakesRoom drops one_pass room old between before after (Ok tt)
       × (new ≡ with_more xs between)
+
+  -- A writer became a reader: on a block at the same place, and nothing was added. On nothing, what
+  -- no items are made of under such a layout.
+  pub record Freezes (has_static drops one_pass : Bool) (w v : PartsView T M)
+      (before after : Pass H) : Type 0 where
+    pub stays : IsOnBlock w.place → (v ≡ as_reader w) × (after ≡ before)
+    pub made : ¬ IsOnBlock w.place → Makes has_static drops one_pass w.items (window_of v)
+        × Begins (window_of v) before after
+    pub role : v.role ≡ reader

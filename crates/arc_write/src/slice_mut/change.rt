@@ -1,27 +1,105 @@
 //! From a window that is written to one that is read, and back.
-ghost use Rattle.std.specs.Prelude.{◌≡◌, ◌≤◌, true, false, length, IfOk, IfErr, OnErr};
+ghost use Rattle.std.specs.Prelude.{◌≡◌, ◌≤◌, true, false, length, drop, IfOk, IfErr};
+ghost use Rattle.std.specs.Str.{IsUtf8, valid_up_to, error_len};
+ghost use Rattle.std.specs.Str.Lossy.{utf8_valid_len, utf8_error_len};
 ghost use Rattle.arc_owners.specs.count.Calls.{Asks};
-ghost use Rattle.arc_block.specs.Place.{at_owner};
-ghost use Rattle.arc_block.specs.Window.{window_of, parts_of};
+ghost use Rattle.arc_block.specs.Place.{at_owner, IsOnBlock};
+ghost use Rattle.arc_block.specs.Window.{parts_of};
 ghost use Rattle.arc_block.specs.Steps.{IsPassAt};
-ghost use Rattle.arc_block.specs.Writers.{as_sole};
+ghost use Rattle.arc_block.specs.Writers.{as_sole, Freezes};
 
 use super::ArcSliceMut;
-use arc_block::layout::{Layout, LayoutMut, StaticLayout};
-use arc_buffer::kinds::Slice;
+use arc_block::layout::{Layout, LayoutMut};
+use arc_buffer::kinds::{ByteText, Plain, Slice, Text};
 use arc_owners::mark::Mark;
 use arc_owners::owners::Pass;
 use arc_read::slice::ArcSlice;
 use std::alloc::Allocator;
+use std::convert::Infallible;
+use std::str::Utf8Error;
 
 impl<S: Slice, L: LayoutMut, B, M, A: Allocator + Copy, H: Mark> ArcSliceMut<S, L, 1, B, M, A, H> {
-    /// The same items at the same place, which others may read from now on. It adds nothing, takes
-    /// no memory, and is never refused: a layout with static data holds what the window stands on.
-    pub fn try_freeze<K: StaticLayout>(self) -> Result<ArcSlice<S, K, B, M, A, H>, Self>
-        ensures frozen { IfOk result (λ window. window ≡ window_of self) }
-        ensures refused { OnErr result ⊥ }
+    /// The same items at the same place, which others may read from now on. A window on nothing
+    /// becomes what no items are made of under the layout: a window on nothing, or on a native
+    /// block of no places, of which the pass becomes one.
+    ///
+    /// # Errors
+    ///
+    /// The window, where memory for that block is refused; the pass is then as before.
+    ///
+    /// # Allocates
+    ///
+    /// On nothing, where the layout has no static data.
+    pub fn try_freeze_as<K: Layout>(
+        self,
+        pass: &mut Pass<H>,
+    ) -> Result<ArcSlice<S, K, B, M, A, H>, Self>
+        requires pass { IsPassAt self.place pass.old }
+        ensures frozen { IfOk result (λ window.
+            Freezes K.STATIC S.DROPS H.whole self (parts_of window) pass.old pass.new) }
+        ensures items { IfOk result (λ window. window.items ≡ self.items) }
+        ensures refused { IfErr result (λ back. (back ≡ self) × (¬ IsOnBlock self.place)
+            × (K.STATIC ≡ false) × (pass.new ≡ pass.old)) }
     {
-        Ok(ArcSlice::from_parts(self.into_parts().freeze()))
+        match self.into_parts().try_freeze_as::<K>(pass) {
+            Ok(parts) => Ok(ArcSlice::from_parts(parts)),
+            Err(parts) => Err(Self::from_parts(parts)),
+        }
+    }
+
+    /// The same window, of items of another kind, for which its list is legal.
+    fn into_kind<K: Slice<Item = S::Item>>(self) -> ArcSliceMut<K, L, 1, B, M, A, H>
+        requires drops { K.DROPS ≡ S.DROPS }
+        requires legal { ∥ K.is_legal self.items ∥₁ }
+        ensures { result ≡ self }
+    {
+        ArcSliceMut::from_parts(self.into_parts().into_kind())
+    }
+}
+
+impl<L: LayoutMut, B, M, A: Allocator + Copy, H: Mark> ArcSliceMut<Text, L, 1, B, M, A, H> {
+    /// The same window, over bytes. It adds nothing.
+    pub fn into_arc_slice_mut(self) -> ArcSliceMut<Plain<u8>, L, 1, B, M, A, H>
+        ensures { result ≡ self }
+    {
+        self.into_kind()
+    }
+
+    /// The same window, over text. It adds nothing.
+    ///
+    /// # Errors
+    ///
+    /// The bytes, with what is wrong with them, exactly where they aren't valid UTF-8.
+    pub fn try_from_arc_slice_mut(
+        bytes: ArcSliceMut<Plain<u8>, L, 1, B, M, A, H>,
+    ) -> Result<Self, (Utf8Error, ArcSliceMut<Plain<u8>, L, 1, B, M, A, H>)>
+        ensures ok { IfOk result (λ text. (text ≡ bytes) × IsUtf8 bytes.items) }
+        ensures back { IfErr result (λ r. (r.1 ≡ bytes) × ¬ (IsUtf8 bytes.items)) }
+        ensures error { IfErr result (λ r. (valid_up_to r.0 ≡ utf8_valid_len bytes.items)
+            × (error_len r.0 ≡ utf8_error_len (drop (valid_up_to r.0) bytes.items))) }
+    {
+        match Text::try_from_slice(bytes.as_slice()) {
+            Ok(()) => Ok(bytes.into_kind()),
+            Err(error) => Err((error, bytes)),
+        }
+    }
+}
+
+impl<L: LayoutMut, B, M, A: Allocator + Copy, H: Mark> ArcSliceMut<ByteText, L, 1, B, M, A, H> {
+    /// The same window, over bytes. It adds nothing.
+    pub fn into_arc_slice_mut(self) -> ArcSliceMut<Plain<u8>, L, 1, B, M, A, H>
+        ensures { result ≡ self }
+    {
+        self.into_kind()
+    }
+
+    /// The same window, over byte text. It adds nothing. Never refused.
+    pub fn try_from_arc_slice_mut(
+        bytes: ArcSliceMut<Plain<u8>, L, 1, B, M, A, H>,
+    ) -> Result<Self, (Infallible, ArcSliceMut<Plain<u8>, L, 1, B, M, A, H>)>
+        ensures { IfOk result (λ text. text ≡ bytes) }
+    {
+        Ok(bytes.into_kind())
     }
 }
 

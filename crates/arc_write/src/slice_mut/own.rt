@@ -1,8 +1,9 @@
 //! Owners of a write window's block, and ends of the window.
-ghost use Rattle.std.specs.Prelude.{◌≡◌, true};
+ghost use Rattle.std.specs.Prelude.{◌≡◌, true, IfOk, IfErr};
 ghost use Rattle.arc_owners.specs.count.Calls.{Leaves, Learns, IsNewPass, IsPassOfNone};
 ghost use Rattle.arc_block.specs.Place.{at_owner};
 ghost use Rattle.arc_block.specs.Steps.{IsPassAt};
+ghost use Rattle.arc_block.specs.Writers.{IsWholeWriter};
 
 use super::ArcSliceMut;
 use arc_block::layout::LayoutMut;
@@ -23,6 +24,43 @@ impl<S: Slice, L: LayoutMut, B, M, A: Allocator + Copy, H: Mark> ArcSliceMut<S, 
             Leaves o pass.old pass.new true) }
     {
         self.into_parts().release_as(pass);
+    }
+
+    /// Ends the window as `release_as` does: its only owner needn't ask whether he is alone.
+    ///
+    /// # History
+    ///
+    /// On a block Down, without a step.
+    pub fn drop_with_unique_hint_as(self, pass: &mut Pass<H>)
+        requires pass { IsPassAt self.place pass.old }
+        ensures entry { at_owner self.place (pass.new ≡ pass.old) (λ o.
+            Leaves o pass.old pass.new true) }
+    {
+        self.release_as(pass);
+    }
+
+    /// The items as an array, where the window has `N` of them, which on a block are all places of
+    /// a native one. Else the window comes back.
+    ///
+    /// # Errors
+    ///
+    /// The window, with another number of items or of places; the pass is then as before.
+    ///
+    /// # History
+    ///
+    /// Taken off a block, Down without a step.
+    pub fn try_into_array_as<const N: usize>(self, pass: &mut Pass<H>) -> Result<[S::Item; N], Self>
+        requires pass { IsPassAt self.place pass.old }
+        ensures taken { IfOk result (λ array. IsWholeWriter N self × (array ≡ self.items)) }
+        ensures entry { IfOk result (λ _. at_owner self.place (pass.new ≡ pass.old) (λ o.
+            Leaves o pass.old pass.new true)) }
+        ensures refused { IfErr result (λ back. (back ≡ self) × (¬ IsWholeWriter N self)
+            × (pass.new ≡ pass.old)) }
+    {
+        match self.into_parts().try_into_array_as(pass) {
+            Ok(array) => Ok(array),
+            Err(parts) => Err(Self::from_parts(parts)),
+        }
     }
 
     /// Afterwards the first pass has seen at least what the other had. It adds nothing.

@@ -4,10 +4,11 @@ ghost use Rattle.std.specs.Prelude.{length, IfOk, IfErr, OnOk, OnErr, Err};
 ghost use Rattle.std.specs.Mem.{FitsInMemory, type_size};
 ghost use Rattle.arc_owners.specs.declared.count.tokens.Pass.{Pass};
 ghost use Rattle.arc_owners.specs.declared.mark.Open.{Open};
-ghost use Rattle.arc_owners.specs.count.Calls.{Asks};
-ghost use Rattle.arc_block.specs.Place.{at_owner};
+ghost use Rattle.arc_owners.specs.count.Calls.{Asks, Leaves};
+ghost use Rattle.arc_block.specs.Place.{at_owner, IsOnBlock};
 ghost use Rattle.arc_block.specs.Window.{parts_of};
 ghost use Rattle.arc_block.specs.Writers.{capacity_of, room, as_sole, MakesWriter, MakesRoom, Pushes};
+ghost use Rattle.arc_block.specs.Writers.{Freezes, IsWholeWriter};
 ghost use Rattle.arc_read.specs.Steps.{WithNewPass};
 
 use super::ArcSliceMut;
@@ -113,6 +114,64 @@ impl<S: Slice, L: LayoutMut, B, M, A: Allocator + Copy, H: Stepping> ArcSliceMut
     A,
     H,
 > {
+    /// The same items at the same place, which others may read from now on: `try_freeze_as` with a
+    /// new pass.
+    ///
+    /// # Errors
+    ///
+    /// The window, where memory for a block of no places is refused.
+    ///
+    /// # Allocates
+    ///
+    /// On nothing, where the layout has no static data.
+    pub fn try_freeze<K: Layout>(self) -> Result<ArcSlice<S, K, B, M, A, H>, Self>
+        ensures frozen { IfOk result (λ window. WithNewPass {H = H} H.real self.place (λ first last.
+            Freezes K.STATIC S.DROPS H.whole self (parts_of window) first last)) }
+        ensures items { IfOk result (λ window. window.items ≡ self.items) }
+        ensures refused { IfErr result (λ back. (back ≡ self) × (¬ IsOnBlock self.place)
+            × (K.STATIC ≡ false)) }
+    {
+        let mut pass = self.pass();
+        let frozen = self.try_freeze_as(&mut pass);
+        pass.show();
+        frozen
+    }
+
+    /// The items as an array: `try_into_array_as` with a new pass.
+    ///
+    /// # Errors
+    ///
+    /// Those of `try_into_array_as`.
+    ///
+    /// # History
+    ///
+    /// That of `try_into_array_as`.
+    pub fn try_into_array<const N: usize>(self) -> Result<[S::Item; N], Self>
+        ensures taken { IfOk result (λ array. IsWholeWriter N self × (array ≡ self.items)) }
+        ensures entry { IfOk result (λ _. WithNewPass {H = H} H.real self.place (λ first last.
+            at_owner self.place (last ≡ first) (λ o. Leaves o first last true))) }
+        ensures refused { IfErr result (λ back. (back ≡ self) × ¬ IsWholeWriter N self) }
+    {
+        let mut pass = self.pass();
+        let taken = self.try_into_array_as(&mut pass);
+        pass.show();
+        taken
+    }
+
+    /// Ends the window: `drop_with_unique_hint_as` with a new pass.
+    ///
+    /// # History
+    ///
+    /// That of `drop_with_unique_hint_as`.
+    pub fn drop_with_unique_hint(self)
+        ensures entry { WithNewPass {H = H} H.real self.place (λ first last.
+            at_owner self.place (last ≡ first) (λ o. Leaves o first last true)) }
+    {
+        let mut pass = self.pass();
+        self.drop_with_unique_hint_as(&mut pass);
+        pass.show();
+    }
+
     /// Makes room for so many items more: `try_reserve_as` with a new pass.
     ///
     /// # Errors

@@ -1,6 +1,6 @@
 //! Write windows: the worked rows, under each form of the default layout, and each call once.
 use super::{ArcBytesMut, ArcSliceMut, ArcStrMut, try_into_mut, try_into_mut_as};
-use arc_block::layout::{ArcLayout, DefaultLayout, DefaultLayoutMut, LayoutMut, VecLayout};
+use arc_block::layout::{ArcLayout, DefaultLayout, DefaultLayoutMut, Layout, LayoutMut, VecLayout};
 use arc_buffer::kinds::{ByteText, Owned, Plain};
 use arc_owners::error::{AllocError, RangeError, TryReserveError};
 use arc_owners::mark::Whole;
@@ -182,5 +182,114 @@ fn memory_refused(rt: HostRuntime) -> Result<(), Fail> {
     let large: Result<ArcBytesMut<DefaultLayoutMut, Vec<u8>, (), &LocalHeap>, AllocError> =
         ArcSliceMut::try_with_capacity(&heap, 1000);
     assert!(rt; large.is_err());
+    Ok(())
+}
+
+/// What a window is frozen to, and whether it then stands on a block (alone there).
+fn frozen_alone<K: Layout>(alloc: Global, items: &[u8]) -> Result<(usize, bool), Fail> {
+    let window: ArcBytesMut = ArcSliceMut::try_from_slice(alloc, items)?;
+    match window.try_freeze::<K>() {
+        Ok(frozen) => Ok((frozen.len(), frozen.is_unique())),
+        Err(_) => Err("no memory".into()),
+    }
+}
+
+#[test]
+fn nothing_is_frozen(rt: HostRuntime) -> Result<(), Fail> {
+    assert_eq!(rt;
+        frozen_alone::<ArcLayout<true, true>>(rt.alloc(), &[])?,
+        (0, false)
+    );
+    assert_eq!(rt;
+        frozen_alone::<ArcLayout<false, true>>(rt.alloc(), &[])?,
+        (0, false)
+    );
+    assert_eq!(rt;
+        frozen_alone::<ArcLayout<true, false>>(rt.alloc(), &[])?,
+        (0, true)
+    );
+    assert_eq!(rt;
+        frozen_alone::<ArcLayout<true, false>>(rt.alloc(), &[7])?,
+        (1, true)
+    );
+    let heap = LocalHeap::new(rt.alloc(), 16)?;
+    let window: ArcBytesMut<DefaultLayoutMut, Vec<u8>, (), &LocalHeap> = ArcSliceMut::new(&heap);
+    match window.try_freeze::<ArcLayout<true, false>>() {
+        Ok(_) => return Err("a block without memory".into()),
+        Err(window) => assert_eq!(rt; window.capacity(), 0),
+    }
+    Ok(())
+}
+
+#[test]
+fn arrays_taken_back(rt: HostRuntime) -> Result<(), Fail> {
+    let window: ArcBytesMut = ArcSliceMut::try_from_array(rt.alloc(), [1, 2, 3])?;
+    let Err(window) = window.try_into_array::<2>() else {
+        return Err("two of three".into());
+    };
+    assert!(rt;
+        window
+            .try_into_array::<3>()
+            .is_ok_and(|array| array == [1, 2, 3])
+    );
+    let idle: ArcBytesMut = ArcSliceMut::new(rt.alloc());
+    assert!(rt; idle.try_into_array::<0>().is_ok());
+    let mut spare: ArcBytesMut = ArcSliceMut::try_with_capacity(rt.alloc(), 4)?;
+    spare.try_extend_from_slice(&[1, 2, 3])?;
+    let Err(mut spare) = spare.try_into_array::<3>() else {
+        return Err("places behind the items".into());
+    };
+    spare.try_extend_from_slice(&[4])?;
+    assert!(rt;
+        spare
+            .try_into_array::<4>()
+            .is_ok_and(|array| array == [1, 2, 3, 4])
+    );
+    Ok(())
+}
+
+#[test]
+fn kinds_changed(rt: HostRuntime) -> Result<(), Fail> {
+    let text: ArcStrMut = ArcSliceMut::try_from_str(rt.alloc(), "hé")?;
+    let mut bytes = text.into_arc_slice_mut();
+    assert_eq!(rt; bytes.as_slice(), b"h\xc3\xa9".as_slice());
+    bytes.truncate(2);
+    match ArcStrMut::try_from_arc_slice_mut(bytes) {
+        Ok(_) => return Err("half a character".into()),
+        Err((e, back)) => {
+            assert_eq!(rt; e.valid_up_to(), 1);
+            bytes = back;
+        }
+    }
+    bytes.truncate(1);
+    let Ok(text) = ArcStrMut::try_from_arc_slice_mut(bytes) else {
+        return Err("text".into());
+    };
+    assert_eq!(rt; text.as_str(), "h");
+    let bytes = text.into_arc_slice_mut();
+    let Ok(by) = ArcSliceMut::<ByteText, DefaultLayoutMut, 1>::try_from_arc_slice_mut(bytes) else {
+        return Err("byte text".into());
+    };
+    assert_eq!(rt; by.into_arc_slice_mut().as_slice(), b"h".as_slice());
+    Ok(())
+}
+
+#[test]
+fn ended_by_hint(rt: HostRuntime) -> Result<(), Fail> {
+    let heap = LocalHeap::new(rt.alloc(), 512)?;
+    let mut pass = Pass::none();
+    let made = ArcBytesMut::<DefaultLayoutMut, Vec<u8>, (), &LocalHeap>::try_from_slice_as(
+        &heap,
+        &[1, 2],
+        &mut pass,
+    );
+    let mut window = made?;
+    assert!(rt; !window.try_reclaim_as(1, &mut pass));
+    window.drop_with_unique_hint_as(&mut pass);
+    assert_eq!(rt; heap.used(), 0);
+    let window: ArcBytesMut<DefaultLayoutMut, Vec<u8>, (), &LocalHeap> =
+        ArcSliceMut::try_from_slice(&heap, &[1, 2])?;
+    window.drop_with_unique_hint();
+    assert_eq!(rt; heap.used(), 0);
     Ok(())
 }

@@ -63,6 +63,19 @@ impl<S: Slice, L: LayoutMut, B, M, A: Allocator + Copy, H: Mark> ArcSliceMut<S, 
         self.parts.try_reclaim(additional)
     }
 
+    /// `try_reclaim`, with a pass, which stays as it is.
+    #[tactic(auto, using(crate::proofs::Legal::reclaimed_legal))]
+    pub fn try_reclaim_as(&mut self, additional: usize, pass: &mut Pass<H>) -> bool
+        requires item { FitsInMemory S.Item.row }
+        requires pass { IsPassAt self.old.place pass.old }
+        ensures room { Reclaims (room S.DROPS (if type_size S.Item.row == 1 then 8 else 4)
+            (type_size S.Item.row) self.old additional) self.old self.new result }
+        ensures pass { pass.new ≡ pass.old }
+    {
+        let _ = pass;
+        self.try_reclaim(additional)
+    }
+
     /// An item more, behind the others, once there is room for it.
     ///
     /// # Errors

@@ -1,19 +1,21 @@
 //! How a sole writer's parts end, and what they become.
-ghost use Rattle.std.specs.Prelude.{◌≡◌, ◌≤◌, true, false, length, IfOk, IfErr};
+ghost use Rattle.std.specs.Prelude.{◌≡◌, ◌≤◌, ◌↔◌, true, false, length, IfOk, IfErr, IsTrue};
 ghost use Rattle.arc_owners.specs.count.Calls.{Asks, Leaves, Learns, IsNewPass, IsPassOfNone};
-ghost use Rattle.arc_block.specs.Place.{at_owner};
+ghost use Rattle.arc_block.specs.Place.{at_owner, IsOnBlock};
 ghost use Rattle.arc_block.specs.Table.{reader};
 ghost use Rattle.arc_block.specs.Steps.{IsPassAt};
-ghost use Rattle.arc_block.specs.Writers.{as_reader, as_sole};
+ghost use Rattle.arc_block.specs.Writers.{as_reader, as_sole, Freezes, IsWholeWriter};
 
 use super::SoleParts;
-use crate::block::Block;
+use crate::block::{Block, array_of};
+use crate::layout::Layout;
 use crate::parts::Parts;
 use crate::parts::storage::Storage;
 use arc_buffer::kinds::Slice;
 use arc_owners::mark::{Mark, Stepping};
 use arc_owners::owners::Pass;
 use std::alloc::Allocator;
+use std::marker::PhantomData;
 
 impl<S: Slice, B, M, A: Allocator + Copy, H: Mark> SoleParts<S, B, M, A, H> {
     /// The same items and places, which others may read from now on. It adds nothing and takes no
@@ -40,6 +42,102 @@ impl<S: Slice, B, M, A: Allocator + Copy, H: Mark> SoleParts<S, B, M, A, H> {
                 drop(items);
                 Parts::on_nothing(alloc)
             }
+        }
+    }
+
+    /// The same items and places, which others may read from now on, as a window under the layout
+    /// `L` is. On nothing they are what no items are made of: a native block of no places, of which
+    /// the pass becomes one, where the layout has no static data.
+    ///
+    /// # Errors
+    ///
+    /// The parts, where memory for that block is refused; the pass is then as before.
+    ///
+    /// # Allocates
+    ///
+    /// On nothing, where the layout has no static data.
+    pub fn try_freeze_as<L: Layout>(
+        self,
+        pass: &mut Pass<H>,
+    ) -> Result<Parts<S, B, M, A, H>, Self>
+        requires pass { IsPassAt self.place pass.old }
+        ensures frozen { IfOk result (λ parts.
+            Freezes L.STATIC S.DROPS H.whole self parts pass.old pass.new) }
+        ensures items { IfOk result (λ parts. parts.items ≡ self.items) }
+        ensures refused { IfErr result (λ back. (back ≡ self) × (¬ IsOnBlock self.place)
+            × (L.STATIC ≡ false) × (pass.new ≡ pass.old)) }
+    {
+        match &self.count {
+            Some(_) => Ok(self.freeze()),
+            None => match Parts::try_from_array_as::<L, 0>(self.alloc, [], pass) {
+                Ok(parts) => Ok(parts),
+                Err(_) => Err(self),
+            },
+        }
+    }
+
+    /// Whether there are `n` items, which on a block are all places of a native one.
+    fn is_whole(&self, n: usize) -> bool
+        ensures { IsTrue result ↔ IsWholeWriter n self.now }
+    {
+        self.len() == n && (self.count.is_none() || self.items.capacity() == n)
+    }
+
+    /// The items as an array, where there are `N` of them, which on a block are all places of a
+    /// native one. Else the parts come back.
+    ///
+    /// # Errors
+    ///
+    /// The parts, with another number of items or of places; the pass is then as before.
+    ///
+    /// # History
+    ///
+    /// Taken off a block, Down without a step.
+    pub fn try_into_array_as<const N: usize>(self, pass: &mut Pass<H>) -> Result<[S::Item; N], Self>
+        requires pass { IsPassAt self.place pass.old }
+        ensures taken { IfOk result (λ array. IsWholeWriter N self × (array ≡ self.items)) }
+        ensures entry { IfOk result (λ _. at_owner self.place (pass.new ≡ pass.old) (λ o.
+            Leaves o pass.old pass.new true)) }
+        ensures refused { IfErr result (λ back. (back ≡ self) × (¬ IsWholeWriter N self)
+            × (pass.new ≡ pass.old)) }
+    {
+        if !self.is_whole(N) {
+            return Err(self);
+        }
+        let SoleParts {
+            count,
+            items,
+            start: _,
+            end: _,
+            alloc: _,
+            of: _,
+        } = self;
+        if let Some(count) = count {
+            drop(count.into_value_as(pass));
+        }
+        Ok(array_of(items))
+    }
+
+    /// The same parts, of items of another kind. It adds nothing.
+    pub fn into_kind<K: Slice<Item = S::Item>>(self) -> SoleParts<K, B, M, A, H>
+        requires { K.DROPS ≡ S.DROPS }
+        ensures { result ≡ self }
+    {
+        let SoleParts {
+            count,
+            items,
+            start,
+            end,
+            alloc,
+            of: _,
+        } = self;
+        SoleParts {
+            count,
+            items,
+            start,
+            end,
+            alloc,
+            of: PhantomData,
         }
     }
 
