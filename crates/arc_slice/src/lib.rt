@@ -11,6 +11,8 @@ pub use arc_write::slice_mut::{
 pub use slice::{ArcByteText, ArcBytes, ArcStr};
 
 pub mod buffer;
+#[cfg(test)]
+mod encoder;
 pub mod error;
 #[cfg(test)]
 mod frames;
