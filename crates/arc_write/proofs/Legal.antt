@@ -52,7 +52,7 @@ module _ {X : Type 0} (legal : List X → Type 0) where
 
 module _ {T M : Type 0} (legal : List T → Type 0) where
   -- where room is refused, the items stay
-  refused-items : {H : Type 0} → (drops one_pass : Bool) (room : Room) (old new : PartsView T M)
+  pub refused-items : {H : Type 0} → (drops one_pass : Bool) (room : Room) (old new : PartsView T M)
       (before after : Pass H) (e : TryReserveError)
       → MakesRoom drops one_pass room old new before after (Err e) → new.items ≡ old.items
   refused-items drops one_pass Spare old new before after e r = ap (λ w. w.items) r.1

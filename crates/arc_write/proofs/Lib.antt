@@ -1,1 +1,2 @@
+mod Extend
 pub mod Legal

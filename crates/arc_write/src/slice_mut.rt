@@ -112,6 +112,7 @@ impl<S: Slice, L: LayoutMut, B, M, A: Allocator + Copy, H: Mark> ArcSliceMut<S, 
 
 mod change;
 mod cuts;
+mod iterate;
 mod make;
 mod own;
 mod plain;

@@ -10,6 +10,11 @@ use linked_list_allocator::LocalHeap;
 use std::alloc::Global;
 use std::test::Fail;
 
+mod extend;
+mod owned;
+mod refusals;
+mod rows;
+
 /// Takes so many items off the front of a window that has them.
 fn cut<L: LayoutMut>(window: &mut ArcBytesMut<L>, n: usize) -> Result<(), Fail> {
     match window.check_at(n) {

@@ -1,0 +1,108 @@
+//! Items of an iterator, pushed one by one.
+ghost use Rattle.std.specs.Prelude.{◌≡◌, ◌++◌, List, [], IfOk, IfErr, OnOk, Some};
+ghost use Rattle.std.specs.Iterator.{IsFinite, Drains, Yields, YieldsThen, ExtendsWithItems};
+ghost use Rattle.std.specs.Mem.{FitsInMemory, type_size};
+ghost use Rattle.arc_block.specs.Window.{PartsView};
+ghost use Rattle.arc_block.specs.Writers.{idle_writer};
+ghost use Rattle.arc_write.specs.Extend.{PushesEach, RefusesOne};
+
+use super::ArcSliceMut;
+use arc_block::layout::LayoutMut;
+use arc_buffer::kinds::{Emptyable, Extendable};
+use arc_owners::error::TryReserveError;
+use arc_owners::mark::Stepping;
+use std::alloc::Allocator;
+
+impl<S: Extendable, L: LayoutMut, B, M, A: Allocator + Copy, H: Stepping> ArcSliceMut<
+    S,
+    L,
+    1,
+    B,
+    M,
+    A,
+    H,
+> {
+    /// The items that come, each behind the others by `try_push`, so each with a new pass.
+    ///
+    /// # Errors
+    ///
+    /// That of `try_push`, at the first item for which there is no room, with that item. Those
+    /// before it stay in the window; none is asked for after it.
+    ///
+    /// # Allocates
+    ///
+    /// As `try_reserve_as`, for each item.
+    ///
+    /// # History
+    ///
+    /// That of `try_reserve_as`.
+    pub fn try_extend<I: IntoIterator<Item = S::Item>>(
+        &mut self,
+        iter: I,
+    ) -> Result<(), (TryReserveError, S::Item)>
+        requires item { FitsInMemory S.Item.row }
+        requires ends { (it : I.IntoIter) → I.into_iter_gives iter it
+            → I.IntoIter.can_next it × IsFinite (I.IntoIter.remaining it) }
+        ensures extended { OnOk result ((it : I.IntoIter) × (xs : List S.Item)
+            × I.into_iter_gives iter it × Drains I.IntoIter.next_gives it xs
+            × PushesEach H H.real S.DROPS H.whole (type_size S.Item.row) xs
+            self.old self.new) }
+        ensures refused { IfErr result (λ r. (it : I.IntoIter) × (xs : List S.Item)
+            × (rest : I.IntoIter) × (last : PartsView S.Item M) × I.into_iter_gives iter it
+            × YieldsThen I.IntoIter.next_gives it xs (Some r.1) rest
+            × PushesEach H H.real S.DROPS H.whole (type_size S.Item.row) xs self.old last
+            × RefusesOne H H.real S.DROPS H.whole (type_size S.Item.row) r.0
+            last self.new) }
+        ensures items { ExtendsWithItems I.into_iter_gives I.IntoIter.next_gives
+            (λ (old : PartsView S.Item M) xs (new : PartsView S.Item M).
+            new.items ≡ old.items ++ xs) iter self.old self.new result }
+    {
+        for item in iter {
+            match self.try_push(item) {
+                Ok(()) => {}
+                Err(refused) => return Err(refused),
+            }
+        }
+        Ok(())
+    }
+
+    /// A window over the items that come: `try_extend` of a window on nothing.
+    ///
+    /// # Errors
+    ///
+    /// The window with the items that were taken, and the error and the item of `try_extend`.
+    ///
+    /// # Allocates
+    ///
+    /// As `try_extend`.
+    pub fn try_from_iter<I: IntoIterator<Item = S::Item>>(
+        alloc: A,
+        iter: I,
+    ) -> Result<Self, (Self, TryReserveError, S::Item)>
+    where
+        S: Emptyable,
+        requires item { FitsInMemory S.Item.row }
+        requires ends { (it : I.IntoIter) → I.into_iter_gives iter it
+            → I.IntoIter.can_next it × IsFinite (I.IntoIter.remaining it) }
+        ensures made { IfOk result (λ window. (it : I.IntoIter) × (xs : List S.Item)
+            × I.into_iter_gives iter it × Drains I.IntoIter.next_gives it xs
+            × PushesEach H H.real S.DROPS H.whole (type_size S.Item.row) xs idle_writer window) }
+        ensures items { IfOk result (λ window. (it : I.IntoIter) × (xs : List S.Item)
+            × I.into_iter_gives iter it × Drains I.IntoIter.next_gives it xs
+            × (window.items ≡ xs)) }
+        ensures refused { IfErr result (λ r. (it : I.IntoIter) × (xs : List S.Item)
+            × (rest : I.IntoIter) × (last : PartsView S.Item M) × I.into_iter_gives iter it
+            × YieldsThen I.IntoIter.next_gives it xs (Some r.2) rest
+            × PushesEach H H.real S.DROPS H.whole (type_size S.Item.row) xs idle_writer last
+            × RefusesOne H H.real S.DROPS H.whole (type_size S.Item.row) r.1 last r.0) }
+        ensures taken { IfErr result (λ r. (it : I.IntoIter) × (xs : List S.Item)
+            × (rest : I.IntoIter) × I.into_iter_gives iter it
+            × Yields I.IntoIter.next_gives it xs rest × (r.0.items ≡ xs)) }
+    {
+        let mut window = Self::new(alloc);
+        match window.try_extend(iter) {
+            Ok(()) => Ok(window),
+            Err((e, item)) => Err((window, e, item)),
+        }
+    }
+}
