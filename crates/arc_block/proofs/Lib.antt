@@ -6,3 +6,4 @@ pub mod Windows
 pub mod Held
 pub mod StaticSlices
 pub mod Writers
+pub mod Lent

@@ -6,6 +6,7 @@ pub mod Layouts
 pub mod Window
 pub mod Steps
 pub mod StaticSlices
+pub mod Lends
 pub mod Memory
 pub mod Allocations
 pub mod Room

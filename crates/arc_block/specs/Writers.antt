@@ -2,6 +2,7 @@
 use Rattle.std.specs.Prelude.{◌≡◌, ℕ, ◌+◌, ◌-◌, ◌≤◌, nat_lt, Bool, true, false, ◌&&◌, not}
 use Rattle.std.specs.Prelude.{if◌then◌else◌, max, List, [], ◌++◌, length, Option, Some, None}
 use Rattle.std.specs.Prelude.{Result, Ok, Err, take, drop}
+use Rattle.std.specs.List.{refill}
 use Rattle.std.specs.Option.{option_map}
 use Rattle.std.specs.declared.vec.Vec.{Vec}
 use Rattle.std.specs.Vec.{vec_capacity}
@@ -164,6 +165,11 @@ after_truncate drops n w =
       items = take n w.items;
       role = if drops then with_capacity w.role n else w.role;
     } else w
+
+-- The same row with other items in its places, of which there are as many. More of them would be
+-- cut, and fewer followed by the last of its own.
+abbrev pub with_items : {T M : Type 0} → PartsView T M → List T → PartsView T M
+with_items w xs = record w { items = refill (length w.items) w.items xs }
 
 -- the same items and places, as a reader
 abbrev pub as_reader : {T M : Type 0} → PartsView T M → PartsView T M

@@ -1,6 +1,6 @@
 //! Blocks: memory that stays where it is while a window stands on it.
 ghost use Rattle.std.specs.Prelude.{◌≡◌, ◌≤◌, ◌↔◌, length, false, IsTrue, IfOk, IfErr};
-ghost use Rattle.std.specs.Prelude.{IfSome, IfNone};
+ghost use Rattle.std.specs.Prelude.{IfSome, IfNone, replicate};
 ghost use Rattle.std.specs.Vec.{vec_capacity, vec_len};
 ghost use Rattle.arc_owners.specs.count.Calls.{IsFirst, IsPassFor, IsFreshPass, IsNewPass, Learns};
 ghost use Rattle.arc_owners.specs.count.Calls.{Asks, FindsFull, MakesAnother, Leaves, TakesBlock};
@@ -107,6 +107,24 @@ pub(crate) fn copied<T: Copy + Drop, A: Allocator + Copy>(
     // No clause of `std` says that a copy of a slice has no places more.
     match exact(alloc, Vec::from_slice(alloc, items)?) {
         Ok(copy) => Ok(copy),
+        Err(_) => Err(AllocError),
+    }
+}
+
+/// A vector with so many items that are this one, and a place for each. Takes memory; refused, the
+/// answer is `AllocError`.
+pub(crate) fn filled<T: Copy + Drop, A: Allocator + Copy>(
+    alloc: A,
+    item: T,
+    count: usize,
+) -> Result<Vec<T, A>, AllocError>
+    ensures { IfOk result (λ v. (v.items ≡ replicate count item) × (vec_capacity v ≡ count)) }
+{
+    let mut items = Vec::with_capacity(alloc, count)?;
+    items.resize(count, item)?;
+    // No clause of `std` says that a vector which is filled up has no places more.
+    match exact(alloc, items) {
+        Ok(items) => Ok(items),
         Err(_) => Err(AllocError),
     }
 }

@@ -1,6 +1,6 @@
 //! Parts of a window that writes as the only owner of its block.
 ghost use Rattle.std.specs.Prelude.{◌≡◌, ◌≤◌, ◌<◌, ◌+◌, ◌-◌, ◌++◌, ◌∷◌, ◌==◌, if◌then◌else◌};
-ghost use Rattle.std.specs.Prelude.{[], length, false, IfOk, IfErr, OnOk, OnErr};
+ghost use Rattle.std.specs.Prelude.{[], length, replicate, false, IfOk, IfErr, OnOk, OnErr};
 ghost use Rattle.std.specs.Mem.{FitsInMemory, type_size};
 ghost use Rattle.std.specs.Vec.{vec_capacity, vec_len};
 ghost use Rattle.arc_owners.specs.count.Calls.{IsPassOfNone};
@@ -17,8 +17,8 @@ ghost use Rattle.arc_block.specs.Writers.{IsNewWriter, MakesWriter, MakesRoom, C
 ghost use Rattle.arc_block.specs.Writers.{size_at, offset_at};
 
 use super::room::{Room, room_in};
-use crate::block::{MAX_OWNERS, SoleCount, array_of, copied, end_sole, moved, new_count};
-use arc_buffer::kinds::Slice;
+use crate::block::{MAX_OWNERS, SoleCount, array_of, copied, end_sole, filled, moved, new_count};
+use arc_buffer::kinds::{Slice, Zeroable};
 use arc_owners::error::{AllocError, TryReserveError};
 use arc_owners::mark::{Mark, Open};
 use arc_owners::owners::Pass;
@@ -212,6 +212,37 @@ impl<S: Slice, B, M, A: Allocator + Copy, H: Mark> SoleParts<S, B, M, A, H> {
             return Ok(Self::on_nothing(alloc));
         }
         match copied(alloc, items) {
+            Ok(items) => match Self::try_over(alloc, items, pass) {
+                Ok(parts) => Ok(parts),
+                Err(_) => Err(AllocError),
+            },
+            Err(AllocError) => Err(AllocError),
+        }
+    }
+
+    /// So many zeros, on a new native block with exactly a place for each; none stand on nothing.
+    /// The pass, which is of no block, becomes the block's.
+    ///
+    /// # Errors
+    ///
+    /// `AllocError` where memory for the block is refused; the pass is then as before.
+    ///
+    /// # Allocates
+    ///
+    /// Twice, except for none.
+    pub fn try_zeroed_as(alloc: A, count: usize, pass: &mut Pass<H>) -> Result<Self, AllocError>
+    where
+        S: Zeroable,
+        S::Item: Copy,
+        requires pass { IsPassOfNone pass.old }
+        ensures made { IfOk result (λ parts. MakesWriter S.DROPS H.whole
+            (replicate count S.zero_item) count parts pass.old pass.new) }
+        ensures refused { OnErr result ((1 ≤ count) × (pass.new ≡ pass.old)) }
+    {
+        if count == 0 {
+            return Ok(Self::on_nothing(alloc));
+        }
+        match filled(alloc, S::zero(), count) {
             Ok(items) => match Self::try_over(alloc, items, pass) {
                 Ok(parts) => Ok(parts),
                 Err(_) => Err(AllocError),

@@ -1,6 +1,7 @@
 //! What a sole writer does to its items.
 ghost use Rattle.std.specs.Prelude.{◌≡◌, ◌≤◌, ◌+◌, ◌++◌, ◌∷◌, ◌==◌, if◌then◌else◌, [], length};
 ghost use Rattle.std.specs.Prelude.{IfOk, IfErr, OnOk, OnErr, Ok, Err};
+ghost use Rattle.std.specs.Borrow.{sem};
 ghost use Rattle.std.specs.Mem.{FitsInMemory, type_size};
 ghost use Rattle.std.specs.Vec.{vec_len, vec_capacity};
 ghost use Rattle.arc_block.specs.Steps.{IsPassAt};
@@ -16,6 +17,18 @@ use arc_owners::owners::Pass;
 use std::alloc::Allocator;
 
 impl<S: Slice, B, M, A: Allocator + Copy, H: Mark> SoleParts<S, B, M, A, H> {
+    ghost use Rattle.arc_block.specs.Lends.{lends_items};
+
+    /// The items, to be changed in their places: what is written there they are afterwards.
+    #[inline(always)]
+    pub fn as_mut_slice(&mut self) -> &mut [S::Item]
+        ensures* writes_back { sem 𝓛 (lends_items S.row B.row M.row A.row H.row S.Item.row
+            S.TryFromSliceError.row H.Mark S.Slice A.Allocator self.entry result) }
+        ensures value { result.now ≡ self.old.items }
+    {
+        self.items.slice_mut(self.start..self.end)
+    }
+
     /// Whether there is room for so many items more without memory; then it is made.
     pub fn try_reclaim(&mut self, additional: usize) -> bool
         requires item { FitsInMemory S.Item.row }
