@@ -1,2 +1,3 @@
 mod Extend
 pub mod Legal
+mod Zeros

@@ -1,12 +1,12 @@
 //! Making of windows that are written.
-ghost use Rattle.std.specs.Prelude.{◌≡◌, ◌≤◌, false, length, [], IfOk, IfErr, OnErr};
+ghost use Rattle.std.specs.Prelude.{◌≡◌, ◌≤◌, false, length, replicate, [], IfOk, IfErr, OnErr};
 ghost use Rattle.arc_owners.specs.count.Calls.{IsPassOfNone};
 ghost use Rattle.arc_block.specs.Writers.{MakesWriter};
 
 use super::ArcSliceMut;
 use arc_block::layout::LayoutMut;
 use arc_block::parts::SoleParts;
-use arc_buffer::kinds::{AnyItems, CopySlice, Emptyable, Slice};
+use arc_buffer::kinds::{AnyItems, CopySlice, Emptyable, Slice, Zeroable};
 use arc_owners::error::AllocError;
 use arc_owners::mark::Mark;
 use arc_owners::owners::Pass;
@@ -66,6 +66,32 @@ impl<S: Slice, L: LayoutMut, B, M, A: Allocator + Copy, H: Mark> ArcSliceMut<S, 
         ensures refused { OnErr result ((1 ≤ length items.now) × (pass.new ≡ pass.old)) }
     {
         match SoleParts::try_from_slice_as(alloc, items, pass) {
+            Ok(parts) => Ok(Self::from_parts(parts)),
+            Err(e) => Err(e),
+        }
+    }
+
+    /// A window over so many zeros: none stand on nothing, else they stand on a new native block
+    /// with exactly a place for each. The pass, which is of no block, becomes the block's; the
+    /// window is owner 0.
+    ///
+    /// # Errors
+    ///
+    /// `AllocError` where memory for the block is refused; the pass is then as before.
+    ///
+    /// # Allocates
+    ///
+    /// Twice, except for no zeros.
+    pub fn try_zeroed_as(alloc: A, count: usize, pass: &mut Pass<H>) -> Result<Self, AllocError>
+    where
+        S: Zeroable,
+        S::Item: Copy,
+        requires pass { IsPassOfNone pass.old }
+        ensures made { IfOk result (λ window. MakesWriter S.DROPS H.whole
+            (replicate count S.zero_item) count window pass.old pass.new) }
+        ensures refused { OnErr result ((1 ≤ count) × (pass.new ≡ pass.old)) }
+    {
+        match SoleParts::try_zeroed_as(alloc, count, pass) {
             Ok(parts) => Ok(Self::from_parts(parts)),
             Err(e) => Err(e),
         }

@@ -1,6 +1,6 @@
 //! The plain forms: calls with a new pass.
 ghost use Rattle.std.specs.Prelude.{◌≡◌, ◌≤◌, ◌+◌, ◌++◌, ◌∷◌, ◌==◌, if◌then◌else◌, true, false, []};
-ghost use Rattle.std.specs.Prelude.{length, IfOk, IfErr, OnOk, OnErr, Err};
+ghost use Rattle.std.specs.Prelude.{length, replicate, IfOk, IfErr, OnOk, OnErr, Err};
 ghost use Rattle.std.specs.Mem.{FitsInMemory, type_size};
 ghost use Rattle.arc_owners.specs.declared.count.tokens.Pass.{Pass};
 ghost use Rattle.arc_owners.specs.declared.mark.Open.{Open};
@@ -14,7 +14,7 @@ ghost use Rattle.arc_read.specs.Steps.{WithNewPass};
 use super::ArcSliceMut;
 use super::change::try_into_mut_as;
 use arc_block::layout::{Layout, LayoutMut};
-use arc_buffer::kinds::{AnyItems, CopySlice, Emptyable, Extendable, Slice, Text};
+use arc_buffer::kinds::{AnyItems, CopySlice, Emptyable, Extendable, Slice, Text, Zeroable};
 use arc_owners::error::{AllocError, TryReserveError};
 use arc_owners::mark::{Open, Stepping};
 use arc_owners::owners::Pass;
@@ -59,6 +59,26 @@ impl<S: Slice, L: LayoutMut, B, M, A: Allocator + Copy> ArcSliceMut<S, L, 1, B, 
         ensures refused { OnErr result (1 ≤ length items.now) }
     {
         Self::try_from_slice_as(alloc, items, &mut Pass::none())
+    }
+
+    /// A window over so many zeros: `try_zeroed_as` with a new pass.
+    ///
+    /// # Errors
+    ///
+    /// `AllocError` where memory for the block is refused.
+    ///
+    /// # Allocates
+    ///
+    /// Twice, except for no zeros.
+    pub fn try_zeroed(alloc: A, count: usize) -> Result<Self, AllocError>
+    where
+        S: Zeroable,
+        S::Item: Copy,
+        ensures made { IfOk result (λ window. (first : Pass Open) × (last : Pass Open)
+            × MakesWriter S.DROPS false (replicate count S.zero_item) count window first last) }
+        ensures refused { OnErr result (1 ≤ count) }
+    {
+        Self::try_zeroed_as(alloc, count, &mut Pass::none())
     }
 
     /// A window over an array's items: `try_from_array_as` with a new pass.

@@ -11,6 +11,7 @@ use std::alloc::Global;
 use std::test::Fail;
 
 mod extend;
+mod items;
 mod owned;
 mod refusals;
 mod rows;

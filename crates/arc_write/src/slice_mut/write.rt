@@ -1,19 +1,36 @@
 //! Room in a write window, and what is written behind its items.
 ghost use Rattle.std.specs.Prelude.{◌≡◌, ◌≤◌, ◌+◌, ◌++◌, ◌∷◌, ◌==◌, if◌then◌else◌, [], length};
 ghost use Rattle.std.specs.Prelude.{IfOk, IfErr, OnOk, OnErr, Ok, Err};
+ghost use Rattle.std.specs.Borrow.{sem};
 ghost use Rattle.std.specs.Mem.{FitsInMemory, type_size};
 ghost use Rattle.arc_block.specs.Steps.{IsPassAt};
 ghost use Rattle.arc_block.specs.Writers.{capacity_of, room, MakesRoom, Pushes, Reclaims};
 
 use super::ArcSliceMut;
 use arc_block::layout::LayoutMut;
-use arc_buffer::kinds::{CopySlice, Extendable, Slice};
+use arc_buffer::kinds::{AnyItems, CopySlice, Extendable, Slice};
 use arc_owners::error::TryReserveError;
 use arc_owners::mark::Mark;
 use arc_owners::owners::Pass;
 use std::alloc::Allocator;
 
 impl<S: Slice, L: LayoutMut, B, M, A: Allocator + Copy, H: Mark> ArcSliceMut<S, L, 1, B, M, A, H> {
+    ghost use Rattle.arc_write.specs.Lends.{lends_items};
+
+    /// The items, to be changed in their places: what is written there they are afterwards. It
+    /// adds nothing.
+    #[inline(always)]
+    pub fn as_mut_slice(&mut self) -> &mut [S::Item]
+    where
+        S: AnyItems,
+        ensures* writes_back { sem 𝓛 (lends_items S.row L.row B.row M.row A.row H.row S.Item.row
+            S.TryFromSliceError.row L.Writable.row S.Slice L.Layout A.Allocator H.Mark
+            self.entry result) }
+        ensures value { result.now ≡ self.old.items }
+    {
+        self.parts.as_mut_slice()
+    }
+
     /// Makes room for so many items more.
     ///
     /// # Errors

@@ -1,0 +1,111 @@
+//! Write windows: zeros, and items that are lent to be changed.
+ghost use Rattle.std.specs.Prelude.{◌≡◌, ◌<◌, length, slice_set};
+
+use crate::slice_mut::{ArcBytesMut, ArcSliceMut, ArcStrMut};
+use arc_block::layout::{DefaultLayout, DefaultLayoutMut, LayoutMut, VecLayout};
+use arc_buffer::kinds::{AnyItems, ByteText, Owned, Plain};
+use arc_owners::error::AllocError;
+use arc_owners::mark::{Mark, Whole};
+use arc_owners::owners::Pass;
+use linked_list_allocator::LocalHeap;
+use std::alloc::{Allocator, Global};
+use std::test::Fail;
+
+/// The window with an item in the place of the one at `i`: its other items stay, and so do its
+/// place and its capacity.
+fn set<S: AnyItems, L: LayoutMut, B, M, A: Allocator + Copy, H: Mark>(
+    window: &mut ArcSliceMut<S, L, 1, B, M, A, H>,
+    i: usize,
+    item: S::Item,
+)
+    requires { i < length window.old.items }
+    ensures items { window.new.items ≡ slice_set window.old.items i item }
+    ensures place { window.new.place ≡ window.old.place }
+    ensures role { window.new.role ≡ window.old.role }
+{
+    window.as_mut_slice()[i] = item;
+}
+
+#[test]
+fn written_after_advance(rt: HostRuntime) -> Result<(), Fail> {
+    let mut window: ArcBytesMut = ArcSliceMut::try_from_slice(rt.alloc(), &[1, 2, 3, 4, 5])?;
+    match window.check_at(2) {
+        Ok(()) => window.advance(2),
+        Err(_) => return Err("fewer than were given".into()),
+    }
+    window.as_mut_slice().reverse();
+    assert_eq!(rt; window.as_slice(), [5, 4, 3].as_slice());
+    if window.len() < 2 {
+        return Err("fewer than were left".into());
+    }
+    set(&mut window, 1, 9);
+    assert_eq!(rt; window.as_slice(), [5, 9, 3].as_slice());
+    assert_eq!(rt; window.capacity(), 3);
+    assert!(rt; window.try_push(6).is_ok());
+    let Ok(frozen) = window.try_freeze::<DefaultLayout>() else {
+        return Err("not frozen".into());
+    };
+    assert_eq!(rt; frozen.as_slice(), [5, 9, 3, 6].as_slice());
+    Ok(())
+}
+
+/// Items that were cut off stay as they were, behind those that are lent.
+#[test]
+fn written_within_the_window(rt: HostRuntime) -> Result<(), Fail> {
+    let mut owned: ArcSliceMut<Owned<u32>, VecLayout, 1> = ArcSliceMut::try_from_array(
+        rt.alloc(),
+        [1, 2, 3],
+    )?;
+    owned.truncate(2);
+    owned.as_mut_slice().reverse();
+    assert_eq!(rt; owned.as_slice(), [2, 1].as_slice());
+    assert_eq!(rt; owned.capacity(), 2);
+    let mut empty: ArcSliceMut<ByteText, DefaultLayoutMut, 1> = ArcSliceMut::new(rt.alloc());
+    assert_eq!(rt; empty.as_mut_slice().len(), 0);
+    Ok(())
+}
+
+#[test]
+fn zeros(rt: HostRuntime) -> Result<(), Fail> {
+    let bytes: ArcBytesMut = ArcSliceMut::try_zeroed(rt.alloc(), 3)?;
+    assert_eq!(rt; bytes.as_slice(), [0, 0, 0].as_slice());
+    assert_eq!(rt; bytes.capacity(), 3);
+    let text: ArcStrMut = ArcSliceMut::try_zeroed(rt.alloc(), 2)?;
+    assert_eq!(rt; text.as_str(), "\0\0");
+    let byte_text: ArcSliceMut<ByteText, DefaultLayoutMut, 1> = ArcSliceMut::try_zeroed(
+        rt.alloc(),
+        1,
+    )?;
+    assert_eq!(rt; byte_text.as_slice(), b"\0".as_slice());
+    let numbers: ArcSliceMut<Plain<i16>, VecLayout, 1> = ArcSliceMut::try_zeroed(rt.alloc(), 5)?;
+    assert_eq!(rt; numbers.as_slice(), [0, 0, 0, 0, 0].as_slice());
+    assert_eq!(rt; numbers.capacity(), 5);
+    Ok(())
+}
+
+#[test]
+fn zeros_with_one_pass(rt: HostRuntime) -> Result<(), Fail> {
+    let mut pass = Pass::none();
+    let mut window: ArcSliceMut<Plain<u8>, DefaultLayoutMut, 1, Vec<u8>, (), Global, Whole> =
+        ArcSliceMut::try_zeroed_as(rt.alloc(), 2, &mut pass)?;
+    assert!(rt; window.try_push_as(7, &mut pass).is_ok());
+    assert_eq!(rt; window.as_slice(), [0, 0, 7].as_slice());
+    window.release_as(&mut pass);
+    Ok(())
+}
+
+#[test]
+fn zeros_and_memory(rt: HostRuntime) -> Result<(), Fail> {
+    let heap = LocalHeap::new(rt.alloc(), 512)?;
+    let none: ArcBytesMut<DefaultLayoutMut, Vec<u8>, (), &LocalHeap> = ArcSliceMut::try_zeroed(
+        &heap, 0,
+    )?;
+    assert_eq!(rt; heap.used(), 0);
+    assert!(rt; none.is_empty());
+    assert_eq!(rt; none.capacity(), 0);
+    let large: Result<ArcBytesMut<DefaultLayoutMut, Vec<u8>, (), &LocalHeap>, AllocError> =
+        ArcSliceMut::try_zeroed(&heap, 1000);
+    assert!(rt; large.is_err());
+    assert_eq!(rt; heap.used(), 0);
+    Ok(())
+}
