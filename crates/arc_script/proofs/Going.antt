@@ -4,7 +4,7 @@ use Rattle.std.proofs.Common.{OnOk, IfErr, IsErrAnd, refl, sym, ap, ◌∙◌, s
 use Rattle.std.proofs.lemmas.List.{append-nil}
 use Rattle.arc_table.specs.State.{empty_state}
 use Rattle.arc_script.specs.State.{ByteState}
-use Rattle.arc_script.specs.Text.{line_feed}
+use Rattle.arc_forms.specs.Text.{line_feed}
 use Rattle.arc_script.specs.Script.{HasNoFeed}
 use Rattle.arc_script.specs.Traffic.{Traffic, Exchanges, NoFault, TakesFront}
 use Rattle.arc_script.specs.Underway.{Holds, Ends, MayEnd, IsUnderway, IsAnswered, IsBegun}
@@ -18,10 +18,6 @@ use Rattle.arc_script.proofs.Underway.{nothing_read, more_held, line_ended, went
 use Rattle.arc_script.proofs.Underway.{begun_front, answered_begun, still_begun, line_broken, begun_nothing}
 
 -- what holds whatever is answered
-pub on_err : {T E P : Type 0} (r : Result T E) → P → OnErr r P
-on_err (Ok x) p = tt
-on_err (Err e) p = p
-
 pub on_ok : {T E P : Type 0} (r : Result T E) → P → OnOk r P
 on_ok (Ok x) p = p
 on_ok (Err e) p = tt

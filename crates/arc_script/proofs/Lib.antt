@@ -1,5 +1,3 @@
-pub mod Words
-pub mod Forms
 pub mod Lines
 pub mod Empty
 pub mod Splits

@@ -13,13 +13,13 @@ use Rattle.arc_table.specs.declared.command.Reply.{Reply}
 use Rattle.arc_table.specs.declared.command.Reply.TheVariants as reply
 use Rattle.arc_table.specs.RunOf.{RunOf}
 use Rattle.arc_table.specs.Step.{Setting, no_shortage, of_table, answer}
-use Rattle.arc_script.specs.Text.{line_feed, Says}
-use Rattle.arc_script.specs.Script.{ended, HasNoFeed, AreLines, byte_setting, ByteTable, Answers, answer_text, BeginsReplyText}
-use Rattle.arc_script.specs.Reading.{BringsItems}
-use Rattle.arc_script.proofs.Forms.{reading, reading_says, unread_is_none}
+use Rattle.arc_forms.specs.Text.{line_feed, Says, answer_text}
+use Rattle.arc_script.specs.Script.{ended, HasNoFeed, AreLines, byte_setting, ByteTable, Answers, BeginsReplyText}
+use Rattle.arc_forms.specs.Reading.{BringsItems}
+use Rattle.arc_forms.proofs.Forms.{reading, reading_says, unread_is_none}
 use Rattle.arc_table.proofs.Answers.{answer_step}
 use Rattle.arc_table.proofs.Runs.{run_append}
-use Rattle.arc_script.proofs.Words.{all_by}
+use Rattle.arc_forms.proofs.Words.{all_by}
 
 -- ---- each line, and each list of lines
 

@@ -4,8 +4,9 @@ use Rattle.std.specs.Prelude.{codes, map}
 use Rattle.std.specs.Fmt.{digits}
 use Rattle.std.specs.List.{AllByRecursion}
 use Rattle.arc_block.specs.Table.{empty_table}
-use Rattle.arc_script.specs.Script.{ended, last_line, HasNoFeed, answer_text, IsReplyText}
-use Rattle.arc_script.specs.Reading.{operands_of, command_of}
+use Rattle.arc_script.specs.Script.{ended, last_line, HasNoFeed, IsReplyText}
+use Rattle.arc_forms.specs.Text.{answer_text}
+use Rattle.arc_forms.specs.Reading.{operands_of, command_of}
 use Rattle.arc_script.proofs.Lines.{script, script_runs, no_feed, no_feeds}
 
 -- whole lines, and a rest behind the last feed

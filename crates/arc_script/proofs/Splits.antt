@@ -3,7 +3,7 @@ use Rattle.std.proofs.Common.{◌≡◌, ◌≢◌, ℕ, zero, suc, Bool, true, 
 use Rattle.std.specs.List.{AllByRecursion}
 use Rattle.std.proofs.lemmas.List.Elements.{Contains-append_cases, Contains-append_right}
 use Rattle.std.proofs.lemmas.Bool.{eqb-false, eqb-true}
-use Rattle.arc_script.specs.Text.{line_feed}
+use Rattle.arc_forms.specs.Text.{line_feed}
 use Rattle.arc_script.specs.Script.{HasNoFeed, AreLines, ended, last_line}
 
 -- lines that have ended, and what stands behind the last line feed

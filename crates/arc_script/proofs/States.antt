@@ -5,7 +5,7 @@ use Rattle.std.proofs.lemmas.List.{append-nil}
 use Rattle.std.specs.Option.{option_map}
 use Rattle.arc_table.specs.RunOf.{RunOf}
 use Rattle.arc_script.specs.Script.{AreLines, Answers, IsReplyText, BeginsReplyText}
-use Rattle.arc_script.specs.Seen.{IsReadAs}
+use Rattle.arc_forms.specs.Seen.{IsReadAs}
 use Rattle.arc_table.specs.Seen.{seen_command}
 use Rattle.arc_table.specs.State.{empty_state}
 use Rattle.arc_script.specs.State.{ByteState}

@@ -8,8 +8,8 @@ use Rattle.arc_block.specs.Table.{empty_table}
 use Rattle.arc_table.specs.RunOf.{RunOf}
 use Rattle.arc_table.specs.State.{empty_state}
 use Rattle.arc_script.specs.State.{AnswersLine, ByteState}
-use Rattle.arc_script.specs.Text.{line_feed}
-use Rattle.arc_script.specs.Script.{HasNoFeed, AreLines, ended, last_line, answer_text, IsReplyText}
+use Rattle.arc_forms.specs.Text.{line_feed, answer_text}
+use Rattle.arc_script.specs.Script.{HasNoFeed, AreLines, ended, last_line, IsReplyText}
 use Rattle.arc_script.specs.Traffic.{Traffic, TakesFront}
 use Rattle.arc_script.specs.Underway.{AnswersHeld, Holds, IsUnderway, IsAnswered}
 use Rattle.arc_script.specs.Underway.{IsBegun, Ends, MayEnd, MayLack}

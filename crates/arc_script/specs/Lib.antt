@@ -1,8 +1,4 @@
-pub mod Text
-pub mod Reading
 pub mod Script
-pub mod Seen
-pub mod Writing
 pub mod State
 pub mod Traffic
 pub mod Underway

@@ -4,7 +4,7 @@ use Rattle.std.specs.Prelude.{string_bytes, codes, ◌⊎◌, ◌++◌}
 use Rattle.std.specs.declared.alloc.Global.{Global}
 use Rattle.arc_script.specs.Arguments.{Answer, AreWords}
 use Rattle.arc_script.specs.Script.{IsReplyText, BeginsReplyText}
-use Rattle.arc_script.specs.Text.{line_feed}
+use Rattle.arc_forms.specs.Text.{line_feed}
 use Rattle.arc_script.specs.Traffic.{Traffic, Exchanges, NoFault, Tells}
 use Rattle.arc_script.specs.Faults.{IsCause}
 use Rattle.arc_script.specs.declared.script.ScriptError.{ScriptError}

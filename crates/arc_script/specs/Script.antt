@@ -1,11 +1,11 @@
 -- Scripts: the lines of an input, what each is answered, and what is written.
 use Rattle.std.specs.Prelude.{◌≡◌, ℕ, true, false, List, [], ◌∷◌, ◌++◌, Option, Some, None, map}
-use Rattle.std.specs.Prelude.{flat_map, Contains, codes}
+use Rattle.std.specs.Prelude.{flat_map, Contains}
 use Rattle.std.specs.List.{AllByRecursion}
 use Rattle.arc_block.specs.Table.{Table, empty_table}
 use Rattle.arc_table.specs.RunOf.{RunOf}
 use Rattle.arc_table.specs.Step.{Setting, Step, setting_of}
-use Rattle.arc_script.specs.Text.{line_feed, Says, reply_text}
+use Rattle.arc_forms.specs.Text.{line_feed, Says, IsBad, answer_text}
 use Rattle.arc_table.specs.declared.command.Cmd.{Cmd}
 use Rattle.arc_table.specs.declared.command.Reply.{Reply}
 
@@ -38,10 +38,6 @@ byte_setting = setting_of true (λ sort. false) false (λ items at. true)
 abbrev pub ByteTable : Type 0
 ByteTable = Table ℕ (Unit {0})
 
--- the line says no command
-abbrev pub IsBad : List ℕ → Type 0
-IsBad line = (c : Cmd (List ℕ) (List ℕ)) → ¬ Says line c
-
 -- what a line is answered: one step of the command that it says, or None where it says none and
 -- nothing changes
 abbrev pub AnswersBy : {S : Type 0}
@@ -54,10 +50,6 @@ AnswersBy step old line None new = IsBad line × (new ≡ old)
 -- of a table
 abbrev pub Answers : ByteTable → List ℕ → Option (Reply (List ℕ) (List ℕ)) → ByteTable → Type 0
 Answers old line answer new = AnswersBy (Step byte_setting) old line answer new
-
-abbrev pub answer_text : Option (Reply (List ℕ) (List ℕ)) → List ℕ
-answer_text (Some reply) = reply_text reply
-answer_text None = codes "bad line"
 
 -- what is written for an input: the replies of a run over its lines, from no window on, each with a
 -- line feed

@@ -8,8 +8,8 @@ use Rattle.arc_owners.specs.declared.mark.Whole.{Whole}
 use Rattle.arc_table.specs.RunOf.{RunOf}
 use Rattle.arc_table.specs.State.{empty_state, EndsWith}
 use Rattle.arc_script.specs.State.{AnswersLine, ByteState, CarriesOutSaid}
-use Rattle.arc_script.specs.Text.{longest_line, line_feed}
-use Rattle.arc_script.specs.Script.{AreLines, HasNoFeed, byte_setting, ended, answer_text}
+use Rattle.arc_forms.specs.Text.{longest_line, line_feed, answer_text}
+use Rattle.arc_script.specs.Script.{AreLines, HasNoFeed, byte_setting, ended}
 use Rattle.arc_script.specs.Traffic.{Traffic}
 use Rattle.arc_table.specs.declared.command.Cmd.{Cmd}
 use Rattle.arc_table.specs.declared.command.Reply.{Reply}

@@ -2,7 +2,5 @@
 #![tactic(auto)]
 
 pub mod io;
-pub mod parse;
 pub mod program;
 pub mod script;
-pub mod text;

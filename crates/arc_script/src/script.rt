@@ -2,7 +2,7 @@
 ghost use Rattle.std.specs.Prelude.{◌≡◌, ◌<◌, ◌≤◌, ◌+◌, ◌++◌, ◌∷◌, List, ℕ, [], false, length};
 ghost use Rattle.std.specs.Prelude.{take, drop, OnOk, OnErr, IfOk, IfErr, IfSome, MatchOption};
 ghost use Rattle.std.specs.Prelude.{Option, vec_len};
-ghost use Rattle.arc_script.specs.Text.{line_feed};
+ghost use Rattle.arc_forms.specs.Text.{line_feed};
 ghost use Rattle.arc_script.specs.Script.{AreLines, BeginsReplyText, HasNoFeed, IsReplyText};
 ghost use Rattle.arc_block.specs.Owned.{IsKept};
 ghost use Rattle.arc_block.specs.declared.block.TheConstants.{MAX_OWNERS};
@@ -16,15 +16,15 @@ ghost use Rattle.std.specs.Io.KnownBytes.{IsAtEnd};
 ghost use Rattle.arc_script.specs.Traffic.{Exchanges, Gives, GivesAll, NoFault, Takes, TakesFront};
 ghost use Rattle.arc_script.specs.Traffic.{Traffic, faults};
 ghost use Rattle.arc_script.specs.Faults.{IsCause, IsWhy};
-ghost use Rattle.arc_script.specs.declared.parse.TheConstants.{LONGEST_LINE};
+ghost use Rattle.arc_forms.specs.declared.parse.TheConstants.{LONGEST_LINE};
 ghost use Rattle.arc_script.specs.declared.script.ScriptError.TheVariants as script_error;
 
 use crate::io::{Sink, Source};
-use crate::parse::{Command, LONGEST_LINE, parse};
-use crate::text::push_answer;
 use arc_block::layout::DefaultLayout;
 use arc_block::static_slice::StaticSlice;
 use arc_buffer::kinds::Plain;
+use arc_forms::parse::{Command, LONGEST_LINE, parse};
+use arc_forms::text::push_answer;
 use arc_owners::error::AllocError;
 use arc_table::command::{Cmd, Reply};
 use arc_table::passes::Passes;
@@ -132,7 +132,7 @@ impl<A: Allocator + Copy> Engine<A> {
     ghost use Rattle.std.specs.Prelude.{◌≡◌};
     ghost use Rattle.arc_block.specs.Owned.{IsKept};
     ghost use Rattle.arc_block.specs.declared.block.TheConstants.{MAX_OWNERS};
-    ghost use Rattle.arc_script.specs.Seen.{IsReadAs};
+    ghost use Rattle.arc_forms.specs.Seen.{IsReadAs};
     ghost use Rattle.arc_table.specs.State.{EndsWith, empty_state};
     ghost use Rattle.arc_script.specs.Underway.{Holds, Ends, MayEnd, IsAnswered, IsBegun};
     ghost use Rattle.arc_script.specs.Script.{HasNoFeed};

@@ -6,7 +6,8 @@ use Rattle.arc_table.specs.State.{CarriesOut}
 use Rattle.arc_table.specs.declared.command.Cmd.TheVariants.{Show}
 use Rattle.arc_script.specs.Script.{byte_setting}
 use Rattle.arc_script.specs.State.{CarriesOutSaid}
-use Rattle.arc_script.proofs.Going.{on_err, on_ok_then}
+use Rattle.arc_forms.proofs.Forms.{on_err}
+use Rattle.arc_script.proofs.Going.{on_ok_then}
 use Rattle.arc_script.proofs.script.answer.Goals as goal
 
 pub returns-in-Some-Show : goal.returns-in-Some-Show

@@ -1,6 +1,6 @@
 -- What was read is carried out, and answered.
 use Rattle.std.proofs.Common.{false, subst}
-use Rattle.arc_script.specs.Seen.{IsReadAs}
+use Rattle.arc_forms.specs.Seen.{IsReadAs}
 use Rattle.arc_script.proofs.Going.{on_err_then, on_ok_then}
 use Rattle.arc_script.proofs.States.{line_ends, line_may_end}
 use Rattle.arc_script.proofs.script.Engine.answer_in_place.Goals as goal

@@ -3,7 +3,7 @@ use Rattle.std.proofs.Common.{◌≡◌, [], false, length, vec_len, sym, subst,
 use Rattle.std.proofs.lemmas.Bool.{eqb-false}
 use Rattle.arc_script.specs.Underway.{IsBegun}
 use Rattle.arc_script.specs.declared.script.ScriptError.TheVariants.{Alloc}
-use Rattle.arc_script.proofs.Going.{on_err}
+use Rattle.arc_forms.proofs.Forms.{on_err}
 use Rattle.arc_script.proofs.Underway.{last_answered, last_broken}
 use Rattle.arc_script.proofs.script.Engine.answer_rest.Goals as goal
 use Rattle.arc_script.proofs.script.Engine.answer_rest.Goals.{else-not-self-via-then-not-self+else-is_empty, else-not-self-via-else-not-self}

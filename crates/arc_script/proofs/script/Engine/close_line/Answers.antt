@@ -2,9 +2,10 @@
 use Rattle.std.proofs.Common.{[], ◌∷◌, ◌++◌, refl, sym, ◌∙◌, arith}
 use Rattle.std.proofs.lemmas.Bool.{eqb-true}
 use Rattle.std.proofs.lemmas.List.{nil_from_length as none_held}
-use Rattle.arc_script.specs.Text.{line_feed}
+use Rattle.arc_forms.specs.Text.{line_feed}
 use Rattle.arc_script.specs.declared.script.ScriptError.TheVariants.{Alloc}
-use Rattle.arc_script.proofs.Going.{on_err, reads_in_place, stops_in_place, reads_held, reads_line}
+use Rattle.arc_forms.proofs.Forms.{on_err}
+use Rattle.arc_script.proofs.Going.{reads_in_place, stops_in_place, reads_held, reads_line}
 use Rattle.arc_script.proofs.Going.{stops_now, stops_later, stops_at_line}
 use Rattle.arc_script.proofs.script.Engine.close_line.Goals as goal
 

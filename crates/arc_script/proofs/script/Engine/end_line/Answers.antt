@@ -1,5 +1,5 @@
 -- What was read is carried out, and answered.
-use Rattle.arc_script.proofs.Going.{on_err}
+use Rattle.arc_forms.proofs.Forms.{on_err}
 use Rattle.arc_script.proofs.States.{line_ends, line_may_end}
 use Rattle.arc_script.proofs.script.Engine.end_line.Goals as goal
 

@@ -1,6 +1,6 @@
 -- Line after line is read, and then what stands behind the last line feed of the piece.
 use Rattle.std.proofs.Common.{◌++◌, ◌∷◌, [], ◌∙◌}
-use Rattle.arc_script.specs.Text.{line_feed}
+use Rattle.arc_forms.specs.Text.{line_feed}
 use Rattle.arc_script.specs.declared.script.ScriptError.TheVariants.{Alloc}
 use Rattle.arc_script.proofs.Going.{if_err_is, stops_now, stops_later, stops_longer, reads_on, reads_held}
 use Rattle.arc_script.proofs.Going.{reads_whole, line_parts, more_parts}

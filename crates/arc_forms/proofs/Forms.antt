@@ -1,0 +1,330 @@
+-- Commands: what is read is written so, and what can be written is read again.
+use Rattle.std.proofs.Common.{◌≡◌, ◌≢◌, ℕ, ◌+◌, ◌<◌, arith, add-one, get_or, drop, Bool, true, false, leb, ◌≤◌, List, [], ◌∷◌, ◌++◌, length, cond, Option, Some, None, ◌⊎◌, inl, inr, refl, sym, ap, subst, ◌∙◌, append_assoc, append-nil, not, eqb}
+use Rattle.std.specs.Prelude.{map, IsSomeAnd, IfOk, OnErr, MatchOption, Result, Ok, Err}
+use Rattle.std.proofs.Math.Seq.{drop-cons}
+use Rattle.std.specs.List.{join_with_byte, list_all, AllByRecursion}
+use Rattle.std.specs.Option.{option_map}
+use Rattle.std.proofs.lemmas.Bool.{cases_Bool, leb-true, le-leb, cond-false, cond-true, and_parts, eqb-true}
+use Rattle.std.proofs.lemmas.List.Splits.{join_with_byte-slice_split, slice_split_none, length-slice_split}
+use Rattle.std.proofs.lemmas.List.{drop_all}
+use Rattle.std.proofs.lemmas.Option.{none-some, same_Some}
+use Rattle.arc_table.specs.declared.command.Cmd.{Cmd}
+use Rattle.arc_table.specs.declared.command.Cmd.TheVariants as command
+use Rattle.arc_forms.specs.Text.{space, longest_line, words_of, form, Operand, Number, Items, operand_word, IsWritable, IsSayable, Says, IsBad}
+use Rattle.arc_forms.specs.Reading.{◌>>=◌, is_space, words_of_line, Sort, ANumber, SomeItems, number_of, items_of, operand_of, operands_of, Value, Makes, made, spells_from, spells, Form, forms, read_by, command_of, BringsItems}
+use Rattle.arc_forms.proofs.Words.{number_is, number_again, items_is, items_again, items_fit, items_are_bytes, NoSpace, no_space_text, no_space_number, no_space_items, words-join}
+
+-- what holds whatever is answered
+pub on_err : {T E P : Type 0} (r : Result T E) → P → OnErr r P
+on_err (Ok x) p = tt
+on_err (Err e) p = p
+
+-- ---- operands
+
+abbrev pub sort_of : Operand → Sort
+sort_of (Number n) = ANumber
+sort_of (Items xs) = SomeItems
+
+-- how an operand that was read stands in the words
+pub record Stands (sort : Sort) (word : List ℕ) (o : Operand) : Type 0 where
+  pub fits : sort ≡ sort_of o
+  pub are : word ≡ operand_word o
+  pub writable : IsWritable o
+
+operand_is : (sort : Sort) (word : List ℕ) (o : Operand) → operand_of sort word ≡ Some o → Stands sort word o
+operand_is ANumber word o e = at (number_of word) refl e
+  where
+    at : (read : Option ℕ) → number_of word ≡ read → option_map Number read ≡ Some o → Stands ANumber word o
+    at None seen e = absurd (none-some o e)
+    at (Some n) seen e = let found = number_is word n seen in subst (Stands ANumber word) (same_Some _ _ e) (record { fits = refl; are = found.0; writable = found.1 })
+operand_is SomeItems word o e = at (items_of word) refl e
+  where
+    at : (read : Option (List ℕ)) → items_of word ≡ read → option_map Items read ≡ Some o → Stands SomeItems word o
+    at None seen e = absurd (none-some o e)
+    at (Some xs) seen e = let found = items_is word xs seen in subst (Stands SomeItems word) (same_Some _ _ e) (record { fits = refl; are = found.0; writable = items_are_bytes xs found.1 })
+
+operand_again : (o : Operand) → IsWritable o → operand_of (sort_of o) (operand_word o) ≡ Some o
+operand_again (Number n) short = ap (option_map Number) (number_again n short)
+operand_again (Items xs) bytes = ap (option_map Items) (items_again xs (items_fit xs bytes))
+
+no_space_operand : (o : Operand) → IsWritable o → NoSpace (operand_word o)
+no_space_operand (Number n) short = no_space_number n short
+no_space_operand (Items xs) bytes = no_space_items xs (items_fit xs bytes)
+
+-- what is behind a step of reading that answered something
+then_some : {X Y : Type 0} (o : Option X) (then : X → Option Y) (y : Y) → (o >>= then) ≡ Some y → (x : X) × (o ≡ Some x) × (then x ≡ Some y)
+then_some None then y e = absurd (none-some y e)
+then_some (Some x) then y e = (x, refl, e)
+
+-- how operands that were read stand in the words
+pub record AllStand (sorts : List Sort) (words : List (List ℕ)) (os : List Operand) : Type 0 where
+  pub fit : sorts ≡ map sort_of os
+  pub are : words ≡ map operand_word os
+  pub writable : AllByRecursion IsWritable os
+
+operands_are : (sorts : List Sort) (words : List (List ℕ)) (os : List Operand) → operands_of sorts words ≡ Some os → AllStand sorts words os
+unfolding operands_of
+operands_are [] [] os e = subst (AllStand [] []) (same_Some _ _ e) (record { fit = refl; are = refl; writable = tt })
+operands_are [] (word ∷ words) os e = absurd (none-some os e)
+operands_are (sort ∷ sorts) [] os e = absurd (none-some os e)
+operands_are (sort ∷ sorts) (word ∷ words) os e =
+    let taken = then_some (operand_of sort word >>= λ o. Some (o, words)) (λ first. operands_of sorts first.1 >>= λ others. Some (first.0 ∷ others)) os e in
+    let first = then_some (operand_of sort word) (λ o. Some (o, words)) taken.0 taken.1 in
+    let same : (first.0, words) ≡ taken.0 = same_Some _ _ first.2 in
+    let behind : (operands_of sorts words >>= λ others. Some (first.0 ∷ others)) ≡ Some os = rw (sym same) at taken.2 in
+    let others = then_some (operands_of sorts words) (λ others. Some (first.0 ∷ others)) os behind in
+    let front = operand_is sort word first.0 first.1 in
+    let rest = operands_are sorts words others.0 others.1 in
+    subst (AllStand (sort ∷ sorts) (word ∷ words)) (same_Some _ _ others.2) (record { fit = cc (front.fits, rest.fit); are = cc (front.are, rest.are); writable = (front.writable, rest.writable) })
+
+operands_again : (os : List Operand) → AllByRecursion IsWritable os → operands_of (map sort_of os) (map operand_word os) ≡ Some os
+unfolding operands_of
+operands_again [] all = refl
+operands_again (o ∷ os) all = rw (operand_again o all.0, operands_again os all.1) refl
+
+no_space_operands : (os : List Operand) → AllByRecursion IsWritable os → AllByRecursion NoSpace (map operand_word os)
+no_space_operands [] all = tt
+no_space_operands (o ∷ os) all = (no_space_operand o all.0, no_space_operands os all.1)
+
+-- The last operand stands in what is left of a line as it is, since no operand has a space.
+pub last_operand : (sort : Sort) (line : List ℕ) → operands_of (sort ∷ []) (words_of_line line) ≡ option_map (λ o. o ∷ []) (operand_of sort line)
+unfolding operands_of
+last_operand sort line = at (operand_of sort line) refl
+  where
+    -- where what is left is no operand, one word is none, and more words are too many
+    none : operand_of sort line ≡ None → (words : List (List ℕ)) → line ≡ join_with_byte space words → operands_of (sort ∷ []) words ≡ None
+    none other [] e = refl
+    none other (word ∷ []) e = rw (sym (ap (operand_of sort) e) ∙ other) refl
+    none other (word ∷ next ∷ words) e = many (operand_of sort word) next words
+      where
+        many : (o : Option Operand) (next : List ℕ) (words : List (List ℕ)) → (◌>>=◌ {A = Operand × List (List ℕ)} (o >>= λ x. Some (x, next ∷ words)) (λ first. operands_of [] first.1 >>= λ others. Some (first.0 ∷ others))) ≡ None
+        many None next words = refl
+        many (Some x) next words = refl
+
+    at : (o : Option Operand) → operand_of sort line ≡ o → operands_of (sort ∷ []) (words_of_line line) ≡ option_map (λ o. o ∷ []) o
+    at None seen = none seen (words_of_line line) (sym (join_with_byte-slice_split space line))
+    at (Some o) seen =
+        let is = operand_is sort line o seen in
+        let free : NoSpace line = subst NoSpace (sym is.are) (no_space_operand o is.writable) in
+        rw (slice_split_none is_space line free, seen) refl
+
+pub none_left : (sort : Sort) → operands_of (sort ∷ []) [] ≡ None
+unfolding operands_of
+none_left sort = refl
+
+-- no words are nothing, and what is left of a line is a word
+pub nothing_is_left : operands_of [] [] ≡ Some []
+unfolding operands_of
+nothing_is_left = refl
+
+pub word_is_left : (line : List ℕ) → operands_of [] (words_of_line line) ≡ None
+unfolding operands_of
+word_is_left line = at (words_of_line line) _ (length-slice_split is_space line)
+  where
+    at : (words : List (List ℕ)) (n : ℕ) → length words ≡ n + 1 → operands_of [] words ≡ None
+    at [] n e = absurd (omega (arith, e))
+    at (word ∷ words) n e = refl
+
+-- ---- the forms by their first words
+
+pub last_items : (line xs : List ℕ) → items_of line ≡ Some xs → operands_of (SomeItems ∷ []) (words_of_line line) ≡ Some (Items xs ∷ [])
+last_items line xs e = last_operand SomeItems line ∙ ap (λ (read : Option (List ℕ)). option_map (λ o. o ∷ []) (option_map Items read)) e
+
+abbrev pub operand : (sort : Sort) → Value sort → Operand
+operand ANumber n = Number n
+operand SomeItems xs = Items xs
+
+-- what is made of operands is written by this word, the operands before, and these, and has a line
+abbrev pub IsWritten : List ℕ → List Operand → (sorts : List Sort) → Makes sorts → Type 0
+IsWritten word before [] make = (form make ≡ (word, before)) × IsSayable make
+IsWritten word before (sort ∷ sorts) make = (x : Value sort) → IsWritten word (before ++ operand sort x ∷ []) sorts (make x)
+
+abbrev pub found : List ℕ → List Form → Option Form
+found verb [] = None
+found verb (f ∷ fs) = cond (spells verb f.word) (Some f) (found verb fs)
+
+-- each form of the table is written as it is read
+all_written : AllByRecursion (λ f. IsWritten f.word [] f.sorts f.make) forms
+all_written = search depth 200
+
+written_found : (verb : List ℕ) (fs : List Form) (f : Form) → AllByRecursion (λ g. IsWritten g.word [] g.sorts g.make) fs → found verb fs ≡ Some f → IsWritten f.word [] f.sorts f.make
+written_found verb [] f all e = absurd (none-some f e)
+written_found verb (g ∷ fs) f all e =
+    elim (cases_Bool (spells verb g.word)) [
+      | inl is ↦ subst (λ (h : Form). IsWritten h.word [] h.sorts h.make) (same_Some g f (sym (cond-true _ (Some g) (found verb fs) is) ∙ e)) all.0
+      | inr other ↦ written_found verb fs f all.1 (sym (cond-false _ (Some g) (found verb fs) other) ∙ e)
+    ]
+
+made_written : (word : List ℕ) (before : List Operand) (sorts : List Sort) (make : Makes sorts) (os : List Operand) (c : Cmd (List ℕ) (List ℕ))
+    → IsWritten word before sorts make → made sorts make os ≡ Some c → (form c ≡ (word, before ++ os)) × IsSayable c
+made_written word before [] make [] c written e = (rw append-nil (subst (λ (d : Cmd (List ℕ) (List ℕ)). form d ≡ (word, before)) (same_Some _ _ e) written.0), subst IsSayable (same_Some _ _ e) written.1)
+made_written word before [] make (o ∷ os) c written e = absurd (none-some c e)
+made_written word before (sort ∷ sorts) make [] c written e = absurd (none-some c e)
+made_written word before (ANumber ∷ sorts) make (Number n ∷ os) c written e = let is = made_written word (before ++ Number n ∷ []) sorts (make n) os c (written n) e in (is.0 ∙ ap (λ (all : List Operand). (word, all)) (append_assoc before (Number n ∷ []) os), is.1)
+made_written word before (ANumber ∷ sorts) make (Items xs ∷ os) c written e = absurd (none-some c e)
+made_written word before (SomeItems ∷ sorts) make (Number n ∷ os) c written e = absurd (none-some c e)
+made_written word before (SomeItems ∷ sorts) make (Items xs ∷ os) c written e = let is = made_written word (before ++ Items xs ∷ []) sorts (make xs) os c (written xs) e in (is.0 ∙ ap (λ (all : List Operand). (word, all)) (append_assoc before (Items xs ∷ []) os), is.1)
+
+spelled_from : (word : List ℕ) (k : ℕ) (name : List ℕ) → length word ≡ k + length name → spells_from word k name ≡ true → drop k word ≡ name
+spelled_from word k [] len all = drop_all k word (omega arith)
+spelled_from word k (byte ∷ bytes) len all =
+    let both = and_parts (eqb (get_or word k 0) byte) (spells_from word (k + 1) bytes) all in
+    let below : k < length word = omega arith in
+    let more : length word ≡ k + 1 + length bytes = omega arith in
+    drop-cons word k 0 below ∙ rw (← add-one) (rw (spelled_from word (k + 1) bytes more both.1, eqb-true (get_or word k 0) byte both.0) refl)
+
+spelled : (word name : List ℕ) → spells word name ≡ true → word ≡ name
+spelled word name e =
+    let both = and_parts (eqb (length word) (length name)) (spells_from word 0 name) e in
+    let same : length word ≡ length name = eqb-true (length word) (length name) both.0 in
+    spelled_from word 0 name (omega arith) both.1
+
+found_word : (verb : List ℕ) (fs : List Form) (f : Form) → found verb fs ≡ Some f → verb ≡ f.word
+found_word verb [] f e = absurd (none-some f e)
+found_word verb (g ∷ fs) f e =
+    elim (cases_Bool (spells verb g.word)) [
+      | inl is ↦ spelled verb g.word is ∙ ap (λ (h : Form). h.word) (same_Some g f (sym (cond-true _ (Some g) (found verb fs) is) ∙ e))
+      | inr is ↦ found_word verb fs f (sym (cond-false _ (Some g) (found verb fs) is) ∙ e)
+    ]
+
+abbrev pub sorts_of : List ℕ → Option (List Sort)
+sorts_of verb = option_map (λ (f : Form). f.sorts) (found verb forms)
+
+-- each command's form is in the table
+sorts_again : (c : Cmd (List ℕ) (List ℕ)) → sorts_of (form c).0 ≡ Some (map sort_of (form c).1)
+sorts_again (command.Slice xs) = refl
+sorts_again other = refl
+
+made_again : (c : Cmd (List ℕ) (List ℕ)) → IsSayable c → (found (form c).0 forms >>= λ f. made f.sorts f.make (form c).1) ≡ Some c
+made_again (command.Slice xs) sayable = refl
+made_again (command.Static xs) sayable = ap (λ (items : List ℕ). Some (command.Static items)) (sym sayable)
+made_again other sayable = refl
+
+no_space_form : (c : Cmd (List ℕ) (List ℕ)) → list_all (λ byte. not (is_space byte)) (form c).0 ≡ true
+no_space_form (command.Slice xs) = refl
+no_space_form other = refl
+
+read_found : (verb : List ℕ) (words : List (List ℕ)) (fs : List Form) → read_by verb words fs ≡ (found verb fs >>= λ f. operands_of f.sorts words >>= λ os. made f.sorts f.make os)
+read_found verb words [] = refl
+read_found verb words (f ∷ fs) =
+    elim (cases_Bool (spells verb f.word)) [
+      | inl is ↦ rw is refl
+      | inr other ↦ rw other (read_found verb words fs)
+    ]
+
+-- ---- the command that words say
+
+-- these words say the command: it can be written, and is written so
+pub record SaidBy (words : List (List ℕ)) (c : Cmd (List ℕ) (List ℕ)) : Type 0 where
+  pub sayable : IsSayable c
+  pub writable : AllByRecursion IsWritable (form c).1
+  pub are : words ≡ words_of c
+
+-- words that are read as a command say it
+pub command_said : (words : List (List ℕ)) (c : Cmd (List ℕ) (List ℕ)) → command_of words ≡ Some c → SaidBy words c
+unfolding command_of
+command_said [] c e = absurd (none-some c e)
+command_said (verb ∷ words) c e =
+    let one = then_some (found verb forms) (λ f. operands_of f.sorts words >>= λ os. made f.sorts f.make os) c (sym (read_found verb words forms) ∙ e) in
+    let f : Form = one.0 in
+    let read = then_some (operands_of f.sorts words) (λ os. made f.sorts f.make os) c one.2 in
+    let stand = operands_are f.sorts words read.0 read.1 in
+    let written = made_written f.word [] f.sorts f.make read.0 c (written_found verb forms f all_written one.1) read.2 in
+    let is : form c ≡ (f.word, read.0) = written.0 in
+    let word : verb ≡ f.word = found_word verb forms f one.1 in
+    record { sayable = written.1; writable = subst (λ (all : List ℕ × List Operand). AllByRecursion IsWritable all.1) (sym is) stand.writable; are = cc (is, word, stand.are) }
+
+-- a command that can be written is read from its words again
+pub command_again : (c : Cmd (List ℕ) (List ℕ)) → IsSayable c → AllByRecursion IsWritable (form c).1 → command_of (words_of c) ≡ Some c
+unfolding command_of
+command_again c sayable writable = read_found (form c).0 (map operand_word (form c).1) forms ∙ at (found (form c).0 forms) (sorts_again c) (made_again c sayable)
+  where
+    at : (o : Option Form) → option_map (λ (f : Form). f.sorts) o ≡ Some (map sort_of (form c).1) → (o >>= λ f. made f.sorts f.make (form c).1) ≡ Some c
+        → (o >>= λ f. operands_of f.sorts (map operand_word (form c).1) >>= λ os. made f.sorts f.make os) ≡ Some c
+    at None sorts make = absurd (none-some _ sorts)
+    at (Some f) sorts make =
+        let read : operands_of f.sorts (map operand_word (form c).1) ≡ Some (form c).1 = rw (same_Some _ _ sorts) (operands_again (form c).1 writable) in
+        rw read make
+
+-- a first word that is the word of none of these forms
+pub no_form : (verb : List ℕ) (rest : List (List ℕ)) (fs : List Form) → AllByRecursion (λ f. verb ≢ f.word) fs → read_by verb rest fs ≡ None
+no_form verb rest [] others = refl
+no_form verb rest (f ∷ fs) others = elim (cases_Bool (spells verb f.word)) [
+  | inl is ↦ absurd (others.0 (spelled verb f.word is))
+  | inr other ↦ rw other (no_form verb rest fs others.1)
+]
+
+-- such a word is read by the forms behind them
+pub none_of : (verb : List ℕ) (rest : List (List ℕ)) (fs gs : List Form)
+    → AllByRecursion (λ f. verb ≢ f.word) fs
+    → read_by verb rest (fs ++ gs) ≡ read_by verb rest gs
+none_of verb rest [] gs others = refl
+none_of verb rest (f ∷ fs) gs others = elim (cases_Bool (spells verb f.word)) [
+  | inl is ↦ absurd (others.0 (spelled verb f.word is))
+  | inr other ↦ rw other (none_of verb rest fs gs others.1)
+]
+
+-- ---- lines
+
+-- the words of a command part at the spaces
+words_apart : (c : Cmd (List ℕ) (List ℕ)) → AllByRecursion IsWritable (form c).1 → words_of_line (join_with_byte space (words_of c)) ≡ words_of c
+words_apart c writable = words-join (form c).0 (map operand_word (form c).1) (no_space_text (form c).0 (no_space_form c), no_space_operands (form c).1 writable)
+
+pub line_says : (line : List ℕ) (c : Cmd (List ℕ) (List ℕ)) → length line ≤ longest_line → command_of (words_of_line line) ≡ Some c → Says line c
+line_says line c fits e =
+    let said = command_said (words_of_line line) c e in
+    record { fits = fits; sayable = said.sayable; writable = said.writable; words = sym (join_with_byte-slice_split space line) ∙ ap (join_with_byte space) said.are }
+
+pub says_read : (line : List ℕ) (c : Cmd (List ℕ) (List ℕ)) → Says line c → command_of (words_of_line line) ≡ Some c
+says_read line c says = rw (says.words, words_apart c says.writable) (command_again c says.sayable says.writable)
+
+pub unread_is_bad : (line : List ℕ) → command_of (words_of_line line) ≡ None → IsBad line
+unread_is_bad line none c says = none-some c (sym none ∙ says_read line c says)
+
+cond_option : {X : Type 0} (b : Bool) (o : Option X) (x : X) → cond b o None ≡ Some x → (b ≡ true) × (o ≡ Some x)
+cond_option true o x e = (refl, e)
+cond_option false o x e = absurd (none-some x e)
+
+-- what a line says, if it says a command
+abbrev pub reading : List ℕ → Option (Cmd (List ℕ) (List ℕ))
+reading line = cond (leb (length line) longest_line) (command_of (words_of_line line)) None
+
+pub reading_says : (line : List ℕ) (c : Cmd (List ℕ) (List ℕ)) → reading line ≡ Some c → Says line c
+reading_says line c e =
+    let found = cond_option (leb (length line) longest_line) (command_of (words_of_line line)) c e in
+    line_says line c (leb-true _ _ found.0) found.1
+
+pub unread_is_none : (line : List ℕ) → reading line ≡ None → IsBad line
+unread_is_none line none c says = none-some c (sym none ∙ rw (le-leb _ _ says.fits) (says_read line c says))
+
+-- each line says a command, or is bad
+pub says_or_bad : (line : List ℕ) → ((c : Cmd (List ℕ) (List ℕ)) × Says line c) ⊎ IsBad line
+says_or_bad line = at (reading line) refl
+  where
+    at : (o : Option (Cmd (List ℕ) (List ℕ))) → reading line ≡ o → ((c : Cmd (List ℕ) (List ℕ)) × Says line c) ⊎ IsBad line
+    at None seen = inr (unread_is_none line seen)
+    at (Some c) seen = inl (c, reading_says line c seen)
+
+-- no line says two
+pub says_one : (line : List ℕ) (c d : Cmd (List ℕ) (List ℕ)) → Says line c → Says line d → c ≡ d
+says_one line c d one other = same_Some c d (sym (says_read line c one) ∙ says_read line d other)
+
+some_and : {X : Type 0} (P : X → Type 0) (o : Option X) → IsSomeAnd o P → (x : X) × (o ≡ Some x) × P x
+some_and P None found = absurd found
+some_and P (Some x) found = (x, refl, found)
+
+-- the same, of what a command has beside
+pub line_says_and : (P : Cmd (List ℕ) (List ℕ) → Type 0) (line : List ℕ) → length line ≤ longest_line → IsSomeAnd (command_of (words_of_line line)) P → (c : Cmd (List ℕ) (List ℕ)) × Says line c × P c
+line_says_and P line fits found = let read = some_and P (command_of (words_of_line line)) found in (read.0, line_says line read.0 fits read.1, read.2)
+
+-- what `parse` answers, by what was read of the words
+pub read_ok : {V E : Type 0} (see : V → Cmd (List ℕ) (List ℕ)) (line : List ℕ) (r : Result (Option V) E) → length line ≤ longest_line
+    → IfOk r (λ said. option_map see said ≡ command_of (words_of_line line)) → IfOk r (λ said. MatchOption said (IsBad line) (λ c. Says line (see c)))
+read_ok see line (Ok None) fits e = unread_is_bad line (sym e)
+read_ok see line (Ok (Some c)) fits e = line_says line (see c) fits (sym e)
+read_ok see line (Err error) fits e = e
+
+pub read_err : {V E : Type 0} (line : List ℕ) (r : Result V E) → length line ≤ longest_line
+    → OnErr r (IsSomeAnd (command_of (words_of_line line)) BringsItems) → OnErr r ((c : Cmd (List ℕ) (List ℕ)) × Says line c × BringsItems c)
+read_err line (Ok v) fits e = e
+read_err line (Err error) fits e = line_says_and BringsItems line fits e

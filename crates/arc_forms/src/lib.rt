@@ -1,0 +1,5 @@
+//! The forms of a script: a line as a command, and what it is answered as a text.
+#![tactic(auto)]
+
+pub mod parse;
+pub mod text;

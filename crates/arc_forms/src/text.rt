@@ -1,0 +1,154 @@
+//! Writing what lines are answered.
+ghost use Rattle.std.specs.Prelude.{◌≡◌, ◌++◌, ◌<◌, ◌*◌, decimal, length, OnErr, OnOk};
+ghost use Rattle.arc_forms.specs.Text.{hex, hex_digit, items_word, owner_text, range_text, reply_text};
+ghost use Rattle.arc_table.specs.Seen.{map_reply};
+ghost use Rattle.arc_forms.specs.Writing.{Extends, answer_line};
+
+use arc_block::static_slice::StaticSlice;
+use arc_owners::error::{AllocError, OwnerError, RangeError};
+use arc_table::command::Reply;
+use itoa::Buffer;
+use std::alloc::Allocator;
+use std::convert::AsSlice;
+
+/// The hex digit of a number below 16.
+fn digit_of(number: u8) -> u8
+    requires { number < 16 }
+    ensures { result ≡ hex_digit number }
+{
+    if number < 10 {
+        b'0' + number
+    } else {
+        b'a' + (number - 10)
+    }
+}
+
+/// Why there is no such range, in words.
+fn range_words(error: RangeError) -> &'static [u8]
+    ensures { result.now ≡ range_text error }
+{
+    match error {
+        RangeError::OutOfRange => b"out of range",
+        RangeError::InvalidRange => b"invalid range",
+        RangeError::NotBoundary => b"not a char boundary",
+    }
+}
+
+/// Why there is no owner more, in words.
+fn owner_words(error: OwnerError) -> &'static [u8]
+    ensures { result.now ≡ owner_text error }
+{
+    match error {
+        OwnerError::AllocError => b"allocation error",
+        OwnerError::CountFull => b"count full",
+    }
+}
+
+/// Appends a number in decimal.
+fn push_number<A: Allocator>(out: &mut Vec<u8, A>, number: usize) -> Result<(), AllocError>
+    ensures ok { OnOk result (out.new.items ≡ out.old.items ++ decimal number) }
+    ensures err { OnErr result (Extends out.old.items out.new.items) }
+{
+    out.extend_from_slice(Buffer::new().format(number).as_bytes())?;
+    Ok(())
+}
+
+/// Writes two hex digits an item.
+fn write_hex(items: &[u8], out: &mut [u8])
+    requires { length out.old ≡ 2 * length items.now }
+    ensures { out.new ≡ hex items.now }
+{
+    'items: for i in 0..items.len() {
+        let item = items[i];
+        out[2 * i] = digit_of(item / 16);
+        out[2 * i + 1] = digit_of(item % 16);
+    }
+}
+
+/// Appends two hex digits an item. Room for all of them is asked for at once.
+fn push_hex<A: Allocator>(out: &mut Vec<u8, A>, items: &[u8]) -> Result<(), AllocError>
+    ensures ok { OnOk result (out.new.items ≡ out.old.items ++ hex items.now) }
+    ensures err { OnErr result (Extends out.old.items out.new.items) }
+{
+    let len = out.len();
+    out.reserve(2 * items.len())?;
+    out.resize(len + 2 * items.len(), 0)?;
+    write_hex(items, &mut out[len..]);
+    Ok(())
+}
+
+/// Appends items as a word: a dash where there are none.
+fn push_items<A: Allocator>(out: &mut Vec<u8, A>, items: &[u8]) -> Result<(), AllocError>
+    ensures ok { OnOk result (out.new.items ≡ out.old.items ++ items_word items.now) }
+    ensures err { OnErr result (Extends out.old.items out.new.items) }
+{
+    if items.is_empty() {
+        out.push(b'-')?;
+        return Ok(());
+    }
+    push_hex(out, items)
+}
+
+/// Appends the text of a reply. An `Err` may leave a part of it.
+fn push_reply<A: Allocator, X: AsSlice<u8>>(
+    out: &mut Vec<u8, A>,
+    reply: &Reply<X, StaticSlice<u8>>,
+) -> Result<(), AllocError>
+    ensures ok { OnOk result
+        (out.new.items ≡ out.old.items ++ reply_text (map_reply X.items reply.now)) }
+    ensures err { OnErr result (Extends out.old.items out.new.items) }
+{
+    match reply {
+        Reply::New(number) => {
+            out.push(b'h')?;
+            push_number(out, *number)?;
+        }
+        Reply::Ok => out.extend_from_slice(b"ok")?,
+        Reply::Yes => out.extend_from_slice(b"yes")?,
+        Reply::No => out.extend_from_slice(b"no")?,
+        Reply::Items(items) => push_items(out, items.as_slice())?,
+        Reply::Static(items) => push_items(out, items.as_slice())?,
+        Reply::Number(number) => push_number(out, *number)?,
+        Reply::NoWindow => out.extend_from_slice(b"no window")?,
+        Reply::Kind => out.extend_from_slice(b"kind")?,
+        Reply::Refused => out.extend_from_slice(b"refused")?,
+        Reply::Range(error) => out.extend_from_slice(range_words(*error))?,
+        Reply::Owner(error) => out.extend_from_slice(owner_words(*error))?,
+        Reply::Alloc => out.extend_from_slice(b"allocation error")?,
+    }
+    Ok(())
+}
+
+/// Appends what a line is answered. An `Err` may leave a part of it.
+fn push_line<A: Allocator, X: AsSlice<u8>>(
+    out: &mut Vec<u8, A>,
+    answer: &Option<Reply<X, StaticSlice<u8>>>,
+) -> Result<(), AllocError>
+    ensures ok { OnOk result (out.new.items ≡ out.old.items ++ answer_line X.items answer.now) }
+    ensures err { OnErr result (Extends out.old.items out.new.items) }
+{
+    match answer {
+        Some(reply) => push_reply(out, reply)?,
+        None => out.extend_from_slice(b"bad line")?,
+    }
+    out.push(b'\n')?;
+    Ok(())
+}
+
+/// Appends what a line is answered, with its line feed: the text of the reply, or `bad line` for
+/// `None` (`answer_text` in `specs/`). Items take two bytes each. Takes memory where `out` has no
+/// room: `Err` where that is refused, and `out` then has the bytes that it had.
+pub fn push_answer<A: Allocator, X: AsSlice<u8>>(
+    out: &mut Vec<u8, A>,
+    answer: &Option<Reply<X, StaticSlice<u8>>>,
+) -> Result<(), AllocError>
+    ensures ok { OnOk result (out.new.items ≡ out.old.items ++ answer_line X.items answer.now) }
+    ensures err { OnErr result (out.new.items ≡ out.old.items) }
+{
+    let len = out.len();
+    let pushed = push_line(out, answer);
+    if pushed.is_err() {
+        out.truncate(len);
+    }
+    pushed
+}

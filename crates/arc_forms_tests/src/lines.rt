@@ -1,0 +1,112 @@
+//! Lines that say commands, and lines that say none.
+use arc_forms::parse::parse;
+use arc_table::command::Cmd;
+
+fn is_bad(rt: &HostRuntime, line: &[u8]) -> bool {
+    matches!(parse(rt.alloc(), line), Ok(None))
+}
+
+fn slices(rt: &HostRuntime, line: &[u8], items: &[u8]) -> bool {
+    match parse(rt.alloc(), line) {
+        Ok(Some(Cmd::Slice(v))) => v.as_slice() == items,
+        _ => false,
+    }
+}
+
+#[test]
+fn commands(rt: HostRuntime) {
+    assert!(rt; slices(&rt, b"slice -", b""));
+    assert!(rt; slices(&rt, b"slice 00ff", b"\x00\xff"));
+    assert!(rt; slices(&rt, b"slice 48656c6c6f20776f726c64", b"Hello world"));
+    assert!(rt;
+        matches!(
+            parse(rt.alloc(), b"clone 3"),
+            Ok(Some(Cmd::Clone { window: 3 }))
+        )
+    );
+    assert!(rt;
+        matches!(
+            parse(rt.alloc(), b"sub 1 2 3"),
+            Ok(Some(Cmd::Sub {
+                window: 1,
+                start: 2,
+                end: 3
+            }))
+        )
+    );
+    assert!(rt;
+        matches!(
+            parse(rt.alloc(), b"uniq 7"),
+            Ok(Some(Cmd::Uniq { window: 7 }))
+        )
+    );
+    assert!(rt;
+        matches!(
+            parse(rt.alloc(), b"show 999999999999999999"),
+            Ok(Some(Cmd::Show {
+                window: 999_999_999_999_999_999
+            }))
+        )
+    );
+    assert!(rt;
+        matches!(
+            parse(rt.alloc(), b"show 0"),
+            Ok(Some(Cmd::Show { window: 0 }))
+        )
+    );
+    assert!(rt;
+        matches!(
+            parse(rt.alloc(), b"drop 0"),
+            Ok(Some(Cmd::Drop { window: 0 }))
+        )
+    );
+    assert!(rt; matches!(parse(rt.alloc(), b"static"), Ok(Some(Cmd::Static(_)))));
+    assert!(rt;
+        matches!(
+            parse(rt.alloc(), b"takestatic 4"),
+            Ok(Some(Cmd::TakeStatic { window: 4 }))
+        )
+    );
+}
+
+#[test]
+fn spaces(rt: HostRuntime) {
+    assert!(rt; is_bad(&rt, b""));
+    assert!(rt; is_bad(&rt, b" "));
+    assert!(rt; is_bad(&rt, b"show  0"));
+    assert!(rt; is_bad(&rt, b" show 0"));
+    assert!(rt; is_bad(&rt, b"show 0 "));
+    assert!(rt; is_bad(&rt, b"show 0\r"));
+    assert!(rt; is_bad(&rt, b"static "));
+}
+
+#[test]
+fn numbers(rt: HostRuntime) {
+    assert!(rt; is_bad(&rt, b"show"));
+    assert!(rt; is_bad(&rt, b"show 00"));
+    assert!(rt; is_bad(&rt, b"show +1"));
+    assert!(rt; is_bad(&rt, b"show 1000000000000000000"));
+    assert!(rt; is_bad(&rt, b"clone"));
+    assert!(rt; is_bad(&rt, b"clone 1 2"));
+    assert!(rt; is_bad(&rt, b"uniq"));
+    assert!(rt; is_bad(&rt, b"uniq x"));
+    assert!(rt; is_bad(&rt, b"uniq 0 1"));
+    assert!(rt; is_bad(&rt, b"sub 1 2"));
+    assert!(rt; is_bad(&rt, b"sub 1 2 3 4"));
+    assert!(rt; is_bad(&rt, b"static 0"));
+    assert!(rt; is_bad(&rt, b"takestatic"));
+    assert!(rt; is_bad(&rt, b"takestatic 0 1"));
+}
+
+#[test]
+fn items(rt: HostRuntime) {
+    assert!(rt; is_bad(&rt, b"slice"));
+    assert!(rt; is_bad(&rt, b"slice 0"));
+    assert!(rt; is_bad(&rt, b"slice 0A"));
+    assert!(rt; is_bad(&rt, b"slice --"));
+    assert!(rt; is_bad(&rt, b"slice 00 11"));
+    assert!(rt; is_bad(&rt, b"slice - -"));
+    assert!(rt; is_bad(&rt, b"slice 00 "));
+    assert!(rt; is_bad(&rt, b"static 61626364"));
+    assert!(rt; is_bad(&rt, b"\xff"));
+}

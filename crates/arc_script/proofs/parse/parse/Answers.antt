@@ -1,9 +1,0 @@
-use Rattle.arc_table.specs.Seen.{seen_command}
-use Rattle.arc_script.proofs.Forms.{read_ok, read_err}
-use Rattle.arc_script.proofs.parse.parse.Goals as goal
-
-pub returns-clause-ok : goal.returns-clause-ok
-returns-clause-ok g c = read_ok (seen_command {A = g.row.A.Denot}) c.args.line.now c.command.result c.if-line-gt-LONGEST_LINE.false c.command.ensures.ok
-
-pub returns-clause-err : goal.returns-clause-err
-returns-clause-err g c = read_err c.args.line.now c.command.result c.if-line-gt-LONGEST_LINE.false c.command.ensures.err
