@@ -15,6 +15,7 @@ use arc_owners::error::TryReserveError;
 use arc_owners::mark::Mark;
 use arc_owners::owners::Pass;
 use std::alloc::Allocator;
+use std::mem;
 
 impl<S: Slice, B, M, A: Allocator + Copy, H: Mark> SoleParts<S, B, M, A, H> {
     ghost use Rattle.arc_block.specs.Lends.{lends_items};
@@ -165,18 +166,22 @@ where
         if items.is_empty() {
             return;
         }
-        push_all(&mut self.items, items);
+        let vec = mem::replace(&mut self.items, Vec::new(self.alloc));
+        self.items = with_all(vec, items);
         self.end += items.len();
     }
 }
 
-/// A copy of the items behind those of a vector, which has places for them.
-fn push_all<T: Copy + Drop, A: Allocator>(vec: &mut Vec<T, A>, items: &[T])
-    requires { vec_len vec.old + length items.now ≤ vec_capacity vec.old }
-    ensures items { vec.new.items ≡ vec.old.items ++ items.now }
-    ensures capacity { vec_capacity vec.new ≡ vec_capacity vec.old }
+/// A vector with a copy of the items behind its own, for which it has places. It is taken by value,
+/// so that the loop writes nothing but items, and can become vector code.
+fn with_all<T: Copy + Drop, A: Allocator>(vec: Vec<T, A>, items: &[T]) -> Vec<T, A>
+    requires { vec_len vec + length items.now ≤ vec_capacity vec }
+    ensures items { result.items ≡ vec.items ++ items.now }
+    ensures capacity { vec_capacity result ≡ vec_capacity vec }
 {
+    let mut vec = vec;
     for item in items {
         vec.push_reserved(*item);
     }
+    vec
 }

@@ -109,3 +109,27 @@ fn zeros_and_memory(rt: HostRuntime) -> Result<(), Fail> {
     assert_eq!(rt; heap.used(), 0);
     Ok(())
 }
+
+/// So many sevens, and as many nines behind them.
+fn sevens_and_nines(alloc: Global, count: usize) -> Result<ArcBytesMut, Fail> {
+    let mut window: ArcBytesMut = ArcSliceMut::try_with_capacity(alloc, count)?;
+    let sevens = vec![in alloc; 7u8; count]?;
+    let nines = vec![in alloc; 9u8; count]?;
+    window.try_extend_from_slice(sevens.as_slice())?;
+    window.try_extend_from_slice(nines.as_slice())?;
+    Ok(window)
+}
+
+#[test]
+fn long_slices_pushed(rt: HostRuntime) -> Result<(), Fail> {
+    for count in [0usize, 1, 15, 16, 33, 1000] {
+        let window = sevens_and_nines(rt.alloc(), count)?;
+        assert_eq!(rt;
+            window.as_slice().iter().filter(|item| **item == 7).count(),
+            count
+        );
+        assert!(rt; window.as_slice().iter().take(count).all(|item| *item == 7));
+        assert!(rt; window.as_slice().iter().skip(count).all(|item| *item == 9));
+    }
+    Ok(())
+}

@@ -1,7 +1,7 @@
 -- What was pushed so far follows the items that were there, in the same places.
 use Rattle.std.proofs.Common.{◌≡◌, ◌+◌, ◌++◌, take}
 use Rattle.std.specs.Vec.{vec_capacity, vec_len}
-use Rattle.arc_block.proofs.parts.sole.write.push_all.Given as goal
+use Rattle.arc_block.proofs.parts.sole.write.with_all.Given as goal
 
 abbrev pub invariant-loop-item : goal.invariant-loop-item
 invariant-loop-item g l = (vec_capacity l.vec ≡ vec_capacity l.initial.vec)
