@@ -1,6 +1,7 @@
 //! Items of an iterator, pushed one by one.
-ghost use Rattle.std.specs.Prelude.{◌≡◌, ◌++◌, List, [], IfOk, IfErr, OnOk, Some};
+ghost use Rattle.std.specs.Prelude.{◌≡◌, ◌++◌, List, IfOk, IfErr, OnOk, Some};
 ghost use Rattle.std.specs.Iterator.{IsFinite, Drains, Yields, YieldsThen, ExtendsWithItems};
+ghost use Rattle.std.specs.Iterator.Runs.{WholeRun};
 ghost use Rattle.std.specs.Mem.{FitsInMemory, type_size};
 ghost use Rattle.arc_block.specs.Window.{PartsView};
 ghost use Rattle.arc_block.specs.Writers.{idle_writer};
@@ -56,6 +57,9 @@ impl<S: Extendable, L: LayoutMut, B, M, A: Allocator + Copy, H: Stepping> ArcSli
         ensures items { ExtendsWithItems I.into_iter_gives I.IntoIter.next_gives
             (λ (old : PartsView S.Item M) xs (new : PartsView S.Item M).
             new.items ≡ old.items ++ xs) iter self.old self.new result }
+        ensures runs { OnOk result ((it : I.IntoIter) × I.into_iter_gives iter it
+            × WholeRun I.IntoIter.next_gives it (λ p.
+            self.new.items ≡ self.old.items ++ p.items)) }
     {
         for item in iter {
             match self.try_push(item) {
@@ -90,6 +94,8 @@ impl<S: Extendable, L: LayoutMut, B, M, A: Allocator + Copy, H: Stepping> ArcSli
         ensures items { IfOk result (λ window. (it : I.IntoIter) × (xs : List S.Item)
             × I.into_iter_gives iter it × Drains I.IntoIter.next_gives it xs
             × (window.items ≡ xs)) }
+        ensures runs { IfOk result (λ window. (it : I.IntoIter) × I.into_iter_gives iter it
+            × WholeRun I.IntoIter.next_gives it (λ p. window.items ≡ p.items)) }
         ensures refused { IfErr result (λ r. (it : I.IntoIter) × (xs : List S.Item)
             × (rest : I.IntoIter) × (last : PartsView S.Item M) × I.into_iter_gives iter it
             × YieldsThen I.IntoIter.next_gives it xs (Some r.2) rest

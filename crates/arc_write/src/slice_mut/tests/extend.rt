@@ -1,4 +1,6 @@
 //! Windows extended by an iterator's items, and made of them.
+ghost use Rattle.std.specs.Prelude.{◌≡◌, ◌++◌, true};
+
 use crate::slice_mut::{ArcBytesMut, ArcSliceMut};
 use arc_block::layout::{ArcLayout, DefaultLayoutMut, LayoutMut, VecLayout};
 use arc_buffer::kinds::{Owned, Plain};
@@ -6,6 +8,16 @@ use arc_owners::error::TryReserveError;
 use linked_list_allocator::LocalHeap;
 use std::alloc::Global;
 use std::test::Fail;
+
+/// Whether there was room for all of the bytes, which then stand behind the others.
+fn appended(window: &mut ArcBytesMut, bytes: &[u8]) -> bool
+    ensures { result ≡ true → window.new.items ≡ window.old.items ++ bytes.now }
+{
+    match window.try_extend(bytes.iter().copied()) {
+        Ok(()) => true,
+        Err(_) => false,
+    }
+}
 
 /// A first block has 8 places for bytes, and the next one twice as many.
 #[test]
@@ -23,7 +35,7 @@ fn as_many_as_come(rt: HostRuntime) -> Result<(), Fail> {
         (9, 16),
     ] {
         let mut window: ArcBytesMut = ArcSliceMut::new(rt.alloc());
-        assert!(rt; window.try_extend(all[..count].iter().copied()).is_ok());
+        assert!(rt; appended(&mut window, &all[..count]));
         assert_eq!(rt; window.as_slice(), &all[..count]);
         assert_eq!(rt; window.capacity(), capacity, "of {count}");
     }

@@ -1,5 +1,6 @@
 -- One item more is pushed, or refused, and then the list stays.
-use Rattle.std.proofs.Common.{◌∙◌}
+use Rattle.std.proofs.Common.{true, refl, ◌∙◌}
+use Rattle.std.proofs.iter.runs.Made.{run, to_end}
 use Rattle.std.specs.Mem.{type_size}
 use Rattle.arc_write.proofs.Extend.{items_more, pushed_more}
 use Rattle.arc_write.proofs.Legal.{refused-items}
@@ -30,4 +31,20 @@ returns-in-Err-clause-items g c =
       refused-items g.S.Slice.is_legal _ g.H.Mark.whole _ at.self c.try_push.new.self _ _ _ refusal
           ∙ at.invariant.3,
       (_, at.yielded_by),
+    )
+
+pub returns-clause-runs : goal.returns-clause-runs
+returns-clause-runs g c =
+    let at = c.loop-item in
+    let steps = g.I.IntoIter.Iterator.next_gives in
+    let begun = c.into_iter-item-iterator.result in (
+      begun,
+      c.into_iter-item-iterator.ensures.into_iter_gives,
+      (
+        run steps begun at.yielded true
+            (to_end steps begun at.yielded (_, (_, at.yielded_by, c.in-None.ensures.steps))),
+        refl,
+        refl,
+        at.invariant.3,
+      ),
     )

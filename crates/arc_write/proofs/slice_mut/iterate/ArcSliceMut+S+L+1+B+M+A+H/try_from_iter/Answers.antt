@@ -17,6 +17,20 @@ returns-in-Ok-clause-made g c =
           c.try_extend.new.self) c.new-window.ensures did.4,
     )
 
+pub returns-in-Ok-clause-runs : goal.returns-in-Ok-clause-runs
+returns-in-Ok-clause-runs g c =
+    let did = c.in-Ok.ensures.runs in (
+      did.0,
+      did.1,
+      (
+        did.2.0,
+        did.2.1,
+        did.2.2,
+        subst (λ (w : PartsView g.row.S-Item.Denot g.row.M.Denot). c.try_extend.new.self.items
+            ≡ w.items ++ did.2.0.items) c.new-window.ensures did.2.3,
+      ),
+    )
+
 pub returns-in-Err-clause-taken : goal.returns-in-Err-clause-taken
 returns-in-Err-clause-taken g c =
     let did = c.in-Err.ensures.items in (
