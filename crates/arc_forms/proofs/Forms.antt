@@ -193,15 +193,18 @@ sorts_of verb = option_map (λ (f : Form). f.sorts) (found verb forms)
 -- each command's form is in the table
 sorts_again : (c : Cmd (List ℕ) (List ℕ)) → sorts_of (form c).0 ≡ Some (map sort_of (form c).1)
 sorts_again (command.Slice xs) = refl
+sorts_again (command.MSlice xs) = refl
 sorts_again other = refl
 
 made_again : (c : Cmd (List ℕ) (List ℕ)) → IsSayable c → (found (form c).0 forms >>= λ f. made f.sorts f.make (form c).1) ≡ Some c
 made_again (command.Slice xs) sayable = refl
+made_again (command.MSlice xs) sayable = refl
 made_again (command.Static xs) sayable = ap (λ (items : List ℕ). Some (command.Static items)) (sym sayable)
 made_again other sayable = refl
 
 no_space_form : (c : Cmd (List ℕ) (List ℕ)) → list_all (λ byte. not (is_space byte)) (form c).0 ≡ true
 no_space_form (command.Slice xs) = refl
+no_space_form (command.MSlice xs) = refl
 no_space_form other = refl
 
 read_found : (verb : List ℕ) (words : List (List ℕ)) (fs : List Form) → read_by verb words fs ≡ (found verb fs >>= λ f. operands_of f.sorts words >>= λ os. made f.sorts f.make os)

@@ -102,8 +102,8 @@ abbrev pub entry : (word : List ℕ) (sorts : List Sort) → Makes sorts → For
 entry word sorts make = record { word = word; sorts = sorts; make = make }
 
 -- The table of forms from the reader's side, a line each: those that bring no items, by what they
--- do, and all. What
--- is read by it is what `form` says: that is proved of the whole table.
+-- do, those that do, and all. What is read by it is what `form` says: that is proved of the whole
+-- table.
 abbrev pub making_forms : List Form
 making_forms =
     entry (codes "static") [] (command.Static static_bytes) ∷
@@ -131,10 +131,14 @@ changing_forms =
 abbrev pub plain_forms : List Form
 plain_forms = making_forms ++ asking_forms ++ changing_forms
 
-abbrev pub forms : List Form
-forms =
+abbrev pub items_forms : List Form
+items_forms =
     entry (codes "slice") (SomeItems ∷ []) command.Slice ∷
-    plain_forms
+    entry (codes "mslice") (SomeItems ∷ []) command.MSlice ∷
+    []
+
+abbrev pub forms : List Form
+forms = items_forms ++ plain_forms
 
 -- the word has the name's bytes, and no more: a match tests them one by one
 abbrev pub spells_from : List ℕ → ℕ → List ℕ → Bool

@@ -48,6 +48,7 @@ static_bytes = codes "abcd"
 -- The table of forms, a line each: the first word of a command, and its operands.
 abbrev pub form : Cmd (List ℕ) (List ℕ) → List ℕ × List Operand
 form (command.Slice xs) = (codes "slice", Items xs ∷ [])
+form (command.MSlice xs) = (codes "mslice", Items xs ∷ [])
 form (command.Static items) = (codes "static", [])
 form (command.Clone i) = (codes "clone", Number i ∷ [])
 form (command.Sub i start end) = (codes "sub", Number i ∷ Number start ∷ Number end ∷ [])

@@ -300,6 +300,12 @@ fn command<A: Allocator>(alloc: A, line: &[u8]) -> Result<Option<Command<A>>, Al
             };
             Ok(Some(Cmd::Slice(items)))
         }
+        b"mslice" => {
+            let Some(items) = one_items(alloc, rest)? else {
+                return Ok(None);
+            };
+            Ok(Some(Cmd::MSlice(items)))
+        }
         _ => Ok(plain_command(verb, rest)),
     }
 }

@@ -1,6 +1,7 @@
 //! Writing what lines are answered.
 ghost use Rattle.std.specs.Prelude.{◌≡◌, ◌++◌, ◌<◌, ◌*◌, decimal, length, OnErr, OnOk};
-ghost use Rattle.arc_forms.specs.Text.{hex, hex_digit, items_word, owner_text, range_text, reply_text};
+ghost use Rattle.arc_forms.specs.Text.{hex, hex_digit, items_word, owner_text, range_text};
+ghost use Rattle.arc_forms.specs.Text.{reply_text};
 ghost use Rattle.arc_table.specs.Seen.{map_reply};
 ghost use Rattle.arc_forms.specs.Writing.{Extends, answer_line};
 

@@ -13,8 +13,17 @@ fn slices(rt: &HostRuntime, line: &[u8], items: &[u8]) -> bool {
     }
 }
 
+fn writes(rt: &HostRuntime, line: &[u8], items: &[u8]) -> bool {
+    match parse(rt.alloc(), line) {
+        Ok(Some(Cmd::MSlice(v))) => v.as_slice() == items,
+        _ => false,
+    }
+}
+
 #[test]
 fn commands(rt: HostRuntime) {
+    assert!(rt; writes(&rt, b"mslice -", b""));
+    assert!(rt; writes(&rt, b"mslice 00ff", b"\x00\xff"));
     assert!(rt; slices(&rt, b"slice -", b""));
     assert!(rt; slices(&rt, b"slice 00ff", b"\x00\xff"));
     assert!(rt; slices(&rt, b"slice 48656c6c6f20776f726c64", b"Hello world"));
@@ -103,6 +112,10 @@ fn items(rt: HostRuntime) {
     assert!(rt; is_bad(&rt, b"slice"));
     assert!(rt; is_bad(&rt, b"slice 0"));
     assert!(rt; is_bad(&rt, b"slice 0A"));
+    assert!(rt; is_bad(&rt, b"mslice"));
+    assert!(rt; is_bad(&rt, b"mslice 0"));
+    assert!(rt; is_bad(&rt, b"mslice 00 11"));
+    assert!(rt; is_bad(&rt, b"mslices 00"));
     assert!(rt; is_bad(&rt, b"slice --"));
     assert!(rt; is_bad(&rt, b"slice 00 11"));
     assert!(rt; is_bad(&rt, b"slice - -"));

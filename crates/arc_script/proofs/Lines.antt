@@ -8,7 +8,7 @@ use Rattle.std.proofs.lemmas.List.Concat.{flat_map-append}
 use Rattle.std.proofs.lemmas.List.Elements.{All-contains, recursion_from_All}
 use Rattle.arc_block.specs.Table.{Table, empty_table}
 use Rattle.arc_table.specs.declared.command.Cmd.{Cmd}
-use Rattle.arc_table.specs.declared.command.Cmd.TheVariants.{Slice}
+use Rattle.arc_table.specs.declared.command.Cmd.TheVariants.{Slice, MSlice}
 use Rattle.arc_table.specs.declared.command.Reply.{Reply}
 use Rattle.arc_table.specs.declared.command.Reply.TheVariants as reply
 use Rattle.arc_table.specs.RunOf.{RunOf}
@@ -70,6 +70,7 @@ no_feeds lines pass = recursion_from_All HasNoFeed lines (all_by is_line HasNoFe
 pub items_want : {M : Type 0} (setting : Setting ℕ) (old : Table ℕ M) (c : Cmd (List ℕ) (List ℕ))
     → BringsItems c → answer setting of_table old c ≡ (reply.Alloc, old)
 items_want setting old (Slice items) brings = refl
+items_want setting old (MSlice items) brings = refl
 items_want setting old other brings = absurd (cc)
 
 -- then the line may be answered so, and nothing changes

@@ -1,4 +1,4 @@
--- Seven worked scripts: what is written for each input.
+-- Eight worked scripts: what is written for each input.
 use Rattle.std.proofs.Common.{List, [], ◌∷◌, ◌++◌, ℕ, refl}
 use Rattle.std.specs.Prelude.{codes, map}
 use Rattle.std.specs.Fmt.{digits}
@@ -87,3 +87,13 @@ refused_lines = codes "slice 0a" ∷ codes "takestatic 0" ∷ codes "show 0" ∷
 pub refused_row : IsReplyText (input_of refused_lines []) (ended (codes "h0" ∷ codes "refused" ∷ codes "0a" ∷ []))
 unfolding digits command_of operands_of
 refused_row = script_text refused_lines [] (no_feeds refused_lines refl) (no_feed [] refl)
+
+-- a window that is written: cut and shown, but not cloned, split or asked whether it is alone
+abbrev pub writer_lines : List (List ℕ)
+writer_lines = codes "mslice 01020304" ∷ codes "clone 0" ∷ codes "sub 0 9 9" ∷ codes "adv 0 1" ∷ codes "trunc 0 2" ∷ codes "show 0" ∷ codes "uniq 0" ∷ codes "drop 0" ∷ []
+
+pub writer_row : IsReplyText
+    (input_of writer_lines [])
+    (ended (codes "h0" ∷ codes "kind" ∷ codes "kind" ∷ codes "ok" ∷ codes "ok" ∷ codes "0203" ∷ codes "kind" ∷ codes "ok" ∷ []))
+unfolding digits command_of operands_of
+writer_row = script_text writer_lines [] (no_feeds writer_lines refl) (no_feed [] refl)

@@ -5,7 +5,8 @@ ghost use Rattle.std.specs.declared.alloc.Global.{Global};
 ghost use Rattle.std.specs.declared.env.FillError.TheVariants.{NotPresent};
 ghost use Rattle.arc_script.specs.Arguments.{AreWords, IsTextOf, IsWord};
 ghost use Rattle.arc_script.specs.Traffic.{Gives, GivesAll, Takes, Tells};
-ghost use Rattle.arc_script.specs.Program.{IsArc, IsRun, RunsGiven, fault_text, status_of, usage_text};
+ghost use Rattle.arc_script.specs.Program.{IsArc, IsRun, RunsGiven, fault_text, status_of};
+ghost use Rattle.arc_script.specs.Program.{usage_text};
 
 use crate::io::{Sink, Source};
 use crate::script::{ScriptError, ScriptLayout, run_script, write_out};

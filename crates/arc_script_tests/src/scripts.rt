@@ -48,8 +48,16 @@ const LEFT: &[u8] =
 const LEFT_REPLIES: &[u8] = b"h0\nh1\nh2\nh3\nh4\nh5\nh6\nno\nok\nok\nh7\nyes\nno\n4243\n";
 
 /// Scripts, each with its replies.
-const SCRIPTS: [(&[u8], &[u8]); 28] = [
+const SCRIPTS: [(&[u8], &[u8]); 30] = [
     (HELLO, HELLO_REPLIES),
+    (
+        b"mslice 01020304\nclone 0\nsub 0 9 9\noff 0 9\nto 0 9\nuniq 0\ntakestatic 0\nadv 0 1\ntrunc 0 2\nlen 0\nshow 0\nadv 0 3\ndrop 0\nshow 0\n",
+        b"h0\nkind\nkind\nkind\nkind\nkind\nkind\nok\nok\n2\n0203\nout of range\nok\nno window\n",
+    ),
+    (
+        b"mslice -\nmslice\nmslice 0\nshow 0\nadv 0 0\nclone 0\nslice 41\nuniq 1\n",
+        b"h0\nbad line\nbad line\n-\nok\nkind\nh1\nyes\n",
+    ),
     (
         b"sub 0 0 1\nslice 0A\nslice -\nshow 0",
         b"no window\nbad line\nh0\n-\n",

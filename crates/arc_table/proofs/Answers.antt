@@ -3,28 +3,32 @@
 use Rattle.std.proofs.Common.{inl, inr, ◌≡◌, ◌⊎◌, ℕ, Bool, true, false, if◌then◌else◌, List, Option}
 use Rattle.std.proofs.Common.{Some}
 use Rattle.std.proofs.Common.{None, Result, Ok, Err, refl, length, slice_set, ◌++◌, [], ◌∷◌, ◌==◌}
-use Rattle.std.proofs.Common.{◌&&◌, ap}
-use Rattle.std.specs.Prelude.{nat_lt, take, drop, is_some, ◌+◌}
+use Rattle.std.proofs.Common.{◌&&◌, ap, sym, ◌∙◌}
+use Rattle.std.specs.Prelude.{nat_lt, is_some, ◌+◌, ◌-◌}
+use Rattle.std.proofs.lemmas.Bool.{false≢true}
 use Rattle.std.specs.Option.{option_map_or}
 use Rattle.arc_owners.specs.declared.error.RangeError.{RangeError}
 use Rattle.arc_owners.specs.declared.error.OwnerError.TheVariants.{AllocError, CountFull}
 use Rattle.arc_buffer.specs.Slice.{sub, range_answer, edge_answer}
-use Rattle.arc_block.specs.Block.{Sort, native_facts}
+use Rattle.arc_block.specs.Block.{Sort, BlockInfo, native_facts, partly_full}
 use Rattle.arc_block.specs.Place.{Place, nowhere, static_data, on_block, moved}
-use Rattle.arc_block.specs.Table.{Row, Table, reader, row_at, is_alone, block_of}
+use Rattle.arc_block.specs.Table.{Row, Table, Role, row_at, is_alone, block_of}
+use Rattle.arc_block.specs.Table.{reader, sole_writer, one_writer_of_several, inline, forgotten}
+use Rattle.arc_block.specs.Writers.{with_capacity, capacity_of}
+use Rattle.arc_table.specs.Blocks.{is_sole}
 use Rattle.arc_table.specs.Step.{Setting, Shortage, no_shortage, of_table, of_clones, shortage}
 use Rattle.arc_table.specs.Step.{Step, answer}
-use Rattle.arc_table.specs.Step.{with_static, take_items}
+use Rattle.arc_table.specs.Step.{with_static, with_writer, take_items, advanced, truncated}
 use Rattle.arc_table.specs.Step.{asking, founded, is_wanting, is_full, with_owner, part_of, cut_row}
 use Rattle.arc_table.specs.Step.{off_part, to_part, split_rows, changed, on_row, is_for, in_range}
 use Rattle.arc_table.specs.declared.command.Cmd.{Cmd}
 use Rattle.arc_table.specs.declared.command.Cmd.TheVariants.{Slice, Clone, Sub, Uniq, Show, Len}
 use Rattle.arc_table.specs.declared.command.Cmd.TheVariants.{Off, To, Adv, Trunc, Drop}
-use Rattle.arc_table.specs.declared.command.Cmd.TheVariants.{Static, TakeStatic}
+use Rattle.arc_table.specs.declared.command.Cmd.TheVariants.{Static, TakeStatic, MSlice}
 use Rattle.arc_table.specs.declared.command.Reply.{Reply}
 use Rattle.arc_table.specs.declared.command.Reply.TheVariants as reply
 
--- a part stands on the block on which the whole does, or on no_shortage
+-- a part stands on the block on which the whole does, or on none
 abbrev pub StaysOn : {M : Type 0} → Place ℕ M → Place ℕ M → Type 0
 StaysOn whole nowhere = Unit {0}
 StaysOn whole static_data = Unit {0}
@@ -48,6 +52,31 @@ module _ {M : Type 0} where
   stays-part true by place = tt
   stays-part false by place = stays-moved by place
 
+-- a part stands so, and is a sole writer's where the whole is
+abbrev pub IsPart : {T M : Type 0} → Row T M → Row T M → Type 0
+IsPart row part = StaysOn row.place part.place × (is_sole part.role ≡ is_sole row.role)
+
+sole-with : (role : Role) (places : ℕ) → is_sole (with_capacity role places) ≡ is_sole role
+sole-with reader places = refl
+sole-with (sole_writer before) places = refl
+sole-with (one_writer_of_several before) places = refl
+sole-with inline places = refl
+sole-with forgotten places = refl
+
+sole-either : (b : Bool) (role other : Role) → is_sole other ≡ is_sole role
+    → is_sole (if b then other else role) ≡ is_sole role
+sole-either true role other same = same
+sole-either false role other same = refl
+
+-- a command that isn't for sole writers
+shared : {X F : Type 0} (c : Cmd X F) → ((places : ℕ) → is_for c (sole_writer places) ≡ false)
+    → (role : Role) → is_for c role ≡ true → is_sole role ≡ false
+shared c each reader is = refl
+shared c each (sole_writer places) is = absurd (false≢true (sym (each places) ∙ is))
+shared c each (one_writer_of_several places) is = refl
+shared c each inline is = refl
+shared c each forgotten is = refl
+
 -- no shortage is told, or this one
 abbrev pub MayTell : {X F : Type 0} → Shortage → Reply X F → Type 0
 MayTell short r = (shortage r ≡ no_shortage) ⊎ (shortage r ≡ short)
@@ -57,25 +86,23 @@ MayTell short r = (shortage r ≡ no_shortage) ⊎ (shortage r ≡ short)
 module _ {T M : Type 0} (setting : Setting T) (short : Shortage) (t : Table T M)
     (Holds : Reply (List T) (List T) → Table T M → Type 0)
     (same : (r : Reply (List T) (List T)) → MayTell short r → Holds r t)
-    (founds : (items : List T) (nothing : Bool)
-    → let info = native_facts setting.drops (length items) in
-    let place = if nothing then nowhere else moved 0 (on_block t.blocks 0 info) in
+    (founds : (items : List T) (role : Role) (nothing : Bool) (info : BlockInfo M)
+    → let place = if nothing then nowhere else on_block t.blocks 0 info in
     Holds (reply.New (length t.rows)) (record {
-      rows = t.rows ++ Some (record { items = items; place = place; role = reader }) ∷ [];
+      rows = t.rows ++ Some (record { items = items; place = place; role = role }) ∷ [];
       blocks = option_map_or (λ block. t.blocks + 1) (block_of place) t.blocks;
     }))
     (statics : (items : List T) → Holds (reply.New (length t.rows)) (with_static t items).1)
-    (more : (i : ℕ) (row part : Row T M) → row_at t i ≡ Some row → StaysOn row.place part.place
-    → Holds (reply.New (length t.rows))
+    (more : (i : ℕ) (row part : Row T M) → row_at t i ≡ Some row → is_sole row.role ≡ false
+    → IsPart row part → Holds (reply.New (length t.rows))
     (record { rows = t.rows ++ Some part ∷ []; blocks = t.blocks }))
     (splits : (i : ℕ) (row kept handed : Row T M) → row_at t i ≡ Some row
-    → StaysOn row.place kept.place → StaysOn row.place handed.place
+    → is_sole row.role ≡ false → IsPart row kept → IsPart row handed
     → Holds (reply.New (length t.rows)) (record {
       rows = slice_set t.rows i (Some kept) ++ Some handed ∷ [];
       blocks = t.blocks;
     }))
-    (becomes : (i : ℕ) (row part : Row T M) → row_at t i ≡ Some row
-    → StaysOn row.place part.place
+    (becomes : (i : ℕ) (row part : Row T M) → row_at t i ≡ Some row → IsPart row part
     → Holds reply.Ok (record { rows = slice_set t.rows i (Some part); blocks = t.blocks }))
     (goes : (r : Reply (List T) (List T)) → MayTell short r → (i : ℕ)
     → Holds r (record { rows = slice_set t.rows i None; blocks = t.blocks })) where
@@ -85,22 +112,31 @@ module _ {T M : Type 0} (setting : Setting T) (short : Shortage) (t : Table T M)
   abbrev After : Outcome → Type 0
   After o = Holds o.0 o.1
 
+  reads-only : (c : Cmd (List T) (List T)) → ((places : ℕ) → is_for c (sole_writer places) ≡ false)
+      → (role : Role) → is_for c role ≡ true → is_sole role ≡ false
+  reads-only c each role is = shared c each role is
+
   either : (b : Bool) (one other : Outcome) → After one → After other
       → After (if b then one else other)
   either true one other h k = h
   either false one other h k = k
 
+  either-is : (b : Bool) (one other : Outcome) → (b ≡ true → After one) → After other
+      → After (if b then one else other)
+  either-is true one other h k = h refl
+  either-is false one other h k = k
+
   row_each : (c : Cmd (List T) (List T)) (found : Row T M → Outcome) (x : Option (Row T M))
-      → ((row : Row T M) → x ≡ Some row → After (found row))
+      → ((row : Row T M) → x ≡ Some row → is_for c row.role ≡ true → After (found row))
       → After (option_map_or (λ row. if is_for c row.role then found row else (reply.Kind, t)) x
       (reply.NoWindow, t))
   row_each c found None each = same reply.NoWindow (inl refl)
   row_each c found (Some row) each =
-      either (is_for c row.role) (found row) (reply.Kind, t) (each row refl)
+      either-is (is_for c row.role) (found row) (reply.Kind, t) (each row refl)
       (same reply.Kind (inl refl))
 
   on_row_each : (i : ℕ) (c : Cmd (List T) (List T)) (found : Row T M → Outcome)
-      → ((row : Row T M) → row_at t i ≡ Some row → After (found row))
+      → ((row : Row T M) → row_at t i ≡ Some row → is_for c row.role ≡ true → After (found row))
       → After (on_row t i c found)
   on_row_each i c found each = row_each c found (row_at t i) each
 
@@ -135,35 +171,36 @@ module _ {T M : Type 0} (setting : Setting T) (short : Shortage) (t : Table T M)
       (wanting_each short refl setting.clone_wants place (if is_full t place then full else made)
       (either (is_full t place) full made (same (reply.Owner CountFull) (inl refl)) after))
 
-  part_stays : (row : Row T M) (start end : ℕ)
-      → StaysOn row.place (part_of setting row start end).place
-  part_stays row start end =
-      stays-part (setting.has_static && (length (sub row.items start end) == 0)) start row.place
+  part_is : (row : Row T M) (start end : ℕ) → IsPart row (part_of setting row start end)
+  part_is row start end = (
+    stays-part (setting.has_static && (length (sub row.items start end) == 0)) start row.place,
+    refl,
+  )
 
-  one-stays : (b : Bool) (row one other : Row T M) → StaysOn row.place one.place
-      → StaysOn row.place other.place → StaysOn row.place (if b then one else other).place
-  one-stays true row one other h k = h
-  one-stays false row one other h k = k
+  one-is : (b : Bool) (row one other : Row T M) → IsPart row one → IsPart row other
+      → IsPart row (if b then one else other)
+  one-is true row one other h k = h
+  one-is false row one other h k = k
 
   split_each : (i : ℕ) (out : Bool) (row cut part : Row T M) → row_at t i ≡ Some row
-      → StaysOn row.place cut.place → StaysOn row.place part.place
+      → is_sole row.role ≡ false → IsPart row cut → IsPart row part
       → After (asking short t (with_owner setting short t part.place
       (split_rows t i out row cut part)))
-  split_each i out row cut part there one other =
+  split_each i out row cut part there shares one other =
       with_owner_each part.place (split_rows t i out row cut part)
-      (splits i row (if out then part else cut) (if out then row else part) there
-      (one-stays out row part cut other one)
-      (one-stays out row row part (stays-same row.place) other))
+      (splits i row (if out then part else cut) (if out then row else part) there shares
+      (one-is out row part cut other one)
+      (one-is out row row part (stays-same row.place, refl) other))
 
-  off_stays : (row : Row T M) (at : ℕ) → StaysOn row.place (off_part setting row at).place
-  off_stays row at =
-      one-stays (at == 0) row (part_of setting row 0 0) (part_of setting row at (length row.items))
-      (part_stays row 0 0) (part_stays row at (length row.items))
+  off_is : (row : Row T M) (at : ℕ) → IsPart row (off_part setting row at)
+  off_is row at =
+      one-is (at == 0) row (part_of setting row 0 0) (part_of setting row at (length row.items))
+      (part_is row 0 0) (part_is row at (length row.items))
 
-  to_stays : (row : Row T M) (at : ℕ) → StaysOn row.place (to_part setting row at).place
-  to_stays row at =
-      one-stays (at == length row.items) row (part_of setting row at at)
-      (part_of setting row 0 at) (part_stays row at at) (part_stays row 0 at)
+  to_is : (row : Row T M) (at : ℕ) → IsPart row (to_part setting row at)
+  to_is row at =
+      one-is (at == length row.items) row (part_of setting row at at)
+      (part_of setting row 0 at) (part_is row at at) (part_is row 0 at)
 
   yes_or_no : (yes : Bool) → MayTell {X = List T} {F = List T} short (if yes then reply.Yes else reply.No)
   yes_or_no true = inl refl
@@ -172,56 +209,71 @@ module _ {T M : Type 0} (setting : Setting T) (short : Shortage) (t : Table T M)
   pub answer_each : (c : Cmd (List T) (List T)) → After (answer setting short t c)
   answer_each (Slice items) =
       asking_each short refl (founded setting t items)
-      (founds items (setting.has_static && (length items == 0)))
+      (founds items reader (setting.has_static && (length items == 0))
+      (native_facts setting.drops (length items)))
   answer_each (Static items) =
       either setting.has_static (asking short t (with_static t items)) (reply.Kind, t)
       (asking_each short refl (with_static t items) (statics items)) (same reply.Kind (inl refl))
+  answer_each (MSlice items) =
+      asking_each short refl (with_writer setting t items (length items))
+      (founds items (sole_writer (length items)) (length items == 0)
+      (partly_full setting.drops (length items) (length items)))
   answer_each (Clone i) =
-      on_row_each i (Clone i) _ (λ row at.
+      on_row_each i (Clone i) _ (λ row at is.
       with_owner_each row.place (t.rows ++ Some row ∷ [])
-      (more i row row at (stays-same row.place)))
+      (more i row row at (reads-only (Clone i) (λ places. refl) row.role is)
+      (stays-same row.place, refl)))
   answer_each (Sub i start end) =
-      on_row_each i (Sub i start end) _ (λ row at.
+      on_row_each i (Sub i start end) _ (λ row at is.
       let part = part_of setting row start end in
       in_range_each (range_answer setting.boundary row.items start end) _
       (with_owner_each part.place (t.rows ++ Some part ∷ [])
-      (more i row part at (part_stays row start end))))
+      (more i row part at (reads-only (Sub i start end) (λ places. refl) row.role is)
+      (part_is row start end))))
   answer_each (Off i at) =
-      on_row_each i (Off i at) _ (λ row there.
+      on_row_each i (Off i at) _ (λ row there is.
       in_range_each (edge_answer setting.boundary row.items at) _
       (split_each i (at == 0) row (cut_row row 0 at) (off_part setting row at) there
-      (stays-moved 0 row.place) (off_stays row at)))
+      (reads-only (Off i at) (λ places. refl) row.role is) (stays-moved 0 row.place, refl)
+      (off_is row at)))
   answer_each (To i at) =
-      on_row_each i (To i at) _ (λ row there.
+      on_row_each i (To i at) _ (λ row there is.
       in_range_each (edge_answer setting.boundary row.items at) _
       (split_each i (at == length row.items) row (cut_row row at (length row.items))
-      (to_part setting row at) there (stays-moved at row.place) (to_stays row at)))
+      (to_part setting row at) there (reads-only (To i at) (λ places. refl) row.role is)
+      (stays-moved at row.place, refl) (to_is row at)))
   answer_each (Uniq i) =
-      on_row_each i (Uniq i) _ (λ row at.
+      on_row_each i (Uniq i) _ (λ row at is.
       same (if is_alone t row.place then reply.Yes else reply.No)
       (yes_or_no (is_alone t row.place)))
   answer_each (Show i) =
-      on_row_each i (Show i) _ (λ row at.
+      on_row_each i (Show i) _ (λ row at is.
       asking_each short refl (reply.Items row.items, t) (same (reply.Items row.items) (inl refl)))
   answer_each (Len i) =
-      on_row_each i (Len i) _ (λ row at. same (reply.Number (length row.items)) (inl refl))
+      on_row_each i (Len i) _ (λ row at is. same (reply.Number (length row.items)) (inl refl))
   answer_each (Adv i by) =
-      on_row_each i (Adv i by) _ (λ row at.
-      let part : Row T M = record row { items = drop by row.items; place = moved by row.place } in
+      on_row_each i (Adv i by) _ (λ row at is.
+      let part = advanced row by in
       in_range_each (edge_answer setting.boundary row.items by) (changed t i part)
-      (becomes i row part at (stays-moved by row.place)))
+      (becomes i row part at (
+        stays-moved by row.place,
+        sole-with row.role (capacity_of row.role - by),
+      )))
   answer_each (Trunc i len) =
-      on_row_each i (Trunc i len) _ (λ row at.
-      let part : Row T M = record row { items = take len row.items } in
+      on_row_each i (Trunc i len) _ (λ row at is.
+      let part = truncated setting.drops row len in
       let ranged : Outcome =
       in_range (edge_answer setting.boundary row.items len) t (changed t i part) in
       either (nat_lt len (length row.items)) ranged (reply.Ok, t)
       (in_range_each (edge_answer setting.boundary row.items len) (changed t i part)
-      (becomes i row part at (stays-same row.place)))
+      (becomes i row part at (
+        stays-same row.place,
+        sole-either setting.drops row.role (with_capacity row.role len) (sole-with row.role len),
+      )))
       (same reply.Ok (inl refl)))
-  answer_each (Drop i) = on_row_each i (Drop i) _ (λ row at. goes reply.Ok (inl refl) i)
+  answer_each (Drop i) = on_row_each i (Drop i) _ (λ row at is. goes reply.Ok (inl refl) i)
   answer_each (TakeStatic i) =
-      on_row_each i (TakeStatic i) _ (λ row at.
+      on_row_each i (TakeStatic i) _ (λ row at is.
       either (is_some (block_of row.place)) (reply.Refused, t) (take_items t i row)
       (same reply.Refused (inl refl)) (goes (reply.Static row.items) (inl refl) i))
 
@@ -233,8 +285,8 @@ module _ {T M : Type 0} (setting : Setting T) (t : Table T M) where
   answer_ample : (c : Cmd (List T) (List T)) → shortage (answer setting no_shortage t c).0 ≡ no_shortage
   answer_ample =
       answer_each setting no_shortage t (λ reply new. shortage reply ≡ no_shortage) tells_none
-      (λ items nothing. refl) (λ items. refl) (λ i row part at stays. refl)
-      (λ i row kept handed at one other. refl) (λ i row part at stays. refl)
+      (λ items role nothing info. refl) (λ items. refl) (λ i row part at shares is. refl)
+      (λ i row kept handed at shares one other. refl) (λ i row part at is. refl)
       (λ r tells i. tells_none r tells)
 
   pub answer_step : (c : Cmd (List T) (List T))

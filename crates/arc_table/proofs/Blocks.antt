@@ -1,19 +1,24 @@
 -- Rows that stand on one block agree about it, and each step keeps that.
-use Rattle.std.proofs.Common.{inl, inr, ◌≡◌, ◌⊎◌, ℕ, ◌+◌, ◌<◌, Bool, true, false, if◌then◌else◌}
+use Rattle.std.proofs.Common.{inl, inr, ◌≡◌, ◌⊎◌, ℕ, ◌+◌, ◌<◌, ◌≤◌, Bool, true, false, if◌then◌else◌}
 use Rattle.std.proofs.Common.{List}
-use Rattle.std.proofs.Common.{[], ◌∷◌, ◌++◌, length, Option, Some, None, slice_get, slice_set, refl}
+use Rattle.std.proofs.Common.{[], ◌∷◌, ◌++◌, Option, Some, None, slice_get, slice_set, refl}
 use Rattle.std.proofs.Common.{sym, ap, ◌∙◌, subst, arith}
 use Rattle.std.specs.Option.{option_flatten, option_map_or}
-use Rattle.std.proofs.lemmas.Option.{none-some}
-use Rattle.arc_block.specs.Block.{BlockInfo, native_facts}
-use Rattle.arc_block.specs.Place.{Place, nowhere, static_data, on_block, moved}
-use Rattle.arc_block.specs.Table.{Row, Table, row_at, reader, block_of}
+use Rattle.std.proofs.lemmas.Option.{none-some, same_Some}
+use Rattle.std.proofs.lemmas.Bool.{false≢true}
+use Rattle.arc_block.specs.Block.{BlockInfo}
+use Rattle.arc_block.specs.Place.{Place, nowhere, static_data, on_block}
+use Rattle.arc_block.specs.Table.{Row, Table, Role, StandsOn, row_at, reader, block_of}
 use Rattle.arc_block.proofs.Lists.{push-cases, set-cases}
-use Rattle.arc_table.specs.Blocks.{SaysOf, RowsAgree}
+use Rattle.arc_table.specs.Blocks.{SaysOf, RowsAgree, is_sole}
 use Rattle.arc_table.specs.Step.{Setting, Shortage, shortage, Step, Run, answer, with_static}
 use Rattle.arc_table.specs.declared.command.Cmd.{Cmd}
 use Rattle.arc_table.specs.declared.command.Reply.{Reply}
-use Rattle.arc_table.proofs.Answers.{StaysOn, answer_each}
+use Rattle.arc_table.proofs.Answers.{StaysOn, IsPart, answer_each}
+
+not-writing : (b : Bool) → (b ≡ true → ⊥) → b ≡ false
+not-writing true none = absurd (none refl)
+not-writing false none = refl
 
 there : {X : Type 0} (x : Option (Option X)) (y : X) → option_flatten x ≡ Some y
     → x ≡ Some (Some y)
@@ -48,6 +53,78 @@ module _ {T M : Type 0} where
     | inl old ↦ each j row old.1
     | inr set ↦ of-row P x row set.1 new
   ]
+
+  -- a row on a block, and a row that stands on it as a sole writer's
+  abbrev OnBlock : ℕ → Row T M → Type 0
+  OnBlock block row = block_of row.place ≡ Some block
+
+  abbrev Writes : Row T M → Type 0
+  Writes row = is_sole row.role ≡ true
+
+  -- no row stands where a sole writer's does
+  abbrev Alone : List (Option (Row T M)) → Type 0
+  Alone rows = (i j block : ℕ) (one other : Row T M) → slice_get rows i ≡ Some (Some one)
+      → slice_get rows j ≡ Some (Some other) → Writes one → OnBlock block one
+      → OnBlock block other → j ≡ i
+
+  -- a row, and others on its block, of which none is a sole writer's
+  abbrev Joins : List (Option (Row T M)) → Row T M → Type 0
+  Joins rows new = (j block : ℕ) (other : Row T M) → slice_get rows j ≡ Some (Some other)
+      → OnBlock block new → OnBlock block other
+      → (is_sole new.role ≡ false) × (is_sole other.role ≡ false)
+
+  reads-not : (row : Row T M) → Writes row → is_sole row.role ≡ false → ⊥
+  reads-not row writes reads = false≢true (sym reads ∙ writes)
+
+  same-row : (x y : Row T M) → Some x ≡ Some y → x ≡ y
+  same-row x y is = same_Some x y is
+
+  alone-push : (rows : List (Option (Row T M))) (new : Row T M) → Alone rows → Joins rows new
+      → Alone (rows ++ Some new ∷ [])
+  alone-push rows new alone joins i j block one other at second writes on beside =
+      elim (push-cases rows i (Some one) (Some new) at) [
+        | inl old ↦ elim (push-cases rows j (Some other) (Some new) second) [
+          | inl also ↦ alone i j block one other old also writes on beside
+          | inr last ↦
+              absurd (reads-not one writes (joins i block one old
+              (subst (OnBlock block) (sym (same-row new other last.1)) beside) on).1)
+        ]
+        | inr end ↦ elim (push-cases rows j (Some other) (Some new) second) [
+          | inl also ↦
+              absurd (reads-not one writes (subst (λ (r : Row T M). is_sole r.role ≡ false)
+              (same-row new one end.1) (joins j block other also
+              (subst (OnBlock block) (sym (same-row new one end.1)) on) beside).0))
+          | inr last ↦ last.0 ∙ sym end.0
+        ]
+      ]
+
+  -- the row with this number stands where what comes in its place does, and writes where that does
+  record Stood (rows : List (Option (Row T M))) (k : ℕ) (new : Row T M) : Type 0 where
+    row : Row T M
+    there : slice_get rows k ≡ Some (Some row)
+    on : (block : ℕ) → OnBlock block new → OnBlock block row
+    writes : Writes new → Writes row
+
+  stood-set : (rows : List (Option (Row T M))) (k : ℕ) (x : Option (Row T M))
+      → ((new : Row T M) → x ≡ Some new → Stood rows k new) → (j : ℕ) (other : Row T M)
+      → slice_get (slice_set rows k x) j ≡ Some (Some other) → Stood rows j other
+  stood-set rows k x stood j other at = elim (set-cases rows k j (Some other) x at) [
+    | inl old ↦ record {
+      row = other;
+      there = old.1;
+      on = λ block on. on;
+      writes = λ writes. writes;
+    }
+    | inr set ↦ subst (λ n. Stood rows n other) set.0 (stood other set.1)
+  ]
+
+  alone-set : (rows : List (Option (Row T M))) (k : ℕ) (x : Option (Row T M)) → Alone rows
+      → ((new : Row T M) → x ≡ Some new → Stood rows k new) → Alone (slice_set rows k x)
+  alone-set rows k x alone stood i j block one other at second writes on beside =
+      let a = stood-set rows k x stood i one at in
+      let b = stood-set rows k x stood j other second in
+      alone i j block a.row b.row a.there b.there (a.writes writes) (a.on block on)
+      (b.on block beside)
 
   module _ (t : Table T M) where
     -- what a row says of the block on which it stands, a row of t says too
@@ -91,9 +168,28 @@ module _ {T M : Type 0} where
     said-new made (on_block block offset info) said = inl said
 
     module _ (agree : RowsAgree t) where
+      alone-of : (new : Table T M) → Alone new.rows → (i j block : ℕ) (s : StandsOn new i block)
+          → is_sole s.row.role ≡ true → StandsOn new j block → j ≡ i
+      alone-of new alone i j block s sole other =
+          alone i j block s.row other.row (there (slice_get new.rows i) s.row s.alive)
+          (there (slice_get new.rows j) other.row other.alive) sole s.stands other.stands
+
+      abbrev stands-at : (i block : ℕ) (row : Row T M) → slice_get t.rows i ≡ Some (Some row)
+          → OnBlock block row → StandsOn t i block
+      stands-at i block row at on = record {
+        row = row;
+        alive = ap option_flatten at;
+        stands = on;
+      }
+
+      alone-now : Alone t.rows
+      alone-now i j block one other at also writes on beside =
+          agree.alone i j block (stands-at i block one at on) writes
+          (stands-at j block other also beside)
+
       agree-after : (new : Table T M) → Each IsSaid new.rows → new.blocks ≡ t.blocks
-          → RowsAgree new
-      agree-after new each many =
+          → Alone new.rows → RowsAgree new
+      agree-after new each many alone =
           let said = λ (block : ℕ) (info : BlockInfo M) (says : SaysOf new block info).
           subst IsSaid says.4
           (each says.0 says.1 (there (slice_get new.rows says.0) says.1 says.3)) in
@@ -103,6 +199,7 @@ module _ {T M : Type 0} where
             numbered = λ block info says.
                 subst (λ n. block < n) (sym many)
                 (agree.numbered block info (said block info says));
+            alone = alone-of new alone;
           }
 
       one-info : (made : BlockInfo M) (block : ℕ) (one other : BlockInfo M)
@@ -121,8 +218,8 @@ module _ {T M : Type 0} where
       within made block info (inr a) = omega (arith, a.0)
 
       agree-made : (made : BlockInfo M) (new : Table T M) → Each (IsSaidOrNew made) new.rows
-          → new.blocks ≡ t.blocks + 1 → RowsAgree new
-      agree-made made new each many =
+          → new.blocks ≡ t.blocks + 1 → Alone new.rows → RowsAgree new
+      agree-made made new each many alone =
           let said = λ (block : ℕ) (info : BlockInfo M) (says : SaysOf new block info).
           subst (IsSaidOrNew made) says.4
           (each says.0 says.1 (there (slice_get new.rows says.0) says.1 says.3)) in
@@ -131,71 +228,157 @@ module _ {T M : Type 0} where
                 one-info made block one other (said block one a) (said block other b);
             numbered = λ block info says.
                 subst (λ n. block < n) (sym many) (within made block info (said block info says));
+            alone = alone-of new alone;
           }
 
-      more : (i : ℕ) (row part : Row T M) → row_at t i ≡ Some row → StaysOn row.place part.place
-          → RowsAgree (record { rows = t.rows ++ Some part ∷ []; blocks = t.blocks })
-      more i row part at stays =
-          agree-after (record { rows = t.rows ++ Some part ∷ []; blocks = t.blocks })
-          (each-push IsSaid t.rows (Some part) said-each (said-part i row part at stays)) refl
+      -- a block on which a place stands is that of the whole
+      on-whole : (whole part : Place ℕ M) → StaysOn whole part → (block : ℕ)
+          → block_of part ≡ Some block → block_of whole ≡ Some block
+      on-whole whole nowhere stays block on = absurd (none-some block on)
+      on-whole whole static_data stays block on = absurd (none-some block on)
+      on-whole nowhere (on_block n offset info) stays block on = absurd stays
+      on-whole static_data (on_block n offset info) stays block on = absurd stays
+      on-whole (on_block one here old) (on_block n offset info) stays block on =
+          ap Some stays.0 ∙ on
 
-      becomes : (i : ℕ) (row part : Row T M) → row_at t i ≡ Some row
-          → StaysOn row.place part.place
+      stood : (i : ℕ) (row part : Row T M) → row_at t i ≡ Some row → IsPart row part
+          → Stood t.rows i part
+      stood i row part at is = record {
+        row = row;
+        there = there (slice_get t.rows i) row at;
+        on = λ block on. on-whole row.place part.place is.0 block on;
+        writes = λ writes. sym is.1 ∙ writes;
+      }
+
+      -- beside a row that isn't a sole writer's no sole writer stands
+      joins : (i : ℕ) (row part : Row T M) → row_at t i ≡ Some row → is_sole row.role ≡ false
+          → IsPart row part → (rows : List (Option (Row T M)))
+          → ((j : ℕ) (other : Row T M) → slice_get rows j ≡ Some (Some other)
+          → Stood t.rows j other) → Joins rows part
+      joins i row part at shares is rows each j block other here on beside =
+          let b = each j other here in
+          let whole = on-whole row.place part.place is.0 block on in
+          let row-here = there (slice_get t.rows i) row at in (
+            is.1 ∙ shares,
+            not-writing (is_sole other.role) (λ writes.
+                let same =
+                alone-now j i block b.row row b.there row-here (b.writes writes)
+                (b.on block beside) whole in
+                let one : row ≡ b.row =
+                same_Some row b.row (same_Some (Some row) (Some b.row)
+                (sym row-here ∙ ap (slice_get t.rows) same ∙ b.there)) in
+                false≢true (sym shares ∙ ap (λ (r : Row T M). is_sole r.role) one
+                ∙ b.writes writes)),
+          )
+
+      as-is : (j : ℕ) (other : Row T M) → slice_get t.rows j ≡ Some (Some other)
+          → Stood t.rows j other
+      as-is j other at = record {
+        row = other;
+        there = at;
+        on = λ block on. on;
+        writes = λ writes. writes;
+      }
+
+      one-part : (i : ℕ) (row part : Row T M) → row_at t i ≡ Some row → IsPart row part
+          → (new : Row T M) → Some part ≡ Some new → Stood t.rows i new
+      one-part i row part at is new same =
+          subst (Stood t.rows i) (same-row part new same) (stood i row part at is)
+
+      more : (i : ℕ) (row part : Row T M) → row_at t i ≡ Some row → is_sole row.role ≡ false
+          → IsPart row part
+          → RowsAgree (record { rows = t.rows ++ Some part ∷ []; blocks = t.blocks })
+      more i row part at shares is =
+          agree-after (record { rows = t.rows ++ Some part ∷ []; blocks = t.blocks })
+          (each-push IsSaid t.rows (Some part) said-each (said-part i row part at is.0)) refl
+          (alone-push t.rows part alone-now (joins i row part at shares is t.rows as-is))
+
+      becomes : (i : ℕ) (row part : Row T M) → row_at t i ≡ Some row → IsPart row part
           → RowsAgree (record { rows = slice_set t.rows i (Some part); blocks = t.blocks })
-      becomes i row part at stays =
+      becomes i row part at is =
           agree-after (record { rows = slice_set t.rows i (Some part); blocks = t.blocks })
-          (each-set IsSaid t.rows i (Some part) said-each (said-part i row part at stays)) refl
+          (each-set IsSaid t.rows i (Some part) said-each (said-part i row part at is.0)) refl
+          (alone-set t.rows i (Some part) alone-now (one-part i row part at is))
 
       goes : (i : ℕ) → RowsAgree (record { rows = slice_set t.rows i None; blocks = t.blocks })
       goes i =
           agree-after (record { rows = slice_set t.rows i None; blocks = t.blocks })
           (each-set IsSaid t.rows i None said-each tt) refl
+          (alone-set t.rows i None alone-now (λ new none. absurd (none-some new none)))
+
+      within-blocks : (j block : ℕ) (other : Row T M) → slice_get t.rows j ≡ Some (Some other)
+          → (place : Place ℕ M) → other.place ≡ place → block_of place ≡ Some block
+          → block < t.blocks
+      within-blocks j block other at nowhere is on = absurd (none-some block on)
+      within-blocks j block other at static_data is on = absurd (none-some block on)
+      within-blocks j block other at (on_block n offset info) is on =
+          subst (λ m. m < t.blocks) (same_Some n block on)
+          (agree.numbered n info (j, other, offset, ap option_flatten at, is))
+
+      known : (j block : ℕ) (other : Row T M) → slice_get t.rows j ≡ Some (Some other)
+          → OnBlock block other → block < t.blocks
+      known j block other at on = within-blocks j block other at other.place refl on
+
+      -- a row on no block of the table's
+      apart : (new : Row T M) → ((block : ℕ) → OnBlock block new → t.blocks ≤ block)
+          → Joins t.rows new
+      apart new past j block other at on beside =
+          absurd (omega (arith, past block on, known j block other at beside))
 
       statics : (items : List T) → RowsAgree (with_static t items).1
       statics items =
           let row : Row T M = record { items = items; place = static_data; role = reader } in
           agree-after (record { rows = t.rows ++ Some row ∷ []; blocks = t.blocks })
           (each-push IsSaid t.rows (Some row) said-each tt) refl
+          (alone-push t.rows row alone-now
+          (apart row (λ block on. absurd (none-some block on))))
 
       splits : (i : ℕ) (row kept handed : Row T M) → row_at t i ≡ Some row
-          → StaysOn row.place kept.place → StaysOn row.place handed.place → RowsAgree (record {
+          → is_sole row.role ≡ false → IsPart row kept → IsPart row handed
+          → RowsAgree (record {
             rows = slice_set t.rows i (Some kept) ++ Some handed ∷ [];
             blocks = t.blocks;
           })
-      splits i row kept handed at one other =
+      splits i row kept handed at shares one other =
           let rows = slice_set t.rows i (Some kept) in
+          let stays = one-part i row kept at one in
           agree-after (record { rows = rows ++ Some handed ∷ []; blocks = t.blocks })
           (each-push IsSaid rows (Some handed)
-          (each-set IsSaid t.rows i (Some kept) said-each (said-part i row kept at one))
-          (said-part i row handed at other)) refl
+          (each-set IsSaid t.rows i (Some kept) said-each (said-part i row kept at one.0))
+          (said-part i row handed at other.0)) refl
+          (alone-push rows handed (alone-set t.rows i (Some kept) alone-now stays)
+          (joins i row handed at shares other rows (stood-set t.rows i (Some kept) stays)))
 
-      founds : (nothing : Bool) (items : List T) (info : BlockInfo M)
-          → let place = if nothing then nowhere else moved 0 (on_block t.blocks 0 info) in
+      founds : (items : List T) (role : Role) (nothing : Bool) (info : BlockInfo M)
+          → let place = if nothing then nowhere else on_block t.blocks 0 info in
           RowsAgree (record {
-            rows = t.rows ++ Some (record { items = items; place = place; role = reader }) ∷ [];
+            rows = t.rows ++ Some (record { items = items; place = place; role = role }) ∷ [];
             blocks = option_map_or (λ block. t.blocks + 1) (block_of place) t.blocks;
           })
-      founds true items info =
-          let row : Row T M = record { items = items; place = nowhere; role = reader } in
+      founds items role true info =
+          let row : Row T M = record { items = items; place = nowhere; role = role } in
           agree-after (record { rows = t.rows ++ Some row ∷ []; blocks = t.blocks })
           (each-push IsSaid t.rows (Some row) said-each tt) refl
-      founds false items info =
+          (alone-push t.rows row alone-now
+          (apart row (λ block on. absurd (none-some block on))))
+      founds items role false info =
           let row : Row T M = record {
             items = items;
-            place = moved 0 (on_block t.blocks 0 info);
-            role = reader;
+            place = on_block t.blocks 0 info;
+            role = role;
           } in
           agree-made info (record { rows = t.rows ++ Some row ∷ []; blocks = t.blocks + 1 })
           (each-push (IsSaidOrNew info) t.rows (Some row)
           (λ i row at. said-new info row.place (said-each i row at)) (inr (refl, refl))) refl
+          (alone-push t.rows row alone-now
+          (apart row (λ block on. omega (arith, same_Some t.blocks block on))))
 
   module _ (setting : Setting T) where
     answer-agrees : (short : Shortage) (t : Table T M) (c : Cmd (List T) (List T)) → RowsAgree t
         → RowsAgree (answer setting short t c).1
     answer-agrees short t c agree =
         answer_each setting short t (λ reply new. RowsAgree new) (λ reply tells. agree)
-        (λ items nothing. founds t agree nothing items (native_facts setting.drops (length items)))
-        (statics t agree) (more t agree) (splits t agree) (becomes t agree)
+        (founds t agree) (statics t agree) (more t agree) (splits t agree) (becomes t agree)
         (λ r tells i. goes t agree i) c
 
     pub step_agrees : (t : Table T M) (c : Cmd (List T) (List T)) (r : Reply (List T) (List T)) (new : Table T M)

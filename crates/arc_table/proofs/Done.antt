@@ -153,21 +153,23 @@ module _ {T M : Type 0} (setting : Setting T) (slots : List (Option (SlotView T 
     t = state_of slots passes
 
     -- the window asked whether it is alone
-    pub asked : (passes' : List (Pass Whole)) (found : Bool)
+    pub asked : s.capacity ≡ None → (passes' : List (Pass Whole)) (found : Bool)
         → Along (stand_of (Some s)) passes passes' (λ o p q. Asks o p q found)
         → (stand_of (Some s) ≡ None → found ≡ false)
         → Done setting t (command.Uniq i) (if found then reply.Yes else reply.No) slots passes'
-    asked passes' true along nowhere_no =
+    asked reads passes' true along nowhere_no =
         done fact.1
         (kept-asked-along i fact.0 passes' true (stand_of (Some s))
         (stand-there slots passes i s there) along)
-        (asked-row slots passes i s there fact.0 passes' setting true slots along nowhere_no refl)
+        (asked-row slots passes i s there fact.0 passes' reads setting true slots along nowhere_no
+        refl)
         (asked-added slots passes i s there slots passes' true refl along)
-    asked passes' false along nowhere_no =
+    asked reads passes' false along nowhere_no =
         done fact.1
         (kept-asked-along i fact.0 passes' false (stand_of (Some s))
         (stand-there slots passes i s there) along)
-        (asked-row slots passes i s there fact.0 passes' setting false slots along nowhere_no refl)
+        (asked-row slots passes i s there fact.0 passes' reads setting false slots along nowhere_no
+        refl)
         (asked-added slots passes i s there slots passes' false refl along)
 
     -- the window ended

@@ -20,7 +20,7 @@ use Rattle.arc_block.specs.Place.{moved}
 use Rattle.arc_block.specs.Table.{Row, block_of, reader}
 use Rattle.arc_table.specs.Blocks.{RowsAgree}
 use Rattle.arc_table.specs.Step.{Setting, Step}
-use Rattle.arc_table.specs.Slots.{row_of}
+use Rattle.arc_table.specs.Slots.{role_of, row_of}
 use Rattle.arc_table.specs.Stands.{numbered}
 use Rattle.arc_table.specs.declared.command.Cmd.TheVariants as command
 use Rattle.arc_table.specs.declared.command.Reply.TheVariants as reply
@@ -105,7 +105,8 @@ module _ {T M : Type 0} (slots slots' : List (Option (SlotView T M))) (s : SlotV
 
   -- it is one step of the table
   module _ (setting : Setting T) (passes passes' : List (Pass Whole)) (items : List T)
-      (makes : Makes setting.has_static setting.drops true items s.window) where
+      (makes : Makes setting.has_static setting.drops true items s.window)
+      (reads : s.capacity ≡ None) where
     abbrev nothing : Bool
     nothing = setting.has_static && (length items == 0)
 
@@ -131,7 +132,12 @@ module _ {T M : Type 0} (slots slots' : List (Option (SlotView T M))) (s : SlotV
     founded-row : s.block ≡ (if nothing then None else Some (length passes))
         → row_of s ≡ row (stands nothing)
     founded-row block =
-        ap (λ (w : Window T M). record {
+        ap {B = Row T M} (λ x. record {
+          items = s.window.items;
+          place = numbered s.block s.window.place;
+          role = role_of x;
+        }) reads
+        ∙ ap (λ (w : Window T M). record {
           items = w.items;
           place = numbered s.block w.place;
           role = reader;

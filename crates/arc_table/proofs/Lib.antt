@@ -15,3 +15,4 @@ mod Rows
 mod Done
 mod Blocks
 pub mod Statics
+pub mod Written

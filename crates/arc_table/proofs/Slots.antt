@@ -11,6 +11,10 @@ use Rattle.arc_owners.specs.declared.error.OwnerError.TheVariants.{AllocError, C
 use Rattle.arc_block.specs.Block.{Sort, BlockInfo}
 use Rattle.arc_block.specs.Place.{Place, nowhere, static_data, on_block, at_owner, moved}
 use Rattle.arc_block.specs.Steps.{IsPassAt, Shares, Refuses}
+use Rattle.arc_block.specs.Window.{Window, PartsView}
+use Rattle.arc_table.specs.Slots.{held}
+use Rattle.arc_table.specs.declared.slot.Held.{Held}
+use Rattle.arc_table.specs.declared.slot.Held.TheVariants.{Read, Write}
 use Rattle.arc_table.specs.Calls.{Through, Along, Beside, RefusesAt, AddsNothing}
 use Rattle.arc_table.specs.Stands.{numbered, is_numbered, stand_at, HasPassFor, TakenOut, put_back}
 use Rattle.arc_table.specs.Stands.{HasNumber}
@@ -19,6 +23,20 @@ use Rattle.arc_table.proofs.Taken.{back-same, left-number}
 -- where a window stands, by its owner
 abbrev At : Type 0 → Type 0
 At M = Place (Option Owner) M
+
+pub held-block : {T M : Type 0} (h : Held (Window T M) (PartsView T M)) (b : Option ℕ)
+    → (held h b).block ≡ b
+held-block (Read w) b = refl
+held-block (Write w) b = refl
+
+-- a slot whose window is read
+module _ {T M : Type 0} (h : Held (Window T M) (PartsView T M)) (w : Window T M) (b : Option ℕ)
+    (is : h ≡ Read w) where
+  pub reads-view : held h b ≡ record { window = w; capacity = None; block = b }
+  reads-view = ap (λ x. held x b) is
+
+  pub reads-fits : is_numbered b (held h b).window.place ≡ true → is_numbered b w.place ≡ true
+  reads-fits fits = ap (λ x. is_numbered b (held x b).window.place) (sym is) ∙ fits
 
 -- what a call does to the pass of the owner by which it goes
 abbrev Call : Type 0 → Type 1

@@ -20,7 +20,7 @@ use Rattle.arc_table.specs.declared.command.Cmd.TheVariants as command
 use Rattle.arc_table.specs.declared.command.Reply.TheVariants as reply
 use Rattle.arc_table.proofs.Done.{Done, Fact, done}
 use Rattle.arc_table.proofs.Places.{stand_block, place_agrees}
-use Rattle.arc_table.proofs.Tables.{answered, stand-there, map-slice_set}
+use Rattle.arc_table.proofs.Tables.{for-reader, stand-there, map-slice_set}
 
 nowhere-stand : (st : Stand) (b : Option ℕ) → b ≡ stand_block st → is_some b ≡ false → st ≡ None
 nowhere-stand None b is off = refl
@@ -30,6 +30,7 @@ nowhere-stand (Some x) b is off = absurd (false≢true (sym off ∙ ap is_some i
 abbrev pub static_slot : {T M : Type 0} → List T → SlotView T M
 static_slot items = record {
   window = record { items = items; place = static_data };
+  capacity = None;
   block = None;
 }
 
@@ -70,12 +71,13 @@ module _ {T M : Type 0} (setting : Setting T) (slots : List (Option (SlotView T 
       ∙ ap (λ rs. (reply.New number, record { rows = rs; blocks = t.blocks })) (sym rows))
       (stands, refl)
 
-  module _ (i : ℕ) (s : SlotView T M) (there : slice_get slots i ≡ Some (Some s)) where
+  module _ (i : ℕ) (s : SlotView T M) (there : slice_get slots i ≡ Some (Some s))
+      (reads : s.capacity ≡ None) where
     take-answers : (short : Shortage) (on : Bool) → is_some (block_of (row_of s).place) ≡ on
         → answer setting short t (command.TakeStatic i)
         ≡ (if on then (reply.Refused, t) else take_items t i (row_of s))
     take-answers short on is =
-        answered slots passes i s there (command.TakeStatic i) (λ row.
+        for-reader slots passes i s there reads (command.TakeStatic i) refl (λ row.
         if is_some (block_of row.place) then (reply.Refused, t) else take_items t i row)
         ∙ ap (λ (b : Bool). if b then (reply.Refused, t) else take_items t i (row_of s)) is
 

@@ -1,9 +1,10 @@
 -- Calls by a slot's window, as steps of the table.
 use Rattle.std.proofs.Common.{◌≡◌, ℕ, zero, suc, ◌==◌, Bool, true, false, if◌then◌else◌}
-use Rattle.std.proofs.Common.{List, [], ◌∷◌, ◌++◌, length, map, Option, Some, None, slice_get}
+use Rattle.std.proofs.Common.{List, [], ◌∷◌, ◌++◌, length, map, Option, Some, None, is_some}
+use Rattle.std.proofs.Common.{slice_get, Result, Err}
 use Rattle.std.proofs.Common.{slice_set, refl, sym, ap, ◌∙◌, subst, arith}
 use Rattle.std.specs.Option.{option_map, option_map_or, option_flatten}
-use Rattle.std.proofs.lemmas.Bool.{eq-eqb, ne_eqb}
+use Rattle.std.proofs.lemmas.Bool.{eq-eqb, ne_eqb, false≢true}
 use Rattle.std.proofs.lemmas.Option.{slice_get-map}
 use Rattle.std.proofs.lemmas.List.{map-append, length-map}
 use Rattle.arc_owners.specs.declared.mark.Whole.{Whole}
@@ -14,14 +15,18 @@ use Rattle.arc_owners.specs.count.Calls.{Asks}
 use Rattle.arc_block.specs.declared.block.TheConstants.{MAX_OWNERS}
 use Rattle.arc_block.specs.Block.{Sort}
 use Rattle.arc_block.specs.Owned.{Stand, IsKept}
-use Rattle.arc_block.specs.Place.{Place, nowhere, static_data, on_block}
-use Rattle.arc_block.specs.Table.{Row, Table, reader, row_at, block_of, owners, is_alone}
+use Rattle.arc_block.specs.Place.{Place, nowhere, static_data, on_block, part_place}
+use Rattle.arc_block.specs.Table.{Row, Table, Role, reader, sole_writer, row_at, block_of}
+use Rattle.arc_block.specs.Table.{owners, is_alone}
 use Rattle.arc_table.specs.Calls.{Along, Beside, RefusesAt}
 use Rattle.arc_block.proofs.Owned.{kept-turned}
-use Rattle.arc_table.specs.Slots.{SlotView, row_of, stand_of, stands_of}
+use Rattle.arc_table.specs.Slots.{SlotView, role_of, row_of, stand_of, stands_of}
 use Rattle.arc_table.specs.State.{state_of}
 use Rattle.arc_table.specs.Step.{Setting, Shortage, no_shortage, of_clones, Step, answer, asking}
 use Rattle.arc_table.specs.Step.{with_owner, is_full, on_row, is_for, changed, split_rows}
+use Rattle.arc_table.specs.Step.{in_range, part_of}
+use Rattle.arc_owners.specs.declared.error.RangeError.{RangeError}
+use Rattle.arc_buffer.specs.Slice.{sub}
 use Rattle.arc_table.specs.declared.command.Cmd.{Cmd}
 use Rattle.arc_table.specs.declared.command.Cmd.TheVariants as command
 use Rattle.arc_table.specs.declared.command.Reply.{Reply}
@@ -63,6 +68,28 @@ alone-at t static_data b is = ap (λ x. option_map_or (λ n. owners t n == 1) x 
 alone-at t (on_block n offset facts) b is =
     ap (λ x. option_map_or (λ n. owners t n == 1) x false) is
 
+-- what holds of each writer's role
+of-writer : (P : Role → Type 0) (capacity : Option ℕ) → is_some capacity ≡ true
+    → ((places : ℕ) → P (sole_writer places)) → P (role_of capacity)
+of-writer P None some each = absurd (false≢true some)
+of-writer P (Some places) some each = each places
+
+-- the part of a window that is read is read too
+pub part-as : {T M : Type 0} (setting : Setting T) (s : SlotView T M) → s.capacity ≡ None
+    → (start end : ℕ) → let items = sub s.window.items start end in
+    ◌≡◌ {A = Row T M} (record {
+      items = items;
+      place = part_place setting.has_static items start (row_of s).place;
+      role = reader;
+    }) (part_of setting (row_of s) start end)
+part-as {T} {M} setting s reads start end =
+    let items = sub s.window.items start end in
+    ap {B = Row T M} (λ x. record {
+      items = items;
+      place = part_place setting.has_static items start (row_of s).place;
+      role = role_of x;
+    }) (sym reads)
+
 -- a reply, and the table after it
 abbrev Outcome : Type 0 → Type 0 → Type 0
 Outcome T M = Reply (List T) (List T) × Table T M
@@ -70,6 +97,35 @@ Outcome T M = Reply (List T) (List T) × Table T M
 module _ {T M : Type 0} (slots : List (Option (SlotView T M))) (passes : List (Pass Whole)) where
   abbrev t : Table T M
   t = (state_of slots passes).table
+
+  -- a window of either role is shown, counted, cut and ended
+  abbrev IsForBoth : Cmd (List T) (List T) → Type 0
+  IsForBoth c = (capacity : Option ℕ) → is_for c (role_of capacity) ≡ true
+
+  pub show-for : (i : ℕ) → IsForBoth (command.Show i)
+  show-for i None = refl
+  show-for i (Some places) = refl
+
+  pub len-for : (i : ℕ) → IsForBoth (command.Len i)
+  len-for i None = refl
+  len-for i (Some places) = refl
+
+  pub adv-for : (i by : ℕ) → IsForBoth (command.Adv i by)
+  adv-for i by None = refl
+  adv-for i by (Some places) = refl
+
+  pub trunc-for : (i len : ℕ) → IsForBoth (command.Trunc i len)
+  trunc-for i len None = refl
+  trunc-for i len (Some places) = refl
+
+  pub drop-for : (i : ℕ) → IsForBoth (command.Drop i)
+  drop-for i None = refl
+  drop-for i (Some places) = refl
+
+  -- what is for a reader is for a window that is read
+  pub reads-for : (s : SlotView T M) → s.capacity ≡ None → (c : Cmd (List T) (List T))
+      → is_for c reader ≡ true → is_for c (role_of s.capacity) ≡ true
+  reads-for s reads c is = ap (λ x. is_for c (role_of x)) reads ∙ is
 
   -- the same slots, with as many passes
   pub same-table : (slots' : List (Option (SlotView T M))) (passes' : List (Pass Whole))
@@ -96,11 +152,38 @@ module _ {T M : Type 0} (slots : List (Option (SlotView T M))) (passes : List (P
     stand-there = slice_get-map stand_of slots i ∙ ap (option_map stand_of) there
 
     -- what is answered for a row is what is answered for this one
-    pub answered : (c : Cmd (List T) (List T)) (found : Row T M → Outcome T M)
-        → on_row t i c found ≡ (if is_for c reader then found (row_of s) else (reply.Kind, t))
-    answered c found =
+    by-role : (c : Cmd (List T) (List T)) (found : Row T M → Outcome T M) (b : Bool)
+        → is_for c (role_of s.capacity) ≡ b
+        → on_row t i c found ≡ (if b then found (row_of s) else (reply.Kind, t))
+    by-role c found b is =
         ap (λ r. option_map_or (λ row. if is_for c row.role then found row else (reply.Kind, t)) r
         (reply.NoWindow, t)) row-there
+        ∙ ap (λ (x : Bool). if x then found (row_of s) else (reply.Kind, t)) is
+
+    -- where the command is for its role, where it isn't for a writer's, and where it is for a reader's
+    pub answered : (c : Cmd (List T) (List T)) → is_for c (role_of s.capacity) ≡ true
+        → (found : Row T M → Outcome T M) → on_row t i c found ≡ found (row_of s)
+    answered c is found = by-role c found true is
+
+    pub no-writer : is_some s.capacity ≡ true → (c : Cmd (List T) (List T))
+        → ((places : ℕ) → is_for c (sole_writer places) ≡ false)
+        → (found : Row T M → Outcome T M) → on_row t i c found ≡ (reply.Kind, t)
+    no-writer some c each found =
+        by-role c found false (of-writer (λ role. is_for c role ≡ false) s.capacity some each)
+
+    -- where the range isn't one of the window
+    pub out-of-range : (c : Cmd (List T) (List T)) → is_for c (role_of s.capacity) ≡ true
+        → (range : Row T M → Result (Unit {0}) RangeError) (found : Row T M → Outcome T M)
+        (e : RangeError) → range (row_of s) ≡ Err e
+        → on_row t i c (λ row. in_range (range row) t (found row)) ≡ (reply.Range e, t)
+    out-of-range c is range found e said =
+        answered c is (λ row. in_range (range row) t (found row))
+        ∙ ap (λ a. in_range a t (found (row_of s))) said
+
+    pub for-reader : s.capacity ≡ None → (c : Cmd (List T) (List T)) → is_for c reader ≡ true
+        → (found : Row T M → Outcome T M) → on_row t i c found ≡ found (row_of s)
+    for-reader reads c is found =
+        answered c (reads-for s reads c is) found
 
     -- a window more, behind the others
     pub rows-more : (made : SlotView T M) (r : Row T M)
@@ -308,29 +391,33 @@ module _ {T M : Type 0} (slots : List (Option (SlotView T M))) (passes : List (P
           alone-at t place (Some n) on ∙ ap (λ m. m == 1) (rows-counted slots passes n)
           ∙ sym (alone-along i k passes' found n o at along)
 
-      asked : (setting : Setting T) (found : Bool) (slots' : List (Option (SlotView T M)))
+      asked : s.capacity ≡ None → (setting : Setting T) (found : Bool)
+          (slots' : List (Option (SlotView T M)))
           → Along (stand_of (Some s)) passes passes' (λ o p q. Asks o p q found)
           → (stand_of (Some s) ≡ None → found ≡ false) → slots' ≡ slots
           → answer setting no_shortage t (command.Uniq i)
           ≡ (if found then reply.Yes else reply.No, (state_of slots' passes').table)
-      asked setting found slots' along nowhere_no same =
+      asked reads setting found slots' along nowhere_no same =
           let st = stand_of (Some s) in
           let on = place_agrees s.block s.window.place in
           let alone = alone-told st stand-there found along nowhere_no (row_of s).place on in
           let many = many-along i k passes' st (λ o p q. Asks o p q found) along in
-          answered (command.Uniq i) (λ row.
+          for-reader reads (command.Uniq i) refl (λ row.
           (if is_alone t row.place then reply.Yes else reply.No, t))
           ∙ ap (λ b. (if b then reply.Yes else reply.No, t)) alone
           ∙ ap (λ x. (if found then reply.Yes else reply.No, x))
           (sym (same-table slots' passes' same many))
 
-      pub asked-row : (setting : Setting T) (found : Bool) (slots' : List (Option (SlotView T M)))
+      pub asked-row : s.capacity ≡ None → (setting : Setting T) (found : Bool)
+          (slots' : List (Option (SlotView T M)))
           → Along (stand_of (Some s)) passes passes' (λ o p q. Asks o p q found)
           → (stand_of (Some s) ≡ None → found ≡ false) → slots' ≡ slots
           → Step setting t (command.Uniq i) (if found then reply.Yes else reply.No)
           (state_of slots' passes').table
-      asked-row setting true slots' along none same = asked setting true slots' along none same
-      asked-row setting false slots' along none same = asked setting false slots' along none same
+      asked-row reads setting true slots' along none same =
+          asked reads setting true slots' along none same
+      asked-row reads setting false slots' along none same =
+          asked reads setting false slots' along none same
 
       -- a window less
       pub dropped-row : (setting : Setting T) (slots' : List (Option (SlotView T M)))
@@ -340,7 +427,7 @@ module _ {T M : Type 0} (slots : List (Option (SlotView T M))) (passes : List (P
           let many = many-along i k passes' (stand_of (Some s)) Ended along in
           let rows : map (option_map row_of) slots' ≡ slice_set t.rows i None =
           ap (map (option_map row_of)) set ∙ map-slice_set (option_map row_of) slots i None in
-          answered (command.Drop i) (λ row.
+          answered (command.Drop i) (drop-for i s.capacity) (λ row.
           (reply.Ok, record { rows = slice_set t.rows i None; blocks = t.blocks }))
           ∙ ap (λ rs. (reply.Ok, record { rows = rs; blocks = length passes })) (sym rows)
           ∙ ap (λ b. (reply.Ok, record { rows = map (option_map row_of) slots'; blocks = b }))

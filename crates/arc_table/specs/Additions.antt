@@ -15,7 +15,7 @@ use Rattle.arc_block.specs.Owned.{Stand}
 use Rattle.arc_block.specs.Table.{Table, row_at}
 use Rattle.arc_table.specs.declared.command.Cmd.{Cmd}
 use Rattle.arc_table.specs.declared.command.Cmd.TheVariants.{Slice, Clone, Sub, Off, To, Uniq}
-use Rattle.arc_table.specs.declared.command.Cmd.TheVariants.{Drop, Static, TakeStatic}
+use Rattle.arc_table.specs.declared.command.Cmd.TheVariants.{Drop, Static, TakeStatic, MSlice}
 use Rattle.arc_table.specs.declared.command.Reply.{Reply}
 use Rattle.arc_table.specs.declared.command.Reply.TheVariants as reply
 
@@ -99,6 +99,8 @@ module _ {H : Type 0} where
   abbrev pub Adds : {T M : Type 0} → Table T M → Standing H → Cmd (List T) (List T)
       → Reply (List T) (List T) → Standing H → Type 0
   Adds t old (Slice items) (reply.New number) new = (made : Stand)
+      × Founds made old.passes new.passes × (new.stands ≡ old.stands ++ made ∷ [])
+  Adds t old (MSlice items) (reply.New number) new = (made : Stand)
       × Founds made old.passes new.passes × (new.stands ≡ old.stands ++ made ∷ [])
   Adds t old (Static items) (reply.New number) new =
       (new.stands ≡ old.stands ++ None ∷ []) × (new.passes ≡ old.passes)

@@ -1,8 +1,17 @@
 -- Blocks as the rows of a table tell of them.
-use Rattle.std.specs.Prelude.{◌≡◌, ℕ, ◌<◌, Some}
+use Rattle.std.specs.Prelude.{◌≡◌, ℕ, ◌<◌, Bool, true, false, Some}
 use Rattle.arc_block.specs.Block.{BlockInfo}
 use Rattle.arc_block.specs.Place.{on_block}
-use Rattle.arc_block.specs.Table.{Row, Table, row_at}
+use Rattle.arc_block.specs.Table.{Row, Table, Role, StandsOn, row_at}
+use Rattle.arc_block.specs.Table.{reader, sole_writer, one_writer_of_several, inline, forgotten}
+
+-- whether a role is a sole writer's
+abbrev pub is_sole : Role → Bool
+is_sole reader = false
+is_sole (sole_writer capacity) = true
+is_sole (one_writer_of_several capacity) = false
+is_sole inline = false
+is_sole forgotten = false
 
 module _ {T M : Type 0} where
   -- a row that stands on the block with this number says this of it
@@ -10,8 +19,11 @@ module _ {T M : Type 0} where
   SaysOf t block info = (i : ℕ) × (row : Row T M) × (offset : ℕ)
       × (row_at t i ≡ Some row) × (row.place ≡ on_block block offset info)
 
-  -- the rows that stand on one block say the same of it, and it is a block that was made
+  -- The rows that stand on one block say the same of it, and it is a block that was made. Where a
+  -- sole writer stands on it no other row does.
   pub record RowsAgree (t : Table T M) : Type 0 where
     pub same : (block : ℕ) (one other : BlockInfo M) → SaysOf t block one
         → SaysOf t block other → one ≡ other
     pub numbered : (block : ℕ) (info : BlockInfo M) → SaysOf t block info → block < t.blocks
+    pub alone : (i j block : ℕ) (s : StandsOn t i block) → is_sole s.row.role ≡ true
+        → StandsOn t j block → j ≡ i

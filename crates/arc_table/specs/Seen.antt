@@ -5,7 +5,7 @@ use Rattle.std.specs.Vec.{vec_items}
 use Rattle.arc_table.specs.declared.command.Cmd.{Cmd}
 use Rattle.arc_table.specs.declared.command.Cmd.TheVariants.{Slice, Clone, Sub, Uniq, Show, Len}
 use Rattle.arc_table.specs.declared.command.Cmd.TheVariants.{Off, To, Adv, Trunc, Drop}
-use Rattle.arc_table.specs.declared.command.Cmd.TheVariants.{Static, TakeStatic}
+use Rattle.arc_table.specs.declared.command.Cmd.TheVariants.{Static, TakeStatic, MSlice}
 use Rattle.arc_table.specs.declared.command.Reply.{Reply}
 use Rattle.arc_table.specs.declared.command.Reply.TheVariants as reply
 
@@ -13,6 +13,7 @@ use Rattle.arc_table.specs.declared.command.Reply.TheVariants as reply
 abbrev pub map_command : {X Y F : Type 0} → (X → Y) → Cmd X F → Cmd Y F
 map_command f (Slice items) = Slice (f items)
 map_command f (Static items) = Static items
+map_command f (MSlice items) = MSlice (f items)
 map_command f (Clone i) = Clone i
 map_command f (Sub i start end) = Sub i start end
 map_command f (Uniq i) = Uniq i

@@ -1,22 +1,47 @@
 -- The slots of a table as rows, and where their windows stand.
-use Rattle.std.specs.Prelude.{ℕ, List, Option, Some, None, map}
-use Rattle.arc_block.specs.Window.{Window}
+use Rattle.std.specs.Prelude.{ℕ, Bool, true, List, Option, Some, None, map}
+use Rattle.std.specs.Option.{option_map_or}
+use Rattle.arc_block.specs.Window.{Window, PartsView, window_of}
 use Rattle.arc_block.specs.Owned.{Stand}
-use Rattle.arc_block.specs.Table.{Row, reader}
+use Rattle.arc_block.specs.Table.{Row, Role, reader, sole_writer}
+use Rattle.arc_block.specs.Writers.{capacity_of}
+use Rattle.arc_table.specs.Blocks.{is_sole}
 use Rattle.arc_table.specs.Stands.{numbered, stand_at}
+use Rattle.arc_table.specs.declared.slot.Held.{Held}
+use Rattle.arc_table.specs.declared.slot.Held.TheVariants.{Read, Write}
 
--- what is seen of a slot: its window, and the number of the block on which that stands
+-- what is seen of a slot: its window, how many places that has where it is one that is written, and
+-- the number of the block on which it stands
 pub record SlotView (T M : Type 0) : Type 0 where
   pub window : Window T M
+  pub capacity : Option ℕ
   pub block : Option ℕ
 
+-- the role of a window of a slot
+abbrev pub role_of : Option ℕ → Role
+role_of capacity = option_map_or sole_writer capacity reader
+
 module _ {T M : Type 0} where
+  -- a window, on the block with this number, as it is seen of a slot
+  abbrev pub held : Held (Window T M) (PartsView T M) → Option ℕ → SlotView T M
+  held (Read window) block = record { window = window; capacity = None; block = block }
+  held (Write window) block = record {
+    window = window_of window;
+    capacity = Some (capacity_of window.role);
+    block = block;
+  }
+
+  -- a window that is written is a sole writer
+  abbrev pub is_writer : Held (Window T M) (PartsView T M) → Bool
+  is_writer (Read window) = true
+  is_writer (Write window) = is_sole window.role
+
   -- a slot as a row
   abbrev pub row_of : SlotView T M → Row T M
   row_of s = record {
     items = s.window.items;
     place = numbered s.block s.window.place;
-    role = reader;
+    role = role_of s.capacity;
   }
 
   -- where its window stands, if that hasn't gone

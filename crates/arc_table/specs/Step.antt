@@ -1,23 +1,24 @@
 -- One step of a table of lists: what each command is answered, and the table after it.
 use Rattle.std.specs.Prelude.{◌≡◌, ℕ, ◌+◌, ◌==◌, Bool, true, false, if◌then◌else◌, List, [], ◌∷◌}
 use Rattle.std.specs.Prelude.{◌++◌, length, Option, Some, None, slice_set, Result, Ok, Err, take}
-use Rattle.std.specs.Prelude.{drop, is_some, nat_lt}
+use Rattle.std.specs.Prelude.{◌-◌, drop, is_some, nat_lt}
 use Rattle.std.specs.Option.{option_map_or}
 use Rattle.arc_owners.specs.declared.error.RangeError.{RangeError}
 use Rattle.arc_owners.specs.declared.error.OwnerError.TheVariants.{AllocError, CountFull}
 use Rattle.arc_buffer.specs.Slice.{sub, range_answer, edge_answer}
 use Rattle.arc_block.specs.declared.block.TheConstants.{MAX_OWNERS}
-use Rattle.arc_block.specs.Block.{Sort, native_facts}
-use Rattle.arc_block.specs.Place.{Place, static_data, on_block, made_place, part_place}
+use Rattle.arc_block.specs.Block.{Sort, native_facts, partly_full}
+use Rattle.arc_block.specs.Place.{Place, nowhere, static_data, on_block, made_place, part_place}
 use Rattle.arc_block.specs.Place.{moved}
 use Rattle.arc_block.specs.Table.{Row, Table, row_at, block_of, owners, is_alone}
-use Rattle.arc_block.specs.Table.{Role, reader, one_writer_of_several, inline}
+use Rattle.arc_block.specs.Table.{Role, reader, sole_writer, one_writer_of_several, inline}
 use Rattle.arc_block.specs.Table.{forgotten}
+use Rattle.arc_block.specs.Writers.{capacity_of, with_capacity}
 use Rattle.arc_table.specs.RunOf.{RunOf}
 use Rattle.arc_table.specs.declared.command.Cmd.{Cmd}
 use Rattle.arc_table.specs.declared.command.Cmd.TheVariants.{Slice, Clone, Sub, Uniq, Show, Len}
 use Rattle.arc_table.specs.declared.command.Cmd.TheVariants.{Off, To, Adv, Trunc, Drop}
-use Rattle.arc_table.specs.declared.command.Cmd.TheVariants.{Static, TakeStatic}
+use Rattle.arc_table.specs.declared.command.Cmd.TheVariants.{Static, TakeStatic, MSlice}
 use Rattle.arc_table.specs.declared.command.Reply.{Reply}
 use Rattle.arc_table.specs.declared.command.Reply.TheVariants as reply
 
@@ -92,6 +93,21 @@ founded setting t items =
       },
     )
 
+-- A writer of these items, which are all that a new block of so many places holds. Of no places
+-- there is no block.
+abbrev pub with_writer : {T M : Type 0} → Setting T → Table T M → List T → ℕ
+    → Reply (List T) (List T) × Table T M
+with_writer {T} {M} setting t items places =
+    let facts = partly_full setting.drops places (length items) in
+    let place = if places == 0 then nowhere else on_block t.blocks 0 facts in
+    let row : Row T M = record { items = items; place = place; role = sole_writer places } in (
+      reply.New (length t.rows),
+      record {
+        rows = t.rows ++ Some row ∷ [];
+        blocks = option_map_or (λ block. t.blocks + 1) (block_of place) t.blocks;
+      },
+    )
+
 -- a window over a slice that is there for good, which no block holds
 abbrev pub with_static : {T M : Type 0} → Table T M → List T
     → Reply (List T) (List T) × Table T M
@@ -135,6 +151,23 @@ part_of setting row start end =
       place = part_place setting.has_static items start row.place;
       role = row.role;
     }
+
+-- the row that many items further in: a writer has that many places less
+abbrev pub advanced : {T M : Type 0} → Row T M → ℕ → Row T M
+advanced row by = record {
+  items = drop by row.items;
+  place = moved by row.place;
+  role = with_capacity row.role (capacity_of row.role - by);
+}
+
+-- The row's first items. What is dropped one by one stays in the block behind them, so a writer of
+-- these has no places beside their own.
+abbrev pub truncated : {T M : Type 0} → Bool → Row T M → ℕ → Row T M
+truncated drops row len = record {
+  items = take len row.items;
+  place = row.place;
+  role = if drops then with_capacity row.role len else row.role;
+}
 
 -- the part from start to end of a row, as the same owner: it stays where it stands
 abbrev pub cut_row : {T M : Type 0} → Row T M → ℕ → ℕ → Row T M
@@ -182,13 +215,16 @@ in_range (Err e) t outcome = (reply.Range e, t)
 
 -- What a command is answered, and the table after it, where memory was refused so: after the tests
 -- of number, role and range, in this order, what it asks for, and then what it does. It is right of
--- rows that are read on native blocks, on static slices or on none: no command makes others yet. Of
--- a writer it would keep a capacity that isn't the part's, and `Uniq` doesn't ask the block's sort.
+-- rows on native blocks, on static slices or on none, which are read or of a sole writer: no
+-- command makes others yet. Of one writer of several a split would keep a capacity that isn't the
+-- part's, and `Uniq` doesn't ask the block's sort.
 abbrev pub answer : {T M : Type 0} → Setting T → Shortage → Table T M → Cmd (List T) (List T)
     → Reply (List T) (List T) × Table T M
 answer setting short t (Slice items) = asking short t (founded setting t items)
 answer setting short t (Static items) =
     if setting.has_static then asking short t (with_static t items) else (reply.Kind, t)
+answer setting short t (MSlice items) =
+    asking short t (with_writer setting t items (length items))
 answer setting short t (Clone i) = on_row t i (Clone i) (λ row.
     asking short t (with_owner setting short t row.place (t.rows ++ Some row ∷ [])))
 answer setting short t (Sub i start end) = on_row t i (Sub i start end) (λ row.
@@ -213,11 +249,11 @@ answer setting short t (Len i) = on_row t i (Len i) (λ row.
     (reply.Number (length row.items), t))
 answer setting short t (Adv i by) = on_row t i (Adv i by) (λ row.
     in_range (edge_answer setting.boundary row.items by) t
-    (changed t i (record row { items = drop by row.items; place = moved by row.place })))
+    (changed t i (advanced row by)))
 answer setting short t (Trunc i len) = on_row t i (Trunc i len) (λ row.
     if nat_lt len (length row.items) then
     in_range (edge_answer setting.boundary row.items len) t
-    (changed t i (record row { items = take len row.items })) else (reply.Ok, t))
+    (changed t i (truncated setting.drops row len)) else (reply.Ok, t))
 answer setting short t (Drop i) = on_row t i (Drop i) (λ row.
     (reply.Ok, record { rows = slice_set t.rows i None; blocks = t.blocks }))
 answer setting short t (TakeStatic i) = on_row t i (TakeStatic i) (λ row.

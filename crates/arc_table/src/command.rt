@@ -10,6 +10,8 @@ pub enum Cmd<X, F> {
     Slice(X),
     /// A window over a slice that is there for good.
     Static(F),
+    /// A window that is written, over a copy of these items.
+    MSlice(X),
     /// Another window with the same items at the same place.
     Clone {
         window: usize,

@@ -1,4 +1,4 @@
-//! Commands over read windows, carried out as a table of plain lists.
+//! Commands over windows, carried out as a table of plain lists.
 #![tactic(auto)]
 
 pub mod command;

@@ -1,36 +1,58 @@
 //! One window of a table.
-ghost use Rattle.std.specs.Prelude.{◌≡◌, ◌==◌, ◌&&◌, if◌then◌else◌, None};
+ghost use Rattle.std.specs.Prelude.{◌≡◌, ◌==◌, ◌&&◌, if◌then◌else◌, Bool, None};
+ghost use Rattle.arc_owners.specs.count.Calls.{Leaves};
+ghost use Rattle.arc_block.specs.Place.{at_owner};
+ghost use Rattle.arc_block.specs.Steps.{IsPassAt};
+ghost use Rattle.arc_table.specs.Slots.{held};
 
 use crate::passes::Passes;
-use arc_block::layout::{Layout, stands_on_nothing};
+use arc_block::layout::{Layout, LayoutMut, stands_on_nothing};
 use arc_block::parts::Parts;
 use arc_block::static_slice::StaticSlice;
 use arc_buffer::kinds::{AnyItems, Slice, Subsliceable};
 use arc_owners::error::{OwnerError, RangeError};
 use arc_owners::mark::Whole;
+use arc_owners::owners::Pass;
 use arc_read::slice::ArcSlice;
+use arc_write::slice_mut::ArcSliceMut;
 use std::alloc::Allocator;
 use std::marker::Model;
 use std::sync::Wait;
 
+/// A window that is read, or one that is written.
+pub enum Held<R, W> {
+    Read(R),
+    Write(W),
+}
+
 /// A window, and the number of the block that it stands on, if it stands on one. It can't be
 /// dropped: each ends by `release`, since a window that is dropped would stay an owner of its block
 /// for good.
-pub struct Slot<S: Slice, L: Layout, B, M, A: Allocator + Copy> {
-    pub window: ArcSlice<S, L, B, M, A, Whole>,
+pub struct Slot<S: Slice, L: Layout, B, M, A: Allocator + Copy>
+where
+    L::Writable: LayoutMut,
+{
+    pub window: Held<
+        ArcSlice<S, L, B, M, A, Whole>,
+        ArcSliceMut<S, L::Writable, 1, B, M, A, Whole>,
+    >,
     pub block: Option<usize>,
 }
 
-impl<S: Slice, L: Layout, B, M, A: Allocator + Copy> Model for Slot<S, L, B, M, A> {
+impl<S: Slice, L: Layout, B, M, A: Allocator + Copy> Model for Slot<S, L, B, M, A>
+where
+    L::Writable: LayoutMut,
+{
     ghost use Rattle.std.specs.Prelude.{◌≡◌, true};
     ghost use Rattle.arc_table.specs.Stands.{is_numbered};
-    ghost use Rattle.arc_table.specs.Slots.{SlotView};
+    ghost use Rattle.arc_table.specs.Slots.{SlotView, held, is_writer};
 
     ghost Value = { SlotView S.Item M };
 
-    ghost view = { λ s. record { window = s.window; block = s.block } };
+    ghost view = { λ s. held s.window s.block };
 
-    ghost invariant = { λ s. is_numbered s.block s.window.place ≡ true };
+    ghost invariant = { λ s. (is_numbered s.block (held s.window s.block).window.place ≡ true)
+        × (is_writer s.window ≡ true) };
 }
 
 /// The block on which a part with so many items stands, if it stands on one.
@@ -43,18 +65,40 @@ fn part_block<L: Layout>(block: Option<usize>, len: usize) -> Option<usize>
     block
 }
 
-impl<S: Slice, L: Layout, B, M, A: Allocator + Copy> Slot<S, L, B, M, A> {
+/// Ends a window.
+fn end_window<S: Slice, L: Layout, K: LayoutMut, B, M, A: Allocator + Copy>(
+    window: Held<ArcSlice<S, L, B, M, A, Whole>, ArcSliceMut<S, K, 1, B, M, A, Whole>>,
+    pass: &mut Pass<Whole>,
+)
+    requires { IsPassAt (held window None).window.place pass.old }
+    ensures { at_owner (held window None).window.place (pass.new ≡ pass.old) (λ o. (last : Bool)
+        × Leaves o pass.old pass.new last) }
+{
+    match window {
+        Held::Read(window) => window.release_as(pass),
+        Held::Write(window) => window.release_as(pass),
+    }
+}
+
+impl<S: Slice, L: Layout, B, M, A: Allocator + Copy> Slot<S, L, B, M, A>
+where
+    L::Writable: LayoutMut,
+{
     ghost use Rattle.std.specs.Prelude.{◌≡◌, ◌<◌, ◌↔◌, length, Bool, false, None, Some};
     ghost use Rattle.std.specs.Prelude.{IfOk, IfErr, IsOk, take, drop, true, is_some};
     ghost use Rattle.arc_buffer.specs.Slice.{IsRange, IsEdge, sub, range_answer, edge_answer};
-    ghost use Rattle.arc_block.specs.Place.{moved, part_place};
+    ghost use Rattle.arc_block.specs.Place.{part_place};
     ghost use Rattle.arc_block.specs.Table.{block_of, reader};
+    ghost use Rattle.arc_block.specs.Window.{window_of};
+    ghost use Rattle.arc_block.specs.Writers.{capacity_of};
     ghost use Rattle.arc_block.specs.Place.{static_data};
     ghost use Rattle.arc_owners.specs.count.Calls.{Asks, Leaves};
-    ghost use Rattle.arc_table.specs.Stands.{HasPassFor};
+    ghost use Rattle.arc_table.specs.Stands.{HasPassFor, is_numbered};
     ghost use Rattle.arc_table.specs.Calls.{Along, Beside, RefusesAt};
     ghost use Rattle.arc_table.specs.Step.{setting_of, cut_row, off_part, to_part};
+    ghost use Rattle.arc_table.specs.Step.{advanced, truncated};
     ghost use Rattle.arc_table.specs.Splits.{IsSplit};
+    ghost use Rattle.arc_table.specs.Blocks.{is_sole};
     ghost use Rattle.arc_table.specs.Slots.{row_of, stand_of};
 
     /// A window over a slice that is there for good, under a layout with static data.
@@ -64,12 +108,43 @@ impl<S: Slice, L: Layout, B, M, A: Allocator + Copy> Slot<S, L, B, M, A> {
         requires { L.STATIC ≡ true }
         ensures { result ≡ record {
           window = record { items = items; place = static_data };
+          capacity = None;
           block = None;
         } }
     {
         Slot {
-            window: ArcSlice::from_parts(Parts::on_static(alloc, items)),
+            window: Held::Read(ArcSlice::from_parts(Parts::on_static(alloc, items))),
             block: None,
+        }
+    }
+
+    /// A window that is written, of a sole writer's parts, on the block with this number.
+    pub fn written(
+        window: ArcSliceMut<S, L::Writable, 1, B, M, A, Whole>,
+        block: Option<usize>,
+    ) -> Self
+        requires writes { is_sole window.role ≡ true }
+        requires block { is_numbered block window.place ≡ true }
+        ensures { result ≡ record {
+          window = window_of window;
+          capacity = Some (capacity_of window.role);
+          block = block;
+        } }
+    {
+        Slot {
+            window: Held::Write(window),
+            block,
+        }
+    }
+
+    /// Whether the window is one that is written.
+    pub fn is_written(&self) -> bool
+        ensures answer { result ≡ is_some self.now.capacity }
+        ensures reads { result ≡ false → self.now.capacity ≡ None }
+    {
+        match &self.window {
+            Held::Read(_) => false,
+            Held::Write(_) => true,
         }
     }
 
@@ -82,10 +157,14 @@ impl<S: Slice, L: Layout, B, M, A: Allocator + Copy> Slot<S, L, B, M, A> {
 
     /// The items of a window that stands on no block, for good. Takes no memory.
     pub fn into_static(self) -> StaticSlice<S::Item>
-        requires { is_some (block_of (row_of self).place) ≡ false }
+        requires reads { self.capacity ≡ None }
+        requires nowhere { is_some (block_of (row_of self).place) ≡ false }
         ensures { result ≡ self.window.items }
     {
         let Slot { window, block: _ } = self;
+        let Held::Read(window) = window else {
+            unreachable!()
+        };
         match window.into_parts().try_into_static() {
             Ok(items) => items,
             Err(_) => unreachable!(),
@@ -96,24 +175,34 @@ impl<S: Slice, L: Layout, B, M, A: Allocator + Copy> Slot<S, L, B, M, A> {
     pub fn as_slice(&self) -> &[S::Item]
         ensures { result.now ≡ self.now.window.items }
     {
-        self.window.as_slice()
+        match &self.window {
+            Held::Read(window) => window.as_slice(),
+            Held::Write(window) => window.as_slice(),
+        }
     }
 
-    /// Whether `start` to `end` is a range of the window.
+    /// Whether `start` to `end` is a range of the window, which is one that is read.
     pub fn check_range(&self, start: usize, end: usize) -> Result<(), RangeError>
     where
         S: Subsliceable,
+        requires { self.now.capacity ≡ None }
         ensures answer { result ≡ range_answer S.boundary self.now.window.items start end }
         ensures ok { IsOk result ↔ IsRange S.boundary self.now.window.items start end }
     {
-        self.window.check_range(start, end)
+        let Held::Read(window) = &self.window else {
+            unreachable!()
+        };
+        window.check_range(start, end)
     }
 
     /// How many items the window has.
     pub fn len(&self) -> usize
         ensures { result ≡ length self.now.window.items }
     {
-        self.window.len()
+        match &self.window {
+            Held::Read(window) => window.len(),
+            Held::Write(window) => window.len(),
+        }
     }
 
     /// Whether the window may be cut at `at`.
@@ -123,7 +212,10 @@ impl<S: Slice, L: Layout, B, M, A: Allocator + Copy> Slot<S, L, B, M, A> {
         ensures answer { result ≡ edge_answer S.boundary self.now.window.items at }
         ensures ok { IsOk result ↔ IsEdge S.boundary self.now.window.items at }
     {
-        self.window.check_at(at)
+        match &self.window {
+            Held::Read(window) => window.check_at(at),
+            Held::Write(window) => window.check_at(at),
+        }
     }
 
     /// Takes the first `by` items off the window, which stays on its block.
@@ -131,35 +223,35 @@ impl<S: Slice, L: Layout, B, M, A: Allocator + Copy> Slot<S, L, B, M, A> {
     where
         S: Subsliceable,
         requires { IsEdge S.boundary self.old.window.items by }
-        ensures row { row_of self.new ≡ record {
-          items = drop by self.old.window.items;
-          place = moved by (row_of self.old).place;
-          role = reader;
-        } }
+        ensures row { row_of self.new ≡ advanced (row_of self.old) by }
         ensures stand { stand_of (Some self.new) ≡ stand_of (Some self.old) }
     {
-        self.window.advance(by);
+        match &mut self.window {
+            Held::Read(window) => window.advance(by),
+            Held::Write(window) => window.advance(by),
+        }
     }
 
     /// Leaves the window's first `len` items. It stays on its block.
     pub fn truncate(&mut self, len: usize)
     where
         S: Subsliceable,
-        requires { IsEdge S.boundary self.old.window.items len }
-        ensures row { row_of self.new ≡ record {
-          items = take len self.old.window.items;
-          place = (row_of self.old).place;
-          role = reader;
-        } }
+        requires at { IsEdge S.boundary self.old.window.items len }
+        requires shorter { len < length self.old.window.items }
+        ensures row { row_of self.new ≡ truncated S.DROPS (row_of self.old) len }
         ensures stand { stand_of (Some self.new) ≡ stand_of (Some self.old) }
     {
-        self.window.truncate(len);
+        match &mut self.window {
+            Held::Read(window) => window.truncate(len),
+            Held::Write(window) => window.truncate(len),
+        }
     }
 
     /// Another window with the same items at the same place, an owner more of the same block.
     /// `CountFull` where the block has as many owners as it can have, `AllocError` where the
     /// layout's clones want memory and it was refused.
     pub fn try_clone(&self, rt: &impl Wait, passes: &mut Passes<A>) -> Result<Self, OwnerError>
+        requires reads { self.now.capacity ≡ None }
         requires pass { HasPassFor passes.old.of_blocks.items (stand_of (Some self.now)) }
         ensures row { IfOk result (λ slot. row_of slot ≡ row_of self.now) }
         ensures stand { IfOk result (λ slot.
@@ -168,12 +260,15 @@ impl<S: Slice, L: Layout, B, M, A: Allocator + Copy> Slot<S, L, B, M, A> {
         ensures refused { IfErr result (RefusesAt L.clone_wants (row_of self.now).place
             (stand_of (Some self.now)) passes.old.of_blocks.items passes.new.of_blocks.items) }
     {
+        let Held::Read(window) = &self.window else {
+            unreachable!()
+        };
         let mut pass = passes.lend(self.block);
-        let made = self.window.try_clone_as(rt, &mut pass);
+        let made = window.try_clone_as(rt, &mut pass);
         passes.give_back(self.block, pass);
         match made {
             Ok(window) => Ok(Slot {
-                window,
+                window: Held::Read(window),
                 block: self.block,
             }),
             Err(e) => Err(e),
@@ -192,6 +287,7 @@ impl<S: Slice, L: Layout, B, M, A: Allocator + Copy> Slot<S, L, B, M, A> {
     where
         S: Subsliceable,
         requires range { IsRange S.boundary self.now.window.items start end }
+        requires reads { self.now.capacity ≡ None }
         requires pass { HasPassFor passes.old.of_blocks.items (stand_of (Some self.now)) }
         ensures row { IfOk result (λ slot.
             row_of slot ≡ record {
@@ -208,12 +304,15 @@ impl<S: Slice, L: Layout, B, M, A: Allocator + Copy> Slot<S, L, B, M, A> {
             (row_of self.now).place) (stand_of (Some self.now)) passes.old.of_blocks.items
             passes.new.of_blocks.items) }
     {
+        let Held::Read(window) = &self.window else {
+            unreachable!()
+        };
         let mut pass = passes.lend(self.block);
-        let made = self.window.try_subslice_as(rt, start, end, &mut pass);
+        let made = window.try_subslice_as(rt, start, end, &mut pass);
         passes.give_back(self.block, pass);
         match made {
             Ok(window) => Ok(Slot {
-                window,
+                window: Held::Read(window),
                 block: part_block::<L>(self.block, end - start),
             }),
             Err(e) => Err(e),
@@ -229,6 +328,7 @@ impl<S: Slice, L: Layout, B, M, A: Allocator + Copy> Slot<S, L, B, M, A> {
     ) -> Result<Self, OwnerError>
     where
         S: Subsliceable,
+        requires reads { self.old.capacity ≡ None }
         requires at { IsEdge S.boundary self.old.window.items at }
         requires pass { HasPassFor passes.old.of_blocks.items (stand_of (Some self.old)) }
         ensures start { IfOk result (λ back. at ≡ 0 → IsSplit self.old back self.new
@@ -245,19 +345,24 @@ impl<S: Slice, L: Layout, B, M, A: Allocator + Copy> Slot<S, L, B, M, A> {
             at).place
             (stand_of (Some self.old)) passes.old.of_blocks.items passes.new.of_blocks.items) }
     {
-        let mut pass = passes.lend(self.block);
-        let made = self.window.try_split_off_as(rt, at, &mut pass);
-        passes.give_back(self.block, pass);
-        let window = match made {
+        let block = self.block;
+        let Held::Read(front) = &mut self.window else {
+            unreachable!()
+        };
+        let mut pass = passes.lend(block);
+        let made = front.try_split_off_as(rt, at, &mut pass);
+        passes.give_back(block, pass);
+        let back = match made {
             Ok(window) => window,
             Err(e) => return Err(e),
         };
-        let block = self.block;
         if at == 0 {
-            self.block = part_block::<L>(block, self.window.len());
+            self.block = part_block::<L>(block, front.len());
+            let window = Held::Read(back);
             return Ok(Slot { window, block });
         }
-        let block = part_block::<L>(block, window.len());
+        let block = part_block::<L>(block, back.len());
+        let window = Held::Read(back);
         Ok(Slot { window, block })
     }
 
@@ -270,6 +375,7 @@ impl<S: Slice, L: Layout, B, M, A: Allocator + Copy> Slot<S, L, B, M, A> {
     ) -> Result<Self, OwnerError>
     where
         S: Subsliceable,
+        requires reads { self.old.capacity ≡ None }
         requires at { IsEdge S.boundary self.old.window.items at }
         requires pass { HasPassFor passes.old.of_blocks.items (stand_of (Some self.old)) }
         ensures end { IfOk result (λ front. at ≡ length self.old.window.items → IsSplit self.old
@@ -288,33 +394,42 @@ impl<S: Slice, L: Layout, B, M, A: Allocator + Copy> Slot<S, L, B, M, A> {
             at).place
             (stand_of (Some self.old)) passes.old.of_blocks.items passes.new.of_blocks.items) }
     {
-        let len = self.window.len();
-        let mut pass = passes.lend(self.block);
-        let made = self.window.try_split_to_as(rt, at, &mut pass);
-        passes.give_back(self.block, pass);
-        let window = match made {
+        let block = self.block;
+        let Held::Read(back) = &mut self.window else {
+            unreachable!()
+        };
+        let len = back.len();
+        let mut pass = passes.lend(block);
+        let made = back.try_split_to_as(rt, at, &mut pass);
+        passes.give_back(block, pass);
+        let front = match made {
             Ok(window) => window,
             Err(e) => return Err(e),
         };
-        let block = self.block;
         if len == at {
-            self.block = part_block::<L>(block, self.window.len());
+            self.block = part_block::<L>(block, back.len());
+            let window = Held::Read(front);
             return Ok(Slot { window, block });
         }
-        let block = part_block::<L>(block, window.len());
+        let block = part_block::<L>(block, front.len());
+        let window = Held::Read(front);
         Ok(Slot { window, block })
     }
 
     /// Whether no other owner of the window's block lives. `false` on no block. Takes no memory.
     pub fn is_unique(&self, passes: &mut Passes<A>) -> bool
-        requires { HasPassFor passes.old.of_blocks.items (stand_of (Some self.now)) }
+        requires reads { self.now.capacity ≡ None }
+        requires pass { HasPassFor passes.old.of_blocks.items (stand_of (Some self.now)) }
         ensures asked { Along (stand_of (Some self.now)) passes.old.of_blocks.items
             passes.new.of_blocks.items (λ o p q.
             Asks o p q result) }
         ensures nowhere { stand_of (Some self.now) ≡ None → result ≡ false }
     {
+        let Held::Read(window) = &self.window else {
+            unreachable!()
+        };
         let mut pass = passes.lend(self.block);
-        let alone = self.window.is_unique_as(&mut pass);
+        let alone = window.is_unique_as(&mut pass);
         passes.give_back(self.block, pass);
         alone
     }
@@ -328,7 +443,7 @@ impl<S: Slice, L: Layout, B, M, A: Allocator + Copy> Slot<S, L, B, M, A> {
     {
         let Slot { window, block } = self;
         let mut pass = passes.lend(block);
-        window.release_as(&mut pass);
+        end_window(window, &mut pass);
         passes.give_back(block, pass);
     }
 }

@@ -4,12 +4,13 @@ ghost use Rattle.std.specs.Option.{option_flatten};
 
 use crate::command::{Cmd, Reply, TableReply};
 use crate::passes::Passes;
-use crate::slot::Slot;
-use arc_block::layout::{DefaultLayout, Layout, stands_on_nothing};
+use crate::slot::{Held, Slot};
+use arc_block::layout::{DefaultLayout, Layout, LayoutMut, stands_on_nothing};
 use arc_block::static_slice::StaticSlice;
 use arc_buffer::kinds::{CopySlice, Slice, Subsliceable};
 use arc_owners::owners::Pass;
 use arc_read::slice::ArcSlice;
+use arc_write::slice_mut::ArcSliceMut;
 use std::alloc::{Allocator, Global};
 use std::marker::Model;
 use std::mem;
@@ -27,13 +28,19 @@ pub struct Table<
     B = Vec<<S as Slice>::Item>,
     M = (),
     A: Allocator + Copy = Global,
-> {
+>
+where
+    L::Writable: LayoutMut,
+{
     slots: Vec<Option<Slot<S, L, B, M, A>>, A>,
     passes: Passes<A>,
     alloc: A,
 }
 
-impl<S: Slice, L: Layout, B, M, A: Allocator + Copy> Model for Table<S, L, B, M, A> {
+impl<S: Slice, L: Layout, B, M, A: Allocator + Copy> Model for Table<S, L, B, M, A>
+where
+    L::Writable: LayoutMut,
+{
     ghost use Rattle.arc_block.specs.declared.block.TheConstants.{MAX_OWNERS};
     ghost use Rattle.arc_block.specs.Owned.{IsKept};
     ghost use Rattle.arc_table.specs.Blocks.{RowsAgree};
@@ -54,6 +61,8 @@ fn slot_at<S: Slice, L: Layout, B, M, A: Allocator + Copy>(
     slots: &[Option<Slot<S, L, B, M, A>>],
     i: usize,
 ) -> Option<&Slot<S, L, B, M, A>>
+where
+    L::Writable: LayoutMut,
     ensures { MatchOption result (option_flatten (slice_get slots.now i) ≡ None) (λ slot.
         slice_get slots.now i ≡ Some (Some slot.now)) }
 {
@@ -64,6 +73,8 @@ fn slot_at<S: Slice, L: Layout, B, M, A: Allocator + Copy>(
 fn end_slots<S: Slice, L: Layout, B, M, A: Allocator + Copy>(
     mut slots: Vec<Option<Slot<S, L, B, M, A>>, A>,
 )
+where
+    L::Writable: LayoutMut,
     requires { (i : ℕ) → option_flatten (slice_get slots.items i) ≡ None }
 {
     while let Some(slot) = slots.pop() {
@@ -75,6 +86,7 @@ fn end_slots<S: Slice, L: Layout, B, M, A: Allocator + Copy>(
 impl<S: CopySlice + Subsliceable, L: Layout, B, M, A: Allocator + Copy> Table<S, L, B, M, A>
 where
     S::Item: Copy,
+    L::Writable: LayoutMut,
 {
     ghost use Rattle.std.specs.Prelude.{◌≡◌, [], length, slice_set};
     ghost use Rattle.arc_block.specs.declared.block.TheConstants.{MAX_OWNERS};
@@ -130,6 +142,7 @@ where
         match command {
             Cmd::Slice(items) => self.slice(items),
             Cmd::Static(items) => self.static_window(items),
+            Cmd::MSlice(items) => self.slice_mut(items),
             Cmd::Clone { window } => self.clone_window(rt, window),
             Cmd::Sub { window, start, end } => self.sub(rt, window, start, end),
             Cmd::Uniq { window } => self.uniq(window),
@@ -201,14 +214,41 @@ where
         let number = self.slots.len();
         if stands_on_nothing::<L>(items.len()) {
             self.slots.push_reserved(Some(Slot {
-                window,
+                window: Held::Read(window),
                 block: None,
             }));
             return Reply::New(number);
         }
         let block = Some(self.passes.of_blocks.len());
         self.passes.of_blocks.push_reserved(pass);
+        let window = Held::Read(window);
         self.slots.push_reserved(Some(Slot { window, block }));
+        Reply::New(number)
+    }
+
+    /// A window that is written, over a copy of the items: on a new block, or for none on nothing.
+    /// Takes memory for the new slot, the block and its pass; refused, the answer is `Alloc`.
+    fn slice_mut(&mut self, items: Vec<S::Item, A>) -> TableReply<S::Item, A>
+        ensures rows { Step (setting_of L.STATIC L.clone_wants S.DROPS S.boundary) self.old.table
+            (command.MSlice items.items) (seen_reply result) self.new.table }
+        ensures passes { Adds self.old.table self.old.standing (command.MSlice items.items)
+            (seen_reply result) self.new.standing }
+    {
+        if self.slots.reserve(1).is_err() || self.passes.of_blocks.reserve(1).is_err() {
+            return Reply::Alloc;
+        }
+        let mut pass = Pass::none();
+        let Ok(window) = ArcSliceMut::try_from_slice_as(self.alloc, &items, &mut pass) else {
+            return Reply::Alloc;
+        };
+        let number = self.slots.len();
+        if items.is_empty() {
+            self.slots.push_reserved(Some(Slot::written(window, None)));
+            return Reply::New(number);
+        }
+        let block = Some(self.passes.of_blocks.len());
+        self.passes.of_blocks.push_reserved(pass);
+        self.slots.push_reserved(Some(Slot::written(window, block)));
         Reply::New(number)
     }
 
@@ -241,9 +281,12 @@ where
         ensures passes { Adds self.old.table self.old.standing (command.Clone i) (seen_reply result)
             self.new.standing }
     {
-        let Some(_) = slot_at(&self.slots, i) else {
+        let Some(slot) = slot_at(&self.slots, i) else {
             return Reply::NoWindow;
         };
+        if slot.is_written() {
+            return Reply::Kind;
+        }
         if self.slots.reserve(1).is_err() {
             return Reply::Alloc;
         }
@@ -270,6 +313,9 @@ where
         let Some(slot) = slot_at(&self.slots, i) else {
             return Reply::NoWindow;
         };
+        if slot.is_written() {
+            return Reply::Kind;
+        }
         if let Err(e) = slot.check_range(start, end) {
             return Reply::Range(e);
         }
@@ -299,6 +345,9 @@ where
         let Some(slot) = slot_at(&self.slots, i) else {
             return Reply::NoWindow;
         };
+        if slot.is_written() {
+            return Reply::Kind;
+        }
         let alone = slot.is_unique(&mut self.passes);
         if alone {
             return Reply::Yes;
@@ -346,6 +395,9 @@ where
         let Some(slot) = slot_at(&self.slots, i) else {
             return Reply::NoWindow;
         };
+        if slot.is_written() {
+            return Reply::Kind;
+        }
         if let Err(e) = slot.check_at(at) {
             return Reply::Range(e);
         }
@@ -375,6 +427,9 @@ where
         let Some(slot) = slot_at(&self.slots, i) else {
             return Reply::NoWindow;
         };
+        if slot.is_written() {
+            return Reply::Kind;
+        }
         if let Err(e) = slot.check_at(at) {
             return Reply::Range(e);
         }
@@ -480,6 +535,9 @@ where
         let Some(slot) = slot_at(&self.slots, i) else {
             return Reply::NoWindow;
         };
+        if slot.is_written() {
+            return Reply::Kind;
+        }
         if slot.is_on_block() {
             return Reply::Refused;
         }

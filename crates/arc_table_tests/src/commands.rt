@@ -388,3 +388,102 @@ fn memory_refused(rt: HostRuntime) -> Result<(), Fail> {
     );
     Ok(())
 }
+
+/// A table with a window that is written, if there is memory.
+fn table_of_writer<A: Allocator + Copy>(
+    rt: &impl Wait,
+    alloc: A,
+    items: &[u8],
+) -> (ByteTable<A>, TableReply<u8, A>) {
+    let mut table = Table::new(alloc);
+    let Ok(items) = Vec::from_slice(alloc, items) else {
+        return (table, Reply::Alloc);
+    };
+    let made = table.step(rt, Cmd::MSlice(items));
+    (table, made)
+}
+
+/// A window that is written is shown, counted, cut and ended.
+#[test]
+fn writer_cut(rt: HostRuntime) {
+    let (mut table, made) = table_of_writer(&rt, rt.alloc(), b"ABCD");
+    let on = table.step(&rt, Cmd::Adv { window: 0, by: 1 });
+    let short = table.step(&rt, Cmd::Trunc { window: 0, len: 2 });
+    let past = table.step(&rt, Cmd::Adv { window: 0, by: 3 });
+    let many = table.step(&rt, Cmd::Len { window: 0 });
+    let shown = table.step(&rt, Cmd::Show { window: 0 });
+    let gone = table.step(&rt, Cmd::Drop { window: 0 });
+    let none = table.step(&rt, Cmd::Show { window: 0 });
+    let _ = table.end();
+    assert!(rt; matches!(made, Reply::New(0)));
+    assert!(rt; matches!(on, Reply::Ok));
+    assert!(rt; matches!(short, Reply::Ok));
+    assert!(rt; matches!(past, Reply::Range(RangeError::OutOfRange)));
+    assert!(rt; matches!(many, Reply::Number(2)));
+    assert!(rt; has_items(&shown, b"BC"));
+    assert!(rt; matches!(gone, Reply::Ok));
+    assert!(rt; matches!(none, Reply::NoWindow));
+}
+
+/// Whether each of these is answered that it isn't for the window's role.
+fn are_of_other_role<A: Allocator + Copy>(rt: &impl Wait, table: &mut ByteTable<A>) -> bool {
+    let clone = table.step(rt, Cmd::Clone { window: 0 });
+    let sub = table.step(
+        rt,
+        Cmd::Sub {
+            window: 0,
+            start: 9,
+            end: 3,
+        },
+    );
+    let off = table.step(rt, Cmd::Off { window: 0, at: 9 });
+    let to = table.step(rt, Cmd::To { window: 0, at: 9 });
+    let alone = table.step(rt, Cmd::Uniq { window: 0 });
+    let slice = table.step(rt, Cmd::TakeStatic { window: 0 });
+    matches!(clone, Reply::Kind)
+        && matches!(sub, Reply::Kind)
+        && matches!(off, Reply::Kind)
+        && matches!(to, Reply::Kind)
+        && matches!(alone, Reply::Kind)
+        && matches!(slice, Reply::Kind)
+}
+
+/// The role is tested before the range, and also where the window stands on nothing.
+#[test]
+fn writer_of_other_role(rt: HostRuntime) {
+    let (mut table, made) = table_of_writer(&rt, rt.alloc(), b"ABCD");
+    let refused = are_of_other_role(&rt, &mut table);
+    let _ = table.end();
+    let (mut empty, idle) = table_of_writer(&rt, rt.alloc(), b"");
+    let also = are_of_other_role(&rt, &mut empty);
+    let _ = empty.end();
+    assert!(rt; matches!(made, Reply::New(0)));
+    assert!(rt; refused);
+    assert!(rt; matches!(idle, Reply::New(0)));
+    assert!(rt; also);
+}
+
+/// With more and more memory the window is refused, and then made. Refused, its number stays free.
+#[test]
+fn writer_refused(rt: HostRuntime) -> Result<(), Fail> {
+    let mut short = 0u32;
+    let mut whole = 0u32;
+    for units in 1..64usize {
+        let heap = LocalHeap::new(rt.alloc(), units * 16)?;
+        let (mut table, made) = table_of_writer(&rt, &heap, b"ABCD");
+        let many = table.step(&rt, Cmd::Len { window: 0 });
+        match made {
+            Reply::New(0) if matches!(many, Reply::Number(4)) => whole = whole.wrapping_add(1),
+            Reply::Alloc if matches!(many, Reply::NoWindow) => short = short.wrapping_add(1),
+            _ => {}
+        }
+        let _ = table.end();
+        assert_eq!(rt; heap.used(), 0, "in {units} units");
+    }
+    assert_eq!(rt; short.wrapping_add(whole), 63);
+    assert!(rt;
+        0 < short && 0 < whole,
+        "{short} were short, and {whole} whole"
+    );
+    Ok(())
+}

@@ -4,7 +4,7 @@ ghost use Rattle.std.specs.Vec.{vec_len};
 
 use super::Table;
 use crate::command::{TableCmd, TableReply};
-use arc_block::layout::Layout;
+use arc_block::layout::{Layout, LayoutMut};
 use arc_buffer::kinds::{CopySlice, Subsliceable};
 use arc_owners::error::AllocError;
 use std::alloc::Allocator;
@@ -13,6 +13,7 @@ use std::sync::Wait;
 impl<S: CopySlice + Subsliceable, L: Layout, B, M, A: Allocator + Copy> Table<S, L, B, M, A>
 where
     S::Item: Copy,
+    L::Writable: LayoutMut,
 {
     ghost use Rattle.arc_table.specs.RunOf.{RunOf};
     ghost use Rattle.arc_table.specs.Seen.{seen_command, seen_reply};

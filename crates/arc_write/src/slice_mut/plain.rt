@@ -7,7 +7,8 @@ ghost use Rattle.arc_owners.specs.declared.mark.Open.{Open};
 ghost use Rattle.arc_owners.specs.count.Calls.{Asks, Leaves};
 ghost use Rattle.arc_block.specs.Place.{at_owner, IsOnBlock};
 ghost use Rattle.arc_block.specs.Window.{parts_of};
-ghost use Rattle.arc_block.specs.Writers.{capacity_of, room, as_sole, MakesWriter, MakesRoom, Pushes};
+ghost use Rattle.arc_block.specs.Writers.{capacity_of, room, as_sole, MakesWriter, MakesRoom};
+ghost use Rattle.arc_block.specs.Writers.{Pushes};
 ghost use Rattle.arc_block.specs.Writers.{Freezes, IsWholeWriter};
 ghost use Rattle.arc_read.specs.Steps.{WithNewPass};
 

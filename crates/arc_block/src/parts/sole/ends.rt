@@ -56,10 +56,7 @@ impl<S: Slice, B, M, A: Allocator + Copy, H: Mark> SoleParts<S, B, M, A, H> {
     /// # Allocates
     ///
     /// On nothing, where the layout has no static data.
-    pub fn try_freeze_as<L: Layout>(
-        self,
-        pass: &mut Pass<H>,
-    ) -> Result<Parts<S, B, M, A, H>, Self>
+    pub fn try_freeze_as<L: Layout>(self, pass: &mut Pass<H>) -> Result<Parts<S, B, M, A, H>, Self>
         requires pass { IsPassAt self.place pass.old }
         ensures frozen { IfOk result (λ parts.
             Freezes L.STATIC S.DROPS H.whole self parts pass.old pass.new) }

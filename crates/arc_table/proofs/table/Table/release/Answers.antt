@@ -1,15 +1,19 @@
 -- The row of the window is gone, and its owner has ended.
+use Rattle.std.proofs.lemmas.Option.{slice_get_within}
 use Rattle.std.proofs.Common.{◌≡◌, Some, None, length, map, slice_get, slice_set, sym, ap, ◌∙◌}
+use Rattle.std.proofs.Common.{arith}
 use Rattle.std.proofs.Common.{subst}
 use Rattle.std.specs.Option.{option_map, option_flatten}
 use Rattle.arc_table.specs.Slots.{row_of, stand_of}
 use Rattle.arc_table.specs.State.{State}
 use Rattle.arc_table.specs.Step.{Setting, setting_of}
+use Rattle.arc_table.specs.Step.{Step}
 use Rattle.arc_table.specs.declared.command.Cmd.TheVariants as command
 use Rattle.arc_table.specs.declared.command.Reply.TheVariants as reply
 use Rattle.arc_table.proofs.Lists.{read-there}
 use Rattle.arc_table.proofs.Kept.{known-pass, many-along, Ended}
 use Rattle.arc_table.proofs.Tables.{stand-there, none-there, map-slice_set}
+use Rattle.arc_table.proofs.Tables.{unanswered}
 use Rattle.arc_table.proofs.Done.{Done, dropped}
 use Rattle.arc_table.proofs.table.Table.release.Given.{Over}
 use Rattle.arc_table.proofs.table.Table.release.Goals.{After-release}
@@ -94,3 +98,22 @@ returns-clause-blocks g c =
     subst (λ (o : State g.row.S-Item.Denot g.row.M.Denot). length after ≡ o.table.blocks)
     c.self.view_is
     (many-along i c.self.invariant.0 after (stand_of (Some s)) Ended c.release.ensures)
+
+pub returns-in_default-clause-rows : goal.returns-in_default-clause-rows
+returns-in_default-clause-rows g c =
+    let slots = c.self.inside.slots.items in
+    let passes = c.self.inside.passes.of_blocks.items in
+    let none =
+    ap (λ ss. option_flatten (slice_get ss c.args.i)) (sym c.deref.ensures.value)
+    ∙ c.in_default.ensures in
+    subst (λ (o : State g.row.S-Item.Denot g.row.M.Denot).
+    Step (setting g) o.table (command.Drop c.args.i) reply.NoWindow o.table) c.self.view_is
+    (unanswered slots passes c.args.i (command.Drop c.args.i) _ none)
+
+pub index_mut-requires : goal.index_mut-requires
+index_mut-requires g c =
+    let slots = c.self.inside.slots.items in
+    let got = ap (λ ss. slice_get ss c.args.i) (sym c.deref.ensures.value) ∙ c.in-Some.ensures in
+    let within = slice_get_within slots c.args.i (Some c.in-Some.field-0.now) got in
+    let long = c.self.inside.slots.ok.0 in
+    omega (arith, within, long)

@@ -30,7 +30,7 @@ invariant_of-self-then-stands_on_nothing g c =
           passes passes' c.self.invariant.0 refl room.ensures.items,
       founded-agrees slots slots' _
           (behind slots _ c.push_reserved.ensures.items c.reserve.ensures.items) (setting g) passes
-          passes' _ c.in-Ok.ensures.ok true
+          passes' _ c.in-Ok.ensures.ok refl true
           (ap (λ n. g.L.Layout.STATIC && (n == 0)) (c.deref.ensures.len ∙ sym c.len.ensures)
           ∙ sym c.stands_on_nothing.ensures ∙ c.if-stands_on_nothing.true)
           refl (ap length room.ensures.items) c.self.invariant.1,
@@ -54,7 +54,7 @@ invariant_of-self-2 g c =
           (behind passes _ c.push_reserved-2.ensures.items room.ensures.items),
       founded-agrees slots slots' _
           (behind slots _ c.push_reserved-3.ensures.items c.reserve.ensures.items) (setting g)
-          passes passes' _ c.in-Ok.ensures.ok false
+          passes passes' _ c.in-Ok.ensures.ok refl false
           (ap (λ n. g.L.Layout.STATIC && (n == 0)) (c.deref.ensures.len ∙ sym c.len.ensures)
           ∙ sym c.stands_on_nothing.ensures ∙ c.if-stands_on_nothing.false)
           (ap Some (c.len-2.ensures ∙ room.new.self.ok.0 ∙ ap length room.ensures.items))
@@ -104,5 +104,10 @@ push_reserved-requires-2 g c =
 
 pub push_reserved-requires-3 : goal.push_reserved-requires-3
 push_reserved-requires-3 g c =
+    let room = no_error c.reserve.result (sym c.if-is_err.ensures.value) c.reserve.ensures.ok in
+    omega (arith, room)
+
+pub push_reserved-requires : goal.push_reserved-requires
+push_reserved-requires g c =
     let room = no_error c.reserve.result (sym c.if-is_err.ensures.value) c.reserve.ensures.ok in
     omega (arith, room)

@@ -1,5 +1,6 @@
 -- One part has the owner of the window, and the other was made beside it, or on nothing; or the
 -- block has as many owners as it may have, or the layout wanted memory.
+use Rattle.std.specs.Option.{option_flatten}
 use Rattle.std.proofs.Common.{inl, inr, ◌≡◌, ◌==◌, [], ◌∷◌, ◌++◌, length, Some, Ok}
 use Rattle.std.proofs.Common.{slice_get, slice_set, refl, sym, ap, ◌∙◌, subst, arith}
 use Rattle.std.proofs.lemmas.Bool.{cases_eq, eq-eqb, ne_eqb}
@@ -14,6 +15,7 @@ use Rattle.arc_table.proofs.Lists.{read-there, same_entry, no_error}
 use Rattle.arc_table.proofs.Taken.{set-back}
 use Rattle.arc_table.proofs.Kept.{known-pass}
 use Rattle.arc_table.proofs.Tables.{stand-there}
+use Rattle.arc_table.proofs.Tables.{unanswered, no-writer, out-of-range, reads-for}
 use Rattle.arc_table.proofs.Rows.{alloc-step, off-answers}
 use Rattle.arc_table.proofs.Done.{Done, handed-out, part-out, unmade}
 use Rattle.arc_table.proofs.table.Table.split_off.Given.{Over}
@@ -40,6 +42,9 @@ made g c =
     let there_read = at ∙ ap Some c.in-Some-index_mut.is in
     let there = ap (λ ss. slice_get ss i) (sym c.reserve.ensures.items) ∙ there_read in
     let one = same_entry slots i c.in-Some.slot.now s first there in
+    let reads =
+    ap (λ (v : SlotView g.row.S-Item.Denot g.row.M.Denot). v.capacity) (sym one)
+    ∙ c.is_written.ensures.reads c.if-is_written.false in
     let may : edge_answer (setting g).boundary s.window.items c.args.at ≡ Ok tt =
     ap (λ (v : SlotView g.row.S-Item.Denot g.row.M.Denot).
     edge_answer (setting g).boundary v.window.items c.args.at) (sym one)
@@ -54,7 +59,7 @@ made g c =
     ∙ ap (λ ss. slice_set ss i (Some kept) ++ Some handed ∷ []) c.reserve.ensures.items in
     let counted : number ≡ length slots =
     c.len-number.ensures ∙ c.reserve.new.self.ok.0 ∙ ap length c.reserve.ensures.items in
-    let answers = off-answers (setting g) slots passes i s there c.args.at may in
+    let answers = off-answers (setting g) slots passes i s there c.args.at may reads in
     let cut = cut_row (row_of s) 0 c.args.at in
     let part = off_part (setting g) (row_of s) c.args.at in
     subst (λ (o : State g.row.S-Item.Denot g.row.M.Denot).
@@ -87,6 +92,9 @@ refused g c =
     let there_read = at ∙ ap Some c.in-Some-index_mut.is in
     let there = ap (λ ss. slice_get ss i) (sym c.reserve.ensures.items) ∙ there_read in
     let one = same_entry slots i c.in-Some.slot.now s first there in
+    let reads =
+    ap (λ (v : SlotView g.row.S-Item.Denot g.row.M.Denot). v.capacity) (sym one)
+    ∙ c.is_written.ensures.reads c.if-is_written.false in
     let may : edge_answer (setting g).boundary s.window.items c.args.at ≡ Ok tt =
     ap (λ (v : SlotView g.row.S-Item.Denot g.row.M.Denot).
     edge_answer (setting g).boundary v.window.items c.args.at) (sym one)
@@ -103,7 +111,7 @@ refused g c =
     Done (setting g) o (command.Off i c.args.at) (reply.Owner e) slots' after) c.self.view_is
     (unmade (setting g) slots passes i s there c.self.invariant (command.Off i c.args.at) slots'
     after part (split_rows (state_of slots passes).table i (c.args.at == 0) (row_of s) cut part)
-    (off-answers (setting g) slots passes i s there c.args.at may) (λ f adds. adds) e
+    (off-answers (setting g) slots passes i s there c.args.at may reads) (λ f adds. adds) e
     c.in-Err-try_split_off.ensures.refused same)
 
 pub returns-then-is_err-clause-rows : goal.returns-then-is_err-clause-rows
@@ -119,7 +127,7 @@ returns-then-is_err-clause-rows g c =
     c.self.view_is
     (alloc-step (setting g) slots passes (command.Off i c.args.at) c.reserve.new.self.items
     (off-answers (setting g) slots passes i s first c.args.at
-    (sym c.in_default-check_at.ensures.answer)
+    (sym c.in_default-check_at.ensures.answer) (c.is_written.ensures.reads c.if-is_written.false)
     of_table) c.reserve.ensures.items)
 
 pub index_mut-requires : goal.index_mut-requires
@@ -207,3 +215,56 @@ pub push_reserved-requires : goal.push_reserved-requires
 push_reserved-requires g c =
     let room = no_error c.reserve.result (sym c.if-is_err.ensures.value) c.reserve.ensures.ok in
     omega (arith, room)
+
+pub returns-in_default-clause-rows : goal.returns-in_default-clause-rows
+returns-in_default-clause-rows g c =
+    let slots = c.self.inside.slots.items in
+    let passes = c.self.inside.passes.of_blocks.items in
+    let none =
+    ap (λ ss. option_flatten (slice_get ss c.args.i)) (sym c.deref.ensures.value)
+    ∙ c.in_default.ensures in
+    subst (λ (o : State g.row.S-Item.Denot g.row.M.Denot).
+    Step (setting g) o.table (command.Off c.args.i c.args.at) reply.NoWindow o.table) c.self.view_is
+    (unanswered slots passes c.args.i (command.Off c.args.i c.args.at) _ none)
+
+pub returns-then-is_written-clause-rows : goal.returns-then-is_written-clause-rows
+returns-then-is_written-clause-rows g c =
+    let slots = c.self.inside.slots.items in
+    let passes = c.self.inside.passes.of_blocks.items in
+    let there =
+    ap (λ ss. slice_get ss c.args.i) (sym c.deref.ensures.value) ∙ c.in-Some.ensures in
+    subst (λ (o : State g.row.S-Item.Denot g.row.M.Denot).
+    Step (setting g) o.table (command.Off c.args.i c.args.at) reply.Kind o.table) c.self.view_is
+    (no-writer slots passes c.args.i c.in-Some.slot.now there
+    (sym c.is_written.ensures.answer ∙ c.if-is_written.true) (command.Off c.args.i c.args.at)
+    (λ places. refl) _)
+
+pub returns-in-Err-clause-rows : goal.returns-in-Err-clause-rows
+returns-in-Err-clause-rows g c =
+    let slots = c.self.inside.slots.items in
+    let passes = c.self.inside.passes.of_blocks.items in
+    let s = c.in-Some.slot.now in
+    let there =
+    ap (λ ss. slice_get ss c.args.i) (sym c.deref.ensures.value) ∙ c.in-Some.ensures in
+    subst (λ (o : State g.row.S-Item.Denot g.row.M.Denot).
+    Step (setting g) o.table (command.Off c.args.i c.args.at) (reply.Range c.in-Err.e) o.table) c.self.view_is
+    (out-of-range slots passes c.args.i s there (command.Off c.args.i c.args.at)
+    (reads-for slots passes s (c.is_written.ensures.reads c.if-is_written.false)
+    (command.Off c.args.i c.args.at) refl)
+    (λ row. edge_answer (setting g).boundary row.items c.args.at) _ c.in-Err.e
+    (sym c.in-Err.ensures.answer))
+
+pub try_split_off-requires-clause-reads : goal.try_split_off-requires-clause-reads
+try_split_off-requires-clause-reads g c κs within =
+    let slots = c.self.inside.slots.items in
+    let i = c.args.i in
+    let first = ap (λ ss. slice_get ss i) (sym c.deref.ensures.value) ∙ c.in-Some.ensures in
+    let read = c.reserve.new.self.items in
+    let again = ap (λ ss. slice_get ss i) c.reserve.ensures.items ∙ first in
+    let at = read-there read i c.index_mut.result.now _ again c.index_mut.ensures.value in
+    let s = c.in-Some-index_mut.slot in
+    let there_read = at ∙ ap Some c.in-Some-index_mut.is in
+    let there = ap (λ ss. slice_get ss i) (sym c.reserve.ensures.items) ∙ there_read in
+    ap (λ (v : SlotView g.row.S-Item.Denot g.row.M.Denot). v.capacity)
+    (sym (same_entry slots i c.in-Some.slot.now s first there))
+    ∙ c.is_written.ensures.reads c.if-is_written.false

@@ -4,6 +4,7 @@ use Rattle.std.proofs.Common.{inl, inr, ◌≡◌, ℕ, ◌==◌, false, [], ◌
 use Rattle.std.proofs.Common.{Ok}
 use Rattle.std.proofs.Common.{slice_get, slice_set, refl, sym, ap, ◌∙◌, subst, arith}
 use Rattle.std.specs.Option.{option_map_or}
+use Rattle.std.specs.Option.{option_flatten}
 use Rattle.std.proofs.lemmas.Bool.{cases_eq, eq-eqb, ne_eqb}
 use Rattle.std.proofs.lemmas.Option.{none-some, same_Some, slice_get_within}
 use Rattle.arc_buffer.specs.Slice.{IsEdge, edge_answer}
@@ -18,6 +19,7 @@ use Rattle.arc_table.proofs.Lists.{read-there, same_entry, no_error}
 use Rattle.arc_table.proofs.Taken.{set-back}
 use Rattle.arc_table.proofs.Kept.{known-pass}
 use Rattle.arc_table.proofs.Tables.{row-there, stand-there}
+use Rattle.arc_table.proofs.Tables.{unanswered, no-writer, out-of-range, reads-for}
 use Rattle.arc_table.proofs.Rows.{alloc-step, to-answers}
 use Rattle.arc_table.proofs.Done.{Done, handed-out, part-out, unmade}
 use Rattle.arc_table.proofs.table.Table.split_to.Given.{Over}
@@ -48,6 +50,9 @@ made g c =
     subst (λ (v : SlotView g.row.S-Item.Denot g.row.M.Denot).
     IsEdge g.S.Subsliceable.boundary v.window.items c.args.at) one
     (c.in_default-check_at.ensures.ok.0 refl) in
+    let reads =
+    ap (λ (v : SlotView g.row.S-Item.Denot g.row.M.Denot). v.capacity) (sym one)
+    ∙ c.is_written.ensures.reads c.if-is_written.false in
     let may : edge_answer (setting g).boundary s.window.items c.args.at ≡ Ok tt =
     ap (λ (v : SlotView g.row.S-Item.Denot g.row.M.Denot).
     edge_answer (setting g).boundary v.window.items c.args.at) (sym one)
@@ -69,7 +74,7 @@ made g c =
     (sym (ap (λ (r : Option (Row g.row.S-Item.Denot g.row.M.Denot)).
     option_map_or (λ row. c.args.at == length row.items) r false)
     (row-there slots passes i s there))) joins in
-    let answers = to-answers (setting g) slots passes i s there c.args.at may in
+    let answers = to-answers (setting g) slots passes i s there c.args.at may reads in
     let cut = cut_row (row_of s) c.args.at (length s.window.items) in
     let part = to_part (setting g) (row_of s) c.args.at in
     subst (λ (o : State g.row.S-Item.Denot g.row.M.Denot).
@@ -103,6 +108,9 @@ refused g c =
     let there_read = at ∙ ap Some c.in-Some-index_mut.is in
     let there = ap (λ ss. slice_get ss i) (sym c.reserve.ensures.items) ∙ there_read in
     let one = same_entry slots i c.in-Some.slot.now s first there in
+    let reads =
+    ap (λ (v : SlotView g.row.S-Item.Denot g.row.M.Denot). v.capacity) (sym one)
+    ∙ c.is_written.ensures.reads c.if-is_written.false in
     let may : edge_answer (setting g).boundary s.window.items c.args.at ≡ Ok tt =
     ap (λ (v : SlotView g.row.S-Item.Denot g.row.M.Denot).
     edge_answer (setting g).boundary v.window.items c.args.at) (sym one)
@@ -120,7 +128,7 @@ refused g c =
     (unmade (setting g) slots passes i s there c.self.invariant (command.To i c.args.at) slots'
     after part (split_rows (state_of slots passes).table i
     (c.args.at == length s.window.items) (row_of s) cut part)
-    (to-answers (setting g) slots passes i s there c.args.at may) (λ f adds. adds) e
+    (to-answers (setting g) slots passes i s there c.args.at may reads) (λ f adds. adds) e
     c.in-Err-try_split_to.ensures.refused same)
 
 pub returns-then-is_err-clause-rows : goal.returns-then-is_err-clause-rows
@@ -136,7 +144,7 @@ returns-then-is_err-clause-rows g c =
     c.self.view_is
     (alloc-step (setting g) slots passes (command.To i c.args.at) c.reserve.new.self.items
     (to-answers (setting g) slots passes i s first c.args.at
-    (sym c.in_default-check_at.ensures.answer)
+    (sym c.in_default-check_at.ensures.answer) (c.is_written.ensures.reads c.if-is_written.false)
     of_table) c.reserve.ensures.items)
 
 pub index_mut-requires : goal.index_mut-requires
@@ -224,3 +232,56 @@ pub push_reserved-requires : goal.push_reserved-requires
 push_reserved-requires g c =
     let room = no_error c.reserve.result (sym c.if-is_err.ensures.value) c.reserve.ensures.ok in
     omega (arith, room)
+
+pub returns-in_default-clause-rows : goal.returns-in_default-clause-rows
+returns-in_default-clause-rows g c =
+    let slots = c.self.inside.slots.items in
+    let passes = c.self.inside.passes.of_blocks.items in
+    let none =
+    ap (λ ss. option_flatten (slice_get ss c.args.i)) (sym c.deref.ensures.value)
+    ∙ c.in_default.ensures in
+    subst (λ (o : State g.row.S-Item.Denot g.row.M.Denot).
+    Step (setting g) o.table (command.To c.args.i c.args.at) reply.NoWindow o.table) c.self.view_is
+    (unanswered slots passes c.args.i (command.To c.args.i c.args.at) _ none)
+
+pub returns-then-is_written-clause-rows : goal.returns-then-is_written-clause-rows
+returns-then-is_written-clause-rows g c =
+    let slots = c.self.inside.slots.items in
+    let passes = c.self.inside.passes.of_blocks.items in
+    let there =
+    ap (λ ss. slice_get ss c.args.i) (sym c.deref.ensures.value) ∙ c.in-Some.ensures in
+    subst (λ (o : State g.row.S-Item.Denot g.row.M.Denot).
+    Step (setting g) o.table (command.To c.args.i c.args.at) reply.Kind o.table) c.self.view_is
+    (no-writer slots passes c.args.i c.in-Some.slot.now there
+    (sym c.is_written.ensures.answer ∙ c.if-is_written.true) (command.To c.args.i c.args.at)
+    (λ places. refl) _)
+
+pub returns-in-Err-clause-rows : goal.returns-in-Err-clause-rows
+returns-in-Err-clause-rows g c =
+    let slots = c.self.inside.slots.items in
+    let passes = c.self.inside.passes.of_blocks.items in
+    let s = c.in-Some.slot.now in
+    let there =
+    ap (λ ss. slice_get ss c.args.i) (sym c.deref.ensures.value) ∙ c.in-Some.ensures in
+    subst (λ (o : State g.row.S-Item.Denot g.row.M.Denot).
+    Step (setting g) o.table (command.To c.args.i c.args.at) (reply.Range c.in-Err.e) o.table) c.self.view_is
+    (out-of-range slots passes c.args.i s there (command.To c.args.i c.args.at)
+    (reads-for slots passes s (c.is_written.ensures.reads c.if-is_written.false)
+    (command.To c.args.i c.args.at) refl)
+    (λ row. edge_answer (setting g).boundary row.items c.args.at) _ c.in-Err.e
+    (sym c.in-Err.ensures.answer))
+
+pub try_split_to-requires-clause-reads : goal.try_split_to-requires-clause-reads
+try_split_to-requires-clause-reads g c κs within =
+    let slots = c.self.inside.slots.items in
+    let i = c.args.i in
+    let first = ap (λ ss. slice_get ss i) (sym c.deref.ensures.value) ∙ c.in-Some.ensures in
+    let read = c.reserve.new.self.items in
+    let again = ap (λ ss. slice_get ss i) c.reserve.ensures.items ∙ first in
+    let at = read-there read i c.index_mut.result.now _ again c.index_mut.ensures.value in
+    let s = c.in-Some-index_mut.slot in
+    let there_read = at ∙ ap Some c.in-Some-index_mut.is in
+    let there = ap (λ ss. slice_get ss i) (sym c.reserve.ensures.items) ∙ there_read in
+    ap (λ (v : SlotView g.row.S-Item.Denot g.row.M.Denot). v.capacity)
+    (sym (same_entry slots i c.in-Some.slot.now s first there))
+    ∙ c.is_written.ensures.reads c.if-is_written.false

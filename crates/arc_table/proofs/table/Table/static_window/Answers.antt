@@ -1,7 +1,7 @@
 -- The window stands on no block, so no block's owners change.
-use Rattle.std.proofs.Common.{◌≡◌, ◌∷◌, ◌++◌, [], Some, true, refl, ap, ◌∙◌}
+use Rattle.std.proofs.Common.{◌≡◌, ◌∷◌, ◌++◌, [], Some, true, refl, sym, ap, ◌∙◌, arith}
 use Rattle.arc_table.specs.Step.{Setting, setting_of}
-use Rattle.arc_table.proofs.Lists.{behind}
+use Rattle.arc_table.proofs.Lists.{behind, no_error}
 use Rattle.arc_table.proofs.Statics.{statics}
 use Rattle.arc_table.proofs.table.Table.static_window.Goals as goal
 
@@ -15,3 +15,8 @@ invariant_of-self-2 g c =
     c.push_reserved.new.self.items has
     (behind slots _ c.push_reserved.ensures.items c.reserve.ensures.items
     ∙ ap (λ s. slots ++ Some s ∷ []) c.on_static.ensures) refl).kept
+
+pub push_reserved-requires : goal.push_reserved-requires
+push_reserved-requires g c =
+    let room = no_error c.reserve.result (sym c.if-is_err.ensures.value) c.reserve.ensures.ok in
+    omega (arith, room)

@@ -1,18 +1,25 @@
 -- The row has become the part, and no window stands elsewhere.
-use Rattle.std.proofs.Common.{◌≡◌, true, Some, Ok, length, slice_get, slice_set, sym, ap, ◌∙◌}
+use Rattle.std.proofs.lemmas.Option.{none-some, same_Some, slice_get_within}
+use Rattle.arc_table.proofs.Tables.{unanswered}
+use Rattle.std.specs.Option.{option_flatten}
+use Rattle.std.proofs.Common.{◌≡◌, true, false, Some, Ok, length, slice_get, slice_set, sym, ap, ◌∙◌}
+use Rattle.std.proofs.Common.{refl, ◌<◌}
 use Rattle.std.proofs.Common.{subst}
 use Rattle.std.proofs.Common.{arith}
-use Rattle.std.specs.Prelude.{nat_lt, take}
-use Rattle.std.proofs.lemmas.Bool.{lt-ltb}
+use Rattle.std.specs.Prelude.{nat_lt}
+use Rattle.std.proofs.lemmas.Bool.{lt-ltb, le-ltb}
 use Rattle.arc_buffer.specs.Slice.{edge_answer}
+use Rattle.arc_buffer.specs.Slice.{IsEdge}
 use Rattle.arc_block.specs.Table.{Row}
 use Rattle.arc_table.specs.Slots.{SlotView, row_of}
 use Rattle.arc_table.specs.State.{State}
-use Rattle.arc_table.specs.Step.{Setting, setting_of}
+use Rattle.arc_table.specs.Step.{Setting, setting_of, truncated}
+use Rattle.arc_table.specs.Step.{Step}
 use Rattle.arc_table.specs.declared.command.Cmd.TheVariants as command
 use Rattle.arc_table.specs.declared.command.Reply.TheVariants as reply
 use Rattle.arc_table.proofs.Lists.{read-there, same_entry}
 use Rattle.arc_table.proofs.Rows.{trunc-answers}
+use Rattle.arc_table.proofs.Rows.{trunc-out-of-range, trunc-longer}
 use Rattle.arc_table.proofs.Done.{Done, become}
 use Rattle.arc_table.proofs.table.Table.truncate.Given.{Over}
 use Rattle.arc_table.proofs.table.Table.truncate.Goals.{After-truncate}
@@ -48,7 +55,7 @@ did g c =
     (omega (arith, c.len.ensures, c.if-len.false)) in
     let r : Row g.row.S-Item.Denot g.row.M.Denot = row_of s in
     let part : Row g.row.S-Item.Denot g.row.M.Denot =
-    record r { items = take c.args.len r.items } in
+    truncated g.S.Slice.DROPS r c.args.len in
     subst (λ (o : State g.row.S-Item.Denot g.row.M.Denot).
     Done (setting g) o (command.Trunc i c.args.len) reply.Ok (slice_set slots i (Some s')) passes)
     c.self.view_is
@@ -64,3 +71,86 @@ returns-clause-rows g c = (did g (goal.at.returns-clause-rows g c).After-truncat
 
 pub returns-clause-passes : goal.returns-clause-passes
 returns-clause-passes g c = (did g (goal.at.returns-clause-passes g c).After-truncate).passes_are
+
+pub returns-in_default-clause-rows : goal.returns-in_default-clause-rows
+returns-in_default-clause-rows g c =
+    let slots = c.self.inside.slots.items in
+    let passes = c.self.inside.passes.of_blocks.items in
+    let none =
+    ap (λ ss. option_flatten (slice_get ss c.args.i)) (sym c.deref.ensures.value)
+    ∙ c.in_default.ensures in
+    subst (λ (o : State g.row.S-Item.Denot g.row.M.Denot).
+    Step (setting g) o.table (command.Trunc c.args.i c.args.len) reply.NoWindow o.table) c.self.view_is
+    (unanswered slots passes c.args.i (command.Trunc c.args.i c.args.len) _ none)
+
+pub returns-in-Err-clause-rows : goal.returns-in-Err-clause-rows
+returns-in-Err-clause-rows g c =
+    let slots = c.self.inside.slots.items in
+    let passes = c.self.inside.passes.of_blocks.items in
+    let i = c.args.i in
+    let s = c.in-Some.slot.now in
+    let there = ap (λ ss. slice_get ss i) (sym c.deref.ensures.value) ∙ c.in-Some.ensures in
+    let short : nat_lt c.args.len (length s.window.items) ≡ true =
+    lt-ltb c.args.len (length s.window.items) (omega (arith, c.len.ensures, c.if-len.false)) in
+    subst (λ (o : State g.row.S-Item.Denot g.row.M.Denot).
+    Step (setting g) o.table (command.Trunc i c.args.len) (reply.Range c.in-Err.e) o.table)
+    c.self.view_is
+    (trunc-out-of-range (setting g) slots passes i s there c.args.len c.in-Err.e short
+    (sym c.in-Err.ensures.answer))
+
+pub index_mut-requires : goal.index_mut-requires
+index_mut-requires g c =
+    let slots = c.self.inside.slots.items in
+    let got = ap (λ ss. slice_get ss c.args.i) (sym c.deref.ensures.value) ∙ c.in-Some.ensures in
+    let within = slice_get_within slots c.args.i (Some c.in-Some.slot.now) got in
+    let long = c.self.inside.slots.ok.0 in
+    omega (arith, within, long)
+
+pub unreachable-requires : goal.unreachable-requires
+unreachable-requires g c =
+    let slots = c.self.inside.slots.items in
+    let i = c.args.i in
+    let s = c.in-Some.slot.now in
+    let got = ap (λ ss. slice_get ss i) (sym c.deref.ensures.value) ∙ c.in-Some.ensures in
+    let at = read-there slots i c.index_mut.result.now _ got c.index_mut.ensures.value in
+    none-some s (sym c.in_default-index_mut.is
+    ∙ same_Some c.index_mut.result.now (Some s) (sym at ∙ got))
+
+pub truncate-requires-clause-at : goal.truncate-requires-clause-at
+truncate-requires-clause-at g c κs within =
+    let slots = c.self.inside.slots.items in
+    let i = c.args.i in
+    let s = c.in-Some-index_mut.slot in
+    let got = ap (λ ss. slice_get ss i) (sym c.deref.ensures.value) ∙ c.in-Some.ensures in
+    let there =
+    read-there slots i c.index_mut.result.now _ got c.index_mut.ensures.value
+    ∙ ap Some c.in-Some-index_mut.is in
+    subst (λ (v : SlotView g.row.S-Item.Denot g.row.M.Denot).
+    IsEdge g.S.Subsliceable.boundary v.window.items c.args.len)
+    (same_entry slots i c.in-Some.slot.now s got there) (c.in_default-check_at.ensures.ok.0 refl)
+
+pub truncate-requires-clause-shorter : goal.truncate-requires-clause-shorter
+truncate-requires-clause-shorter g c κs within =
+    let slots = c.self.inside.slots.items in
+    let i = c.args.i in
+    let s = c.in-Some-index_mut.slot in
+    let got = ap (λ ss. slice_get ss i) (sym c.deref.ensures.value) ∙ c.in-Some.ensures in
+    let there =
+    read-there slots i c.index_mut.result.now _ got c.index_mut.ensures.value
+    ∙ ap Some c.in-Some-index_mut.is in
+    subst (λ (v : SlotView g.row.S-Item.Denot g.row.M.Denot).
+    c.args.len < length v.window.items) (same_entry slots i c.in-Some.slot.now s got there)
+    (omega (arith, c.len.ensures, c.if-len.false))
+
+pub returns-then-len-clause-rows : goal.returns-then-len-clause-rows
+returns-then-len-clause-rows g c =
+    let slots = c.self.inside.slots.items in
+    let passes = c.self.inside.passes.of_blocks.items in
+    let i = c.args.i in
+    let s = c.in-Some.slot.now in
+    let there = ap (λ ss. slice_get ss i) (sym c.deref.ensures.value) ∙ c.in-Some.ensures in
+    let long : nat_lt c.args.len (length s.window.items) ≡ false =
+    le-ltb c.args.len (length s.window.items) (omega (arith, c.len.ensures, c.if-len.true)) in
+    subst (λ (o : State g.row.S-Item.Denot g.row.M.Denot).
+    Step (setting g) o.table (command.Trunc i c.args.len) reply.Ok o.table) c.self.view_is
+    (trunc-longer (setting g) slots passes i s there c.args.len long)

@@ -1,0 +1,49 @@
+-- A window of either role is shown, and it takes no memory.
+use Rattle.std.proofs.Common.{slice_get, refl, sym, ap, ◌∙◌, subst}
+use Rattle.std.specs.Option.{option_flatten}
+use Rattle.arc_table.specs.State.{State, state_of}
+use Rattle.arc_table.specs.Step.{Setting, Step, no_shortage, setting_of}
+use Rattle.arc_table.specs.declared.command.Cmd.TheVariants as command
+use Rattle.arc_table.specs.declared.command.Reply.TheVariants as reply
+use Rattle.arc_table.proofs.Rows.{show-answers}
+use Rattle.arc_table.proofs.Tables.{unanswered}
+use Rattle.arc_table.proofs.table.Table.show_in_place.Given.{Over}
+use Rattle.arc_table.proofs.table.Table.show_in_place.Goals as goal
+
+abbrev setting : (g : Over) → Setting g.row.S-Item.Denot
+setting g =
+    setting_of g.L.Layout.STATIC g.L.Layout.clone_wants g.S.Slice.DROPS g.S.Subsliceable.boundary
+
+pub returns-in-Some-clause-carried : goal.returns-in-Some-clause-carried
+returns-in-Some-clause-carried g c =
+    let slots = c.self.inside.slots.items in
+    let passes = c.self.inside.passes.of_blocks.items in
+    let i = c.args.i in
+    let there = ap (λ ss. slice_get ss i) (sym c.deref.ensures.value) ∙ c.in-Some.ensures in
+    let t = (state_of slots passes).table in
+    record {
+      rows =
+          subst (λ (o : State g.row.S-Item.Denot g.row.M.Denot).
+          Step (setting g) o.table (command.Show i) (reply.Items c.as_slice.result.now) o.table)
+          c.self.view_is
+          (show-answers (setting g) slots passes i c.in-Some.slot.now there no_shortage
+          ∙ ap (λ xs. (reply.Items xs, t)) (sym c.as_slice.ensures));
+      passes = refl;
+      agree = c.agree.ensures.stands;
+    }
+
+pub returns-in-None-clause-carried : goal.returns-in-None-clause-carried
+returns-in-None-clause-carried g c =
+    let slots = c.self.inside.slots.items in
+    let passes = c.self.inside.passes.of_blocks.items in
+    let none =
+    ap (λ ss. option_flatten (slice_get ss c.args.i)) (sym c.deref.ensures.value)
+    ∙ c.in-None.ensures in
+    record {
+      rows =
+          subst (λ (o : State g.row.S-Item.Denot g.row.M.Denot).
+          Step (setting g) o.table (command.Show c.args.i) reply.NoWindow o.table) c.self.view_is
+          (unanswered slots passes c.args.i (command.Show c.args.i) _ none);
+      passes = refl;
+      agree = c.agree.ensures.stands;
+    }
