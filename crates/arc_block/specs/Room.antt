@@ -15,8 +15,8 @@ abbrev pub ends_full : {M : Type 0} → BlockInfo M → ℕ → Bool
 ends_full info end = option_map_or (λ full. end == full) info.full true
 
 -- A block of so many places grows so that it has those that are needed: to twice its size, or to
--- what is needed, where that is more or where twice the size is no number of 64 bits. No block has
--- 2^63 places, or bytes.
+-- what is needed, where that is more or where twice the size is no number of 64 bits. No block
+-- grows to 2^63 places, or bytes.
 abbrev pub growth : (item_size size needed : ℕ) → Room
 growth item_size size needed =
     let places = if nat_lt (2 * size) (2 ^ 64) then max (2 * size) needed else needed in

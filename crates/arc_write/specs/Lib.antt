@@ -1,2 +1,3 @@
 pub mod Extend
 pub mod Lends
+pub mod Splits

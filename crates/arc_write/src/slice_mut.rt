@@ -17,9 +17,10 @@ use std::marker::{Model, PhantomData};
 /// `UNIQUE` is 1: the window is its block's only owner. `B` is the type of callers' buffers and
 /// `M` that of their metadata. No window is made of a buffer yet.
 ///
-/// Each call that makes a block, writes to it or leaves it has a form that ends in `_as` and takes
-/// a pass of the block, in which contracts read what was added to the block's history; a window
-/// that stands on no block has a pass of none. The plain form is that form with a new pass.
+/// Each call that makes a block, makes room in it or leaves it has a form that ends in `_as` and
+/// takes a pass of the block, in which contracts read what was added to the block's history; a
+/// window that stands on no block has a pass of none. The plain form is that form with a new pass.
+/// What goes item by item (`try_extend`, `try_from_iter`) has the plain form alone.
 /// Dropped, a window under the mark `Open` ends with a new pass, and one under `Whole` is a
 /// forgotten owner of its block.
 pub struct ArcSliceMut<

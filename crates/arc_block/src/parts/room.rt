@@ -25,7 +25,7 @@ pub enum Room {
     Refused(TryReserveError),
 }
 
-/// The greatest number of places that a block may have, and of bytes.
+/// The greatest number of places to which a block grows, and of bytes.
 pub const MOST: usize = 9223372036854775807;
 
 /// Room by growth of a block of `size` places, so that it has `needed` places.

@@ -344,10 +344,11 @@ impl<S: Slice, B, M, A: Allocator + Copy, H: Mark> SoleParts<S, B, M, A, H> {
     ///
     /// # Errors
     ///
+    /// Where the window hasn't the places already, in this order:
+    ///
     /// - `Unsupported` where items that are dropped one by one end before the block's full places.
-    /// - `CapacityOverflow` where more than 2^63 - 1 places are needed, or the new size in bytes
-    ///   passes that.
-    /// - `AllocError` where memory is refused for a first block, or for a larger one.
+    /// - `CapacityOverflow` where a block would have to grow to more than 2^63 - 1 places or bytes.
+    /// - `AllocError` where memory is refused for a larger block, or for a first one of any size.
     ///
     /// Everything is then as before.
     ///

@@ -1,6 +1,7 @@
 //! Owners of a write window's block, and ends of the window.
 ghost use Rattle.std.specs.Prelude.{◌≡◌, true, IfOk, IfErr};
 ghost use Rattle.arc_owners.specs.count.Calls.{Leaves, Learns, IsNewPass, IsPassOfNone};
+ghost use Rattle.arc_owners.specs.count.Calls.{SeesAlone};
 ghost use Rattle.arc_block.specs.Place.{at_owner};
 ghost use Rattle.arc_block.specs.Steps.{IsPassAt};
 ghost use Rattle.arc_block.specs.Writers.{IsWholeWriter};
@@ -61,6 +62,16 @@ impl<S: Slice, L: LayoutMut, B, M, A: Allocator + Copy, H: Mark> ArcSliceMut<S, 
             Ok(array) => Ok(array),
             Err(parts) => Err(Self::from_parts(parts)),
         }
+    }
+
+    /// Shows a pass the block's whole history so far, in which no other owner than this window
+    /// lives. It adds nothing.
+    pub fn only(&self, pass: &mut Pass<H>)
+        requires pass { IsPassAt self.now.place pass.old }
+        ensures { at_owner self.now.place (pass.new ≡ pass.old) (λ o.
+            SeesAlone o pass.old pass.new) }
+    {
+        self.parts.only(pass);
     }
 
     /// Afterwards the first pass has seen at least what the other had. It adds nothing.

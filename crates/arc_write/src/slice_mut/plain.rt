@@ -171,7 +171,8 @@ impl<S: Slice, L: LayoutMut, B, M, A: Allocator + Copy, H: Stepping> ArcSliceMut
         ensures taken { IfOk result (λ array. IsWholeWriter N self × (array ≡ self.items)) }
         ensures entry { IfOk result (λ _. WithNewPass {H = H} H.real self.place (λ first last.
             at_owner self.place (last ≡ first) (λ o. Leaves o first last true))) }
-        ensures refused { IfErr result (λ back. (back ≡ self) × ¬ IsWholeWriter N self) }
+        ensures refused { IfErr result (λ back. (back ≡ self) × (¬ IsWholeWriter N self)
+            × WithNewPass {H = H} H.real self.place (λ first last. last ≡ first)) }
     {
         let mut pass = self.pass();
         let taken = self.try_into_array_as(&mut pass);

@@ -2,6 +2,7 @@
 ghost use Rattle.std.specs.Prelude.{◌≡◌, ◌≤◌, ◌==◌, ◌↔◌, length, IsOk};
 ghost use Rattle.arc_buffer.specs.Slice.{IsEdge, edge_answer};
 ghost use Rattle.arc_block.specs.Writers.{capacity_of};
+ghost use Rattle.arc_write.specs.Splits.{split_answer};
 
 use super::ArcSliceMut;
 use arc_block::layout::LayoutMut;
@@ -42,6 +43,31 @@ impl<S: Slice, L: LayoutMut, B, M, A: Allocator + Copy, H: Mark> ArcSliceMut<S, 
         ensures enough { length self.now.items ≤ result }
     {
         self.parts.capacity()
+    }
+
+    /// Whether the window may be split at `at`, which may lie among its places behind the items.
+    ///
+    /// # Errors
+    ///
+    /// `OutOfRange` where that is past the capacity, else `NotBoundary` where it lies among the
+    /// items and the kind may not be cut there.
+    pub fn check_split_off(&self, at: usize) -> Result<(), RangeError>
+    where
+        S: Subsliceable,
+        ensures { result ≡ split_answer S.boundary self.now.items
+            (capacity_of self.now.role) at }
+    {
+        if at > self.capacity() {
+            return Err(RangeError::OutOfRange);
+        }
+        if at >= self.len() {
+            return Ok(());
+        }
+        if S::is_boundary(self.as_slice(), at) {
+            Ok(())
+        } else {
+            Err(RangeError::NotBoundary)
+        }
     }
 
     /// Whether the window may be cut at `at`.

@@ -299,3 +299,25 @@ fn ended_by_hint(rt: HostRuntime) -> Result<(), Fail> {
     assert_eq!(rt; heap.used(), 0);
     Ok(())
 }
+
+#[test]
+fn split_tested(rt: HostRuntime) -> Result<(), Fail> {
+    let mut text: ArcStrMut = ArcSliceMut::try_from_str(rt.alloc(), "hé")?;
+    text.try_reserve(1)?;
+    assert_eq!(rt; text.capacity(), 6);
+    assert_eq!(rt; text.check_split_off(1), Ok(()));
+    assert_eq!(rt; text.check_split_off(2), Err(RangeError::NotBoundary));
+    assert_eq!(rt; text.check_split_off(3), Ok(()));
+    assert_eq!(rt; text.check_split_off(6), Ok(()));
+    assert_eq!(rt; text.check_split_off(7), Err(RangeError::OutOfRange));
+    Ok(())
+}
+
+#[test]
+fn alone_while_it_writes(rt: HostRuntime) -> Result<(), Fail> {
+    let window: ArcBytesMut = ArcSliceMut::try_from_slice(rt.alloc(), &[1])?;
+    let mut pass = window.pass();
+    window.only(&mut pass);
+    window.release_as(&mut pass);
+    Ok(())
+}

@@ -1,6 +1,7 @@
 //! How a sole writer's parts end, and what they become.
 ghost use Rattle.std.specs.Prelude.{◌≡◌, ◌≤◌, ◌↔◌, true, false, length, IfOk, IfErr, IsTrue};
 ghost use Rattle.arc_owners.specs.count.Calls.{Asks, Leaves, Learns, IsNewPass, IsPassOfNone};
+ghost use Rattle.arc_owners.specs.count.Calls.{SeesAlone};
 ghost use Rattle.arc_block.specs.Place.{at_owner, IsOnBlock};
 ghost use Rattle.arc_block.specs.Table.{reader};
 ghost use Rattle.arc_block.specs.Steps.{IsPassAt};
@@ -160,6 +161,18 @@ impl<S: Slice, B, M, A: Allocator + Copy, H: Mark> SoleParts<S, B, M, A, H> {
             drop(count.into_value_as(pass));
         }
         drop(items);
+    }
+
+    /// Shows a pass the block's whole history so far, in which no other owner lives. It adds
+    /// nothing.
+    pub fn only(&self, pass: &mut Pass<H>)
+        requires pass { IsPassAt self.now.place pass.old }
+        ensures { at_owner self.now.place (pass.new ≡ pass.old) (λ o.
+            SeesAlone o pass.old pass.new) }
+    {
+        if let Some(count) = &self.count {
+            count.only(pass);
+        }
     }
 
     /// Afterwards the first pass has seen at least what the other had. It adds nothing.
