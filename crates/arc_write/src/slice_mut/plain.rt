@@ -2,10 +2,8 @@
 ghost use Rattle.std.specs.Prelude.{◌≡◌, ◌≤◌, ◌+◌, ◌++◌, ◌∷◌, ◌==◌, if◌then◌else◌, true, false, []};
 ghost use Rattle.std.specs.Prelude.{length, replicate, IfOk, IfErr, OnOk, OnErr, Err};
 ghost use Rattle.std.specs.Mem.{FitsInMemory, type_size};
-ghost use Rattle.arc_owners.specs.declared.count.tokens.Pass.{Pass};
-ghost use Rattle.arc_owners.specs.declared.mark.Open.{Open};
 ghost use Rattle.arc_owners.specs.count.Calls.{Asks, Leaves};
-ghost use Rattle.arc_block.specs.Place.{at_owner, IsOnBlock};
+ghost use Rattle.arc_block.specs.Place.{nowhere, at_owner, IsOnBlock};
 ghost use Rattle.arc_block.specs.Window.{parts_of};
 ghost use Rattle.arc_block.specs.Writers.{capacity_of, room, as_sole, MakesWriter, MakesRoom};
 ghost use Rattle.arc_block.specs.Writers.{Pushes};
@@ -17,12 +15,22 @@ use super::change::try_into_mut_as;
 use arc_block::layout::{Layout, LayoutMut};
 use arc_buffer::kinds::{AnyItems, CopySlice, Emptyable, Extendable, Slice, Text, Zeroable};
 use arc_owners::error::{AllocError, TryReserveError};
-use arc_owners::mark::{Open, Stepping};
+use arc_owners::mark::Stepping;
 use arc_owners::owners::Pass;
 use arc_read::slice::ArcSlice;
 use std::alloc::Allocator;
 
-impl<S: Slice, L: LayoutMut, B, M, A: Allocator + Copy> ArcSliceMut<S, L, 1, B, M, A, Open> {
+// They are generic over the marks under which a block has many passes, which `Open` alone is: so a
+// body can show a pass only by one that is there (`Pass::show`), and none that it made up.
+impl<S: Slice, L: LayoutMut, B, M, A: Allocator + Copy, H: Stepping> ArcSliceMut<
+    S,
+    L,
+    1,
+    B,
+    M,
+    A,
+    H,
+> {
     /// A window with no items, and with so many places: `try_with_capacity_as` with a new pass.
     ///
     /// # Errors
@@ -35,11 +43,15 @@ impl<S: Slice, L: LayoutMut, B, M, A: Allocator + Copy> ArcSliceMut<S, L, 1, B, 
     pub fn try_with_capacity(alloc: A, capacity: usize) -> Result<Self, AllocError>
     where
         S: Emptyable,
-        ensures made { IfOk result (λ window. (first : Pass Open) × (last : Pass Open)
-            × MakesWriter S.DROPS false [] capacity window first last) }
+        ensures made { IfOk result (λ window.
+            WithNewPass {M = M} {H = H} H.real nowhere (λ first last.
+            MakesWriter S.DROPS H.whole [] capacity window first last)) }
         ensures refused { OnErr result (1 ≤ capacity) }
     {
-        Self::try_with_capacity_as(alloc, capacity, &mut Pass::none())
+        let mut pass = Pass::none();
+        let made = Self::try_with_capacity_as(alloc, capacity, &mut pass);
+        pass.show();
+        made
     }
 
     /// A window over a copy of the items: `try_from_slice_as` with a new pass.
@@ -55,11 +67,15 @@ impl<S: Slice, L: LayoutMut, B, M, A: Allocator + Copy> ArcSliceMut<S, L, 1, B, 
     where
         S: CopySlice,
         S::Item: Copy,
-        ensures made { IfOk result (λ window. (first : Pass Open) × (last : Pass Open)
-            × MakesWriter S.DROPS false items.now (length items.now) window first last) }
+        ensures made { IfOk result (λ window.
+            WithNewPass {M = M} {H = H} H.real nowhere (λ first last.
+            MakesWriter S.DROPS H.whole items.now (length items.now) window first last)) }
         ensures refused { OnErr result (1 ≤ length items.now) }
     {
-        Self::try_from_slice_as(alloc, items, &mut Pass::none())
+        let mut pass = Pass::none();
+        let made = Self::try_from_slice_as(alloc, items, &mut pass);
+        pass.show();
+        made
     }
 
     /// A window over so many zeros: `try_zeroed_as` with a new pass.
@@ -75,11 +91,15 @@ impl<S: Slice, L: LayoutMut, B, M, A: Allocator + Copy> ArcSliceMut<S, L, 1, B, 
     where
         S: Zeroable,
         S::Item: Copy,
-        ensures made { IfOk result (λ window. (first : Pass Open) × (last : Pass Open)
-            × MakesWriter S.DROPS false (replicate count S.zero_item) count window first last) }
+        ensures made { IfOk result (λ window.
+            WithNewPass {M = M} {H = H} H.real nowhere (λ first last.
+            MakesWriter S.DROPS H.whole (replicate count S.zero_item) count window first last)) }
         ensures refused { OnErr result (1 ≤ count) }
     {
-        Self::try_zeroed_as(alloc, count, &mut Pass::none())
+        let mut pass = Pass::none();
+        let made = Self::try_zeroed_as(alloc, count, &mut pass);
+        pass.show();
+        made
     }
 
     /// A window over an array's items: `try_from_array_as` with a new pass.
@@ -97,44 +117,17 @@ impl<S: Slice, L: LayoutMut, B, M, A: Allocator + Copy> ArcSliceMut<S, L, 1, B, 
     ) -> Result<Self, [S::Item; N]>
     where
         S: AnyItems,
-        ensures made { IfOk result (λ window. (first : Pass Open) × (last : Pass Open)
-            × MakesWriter S.DROPS false array (length array) window first last) }
+        ensures made { IfOk result (λ window.
+            WithNewPass {M = M} {H = H} H.real nowhere (λ first last.
+            MakesWriter S.DROPS H.whole array (length array) window first last)) }
         ensures refused { IfErr result (λ back. (back ≡ array) × (1 ≤ length array)) }
     {
-        Self::try_from_array_as(alloc, array, &mut Pass::none())
+        let mut pass = Pass::none();
+        let made = Self::try_from_array_as(alloc, array, &mut pass);
+        pass.show();
+        made
     }
-}
 
-impl<L: LayoutMut, B, M, A: Allocator + Copy> ArcSliceMut<Text, L, 1, B, M, A, Open> {
-    /// A window over a copy of the text: `try_from_str_as` with a new pass.
-    ///
-    /// # Errors
-    ///
-    /// `AllocError` where memory for the block is refused.
-    ///
-    /// # Allocates
-    ///
-    /// Twice, except for no text.
-    pub fn try_from_str(alloc: A, text: &str) -> Result<Self, AllocError>
-        ensures made { IfOk result (λ window. (first : Pass Open) × (last : Pass Open)
-            × MakesWriter false false text.now (length text.now) window first last) }
-        ensures refused { OnErr result (1 ≤ length text.now) }
-    {
-        Self::try_from_str_as(alloc, text, &mut Pass::none())
-    }
-}
-
-// They are generic over the marks under which a block has many passes, which `Open` alone is: so a
-// body can show a pass only by one that is there (`Pass::show`), and none that it made up.
-impl<S: Slice, L: LayoutMut, B, M, A: Allocator + Copy, H: Stepping> ArcSliceMut<
-    S,
-    L,
-    1,
-    B,
-    M,
-    A,
-    H,
-> {
     /// The same items at the same place, which others may read from now on: `try_freeze_as` with a
     /// new pass.
     ///
@@ -295,6 +288,27 @@ impl<S: Slice, L: LayoutMut, B, M, A: Allocator + Copy, H: Stepping> ArcSliceMut
 }
 
 impl<L: LayoutMut, B, M, A: Allocator + Copy, H: Stepping> ArcSliceMut<Text, L, 1, B, M, A, H> {
+    /// A window over a copy of the text: `try_from_str_as` with a new pass.
+    ///
+    /// # Errors
+    ///
+    /// `AllocError` where memory for the block is refused.
+    ///
+    /// # Allocates
+    ///
+    /// Twice, except for no text.
+    pub fn try_from_str(alloc: A, text: &str) -> Result<Self, AllocError>
+        ensures made { IfOk result (λ window.
+            WithNewPass {M = M} {H = H} H.real nowhere (λ first last.
+            MakesWriter false H.whole text.now (length text.now) window first last)) }
+        ensures refused { OnErr result (1 ≤ length text.now) }
+    {
+        let mut pass = Pass::none();
+        let made = Self::try_from_str_as(alloc, text, &mut pass);
+        pass.show();
+        made
+    }
+
     /// A copy of the text more, behind what is there: `try_extend_from_str_as` with a new pass.
     ///
     /// # Errors
