@@ -1,9 +1,10 @@
 //! Making of windows that are read.
-ghost use Rattle.std.specs.Prelude.{◌≡◌, false, IfOk, IfErr, OnErr};
+ghost use Rattle.std.specs.Prelude.{◌≡◌, IfOk, IfErr, OnErr};
 ghost use Rattle.arc_owners.specs.count.Calls.{IsPassOfNone};
-ghost use Rattle.arc_block.specs.Place.{static_data};
+ghost use Rattle.arc_block.specs.Place.{nowhere, static_data};
 ghost use Rattle.arc_block.specs.Window.{NeedsBlock};
 ghost use Rattle.arc_block.specs.Steps.{Makes, Begins};
+ghost use Rattle.arc_read.specs.Steps.{WithNewPass};
 
 use super::ArcSlice;
 use arc_block::layout::{Layout, StaticLayout};
@@ -11,7 +12,7 @@ use arc_block::parts::Parts;
 use arc_block::static_slice::StaticSlice;
 use arc_buffer::kinds::{AnyItems, CopySlice, Slice};
 use arc_owners::error::AllocError;
-use arc_owners::mark::{Mark, Open};
+use arc_owners::mark::{Mark, Stepping};
 use arc_owners::owners::Pass;
 use std::alloc::Allocator;
 
@@ -106,7 +107,10 @@ impl<S: AnyItems, L: StaticLayout, B, M, A: Allocator + Copy, H: Mark> ArcSlice<
     }
 }
 
-impl<S: Slice, L: Layout, B, M, A: Allocator + Copy> ArcSlice<S, L, B, M, A, Open> {
+// The plain forms. They are generic over the marks under which a block has many passes, which
+// `Open` alone is: so a body can show a pass only by one that is there (`Pass::show`), and none
+// that it made up.
+impl<S: Slice, L: Layout, B, M, A: Allocator + Copy, H: Stepping> ArcSlice<S, L, B, M, A, H> {
     /// A window over a copy of the items: `try_from_slice_as` with a new pass.
     ///
     /// # Errors
@@ -120,10 +124,15 @@ impl<S: Slice, L: Layout, B, M, A: Allocator + Copy> ArcSlice<S, L, B, M, A, Ope
     where
         S: CopySlice,
         S::Item: Copy,
-        ensures ok { IfOk result (λ window. Makes L.STATIC S.DROPS false items.now window) }
+        ensures ok { IfOk result (λ window. Makes L.STATIC S.DROPS H.whole items.now window) }
+        ensures pass { IfOk result (λ window.
+            WithNewPass {M = M} {H = H} H.real nowhere (λ first last. Begins window first last)) }
         ensures refused { OnErr result (NeedsBlock L.STATIC items.now) }
     {
-        Self::try_from_slice_as(alloc, items, &mut Pass::none())
+        let mut pass = Pass::none();
+        let made = Self::try_from_slice_as(alloc, items, &mut pass);
+        pass.show();
+        made
     }
 
     /// A window over an array's items: `try_from_array_as` with a new pass.
@@ -141,9 +150,14 @@ impl<S: Slice, L: Layout, B, M, A: Allocator + Copy> ArcSlice<S, L, B, M, A, Ope
     ) -> Result<Self, [S::Item; N]>
     where
         S: AnyItems,
-        ensures ok { IfOk result (λ window. Makes L.STATIC S.DROPS false array window) }
+        ensures ok { IfOk result (λ window. Makes L.STATIC S.DROPS H.whole array window) }
+        ensures pass { IfOk result (λ window.
+            WithNewPass {M = M} {H = H} H.real nowhere (λ first last. Begins window first last)) }
         ensures refused { IfErr result (λ back. (back ≡ array) × NeedsBlock L.STATIC array) }
     {
-        Self::try_from_array_as(alloc, array, &mut Pass::none())
+        let mut pass = Pass::none();
+        let made = Self::try_from_array_as(alloc, array, &mut pass);
+        pass.show();
+        made
     }
 }

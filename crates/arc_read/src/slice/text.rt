@@ -3,9 +3,10 @@ ghost use Rattle.std.specs.Prelude.{◌≡◌, false, drop, IsOk, IfOk, IfErr, O
 ghost use Rattle.std.specs.Str.{IsUtf8, valid_up_to, error_len};
 ghost use Rattle.std.specs.Str.Lossy.{utf8_valid_len, utf8_error_len};
 ghost use Rattle.arc_owners.specs.count.Calls.{IsPassOfNone};
-ghost use Rattle.arc_block.specs.Place.{static_data};
+ghost use Rattle.arc_block.specs.Place.{nowhere, static_data};
 ghost use Rattle.arc_block.specs.Window.{NeedsBlock};
 ghost use Rattle.arc_block.specs.Steps.{Makes, Begins};
+ghost use Rattle.arc_read.specs.Steps.{WithNewPass};
 
 use super::ArcSlice;
 use arc_block::layout::{Layout, StaticLayout};
@@ -13,7 +14,7 @@ use arc_block::parts::Parts;
 use arc_block::static_slice::StaticSlice;
 use arc_buffer::kinds::{ByteText, Plain, Slice, Text};
 use arc_owners::error::AllocError;
-use arc_owners::mark::{Mark, Open};
+use arc_owners::mark::{Mark, Stepping};
 use arc_owners::owners::Pass;
 use std::alloc::Allocator;
 use std::convert::Infallible;
@@ -85,7 +86,8 @@ impl<L: StaticLayout, B, M, A: Allocator + Copy, H: Mark> ArcSlice<Text, L, B, M
     }
 }
 
-impl<L: Layout, B, M, A: Allocator + Copy> ArcSlice<Text, L, B, M, A, Open> {
+// It is generic over the marks under which a block has many passes, as the other plain forms are.
+impl<L: Layout, B, M, A: Allocator + Copy, H: Stepping> ArcSlice<Text, L, B, M, A, H> {
     /// A window over a copy of the text: `try_from_str_as` with a new pass.
     ///
     /// # Errors
@@ -96,10 +98,15 @@ impl<L: Layout, B, M, A: Allocator + Copy> ArcSlice<Text, L, B, M, A, Open> {
     ///
     /// Where the text needs a block.
     pub fn try_from_str(alloc: A, text: &str) -> Result<Self, AllocError>
-        ensures ok { IfOk result (λ window. Makes L.STATIC false false text.now window) }
+        ensures ok { IfOk result (λ window. Makes L.STATIC false H.whole text.now window) }
+        ensures pass { IfOk result (λ window.
+            WithNewPass {M = M} {H = H} H.real nowhere (λ first last. Begins window first last)) }
         ensures refused { OnErr result (NeedsBlock L.STATIC text.now) }
     {
-        Self::try_from_str_as(alloc, text, &mut Pass::none())
+        let mut pass = Pass::none();
+        let made = Self::try_from_str_as(alloc, text, &mut pass);
+        pass.show();
+        made
     }
 }
 
