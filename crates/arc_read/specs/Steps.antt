@@ -7,7 +7,8 @@ use Rattle.arc_owners.specs.count.Calls.{pass_block, pass_number, history_of}
 use Rattle.arc_block.specs.Place.{Place, at_owner}
 
 -- A call was made with a new pass of the window's block, and the last pass is one that is there: so
--- much of the block's history the call has really seen.
+-- much of the block's history the call has really seen. A call that makes a window says so of
+-- nowhere: its first pass is of no block.
 pub record WithNewPass {M H : Type 0} (real : BlockId → ℕ → List Line → Type 0)
     (place : Place (Option Owner) M) (call : Pass H → Pass H → Type 0) : Type 0 where
   pub first : Pass H
