@@ -2,6 +2,7 @@
 ghost use Rattle.std.specs.Prelude.{◌≡◌, ◌≤◌, length};
 
 use crate::keep::Keep;
+use crate::kit_writers;
 use crate::words::Operation;
 use bytes::Bytes;
 use std::alloc::{AllocError, Global};
@@ -27,6 +28,7 @@ pub fn run(alloc: Global, operation: Operation, count: usize, keep: &dyn Keep) -
         Operation::SplitOff => split_off(&window, count, keep),
         Operation::Unique => Ok(unique(&window, count, keep)),
         Operation::Array => array(alloc, count, keep),
+        Operation::Writer(writing) => return kit_writers::run(alloc, writing, count, keep),
     }
     .is_ok()
 }

@@ -3,6 +3,7 @@ ghost use Rattle.std.specs.Prelude.{◌≡◌, ◌≤◌, length};
 
 use crate::keep::Keep;
 use crate::words::Operation;
+use crate::writers;
 use arc_owners::error::OwnerError;
 use arc_slice::ArcBytes;
 use std::alloc::Global;
@@ -35,6 +36,7 @@ pub fn run(
         Operation::SplitOff => split_off(rt, &window, count, keep),
         Operation::Unique => Ok(unique(&window, count, keep)),
         Operation::Array => array(alloc, count, keep),
+        Operation::Writer(writing) => return writers::run(alloc, writing, count, keep),
     }
     .is_ok()
 }

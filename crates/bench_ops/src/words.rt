@@ -33,13 +33,46 @@ pub enum Operation {
     Unique,
     /// An array of 32 bytes as a window, and back.
     Array,
+    /// One on windows that are written.
+    Writer(Writing),
+}
+
+/// What is run in a loop on windows that are written. A round is 1,024 of the steps.
+#[derive(Clone, Copy)]
+pub enum Writing {
+    /// Nothing but rounds of steps.
+    Rounds,
+    /// Rounds of one byte pushed into places that are there, and something else after each push.
+    Push,
+    /// Rounds of one byte pushed into places that are there, with nothing between them.
+    PushRow,
+    /// A round of bytes pushed into a new window with no places, and its release.
+    Grow,
+    /// Rounds of 64 bytes copied into places that are there.
+    Extend,
+    /// A window that is read from then on, and back.
+    Freeze,
+    /// All items to be written, of which the first is.
+    Write,
+    /// All items to be read.
+    ReadBack,
+}
+
+/// What the loops run over.
+#[derive(Clone, Copy)]
+pub enum Side {
+    /// The windows of this repository.
+    Ours,
+    /// Those of the kit's `bytes`.
+    Kit,
+    /// The vectors of std.
+    Vector,
 }
 
 /// What the words ask for.
 #[derive(Clone, Copy)]
 pub struct Words {
-    /// Over the windows of this repository, or over the kit's.
-    pub ours: bool,
+    pub side: Side,
     pub operation: Operation,
     /// How often.
     pub count: usize,
@@ -60,6 +93,21 @@ fn operation_named(name: &str) -> Option<Operation> {
         "split_off" => Operation::SplitOff,
         "unique" => Operation::Unique,
         "array" => Operation::Array,
+        _ => Operation::Writer(writing_named(name)?),
+    })
+}
+
+/// The operation on windows that are written, of this name.
+fn writing_named(name: &str) -> Option<Writing> {
+    Some(match name {
+        "rounds" => Writing::Rounds,
+        "push" => Writing::Push,
+        "push_row" => Writing::PushRow,
+        "grow" => Writing::Grow,
+        "extend" => Writing::Extend,
+        "freeze" => Writing::Freeze,
+        "write" => Writing::Write,
+        "read_back" => Writing::ReadBack,
         _ => return None,
     })
 }
@@ -77,15 +125,16 @@ impl Words {
     /// Reads the three words.
     pub fn read(rt: &impl Env) -> Option<Words> {
         let mut buf = [0u8; WORD];
-        let ours = match word(rt, 1, &mut buf)? {
-            "ours" => true,
-            "kit" => false,
+        let side = match word(rt, 1, &mut buf)? {
+            "ours" => Side::Ours,
+            "kit" => Side::Kit,
+            "vec" => Side::Vector,
             _ => return None,
         };
         let operation = operation_named(word(rt, 2, &mut buf)?)?;
         let count = word(rt, 3, &mut buf)?.parse::<usize>().ok()?;
         Some(Words {
-            ours,
+            side,
             operation,
             count,
         })

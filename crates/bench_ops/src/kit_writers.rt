@@ -1,0 +1,130 @@
+//! The loops over the kit's `BytesMut`.
+use crate::keep::Keep;
+use crate::rounds::{PIECE, PLACES, ROUND, empty_rounds};
+use crate::words::Writing;
+use bytes::{BufMut, BytesMut};
+use std::alloc::Global;
+
+/// Runs an operation so often, and answers whether all was done.
+pub fn run(alloc: Global, writing: Writing, count: usize, keep: &dyn Keep) -> bool {
+    // How long the piece is isn't known before the program runs.
+    let len = if count == 0 { 1 } else { PIECE };
+    let all = [42; PIECE];
+    let piece = &all[..len];
+    let Ok(mut window) = BytesMut::with_capacity(alloc, PLACES) else {
+        return false;
+    };
+    match writing {
+        Writing::Rounds => {
+            empty_rounds(count, keep);
+            true
+        }
+        Writing::Push => push(&mut window, count, keep),
+        Writing::PushRow => push_row(&mut window, count, keep),
+        Writing::Grow => grow(alloc, count, keep),
+        Writing::Extend => extend(&mut window, piece, count, keep),
+        Writing::Freeze => window.put_u8(42).is_ok() && freeze(window, count, keep),
+        Writing::Write => window.put_u8(42).is_ok() && write(&mut window, count, keep),
+        Writing::ReadBack => read_back(&window, count, keep),
+    }
+}
+
+/// Bytes pushed into places that are there.
+#[inline(never)]
+fn push(window: &mut BytesMut, count: usize, keep: &dyn Keep) -> bool {
+    for _ in 0..count {
+        window.truncate(0);
+        for i in 0..ROUND {
+            if window.put_u8(42).is_err() {
+                return false;
+            }
+            keep.number(i);
+        }
+    }
+    true
+}
+
+/// The same, with nothing between a push and the next.
+#[inline(never)]
+fn push_row(window: &mut BytesMut, count: usize, keep: &dyn Keep) -> bool {
+    for _ in 0..count {
+        window.truncate(0);
+        for _ in 0..ROUND {
+            if window.put_u8(42).is_err() {
+                return false;
+            }
+        }
+        keep.number(window.len());
+    }
+    true
+}
+
+/// Bytes pushed into a window that has no places at first, and its release.
+#[inline(never)]
+fn grow(alloc: Global, count: usize, keep: &dyn Keep) -> bool {
+    for _ in 0..count {
+        let mut window = BytesMut::new(alloc);
+        for _ in 0..ROUND {
+            if window.put_u8(42).is_err() {
+                return false;
+            }
+        }
+        keep.number(window.len());
+    }
+    true
+}
+
+/// Pieces copied into places that are there.
+#[inline(never)]
+fn extend(window: &mut BytesMut, piece: &[u8], count: usize, keep: &dyn Keep) -> bool {
+    for _ in 0..count {
+        window.truncate(0);
+        for i in 0..ROUND {
+            if window.extend_from_slice(piece).is_err() {
+                return false;
+            }
+            keep.number(i);
+        }
+    }
+    true
+}
+
+/// A window that is read from then on, and back.
+#[inline(never)]
+fn freeze(window: BytesMut, count: usize, keep: &dyn Keep) -> bool {
+    let mut window = window;
+    for _ in 0..count {
+        let Ok(frozen) = window.freeze() else {
+            return false;
+        };
+        keep.number(frozen.len());
+        let Ok(back) = frozen.try_into_mut() else {
+            return false;
+        };
+        window = back;
+    }
+    true
+}
+
+/// All bytes to be written, of which the first is.
+#[inline(never)]
+fn write(window: &mut BytesMut, count: usize, keep: &dyn Keep) -> bool {
+    for _ in 0..count {
+        let bytes = window.as_mut_slice();
+        let Some(first) = bytes.first_mut() else {
+            return false;
+        };
+        *first = 43;
+        keep.bytes(bytes);
+    }
+    true
+}
+
+/// The bytes of a window that is written.
+#[inline(never)]
+fn read_back(window: &BytesMut, count: usize, keep: &dyn Keep) -> bool {
+    for _ in 0..count {
+        keep.bytes(window.as_slice());
+    }
+    true
+}

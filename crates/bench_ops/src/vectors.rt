@@ -1,0 +1,113 @@
+//! The loops over std's vectors of bytes.
+use crate::keep::Keep;
+use crate::rounds::{PIECE, PLACES, ROUND, empty_rounds};
+use crate::words::Writing;
+use std::alloc::Global;
+
+/// Runs an operation so often, and answers whether all was done.
+pub fn run(alloc: Global, writing: Writing, count: usize, keep: &dyn Keep) -> bool {
+    // How long the piece is isn't known before the program runs.
+    let len = if count == 0 { 1 } else { PIECE };
+    let all = [42; PIECE];
+    let piece = &all[..len];
+    let Ok(mut vec) = Vec::with_capacity(alloc, PLACES) else {
+        return false;
+    };
+    match writing {
+        Writing::Rounds => {
+            empty_rounds(count, keep);
+            true
+        }
+        Writing::Push => push(&mut vec, count, keep),
+        Writing::PushRow => push_row(&mut vec, count, keep),
+        Writing::Grow => grow(alloc, count, keep),
+        Writing::Extend => extend(&mut vec, piece, count, keep),
+        // A vector can't be frozen.
+        Writing::Freeze => false,
+        Writing::Write => vec.push(42).is_ok() && write(&mut vec, count, keep),
+        Writing::ReadBack => read_back(&vec, count, keep),
+    }
+}
+
+/// Bytes pushed into places that are there.
+#[inline(never)]
+fn push(vec: &mut Vec<u8>, count: usize, keep: &dyn Keep) -> bool {
+    for _ in 0..count {
+        vec.truncate(0);
+        for i in 0..ROUND {
+            if vec.push(42).is_err() {
+                return false;
+            }
+            keep.number(i);
+        }
+    }
+    true
+}
+
+/// The same, with nothing between a push and the next.
+#[inline(never)]
+fn push_row(vec: &mut Vec<u8>, count: usize, keep: &dyn Keep) -> bool {
+    for _ in 0..count {
+        vec.truncate(0);
+        for _ in 0..ROUND {
+            if vec.push(42).is_err() {
+                return false;
+            }
+        }
+        keep.number(vec.len());
+    }
+    true
+}
+
+/// Bytes pushed into a vector that has no places at first, and its release.
+#[inline(never)]
+fn grow(alloc: Global, count: usize, keep: &dyn Keep) -> bool {
+    for _ in 0..count {
+        let mut vec: Vec<u8> = Vec::new(alloc);
+        for _ in 0..ROUND {
+            if vec.push(42).is_err() {
+                return false;
+            }
+        }
+        keep.number(vec.len());
+    }
+    true
+}
+
+/// Pieces copied into places that are there.
+#[inline(never)]
+fn extend(vec: &mut Vec<u8>, piece: &[u8], count: usize, keep: &dyn Keep) -> bool {
+    for _ in 0..count {
+        vec.truncate(0);
+        for i in 0..ROUND {
+            if vec.extend_from_slice(piece).is_err() {
+                return false;
+            }
+            keep.number(i);
+        }
+    }
+    true
+}
+
+/// All bytes to be written, of which the first is.
+#[inline(never)]
+fn write(vec: &mut Vec<u8>, count: usize, keep: &dyn Keep) -> bool {
+    for _ in 0..count {
+        let bytes = vec.as_mut_slice();
+        let Some(first) = bytes.first_mut() else {
+            return false;
+        };
+        *first = 43;
+        keep.bytes(bytes);
+    }
+    true
+}
+
+/// The bytes of a vector.
+#[inline(never)]
+fn read_back(vec: &Vec<u8>, count: usize, keep: &dyn Keep) -> bool {
+    for _ in 0..count {
+        keep.bytes(vec.as_slice());
+    }
+    true
+}
