@@ -90,6 +90,17 @@ module _ {T M A : Type 0} where
       ∙ ap (λ f. make (sub v.items start end ++ ys) (vec_capacity v) f (writer_capacity {M = M} drops (partly_full drops (vec_capacity w) (length w.items)) start ((end + length ys) - start))) full
       ∙ ap (make (sub v.items start end ++ ys) (vec_capacity v) (option_map (λ n. n + length ys) (full_places drops (length v.items)))) room
 
+  -- where the writer has room behind the items, they end where the vector does
+  ends_seen : (drops one_pass : Bool) (owner : Option Owner) (v : Vec T A) (start end more : ℕ) (seen : PartsView T M) → sole_seen {M = M} drops owner v start end ≡ seen → IsSoleWithin drops one_pass owner v start end
+      → length seen.items + more ≤ capacity_of seen.role → 1 ≤ more → end ≡ length v.items
+  ends_seen drops one_pass None v start end more seen view within room some =
+      absurd (omega (arith, subst (λ s. length s.items + more ≤ capacity_of s.role) (sym view) room, some))
+  ends_seen drops one_pass (Some o) v start end more seen view within room some =
+      let there = subst (λ s. length s.items + more ≤ capacity_of s.role) (sym view) room in
+      let long : length (sub v.items start end) ≡ end - start = length-sub v.items start end within.1 within.2 in
+      let fits = subst (λ n. n + more ≤ writer_capacity {M = M} drops (partly_full drops (vec_capacity v) (length v.items)) start (end - start)) long there in
+      ends-full M drops (vec_capacity v) start end (length v.items) more within.1 within.3 fits some
+
   -- and where the writer has room for them
   pub push_seen : (drops one_pass : Bool) (owner : Option Owner) (v w : Vec T A) (start end : ℕ) (ys : List T) (seen : PartsView T M) → sole_seen {M = M} drops owner v start end ≡ seen → IsSoleWithin drops one_pass owner v start end
       → w.items ≡ v.items ++ ys → vec_capacity w ≡ vec_capacity v → length seen.items + length ys ≤ capacity_of seen.role → 1 ≤ length ys
@@ -97,11 +108,17 @@ module _ {T M A : Type 0} where
   push_seen drops one_pass None v w start end ys seen view within items places room some =
       absurd (omega (arith, subst (λ s. length s.items + length ys ≤ capacity_of s.role) (sym view) room, some))
   push_seen drops one_pass (Some o) v w start end ys seen view within items places room some =
-      let there = subst (λ s. length s.items + length ys ≤ capacity_of s.role) (sym view) room in
-      let long : length (sub v.items start end) ≡ end - start = length-sub v.items start end within.1 within.2 in
-      let fits = subst (λ n. n + length ys ≤ writer_capacity {M = M} drops (partly_full drops (vec_capacity v) (length v.items)) start (end - start)) long there in
-      let last = ends-full M drops (vec_capacity v) start end (length v.items) (length ys) within.1 within.3 fits some in
+      let last = ends_seen drops one_pass (Some o) v start end (length ys) seen view within room some in
       subst (λ s. sole_part {M = M} drops o w start (end + length ys) ≡ with_more ys s) view (push-behind drops o v w start end ys within.1 last items places)
+
+  -- and to where the vector ends then
+  pub push_to_end : (drops one_pass : Bool) (owner : Option Owner) (v w : Vec T A) (start end last : ℕ) (ys : List T) (seen : PartsView T M) → sole_seen {M = M} drops owner v start end ≡ seen → IsSoleWithin drops one_pass owner v start end
+      → w.items ≡ v.items ++ ys → vec_capacity w ≡ vec_capacity v → length seen.items + length ys ≤ capacity_of seen.role → 1 ≤ length ys → last ≡ length w.items
+      → sole_seen {M = M} drops owner w start last ≡ with_more ys seen
+  push_to_end drops one_pass owner v w start end last ys seen view within items places room some ends =
+      let before = ends_seen drops one_pass owner v start end (length ys) seen view within room some in
+      let there : last ≡ end + length ys = omega (arith, ends, ap length items ∙ length-append v.items ys, before) in
+      subst (λ n. sole_seen {M = M} drops owner w start n ≡ with_more ys seen) (sym there) (push_seen drops one_pass owner v w start end ys seen view within items places room some)
 
   -- the items cut short, where those behind them are gone from the vector
   cut-copied : (o : Owner) (v w : Vec T A) (start end n : ℕ) → start ≤ end → end ≤ length v.items → n < end - start → w.items ≡ take (start + n) v.items → vec_capacity w ≡ vec_capacity v

@@ -52,9 +52,10 @@ module _ {T M A : Type 0} where
 
 module _ {T A : Type 0} where
   -- Start to end lies within the full places of a block of this project's. Items that aren't
-  -- dropped one by one end where these do.
+  -- dropped one by one end where these do. On nothing there are no items and no memory.
   abbrev pub IsSoleWithin : Bool → Bool → Option Owner → Vec T A → (start end : ℕ) → Type 0
-  IsSoleWithin drops one_pass None v start end = (start ≡ 0) × (end ≡ 0) × (v.items ≡ [])
+  IsSoleWithin drops one_pass None v start end =
+      (start ≡ 0) × (end ≡ 0) × (v.items ≡ []) × (vec_capacity v ≡ 0)
   IsSoleWithin drops one_pass (Some owner) v start end = IsLimited MAX_OWNERS one_pass owner
       × (start ≤ end) × (end ≤ length v.items) × (drops ≡ false → end ≡ length v.items)
 

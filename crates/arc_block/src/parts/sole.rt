@@ -1,5 +1,6 @@
 //! Parts of a window that writes as the only owner of its block.
-ghost use Rattle.std.specs.Prelude.{◌≡◌, ◌≤◌, ◌<◌, ◌+◌, ◌-◌, ◌++◌, ◌∷◌, ◌==◌, if◌then◌else◌};
+ghost use Rattle.std.specs.Prelude.{◌≡◌, ◌≤◌, ◌<◌, ◌+◌, ◌-◌, ◌^◌, ◌++◌, ◌∷◌, ◌==◌};
+ghost use Rattle.std.specs.Prelude.{if◌then◌else◌};
 ghost use Rattle.std.specs.Prelude.{[], length, replicate, false, IfOk, IfErr, OnOk, OnErr};
 ghost use Rattle.std.specs.Mem.{FitsInMemory, type_size};
 ghost use Rattle.std.specs.Vec.{vec_capacity, vec_len};
@@ -103,14 +104,10 @@ impl<S: Slice, B, M, A: Allocator + Copy, H: Mark> SoleParts<S, B, M, A, H> {
 
     /// The items.
     #[inline(always)]
-    #[tactic(auto, using(crate::proofs::Writers::slice_is_sub))]
     pub fn as_slice(&self) -> &[S::Item]
         ensures { result.now ≡ self.now.items }
     {
-        match &self.count {
-            Some(_) => &self.items.as_slice()[self.start..self.end],
-            None => &[],
-        }
+        &self.items.as_slice()[self.start..self.end]
     }
 
     /// How many places there are for items, from the first of them on.
@@ -119,13 +116,20 @@ impl<S: Slice, B, M, A: Allocator + Copy, H: Mark> SoleParts<S, B, M, A, H> {
         ensures capacity { result ≡ capacity_of self.now.role }
         ensures enough { length self.now.items ≤ result }
     {
-        if self.count.is_none() {
+        self.len() + self.spare()
+    }
+
+    /// How many places there are behind the items.
+    #[inline(always)]
+    fn spare(&self) -> usize
+        ensures spare { result ≡ capacity_of self.now.role - length self.now.items }
+        ensures places { length self.now.items + result ≡ capacity_of self.now.role }
+        ensures fits { length self.now.items + result < 2 ^ 64 }
+    {
+        if S::DROPS && self.end != self.items.len() {
             return 0;
         }
-        if S::DROPS && self.end != self.items.len() {
-            return self.end - self.start;
-        }
-        self.items.capacity() - self.start
+        self.items.capacity() - self.items.len()
     }
 
     /// Where there is room for so many items more.
@@ -144,7 +148,7 @@ impl<S: Slice, B, M, A: Allocator + Copy, H: Mark> SoleParts<S, B, M, A, H> {
         ensures spare { IfSpare result
             (length self.now.items + additional ≤ capacity_of self.now.role) }
     {
-        if additional <= self.capacity() - self.len() {
+        if additional <= self.spare() {
             return Room::Spare;
         }
         if self.count.is_none() {
@@ -362,7 +366,31 @@ impl<S: Slice, B, M, A: Allocator + Copy, H: Mark> SoleParts<S, B, M, A, H> {
     ///
     /// Nothing is added. Where a first block is made, the pass, which was of none, becomes that
     /// block's.
+    #[inline(always)]
     pub fn try_reserve_as(
+        &mut self,
+        additional: usize,
+        pass: &mut Pass<H>,
+    ) -> Result<(), TryReserveError>
+        requires item { FitsInMemory S.Item.row }
+        requires pass { IsPassAt self.old.place pass.old }
+        ensures room { MakesRoom S.DROPS H.whole
+            (room_of S.DROPS (if type_size S.Item.row == 1 then 8 else 4) (type_size S.Item.row)
+            self.old additional) self.old self.new pass.old pass.new result }
+        ensures items { self.new.items ≡ self.old.items }
+        ensures enough { OnOk result
+            (length self.new.items + additional ≤ capacity_of self.new.role) }
+    {
+        if additional <= self.spare() {
+            return Ok(());
+        }
+        self.try_make_room(additional, pass)
+    }
+
+    /// `try_reserve_as` where there may be no room yet, apart so that the test is inlined alone.
+    #[cold]
+    #[inline(never)]
+    fn try_make_room(
         &mut self,
         additional: usize,
         pass: &mut Pass<H>,

@@ -60,6 +60,7 @@ impl<S: Slice, B, M, A: Allocator + Copy, H: Mark> SoleParts<S, B, M, A, H> {
     /// # History
     ///
     /// As `try_reserve_as`.
+    #[inline(always)]
     pub fn try_push_as(
         &mut self,
         item: S::Item,
@@ -91,7 +92,8 @@ impl<S: Slice, B, M, A: Allocator + Copy, H: Mark> SoleParts<S, B, M, A, H> {
         ensures { self.new ≡ with_more (item ∷ []) self.old }
     {
         self.items.push_reserved(item);
-        self.end += 1;
+        // Where there was a place behind them, they end where the vector does.
+        self.end = self.items.len();
     }
 
     /// Takes so many items off the front; their places are none of the window's any more.

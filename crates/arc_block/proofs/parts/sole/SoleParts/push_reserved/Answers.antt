@@ -1,12 +1,12 @@
 -- The item stands behind the others.
-use Rattle.std.proofs.Common.{◌∷◌, [], arith}
+use Rattle.std.proofs.Common.{◌∷◌, [], ◌∙◌, arith}
 use Rattle.std.specs.Option.{option_map}
 use Rattle.arc_owners.specs.memory.SoleBoxes.{sole_in}
-use Rattle.arc_block.proofs.Writers.{push_seen}
+use Rattle.arc_block.proofs.Writers.{push_to_end}
 use Rattle.arc_block.proofs.parts.sole.SoleParts.push_reserved.Goals as goal
 
 pub returns : goal.returns
 returns g c =
-    push_seen g.S.Slice.DROPS g.H.Mark.whole (option_map sole_in c.self.inside.count) c.self.inside.items c.push_reserved.new.self
-    c.self.inside.start c.self.inside.end (c.args.item ∷ []) c.args.self.now c.self.view_is c.self.invariant
-    c.push_reserved.ensures.items c.push_reserved.ensures.capacity c.requires (omega arith)
+    push_to_end g.S.Slice.DROPS g.H.Mark.whole (option_map sole_in c.self.inside.count) c.self.inside.items c.push_reserved.new.self
+    c.self.inside.start c.self.inside.end c.len-self-inside.result (c.args.item ∷ []) c.args.self.now c.self.view_is c.self.invariant
+    c.push_reserved.ensures.items c.push_reserved.ensures.capacity c.requires (omega arith) (c.len-self-inside.ensures ∙ c.push_reserved.new.self.ok.0)
