@@ -22,6 +22,7 @@ pub fn run(alloc: Global, writing: Writing, count: usize, keep: &dyn Keep) -> bo
         Writing::PushRow => push_row(&mut vec, count, keep),
         Writing::Grow => grow(alloc, count, keep),
         Writing::Extend => extend(&mut vec, piece, count, keep),
+        Writing::ExtendOdd => extend(&mut vec, &all[1..len], count, keep),
         // A vector can't be frozen.
         Writing::Freeze => false,
         Writing::Write => vec.push(42).is_ok() && write(&mut vec, count, keep),

@@ -50,6 +50,8 @@ pub enum Writing {
     Grow,
     /// Rounds of 64 bytes copied into places that are there.
     Extend,
+    /// Rounds of 63 bytes copied into places that are there.
+    ExtendOdd,
     /// A window that is read from then on, and back.
     Freeze,
     /// All items to be written, of which the first is.
@@ -105,6 +107,7 @@ fn writing_named(name: &str) -> Option<Writing> {
         "push_row" => Writing::PushRow,
         "grow" => Writing::Grow,
         "extend" => Writing::Extend,
+        "extend_odd" => Writing::ExtendOdd,
         "freeze" => Writing::Freeze,
         "write" => Writing::Write,
         "read_back" => Writing::ReadBack,

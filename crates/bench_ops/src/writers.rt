@@ -24,6 +24,7 @@ pub fn run(alloc: Global, writing: Writing, count: usize, keep: &dyn Keep) -> bo
         Writing::PushRow => push_row(&mut window, count, keep),
         Writing::Grow => grow(alloc, count, keep),
         Writing::Extend => extend(&mut window, piece, count, keep),
+        Writing::ExtendOdd => extend(&mut window, &all[1..len], count, keep),
         Writing::Freeze => window.try_push(42).is_ok() && freeze(window, count, keep),
         Writing::Write => window.try_push(42).is_ok() && write(&mut window, count, keep),
         Writing::ReadBack => read_back(&window, count, keep),
