@@ -123,6 +123,20 @@ module _ {H : Type 0} where
     live = λ n p here. IsPermutation-trans _ _ _ (k.live n p here) (filter_map-turned (number_on n) stands i t s there);
   }
 
+  -- without a stand at the end that is none
+  kept-front : {g : ℕ} {passes : List (Pass H)} (stands : List Stand) → IsKept g (stands ++ None ∷ []) passes → IsKept g stands passes
+  kept-front stands k = record {
+    known = λ i n o here. k.known i n o (get-front stands i (Some (n, o)) None here);
+    passes_fit = k.passes_fit;
+    live = λ n p here. permuted-then (k.live n p here) (owners-pushed_other n stands None refl);
+  }
+
+  -- a window that stood on nothing is the first owner of a new block
+  pub kept-begun : {g : ℕ} {stands : List Stand} {passes : List (Pass H)} {o : Owner} (i : ℕ) (p : Pass H) → IsKept g stands passes → slice_get stands i ≡ Some None → IsFirst g true o → IsFreshPass o p → IsKept g (slice_set stands i (Some (length passes, o))) (passes ++ p ∷ [])
+  kept-begun {stands = stands} {passes = passes} {o = o} i p k there first fresh =
+      let st : Stand = Some (length passes, o) in
+      kept-front (slice_set stands i st) (kept-turned stands i None st (kept-new p k first fresh) there)
+
   -- a window that goes under a new number, and where it stood nothing stands: no history changes
   pub kept-moved : {g : ℕ} {stands : List Stand} {passes : List (Pass H)} {o : Owner} (i n : ℕ) → IsKept g stands passes → slice_get stands i ≡ Some (Some (n, o)) → IsKept g (slice_set stands i None ++ Some (n, o) ∷ []) passes
   kept-moved {stands = stands} {o = o} i n k there = kept-turned stands i (Some (n, o)) None (kept-nowhere k) there

@@ -30,7 +30,7 @@ writer_capacity drops info offset len =
     if drops && not (ends_full info (offset + len)) then len else info.size - offset
 
 -- a writer without items on nothing
-abbrev pub idle_writer : {T M : Type 0} → PartsView T M
+abbrev pub idle_writer : {N T M : Type 0} → RowOf N T M
 idle_writer = record { items = []; place = nowhere; role = sole_writer 0 }
 
 module _ {T M A : Type 0} where
@@ -141,17 +141,17 @@ pub record CanGrow {T M : Type 0} (w : PartsView T M) (places : ℕ) : Type 0 wh
   pub behind : capacity_of w.role ≡ size_at w.place - offset_at w.place
 
 -- the only writer of these items at a place; on no block he has none
-abbrev pub sole_at : {T M : Type 0} → Bool → List T → Place (Option Owner) M → PartsView T M
+abbrev pub sole_at : {N T M : Type 0} → Bool → List T → Place N M → RowOf N T M
 sole_at drops items nowhere = idle_writer
 sole_at drops items static_data = idle_writer
-sole_at drops items (on_block owner offset info) = record {
+sole_at drops items (on_block block offset info) = record {
   items = items;
-  place = on_block owner offset info;
+  place = on_block block offset info;
   role = sole_writer (writer_capacity drops info offset (length items));
 }
 
 -- the window is that many items further in, and so has that many places less
-abbrev pub after_advance : {T M : Type 0} → ℕ → PartsView T M → PartsView T M
+abbrev pub after_advance : {N T M : Type 0} → ℕ → RowOf N T M → RowOf N T M
 after_advance n w = record {
   items = drop n w.items;
   place = moved n w.place;
@@ -160,7 +160,7 @@ after_advance n w = record {
 
 -- The first so many items, if there are more. What is dropped one by one stays in the block behind
 -- them, so they have no places beside their own.
-abbrev pub after_truncate : {T M : Type 0} → Bool → ℕ → PartsView T M → PartsView T M
+abbrev pub after_truncate : {N T M : Type 0} → Bool → ℕ → RowOf N T M → RowOf N T M
 after_truncate drops n w =
     if nat_lt n (length w.items) then record w {
       items = take n w.items;
@@ -173,11 +173,11 @@ abbrev pub with_items : {T M : Type 0} → PartsView T M → List T → PartsVie
 with_items w xs = record w { items = refill (length w.items) w.items xs }
 
 -- the same items and places, as a reader
-abbrev pub as_reader : {T M : Type 0} → PartsView T M → PartsView T M
+abbrev pub as_reader : {N T M : Type 0} → RowOf N T M → RowOf N T M
 as_reader w = record w { role = reader }
 
 -- The same items at the same place, as their only writer. On no block there are none.
-abbrev pub as_sole : {T M : Type 0} → Bool → PartsView T M → PartsView T M
+abbrev pub as_sole : {N T M : Type 0} → Bool → RowOf N T M → RowOf N T M
 as_sole drops w = sole_at drops w.items w.place
 
 -- a writer with so many items, who on a block has them at all places of a native one
@@ -186,22 +186,22 @@ pub record IsWholeWriter {T M : Type 0} (size : ℕ) (w : PartsView T M) : Type 
   pub block : IsOnBlock w.place → IsNativeOf size w.place
 
 -- Room for more items without memory: whether there is some, and the window with it.
-abbrev pub Reclaims : {T M : Type 0} → Room → (old new : PartsView T M) → Bool → Type 0
+abbrev pub Reclaims : {N T M : Type 0} → Room → (old new : RowOf N T M) → Bool → Type 0
 Reclaims (Fresh places) old new found = (found ≡ false) × (new ≡ old)
 Reclaims (Growth places) old new found = (found ≡ false) × (new ≡ old)
 Reclaims (Refused e) old new found = (found ≡ false) × (new ≡ old)
 Reclaims room old new found = (found ≡ true) × (new ≡ with_room room old)
 
 -- a writer of these items, which are all that a native block of so many places holds
-abbrev pub new_writer : {T M : Type 0} → Bool → Owner → List T → ℕ → PartsView T M
-new_writer drops owner items places = record {
+abbrev pub new_writer : {N T M : Type 0} → Bool → N → List T → ℕ → RowOf N T M
+new_writer drops block items places = record {
   items = items;
-  place = on_block (Some owner) 0 (partly_full drops places (length items));
+  place = on_block block 0 (partly_full drops places (length items));
   role = sole_writer places;
 }
 
 -- the items stand behind the others, and the block's full places are as many more
-abbrev pub with_more : {T M : Type 0} → List T → PartsView T M → PartsView T M
+abbrev pub with_more : {N T M : Type 0} → List T → RowOf N T M → RowOf N T M
 with_more xs w = record w {
   items = w.items ++ xs;
   place = with_full (length xs) w.place;
@@ -212,7 +212,7 @@ module _ {T M H : Type 0} where
   pub record IsNewWriter (drops one_pass : Bool) (items : List T) (places : ℕ) (w : PartsView T M)
       (p : Pass H) : Type 0 where
     pub owner : Owner
-    pub made : w ≡ new_writer drops owner items places
+    pub made : w ≡ new_writer drops (Some owner) items places
     pub first : IsFirst MAX_OWNERS one_pass owner
     pub pass : IsFreshPass owner p
 

@@ -113,15 +113,23 @@ making_forms =
     entry (codes "to") (ANumber ∷ ANumber ∷ []) command.To ∷
     []
 
+abbrev pub writer_forms : List Form
+writer_forms =
+    entry (codes "new") [] command.New ∷
+    entry (codes "cap") (ANumber ∷ []) command.Cap ∷
+    []
+
 abbrev pub asking_forms : List Form
 asking_forms =
     entry (codes "uniq") (ANumber ∷ []) command.Uniq ∷
     entry (codes "show") (ANumber ∷ []) command.Show ∷
     entry (codes "len") (ANumber ∷ []) command.Len ∷
+    entry (codes "room") (ANumber ∷ []) command.Room ∷
     []
 
 abbrev pub changing_forms : List Form
 changing_forms =
+    entry (codes "mut") (ANumber ∷ []) command.Mut ∷
     entry (codes "adv") (ANumber ∷ ANumber ∷ []) command.Adv ∷
     entry (codes "trunc") (ANumber ∷ ANumber ∷ []) command.Trunc ∷
     entry (codes "drop") (ANumber ∷ []) command.Drop ∷
@@ -129,7 +137,7 @@ changing_forms =
     []
 
 abbrev pub plain_forms : List Form
-plain_forms = making_forms ++ asking_forms ++ changing_forms
+plain_forms = making_forms ++ writer_forms ++ asking_forms ++ changing_forms
 
 abbrev pub items_forms : List Form
 items_forms =

@@ -11,7 +11,7 @@ ghost use Rattle.arc_table.specs.declared.command.Cmd.{Cmd};
 ghost use Rattle.arc_forms.specs.Reading.{ANumber, SomeItems, BringsItems, command_of, first_by};
 ghost use Rattle.arc_forms.specs.Reading.{is_hex_digit, is_space, items_of, number_of, operand_of};
 ghost use Rattle.arc_forms.specs.Reading.{operands_of, pairs, plain_forms, read_by, words_in};
-ghost use Rattle.arc_forms.specs.Reading.{asking_forms, changing_forms};
+ghost use Rattle.arc_forms.specs.Reading.{asking_forms, changing_forms, writer_forms};
 ghost use Rattle.std.specs.Prelude.{◌++◌};
 ghost use Rattle.arc_forms.specs.Reading.{words_of_line};
 
@@ -218,6 +218,9 @@ fn changing<A: Allocator>(verb: &[u8], rest: Rest) -> Option<Command<A>>
         ≡ read_by verb.now (words_in rest.entry) changing_forms }
 {
     match verb {
+        b"mut" => Some(Cmd::Mut {
+            window: one_number(rest)?,
+        }),
         b"adv" => {
             let (window, by) = two_numbers(rest)?;
             Some(Cmd::Adv { window, by })
@@ -251,7 +254,27 @@ fn asking<A: Allocator>(verb: &[u8], rest: Rest) -> Option<Command<A>>
         b"len" => Some(Cmd::Len {
             window: one_number(rest)?,
         }),
+        b"room" => Some(Cmd::Room {
+            window: one_number(rest)?,
+        }),
         _ => changing(verb, rest),
+    }
+}
+
+/// The same, of those too that make a window that is written (`writer_forms`).
+fn making_writers<A: Allocator>(verb: &[u8], rest: Rest) -> Option<Command<A>>
+    ensures { option_map seen_command result
+        ≡ read_by verb.now (words_in rest.entry) (writer_forms ++ asking_forms ++ changing_forms) }
+{
+    match verb {
+        b"new" => {
+            nothing(rest)?;
+            Some(Cmd::New)
+        }
+        b"cap" => Some(Cmd::Cap {
+            places: one_number(rest)?,
+        }),
+        _ => asking(verb, rest),
     }
 }
 
@@ -280,7 +303,7 @@ fn plain_command<A: Allocator>(verb: &[u8], rest: Rest) -> Option<Command<A>>
             let (window, at) = two_numbers(rest)?;
             Some(Cmd::To { window, at })
         }
-        _ => asking(verb, rest),
+        _ => making_writers(verb, rest),
     }
 }
 

@@ -22,6 +22,25 @@ fn writes(rt: &HostRuntime, line: &[u8], items: &[u8]) -> bool {
 
 #[test]
 fn commands(rt: HostRuntime) {
+    assert!(rt; matches!(parse(rt.alloc(), b"new"), Ok(Some(Cmd::New))));
+    assert!(rt;
+        matches!(
+            parse(rt.alloc(), b"cap 8"),
+            Ok(Some(Cmd::Cap { places: 8 }))
+        )
+    );
+    assert!(rt;
+        matches!(
+            parse(rt.alloc(), b"room 2"),
+            Ok(Some(Cmd::Room { window: 2 }))
+        )
+    );
+    assert!(rt;
+        matches!(
+            parse(rt.alloc(), b"mut 2"),
+            Ok(Some(Cmd::Mut { window: 2 }))
+        )
+    );
     assert!(rt; writes(&rt, b"mslice -", b""));
     assert!(rt; writes(&rt, b"mslice 00ff", b"\x00\xff"));
     assert!(rt; slices(&rt, b"slice -", b""));

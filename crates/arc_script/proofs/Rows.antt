@@ -97,3 +97,13 @@ pub writer_row : IsReplyText
     (ended (codes "h0" ∷ codes "kind" ∷ codes "kind" ∷ codes "ok" ∷ codes "ok" ∷ codes "0203" ∷ codes "kind" ∷ codes "ok" ∷ []))
 unfolding digits command_of operands_of
 writer_row = script_text writer_lines [] (no_feeds writer_lines refl) (no_feed [] refl)
+
+-- a window that becomes one that is written once it is alone, and how many places writers have
+abbrev pub places_lines : List (List ℕ)
+places_lines = codes "slice 0102" ∷ codes "clone 0" ∷ codes "room 0" ∷ codes "mut 0" ∷ codes "drop 1" ∷ codes "mut 0" ∷ codes "room 0" ∷ codes "cap 8" ∷ codes "room 2" ∷ codes "new" ∷ codes "room 3" ∷ []
+
+pub places_row : IsReplyText
+    (input_of places_lines [])
+    (ended (codes "h0" ∷ codes "h1" ∷ codes "kind" ∷ codes "refused" ∷ codes "ok" ∷ codes "ok" ∷ codes "2" ∷ codes "h2" ∷ codes "8" ∷ codes "h3" ∷ codes "0" ∷ []))
+unfolding digits command_of operands_of
+places_row = script_text places_lines [] (no_feeds places_lines refl) (no_feed [] refl)

@@ -48,8 +48,20 @@ const LEFT: &[u8] =
 const LEFT_REPLIES: &[u8] = b"h0\nh1\nh2\nh3\nh4\nh5\nh6\nno\nok\nok\nh7\nyes\nno\n4243\n";
 
 /// Scripts, each with its replies.
-const SCRIPTS: [(&[u8], &[u8]); 30] = [
+const SCRIPTS: [(&[u8], &[u8]); 33] = [
     (HELLO, HELLO_REPLIES),
+    (
+        b"slice 01020304\nclone 0\nroom 0\nmut 0\nshow 0\ndrop 1\nadv 0 1\nmut 0\nroom 0\nshow 0\nmut 0\nuniq 0\nmut 1\nmut\n",
+        b"h0\nh1\nkind\nrefused\n01020304\nok\nok\nok\n3\n020304\nkind\nkind\nno window\nbad line\n",
+    ),
+    (
+        b"slice -\nmut 0\nroom 0\nstatic\nmut 1\nuniq 1\nadv 1 4\nmut 1\nroom 1\n",
+        b"h0\nok\n0\nh1\nrefused\nno\nok\nok\n0\n",
+    ),
+    (
+        b"new\ncap 8\nroom 0\nroom 1\nnew 1\ncap\ncap x\nroom\nroom 0 0\nshow 1\nadv 1 1\nslice 41\nroom 2\nroom 3\ndrop 1\nroom 1\n",
+        b"h0\nh1\n0\n8\nbad line\nbad line\nbad line\nbad line\nbad line\n-\nout of range\nh2\nkind\nno window\nok\nno window\n",
+    ),
     (
         b"mslice 01020304\nclone 0\nsub 0 9 9\noff 0 9\nto 0 9\nuniq 0\ntakestatic 0\nadv 0 1\ntrunc 0 2\nlen 0\nshow 0\nadv 0 3\ndrop 0\nshow 0\n",
         b"h0\nkind\nkind\nkind\nkind\nkind\nkind\nok\nok\n2\n0203\nout of range\nok\nno window\n",

@@ -183,11 +183,11 @@ module _ {T M : Type 0} (slots : List (Option (SlotView T M))) (passes : List (P
       enters-at (refused e) (refuses-at passes passes' wants place e (stand_of (Some s)) why),
     )
 
-    pub asked-added : (found : Bool) → slots' ≡ slots
+    pub asked-added : (found : Bool) → stands_of slots' ≡ stands_of slots
         → Along (stand_of (Some s)) passes passes' (λ o p q. Asks o p q found)
         → Enters before i (asked found) after
     asked-added found same along = (
-      ap stands_of same,
+      same,
       enters-at (asked found) (enters-along passes passes' (λ o p q. Asks o p q found) (asked found)
           (asked-comes found) (stand_of (Some s)) along),
     )

@@ -5,7 +5,8 @@ use Rattle.std.proofs.Common.{Some}
 use Rattle.std.proofs.Common.{None, Result, Ok, Err, refl, length, slice_set, ◌++◌, [], ◌∷◌, ◌==◌}
 use Rattle.std.proofs.Common.{◌&&◌, ap, sym, ◌∙◌}
 use Rattle.std.specs.Prelude.{nat_lt, is_some, ◌+◌, ◌-◌}
-use Rattle.std.proofs.lemmas.Bool.{false≢true}
+use Rattle.std.proofs.Common.{arith}
+use Rattle.std.proofs.lemmas.Bool.{false≢true, and_parts, eqb-true, ltb-true}
 use Rattle.std.specs.Option.{option_map_or}
 use Rattle.arc_owners.specs.declared.error.RangeError.{RangeError}
 use Rattle.arc_owners.specs.declared.error.OwnerError.TheVariants.{AllocError, CountFull}
@@ -14,17 +15,21 @@ use Rattle.arc_block.specs.Block.{Sort, BlockInfo, native_facts, partly_full}
 use Rattle.arc_block.specs.Place.{Place, nowhere, static_data, on_block, moved}
 use Rattle.arc_block.specs.Table.{Row, Table, Role, row_at, is_alone, block_of}
 use Rattle.arc_block.specs.Table.{reader, sole_writer, one_writer_of_several, inline, forgotten}
-use Rattle.arc_block.specs.Writers.{with_capacity, capacity_of}
+use Rattle.arc_block.specs.Writers.{with_capacity, capacity_of, as_sole, after_advance}
 use Rattle.arc_table.specs.Blocks.{is_sole}
+use Rattle.arc_table.specs.Fits.{RowFits}
+use Rattle.arc_table.proofs.Fits.{in-edge, in-range, advance-fits, truncate-fits, founded-fits}
+use Rattle.arc_table.proofs.Fits.{writer-fits, part-fits, cut-fits, off-fits, to-fits}
 use Rattle.arc_table.specs.Step.{Setting, Shortage, no_shortage, of_table, of_clones, shortage}
-use Rattle.arc_table.specs.Step.{Step, answer}
-use Rattle.arc_table.specs.Step.{with_static, with_writer, take_items, advanced, truncated}
+use Rattle.arc_table.specs.Step.{Step, answer, may_write}
+use Rattle.arc_table.specs.Step.{with_static, with_writer, take_items, truncated}
 use Rattle.arc_table.specs.Step.{asking, founded, is_wanting, is_full, with_owner, part_of, cut_row}
 use Rattle.arc_table.specs.Step.{off_part, to_part, split_rows, changed, on_row, is_for, in_range}
 use Rattle.arc_table.specs.declared.command.Cmd.{Cmd}
 use Rattle.arc_table.specs.declared.command.Cmd.TheVariants.{Slice, Clone, Sub, Uniq, Show, Len}
 use Rattle.arc_table.specs.declared.command.Cmd.TheVariants.{Off, To, Adv, Trunc, Drop}
 use Rattle.arc_table.specs.declared.command.Cmd.TheVariants.{Static, TakeStatic, MSlice}
+use Rattle.arc_table.specs.declared.command.Cmd.TheVariants.{New, Cap, Room, Mut}
 use Rattle.arc_table.specs.declared.command.Reply.{Reply}
 use Rattle.arc_table.specs.declared.command.Reply.TheVariants as reply
 
@@ -68,6 +73,10 @@ sole-either : (b : Bool) (role other : Role) → is_sole other ≡ is_sole role
 sole-either true role other same = same
 sole-either false role other same = refl
 
+-- where a row fits its place, what comes of it does too
+abbrev pub KeepsFit : {T M : Type 0} → Bool → Row T M → Row T M → Type 0
+KeepsFit drops row part = RowFits drops row → RowFits drops part
+
 -- a command that isn't for sole writers
 shared : {X F : Type 0} (c : Cmd X F) → ((places : ℕ) → is_for c (sole_writer places) ≡ false)
     → (role : Role) → is_for c role ≡ true → is_sole role ≡ false
@@ -88,22 +97,26 @@ module _ {T M : Type 0} (setting : Setting T) (short : Shortage) (t : Table T M)
     (same : (r : Reply (List T) (List T)) → MayTell short r → Holds r t)
     (founds : (items : List T) (role : Role) (nothing : Bool) (info : BlockInfo M)
     → let place = if nothing then nowhere else on_block t.blocks 0 info in
-    Holds (reply.New (length t.rows)) (record {
+    RowFits {M = M} setting.drops (record { items = items; place = place; role = role })
+    → Holds (reply.New (length t.rows)) (record {
       rows = t.rows ++ Some (record { items = items; place = place; role = role }) ∷ [];
       blocks = option_map_or (λ block. t.blocks + 1) (block_of place) t.blocks;
     }))
     (statics : (items : List T) → Holds (reply.New (length t.rows)) (with_static t items).1)
     (more : (i : ℕ) (row part : Row T M) → row_at t i ≡ Some row → is_sole row.role ≡ false
-    → IsPart row part → Holds (reply.New (length t.rows))
+    → IsPart row part → KeepsFit setting.drops row part → Holds (reply.New (length t.rows))
     (record { rows = t.rows ++ Some part ∷ []; blocks = t.blocks }))
     (splits : (i : ℕ) (row kept handed : Row T M) → row_at t i ≡ Some row
     → is_sole row.role ≡ false → IsPart row kept → IsPart row handed
+    → KeepsFit setting.drops row kept → KeepsFit setting.drops row handed
     → Holds (reply.New (length t.rows)) (record {
       rows = slice_set t.rows i (Some kept) ++ Some handed ∷ [];
       blocks = t.blocks;
     }))
     (becomes : (i : ℕ) (row part : Row T M) → row_at t i ≡ Some row → IsPart row part
-    → Holds reply.Ok (record { rows = slice_set t.rows i (Some part); blocks = t.blocks }))
+    → KeepsFit setting.drops row part → Holds reply.Ok (record { rows = slice_set t.rows i (Some part); blocks = t.blocks }))
+    (writes : (i : ℕ) (row : Row T M) → row_at t i ≡ Some row → may_write t row ≡ true
+    → Holds reply.Ok (changed t i (as_sole setting.drops row)).1)
     (goes : (r : Reply (List T) (List T)) → MayTell short r → (i : ℕ)
     → Holds r (record { rows = slice_set t.rows i None; blocks = t.blocks })) where
   abbrev Outcome : Type 0
@@ -141,8 +154,8 @@ module _ {T M : Type 0} (setting : Setting T) (short : Shortage) (t : Table T M)
   on_row_each i c found each = row_each c found (row_at t i) each
 
   in_range_each : (answer : Result (Unit {0}) RangeError) (outcome : Outcome)
-      → After outcome → After (in_range answer t outcome)
-  in_range_each (Ok done) outcome after = after
+      → (answer ≡ Ok tt → After outcome) → After (in_range answer t outcome)
+  in_range_each (Ok done) outcome after = after refl
   in_range_each (Err e) outcome after = same (reply.Range e) (inl refl)
 
   asking_each : (s : Shortage) → s ≡ short → (outcome : Outcome) → After outcome
@@ -182,15 +195,22 @@ module _ {T M : Type 0} (setting : Setting T) (short : Shortage) (t : Table T M)
   one-is true row one other h k = h
   one-is false row one other h k = k
 
+  one-fits : (b : Bool) (row one other : Row T M) → KeepsFit setting.drops row one
+      → KeepsFit setting.drops row other → KeepsFit setting.drops row (if b then one else other)
+  one-fits true row one other h k = h
+  one-fits false row one other h k = k
+
   split_each : (i : ℕ) (out : Bool) (row cut part : Row T M) → row_at t i ≡ Some row
       → is_sole row.role ≡ false → IsPart row cut → IsPart row part
+      → KeepsFit setting.drops row cut → KeepsFit setting.drops row part
       → After (asking short t (with_owner setting short t part.place
       (split_rows t i out row cut part)))
-  split_each i out row cut part there shares one other =
+  split_each i out row cut part there shares one other fits fits-too =
       with_owner_each part.place (split_rows t i out row cut part)
       (splits i row (if out then part else cut) (if out then row else part) there shares
       (one-is out row part cut other one)
-      (one-is out row row part (stays-same row.place, refl) other))
+      (one-is out row row part (stays-same row.place, refl) other)
+      (one-fits out row part cut fits-too fits) (one-fits out row row part (λ f. f) fits-too))
 
   off_is : (row : Row T M) (at : ℕ) → IsPart row (off_part setting row at)
   off_is row at =
@@ -210,38 +230,58 @@ module _ {T M : Type 0} (setting : Setting T) (short : Shortage) (t : Table T M)
   answer_each (Slice items) =
       asking_each short refl (founded setting t items)
       (founds items reader (setting.has_static && (length items == 0))
-      (native_facts setting.drops (length items)))
+      (native_facts setting.drops (length items))
+      (founded-fits setting.drops t.blocks items (setting.has_static && (length items == 0))
+      (λ none. eqb-true (length items) 0
+      (and_parts setting.has_static (length items == 0) none).1)))
   answer_each (Static items) =
       either setting.has_static (asking short t (with_static t items)) (reply.Kind, t)
       (asking_each short refl (with_static t items) (statics items)) (same reply.Kind (inl refl))
+  answer_each New =
+      asking_each short refl (with_writer setting t [] 0)
+      (founds [] (sole_writer 0) true (partly_full setting.drops 0 0)
+      (writer-fits setting.drops t.blocks [] 0 (omega arith)))
+  answer_each (Cap places) =
+      asking_each short refl (with_writer setting t [] places)
+      (founds [] (sole_writer places) (places == 0) (partly_full setting.drops places 0)
+      (writer-fits setting.drops t.blocks [] places (omega arith)))
   answer_each (MSlice items) =
       asking_each short refl (with_writer setting t items (length items))
       (founds items (sole_writer (length items)) (length items == 0)
-      (partly_full setting.drops (length items) (length items)))
+      (partly_full setting.drops (length items) (length items))
+      (writer-fits setting.drops t.blocks items (length items) (omega arith)))
   answer_each (Clone i) =
       on_row_each i (Clone i) _ (λ row at is.
       with_owner_each row.place (t.rows ++ Some row ∷ [])
       (more i row row at (reads-only (Clone i) (λ places. refl) row.role is)
-      (stays-same row.place, refl)))
+      (stays-same row.place, refl) (λ f. f)))
   answer_each (Sub i start end) =
       on_row_each i (Sub i start end) _ (λ row at is.
       let part = part_of setting row start end in
-      in_range_each (range_answer setting.boundary row.items start end) _
-      (with_owner_each part.place (t.rows ++ Some part ∷ [])
-      (more i row part at (reads-only (Sub i start end) (λ places. refl) row.role is)
-      (part_is row start end))))
+      let shares = reads-only (Sub i start end) (λ places. refl) row.role is in
+      in_range_each (range_answer setting.boundary row.items start end) _ (λ ok.
+      let ranged = in-range setting.boundary row.items start end ok in
+      with_owner_each part.place (t.rows ++ Some part ∷ [])
+      (more i row part at shares (part_is row start end) (λ f.
+      part-fits setting row shares f start end ranged.0 ranged.1))))
   answer_each (Off i at) =
       on_row_each i (Off i at) _ (λ row there is.
-      in_range_each (edge_answer setting.boundary row.items at) _
-      (split_each i (at == 0) row (cut_row row 0 at) (off_part setting row at) there
-      (reads-only (Off i at) (λ places. refl) row.role is) (stays-moved 0 row.place, refl)
-      (off_is row at)))
+      let shares = reads-only (Off i at) (λ places. refl) row.role is in
+      in_range_each (edge_answer setting.boundary row.items at) _ (λ ok.
+      let within = in-edge setting.boundary row.items at ok in
+      split_each i (at == 0) row (cut_row row 0 at) (off_part setting row at) there shares
+      (stays-moved 0 row.place, refl) (off_is row at)
+      (λ f. cut-fits setting row shares f 0 at (omega arith) within)
+      (λ f. off-fits setting row shares f at within)))
   answer_each (To i at) =
       on_row_each i (To i at) _ (λ row there is.
-      in_range_each (edge_answer setting.boundary row.items at) _
-      (split_each i (at == length row.items) row (cut_row row at (length row.items))
-      (to_part setting row at) there (reads-only (To i at) (λ places. refl) row.role is)
-      (stays-moved at row.place, refl) (to_is row at)))
+      let shares = reads-only (To i at) (λ places. refl) row.role is in
+      in_range_each (edge_answer setting.boundary row.items at) _ (λ ok.
+      let within = in-edge setting.boundary row.items at ok in
+      split_each i (at == length row.items) row (cut_row row at (length row.items))
+      (to_part setting row at) there shares (stays-moved at row.place, refl) (to_is row at)
+      (λ f. cut-fits setting row shares f at (length row.items) within (omega arith))
+      (λ f. to-fits setting row shares f at within)))
   answer_each (Uniq i) =
       on_row_each i (Uniq i) _ (λ row at is.
       same (if is_alone t row.place then reply.Yes else reply.No)
@@ -251,25 +291,31 @@ module _ {T M : Type 0} (setting : Setting T) (short : Shortage) (t : Table T M)
       asking_each short refl (reply.Items row.items, t) (same (reply.Items row.items) (inl refl)))
   answer_each (Len i) =
       on_row_each i (Len i) _ (λ row at is. same (reply.Number (length row.items)) (inl refl))
+  answer_each (Room i) =
+      on_row_each i (Room i) _ (λ row at is. same (reply.Number (capacity_of row.role)) (inl refl))
+  answer_each (Mut i) =
+      on_row_each i (Mut i) _ (λ row at is.
+      either-is (may_write t row) (changed t i (as_sole setting.drops row)) (reply.Refused, t)
+      (writes i row at) (same reply.Refused (inl refl)))
   answer_each (Adv i by) =
       on_row_each i (Adv i by) _ (λ row at is.
-      let part = advanced row by in
-      in_range_each (edge_answer setting.boundary row.items by) (changed t i part)
-      (becomes i row part at (
+      let part = after_advance by row in
+      in_range_each (edge_answer setting.boundary row.items by) (changed t i part) (λ ok.
+      becomes i row part at (
         stays-moved by row.place,
         sole-with row.role (capacity_of row.role - by),
-      )))
+      ) (advance-fits setting.drops row by (in-edge setting.boundary row.items by ok))))
   answer_each (Trunc i len) =
       on_row_each i (Trunc i len) _ (λ row at is.
       let part = truncated setting.drops row len in
       let ranged : Outcome =
       in_range (edge_answer setting.boundary row.items len) t (changed t i part) in
-      either (nat_lt len (length row.items)) ranged (reply.Ok, t)
-      (in_range_each (edge_answer setting.boundary row.items len) (changed t i part)
-      (becomes i row part at (
+      either-is (nat_lt len (length row.items)) ranged (reply.Ok, t) (λ less.
+      in_range_each (edge_answer setting.boundary row.items len) (changed t i part) (λ ok.
+      becomes i row part at (
         stays-same row.place,
         sole-either setting.drops row.role (with_capacity row.role len) (sole-with row.role len),
-      )))
+      ) (truncate-fits setting.drops row len (ltb-true len (length row.items) less))))
       (same reply.Ok (inl refl)))
   answer_each (Drop i) = on_row_each i (Drop i) _ (λ row at is. goes reply.Ok (inl refl) i)
   answer_each (TakeStatic i) =
@@ -285,8 +331,9 @@ module _ {T M : Type 0} (setting : Setting T) (t : Table T M) where
   answer_ample : (c : Cmd (List T) (List T)) → shortage (answer setting no_shortage t c).0 ≡ no_shortage
   answer_ample =
       answer_each setting no_shortage t (λ reply new. shortage reply ≡ no_shortage) tells_none
-      (λ items role nothing info. refl) (λ items. refl) (λ i row part at shares is. refl)
-      (λ i row kept handed at shares one other. refl) (λ i row part at is. refl)
+      (λ items role nothing info fits. refl) (λ items. refl) (λ i row part at shares is fits. refl)
+      (λ i row kept handed at shares one other fits also. refl) (λ i row part at is fits. refl)
+      (λ i row at may. refl)
       (λ r tells i. tells_none r tells)
 
   pub answer_step : (c : Cmd (List T) (List T))

@@ -1,6 +1,6 @@
 -- Rows that stand on one block agree about it, and each step keeps that.
 use Rattle.std.proofs.Common.{inl, inr, ◌≡◌, ◌⊎◌, ℕ, ◌+◌, ◌<◌, ◌≤◌, Bool, true, false, if◌then◌else◌}
-use Rattle.std.proofs.Common.{List}
+use Rattle.std.proofs.Common.{List, length, is_some, ◌==◌}
 use Rattle.std.proofs.Common.{[], ◌∷◌, ◌++◌, Option, Some, None, slice_get, slice_set, refl}
 use Rattle.std.proofs.Common.{sym, ap, ◌∙◌, subst, arith}
 use Rattle.std.specs.Option.{option_flatten, option_map_or}
@@ -9,9 +9,13 @@ use Rattle.std.proofs.lemmas.Bool.{false≢true}
 use Rattle.arc_block.specs.Block.{BlockInfo}
 use Rattle.arc_block.specs.Place.{Place, nowhere, static_data, on_block}
 use Rattle.arc_block.specs.Table.{Row, Table, Role, StandsOn, row_at, reader, block_of}
+use Rattle.arc_block.specs.Table.{is_alone}
+use Rattle.arc_block.specs.Writers.{as_sole, sole_at}
+use Rattle.arc_block.proofs.Alone.{is_alone-means}
 use Rattle.arc_block.proofs.Lists.{push-cases, set-cases}
 use Rattle.arc_table.specs.Blocks.{SaysOf, RowsAgree, is_sole}
 use Rattle.arc_table.specs.Step.{Setting, Shortage, shortage, Step, Run, answer, with_static}
+use Rattle.arc_table.specs.Step.{changed, may_write}
 use Rattle.arc_table.specs.declared.command.Cmd.{Cmd}
 use Rattle.arc_table.specs.declared.command.Reply.{Reply}
 use Rattle.arc_table.proofs.Answers.{StaysOn, IsPart, answer_each}
@@ -20,7 +24,7 @@ not-writing : (b : Bool) → (b ≡ true → ⊥) → b ≡ false
 not-writing true none = absurd (none refl)
 not-writing false none = refl
 
-there : {X : Type 0} (x : Option (Option X)) (y : X) → option_flatten x ≡ Some y
+pub there : {X : Type 0} (x : Option (Option X)) (y : X) → option_flatten x ≡ Some y
     → x ≡ Some (Some y)
 there None y is = absurd (none-some y is)
 there (Some None) y is = absurd (none-some y is)
@@ -125,6 +129,29 @@ module _ {T M : Type 0} where
       let b = stood-set rows k x stood j other second in
       alone i j block a.row b.row a.there b.there (a.writes writes) (a.on block on)
       (b.on block beside)
+
+  -- a row that no other stands beside becomes one that may write, and stands where it stood
+  alone-writes : (rows : List (Option (Row T M))) (k : ℕ) (row new : Row T M) → Alone rows
+      → slice_get rows k ≡ Some (Some row)
+      → ((block : ℕ) → OnBlock block new → OnBlock block row)
+      → ((j block : ℕ) (other : Row T M) → slice_get rows j ≡ Some (Some other)
+      → OnBlock block row → OnBlock block other → j ≡ k)
+      → Alone (slice_set rows k (Some new))
+  alone-writes rows k row new alone here stays only i j block one other at second writes on beside =
+      elim (set-cases rows k i (Some one) (Some new) at) [
+        | inl old ↦ elim (set-cases rows k j (Some other) (Some new) second) [
+          | inl also ↦ alone i j block one other old.1 also.1 writes on beside
+          | inr set ↦
+              let was = stays block (subst (OnBlock block) (sym (same-row new other set.1)) beside) in
+              sym set.0 ∙ alone i k block one row old.1 here writes on was
+        ]
+        | inr end ↦
+            let was = stays block (subst (OnBlock block) (sym (same-row new one end.1)) on) in
+            elim (set-cases rows k j (Some other) (Some new) second) [
+              | inl also ↦ only j block other also.1 was beside ∙ end.0
+              | inr set ↦ sym set.0 ∙ end.0
+            ]
+      ]
 
   module _ (t : Table T M) where
     -- what a row says of the block on which it stands, a row of t says too
@@ -300,6 +327,45 @@ module _ {T M : Type 0} where
           (each-set IsSaid t.rows i (Some part) said-each (said-part i row part at is.0)) refl
           (alone-set t.rows i (Some part) alone-now (one-part i row part at is))
 
+      -- a row that is made a writer's stands where it stood, or on nothing
+      sole-said : (drops : Bool) (items : List T) (place : Place ℕ M) → IsSaid place
+          → IsSaid (sole_at drops items place).place
+      sole-said drops items nowhere said = tt
+      sole-said drops items static_data said = tt
+      sole-said drops items (on_block block offset info) said = said
+
+      sole-on : (drops : Bool) (items : List T) (place : Place ℕ M) (block : ℕ)
+          → block_of (sole_at drops items place).place ≡ Some block → block_of place ≡ Some block
+      sole-on drops items nowhere block on = on
+      sole-on drops items static_data block on = on
+      sole-on drops items (on_block n offset info) block on = on
+
+      -- beside a row that may be written no other stands
+      only-here : (i : ℕ) (row : Row T M) → row_at t i ≡ Some row → may_write t row ≡ true
+          → (j block : ℕ) (other : Row T M) → slice_get t.rows j ≡ Some (Some other)
+          → OnBlock block row → OnBlock block other → j ≡ i
+      only-here i row at may j block other here on beside =
+          let alone : is_alone t row.place ≡ true =
+          sym (ap (λ b. if is_some b then is_alone t row.place else length row.items == 0) on)
+          ∙ may in
+          let a = (is_alone-means t i row at).0 alone in
+          let same : row ≡ a.owner.row =
+          same_Some row a.owner.row (sym at ∙ a.owner.alive) in
+          let one : block ≡ a.block =
+          same_Some block a.block
+          (sym on ∙ ap (λ (r : Row T M). block_of r.place) same ∙ a.owner.stands) in
+          a.only j (stands-at j a.block other here (beside ∙ ap Some one))
+
+      writes : (drops : Bool) (i : ℕ) (row : Row T M) → row_at t i ≡ Some row
+          → may_write t row ≡ true → RowsAgree (changed t i (as_sole drops row)).1
+      writes drops i row at may =
+          let new = as_sole drops row in
+          agree-after (record { rows = slice_set t.rows i (Some new); blocks = t.blocks })
+          (each-set IsSaid t.rows i (Some new) said-each
+          (sole-said drops row.items row.place (said-there i row at row.place refl))) refl
+          (alone-writes t.rows i row new alone-now (there (slice_get t.rows i) row at)
+          (sole-on drops row.items row.place) (only-here i row at may))
+
       goes : (i : ℕ) → RowsAgree (record { rows = slice_set t.rows i None; blocks = t.blocks })
       goes i =
           agree-after (record { rows = slice_set t.rows i None; blocks = t.blocks })
@@ -378,7 +444,13 @@ module _ {T M : Type 0} where
         → RowsAgree (answer setting short t c).1
     answer-agrees short t c agree =
         answer_each setting short t (λ reply new. RowsAgree new) (λ reply tells. agree)
-        (founds t agree) (statics t agree) (more t agree) (splits t agree) (becomes t agree)
+        (λ items role nothing info fits. founds t agree items role nothing info)
+        (statics t agree)
+        (λ i row part at shares is fits. more t agree i row part at shares is)
+        (λ i row kept handed at shares one other fits also.
+        splits t agree i row kept handed at shares one other)
+        (λ i row part at is fits. becomes t agree i row part at is)
+        (writes t agree setting.drops)
         (λ r tells i. goes t agree i) c
 
     pub step_agrees : (t : Table T M) (c : Cmd (List T) (List T)) (r : Reply (List T) (List T)) (new : Table T M)

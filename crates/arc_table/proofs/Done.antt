@@ -1,7 +1,8 @@
 -- What a command did to a table, as its methods have to show it: the fact of the type, the step of
 -- the rows, and what was added to the histories, all at once.
 use Rattle.std.proofs.Common.{◌≡◌, ℕ, Bool, true, false, if◌then◌else◌, List, [], ◌∷◌, ◌++◌, length}
-use Rattle.std.proofs.Common.{Option, Some, None, slice_get, slice_set, refl, sym, ap, ◌∙◌}
+use Rattle.std.proofs.Common.{Option, Some, None, slice_get, slice_set, refl, sym, ap, ◌∙◌, ◌==◌}
+use Rattle.std.proofs.Common.{subst}
 use Rattle.arc_owners.specs.declared.mark.Whole.{Whole}
 use Rattle.arc_owners.specs.declared.count.tokens.Pass.{Pass}
 use Rattle.arc_owners.specs.declared.error.OwnerError.{OwnerError}
@@ -9,7 +10,9 @@ use Rattle.arc_owners.specs.count.Calls.{Asks}
 use Rattle.arc_block.specs.declared.block.TheConstants.{MAX_OWNERS}
 use Rattle.arc_block.specs.Owned.{IsKept}
 use Rattle.arc_block.specs.Table.{Row}
+use Rattle.arc_block.specs.Writers.{as_sole}
 use Rattle.arc_table.specs.Additions.{Standing, Adds, Joins, Enters, refused}
+use Rattle.arc_table.specs.Additions as History
 use Rattle.arc_table.specs.Blocks.{RowsAgree}
 use Rattle.arc_table.specs.Calls.{Along, Beside, RefusesAt}
 use Rattle.arc_table.specs.Slots.{SlotView, row_of, stand_of, stands_of}
@@ -26,6 +29,7 @@ use Rattle.arc_table.proofs.Rows.{asks}
 use Rattle.arc_table.proofs.Tables.{rows-more, makes-step, refused-step, kept-made, kept-unmade}
 use Rattle.arc_table.proofs.Tables.{split-rows-are, kept-stays, kept-goes, stand-there, asked-row}
 use Rattle.arc_table.proofs.Tables.{kept-dropped, dropped-row, kept-changed, changed-row}
+use Rattle.arc_table.proofs.Tables.{same-stands, written-row, unwritten-row}
 use Rattle.arc_table.proofs.Tables.{changed-added}
 use Rattle.arc_table.proofs.Added.{joins-added, refused-added, stays-added, goes-added}
 use Rattle.arc_table.proofs.Added.{asked-added, end-added}
@@ -151,6 +155,36 @@ module _ {T M : Type 0} (setting : Setting T) (slots : List (Option (SlotView T 
   where
     abbrev t : State T M
     t = state_of slots passes
+
+    module _ (reads : s.capacity ≡ None) (passes' : List (Pass Whole)) (found : Bool)
+        (along : Along (stand_of (Some s)) passes passes' (λ o p q. Asks o p q found))
+        (none : stand_of (Some s) ≡ None → found ≡ (length (row_of s).items == 0)) where
+      asked-kept : IsKept MAX_OWNERS (stands_of slots) passes'
+      asked-kept =
+          kept-asked-along i fact.0 passes' found (stand_of (Some s))
+          (stand-there slots passes i s there) along
+
+      -- it is alone, and is written from now on
+      pub wrote : found ≡ true → (s' : SlotView T M) → stand_of (Some s') ≡ stand_of (Some s)
+          → row_of s' ≡ as_sole setting.drops (row_of s)
+          → Done setting t (command.Mut i) reply.Ok (slice_set slots i (Some s')) passes'
+      wrote is s' same row =
+          let slots' = slice_set slots i (Some s') in
+          let stands = same-stands slots passes i s there s' same in
+          done fact.1
+          (subst (λ ss. IsKept MAX_OWNERS ss passes') (sym stands) asked-kept)
+          (written-row slots passes i s there fact.0 passes' setting reads found along none is s' same
+          row)
+          (subst (λ b. Enters t.standing i (History.asked b) (state_of slots' passes').standing) is
+          (asked-added slots passes i s there slots' passes' found stands along))
+
+      -- it isn't, and stays as it was
+      pub unwritten : found ≡ false → Done setting t (command.Mut i) reply.Refused slots passes'
+      unwritten is =
+          done fact.1 asked-kept
+          (unwritten-row slots passes i s there fact.0 passes' setting reads found along none is)
+          (subst (λ b. Enters t.standing i (History.asked b) (state_of slots passes').standing) is
+          (asked-added slots passes i s there slots passes' found refl along))
 
     -- the window asked whether it is alone
     pub asked : s.capacity ≡ None → (passes' : List (Pass Whole)) (found : Bool)

@@ -14,5 +14,7 @@ mod Splits
 mod Rows
 mod Done
 mod Blocks
+mod Fits
+mod FitsStep
 pub mod Statics
 pub mod Written

@@ -9,11 +9,12 @@ use Rattle.arc_owners.specs.declared.mark.Whole.{Whole}
 use Rattle.arc_owners.specs.declared.count.tokens.Pass.{Pass}
 use Rattle.arc_buffer.specs.Slice.{range_answer, edge_answer}
 use Rattle.arc_block.specs.Table.{Row, Table}
+use Rattle.arc_block.specs.Writers.{after_advance}
 use Rattle.arc_table.specs.Slots.{SlotView, row_of}
 use Rattle.arc_table.specs.State.{state_of}
 use Rattle.arc_table.specs.Step.{Setting, Shortage, no_shortage, of_table, Step, answer, asking}
 use Rattle.arc_table.specs.Step.{with_owner, part_of, cut_row, off_part, to_part, split_rows}
-use Rattle.arc_table.specs.Step.{changed, advanced, truncated}
+use Rattle.arc_table.specs.Step.{changed, truncated}
 use Rattle.arc_table.specs.Step.{in_range}
 use Rattle.arc_table.specs.declared.command.Cmd.{Cmd}
 use Rattle.arc_table.specs.declared.command.Cmd.TheVariants as command
@@ -100,10 +101,10 @@ module _ {T M : Type 0} (setting : Setting T) (slots : List (Option (SlotView T 
 
       abbrev adv-found : Row T M → Reply (List T) (List T) × Table T M
       adv-found row =
-          changed t i (advanced row at)
+          changed t i (after_advance at row)
 
       pub adv-answers : answer setting no_shortage t (command.Adv i at)
-          ≡ changed t i (advanced r at)
+          ≡ changed t i (after_advance at r)
       adv-answers =
           answered slots passes i s there (command.Adv i at) (adv-for slots passes i at s.capacity) (λ row.
           in_range (edge_answer setting.boundary row.items at) t (adv-found row))

@@ -5,7 +5,7 @@ use Rattle.std.proofs.Common.{slice_get, Result, Err}
 use Rattle.std.proofs.Common.{slice_set, refl, sym, ap, ◌∙◌, subst, arith}
 use Rattle.std.specs.Option.{option_map, option_map_or, option_flatten}
 use Rattle.std.proofs.lemmas.Bool.{eq-eqb, ne_eqb, false≢true}
-use Rattle.std.proofs.lemmas.Option.{slice_get-map}
+use Rattle.std.proofs.lemmas.Option.{slice_get-map, none-some}
 use Rattle.std.proofs.lemmas.List.{map-append, length-map}
 use Rattle.arc_owners.specs.declared.mark.Whole.{Whole}
 use Rattle.arc_owners.specs.declared.count.tokens.Pass.{Pass}
@@ -18,13 +18,14 @@ use Rattle.arc_block.specs.Owned.{Stand, IsKept}
 use Rattle.arc_block.specs.Place.{Place, nowhere, static_data, on_block, part_place}
 use Rattle.arc_block.specs.Table.{Row, Table, Role, reader, sole_writer, row_at, block_of}
 use Rattle.arc_block.specs.Table.{owners, is_alone}
+use Rattle.arc_block.specs.Writers.{as_sole}
 use Rattle.arc_table.specs.Calls.{Along, Beside, RefusesAt}
 use Rattle.arc_block.proofs.Owned.{kept-turned}
 use Rattle.arc_table.specs.Slots.{SlotView, role_of, row_of, stand_of, stands_of}
 use Rattle.arc_table.specs.State.{state_of}
 use Rattle.arc_table.specs.Step.{Setting, Shortage, no_shortage, of_clones, Step, answer, asking}
 use Rattle.arc_table.specs.Step.{with_owner, is_full, on_row, is_for, changed, split_rows}
-use Rattle.arc_table.specs.Step.{in_range, part_of}
+use Rattle.arc_table.specs.Step.{in_range, part_of, may_write}
 use Rattle.arc_owners.specs.declared.error.RangeError.{RangeError}
 use Rattle.arc_buffer.specs.Slice.{sub}
 use Rattle.arc_table.specs.declared.command.Cmd.{Cmd}
@@ -407,6 +408,61 @@ module _ {T M : Type 0} (slots : List (Option (SlotView T M))) (passes : List (P
           ∙ ap (λ b. (if b then reply.Yes else reply.No, t)) alone
           ∙ ap (λ x. (if found then reply.Yes else reply.No, x))
           (sym (same-table slots' passes' same many))
+
+      -- whether a window may be written
+      may-told : (st : Stand) → slice_get (stands_of slots) i ≡ Some st → (found : Bool)
+          → Along st passes passes' (λ o p q. Asks o p q found) → (row : Row T M)
+          → (st ≡ None → found ≡ (length row.items == 0))
+          → block_of row.place ≡ stand_block st → may_write t row ≡ found
+      may-told None at found along row none on =
+          ap (λ b. if is_some b then is_alone t row.place else length row.items == 0) on
+          ∙ sym (none refl)
+      may-told (Some (n, o)) at found along row none on =
+          ap (λ b. if is_some b then is_alone t row.place else length row.items == 0) on
+          ∙ alone-told (Some (n, o)) at found along (λ (e : Some (n, o) ≡ None).
+          absurd (none-some (n, o) (sym e))) row.place on
+
+      module _ (setting : Setting T) (reads : s.capacity ≡ None) (found : Bool)
+          (along : Along (stand_of (Some s)) passes passes' (λ o p q. Asks o p q found))
+          (none : stand_of (Some s) ≡ None → found ≡ (length (row_of s).items == 0)) where
+        mut-answers : answer setting no_shortage t (command.Mut i)
+            ≡ (if found then changed t i (as_sole setting.drops (row_of s)) else (reply.Refused, t))
+        mut-answers =
+            let on = place_agrees s.block s.window.place in
+            let may =
+            may-told (stand_of (Some s)) stand-there found along (row_of s) none on in
+            for-reader reads (command.Mut i) refl (λ row.
+            if may_write t row then changed t i (as_sole setting.drops row) else (reply.Refused, t))
+            ∙ ap (λ b. if b then changed t i (as_sole setting.drops (row_of s)) else
+            (reply.Refused, t)) may
+
+        many-asked : length passes' ≡ length passes
+        many-asked =
+            many-along i k passes' (stand_of (Some s)) (λ o p q. Asks o p q found) along
+
+        pub written-row : found ≡ true → (s' : SlotView T M)
+            → stand_of (Some s') ≡ stand_of (Some s)
+            → row_of s' ≡ as_sole setting.drops (row_of s)
+            → Step setting t (command.Mut i) reply.Ok
+            (state_of (slice_set slots i (Some s')) passes').table
+        written-row is s' same row =
+            let slots' = slice_set slots i (Some s') in
+            mut-answers
+            ∙ ap (λ b. if b then changed t i (as_sole setting.drops (row_of s)) else
+            (reply.Refused, t)) is
+            ∙ changed-row s' same (as_sole setting.drops (row_of s)) row
+            ∙ ap (λ n. (
+              reply.Ok,
+              record { rows = map (option_map row_of) slots'; blocks = n },
+            )) (sym many-asked)
+
+        pub unwritten-row : found ≡ false
+            → Step setting t (command.Mut i) reply.Refused (state_of slots passes').table
+        unwritten-row is =
+            mut-answers
+            ∙ ap (λ b. if b then changed t i (as_sole setting.drops (row_of s)) else
+            (reply.Refused, t)) is
+            ∙ ap (λ x. (reply.Refused, x)) (sym (same-table slots passes' refl many-asked))
 
       pub asked-row : s.capacity ≡ None → (setting : Setting T) (found : Bool)
           (slots' : List (Option (SlotView T M)))

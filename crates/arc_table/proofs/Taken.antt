@@ -12,7 +12,7 @@ set-back [] n x at = refl
 set-back (y ∷ ys) zero x at = ap (λ z. z ∷ ys) (sym (same_Some y x at))
 set-back (y ∷ ys) (suc n) x at = ap (λ zs. y ∷ zs) (set-back ys n x at)
 
-set-twice : {X : Type 0} (xs : List X) (n : ℕ) (x y : X)
+pub set-twice : {X : Type 0} (xs : List X) (n : ℕ) (x y : X)
     → slice_set (slice_set xs n x) n y ≡ slice_set xs n y
 set-twice [] n x y = refl
 set-twice (z ∷ zs) zero x y = refl

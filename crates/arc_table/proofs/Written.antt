@@ -1,5 +1,6 @@
 -- A writer that was made: on nothing, or as the first owner of a new block.
-use Rattle.std.proofs.Common.{◌≡◌, ℕ, ◌+◌, ◌≤◌, Bool, true, if◌then◌else◌, List, []}
+use Rattle.std.proofs.Common.{inl, inr, ◌≡◌, ◌⊎◌, ℕ, zero, suc, ◌+◌, ◌≤◌, Bool, true}
+use Rattle.std.proofs.Common.{if◌then◌else◌, List, []}
 use Rattle.std.proofs.Common.{◌∷◌, ◌++◌, length, map, Option, Some, None, refl, sym, ap, ◌∙◌}
 use Rattle.std.proofs.Common.{subst, arith}
 use Rattle.std.specs.Option.{option_map, option_map_or}
@@ -9,21 +10,22 @@ use Rattle.arc_owners.specs.declared.mark.Whole.{Whole}
 use Rattle.arc_owners.specs.declared.count.tokens.Pass.{Pass}
 use Rattle.arc_block.specs.declared.block.TheConstants.{MAX_OWNERS}
 use Rattle.arc_block.specs.Block.{partly_full}
-use Rattle.arc_block.specs.Owned.{Stand, IsKept}
+use Rattle.arc_block.specs.Owned.{IsKept}
 use Rattle.arc_block.specs.Place.{nowhere, on_block}
 use Rattle.arc_block.specs.Table.{Row, Table, sole_writer, block_of}
-use Rattle.arc_block.specs.Window.{PartsView, window_of}
-use Rattle.arc_block.specs.Writers.{MakesWriter, capacity_of, idle_writer, new_writer}
+use Rattle.arc_block.specs.Window.{PartsView}
+use Rattle.arc_block.specs.Writers.{MakesWriter, idle_writer, new_writer}
 use Rattle.arc_block.proofs.Owned.{kept-new, kept-nowhere}
-use Rattle.arc_table.specs.Additions.{Standing, Adds, Founds}
+use Rattle.arc_table.specs.Additions.{Standing, Adds, MakesWindow}
 use Rattle.arc_table.specs.Blocks.{is_sole}
-use Rattle.arc_table.specs.Slots.{SlotView, row_of, stand_of}
+use Rattle.arc_table.specs.Slots.{SlotView, row_of, stand_of, writer_slot}
 use Rattle.arc_table.specs.Stands.{is_numbered}
 use Rattle.arc_table.specs.State.{State, state_of}
 use Rattle.arc_table.specs.Step.{Setting, no_shortage, answer, with_writer}
 use Rattle.arc_table.specs.declared.command.Cmd.{Cmd}
 use Rattle.arc_table.specs.declared.command.Reply.{Reply}
 use Rattle.arc_table.specs.declared.command.Reply.TheVariants as reply
+use Rattle.arc_table.proofs.Lists.{behind}
 use Rattle.arc_table.proofs.Done.{Done, Fact, done}
 
 -- no items are as many as none
@@ -31,18 +33,10 @@ pub none-of : {X : Type 0} (xs : List X) → length xs ≡ 0 → xs ≡ []
 none-of [] is = refl
 none-of (x ∷ xs) is = absurd (omega (arith, is))
 
--- a slot of a writer
-abbrev pub written : {T M : Type 0} → PartsView T M → Option ℕ → SlotView T M
-written w block = record {
-  window = window_of w;
-  capacity = Some (capacity_of w.role);
-  block = block;
-}
-
--- a window more, on nothing or as the first owner of a new block
-abbrev pub MakesOne : Standing Whole → Standing Whole → Type 0
-MakesOne old new = (made : Stand) × Founds made old.passes new.passes
-    × (new.stands ≡ old.stands ++ made ∷ [])
+-- a number is none, or at least one
+pub none-or-some : (n : ℕ) → (n ≡ 0) ⊎ (1 ≤ n)
+none-or-some zero = inl refl
+none-or-some (suc n) = inr (omega arith)
 
 -- it is a sole writer, and stands where it should
 module _ {T M : Type 0} (drops : Bool) (items : List T) (places : ℕ) (w : PartsView T M)
@@ -59,6 +53,28 @@ module _ {T M : Type 0} (drops : Bool) (items : List T) (places : ℕ) (w : Part
   pub new-on-block : (n : ℕ) → 1 ≤ places → is_numbered (Some n) w.place ≡ true
   new-on-block n some =
       ap (λ (v : PartsView T M). is_numbered (Some n) v.place) (makes.new some).made
+
+  by-places : (places ≡ 0) ⊎ (1 ≤ places) → is_sole w.role ≡ true
+  by-places (inl none) = idle-writes none
+  by-places (inr some) = new-writes some
+
+  pub writes : is_sole w.role ≡ true
+  writes = by-places (none-or-some places)
+
+-- A writer was put behind the slots and, with places, its pass behind the passes, where room had
+-- been made: what was read there is what stood there.
+pub record Pushed {T M : Type 0} (w : PartsView T M) (places : ℕ) (pass : Pass Whole)
+    (slots : List (Option (SlotView T M))) (passes : List (Pass Whole))
+    (slots' : List (Option (SlotView T M))) (passes' : List (Pass Whole)) (result : ℕ)
+    : Type 0 where
+  pub read : List (Option (SlotView T M))
+  pub among : List (Pass Whole)
+  pub same_slots : read ≡ slots
+  pub same_passes : among ≡ passes
+  pub number : result ≡ length read
+  pub idle : places ≡ 0 → (slots' ≡ read ++ Some (writer_slot w None) ∷ []) × (passes' ≡ among)
+  pub new : 1 ≤ places → (slots' ≡ read ++ Some (writer_slot w (Some (length among))) ∷ [])
+      × (passes' ≡ among ++ pass ∷ [])
 
 module _ {T M : Type 0} (setting : Setting T) (slots : List (Option (SlotView T M)))
     (passes : List (Pass Whole)) (fact : Fact slots passes) (c : Cmd (List T) (List T))
@@ -83,22 +99,23 @@ module _ {T M : Type 0} (setting : Setting T) (slots : List (Option (SlotView T 
       )
 
   module _ (answers : answer setting no_shortage t c ≡ with_writer setting t items places)
-      (adds : (number : ℕ) (new : Standing Whole) → MakesOne old.standing new
-      → Adds t old.standing c (reply.New number) new) (w : PartsView T M) (before after : Pass Whole)
+      (adds : (number : ℕ) (new : Standing Whole) → MakesWindow old.standing new
+      → Adds t old.standing c (reply.New number) new)
+      (w : PartsView T M) (before after : Pass Whole)
       (makes : MakesWriter setting.drops true items places w before after)
       (slots' : List (Option (SlotView T M))) (passes' : List (Pass Whole)) (number : ℕ)
       (counted : number ≡ length slots) where
     -- it stands on nothing
-    pub idle-made : places ≡ 0 → items ≡ [] → slots' ≡ slots ++ Some (written w None) ∷ []
+    pub idle-made : places ≡ 0 → items ≡ [] → slots' ≡ slots ++ Some (writer_slot w None) ∷ []
         → passes' ≡ passes → Done setting old c (reply.New number) slots' passes'
-    idle-made zero none more same =
-        let s : SlotView T M = written idle_writer None in
+    idle-made idle none more same =
+        let s : SlotView T M = writer_slot idle_writer None in
         let full = slots ++ Some s ∷ [] in
         let base : Done setting old c (reply.New (length slots)) full passes =
         done fact.1
         (subst (λ ss. IsKept MAX_OWNERS ss passes)
         (sym (map-append stand_of slots (Some s ∷ []))) (kept-nowhere fact.0))
-        (answers ∙ ap outcome (eq-eqb places 0 zero)
+        (answers ∙ ap outcome (eq-eqb places 0 idle)
         ∙ ap (λ xs. (
           reply.New (length t.rows),
           record {
@@ -114,7 +131,7 @@ module _ {T M : Type 0} (setting : Setting T) (slots : List (Option (SlotView T 
                 ++ Some (record { items = []; place = nowhere; role = sole_writer n }) ∷ [];
             blocks = t.blocks;
           },
-        )) zero
+        )) idle
         ∙ ap (λ n. (
           reply.New n,
           record { rows = t.rows ++ Some (row_of s) ∷ []; blocks = t.blocks },
@@ -124,19 +141,19 @@ module _ {T M : Type 0} (setting : Setting T) (slots : List (Option (SlotView T 
         (adds (length slots) (state_of full passes).standing
         (None, refl, map-append stand_of slots (Some s ∷ []))) in
         let more' : slots' ≡ full =
-        more ∙ ap (λ v. slots ++ Some (written v None) ∷ []) (makes.idle zero).0 in
+        more ∙ ap (λ v. slots ++ Some (writer_slot v None) ∷ []) (makes.idle idle).0 in
         subst (λ n. Done setting old c (reply.New n) slots' passes') (sym counted)
         (subst (λ ps. Done setting old c (reply.New (length slots)) slots' ps) (sym same)
         (subst (λ ss. Done setting old c (reply.New (length slots)) ss passes) (sym more') base))
 
     -- it is the first owner of a new block
-    pub new-made : (n : ℕ) → 1 ≤ places → slots' ≡ slots ++ Some (written w (Some n)) ∷ []
+    pub new-made : (n : ℕ) → 1 ≤ places → slots' ≡ slots ++ Some (writer_slot w (Some n)) ∷ []
         → n ≡ length passes → passes' ≡ passes ++ after ∷ []
         → Done setting old c (reply.New number) slots' passes'
     new-made n some more next pass =
         let m = makes.new some in
-        let v : PartsView T M = new_writer setting.drops m.owner items places in
-        let s : SlotView T M = written v (Some (length passes)) in
+        let v : PartsView T M = new_writer setting.drops (Some m.owner) items places in
+        let s : SlotView T M = writer_slot v (Some (length passes)) in
         let full = slots ++ Some s ∷ [] in
         let all = passes ++ after ∷ [] in
         let base : Done setting old c (reply.New (length slots)) full all =
@@ -160,8 +177,41 @@ module _ {T M : Type 0} (setting : Setting T) (slots : List (Option (SlotView T 
           map-append stand_of slots (Some s ∷ []),
         )) in
         let more' : slots' ≡ full =
-        more ∙ ap (λ x. slots ++ Some (written x (Some n)) ∷ []) m.made
-        ∙ ap (λ k. slots ++ Some (written v (Some k)) ∷ []) next in
+        more ∙ ap (λ x. slots ++ Some (writer_slot x (Some n)) ∷ []) m.made
+        ∙ ap (λ k. slots ++ Some (writer_slot v (Some k)) ∷ []) next in
         subst (λ n. Done setting old c (reply.New n) slots' passes') (sym counted)
         (subst (λ ps. Done setting old c (reply.New (length slots)) slots' ps) (sym pass)
         (subst (λ ss. Done setting old c (reply.New (length slots)) ss all) (sym more') base))
+
+    either : (places ≡ 0) ⊎ (1 ≤ places) → (places ≡ 0 → items ≡ [])
+        → (places ≡ 0 → (slots' ≡ slots ++ Some (writer_slot w None) ∷ []) × (passes' ≡ passes))
+        → (1 ≤ places → (slots' ≡ slots ++ Some (writer_slot w (Some (length passes))) ∷ [])
+        × (passes' ≡ passes ++ after ∷ []))
+        → Done setting old c (reply.New number) slots' passes'
+    either (inl none) empty idle new =
+        idle-made none (empty none) (idle none).0 (idle none).1
+    either (inr some) empty idle new =
+        new-made (length passes) some (new some).0 refl (new some).1
+
+  -- as the one or the other, as it was put behind the others
+  pub made : (answers : answer setting no_shortage t c ≡ with_writer setting t items places)
+      → ((number : ℕ) (new : Standing Whole) → MakesWindow old.standing new
+      → Adds t old.standing c (reply.New number) new)
+      → (w : PartsView T M) (before after : Pass Whole)
+      → MakesWriter setting.drops true items places w before after
+      → (slots' : List (Option (SlotView T M))) (passes' : List (Pass Whole)) (number : ℕ)
+      → Pushed w places after slots passes slots' passes' number → (places ≡ 0 → items ≡ [])
+      → Done setting old c (reply.New number) slots' passes'
+  made answers adds w before after makes slots' passes' number p empty =
+      either answers adds w before after makes slots' passes' number
+      (p.number ∙ ap length p.same_slots) (none-or-some places) empty
+      (λ none. (
+        behind slots _ (p.idle none).0 p.same_slots,
+        (p.idle none).1 ∙ p.same_passes,
+      ))
+      (λ some. (
+        behind slots _ ((p.new some).0
+            ∙ ap (λ ps. p.read ++ Some (writer_slot w (Some (length ps))) ∷ []) p.same_passes)
+            p.same_slots,
+        behind passes after (p.new some).1 p.same_passes,
+      ))

@@ -16,6 +16,7 @@ use Rattle.arc_block.specs.Table.{Table, row_at}
 use Rattle.arc_table.specs.declared.command.Cmd.{Cmd}
 use Rattle.arc_table.specs.declared.command.Cmd.TheVariants.{Slice, Clone, Sub, Off, To, Uniq}
 use Rattle.arc_table.specs.declared.command.Cmd.TheVariants.{Drop, Static, TakeStatic, MSlice}
+use Rattle.arc_table.specs.declared.command.Cmd.TheVariants.{New, Cap, Mut}
 use Rattle.arc_table.specs.declared.command.Reply.{Reply}
 use Rattle.arc_table.specs.declared.command.Reply.TheVariants as reply
 
@@ -78,6 +79,11 @@ module _ {H : Type 0} where
       (number ≡ length old) × IsFirst MAX_OWNERS true owner
       × (p : Pass H) × IsFreshPass owner p × (new ≡ old ++ p ∷ [])
 
+  -- a window more, on nothing or as the first owner of a block more
+  abbrev pub MakesWindow : Standing H → Standing H → Type 0
+  MakesWindow old new = (made : Stand) × Founds made old.passes new.passes
+      × (new.stands ≡ old.stands ++ made ∷ [])
+
   -- where the window with this number stands
   abbrev pub stand_in : Standing H → ℕ → Stand
   stand_in t i = option_flatten (slice_get t.stands i)
@@ -98,10 +104,10 @@ module _ {H : Type 0} where
   -- itself
   abbrev pub Adds : {T M : Type 0} → Table T M → Standing H → Cmd (List T) (List T)
       → Reply (List T) (List T) → Standing H → Type 0
-  Adds t old (Slice items) (reply.New number) new = (made : Stand)
-      × Founds made old.passes new.passes × (new.stands ≡ old.stands ++ made ∷ [])
-  Adds t old (MSlice items) (reply.New number) new = (made : Stand)
-      × Founds made old.passes new.passes × (new.stands ≡ old.stands ++ made ∷ [])
+  Adds t old (Slice items) (reply.New number) new = MakesWindow old new
+  Adds t old New (reply.New number) new = MakesWindow old new
+  Adds t old (Cap places) (reply.New number) new = MakesWindow old new
+  Adds t old (MSlice items) (reply.New number) new = MakesWindow old new
   Adds t old (Static items) (reply.New number) new =
       (new.stands ≡ old.stands ++ None ∷ []) × (new.passes ≡ old.passes)
   Adds t old (Clone i) (reply.New number) new = Joins old i false new
@@ -115,6 +121,8 @@ module _ {H : Type 0} where
   Adds t old (To i at) (reply.Owner e) new = Enters old i (refused e) new
   Adds t old (Uniq i) reply.Yes new = Enters old i (asked true) new
   Adds t old (Uniq i) reply.No new = Enters old i (asked false) new
+  Adds t old (Mut i) reply.Ok new = Enters old i (asked true) new
+  Adds t old (Mut i) reply.Refused new = Enters old i (asked false) new
   Adds t old (Drop i) reply.Ok new = (new.stands ≡ slice_set old.stands i None)
       × AddsAt (stand_in old i) (λ o history. entry.Down o.number ∷ []) old.passes new.passes
   Adds t old (TakeStatic i) (reply.Static items) new =

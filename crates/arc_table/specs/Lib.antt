@@ -3,6 +3,7 @@ pub mod Step
 pub mod Seen
 pub mod Stands
 pub mod Blocks
+pub mod Fits
 pub mod Slots
 pub mod Calls
 pub mod Additions

@@ -6,6 +6,7 @@ use Rattle.arc_table.specs.declared.command.Cmd.{Cmd}
 use Rattle.arc_table.specs.declared.command.Cmd.TheVariants.{Slice, Clone, Sub, Uniq, Show, Len}
 use Rattle.arc_table.specs.declared.command.Cmd.TheVariants.{Off, To, Adv, Trunc, Drop}
 use Rattle.arc_table.specs.declared.command.Cmd.TheVariants.{Static, TakeStatic, MSlice}
+use Rattle.arc_table.specs.declared.command.Cmd.TheVariants.{New, Cap, Room, Mut}
 use Rattle.arc_table.specs.declared.command.Reply.{Reply}
 use Rattle.arc_table.specs.declared.command.Reply.TheVariants as reply
 
@@ -13,6 +14,8 @@ use Rattle.arc_table.specs.declared.command.Reply.TheVariants as reply
 abbrev pub map_command : {X Y F : Type 0} → (X → Y) → Cmd X F → Cmd Y F
 map_command f (Slice items) = Slice (f items)
 map_command f (Static items) = Static items
+map_command f New = New
+map_command f (Cap places) = Cap places
 map_command f (MSlice items) = MSlice (f items)
 map_command f (Clone i) = Clone i
 map_command f (Sub i start end) = Sub i start end
@@ -21,6 +24,8 @@ map_command f (Show i) = Show i
 map_command f (Off i at) = Off i at
 map_command f (To i at) = To i at
 map_command f (Len i) = Len i
+map_command f (Room i) = Room i
+map_command f (Mut i) = Mut i
 map_command f (Adv i by) = Adv i by
 map_command f (Trunc i len) = Trunc i len
 map_command f (Drop i) = Drop i

@@ -31,6 +31,10 @@ module _ {T M : Type 0} where
     block = block;
   }
 
+  -- a writer's window, on the block with this number, as it is seen of a slot
+  abbrev pub writer_slot : PartsView T M → Option ℕ → SlotView T M
+  writer_slot window block = held (Write window) block
+
   -- a window that is written is a sole writer
   abbrev pub is_writer : Held (Window T M) (PartsView T M) → Bool
   is_writer (Read window) = true

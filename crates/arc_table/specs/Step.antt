@@ -1,7 +1,7 @@
 -- One step of a table of lists: what each command is answered, and the table after it.
 use Rattle.std.specs.Prelude.{◌≡◌, ℕ, ◌+◌, ◌==◌, Bool, true, false, if◌then◌else◌, List, [], ◌∷◌}
 use Rattle.std.specs.Prelude.{◌++◌, length, Option, Some, None, slice_set, Result, Ok, Err, take}
-use Rattle.std.specs.Prelude.{◌-◌, drop, is_some, nat_lt}
+use Rattle.std.specs.Prelude.{is_some, nat_lt}
 use Rattle.std.specs.Option.{option_map_or}
 use Rattle.arc_owners.specs.declared.error.RangeError.{RangeError}
 use Rattle.arc_owners.specs.declared.error.OwnerError.TheVariants.{AllocError, CountFull}
@@ -13,12 +13,13 @@ use Rattle.arc_block.specs.Place.{moved}
 use Rattle.arc_block.specs.Table.{Row, Table, row_at, block_of, owners, is_alone}
 use Rattle.arc_block.specs.Table.{Role, reader, sole_writer, one_writer_of_several, inline}
 use Rattle.arc_block.specs.Table.{forgotten}
-use Rattle.arc_block.specs.Writers.{capacity_of, with_capacity}
+use Rattle.arc_block.specs.Writers.{capacity_of, with_capacity, as_sole, after_advance}
 use Rattle.arc_table.specs.RunOf.{RunOf}
 use Rattle.arc_table.specs.declared.command.Cmd.{Cmd}
 use Rattle.arc_table.specs.declared.command.Cmd.TheVariants.{Slice, Clone, Sub, Uniq, Show, Len}
 use Rattle.arc_table.specs.declared.command.Cmd.TheVariants.{Off, To, Adv, Trunc, Drop}
 use Rattle.arc_table.specs.declared.command.Cmd.TheVariants.{Static, TakeStatic, MSlice}
+use Rattle.arc_table.specs.declared.command.Cmd.TheVariants.{New, Cap, Room, Mut}
 use Rattle.arc_table.specs.declared.command.Reply.{Reply}
 use Rattle.arc_table.specs.declared.command.Reply.TheVariants as reply
 
@@ -66,11 +67,14 @@ is_for (To i at) reader = true
 is_for (To i at) (one_writer_of_several capacity) = true
 is_for (Uniq i) reader = true
 is_for (TakeStatic i) reader = true
+is_for (Mut i) reader = true
 is_for (Trunc i len) inline = false
 is_for (Trunc i len) role = true
 is_for (Adv i by) role = true
 is_for (Show i) role = true
 is_for (Len i) role = true
+is_for (Room i) (sole_writer capacity) = true
+is_for (Room i) (one_writer_of_several capacity) = true
 is_for (Drop i) role = true
 is_for command role = false
 
@@ -152,13 +156,11 @@ part_of setting row start end =
       role = row.role;
     }
 
--- the row that many items further in: a writer has that many places less
-abbrev pub advanced : {T M : Type 0} → Row T M → ℕ → Row T M
-advanced row by = record {
-  items = drop by row.items;
-  place = moved by row.place;
-  role = with_capacity row.role (capacity_of row.role - by);
-}
+-- whether a row may be written from now on: where no other stands on its block, or where it has no
+-- items and stands on none
+abbrev pub may_write : {T M : Type 0} → Table T M → Row T M → Bool
+may_write t row =
+    if is_some (block_of row.place) then is_alone t row.place else length row.items == 0
 
 -- The row's first items. What is dropped one by one stays in the block behind them, so a writer of
 -- these has no places beside their own.
@@ -223,6 +225,8 @@ abbrev pub answer : {T M : Type 0} → Setting T → Shortage → Table T M → 
 answer setting short t (Slice items) = asking short t (founded setting t items)
 answer setting short t (Static items) =
     if setting.has_static then asking short t (with_static t items) else (reply.Kind, t)
+answer setting short t New = asking short t (with_writer setting t [] 0)
+answer setting short t (Cap places) = asking short t (with_writer setting t [] places)
 answer setting short t (MSlice items) =
     asking short t (with_writer setting t items (length items))
 answer setting short t (Clone i) = on_row t i (Clone i) (λ row.
@@ -247,9 +251,13 @@ answer setting short t (Show i) = on_row t i (Show i) (λ row.
     asking short t (reply.Items row.items, t))
 answer setting short t (Len i) = on_row t i (Len i) (λ row.
     (reply.Number (length row.items), t))
+answer setting short t (Room i) = on_row t i (Room i) (λ row.
+    (reply.Number (capacity_of row.role), t))
+answer setting short t (Mut i) = on_row t i (Mut i) (λ row.
+    if may_write t row then changed t i (as_sole setting.drops row) else (reply.Refused, t))
 answer setting short t (Adv i by) = on_row t i (Adv i by) (λ row.
     in_range (edge_answer setting.boundary row.items by) t
-    (changed t i (advanced row by)))
+    (changed t i (after_advance by row)))
 answer setting short t (Trunc i len) = on_row t i (Trunc i len) (λ row.
     if nat_lt len (length row.items) then
     in_range (edge_answer setting.boundary row.items len) t

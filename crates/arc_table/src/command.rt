@@ -10,6 +10,12 @@ pub enum Cmd<X, F> {
     Slice(X),
     /// A window over a slice that is there for good.
     Static(F),
+    /// A window that is written, with no items and no places.
+    New,
+    /// A window that is written, with no items and so many places.
+    Cap {
+        places: usize,
+    },
     /// A window that is written, over a copy of these items.
     MSlice(X),
     /// Another window with the same items at the same place.
@@ -42,6 +48,14 @@ pub enum Cmd<X, F> {
     },
     /// How many items a window has.
     Len {
+        window: usize,
+    },
+    /// How many places a window that is written has.
+    Room {
+        window: usize,
+    },
+    /// Makes a window that is alone one that is written.
+    Mut {
         window: usize,
     },
     /// Takes the first `by` items off a window.

@@ -1,7 +1,8 @@
 //! Laws of the table of lists.
-ghost use Rattle.std.specs.Prelude.{List};
+ghost use Rattle.std.specs.Prelude.{Bool, List};
 ghost use Rattle.arc_block.specs.Table.{Table, empty_table};
 ghost use Rattle.arc_table.specs.Blocks.{RowsAgree};
+ghost use Rattle.arc_table.specs.Fits.{RowsFit};
 ghost use Rattle.arc_table.specs.RunOf.{RunOf};
 ghost use Rattle.arc_table.specs.State.{CarriesOut, State};
 ghost use Rattle.arc_table.specs.Step.{Run, Setting, Step};
@@ -25,4 +26,22 @@ pub fn rows_agree<T, M>()
         (new : State T M)
         → RunOf (CarriesOut setting) old commands replies new
         → RowsAgree old.table → RowsAgree new.table }
+{}
+
+/// A row's items lie within its block, and a sole writer has the places that his place gives him,
+/// in every table that comes of the empty one: each step keeps it, and so does each run. Does
+/// nothing: its contract is the law, for items and metadata of any type.
+pub fn rows_fit<T, M>()
+    ensures empty { (drops : Bool) → RowsFit {T = T} {M = M} drops empty_table }
+    ensures step { (setting : Setting T) (old : Table T M) (command : Cmd (List T) (List T))
+        (reply : Reply (List T) (List T)) (new : Table T M) → Step setting old command reply new
+        → RowsFit setting.drops old → RowsFit setting.drops new }
+    ensures run { (setting : Setting T) (old : Table T M) (commands : List (Cmd (List T) (List T)))
+        (replies : List (Reply (List T) (List T))) (new : Table T M)
+        → Run setting old commands replies new → RowsFit setting.drops old
+        → RowsFit setting.drops new }
+    ensures carried_out { (setting : Setting T) (old : State T M)
+        (commands : List (Cmd (List T) (List T))) (replies : List (Reply (List T) (List T)))
+        (new : State T M) → RunOf (CarriesOut setting) old commands replies new
+        → RowsFit setting.drops old.table → RowsFit setting.drops new.table }
 {}

@@ -14,7 +14,7 @@ use arc_owners::error::{OwnerError, RangeError};
 use arc_owners::mark::Whole;
 use arc_owners::owners::Pass;
 use arc_read::slice::ArcSlice;
-use arc_write::slice_mut::ArcSliceMut;
+use arc_write::slice_mut::{ArcSliceMut, try_into_mut_as};
 use std::alloc::Allocator;
 use std::marker::Model;
 use std::sync::Wait;
@@ -84,19 +84,19 @@ impl<S: Slice, L: Layout, B, M, A: Allocator + Copy> Slot<S, L, B, M, A>
 where
     L::Writable: LayoutMut,
 {
-    ghost use Rattle.std.specs.Prelude.{◌≡◌, ◌<◌, ◌↔◌, length, Bool, false, None, Some};
+    ghost use Rattle.std.specs.Prelude.{◌≡◌, ◌<◌, ◌≤◌, ◌↔◌, length, Bool, false, None, Some};
     ghost use Rattle.std.specs.Prelude.{IfOk, IfErr, IsOk, take, drop, true, is_some};
     ghost use Rattle.arc_buffer.specs.Slice.{IsRange, IsEdge, sub, range_answer, edge_answer};
     ghost use Rattle.arc_block.specs.Place.{part_place};
     ghost use Rattle.arc_block.specs.Table.{block_of, reader};
     ghost use Rattle.arc_block.specs.Window.{window_of};
-    ghost use Rattle.arc_block.specs.Writers.{capacity_of};
+    ghost use Rattle.arc_block.specs.Writers.{after_advance, as_sole, capacity_of};
     ghost use Rattle.arc_block.specs.Place.{static_data};
     ghost use Rattle.arc_owners.specs.count.Calls.{Asks, Leaves};
     ghost use Rattle.arc_table.specs.Stands.{HasPassFor, is_numbered};
     ghost use Rattle.arc_table.specs.Calls.{Along, Beside, RefusesAt};
     ghost use Rattle.arc_table.specs.Step.{setting_of, cut_row, off_part, to_part};
-    ghost use Rattle.arc_table.specs.Step.{advanced, truncated};
+    ghost use Rattle.arc_table.specs.Step.{truncated};
     ghost use Rattle.arc_table.specs.Splits.{IsSplit};
     ghost use Rattle.arc_table.specs.Blocks.{is_sole};
     ghost use Rattle.arc_table.specs.Slots.{row_of, stand_of};
@@ -145,6 +145,16 @@ where
         match &self.window {
             Held::Read(_) => false,
             Held::Write(_) => true,
+        }
+    }
+
+    /// How many places the window has, if it is one that is written.
+    pub fn capacity(&self) -> Option<usize>
+        ensures { result ≡ self.now.capacity }
+    {
+        match &self.window {
+            Held::Read(_) => None,
+            Held::Write(window) => Some(window.capacity()),
         }
     }
 
@@ -223,7 +233,7 @@ where
     where
         S: Subsliceable,
         requires { IsEdge S.boundary self.old.window.items by }
-        ensures row { row_of self.new ≡ advanced (row_of self.old) by }
+        ensures row { row_of self.new ≡ after_advance by (row_of self.old) }
         ensures stand { stand_of (Some self.new) ≡ stand_of (Some self.old) }
     {
         match &mut self.window {
@@ -414,6 +424,39 @@ where
         let block = part_block::<L>(block, front.len());
         let window = Held::Read(front);
         Ok(Slot { window, block })
+    }
+
+    /// The window as one that is written, where no other owner of its block lives, or where it has
+    /// no items and stands on none. Else it comes back. Takes no memory.
+    pub fn try_into_mut(self, passes: &mut Passes<A>) -> Result<Self, Self>
+        requires reads { self.capacity ≡ None }
+        requires pass { HasPassFor passes.old.of_blocks.items (stand_of (Some self)) }
+        ensures row { IfOk result (λ slot. row_of slot ≡ as_sole S.DROPS (row_of self)) }
+        ensures stand { IfOk result (λ slot. stand_of (Some slot) ≡ stand_of (Some self)) }
+        ensures alone { IfOk result (λ _. Along (stand_of (Some self)) passes.old.of_blocks.items
+            passes.new.of_blocks.items (λ o p q. Asks o p q true)) }
+        ensures empty { IfOk result (λ _. stand_of (Some self) ≡ None
+            → length self.window.items ≡ 0) }
+        ensures back { IfErr result (λ slot. slot ≡ self) }
+        ensures beside { IfErr result (λ _. Along (stand_of (Some self)) passes.old.of_blocks.items
+            passes.new.of_blocks.items (λ o p q. Asks o p q false)) }
+        ensures items { IfErr result (λ _. stand_of (Some self) ≡ None
+            → 1 ≤ length self.window.items) }
+    {
+        let Slot { window, block } = self;
+        let Held::Read(window) = window else {
+            unreachable!()
+        };
+        let mut pass = passes.lend(block);
+        let asked = try_into_mut_as(window, &mut pass);
+        passes.give_back(block, pass);
+        match asked {
+            Ok(window) => Ok(Slot::written(window, block)),
+            Err(window) => Err(Slot {
+                window: Held::Read(window),
+                block,
+            }),
+        }
     }
 
     /// Whether no other owner of the window's block lives. `false` on no block. Takes no memory.

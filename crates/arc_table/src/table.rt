@@ -1,13 +1,19 @@
 //! `Table`, windows by number.
-ghost use Rattle.std.specs.Prelude.{◌≡◌, ℕ, Some, None, MatchOption, slice_get};
+ghost use Rattle.std.specs.Prelude.{◌≡◌, ◌<◌, ◌≤◌, ◌++◌, ◌∷◌, [], ℕ, true, Some, None, length};
+ghost use Rattle.std.specs.Prelude.{MatchOption, slice_get, slice_set};
 ghost use Rattle.std.specs.Option.{option_flatten};
+ghost use Rattle.std.specs.Vec.{vec_capacity};
+ghost use Rattle.arc_table.specs.Blocks.{is_sole};
+ghost use Rattle.arc_table.specs.Slots.{writer_slot};
+ghost use Rattle.arc_table.specs.Stands.{is_numbered};
 
 use crate::command::{Cmd, Reply, TableReply};
 use crate::passes::Passes;
 use crate::slot::{Held, Slot};
 use arc_block::layout::{DefaultLayout, Layout, LayoutMut, stands_on_nothing};
 use arc_block::static_slice::StaticSlice;
-use arc_buffer::kinds::{CopySlice, Slice, Subsliceable};
+use arc_buffer::kinds::{CopySlice, Emptyable, Slice, Subsliceable};
+use arc_owners::mark::Whole;
 use arc_owners::owners::Pass;
 use arc_read::slice::ArcSlice;
 use arc_write::slice_mut::ArcSliceMut;
@@ -69,6 +75,55 @@ where
     slots.get(i)?.as_ref()
 }
 
+/// Puts a slot under a number under which there is none.
+fn put_slot<S: Slice, L: Layout, B, M, A: Allocator + Copy>(
+    slots: &mut Vec<Option<Slot<S, L, B, M, A>>, A>,
+    i: usize,
+    slot: Slot<S, L, B, M, A>,
+)
+where
+    L::Writable: LayoutMut,
+    requires { slice_get slots.old.items i ≡ Some None }
+    ensures { slots.new.items ≡ slice_set slots.old.items i (Some slot) }
+{
+    let left = mem::replace(&mut slots[i], Some(slot));
+    let None = left else { unreachable!() };
+}
+
+/// Puts a writer that was made behind the slots, and its pass, which is then a new block's, behind
+/// the passes. With no places it stands on nothing, and the pass isn't kept. Answers its number.
+fn push_writer<S: Slice, L: Layout, B, M, A: Allocator + Copy>(
+    slots: &mut Vec<Option<Slot<S, L, B, M, A>>, A>,
+    passes: &mut Vec<Pass<Whole>, A>,
+    window: ArcSliceMut<S, L::Writable, 1, B, M, A, Whole>,
+    places: usize,
+    pass: Pass<Whole>,
+) -> usize
+where
+    L::Writable: LayoutMut,
+    requires slot { length slots.old.items < vec_capacity slots.old }
+    requires pass { 1 ≤ places → length passes.old.items < vec_capacity passes.old }
+    requires writes { is_sole window.role ≡ true }
+    requires nowhere { places ≡ 0 → is_numbered None window.place ≡ true }
+    requires block { 1 ≤ places → (n : ℕ) → is_numbered (Some n) window.place ≡ true }
+    ensures number { result ≡ length slots.old.items }
+    ensures idle { places ≡ 0 → (slots.new.items ≡ slots.old.items ++ Some (writer_slot window None)
+        ∷ []) × (passes.new.items ≡ passes.old.items) }
+    ensures new { 1 ≤ places → (slots.new.items ≡ slots.old.items ++ Some (writer_slot window
+        (Some (length passes.old.items))) ∷ [])
+        × (passes.new.items ≡ passes.old.items ++ pass ∷ []) }
+{
+    let number = slots.len();
+    if places == 0 {
+        slots.push_reserved(Some(Slot::written(window, None)));
+        return number;
+    }
+    let block = Some(passes.len());
+    passes.push_reserved(pass);
+    slots.push_reserved(Some(Slot::written(window, block)));
+    number
+}
+
 /// Gives back the memory of slots whose windows have all gone.
 fn end_slots<S: Slice, L: Layout, B, M, A: Allocator + Copy>(
     mut slots: Vec<Option<Slot<S, L, B, M, A>>, A>,
@@ -83,7 +138,13 @@ where
     slots.destroy_empty();
 }
 
-impl<S: CopySlice + Subsliceable, L: Layout, B, M, A: Allocator + Copy> Table<S, L, B, M, A>
+impl<S: CopySlice + Emptyable + Subsliceable, L: Layout, B, M, A: Allocator + Copy> Table<
+    S,
+    L,
+    B,
+    M,
+    A,
+>
 where
     S::Item: Copy,
     L::Writable: LayoutMut,
@@ -142,6 +203,8 @@ where
         match command {
             Cmd::Slice(items) => self.slice(items),
             Cmd::Static(items) => self.static_window(items),
+            Cmd::New => self.empty_window(),
+            Cmd::Cap { places } => self.with_capacity(places),
             Cmd::MSlice(items) => self.slice_mut(items),
             Cmd::Clone { window } => self.clone_window(rt, window),
             Cmd::Sub { window, start, end } => self.sub(rt, window, start, end),
@@ -150,6 +213,8 @@ where
             Cmd::Off { window, at } => self.split_off(rt, window, at),
             Cmd::To { window, at } => self.split_to(rt, window, at),
             Cmd::Len { window } => self.len(window),
+            Cmd::Room { window } => self.room(window),
+            Cmd::Mut { window } => self.make_mut(window),
             Cmd::Adv { window, by } => self.advance(window, by),
             Cmd::Trunc { window, len } => self.truncate(window, len),
             Cmd::Drop { window } => self.release(window),
@@ -226,6 +291,52 @@ where
         Reply::New(number)
     }
 
+    /// A window that is written, with no items and no places, on nothing. Takes memory for the new
+    /// slot; refused, the answer is `Alloc`.
+    fn empty_window(&mut self) -> TableReply<S::Item, A>
+        ensures rows { Step (setting_of L.STATIC L.clone_wants S.DROPS S.boundary) self.old.table
+            command.New (seen_reply result) self.new.table }
+        ensures passes { Adds self.old.table self.old.standing command.New (seen_reply result)
+            self.new.standing }
+    {
+        if self.slots.reserve(1).is_err() {
+            return Reply::Alloc;
+        }
+        let window = ArcSliceMut::new(self.alloc);
+        Reply::New(push_writer(
+            &mut self.slots,
+            &mut self.passes.of_blocks,
+            window,
+            0,
+            Pass::none(),
+        ))
+    }
+
+    /// A window that is written, with no items and so many places: on a new block, or for none on
+    /// nothing. Takes memory for the new slot, the block and its pass; refused, the answer is
+    /// `Alloc`.
+    fn with_capacity(&mut self, places: usize) -> TableReply<S::Item, A>
+        ensures rows { Step (setting_of L.STATIC L.clone_wants S.DROPS S.boundary) self.old.table
+            (command.Cap places) (seen_reply result) self.new.table }
+        ensures passes { Adds self.old.table self.old.standing (command.Cap places)
+            (seen_reply result) self.new.standing }
+    {
+        if self.slots.reserve(1).is_err() || self.passes.of_blocks.reserve(1).is_err() {
+            return Reply::Alloc;
+        }
+        let mut pass = Pass::none();
+        let Ok(window) = ArcSliceMut::try_with_capacity_as(self.alloc, places, &mut pass) else {
+            return Reply::Alloc;
+        };
+        Reply::New(push_writer(
+            &mut self.slots,
+            &mut self.passes.of_blocks,
+            window,
+            places,
+            pass,
+        ))
+    }
+
     /// A window that is written, over a copy of the items: on a new block, or for none on nothing.
     /// Takes memory for the new slot, the block and its pass; refused, the answer is `Alloc`.
     fn slice_mut(&mut self, items: Vec<S::Item, A>) -> TableReply<S::Item, A>
@@ -241,15 +352,13 @@ where
         let Ok(window) = ArcSliceMut::try_from_slice_as(self.alloc, &items, &mut pass) else {
             return Reply::Alloc;
         };
-        let number = self.slots.len();
-        if items.is_empty() {
-            self.slots.push_reserved(Some(Slot::written(window, None)));
-            return Reply::New(number);
-        }
-        let block = Some(self.passes.of_blocks.len());
-        self.passes.of_blocks.push_reserved(pass);
-        self.slots.push_reserved(Some(Slot::written(window, block)));
-        Reply::New(number)
+        Reply::New(push_writer(
+            &mut self.slots,
+            &mut self.passes.of_blocks,
+            window,
+            items.len(),
+            pass,
+        ))
     }
 
     /// A window over a slice that is there for good. `Kind` where the layout has no static data.
@@ -459,6 +568,51 @@ where
         match slot_at(&self.slots, i) {
             Some(slot) => Reply::Number(slot.len()),
             None => Reply::NoWindow,
+        }
+    }
+
+    /// How many places a window has that is written. `Kind` where it is read.
+    fn room(&self, i: usize) -> TableReply<S::Item, A>
+        ensures rows { Step (setting_of L.STATIC L.clone_wants S.DROPS S.boundary) self.now.table
+            (command.Room i) (seen_reply result) self.now.table }
+        ensures passes { Adds self.now.table self.now.standing (command.Room i) (seen_reply result)
+            self.now.standing }
+    {
+        let Some(slot) = slot_at(&self.slots, i) else {
+            return Reply::NoWindow;
+        };
+        match slot.capacity() {
+            Some(places) => Reply::Number(places),
+            None => Reply::Kind,
+        }
+    }
+
+    /// Makes a window that is read one that is written. `Refused` where another owner of its block
+    /// lives, or where it has items and stands on none. Takes no memory.
+    fn make_mut(&mut self, i: usize) -> TableReply<S::Item, A>
+        ensures rows { Step (setting_of L.STATIC L.clone_wants S.DROPS S.boundary) self.old.table
+            (command.Mut i) (seen_reply result) self.new.table }
+        ensures passes { Adds self.old.table self.old.standing (command.Mut i) (seen_reply result)
+            self.new.standing }
+    {
+        let Some(slot) = slot_at(&self.slots, i) else {
+            return Reply::NoWindow;
+        };
+        if slot.is_written() {
+            return Reply::Kind;
+        }
+        let Some(slot) = mem::replace(&mut self.slots[i], None) else {
+            unreachable!()
+        };
+        match slot.try_into_mut(&mut self.passes) {
+            Ok(slot) => {
+                put_slot(&mut self.slots, i, slot);
+                Reply::Ok
+            }
+            Err(slot) => {
+                put_slot(&mut self.slots, i, slot);
+                Reply::Refused
+            }
         }
     }
 

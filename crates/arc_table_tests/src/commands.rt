@@ -425,6 +425,80 @@ fn writer_cut(rt: HostRuntime) {
     assert!(rt; matches!(none, Reply::NoWindow));
 }
 
+/// A writer without items has the places that it was made with, less what was cut off in front, and
+/// a window that is read has none to tell.
+#[test]
+fn writer_places(rt: HostRuntime) {
+    let mut table: ByteTable<_> = Table::new(rt.alloc());
+    let empty = table.step(&rt, Cmd::New);
+    let none = table.step(&rt, Cmd::Room { window: 0 });
+    let made = table.step(&rt, Cmd::Cap { places: 8 });
+    let eight = table.step(&rt, Cmd::Room { window: 1 });
+    let many = table.step(&rt, Cmd::Len { window: 1 });
+    let idle = table.step(&rt, Cmd::Cap { places: 0 });
+    let also = table.step(&rt, Cmd::Room { window: 2 });
+    let absent = table.step(&rt, Cmd::Room { window: 3 });
+    let _ = table.end();
+    assert!(rt; matches!(empty, Reply::New(0)));
+    assert!(rt; matches!(none, Reply::Number(0)));
+    assert!(rt; matches!(made, Reply::New(1)));
+    assert!(rt; matches!(eight, Reply::Number(8)));
+    assert!(rt; matches!(many, Reply::Number(0)));
+    assert!(rt; matches!(idle, Reply::New(2)));
+    assert!(rt; matches!(also, Reply::Number(0)));
+    assert!(rt; matches!(absent, Reply::NoWindow));
+    let (mut cut, _) = table_of_writer(&rt, rt.alloc(), b"ABCD");
+    let _ = cut.step(&rt, Cmd::Adv { window: 0, by: 1 });
+    let _ = cut.step(&rt, Cmd::Trunc { window: 0, len: 1 });
+    let three = cut.step(&rt, Cmd::Room { window: 0 });
+    let _ = cut.end();
+    assert!(rt; matches!(three, Reply::Number(3)));
+    let mut read = table_of(&rt, rt.alloc(), b"ABCD");
+    let kind = read.step(&rt, Cmd::Room { window: 0 });
+    let _ = read.end();
+    assert!(rt; matches!(kind, Reply::Kind));
+}
+
+/// A window becomes one that is written where it is alone on its block, and not beside another.
+#[test]
+fn made_mut(rt: HostRuntime) {
+    let mut table = table_of(&rt, rt.alloc(), b"ABCD");
+    let _ = table.step(&rt, Cmd::Clone { window: 0 });
+    let beside = table.step(&rt, Cmd::Mut { window: 0 });
+    let read = table.step(&rt, Cmd::Room { window: 0 });
+    let _ = table.step(&rt, Cmd::Drop { window: 1 });
+    let _ = table.step(&rt, Cmd::Adv { window: 0, by: 1 });
+    let alone = table.step(&rt, Cmd::Mut { window: 0 });
+    let room = table.step(&rt, Cmd::Room { window: 0 });
+    let shown = table.step(&rt, Cmd::Show { window: 0 });
+    let again = table.step(&rt, Cmd::Mut { window: 0 });
+    let gone = table.step(&rt, Cmd::Mut { window: 1 });
+    let _ = table.end();
+    assert!(rt; matches!(beside, Reply::Refused));
+    assert!(rt; matches!(read, Reply::Kind));
+    assert!(rt; matches!(alone, Reply::Ok));
+    assert!(rt; matches!(room, Reply::Number(3)));
+    assert!(rt; has_items(&shown, b"BCD"));
+    assert!(rt; matches!(again, Reply::Kind));
+    assert!(rt; matches!(gone, Reply::NoWindow));
+}
+
+/// On no block a window becomes one that is written where it has no items.
+#[test]
+fn made_mut_on_no_block(rt: HostRuntime) {
+    let mut table = table_of(&rt, rt.alloc(), b"");
+    let empty = table.step(&rt, Cmd::Mut { window: 0 });
+    let none = table.step(&rt, Cmd::Room { window: 0 });
+    let _ = table.step(&rt, Cmd::Static(StaticSlice::new(b"abcd")));
+    let slice = table.step(&rt, Cmd::Mut { window: 1 });
+    let asked = table.step(&rt, Cmd::Uniq { window: 1 });
+    let _ = table.end();
+    assert!(rt; matches!(empty, Reply::Ok));
+    assert!(rt; matches!(none, Reply::Number(0)));
+    assert!(rt; matches!(slice, Reply::Refused));
+    assert!(rt; matches!(asked, Reply::No));
+}
+
 /// Whether each of these is answered that it isn't for the window's role.
 fn are_of_other_role<A: Allocator + Copy>(rt: &impl Wait, table: &mut ByteTable<A>) -> bool {
     let clone = table.step(rt, Cmd::Clone { window: 0 });

@@ -1,7 +1,7 @@
 //! Operations on windows, each run as often as the words say, for callgrind to count.
 //!
-//! `bench_ops ours|kit|vec OPERATION COUNT`: the same loops over `ArcBytes` and `ArcBytesMut` of this
-//! repository, over `Bytes` and `BytesMut` of the kit's `bytes`, and, of what is written, over
+//! `bench_ops ours|kit|vec OPERATION COUNT`: the same loops over `ArcBytes` and `ArcBytesMut` of
+//! this repository, over `Bytes` and `BytesMut` of the kit's `bytes`, and, of what is written, over
 //! `Vec<u8>`.
 #![tactic(auto)]
 

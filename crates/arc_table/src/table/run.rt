@@ -5,12 +5,18 @@ ghost use Rattle.std.specs.Vec.{vec_len};
 use super::Table;
 use crate::command::{TableCmd, TableReply};
 use arc_block::layout::{Layout, LayoutMut};
-use arc_buffer::kinds::{CopySlice, Subsliceable};
+use arc_buffer::kinds::{CopySlice, Emptyable, Subsliceable};
 use arc_owners::error::AllocError;
 use std::alloc::Allocator;
 use std::sync::Wait;
 
-impl<S: CopySlice + Subsliceable, L: Layout, B, M, A: Allocator + Copy> Table<S, L, B, M, A>
+impl<S: CopySlice + Emptyable + Subsliceable, L: Layout, B, M, A: Allocator + Copy> Table<
+    S,
+    L,
+    B,
+    M,
+    A,
+>
 where
     S::Item: Copy,
     L::Writable: LayoutMut,

@@ -7,9 +7,10 @@ use Rattle.std.proofs.Common.{refl, arith}
 use Rattle.arc_buffer.specs.Slice.{edge_answer}
 use Rattle.arc_buffer.specs.Slice.{IsEdge}
 use Rattle.arc_block.specs.Table.{Row}
+use Rattle.arc_block.specs.Writers.{after_advance}
 use Rattle.arc_table.specs.Slots.{SlotView, row_of}
 use Rattle.arc_table.specs.State.{State}
-use Rattle.arc_table.specs.Step.{Setting, setting_of, advanced}
+use Rattle.arc_table.specs.Step.{Setting, setting_of}
 use Rattle.arc_table.specs.Step.{Step}
 use Rattle.arc_table.specs.declared.command.Cmd.TheVariants as command
 use Rattle.arc_table.specs.declared.command.Reply.TheVariants as reply
@@ -45,7 +46,7 @@ did g c =
     ∙ sym c.in_default-check_at.ensures.answer in
     let r : Row g.row.S-Item.Denot g.row.M.Denot = row_of s in
     let part : Row g.row.S-Item.Denot g.row.M.Denot =
-    advanced r c.args.by in
+    after_advance c.args.by r in
     subst (λ (o : State g.row.S-Item.Denot g.row.M.Denot).
     Done (setting g) o (command.Adv i c.args.by) reply.Ok (slice_set slots i (Some s')) passes)
     c.self.view_is

@@ -1,5 +1,5 @@
 -- One window more has ended.
-use Rattle.std.proofs.Common.{◌≡◌, ◌++◌, ◌∷◌, [], length, None, sym, ap, ◌∙◌, subst, arith}
+use Rattle.std.proofs.Common.{◌≡◌, ◌++◌, ◌∷◌, [], length, None, refl, sym, ap, ◌∙◌, subst, arith}
 use Rattle.std.proofs.lemmas.List.{length-map, length-set}
 use Rattle.std.specs.Option.{option_map}
 use Rattle.arc_table.specs.RunOf.{RunOf}
@@ -10,6 +10,17 @@ use Rattle.arc_table.specs.Step.{Setting, setting_of}
 use Rattle.arc_table.proofs.Lists.{gone-below, all-gone}
 use Rattle.arc_table.proofs.States.{dropped_more}
 use Rattle.arc_table.proofs.table.Table.release_all.Goals as goal
+
+pub loop-i-init : goal.loop-i-init
+loop-i-init g c = record {
+  gone = λ j below. absurd (omega (arith, below));
+  rows =
+      sym (ap (λ (o : State g.row.S-Item.Denot g.row.M.Denot). length o.table.rows) c.self.view_is)
+      ∙ length-map c.self.inside.slots.items (option_map row_of)
+      ∙ (omega (arith, c.len-i-end.ensures, c.self.inside.slots.ok.0));
+  blocks = refl;
+  passes = ([], refl);
+}
 
 pub loop-i-preserved : goal.loop-i-preserved
 loop-i-preserved g c =

@@ -1,0 +1,20 @@
+-- A step keeps it, and so does a run.
+use Rattle.arc_table.specs.State.{State, CarriesOut}
+use Rattle.arc_table.specs.Step.{Step}
+use Rattle.arc_table.proofs.FitsStep.{step_fits, run_fits}
+use Rattle.arc_table.proofs.Runs.{run_seen}
+use Rattle.arc_table.proofs.laws.rows_fit.Goals as goal
+
+pub returns-clause-step : goal.returns-clause-step
+returns-clause-step g c setting old command reply new = step_fits setting old command reply new
+
+pub returns-clause-run : goal.returns-clause-run
+returns-clause-run g c setting old commands replies new =
+    run_fits setting old commands replies new
+
+pub returns-clause-carried_out : goal.returns-clause-carried_out
+returns-clause-carried_out g c setting old commands replies new run =
+    run_fits setting old.table commands replies new.table
+    (run_seen (CarriesOut setting) (Step setting)
+    (λ (s : State g.row.T.Denot g.row.M.Denot). s.table)
+    (λ before command reply after carried. carried.rows) old commands replies new run)
