@@ -35,4 +35,4 @@ pub record RowFits {T M : Type 0} (drops : Bool) (row : Row T M) : Type 0 where
 
 -- so it is of each row
 abbrev pub RowsFit : {T M : Type 0} → Bool → Table T M → Type 0
-RowsFit drops t = (i : ℕ) (row : _) → row_at t i ≡ Some row → RowFits drops row
+RowsFit {T} {M} drops t = (i : ℕ) (row : Row T M) → row_at t i ≡ Some row → RowFits drops row

@@ -28,9 +28,10 @@ pub fn rows_agree<T, M>()
         → RowsAgree old.table → RowsAgree new.table }
 {}
 
-/// A row's items lie within its block, and a sole writer has the places that his place gives him,
-/// in every table that comes of the empty one: each step keeps it, and so does each run. Does
-/// nothing: its contract is the law, for items and metadata of any type.
+/// A row's items lie within its block, and a sole writer has the places from its first item to the
+/// end of the block, or its items' alone where others, which are dropped one by one, lie behind
+/// them. So it is in every table that comes of the empty one: each step keeps it, and so does each
+/// run. Does nothing: its contract is the law, for items and metadata of any type.
 pub fn rows_fit<T, M>()
     ensures empty { (drops : Bool) → RowsFit {T = T} {M = M} drops empty_table }
     ensures step { (setting : Setting T) (old : Table T M) (command : Cmd (List T) (List T))
