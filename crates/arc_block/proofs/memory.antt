@@ -1,7 +1,11 @@
+pub mod Borrowed
+pub mod Contents
 pub mod Cuts
 pub mod Held
 pub mod Keyless
+pub mod LentHeld
 pub mod Parted
 pub mod Ranges
 pub mod Runs
 pub mod SameVecs
+pub mod Spots

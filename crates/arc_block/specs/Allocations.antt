@@ -1,6 +1,7 @@
 -- Places as parts of an allocation, as contracts see them.
 use Rattle.std.specs.Prelude.{◌≡◌}
 use Rattle.arc_block.specs.Memory.{Extent}
+use Rattle.arc_block.specs.LentMemory.{LentMemory}
 use Rattle.arc_block.specs.declared.memory.places.Places.{Places}
 
 module _ {T : Type 0} where
@@ -11,3 +12,7 @@ module _ {T : Type 0} where
   -- all the places that an allocation has
   abbrev pub IsAllOf : {A : Type 0} → Places T → Extent A → Type 0
   IsAllOf p e = (p.base ≡ e.base) × (p.whole ≡ e.count) × (p.start ≡ 0) × (p.count ≡ e.count)
+
+  -- they lie in the memory that was lent
+  abbrev pub IsPartOfLent : LentMemory → Places T → Type 0
+  IsPartOfLent m p = (p.base ≡ m.base) × (p.whole ≡ m.whole)

@@ -7,6 +7,7 @@ pub mod Window
 pub mod Steps
 pub mod StaticSlices
 pub mod Lends
+pub mod LentMemory
 pub mod Memory
 pub mod Allocations
 pub mod Room

@@ -4,6 +4,8 @@
 mod allocation;
 mod base;
 mod emptied;
+mod lent_places;
+mod lifetime;
 mod lodging;
 mod native;
 mod places;

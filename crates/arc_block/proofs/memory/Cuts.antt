@@ -1,4 +1,5 @@
 -- Places side by side are cut at a place, and put together again. Assumes `Logic`.
+--     opened, shut      what lies side by side is the items and the room behind them
 --     cut        the first places, and the others
 --     glued_on   both ranges as one, where the front is full or the back holds nothing
 use Rattle.std.proofs.Common.{◌≡◌, ℕ, ◌+◌, ◌-◌, ◌*◌, ◌≤◌, ◌<◌, ◌⊎◌, inl, inr, List, [], ◌∷◌, ◌++◌, length, take, drop, refl, sym, ap, ◌∙◌, subst, arith, add_assoc, add_comm, add-mul, le_of_lt, length-append, length-take-le, length-drop, take-append-drop, drop_of_length-le, append-nil}
@@ -29,17 +30,17 @@ module _ (E : El) {M : Type 1} {𝓤 : Ura M} (𝓛 : Logic 𝓤) (b : ℕ) wher
   abbrev pub Side : ℕ → ℕ → List (el_x E) → Fml
   Side o c xs = side_by_side (R E) (block_ptr b o) c xs
 
-  abbrev items : List (el_x E) → ℕ → Fml
+  abbrev pub items : List (el_x E) → ℕ → Fml
   items xs o = row (R E) full_share xs b o
 
-  abbrev bare : ℕ → ℕ → Fml
+  abbrev pub bare : ℕ → ℕ → Fml
   bare n o = froom (ty_array (elτ E) n) b o
 
-  opened : (o c : ℕ) (xs : List (el_x E)) → ent 𝓤 (sem 𝓛 (Side o c xs)) (sep 𝓤 (sem 𝓛 (items xs o)) (sem 𝓛 (bare (c - length xs) (o + length xs * s))))
+  pub opened : (o c : ℕ) (xs : List (el_x E)) → ent 𝓤 (sem 𝓛 (Side o c xs)) (sep 𝓤 (sem 𝓛 (items xs o)) (sem 𝓛 (bare (c - length xs) (o + length xs * s))))
   opened o c xs = let n = length xs in qed 𝓛 (‵ (Side o c xs) ∷ []) ∵ fsplit ! $ use1 𝓛 (given (length xs ≡ n) (‵ (items xs o))) (apart E 𝓛 full_share n xs b o) $ learn ! (λ _.
       move ! (1 ∷ []) $ as_written ! (ty_array (elτ E) (c - n)) b (o + n * s) $ move ! (1 ∷ 0 ∷ []) $ done !)
 
-  shut : (o c : ℕ) (xs : List (el_x E)) → ent 𝓤 (sep 𝓤 (sem 𝓛 (items xs o)) (sem 𝓛 (bare (c - length xs) (o + length xs * s)))) (sem 𝓛 (Side o c xs))
+  pub shut : (o c : ℕ) (xs : List (el_x E)) → ent 𝓤 (sep 𝓤 (sem 𝓛 (items xs o)) (sem 𝓛 (bare (c - length xs) (o + length xs * s)))) (sem 𝓛 (Side o c xs))
   shut o c xs = let n = length xs in qed 𝓛 (‵ (items xs o) ∷ ‵ (bare (c - n) (o + n * s)) ∷ []) ∵ use1 𝓛 (‵ (part_at (Array (R E) n) full_share xs b o)) (whole E 𝓛 full_share n xs b o refl) $
       move ! (1 ∷ []) $ as_raw ! (ty_array (elτ E) (c - n)) b (o + n * s) $ move ! (1 ∷ 0 ∷ []) $ fjoin ! $ done !
 
