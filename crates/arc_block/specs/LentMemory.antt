@@ -1,10 +1,11 @@
--- Places that are lent for a lifetime. Each is borrowed by itself, under a ghost name that says what
--- lies there, so a range of them is cut and put together with nothing opened.
+-- Places that are lent for a lifetime. Each is borrowed by itself, under a ghost name that says
+-- what lies there, so a range of them is cut and put together with nothing opened.
 use Rattle.std.specs.Prelude.{refl, ℕ, zero, suc, ◌+◌, List, [], ◌∷◌, drop, Option, Some, None}
 use Rattle.std.specs.Coded.{Coded, code_by, coded×, coded_ℕ, coded_list, coded_option}
 use base.Share
 use base.Fraction.{full_share}
-use base.Fml.{GName, Share, Fml, ftrue, ffalse, fsep, fex, flft, fobs, fauth, fbor, fobor, flent, froom}
+use base.Fml.{GName, Share, Fml, ftrue, ffalse, fsep, fex, flft, fobs, fauth}
+use base.Fml.{fbor, fobor, flent, froom}
 use mir.Raw.{raw}
 use denote.RattleType.{RattleType}
 use denote.Memory.{lone, part_at}
@@ -33,7 +34,7 @@ contents zero xs = []
 contents (suc n) [] = None ∷ contents n []
 contents (suc n) (x ∷ xs) = Some x ∷ contents n xs
 
--- what two pointers have that lie in one block: nothing lies at null
+-- what lies at a place, by its block and its offset: nothing lies at null
 abbrev pub in_memory : Ptr → (ℕ → ℕ → Fml) → Fml
 in_memory (block_ptr b o) F = F b o
 in_memory null_ptr F = ffalse

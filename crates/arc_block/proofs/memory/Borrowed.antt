@@ -7,16 +7,15 @@ use Rattle.std.proofs.Common.{◌≡◌, ℕ, zero, suc, ◌+◌, ◌*◌, ◌�
 use lib.ListN.{drop as drop_from}
 use seplogic.Ra.Ura.{Ura}
 use base.Share
-use base.Logic.{SProp, ent, sep, emp, never_e, id⊢}
+use base.Logic.{ent, sep, emp, never_e, id⊢}
 use base.Fml.{GName, Share, Fml, ftrue, ffalse, fsep, fex, feq, flft, fdead}
-use contract.Conj.{top}
 use contract.Monad.{fact, fact_i}
 use types.Logic.{Logic, sem}
-use types.Kit.{‵, raw, ◌⊛◌, later, ◌$◌, ◌∵◌, !, qed, by, move, keep, drop, split, fsplit, fsplit3, fjoin, fpick, fpack, feq_l, feq_i, use0, use1, use2, rewrite, await, updating, now, done}
+use types.Kit.{‵, raw, ◌⊛◌, later, ◌$◌, ◌∵◌, !, qed, by, move, keep, drop, split, fsplit, fsplit3, fjoin, fpick, fpack, feq_l, feq_i, use1, use2, rewrite, await, updating, now, done}
 use types.Tokens.{name_new, name_agree, name_set, bor_new, lent_back, bor_open, obor_close}
 use denote.Steps.{nothing, heard}
 use Rattle.std_alloc.proofs.VecSteps.El.{El, R, sz}
-use Rattle.arc_block.specs.LentMemory.{held_code, holds, says, decides, named, named_as, settable, borrowed, opened, returning}
+use Rattle.arc_block.specs.LentMemory.{held_code, holds, says, decides, named_as, settable, borrowed, opened, returning}
 use Rattle.arc_block.proofs.memory.Spots.{Spot, spots, one_further, no_further}
 
 module _ (E : El) {M : Type 1} {𝓤 : Ura M} (𝓛 : Logic 𝓤) (b : ℕ) where

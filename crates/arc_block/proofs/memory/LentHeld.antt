@@ -2,11 +2,11 @@
 --     there_out, there_in      it is taken out, and put back
 --     marked      a struct with no bytes that owns it
 --     padded      names for all places before a number, which name nothing
-use Rattle.std.proofs.Common.{◌≡◌, ℕ, zero, suc, ◌+◌, ◌*◌, ◌^◌, ◌<◌, List, [], ◌∷◌, length, drop, refl, sym, ap, arith}
+use Rattle.std.proofs.Common.{◌≡◌, ℕ, zero, suc, ◌+◌, ◌*◌, ◌^◌, ◌<◌, List, [], ◌∷◌, length, drop, refl, sym, arith}
 use seplogic.Ra.Ura.{Ura}
 use base.Logic.{never, id⊢}
 use base.Fml.{GName, Fml, fsep}
-use types.Logic.{Logic, sem}
+use types.Logic.{Logic}
 use types.Kit.{Goal, Step, step, Seq, Item, ‵, ◌$◌, use0, rewrite, fsplit, fjoin, flt_l, flt_i}
 use denote.RattleType.{RattleType}
 use denote.RawPtr.{Ptr, block_ptr, in_a_block}

@@ -3,14 +3,11 @@
 --     spots_cut, spots_bare      cut at a place, and as room, whatever they hold
 use Rattle.std.proofs.Common.{◌≡◌, ℕ, zero, suc, ◌+◌, ◌-◌, ◌*◌, ◌≤◌, List, [], ◌∷◌, length, take, drop, Some, None, refl, sym, ap, ◌∙◌, arith, zero-mul, suc-mul, add-zero, add_assoc, add_comm}
 use seplogic.Ra.Ura.{Ura}
-use mir.Syntax.{ty_array}
-use base.Fraction.{full_share}
-use base.Logic.{SProp, ent, sep, emp, id⊢}
+use base.Logic.{ent, sep, emp, id⊢}
 use base.Fml.{Fml, ftrue, fsep, froom}
 use contract.Conj.{top}
 use types.Logic.{Logic, sem}
-use types.Kit.{‵, ◌⊛◌, ◌$◌, ◌∵◌, !, qed, by, move, keep, drop as drop_entry, split, fsplit, fjoin, use0, use1, use2, rewrite, done}
-use denote.Memory.{part_at}
+use types.Kit.{‵, ◌⊛◌, ◌$◌, ◌∵◌, !, qed, by, move, drop as drop_entry, split, fsplit, fjoin, use0, use1, use2, rewrite, done}
 use denote.Steps.{nothing}
 use Rattle.std_alloc.proofs.RawLayout.{as_raw, as_written}
 use Rattle.std_alloc.proofs.VecSteps.El.{El, R, el_x, elτ, sz}

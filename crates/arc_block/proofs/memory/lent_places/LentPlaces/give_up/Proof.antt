@@ -2,20 +2,17 @@
 use Rattle.std.proofs.Common.{◌≡◌, List, [], ◌∷◌, ◌++◌, refl, sym, subst}
 use mir.Val.{Val, vunit}
 use base.Logic.{SProp, ent, emp, id⊢}
-use base.Fml.{ftrue, fsep, feq, flft}
-use types.Kit.{‵, raw, ◌⊛◌, ◌$◌, ◌∵◌, !, qed, by, move, keep, drop, split, fsplit, fjoin, feq_i, suffices}
+use base.Fml.{ftrue, fsep, flft}
+use types.Kit.{‵, raw, ◌⊛◌, ◌$◌, ◌∵◌, !, qed, by, keep, split, fjoin, feq_i, suffices}
 use types.Run.{of_opd, returns, enter, unit_lit}
-use contract.Monad.{fact}
 use denote.Exit.{no}
-use denote.Steps.{nothing, heard}
+use denote.Steps.{nothing}
 use mir.Syntax.{a_type}
 use mir.MapTy.{inst_fn}
 use prog.Wp.{WpFn}
-use types.ByLocal.{alloc_all, pass_all, free_all, look_at, get, sets}
-use types.Part.{agg}
-use contract.BorrowLft.{◌⊑◌}
+use types.ByLocal.{alloc_all, pass_all, free_all, look_at, sets}
 use contract.Running.{tables}
-use denote.RattleType.{RattleType, Valss, owns}
+use denote.RattleType.{RattleType, owns}
 use denote.Signature.{types_at, plain}
 use denote.Param.{layouts}
 use denote.Triple.Walked.{Stays, stay_dropped, walk_of}

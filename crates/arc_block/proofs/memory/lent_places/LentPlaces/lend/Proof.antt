@@ -1,5 +1,5 @@
 -- `lend` borrows each of the places. It touches no memory.
-use Rattle.std.proofs.Common.{◌≡◌, ℕ, ◌+◌, ◌*◌, ◌≤◌, List, [], ◌∷◌, ◌++◌, length, refl, sym, ◌∙◌, subst, arith}
+use Rattle.std.proofs.Common.{◌≡◌, ℕ, ◌+◌, ◌*◌, List, [], ◌∷◌, ◌++◌, length, refl, sym, subst, arith}
 use lib.ListN.{drop as drop_from}
 use mir.Syntax.{a_type}
 use mir.Val.{Val, vptr, vstruct, vcons, vnil, of_list}

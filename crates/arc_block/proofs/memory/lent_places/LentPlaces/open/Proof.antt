@@ -1,5 +1,5 @@
 -- `open` takes each place out of its borrow, by a share of the lifetime. It touches no memory.
-use Rattle.std.proofs.Common.{◌≡◌, ℕ, ◌+◌, ◌*◌, ◌≤◌, List, [], ◌∷◌, ◌++◌, length, refl, sym, ◌∙◌, subst, arith}
+use Rattle.std.proofs.Common.{◌≡◌, ℕ, ◌+◌, ◌*◌, ◌≤◌, List, [], ◌∷◌, ◌++◌, length, refl, sym, subst, arith}
 use lib.ListN.{drop as drop_from}
 use mir.Val.{Val, vstruct, vcons, vnil, of_list}
 use base.Logic.{SProp, ent, emp, id⊢}

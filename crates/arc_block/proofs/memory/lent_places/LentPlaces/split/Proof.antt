@@ -1,5 +1,5 @@
 -- `split` parts the borrows. It touches no memory.
-use Rattle.std.proofs.Common.{◌≡◌, ℕ, ◌+◌, ◌-◌, ◌*◌, ◌≤◌, List, [], ◌∷◌, ◌++◌, length, take, refl, sym, ap, ◌∙◌, subst, arith, w64, length-drop, length-take, drop-drop}
+use Rattle.std.proofs.Common.{◌≡◌, ℕ, ◌+◌, ◌-◌, ◌*◌, ◌≤◌, List, [], ◌∷◌, ◌++◌, length, take, refl, sym, subst, arith, w64, length-drop, length-take, drop-drop}
 use lib.ListN.{drop as drop_from}
 use mir.Val.{Val, vint, vstruct, vcons, vnil, of_list}
 use base.Logic.{SProp, ent, emp, id⊢}

@@ -19,13 +19,13 @@ use types.ByLocal.{alloc_all, pass_all, free_all, look_at, get, sets}
 use types.Part.{agg}
 use contract.BorrowLft.{◌⊑◌}
 use contract.Running.{tables}
-use denote.RattleType.{RattleType, Valss, owns}
+use denote.RattleType.{RattleType, owns}
 use denote.Signature.{types_at, plain}
 use denote.Param.{layouts}
 use denote.Triple.Walked.{Stays, stay_dropped, walk_of}
 use Rattle.core.proofs.alloc.Calls.{Goes-blank}
 use Rattle.std.proofs.raw_atomic.Walks.{proved_at}
-use Rattle.std_alloc.proofs.VecSteps.El.{El, R, el_x, sz, no_al}
+use Rattle.std_alloc.proofs.VecSteps.El.{El, R, sz, no_al}
 use Rattle.logbook.proofs.Fields.{token, token_told, ends}
 use Rattle.arc_block.specs.LentMemory.{LentMemory, Held, contents, borrowed, names_from}
 use Rattle.arc_block.proofs.memory.Borrowed.{Borrows, borrowed_glue}

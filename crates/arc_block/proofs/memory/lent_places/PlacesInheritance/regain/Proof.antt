@@ -26,7 +26,7 @@ use Rattle.std.proofs.raw_atomic.Walks.{proved_at}
 use Rattle.std_alloc.proofs.VecSteps.El.{El, R, el_x, sz, no_al}
 use Rattle.logbook.proofs.Fields.{token, token_told, ends}
 use Rattle.arc_block.specs.LentMemory.{LentMemory, contents, borrowed, returning, names_from}
-use Rattle.arc_block.proofs.memory.Borrowed.{said, decided, kept, Back, regains, agree}
+use Rattle.arc_block.proofs.memory.Borrowed.{said, kept, Back, regains, agree}
 use Rattle.arc_block.proofs.memory.Contents.{length-contents}
 use Rattle.arc_block.proofs.memory.Cuts.{Side, further}
 use Rattle.arc_block.proofs.memory.Held.{Row, places_in}

@@ -4,16 +4,16 @@ use base.Logic.{SProp, ent, emp, id⊢}
 use types.Kit.{‵, raw, ◌⊛◌, ◌$◌, ◌∵◌, !, qed, by, move, keep, drop, split, fsplit, fjoin, suffices, use2, rewrite}
 use types.Run.{stop, fld, of_opd, no_more, and_then, returns, enter}
 use types.Part.{agg, sub, whole}
-use mir.Val.{Val, vstruct, vcons, vnil, of_list}
+use mir.Val.{Val}
 use base.Share
-use base.Fml.{Share, ftrue, fsep, feq, flft}
+use base.Fml.{Share, ftrue, flft}
 use prog.Wp.{WpFn}
 use types.ByLocal.{alloc_all, pass_all, free_all, look_at, get, get_in, sets}
 use contract.Monad.{fact, fact_i}
 use contract.Running.{tables}
 use denote.Builtin.{unit}
 use denote.Exit.{yes}
-use denote.RattleType.{RattleType, Valss, owns}
+use denote.RattleType.{RattleType, owns}
 use denote.Signature.{types_at, plain}
 use denote.Steps.{nothing, heard}
 use denote.Triple.Walked.{Stays, stay_dropped, walk_of}
@@ -21,7 +21,6 @@ use Rattle.core.proofs.alloc.Calls.{Goes-blank}
 use Rattle.std.proofs.raw_atomic.Walks.{proved_at}
 use Rattle.logbook.proofs.Fields.{token, token_told, ends}
 use Rattle.arc_block.proofs.memory.LentHeld.{marked}
-use Rattle.arc_block.proofs.memory.Runs.{told}
 use Rattle.arc_block.specs.contracts.memory.lifetime.LifetimeToken as LifetimeToken
 use Rattle.arc_block.specs.contracts.memory.lifetime.LifetimeToken.join as f
 use Rattle.arc_block.proofs.memory.lifetime.LifetimeToken.join.Statement.{statement}

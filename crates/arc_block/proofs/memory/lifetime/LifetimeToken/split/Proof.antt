@@ -8,14 +8,14 @@ use mir.Val.{Val, vstruct, vcons, vnil, of_list}
 use base.Share
 use base.Fml.{Share, ftrue, fsep, feq, flft}
 use prog.Wp.{WpFn}
-use types.ByLocal.{alloc_all, pass_all, free_all, look_at, get, get_in, sets}
-use contract.Monad.{fact, fact_i}
+use types.ByLocal.{alloc_all, pass_all, free_all, look_at, get, sets}
+use contract.Monad.{fact_i}
 use contract.Running.{tables}
 use denote.Builtin.{unit}
 use denote.Exit.{yes}
 use denote.RattleType.{RattleType, Valss, owns}
 use denote.Signature.{types_at, plain}
-use denote.Steps.{nothing, heard}
+use denote.Steps.{nothing}
 use denote.Triple.Walked.{Stays, stay_dropped, walk_of}
 use Rattle.core.proofs.alloc.Calls.{Goes-blank}
 use Rattle.std.proofs.raw_atomic.Walks.{proved_at}
