@@ -78,6 +78,23 @@ impl LifetimeToken {
     }
 }
 
+impl EndedLifetime {
+    /// The same twice, for two who have something back.
+    pub fn again(self) -> (EndedLifetime, EndedLifetime)
+        ensures { (result.0.lifetime ≡ self.lifetime) × (result.1.lifetime ≡ self.lifetime) }
+    {
+        let EndedLifetime { marker: _ } = self;
+        (
+            EndedLifetime {
+                marker: PhantomData,
+            },
+            EndedLifetime {
+                marker: PhantomData,
+            },
+        )
+    }
+}
+
 unsafe impl Send for LifetimeToken {}
 
 unsafe impl Send for EndedLifetime {}

@@ -181,6 +181,27 @@ fn owned_items_lent_and_regained(rt: HostRuntime) -> Result<(), Fail> {
     Ok(())
 }
 
+/// The room before the items is lent by itself, for the same lifetime as they are.
+#[test]
+fn two_rooms_lent_and_regained(rt: HostRuntime) -> Result<(), Fail> {
+    let heap = LocalHeap::new(rt.alloc(), 1024)?;
+    let (base, allocation, places) = Allocation::<u64, _>::new(&heap, 3)?;
+    let (before, own) = places.split(1);
+    let (mut lodger, under) = unsafe { Lodging::house(own, base, 1, 0, 2) };
+    lodger.push_reserved(5);
+    let lifetime = LifetimeToken::new();
+    let (front, front_back) = LentPlaces::lend(before, &lifetime);
+    let (part, part_back) = LentPlaces::lend(under.vacate(lodger), &lifetime);
+    let (one, other) = lifetime.end().again();
+    let before = front_back.regain_whole(one, front);
+    let own = part_back.regain_whole(other, part);
+    let (mut lodger, under) = unsafe { Lodging::house(own, base, 1, 1, 2) };
+    assert_eq!(rt; lodger.take_last(), 5);
+    allocation.free(before.join(under.vacate(lodger)));
+    assert_eq!(rt; heap.used(), 0);
+    Ok(())
+}
+
 /// Both parts are out at once.
 #[test]
 fn two_writers_at_once(rt: HostRuntime) -> Result<(), Fail> {
