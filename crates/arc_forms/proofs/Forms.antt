@@ -10,9 +10,9 @@ use Rattle.std.proofs.lemmas.List.{drop_all}
 use Rattle.std.proofs.lemmas.Option.{none-some, same_Some}
 use Rattle.arc_table.specs.declared.command.Cmd.{Cmd}
 use Rattle.arc_table.specs.declared.command.Cmd.TheVariants as command
-use Rattle.arc_forms.specs.Text.{space, longest_line, words_of, form, Operand, Number, Items, operand_word, IsWritable, IsSayable, Says, IsBad}
-use Rattle.arc_forms.specs.Reading.{◌>>=◌, is_space, words_of_line, Sort, ANumber, SomeItems, number_of, items_of, operand_of, operands_of, Value, Makes, made, spells_from, spells, Form, forms, read_by, command_of, BringsItems}
-use Rattle.arc_forms.proofs.Words.{number_is, number_again, items_is, items_again, items_fit, items_are_bytes, NoSpace, no_space_text, no_space_number, no_space_items, words-join}
+use Rattle.arc_forms.specs.Text.{space, longest_line, words_of, form, Operand, Number, Byte, Items, operand_word, IsWritable, IsSayable, Says, IsBad}
+use Rattle.arc_forms.specs.Reading.{◌>>=◌, is_space, words_of_line, Sort, ANumber, AByte, SomeItems, number_of, byte_of, items_of, operand_of, operands_of, Value, Makes, made, spells_from, spells, Form, forms, read_by, command_of, BringsItems}
+use Rattle.arc_forms.proofs.Words.{number_is, number_again, byte_is, byte_again, items_is, items_again, items_fit, items_are_bytes, NoSpace, no_space_text, no_space_number, no_space_byte, no_space_items, words-join}
 
 -- what holds whatever is answered
 pub on_err : {T E P : Type 0} (r : Result T E) → P → OnErr r P
@@ -23,6 +23,7 @@ on_err (Err e) p = p
 
 abbrev pub sort_of : Operand → Sort
 sort_of (Number n) = ANumber
+sort_of (Byte x) = AByte
 sort_of (Items xs) = SomeItems
 
 -- how an operand that was read stands in the words
@@ -37,6 +38,11 @@ operand_is ANumber word o e = at (number_of word) refl e
     at : (read : Option ℕ) → number_of word ≡ read → option_map Number read ≡ Some o → Stands ANumber word o
     at None seen e = absurd (none-some o e)
     at (Some n) seen e = let found = number_is word n seen in subst (Stands ANumber word) (same_Some _ _ e) (record { fits = refl; are = found.0; writable = found.1 })
+operand_is AByte word o e = at (byte_of word) refl e
+  where
+    at : (read : Option ℕ) → byte_of word ≡ read → option_map Byte read ≡ Some o → Stands AByte word o
+    at None seen e = absurd (none-some o e)
+    at (Some x) seen e = let found = byte_is word x seen in subst (Stands AByte word) (same_Some _ _ e) (record { fits = refl; are = found.0; writable = found.1 })
 operand_is SomeItems word o e = at (items_of word) refl e
   where
     at : (read : Option (List ℕ)) → items_of word ≡ read → option_map Items read ≡ Some o → Stands SomeItems word o
@@ -45,10 +51,12 @@ operand_is SomeItems word o e = at (items_of word) refl e
 
 operand_again : (o : Operand) → IsWritable o → operand_of (sort_of o) (operand_word o) ≡ Some o
 operand_again (Number n) short = ap (option_map Number) (number_again n short)
+operand_again (Byte x) byte = ap (option_map Byte) (byte_again x byte)
 operand_again (Items xs) bytes = ap (option_map Items) (items_again xs (items_fit xs bytes))
 
 no_space_operand : (o : Operand) → IsWritable o → NoSpace (operand_word o)
 no_space_operand (Number n) short = no_space_number n short
+no_space_operand (Byte x) byte = no_space_byte x byte
 no_space_operand (Items xs) bytes = no_space_items xs (items_fit xs bytes)
 
 -- what is behind a step of reading that answered something
@@ -132,6 +140,7 @@ last_items line xs e = last_operand SomeItems line ∙ ap (λ (read : Option (Li
 
 abbrev pub operand : (sort : Sort) → Value sort → Operand
 operand ANumber n = Number n
+operand AByte x = Byte x
 operand SomeItems xs = Items xs
 
 -- what is made of operands is written by this word, the operands before, and these, and has a line
@@ -155,15 +164,15 @@ written_found verb (g ∷ fs) f all e =
       | inr other ↦ written_found verb fs f all.1 (sym (cond-false _ (Some g) (found verb fs) other) ∙ e)
     ]
 
-made_written : (word : List ℕ) (before : List Operand) (sorts : List Sort) (make : Makes sorts) (os : List Operand) (c : Cmd (List ℕ) (List ℕ))
+made_written : (word : List ℕ) (before : List Operand) (sorts : List Sort) (make : Makes sorts) (os : List Operand) (c : Cmd (List ℕ) (List ℕ) ℕ)
     → IsWritten word before sorts make → made sorts make os ≡ Some c → (form c ≡ (word, before ++ os)) × IsSayable c
-made_written word before [] make [] c written e = (rw append-nil (subst (λ (d : Cmd (List ℕ) (List ℕ)). form d ≡ (word, before)) (same_Some _ _ e) written.0), subst IsSayable (same_Some _ _ e) written.1)
+made_written word before [] make [] c written e = (rw append-nil (subst (λ (d : Cmd (List ℕ) (List ℕ) ℕ). form d ≡ (word, before)) (same_Some _ _ e) written.0), subst IsSayable (same_Some _ _ e) written.1)
 made_written word before [] make (o ∷ os) c written e = absurd (none-some c e)
 made_written word before (sort ∷ sorts) make [] c written e = absurd (none-some c e)
 made_written word before (ANumber ∷ sorts) make (Number n ∷ os) c written e = let is = made_written word (before ++ Number n ∷ []) sorts (make n) os c (written n) e in (is.0 ∙ ap (λ (all : List Operand). (word, all)) (append_assoc before (Number n ∷ []) os), is.1)
-made_written word before (ANumber ∷ sorts) make (Items xs ∷ os) c written e = absurd (none-some c e)
-made_written word before (SomeItems ∷ sorts) make (Number n ∷ os) c written e = absurd (none-some c e)
+made_written word before (AByte ∷ sorts) make (Byte x ∷ os) c written e = let is = made_written word (before ++ Byte x ∷ []) sorts (make x) os c (written x) e in (is.0 ∙ ap (λ (all : List Operand). (word, all)) (append_assoc before (Byte x ∷ []) os), is.1)
 made_written word before (SomeItems ∷ sorts) make (Items xs ∷ os) c written e = let is = made_written word (before ++ Items xs ∷ []) sorts (make xs) os c (written xs) e in (is.0 ∙ ap (λ (all : List Operand). (word, all)) (append_assoc before (Items xs ∷ []) os), is.1)
+made_written word before (sort ∷ sorts) make (other ∷ os) c written e = absurd (none-some c e)
 
 spelled_from : (word : List ℕ) (k : ℕ) (name : List ℕ) → length word ≡ k + length name → spells_from word k name ≡ true → drop k word ≡ name
 spelled_from word k [] len all = drop_all k word (omega arith)
@@ -191,20 +200,23 @@ abbrev pub sorts_of : List ℕ → Option (List Sort)
 sorts_of verb = option_map (λ (f : Form). f.sorts) (found verb forms)
 
 -- each command's form is in the table
-sorts_again : (c : Cmd (List ℕ) (List ℕ)) → sorts_of (form c).0 ≡ Some (map sort_of (form c).1)
+sorts_again : (c : Cmd (List ℕ) (List ℕ) ℕ) → sorts_of (form c).0 ≡ Some (map sort_of (form c).1)
 sorts_again (command.Slice xs) = refl
 sorts_again (command.MSlice xs) = refl
+sorts_again (command.Ext i xs) = refl
 sorts_again other = refl
 
-made_again : (c : Cmd (List ℕ) (List ℕ)) → IsSayable c → (found (form c).0 forms >>= λ f. made f.sorts f.make (form c).1) ≡ Some c
+made_again : (c : Cmd (List ℕ) (List ℕ) ℕ) → IsSayable c → (found (form c).0 forms >>= λ f. made f.sorts f.make (form c).1) ≡ Some c
 made_again (command.Slice xs) sayable = refl
 made_again (command.MSlice xs) sayable = refl
+made_again (command.Ext i xs) sayable = refl
 made_again (command.Static xs) sayable = ap (λ (items : List ℕ). Some (command.Static items)) (sym sayable)
 made_again other sayable = refl
 
-no_space_form : (c : Cmd (List ℕ) (List ℕ)) → list_all (λ byte. not (is_space byte)) (form c).0 ≡ true
+no_space_form : (c : Cmd (List ℕ) (List ℕ) ℕ) → list_all (λ byte. not (is_space byte)) (form c).0 ≡ true
 no_space_form (command.Slice xs) = refl
 no_space_form (command.MSlice xs) = refl
+no_space_form (command.Ext i xs) = refl
 no_space_form other = refl
 
 read_found : (verb : List ℕ) (words : List (List ℕ)) (fs : List Form) → read_by verb words fs ≡ (found verb fs >>= λ f. operands_of f.sorts words >>= λ os. made f.sorts f.make os)
@@ -218,13 +230,13 @@ read_found verb words (f ∷ fs) =
 -- ---- the command that words say
 
 -- these words say the command: it can be written, and is written so
-pub record SaidBy (words : List (List ℕ)) (c : Cmd (List ℕ) (List ℕ)) : Type 0 where
+pub record SaidBy (words : List (List ℕ)) (c : Cmd (List ℕ) (List ℕ) ℕ) : Type 0 where
   pub sayable : IsSayable c
   pub writable : AllByRecursion IsWritable (form c).1
   pub are : words ≡ words_of c
 
 -- words that are read as a command say it
-pub command_said : (words : List (List ℕ)) (c : Cmd (List ℕ) (List ℕ)) → command_of words ≡ Some c → SaidBy words c
+pub command_said : (words : List (List ℕ)) (c : Cmd (List ℕ) (List ℕ) ℕ) → command_of words ≡ Some c → SaidBy words c
 unfolding command_of
 command_said [] c e = absurd (none-some c e)
 command_said (verb ∷ words) c e =
@@ -238,7 +250,7 @@ command_said (verb ∷ words) c e =
     record { sayable = written.1; writable = subst (λ (all : List ℕ × List Operand). AllByRecursion IsWritable all.1) (sym is) stand.writable; are = cc (is, word, stand.are) }
 
 -- a command that can be written is read from its words again
-pub command_again : (c : Cmd (List ℕ) (List ℕ)) → IsSayable c → AllByRecursion IsWritable (form c).1 → command_of (words_of c) ≡ Some c
+pub command_again : (c : Cmd (List ℕ) (List ℕ) ℕ) → IsSayable c → AllByRecursion IsWritable (form c).1 → command_of (words_of c) ≡ Some c
 unfolding command_of
 command_again c sayable writable = read_found (form c).0 (map operand_word (form c).1) forms ∙ at (found (form c).0 forms) (sorts_again c) (made_again c sayable)
   where
@@ -270,15 +282,15 @@ none_of verb rest (f ∷ fs) gs others = elim (cases_Bool (spells verb f.word)) 
 -- ---- lines
 
 -- the words of a command part at the spaces
-words_apart : (c : Cmd (List ℕ) (List ℕ)) → AllByRecursion IsWritable (form c).1 → words_of_line (join_with_byte space (words_of c)) ≡ words_of c
+words_apart : (c : Cmd (List ℕ) (List ℕ) ℕ) → AllByRecursion IsWritable (form c).1 → words_of_line (join_with_byte space (words_of c)) ≡ words_of c
 words_apart c writable = words-join (form c).0 (map operand_word (form c).1) (no_space_text (form c).0 (no_space_form c), no_space_operands (form c).1 writable)
 
-pub line_says : (line : List ℕ) (c : Cmd (List ℕ) (List ℕ)) → length line ≤ longest_line → command_of (words_of_line line) ≡ Some c → Says line c
+pub line_says : (line : List ℕ) (c : Cmd (List ℕ) (List ℕ) ℕ) → length line ≤ longest_line → command_of (words_of_line line) ≡ Some c → Says line c
 line_says line c fits e =
     let said = command_said (words_of_line line) c e in
     record { fits = fits; sayable = said.sayable; writable = said.writable; words = sym (join_with_byte-slice_split space line) ∙ ap (join_with_byte space) said.are }
 
-pub says_read : (line : List ℕ) (c : Cmd (List ℕ) (List ℕ)) → Says line c → command_of (words_of_line line) ≡ Some c
+pub says_read : (line : List ℕ) (c : Cmd (List ℕ) (List ℕ) ℕ) → Says line c → command_of (words_of_line line) ≡ Some c
 says_read line c says = rw (says.words, words_apart c says.writable) (command_again c says.sayable says.writable)
 
 pub unread_is_bad : (line : List ℕ) → command_of (words_of_line line) ≡ None → IsBad line
@@ -289,10 +301,10 @@ cond_option true o x e = (refl, e)
 cond_option false o x e = absurd (none-some x e)
 
 -- what a line says, if it says a command
-abbrev pub reading : List ℕ → Option (Cmd (List ℕ) (List ℕ))
+abbrev pub reading : List ℕ → Option (Cmd (List ℕ) (List ℕ) ℕ)
 reading line = cond (leb (length line) longest_line) (command_of (words_of_line line)) None
 
-pub reading_says : (line : List ℕ) (c : Cmd (List ℕ) (List ℕ)) → reading line ≡ Some c → Says line c
+pub reading_says : (line : List ℕ) (c : Cmd (List ℕ) (List ℕ) ℕ) → reading line ≡ Some c → Says line c
 reading_says line c e =
     let found = cond_option (leb (length line) longest_line) (command_of (words_of_line line)) c e in
     line_says line c (leb-true _ _ found.0) found.1
@@ -301,15 +313,15 @@ pub unread_is_none : (line : List ℕ) → reading line ≡ None → IsBad line
 unread_is_none line none c says = none-some c (sym none ∙ rw (le-leb _ _ says.fits) (says_read line c says))
 
 -- each line says a command, or is bad
-pub says_or_bad : (line : List ℕ) → ((c : Cmd (List ℕ) (List ℕ)) × Says line c) ⊎ IsBad line
+pub says_or_bad : (line : List ℕ) → ((c : Cmd (List ℕ) (List ℕ) ℕ) × Says line c) ⊎ IsBad line
 says_or_bad line = at (reading line) refl
   where
-    at : (o : Option (Cmd (List ℕ) (List ℕ))) → reading line ≡ o → ((c : Cmd (List ℕ) (List ℕ)) × Says line c) ⊎ IsBad line
+    at : (o : Option (Cmd (List ℕ) (List ℕ) ℕ)) → reading line ≡ o → ((c : Cmd (List ℕ) (List ℕ) ℕ) × Says line c) ⊎ IsBad line
     at None seen = inr (unread_is_none line seen)
     at (Some c) seen = inl (c, reading_says line c seen)
 
 -- no line says two
-pub says_one : (line : List ℕ) (c d : Cmd (List ℕ) (List ℕ)) → Says line c → Says line d → c ≡ d
+pub says_one : (line : List ℕ) (c d : Cmd (List ℕ) (List ℕ) ℕ) → Says line c → Says line d → c ≡ d
 says_one line c d one other = same_Some c d (sym (says_read line c one) ∙ says_read line d other)
 
 some_and : {X : Type 0} (P : X → Type 0) (o : Option X) → IsSomeAnd o P → (x : X) × (o ≡ Some x) × P x
@@ -317,17 +329,17 @@ some_and P None found = absurd found
 some_and P (Some x) found = (x, refl, found)
 
 -- the same, of what a command has beside
-pub line_says_and : (P : Cmd (List ℕ) (List ℕ) → Type 0) (line : List ℕ) → length line ≤ longest_line → IsSomeAnd (command_of (words_of_line line)) P → (c : Cmd (List ℕ) (List ℕ)) × Says line c × P c
+pub line_says_and : (P : Cmd (List ℕ) (List ℕ) ℕ → Type 0) (line : List ℕ) → length line ≤ longest_line → IsSomeAnd (command_of (words_of_line line)) P → (c : Cmd (List ℕ) (List ℕ) ℕ) × Says line c × P c
 line_says_and P line fits found = let read = some_and P (command_of (words_of_line line)) found in (read.0, line_says line read.0 fits read.1, read.2)
 
 -- what `parse` answers, by what was read of the words
-pub read_ok : {V E : Type 0} (see : V → Cmd (List ℕ) (List ℕ)) (line : List ℕ) (r : Result (Option V) E) → length line ≤ longest_line
+pub read_ok : {V E : Type 0} (see : V → Cmd (List ℕ) (List ℕ) ℕ) (line : List ℕ) (r : Result (Option V) E) → length line ≤ longest_line
     → IfOk r (λ said. option_map see said ≡ command_of (words_of_line line)) → IfOk r (λ said. MatchOption said (IsBad line) (λ c. Says line (see c)))
 read_ok see line (Ok None) fits e = unread_is_bad line (sym e)
 read_ok see line (Ok (Some c)) fits e = line_says line (see c) fits (sym e)
 read_ok see line (Err error) fits e = e
 
 pub read_err : {V E : Type 0} (line : List ℕ) (r : Result V E) → length line ≤ longest_line
-    → OnErr r (IsSomeAnd (command_of (words_of_line line)) BringsItems) → OnErr r ((c : Cmd (List ℕ) (List ℕ)) × Says line c × BringsItems c)
+    → OnErr r (IsSomeAnd (command_of (words_of_line line)) BringsItems) → OnErr r ((c : Cmd (List ℕ) (List ℕ) ℕ) × Says line c × BringsItems c)
 read_err line (Ok v) fits e = e
 read_err line (Err error) fits e = line_says_and BringsItems line fits e

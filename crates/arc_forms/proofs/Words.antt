@@ -1,5 +1,5 @@
 -- Words: what they say, and how they stand in a line.
-use Rattle.std.proofs.Common.{◌≡◌, ◌≢◌, ℕ, zero, suc, ◌+◌, ◌*◌, ◌/◌, ◌%◌, ◌^◌, ◌<◌, ◌≤◌, ◌&&◌, Bool, true, false, not, List, [], ◌∷◌, length, get_or, take, drop, cond, ltb, ◌-◌, Some, None, ◌⊎◌, inl, inr, refl, sym, ap, subst, ◌∙◌, arith}
+use Rattle.std.proofs.Common.{◌≡◌, ◌≢◌, ℕ, zero, suc, ◌+◌, ◌*◌, ◌/◌, ◌%◌, ◌^◌, ◌<◌, ◌≤◌, ◌&&◌, Bool, true, false, not, List, [], ◌∷◌, length, get_or, take, drop, cond, ltb, ◌-◌, Option, Some, None, ◌⊎◌, inl, inr, refl, sym, ap, subst, ◌∙◌, arith}
 use Rattle.std.specs.Prelude.{decimal, codes, unwrap_or}
 use Rattle.std.specs.Int.{IsInRange}
 use Rattle.std.specs.Bool.{Decides}
@@ -14,11 +14,11 @@ use Rattle.std.proofs.lemmas.List.{length-take}
 use Rattle.std.proofs.lemmas.List.Elements.{All-nil, All-cons, All-from_get_or}
 use Rattle.std.proofs.lemmas.List.Splits.{slice_split_none, slice_split_at, slice_split_first}
 use Rattle.std.proofs.lemmas.List.Sums.{fails_before_first, prefix_len-le-length}
-use Rattle.std.proofs.lemmas.Option.{cond_some}
+use Rattle.std.proofs.lemmas.Option.{cond_some, none-some, same_Some}
 use Rattle.std.proofs.lemmas.Slice.Eq.{bytes_eq-Decides}
 use Rattle.std.proofs.lemmas.Str.Parse.{IsNumeralModel, numerals_by_value, tells_digits, digits_value_short, digit_from_value, digit_at}
 use Rattle.arc_forms.specs.Text.{space, hex, items_word, hex_digit, IsByte, IsShort}
-use Rattle.arc_forms.specs.Reading.{is_space, is_hex_digit, words_of_line, checked, number_of, pairs, items_of}
+use Rattle.arc_forms.specs.Reading.{◌>>=◌, is_space, is_hex_digit, words_of_line, checked, number_of, pairs, items_of, only, byte_of}
 
 -- ---- a value that is guessed and checked
 
@@ -218,6 +218,40 @@ items_fit (item ∷ items) all = and_from _ _ (lt-ltb item 256 all.0) (items_fit
 pub items_are_bytes : (items : List ℕ) → list_all is_item items ≡ true → AllByRecursion IsByte items
 items_are_bytes [] fit = tt
 items_are_bytes (item ∷ items) fit = let both = and_parts _ _ fit in (ltb-true item 256 both.0, items_are_bytes items both.1)
+
+-- ---- a byte, which is an item that stands alone
+
+only_is : (read : Option (List ℕ)) (item : ℕ) → (read >>= only) ≡ Some item → read ≡ Some (item ∷ [])
+only_is None item e = absurd (none-some item e)
+only_is (Some []) item e = absurd (none-some item e)
+only_is (Some (x ∷ [])) item e = ap (λ (y : ℕ). Some (y ∷ [])) (same_Some x item e)
+only_is (Some (x ∷ y ∷ items)) item e = absurd (none-some item e)
+
+one_fits : (item : ℕ) → IsByte item → list_all is_item (item ∷ []) ≡ true
+one_fits item fit = items_fit (item ∷ []) (fit, tt)
+
+pub byte_is : (word : List ℕ) (item : ℕ) → byte_of word ≡ Some item → (word ≡ items_word (item ∷ [])) × IsByte item
+byte_is word item e =
+    let found = items_is word (item ∷ []) (only_is (items_of word) item e) in
+    (found.0, (items_are_bytes (item ∷ []) found.1).0)
+
+pub byte_again : (item : ℕ) → IsByte item → byte_of (items_word (item ∷ [])) ≡ Some item
+byte_again item fit = ap (λ (read : Option (List ℕ)). read >>= only) (items_again (item ∷ []) (one_fits item fit))
+
+pub no_space_byte : (item : ℕ) → IsByte item → NoSpace (items_word (item ∷ []))
+no_space_byte item fit = no_space_items (item ∷ []) (one_fits item fit)
+
+-- two digits say a byte, and two bytes of which one is no digit say none
+pub byte_of_digits : (word : List ℕ) → length word ≡ 2 → list_all is_hex_digit word ≡ true → byte_of word ≡ Some (16 * digit_value (get_or word 0 0) + digit_value (get_or word 1 0))
+byte_of_digits [] two digits = absurd (omega arith)
+byte_of_digits (high ∷ []) two digits = absurd (omega arith)
+byte_of_digits (high ∷ low ∷ []) two digits =
+    ap (λ (read : Option (List ℕ)). read >>= only) (items_of_digits (high ∷ low ∷ []) (record { digits = digits; some = omega arith; even = refl }))
+byte_of_digits (high ∷ low ∷ next ∷ word) two digits = absurd (omega arith)
+
+pub byte_refused : (word : List ℕ) → length word ≡ 2 → ¬ (list_all is_hex_digit word ≡ true) → byte_of word ≡ None
+byte_refused word two other =
+    ap (λ (read : Option (List ℕ)). read >>= only) (items_refused word (λ dash. let one = ap length dash in absurd (omega arith)) (λ is. other is.digits))
 
 -- what stands before the first space is the first word, and the others stand behind it
 pub words_at_end : (line : List ℕ) → position_or_len is_space line ≡ length line → words_of_line line ≡ line ∷ []

@@ -9,7 +9,8 @@ use Rattle.std.specs.List.{list_all, list_any, slice_split}
 use Rattle.std.specs.Option.{option_map}
 use Rattle.std.specs.Str.{bytes_eq}
 use Rattle.std.specs.Str.Parse.{digits_value}
-use Rattle.arc_forms.specs.Text.{space, items_word, static_bytes, form, Operand, Number, Items}
+use Rattle.arc_forms.specs.Text.{space, items_word, static_bytes, form}
+use Rattle.arc_forms.specs.Text.{Operand, Number, Byte, Items}
 use Rattle.arc_table.specs.declared.command.Cmd.{Cmd}
 use Rattle.arc_table.specs.declared.command.Cmd.TheVariants as command
 
@@ -50,6 +51,14 @@ is_hex_digit byte = is_in_range 48 57 byte || is_in_range 97 102 byte
 abbrev pub items_of : List ℕ → Option (List ℕ)
 items_of word = checked pairs items_word (list_all (λ item. nat_lt item 256)) word
 
+-- a byte is an item that stands alone
+abbrev pub only : List ℕ → Option ℕ
+only (item ∷ []) = Some item
+only other = None
+
+abbrev pub byte_of : List ℕ → Option ℕ
+byte_of word = items_of word >>= only
+
 -- the value of the first word, and the words behind it
 abbrev pub first_by : {X : Type 0} → (List ℕ → Option X) → List (List ℕ)
     → Option (X × List (List ℕ))
@@ -59,10 +68,12 @@ first_by read (word ∷ words) = read word >>= λ x. Some (x, words)
 -- what stands where an operand is wanted
 pub data Sort : Type 0 where
   ANumber : Sort
+  AByte : Sort
   SomeItems : Sort
 
 abbrev pub operand_of : Sort → List ℕ → Option Operand
 operand_of ANumber word = option_map Number (number_of word)
+operand_of AByte word = option_map Byte (byte_of word)
 operand_of SomeItems word = option_map Items (items_of word)
 
 -- the operands that words say, one of each of these sorts in turn
@@ -77,20 +88,22 @@ operands_of (sort ∷ sorts) words = do
 -- what such an operand says, and a command that is made of these operands
 abbrev pub Value : Sort → Type 0
 Value ANumber = ℕ
+Value AByte = ℕ
 Value SomeItems = List ℕ
 
 abbrev pub Makes : List Sort → Type 0
-Makes [] = Cmd (List ℕ) (List ℕ)
+Makes [] = Cmd (List ℕ) (List ℕ) ℕ
 Makes (sort ∷ sorts) = Value sort → Makes sorts
 
-abbrev pub made : (sorts : List Sort) → Makes sorts → List Operand → Option (Cmd (List ℕ) (List ℕ))
+abbrev pub made : (sorts : List Sort) → Makes sorts → List Operand
+    → Option (Cmd (List ℕ) (List ℕ) ℕ)
 made [] make [] = Some make
 made [] make (o ∷ os) = None
 made (sort ∷ sorts) make [] = None
 made (ANumber ∷ sorts) make (Number n ∷ os) = made sorts (make n) os
-made (ANumber ∷ sorts) make (Items xs ∷ os) = None
-made (SomeItems ∷ sorts) make (Number n ∷ os) = None
+made (AByte ∷ sorts) make (Byte x ∷ os) = made sorts (make x) os
 made (SomeItems ∷ sorts) make (Items xs ∷ os) = made sorts (make xs) os
+made (sort ∷ sorts) make (other ∷ os) = None
 
 -- a form from the reader's side: its first word, what it wants behind that, and what it makes
 pub record Form : Type 0 where
@@ -127,6 +140,14 @@ asking_forms =
     entry (codes "room") (ANumber ∷ []) command.Room ∷
     []
 
+abbrev pub writing_forms : List Form
+writing_forms =
+    entry (codes "res") (ANumber ∷ ANumber ∷ []) command.Res ∷
+    entry (codes "push") (ANumber ∷ AByte ∷ []) command.Push ∷
+    entry (codes "rec") (ANumber ∷ ANumber ∷ []) command.Rec ∷
+    entry (codes "freeze") (ANumber ∷ []) command.Freeze ∷
+    []
+
 abbrev pub changing_forms : List Form
 changing_forms =
     entry (codes "mut") (ANumber ∷ []) command.Mut ∷
@@ -137,12 +158,13 @@ changing_forms =
     []
 
 abbrev pub plain_forms : List Form
-plain_forms = making_forms ++ writer_forms ++ asking_forms ++ changing_forms
+plain_forms = making_forms ++ writer_forms ++ asking_forms ++ writing_forms ++ changing_forms
 
 abbrev pub items_forms : List Form
 items_forms =
     entry (codes "slice") (SomeItems ∷ []) command.Slice ∷
     entry (codes "mslice") (SomeItems ∷ []) command.MSlice ∷
+    entry (codes "ext") (ANumber ∷ SomeItems ∷ []) command.Ext ∷
     []
 
 abbrev pub forms : List Form
@@ -157,21 +179,22 @@ abbrev pub spells : List ℕ → List ℕ → Bool
 spells word name = nat_eq (length word) (length name) && spells_from word 0 name
 
 -- what the words behind a first word say, by the first form whose word it is
-abbrev pub read_by : List ℕ → List (List ℕ) → List Form → Option (Cmd (List ℕ) (List ℕ))
+abbrev pub read_by : List ℕ → List (List ℕ) → List Form → Option (Cmd (List ℕ) (List ℕ) ℕ)
 read_by verb words [] = None
 read_by verb words (f ∷ fs) =
     if spells verb f.word then (operands_of f.sorts words >>= λ os. made f.sorts f.make os) else
     read_by verb words fs
 
 -- the command that words say
-unfoldable pub command_of : List (List ℕ) → Option (Cmd (List ℕ) (List ℕ))
+unfoldable pub command_of : List (List ℕ) → Option (Cmd (List ℕ) (List ℕ) ℕ)
 command_of [] = None
 command_of (verb ∷ words) = read_by verb words forms
 
 -- the commands that bring items, which need memory
 abbrev pub is_items : Operand → Bool
 is_items (Number n) = false
+is_items (Byte x) = false
 is_items (Items xs) = true
 
-abbrev pub BringsItems : Cmd (List ℕ) (List ℕ) → Type 0
+abbrev pub BringsItems : Cmd (List ℕ) (List ℕ) ℕ → Type 0
 BringsItems c = IsTrue (list_any is_items (form c).1)

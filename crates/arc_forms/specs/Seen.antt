@@ -6,5 +6,5 @@ use Rattle.arc_table.specs.declared.command.Cmd.{Cmd}
 use Rattle.arc_forms.specs.Text.{Says, IsBad}
 
 -- the line says this command, or is bad
-abbrev pub IsReadAs : {A : Type 0} → List ℕ → Option (Cmd (Vec ℕ A) (List ℕ)) → Type 0
+abbrev pub IsReadAs : {A : Type 0} → List ℕ → Option (Cmd (Vec ℕ A) (List ℕ) ℕ) → Type 0
 IsReadAs line said = MatchOption said (IsBad line) (λ c. Says line (seen_command c))

@@ -7,6 +7,8 @@ use Rattle.arc_owners.specs.declared.error.RangeError.TheVariants.{OutOfRange, I
 use Rattle.arc_owners.specs.declared.error.RangeError.TheVariants.{NotBoundary}
 use Rattle.arc_owners.specs.declared.error.OwnerError.{OwnerError}
 use Rattle.arc_owners.specs.declared.error.OwnerError.TheVariants as owner
+use Rattle.arc_owners.specs.declared.error.TryReserveError.{TryReserveError}
+use Rattle.arc_owners.specs.declared.error.TryReserveError.TheVariants as reserve
 use Rattle.arc_table.specs.declared.command.Cmd.{Cmd}
 use Rattle.arc_table.specs.declared.command.Cmd.TheVariants as command
 use Rattle.arc_table.specs.declared.command.Reply.{Reply}
@@ -39,6 +41,7 @@ items_word (item ∷ items) = hex (item ∷ items)
 -- what stands behind the first word of a command
 pub data Operand : Type 0 where
   Number : ℕ → Operand
+  Byte : ℕ → Operand
   Items : List ℕ → Operand
 
 -- the bytes of the static slice over which `static` makes a window
@@ -46,7 +49,7 @@ abbrev pub static_bytes : List ℕ
 static_bytes = codes "abcd"
 
 -- The table of forms, a line each: the first word of a command, and its operands.
-abbrev pub form : Cmd (List ℕ) (List ℕ) → List ℕ × List Operand
+abbrev pub form : Cmd (List ℕ) (List ℕ) ℕ → List ℕ × List Operand
 form (command.Slice xs) = (codes "slice", Items xs ∷ [])
 form (command.MSlice xs) = (codes "mslice", Items xs ∷ [])
 form command.New = (codes "new", [])
@@ -60,6 +63,11 @@ form (command.Off i at) = (codes "off", Number i ∷ Number at ∷ [])
 form (command.To i at) = (codes "to", Number i ∷ Number at ∷ [])
 form (command.Len i) = (codes "len", Number i ∷ [])
 form (command.Room i) = (codes "room", Number i ∷ [])
+form (command.Res i additional) = (codes "res", Number i ∷ Number additional ∷ [])
+form (command.Push i item) = (codes "push", Number i ∷ Byte item ∷ [])
+form (command.Ext i xs) = (codes "ext", Number i ∷ Items xs ∷ [])
+form (command.Rec i additional) = (codes "rec", Number i ∷ Number additional ∷ [])
+form (command.Freeze i) = (codes "freeze", Number i ∷ [])
 form (command.Mut i) = (codes "mut", Number i ∷ [])
 form (command.Adv i by) = (codes "adv", Number i ∷ Number by ∷ [])
 form (command.Trunc i len) = (codes "trunc", Number i ∷ Number len ∷ [])
@@ -69,6 +77,7 @@ form (command.TakeStatic i) = (codes "takestatic", Number i ∷ [])
 -- an operand as a word
 abbrev pub operand_word : Operand → List ℕ
 operand_word (Number n) = decimal n
+operand_word (Byte x) = items_word (x ∷ [])
 operand_word (Items xs) = items_word xs
 
 -- what can be written: bytes, and numbers of at most 18 digits
@@ -80,19 +89,20 @@ IsShort n = n < 10 ^ 18
 
 abbrev pub IsWritable : Operand → Type 0
 IsWritable (Number n) = IsShort n
+IsWritable (Byte x) = IsByte x
 IsWritable (Items xs) = AllByRecursion IsByte xs
 
 -- which commands have a line: of those over static slices the one over these bytes
-abbrev pub IsSayable : Cmd (List ℕ) (List ℕ) → Type 0
+abbrev pub IsSayable : Cmd (List ℕ) (List ℕ) ℕ → Type 0
 IsSayable (command.Static items) = items ≡ static_bytes
 IsSayable other = Unit {0}
 
 -- a command as words
-abbrev pub words_of : Cmd (List ℕ) (List ℕ) → List (List ℕ)
+abbrev pub words_of : Cmd (List ℕ) (List ℕ) ℕ → List (List ℕ)
 words_of c = (form c).0 ∷ map operand_word (form c).1
 
 -- the line says the command: its words, parted by one space each
-pub record Says (line : List ℕ) (c : Cmd (List ℕ) (List ℕ)) : Type 0 where
+pub record Says (line : List ℕ) (c : Cmd (List ℕ) (List ℕ) ℕ) : Type 0 where
   pub fits : length line ≤ longest_line
   pub sayable : IsSayable c
   pub writable : AllByRecursion IsWritable (form c).1
@@ -106,6 +116,12 @@ range_text NotBoundary = codes "not a char boundary"
 abbrev pub owner_text : OwnerError → List ℕ
 owner_text owner.AllocError = codes "allocation error"
 owner_text owner.CountFull = codes "count full"
+
+abbrev pub reserve_text : TryReserveError → List ℕ
+reserve_text reserve.NotUnique = codes "not unique"
+reserve_text reserve.Unsupported = codes "unsupported"
+reserve_text reserve.AllocError = codes "allocation error"
+reserve_text reserve.CapacityOverflow = codes "capacity overflow"
 
 -- a reply as a text
 abbrev pub reply_text : Reply (List ℕ) (List ℕ) → List ℕ
@@ -121,11 +137,12 @@ reply_text reply.Kind = codes "kind"
 reply_text reply.Refused = codes "refused"
 reply_text (reply.Range e) = range_text e
 reply_text (reply.Owner e) = owner_text e
+reply_text (reply.Reserve e) = reserve_text e
 reply_text reply.Alloc = codes "allocation error"
 
 -- the line says no command
 abbrev pub IsBad : List ℕ → Type 0
-IsBad line = (c : Cmd (List ℕ) (List ℕ)) → ¬ Says line c
+IsBad line = (c : Cmd (List ℕ) (List ℕ) ℕ) → ¬ Says line c
 
 -- what is written for a line: its reply, or that it says no command
 abbrev pub answer_text : Option (Reply (List ℕ) (List ℕ)) → List ℕ

@@ -5,13 +5,14 @@ ghost use Rattle.std.specs.Option.{option_map};
 ghost use Rattle.std.specs.Char.{digit_value};
 ghost use Rattle.std.specs.List.{list_all, position_or_len};
 ghost use Rattle.std.specs.Vec.{vec_items};
-ghost use Rattle.arc_forms.specs.Text.{Number, Items, Says, IsBad};
+ghost use Rattle.arc_forms.specs.Text.{Number, Byte, Items, Says, IsBad};
 ghost use Rattle.arc_table.specs.Seen.{seen_command};
 ghost use Rattle.arc_table.specs.declared.command.Cmd.{Cmd};
 ghost use Rattle.arc_forms.specs.Reading.{ANumber, SomeItems, BringsItems, command_of, first_by};
 ghost use Rattle.arc_forms.specs.Reading.{is_hex_digit, is_space, items_of, number_of, operand_of};
 ghost use Rattle.arc_forms.specs.Reading.{operands_of, pairs, plain_forms, read_by, words_in};
 ghost use Rattle.arc_forms.specs.Reading.{asking_forms, changing_forms, writer_forms};
+ghost use Rattle.arc_forms.specs.Reading.{AByte, byte_of, writing_forms};
 ghost use Rattle.std.specs.Prelude.{◌++◌};
 ghost use Rattle.arc_forms.specs.Reading.{words_of_line};
 
@@ -21,7 +22,7 @@ use arc_table::command::Cmd;
 use std::alloc::Allocator;
 
 /// A command over bytes.
-pub type Command<A> = Cmd<Vec<u8, A>, StaticSlice<u8>>;
+pub type Command<A> = Cmd<Vec<u8, A>, StaticSlice<u8>, u8>;
 
 /// The bytes over which `static` makes a window.
 const STATIC_BYTES: &[u8] = b"abcd";
@@ -168,6 +169,39 @@ fn value_of(digit: u8) -> u8
     }
 }
 
+/// The byte that a word says, in two digits.
+fn byte_in(word: &[u8]) -> Option<u8>
+    ensures { result ≡ byte_of word.now }
+{
+    let [high, low] = word else {
+        return None;
+    };
+    if !are_digits(word) {
+        return None;
+    }
+    Some(16 * value_of(*high) + value_of(*low))
+}
+
+/// The one byte that is left.
+#[tactic(auto, using(crate::proofs::Forms::last_operand, crate::proofs::Forms::none_left))]
+fn one_byte(rest: Rest) -> Option<u8>
+    ensures { option_map (λ x. Byte x ∷ []) result
+        ≡ operands_of (AByte ∷ []) (words_in rest.entry) }
+{
+    byte_in(rest?)
+}
+
+/// The number and the byte that are left.
+#[tactic(auto, unfolding(crate::specs::Reading::operands_of))]
+fn number_and_byte(rest: Rest) -> Option<(usize, u8)>
+    ensures { option_map (λ x. Number x.0 ∷ Byte x.1 ∷ []) result
+        ≡ operands_of (ANumber ∷ AByte ∷ []) (words_in rest.entry) }
+{
+    let (first, rest) = number(rest)?;
+    let second = one_byte(rest)?;
+    Some((first, second))
+}
+
 /// The digits of the items that a word says.
 fn digits_in(word: &[u8]) -> Option<Hex<'_>>
     ensures { option_map (λ hex. pairs hex.digits.now) result ≡ items_of word.now }
@@ -211,6 +245,27 @@ fn one_items<A: Allocator>(alloc: A, rest: Rest) -> Result<Option<Vec<u8, A>>, A
     Ok(Some(decoded(alloc, hex)?))
 }
 
+/// The number that is left, and the items, in one word. `Err` where memory is refused for them.
+#[tactic(auto, unfolding(crate::specs::Reading::operands_of))]
+fn number_and_items<A: Allocator>(
+    alloc: A,
+    rest: Rest,
+) -> Result<Option<(usize, Vec<u8, A>)>, AllocError>
+    ensures ok { IfOk result (λ read. option_map (λ x. Number x.0 ∷ Items x.1.items ∷ []) read
+        ≡ operands_of (ANumber ∷ SomeItems ∷ []) (words_in rest.entry)) }
+    ensures err { OnErr result ((n : ℕ) × (xs : List ℕ)
+        × (operands_of (ANumber ∷ SomeItems ∷ []) (words_in rest.entry)
+        ≡ Some (Number n ∷ Items xs ∷ []))) }
+{
+    let Some((first, rest)) = number(rest) else {
+        return Ok(None);
+    };
+    let Some(items) = one_items(alloc, rest)? else {
+        return Ok(None);
+    };
+    Ok(Some((first, items)))
+}
+
 /// The command that a first word and what is left behind it say, of those that change a window: an
 /// arm for each line of their table (`changing_forms` in `specs/`).
 fn changing<A: Allocator>(verb: &[u8], rest: Rest) -> Option<Command<A>>
@@ -239,10 +294,36 @@ fn changing<A: Allocator>(verb: &[u8], rest: Rest) -> Option<Command<A>>
     }
 }
 
-/// The same, of those that ask or change a window (`asking_forms`).
+/// The same, of those too that are for a window that is written (`writing_forms`).
+fn writing<A: Allocator>(verb: &[u8], rest: Rest) -> Option<Command<A>>
+    ensures { option_map seen_command result
+        ≡ read_by verb.now (words_in rest.entry) (writing_forms ++ changing_forms) }
+{
+    match verb {
+        b"res" => {
+            let (window, additional) = two_numbers(rest)?;
+            Some(Cmd::Res { window, additional })
+        }
+        b"push" => {
+            let (window, item) = number_and_byte(rest)?;
+            Some(Cmd::Push { window, item })
+        }
+        b"rec" => {
+            let (window, additional) = two_numbers(rest)?;
+            Some(Cmd::Rec { window, additional })
+        }
+        b"freeze" => Some(Cmd::Freeze {
+            window: one_number(rest)?,
+        }),
+        _ => changing(verb, rest),
+    }
+}
+
+/// The same, of those too that ask a window (`asking_forms`).
 fn asking<A: Allocator>(verb: &[u8], rest: Rest) -> Option<Command<A>>
     ensures { option_map seen_command result
-        ≡ read_by verb.now (words_in rest.entry) (asking_forms ++ changing_forms) }
+        ≡ read_by verb.now (words_in rest.entry)
+        (asking_forms ++ writing_forms ++ changing_forms) }
 {
     match verb {
         b"uniq" => Some(Cmd::Uniq {
@@ -257,14 +338,15 @@ fn asking<A: Allocator>(verb: &[u8], rest: Rest) -> Option<Command<A>>
         b"room" => Some(Cmd::Room {
             window: one_number(rest)?,
         }),
-        _ => changing(verb, rest),
+        _ => writing(verb, rest),
     }
 }
 
 /// The same, of those too that make a window that is written (`writer_forms`).
 fn making_writers<A: Allocator>(verb: &[u8], rest: Rest) -> Option<Command<A>>
     ensures { option_map seen_command result
-        ≡ read_by verb.now (words_in rest.entry) (writer_forms ++ asking_forms ++ changing_forms) }
+        ≡ read_by verb.now (words_in rest.entry)
+        (writer_forms ++ asking_forms ++ writing_forms ++ changing_forms) }
 {
     match verb {
         b"new" => {
@@ -329,6 +411,12 @@ fn command<A: Allocator>(alloc: A, line: &[u8]) -> Result<Option<Command<A>>, Al
             };
             Ok(Some(Cmd::MSlice(items)))
         }
+        b"ext" => {
+            let Some((window, items)) = number_and_items(alloc, rest)? else {
+                return Ok(None);
+            };
+            Ok(Some(Cmd::Ext { window, items }))
+        }
         _ => Ok(plain_command(verb, rest)),
     }
 }
@@ -340,7 +428,7 @@ fn command<A: Allocator>(alloc: A, line: &[u8]) -> Result<Option<Command<A>>, Al
 pub fn parse<A: Allocator + Copy>(alloc: A, line: &[u8]) -> Result<Option<Command<A>>, AllocError>
     ensures ok { IfOk result (λ said.
         MatchOption said (IsBad line.now) (λ c. Says line.now (seen_command c))) }
-    ensures err { OnErr result ((c : Cmd (List ℕ) (List ℕ)) × Says line.now c × BringsItems c) }
+    ensures err { OnErr result ((c : Cmd (List ℕ) (List ℕ) ℕ) × Says line.now c × BringsItems c) }
 {
     if line.len() > LONGEST_LINE {
         return Ok(None);
@@ -350,5 +438,5 @@ pub fn parse<A: Allocator + Copy>(alloc: A, line: &[u8]) -> Result<Option<Comman
 
 /// No line says two commands. Does nothing: its contract is the law.
 pub fn one_command()
-    ensures { (line : List ℕ) (c d : Cmd (List ℕ) (List ℕ)) → Says line c → Says line d → c ≡ d }
+    ensures { (line : List ℕ) (c d : Cmd (List ℕ) (List ℕ) ℕ) → Says line c → Says line d → c ≡ d }
 {}

@@ -1,12 +1,12 @@
 //! Writing what lines are answered.
 ghost use Rattle.std.specs.Prelude.{◌≡◌, ◌++◌, ◌<◌, ◌*◌, decimal, length, OnErr, OnOk};
 ghost use Rattle.arc_forms.specs.Text.{hex, hex_digit, items_word, owner_text, range_text};
-ghost use Rattle.arc_forms.specs.Text.{reply_text};
+ghost use Rattle.arc_forms.specs.Text.{reply_text, reserve_text};
 ghost use Rattle.arc_table.specs.Seen.{map_reply};
 ghost use Rattle.arc_forms.specs.Writing.{Extends, answer_line};
 
 use arc_block::static_slice::StaticSlice;
-use arc_owners::error::{AllocError, OwnerError, RangeError};
+use arc_owners::error::{AllocError, OwnerError, RangeError, TryReserveError};
 use arc_table::command::Reply;
 use itoa::Buffer;
 use std::alloc::Allocator;
@@ -42,6 +42,18 @@ fn owner_words(error: OwnerError) -> &'static [u8]
     match error {
         OwnerError::AllocError => b"allocation error",
         OwnerError::CountFull => b"count full",
+    }
+}
+
+/// Why there is no room for more items, in words.
+fn reserve_words(error: TryReserveError) -> &'static [u8]
+    ensures { result.now ≡ reserve_text error }
+{
+    match error {
+        TryReserveError::NotUnique => b"not unique",
+        TryReserveError::Unsupported => b"unsupported",
+        TryReserveError::AllocError => b"allocation error",
+        TryReserveError::CapacityOverflow => b"capacity overflow",
     }
 }
 
@@ -115,6 +127,7 @@ fn push_reply<A: Allocator, X: AsSlice<u8>>(
         Reply::Refused => out.extend_from_slice(b"refused")?,
         Reply::Range(error) => out.extend_from_slice(range_words(*error))?,
         Reply::Owner(error) => out.extend_from_slice(owner_words(*error))?,
+        Reply::Reserve(error) => out.extend_from_slice(reserve_words(*error))?,
         Reply::Alloc => out.extend_from_slice(b"allocation error")?,
     }
     Ok(())

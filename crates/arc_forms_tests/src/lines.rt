@@ -20,6 +20,13 @@ fn writes(rt: &HostRuntime, line: &[u8], items: &[u8]) -> bool {
     }
 }
 
+fn extends(rt: &HostRuntime, line: &[u8], number: usize, more: &[u8]) -> bool {
+    match parse(rt.alloc(), line) {
+        Ok(Some(Cmd::Ext { window, items })) => window == number && items.as_slice() == more,
+        _ => false,
+    }
+}
+
 #[test]
 fn commands(rt: HostRuntime) {
     assert!(rt; matches!(parse(rt.alloc(), b"new"), Ok(Some(Cmd::New))));
@@ -98,6 +105,51 @@ fn commands(rt: HostRuntime) {
 }
 
 #[test]
+fn writing_commands(rt: HostRuntime) {
+    assert!(rt;
+        matches!(
+            parse(rt.alloc(), b"res 1 64"),
+            Ok(Some(Cmd::Res {
+                window: 1,
+                additional: 64
+            }))
+        )
+    );
+    assert!(rt;
+        matches!(
+            parse(rt.alloc(), b"push 1 00"),
+            Ok(Some(Cmd::Push { window: 1, item: 0 }))
+        )
+    );
+    assert!(rt;
+        matches!(
+            parse(rt.alloc(), b"push 10 fe"),
+            Ok(Some(Cmd::Push {
+                window: 10,
+                item: 254
+            }))
+        )
+    );
+    assert!(rt; extends(&rt, b"ext 2 -", 2, b""));
+    assert!(rt; extends(&rt, b"ext 2 4869", 2, b"Hi"));
+    assert!(rt;
+        matches!(
+            parse(rt.alloc(), b"rec 3 0"),
+            Ok(Some(Cmd::Rec {
+                window: 3,
+                additional: 0
+            }))
+        )
+    );
+    assert!(rt;
+        matches!(
+            parse(rt.alloc(), b"freeze 4"),
+            Ok(Some(Cmd::Freeze { window: 4 }))
+        )
+    );
+}
+
+#[test]
 fn spaces(rt: HostRuntime) {
     assert!(rt; is_bad(&rt, b""));
     assert!(rt; is_bad(&rt, b" "));
@@ -124,6 +176,29 @@ fn numbers(rt: HostRuntime) {
     assert!(rt; is_bad(&rt, b"static 0"));
     assert!(rt; is_bad(&rt, b"takestatic"));
     assert!(rt; is_bad(&rt, b"takestatic 0 1"));
+    assert!(rt; is_bad(&rt, b"res 0"));
+    assert!(rt; is_bad(&rt, b"res 0 x"));
+    assert!(rt; is_bad(&rt, b"res 0 1 2"));
+    assert!(rt; is_bad(&rt, b"rec 0"));
+    assert!(rt; is_bad(&rt, b"rec 0 01"));
+    assert!(rt; is_bad(&rt, b"freeze"));
+    assert!(rt; is_bad(&rt, b"freeze 0 0"));
+}
+
+#[test]
+fn bytes(rt: HostRuntime) {
+    assert!(rt; is_bad(&rt, b"push"));
+    assert!(rt; is_bad(&rt, b"push 0"));
+    assert!(rt; is_bad(&rt, b"push 41"));
+    assert!(rt; is_bad(&rt, b"push 0 "));
+    assert!(rt; is_bad(&rt, b"push 0 -"));
+    assert!(rt; is_bad(&rt, b"push 0 4"));
+    assert!(rt; is_bad(&rt, b"push 0 041"));
+    assert!(rt; is_bad(&rt, b"push 0 0041"));
+    assert!(rt; is_bad(&rt, b"push 0 0A"));
+    assert!(rt; is_bad(&rt, b"push 0 g0"));
+    assert!(rt; is_bad(&rt, b"push 0 41 42"));
+    assert!(rt; is_bad(&rt, b"push x 41"));
 }
 
 #[test]
@@ -139,6 +214,11 @@ fn items(rt: HostRuntime) {
     assert!(rt; is_bad(&rt, b"slice 00 11"));
     assert!(rt; is_bad(&rt, b"slice - -"));
     assert!(rt; is_bad(&rt, b"slice 00 "));
+    assert!(rt; is_bad(&rt, b"ext"));
+    assert!(rt; is_bad(&rt, b"ext 0"));
+    assert!(rt; is_bad(&rt, b"ext 0 4"));
+    assert!(rt; is_bad(&rt, b"ext x 41"));
+    assert!(rt; is_bad(&rt, b"ext 0 41 42"));
     assert!(rt; is_bad(&rt, b"static 61626364"));
     assert!(rt; is_bad(&rt, b"\xff"));
 }

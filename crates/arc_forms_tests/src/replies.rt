@@ -1,7 +1,7 @@
 //! Each reply as it is written.
 use arc_block::static_slice::StaticSlice;
 use arc_forms::text::push_answer;
-use arc_owners::error::{AllocError, OwnerError, RangeError};
+use arc_owners::error::{AllocError, OwnerError, RangeError, TryReserveError};
 use arc_table::command::Reply;
 
 fn writes(
@@ -63,6 +63,34 @@ fn each_reply(rt: HostRuntime) -> Result<(), AllocError> {
         writes(
             &rt,
             Some(Reply::Owner(OwnerError::AllocError)),
+            b"allocation error\n"
+        )?
+    );
+    assert!(rt;
+        writes(
+            &rt,
+            Some(Reply::Reserve(TryReserveError::NotUnique)),
+            b"not unique\n"
+        )?
+    );
+    assert!(rt;
+        writes(
+            &rt,
+            Some(Reply::Reserve(TryReserveError::Unsupported)),
+            b"unsupported\n"
+        )?
+    );
+    assert!(rt;
+        writes(
+            &rt,
+            Some(Reply::Reserve(TryReserveError::CapacityOverflow)),
+            b"capacity overflow\n"
+        )?
+    );
+    assert!(rt;
+        writes(
+            &rt,
+            Some(Reply::Reserve(TryReserveError::AllocError)),
             b"allocation error\n"
         )?
     );

@@ -6,16 +6,13 @@ use Rattle.std.proofs.lemmas.Bool.{eqb-false, not-true}
 use Rattle.std.proofs.lemmas.List.{map-append}
 use Rattle.std.proofs.lemmas.List.Concat.{flat_map-append}
 use Rattle.std.proofs.lemmas.List.Elements.{All-contains, recursion_from_All}
-use Rattle.arc_block.specs.Table.{Table, empty_table}
+use Rattle.arc_block.specs.Table.{empty_table}
 use Rattle.arc_table.specs.declared.command.Cmd.{Cmd}
-use Rattle.arc_table.specs.declared.command.Cmd.TheVariants.{Slice, MSlice}
 use Rattle.arc_table.specs.declared.command.Reply.{Reply}
-use Rattle.arc_table.specs.declared.command.Reply.TheVariants as reply
 use Rattle.arc_table.specs.RunOf.{RunOf}
-use Rattle.arc_table.specs.Step.{Setting, no_shortage, of_table, answer}
-use Rattle.arc_forms.specs.Text.{line_feed, Says, answer_text}
+use Rattle.arc_table.specs.Step.{no_shortage, answer}
+use Rattle.arc_forms.specs.Text.{line_feed, answer_text}
 use Rattle.arc_script.specs.Script.{ended, HasNoFeed, AreLines, byte_setting, ByteTable, Answers, BeginsReplyText}
-use Rattle.arc_forms.specs.Reading.{BringsItems}
 use Rattle.arc_forms.proofs.Forms.{reading, reading_says, unread_is_none}
 use Rattle.arc_table.proofs.Answers.{answer_step}
 use Rattle.arc_table.proofs.Runs.{run_append}
@@ -24,12 +21,12 @@ use Rattle.arc_forms.proofs.Words.{all_by}
 -- ---- each line, and each list of lines
 
 -- what a line is answered where nothing is short, by what it says
-abbrev pub answered : ByteTable → Option (Cmd (List ℕ) (List ℕ)) → Option (Reply (List ℕ) (List ℕ)) × ByteTable
+abbrev pub answered : ByteTable → Option (Cmd (List ℕ) (List ℕ) ℕ) → Option (Reply (List ℕ) (List ℕ)) × ByteTable
 answered old None = (None, old)
 answered old (Some c) =
     (Some (answer byte_setting no_shortage old c).0, (answer byte_setting no_shortage old c).1)
 
-answered_is : (old : ByteTable) (line : List ℕ) (said : Option (Cmd (List ℕ) (List ℕ))) → reading line ≡ said → Answers old line (answered old said).0 (answered old said).1
+answered_is : (old : ByteTable) (line : List ℕ) (said : Option (Cmd (List ℕ) (List ℕ) ℕ)) → reading line ≡ said → Answers old line (answered old said).0 (answered old said).1
 answered_is old line None e = (unread_is_none line e, refl)
 answered_is old line (Some c) e = (c, reading_says line c e, answer_step byte_setting old c)
 
@@ -64,18 +61,6 @@ no_feed line pass has = All-contains (λ byte. byte ≢ line_feed) line line_fee
 
 pub no_feeds : (lines : List (List ℕ)) → list_all is_line lines ≡ true → AllByRecursion HasNoFeed lines
 no_feeds lines pass = recursion_from_All HasNoFeed lines (all_by is_line HasNoFeed no_feed lines pass)
-
--- ---- memory may be short for a command that brings items
-
-pub items_want : {M : Type 0} (setting : Setting ℕ) (old : Table ℕ M) (c : Cmd (List ℕ) (List ℕ))
-    → BringsItems c → answer setting of_table old c ≡ (reply.Alloc, old)
-items_want setting old (Slice items) brings = refl
-items_want setting old (MSlice items) brings = refl
-items_want setting old other brings = absurd (cc)
-
--- then the line may be answered so, and nothing changes
-pub want_answers : (old : ByteTable) (line : List ℕ) → (c : Cmd (List ℕ) (List ℕ)) × Says line c × BringsItems c → Answers old line (Some reply.Alloc) old
-want_answers old line said = (said.0, said.1, items_want byte_setting old said.0 said.2)
 
 -- ---- a text that goes on
 

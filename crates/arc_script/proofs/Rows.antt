@@ -1,4 +1,4 @@
--- Eight worked scripts: what is written for each input.
+-- Worked scripts: what is written for each input.
 use Rattle.std.proofs.Common.{List, [], ◌∷◌, ◌++◌, ℕ, refl}
 use Rattle.std.specs.Prelude.{codes, map}
 use Rattle.std.specs.Fmt.{digits}
@@ -107,3 +107,33 @@ pub places_row : IsReplyText
     (ended (codes "h0" ∷ codes "h1" ∷ codes "kind" ∷ codes "refused" ∷ codes "ok" ∷ codes "ok" ∷ codes "2" ∷ codes "h2" ∷ codes "8" ∷ codes "h3" ∷ codes "0" ∷ []))
 unfolding digits command_of operands_of
 places_row = script_text places_lines [] (no_feeds places_lines refl) (no_feed [] refl)
+
+-- a writer that is cut in front: its block grows by the places that are needed and those in front
+abbrev pub growth_lines : List (List ℕ)
+growth_lines = codes "mslice 0102030405060708" ∷ codes "adv 0 3" ∷ codes "push 0 09" ∷ codes "res 0 7" ∷ codes "room 0" ∷ codes "res 0 8" ∷ codes "room 0" ∷ []
+
+pub growth_row : IsReplyText
+    (input_of growth_lines [])
+    (ended (codes "h0" ∷ codes "ok" ∷ codes "ok" ∷ codes "ok" ∷ codes "13" ∷ codes "ok" ∷ codes "29" ∷ []))
+unfolding digits command_of operands_of
+growth_row = script_text growth_lines [] (no_feeds growth_lines refl) (no_feed [] refl)
+
+-- a writer without items has all places of its block again, and no more
+abbrev pub reclaim_lines : List (List ℕ)
+reclaim_lines = codes "cap 8" ∷ codes "ext 0 010203" ∷ codes "adv 0 3" ∷ codes "room 0" ∷ codes "rec 0 8" ∷ codes "room 0" ∷ codes "rec 0 9" ∷ []
+
+pub reclaim_row : IsReplyText
+    (input_of reclaim_lines [])
+    (ended (codes "h0" ∷ codes "ok" ∷ codes "ok" ∷ codes "5" ∷ codes "yes" ∷ codes "8" ∷ codes "no" ∷ []))
+unfolding digits command_of operands_of
+reclaim_row = script_text reclaim_lines [] (no_feeds reclaim_lines refl) (no_feed [] refl)
+
+-- a writer that is frozen, cloned, and written again once it is alone
+abbrev pub frozen_lines : List (List ℕ)
+frozen_lines = codes "mslice 0102" ∷ codes "freeze 0" ∷ codes "push 0 03" ∷ codes "clone 0" ∷ codes "mut 0" ∷ codes "drop 1" ∷ codes "mut 0" ∷ codes "push 0 03" ∷ codes "show 0" ∷ []
+
+pub frozen_row : IsReplyText
+    (input_of frozen_lines [])
+    (ended (codes "h0" ∷ codes "ok" ∷ codes "kind" ∷ codes "h1" ∷ codes "refused" ∷ codes "ok" ∷ codes "ok" ∷ codes "ok" ∷ codes "010203" ∷ []))
+unfolding digits command_of operands_of
+frozen_row = script_text frozen_lines [] (no_feeds frozen_lines refl) (no_feed [] refl)

@@ -20,7 +20,7 @@ use Rattle.arc_script.proofs.Lines.{begins}
 use Rattle.arc_table.proofs.Runs.{run_seen}
 
 -- a line that was read is answered
-pub line_carried_out : {A : Type 0} (old : ByteState) (said : Option (Cmd (Vec ℕ A) (List ℕ)))
+pub line_carried_out : {A : Type 0} (old : ByteState) (said : Option (Cmd (Vec ℕ A) (List ℕ) ℕ))
     (answer : Option (Reply (List ℕ) (List ℕ))) (new : ByteState)
     → CarriesOutSaid old (option_map seen_command said) answer new
     → (line : List ℕ) → IsReadAs line said → AnswersLine old line answer new
@@ -31,7 +31,7 @@ line_carried_out old (Some c) None new does line read = absurd does
 
 -- so the line that was held is answered, whichever it was
 pub line_ends : {A : Type 0} (held : List ℕ) (too_long : Bool) (old new : ByteState)
-    (said : Option (Cmd (Vec ℕ A) (List ℕ))) (out out' : List ℕ)
+    (said : Option (Cmd (Vec ℕ A) (List ℕ) ℕ)) (out out' : List ℕ)
     → ((line : List ℕ) → Holds held too_long line → IsReadAs line said)
     → AnswersInto (option_map seen_command said) old new out out'
     → Ends held too_long old new out out'
@@ -44,7 +44,7 @@ line_ends held too_long old new said out out' read into = record {
 
 -- or it is answered, but not in out
 pub line_may_end : {A : Type 0} (held : List ℕ) (too_long : Bool) (old new : ByteState)
-    (said : Option (Cmd (Vec ℕ A) (List ℕ)))
+    (said : Option (Cmd (Vec ℕ A) (List ℕ) ℕ))
     → ((line : List ℕ) → Holds held too_long line → IsReadAs line said)
     → (answer : Option (Reply (List ℕ) (List ℕ)))
     × CarriesOutSaid old (option_map seen_command said) answer new

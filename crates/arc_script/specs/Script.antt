@@ -30,9 +30,9 @@ pub record AreLines (input : List ℕ) (lines : List (List ℕ)) : Type 0 where
   pub last : HasNoFeed rest
   pub are : lines ≡ whole ++ last_line rest
 
--- a byte window may be cut anywhere, and its layout has static data
+-- a byte window may be cut anywhere, and its layout has static data; a byte is one
 abbrev pub byte_setting : Setting ℕ
-byte_setting = setting_of true (λ sort. false) false (λ items at. true)
+byte_setting = setting_of true (λ sort. false) false (λ items at. true) 1
 
 -- the script's tables: no window has metadata
 abbrev pub ByteTable : Type 0
@@ -41,9 +41,9 @@ ByteTable = Table ℕ (Unit {0})
 -- what a line is answered: one step of the command that it says, or None where it says none and
 -- nothing changes
 abbrev pub AnswersBy : {S : Type 0}
-    → (S → Cmd (List ℕ) (List ℕ) → Reply (List ℕ) (List ℕ) → S → Type 0) → S → List ℕ
+    → (S → Cmd (List ℕ) (List ℕ) ℕ → Reply (List ℕ) (List ℕ) → S → Type 0) → S → List ℕ
     → Option (Reply (List ℕ) (List ℕ)) → S → Type 0
-AnswersBy step old line (Some reply) new = (c : Cmd (List ℕ) (List ℕ)) × Says line c
+AnswersBy step old line (Some reply) new = (c : Cmd (List ℕ) (List ℕ) ℕ) × Says line c
     × step old c reply new
 AnswersBy step old line None new = IsBad line × (new ≡ old)
 

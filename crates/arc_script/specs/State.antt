@@ -10,7 +10,7 @@ abbrev pub ByteState : Type 0
 ByteState = State ℕ (Unit {0})
 
 -- the command that a line says is carried out; where it says none, nothing changes
-abbrev pub CarriesOutSaid : ByteState → Option (Cmd (List ℕ) (List ℕ))
+abbrev pub CarriesOutSaid : ByteState → Option (Cmd (List ℕ) (List ℕ) ℕ)
     → Option (Reply (List ℕ) (List ℕ)) → ByteState → Type 0
 CarriesOutSaid old (Some c) (Some reply) new = CarriesOut byte_setting old c reply new
 CarriesOutSaid old None None new = new ≡ old

@@ -98,7 +98,7 @@ AnswersHeld held too_long old answer new =
     (line : List ℕ) → Holds held too_long line → AnswersLine old line answer new
 
 -- What a line was read as is carried out, and what it is answered stands in out too.
-pub record AnswersInto (said : Option (Cmd (List ℕ) (List ℕ))) (old new : ByteState)
+pub record AnswersInto (said : Option (Cmd (List ℕ) (List ℕ) ℕ)) (old new : ByteState)
     (out out' : List ℕ) : Type 0 where
   pub answer : Option (Reply (List ℕ) (List ℕ))
   pub does : CarriesOutSaid old said answer new

@@ -135,6 +135,66 @@ const SCRIPTS: [(&[u8], &[u8]); 33] = [
     (b"slice 41\nsho", b"h0\nbad line\n"),
 ];
 
+/// Scripts that write into windows, each with its replies: room, growth and shifts are exact.
+const WRITERS: [(&[u8], &[u8]); 14] = [
+    (
+        b"mslice 0102030405060708\nadv 0 3\npush 0 09\nres 0 7\nroom 0\nres 0 8\nroom 0\n",
+        b"h0\nok\nok\nok\n13\nok\n29\n",
+    ),
+    (
+        b"cap 8\next 0 010203\nadv 0 3\nroom 0\nrec 0 8\nroom 0\nrec 0 9\n",
+        b"h0\nok\nok\n5\nyes\n8\nno\n",
+    ),
+    (
+        b"mslice 0102\nfreeze 0\npush 0 03\nclone 0\nmut 0\ndrop 1\nmut 0\npush 0 03\nshow 0\n",
+        b"h0\nok\nkind\nh1\nrefused\nok\nok\nok\n010203\n",
+    ),
+    (
+        b"new\next 0 48656c6c6f20776f726c64\nroom 0\nfreeze 0\nsub 0 0 5\nshow 1\nto 0 6\nshow 2\nshow 0\n",
+        b"h0\nok\n11\nok\nh1\n48656c6c6f\nh2\n48656c6c6f20\n776f726c64\n",
+    ),
+    (
+        b"mslice 0102030405060708\nadv 0 6\nrec 0 4\nshow 0\nroom 0\n",
+        b"h0\nok\nyes\n0708\n8\n",
+    ),
+    (
+        b"mslice 0102030405060708\nadv 0 3\nrec 0 1\nshow 0\n",
+        b"h0\nok\nno\n0405060708\n",
+    ),
+    (
+        b"mslice 0102030405060708\nadv 0 3\npush 0 09\nshow 0\nroom 0\n",
+        b"h0\nok\nok\n040506070809\n13\n",
+    ),
+    (
+        b"new\npush 0 01\nlen 0\nroom 0\npush 0 02\npush 0 03\npush 0 04\npush 0 05\npush 0 06\npush 0 07\npush 0 08\npush 0 09\nlen 0\nroom 0\n",
+        b"h0\nok\n1\n8\nok\nok\nok\nok\nok\nok\nok\nok\n9\n16\n",
+    ),
+    (
+        b"slice 41\npush 0 42\next 0 42\nres 0 1\nrec 0 1\nfreeze 0\nshow 0\n",
+        b"h0\nkind\nkind\nkind\nkind\nkind\n41\n",
+    ),
+    (
+        b"push 0 42\next 0 42\nres 0 1\nrec 0 1\nfreeze 0\n",
+        b"no window\nno window\nno window\nno window\nno window\n",
+    ),
+    (
+        b"push 0 4\npush 0 041\npush 0 0A\npush 0\npush 0 -\next 0\next 0 4\nres 0\nres 0 x\nrec\nfreeze\nfreeze 0 0\n",
+        b"bad line\nbad line\nbad line\nbad line\nbad line\nbad line\nbad line\nbad line\nbad line\nbad line\nbad line\nbad line\n",
+    ),
+    (
+        b"new\next 0 -\nroom 0\nrec 0 0\nrec 0 1\nfreeze 0\nuniq 0\nlen 0\nmut 0\npush 0 41\nshow 0\n",
+        b"h0\nok\n0\nyes\nno\nok\nno\n0\nok\nok\n41\n",
+    ),
+    (
+        b"new\nres 0 999999999999999999\nroom 0\nmslice 01\nres 1 999999999999999999\nroom 1\nshow 1\n",
+        b"h0\nallocation error\n0\nh1\nallocation error\n1\n01\n",
+    ),
+    (
+        b"mslice 01020304\ntrunc 0 2\npush 0 05\nshow 0\nroom 0\nfreeze 0\nclone 0\nshow 1\nuniq 0\n",
+        b"h0\nok\nok\n010205\n4\nok\nh1\n010205\nno\n",
+    ),
+];
+
 /// Words that are not the program's.
 const OTHER_WORDS: [&[&str]; 7] = [
     &[],
@@ -281,6 +341,16 @@ fn slice_line(alloc: Global, digits: usize) -> Result<Vec<u8>, AllocError> {
 #[test]
 fn scripts(rt: HostRuntime) {
     for (script, replies) in SCRIPTS {
+        assert!(rt;
+            has_replies(&rt, rt.alloc(), script, replies),
+            "at {script:?}"
+        );
+    }
+}
+
+#[test]
+fn writers(rt: HostRuntime) {
+    for (script, replies) in WRITERS {
         assert!(rt;
             has_replies(&rt, rt.alloc(), script, replies),
             "at {script:?}"

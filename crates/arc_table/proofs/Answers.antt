@@ -3,7 +3,8 @@
 use Rattle.std.proofs.Common.{inl, inr, ◌≡◌, ◌⊎◌, ℕ, Bool, true, false, if◌then◌else◌, List, Option}
 use Rattle.std.proofs.Common.{Some}
 use Rattle.std.proofs.Common.{None, Result, Ok, Err, refl, length, slice_set, ◌++◌, [], ◌∷◌, ◌==◌}
-use Rattle.std.proofs.Common.{◌&&◌, ap, sym, ◌∙◌}
+use Rattle.std.proofs.Common.{◌&&◌, ap, sym, ◌∙◌, subst}
+use Rattle.std.specs.Prelude.{◌≤◌}
 use Rattle.std.specs.Prelude.{nat_lt, is_some, ◌+◌, ◌-◌}
 use Rattle.std.proofs.Common.{arith}
 use Rattle.std.proofs.lemmas.Bool.{false≢true, and_parts, eqb-true, ltb-true}
@@ -16,11 +17,20 @@ use Rattle.arc_block.specs.Place.{Place, nowhere, static_data, on_block, moved}
 use Rattle.arc_block.specs.Table.{Row, Table, Role, row_at, is_alone, block_of}
 use Rattle.arc_block.specs.Table.{reader, sole_writer, one_writer_of_several, inline, forgotten}
 use Rattle.arc_block.specs.Writers.{with_capacity, capacity_of, as_sole, after_advance}
+use Rattle.arc_block.specs.Writers.{with_room, with_more, as_reader}
+use Rattle.arc_block.specs.declared.parts.room.Room.{Room as RoomFrom}
+use Rattle.arc_block.specs.declared.parts.room.Room.TheVariants as from
+use Rattle.arc_owners.specs.declared.error.TryReserveError.TheVariants as reserve
+use Rattle.arc_table.proofs.FitsRoom.{no-more, never-short}
+use Rattle.arc_owners.specs.declared.error.TryReserveError.{TryReserveError}
+use Rattle.arc_table.proofs.FitsRoom.{IsMade, room-fits, room-alone-fits, room-enough, fresh-fits}
 use Rattle.arc_table.specs.Blocks.{is_sole}
 use Rattle.arc_table.specs.Fits.{RowFits}
 use Rattle.arc_table.proofs.Fits.{in-edge, in-range, advance-fits, truncate-fits, founded-fits}
-use Rattle.arc_table.proofs.Fits.{writer-fits, part-fits, cut-fits, off-fits, to-fits}
-use Rattle.arc_table.specs.Step.{Setting, Shortage, no_shortage, of_table, of_clones, shortage}
+use Rattle.arc_table.proofs.Fits.{writer-fits, part-fits, cut-fits, off-fits, to-fits, reads-fit}
+use Rattle.arc_table.specs.Step.{Setting, Shortage, no_shortage, of_table, of_clones, of_blocks}
+use Rattle.arc_table.specs.Step.{shortage, asking_block, filled, reclaimed, frozen, founded_row}
+use Rattle.arc_table.specs.Step.{begun, room_of}
 use Rattle.arc_table.specs.Step.{Step, answer, may_write}
 use Rattle.arc_table.specs.Step.{with_static, with_writer, take_items, truncated}
 use Rattle.arc_table.specs.Step.{asking, founded, is_wanting, is_full, with_owner, part_of, cut_row}
@@ -29,7 +39,8 @@ use Rattle.arc_table.specs.declared.command.Cmd.{Cmd}
 use Rattle.arc_table.specs.declared.command.Cmd.TheVariants.{Slice, Clone, Sub, Uniq, Show, Len}
 use Rattle.arc_table.specs.declared.command.Cmd.TheVariants.{Off, To, Adv, Trunc, Drop}
 use Rattle.arc_table.specs.declared.command.Cmd.TheVariants.{Static, TakeStatic, MSlice}
-use Rattle.arc_table.specs.declared.command.Cmd.TheVariants.{New, Cap, Room, Mut}
+use Rattle.arc_table.specs.declared.command.Cmd.TheVariants.{New, Cap, Room, Mut, Res, Push, Ext}
+use Rattle.arc_table.specs.declared.command.Cmd.TheVariants.{Rec, Freeze}
 use Rattle.arc_table.specs.declared.command.Reply.{Reply}
 use Rattle.arc_table.specs.declared.command.Reply.TheVariants as reply
 
@@ -78,7 +89,7 @@ abbrev pub KeepsFit : {T M : Type 0} → Bool → Row T M → Row T M → Type 0
 KeepsFit drops row part = RowFits drops row → RowFits drops part
 
 -- a command that isn't for sole writers
-shared : {X F : Type 0} (c : Cmd X F) → ((places : ℕ) → is_for c (sole_writer places) ≡ false)
+shared : {X F T : Type 0} (c : Cmd X F T) → ((places : ℕ) → is_for c (sole_writer places) ≡ false)
     → (role : Role) → is_for c role ≡ true → is_sole role ≡ false
 shared c each reader is = refl
 shared c each (sole_writer places) is = absurd (false≢true (sym (each places) ∙ is))
@@ -86,15 +97,31 @@ shared c each (one_writer_of_several places) is = refl
 shared c each inline is = refl
 shared c each forgotten is = refl
 
--- no shortage is told, or this one
-abbrev pub MayTell : {X F : Type 0} → Shortage → Reply X F → Type 0
-MayTell short r = (shortage r ≡ no_shortage) ⊎ (shortage r ≡ short)
+-- a command that is for sole writers alone
+writers-only : {X F T : Type 0} (c : Cmd X F T) → is_for c reader ≡ false
+    → ((places : ℕ) → is_for c (one_writer_of_several places) ≡ false) → is_for c inline ≡ false
+    → (role : Role) → is_for c role ≡ true → is_sole role ≡ true
+writers-only c none several small reader is = absurd (false≢true (sym none ∙ is))
+writers-only c none several small (sole_writer places) is = refl
+writers-only c none several small (one_writer_of_several places) is =
+    absurd (false≢true (sym (several places) ∙ is))
+writers-only c none several small inline is = absurd (false≢true (sym small ∙ is))
+writers-only c none several small forgotten is = absurd (false≢true is)
+
+-- in answer to this command no shortage is told, or this one
+abbrev pub MayTell : {X F T : Type 0} → Shortage → Cmd X F T → Reply X F → Type 0
+MayTell short c r = (shortage r c ≡ no_shortage) ⊎ (shortage r c ≡ short)
+
+-- on its block a row stays, whatever it says of that
+abbrev pub StaysPut : {T M : Type 0} → Row T M → Row T M → Type 0
+StaysPut row new = block_of new.place ≡ block_of row.place
 
 -- Whatever holds of each way in which a command may be answered holds of its answer: the table
--- stays, or has a window more, or a row was split, or became a part of itself, or went.
+-- stays, or has a window more, or a row was split, or became a part of itself, or of a sole writer
+-- another one on its block, or one on a block more, or went.
 module _ {T M : Type 0} (setting : Setting T) (short : Shortage) (t : Table T M)
-    (Holds : Reply (List T) (List T) → Table T M → Type 0)
-    (same : (r : Reply (List T) (List T)) → MayTell short r → Holds r t)
+    (this : Cmd (List T) (List T) T) (Holds : Reply (List T) (List T) → Table T M → Type 0)
+    (same : (r : Reply (List T) (List T)) → MayTell short this r → Holds r t)
     (founds : (items : List T) (role : Role) (nothing : Bool) (info : BlockInfo M)
     → let place = if nothing then nowhere else on_block t.blocks 0 info in
     RowFits {M = M} setting.drops (record { items = items; place = place; role = role })
@@ -117,7 +144,16 @@ module _ {T M : Type 0} (setting : Setting T) (short : Shortage) (t : Table T M)
     → KeepsFit setting.drops row part → Holds reply.Ok (record { rows = slice_set t.rows i (Some part); blocks = t.blocks }))
     (writes : (i : ℕ) (row : Row T M) → row_at t i ≡ Some row → may_write t row ≡ true
     → Holds reply.Ok (changed t i (as_sole setting.drops row)).1)
-    (goes : (r : Reply (List T) (List T)) → MayTell short r → (i : ℕ)
+    (refits : (i : ℕ) (row new : Row T M) (r : Reply (List T) (List T)) → MayTell short this r
+    → row_at t i ≡ Some row → is_sole row.role ≡ true → StaysPut row new
+    → KeepsFit setting.drops row new
+    → Holds r (record { rows = slice_set t.rows i (Some new); blocks = t.blocks }))
+    (begins : (i : ℕ) (row : Row T M) (items : List T) (role : Role) (nothing : Bool)
+    (info : BlockInfo M) → row_at t i ≡ Some row
+    → let place = if nothing then nowhere else on_block t.blocks 0 info in
+    RowFits {M = M} setting.drops (record { items = items; place = place; role = role })
+    → Holds reply.Ok (begun t i (record { items = items; place = place; role = role })).1)
+    (goes : (r : Reply (List T) (List T)) → MayTell short this r → (i : ℕ)
     → Holds r (record { rows = slice_set t.rows i None; blocks = t.blocks })) where
   abbrev Outcome : Type 0
   Outcome = Reply (List T) (List T) × Table T M
@@ -125,9 +161,17 @@ module _ {T M : Type 0} (setting : Setting T) (short : Shortage) (t : Table T M)
   abbrev After : Outcome → Type 0
   After o = Holds o.0 o.1
 
-  reads-only : (c : Cmd (List T) (List T)) → ((places : ℕ) → is_for c (sole_writer places) ≡ false)
+  abbrev Command : Type 0
+  Command = Cmd (List T) (List T) T
+
+  reads-only : (c : Command) → ((places : ℕ) → is_for c (sole_writer places) ≡ false)
       → (role : Role) → is_for c role ≡ true → is_sole role ≡ false
   reads-only c each role is = shared c each role is
+
+  writes-only : (c : Command) → is_for c reader ≡ false
+      → ((places : ℕ) → is_for c (one_writer_of_several places) ≡ false)
+      → is_for c inline ≡ false → (role : Role) → is_for c role ≡ true → is_sole role ≡ true
+  writes-only c none several small role is = writers-only c none several small role is
 
   either : (b : Bool) (one other : Outcome) → After one → After other
       → After (if b then one else other)
@@ -139,7 +183,7 @@ module _ {T M : Type 0} (setting : Setting T) (short : Shortage) (t : Table T M)
   either-is true one other h k = h refl
   either-is false one other h k = k
 
-  row_each : (c : Cmd (List T) (List T)) (found : Row T M → Outcome) (x : Option (Row T M))
+  row_each : (c : Cmd (List T) (List T) T) (found : Row T M → Outcome) (x : Option (Row T M))
       → ((row : Row T M) → x ≡ Some row → is_for c row.role ≡ true → After (found row))
       → After (option_map_or (λ row. if is_for c row.role then found row else (reply.Kind, t)) x
       (reply.NoWindow, t))
@@ -148,7 +192,7 @@ module _ {T M : Type 0} (setting : Setting T) (short : Shortage) (t : Table T M)
       either-is (is_for c row.role) (found row) (reply.Kind, t) (each row refl)
       (same reply.Kind (inl refl))
 
-  on_row_each : (i : ℕ) (c : Cmd (List T) (List T)) (found : Row T M → Outcome)
+  on_row_each : (i : ℕ) (c : Cmd (List T) (List T) T) (found : Row T M → Outcome)
       → ((row : Row T M) → row_at t i ≡ Some row → is_for c row.role ≡ true → After (found row))
       → After (on_row t i c found)
   on_row_each i c found each = row_each c found (row_at t i) each
@@ -163,12 +207,22 @@ module _ {T M : Type 0} (setting : Setting T) (short : Shortage) (t : Table T M)
   asking_each no_shortage is outcome after = after
   asking_each of_table is outcome after = same reply.Alloc (inr is)
   asking_each of_clones is outcome after = after
+  asking_each of_blocks is outcome after = after
+
+  asking_block_each : (s : Shortage) → s ≡ short → (answer : Reply (List T) (List T))
+      → shortage answer this ≡ of_blocks → (outcome : Outcome) → After outcome
+      → After (asking_block s answer t outcome)
+  asking_block_each no_shortage is answer told outcome after = after
+  asking_block_each of_table is answer told outcome after = after
+  asking_block_each of_clones is answer told outcome after = after
+  asking_block_each of_blocks is answer told outcome after = same answer (inr (told ∙ is))
 
   wanting_each : (s : Shortage) → s ≡ short → (wants : Sort → Bool) (place : Place ℕ M)
       (outcome : Outcome) → After outcome
       → After (if is_wanting s wants place then (reply.Owner AllocError, t) else outcome)
   wanting_each no_shortage is wants place outcome after = after
   wanting_each of_table is wants place outcome after = after
+  wanting_each of_blocks is wants place outcome after = after
   wanting_each of_clones is wants place outcome after =
       either (is_wanting of_clones wants place) (reply.Owner AllocError, t) outcome
       (same (reply.Owner AllocError) (inr is)) after
@@ -222,40 +276,150 @@ module _ {T M : Type 0} (setting : Setting T) (short : Shortage) (t : Table T M)
       one-is (at == length row.items) row (part_of setting row at at)
       (part_of setting row 0 at) (part_is row at at) (part_is row 0 at)
 
-  yes_or_no : (yes : Bool) → MayTell {X = List T} {F = List T} short (if yes then reply.Yes else reply.No)
+  yes_or_no : (yes : Bool) → MayTell short this (if yes then reply.Yes else reply.No)
   yes_or_no true = inl refl
   yes_or_no false = inl refl
 
-  pub answer_each : (c : Cmd (List T) (List T)) → After (answer setting short t c)
-  answer_each (Slice items) =
+  -- a refusal for want of room may tell want of memory, and that was so then
+  no-room : (e : TryReserveError) → ¬ (e ≡ reserve.AllocError)
+      → MayTell short this (reply.Reserve e)
+  no-room reserve.AllocError fine = absurd (fine refl)
+  no-room reserve.NotUnique fine = inl refl
+  no-room reserve.Unsupported fine = inl refl
+  no-room reserve.CapacityOverflow fine = inl refl
+
+  module _ (i : ℕ) (row : Row T M) (at : row_at t i ≡ Some row) (sole : is_sole row.role ≡ true)
+    where
+      -- the row has room on its own block, and these items behind its others
+      stays-put : (r : RoomFrom) (items : List T) (place : Place ℕ M) (role : Role)
+          → block_of (with_more items (with_room r (record {
+            items = row.items;
+            place = place;
+            role = role;
+          }))).place ≡ block_of place
+      stays-put from.Spare items nowhere role = refl
+      stays-put from.Spare items static_data role = refl
+      stays-put from.Spare items (on_block block offset info) role = refl
+      stays-put (from.Fresh places) items nowhere role = refl
+      stays-put (from.Fresh places) items static_data role = refl
+      stays-put (from.Fresh places) items (on_block block offset info) role = refl
+      stays-put from.Behind items nowhere role = refl
+      stays-put from.Behind items static_data role = refl
+      stays-put from.Behind items (on_block block offset info) role = refl
+      stays-put from.Front items nowhere role = refl
+      stays-put from.Front items static_data role = refl
+      stays-put from.Front items (on_block block offset info) role = refl
+      stays-put (from.Growth places) items nowhere role = refl
+      stays-put (from.Growth places) items static_data role = refl
+      stays-put (from.Growth places) items (on_block block offset info) role = refl
+      stays-put (from.Refused e) items nowhere role = refl
+      stays-put (from.Refused e) items static_data role = refl
+      stays-put (from.Refused e) items (on_block block offset info) role = refl
+
+      -- so it stays without items too
+      stays-alone : (r : RoomFrom) → StaysPut row (with_room r row)
+      stays-alone r =
+          ap (λ (x : Row T M). block_of x.place) (sym (no-more (with_room r row)))
+          ∙ stays-put r [] row.place row.role
+
+      module _ (items : List T) (k : ℕ) (enough : length items ≤ k) where
+        on-block : (r : RoomFrom) → r ≡ room_of setting row k → IsMade r
+            → After (changed t i (with_more items (with_room r row)))
+        on-block r is made =
+            refits i row (with_more items (with_room r row)) reply.Ok (inl refl) at sole
+            (stays-put r items row.place row.role)
+            (λ f. subst (λ x. RowFits setting.drops (with_more items (with_room x row))) (sym is)
+            (room-fits setting.drops _ setting.item_size row items k enough sole f
+            (subst IsMade is made)))
+
+        filled_each : (r : RoomFrom) → r ≡ room_of setting row k
+            → After (filled setting short t i row items r)
+        filled_each (from.Refused e) is =
+            same (reply.Reserve e) (no-room e (never-short setting.drops _ setting.item_size row k e
+            (sym is)))
+        filled_each (from.Fresh places) is =
+            asking_block_each short refl (reply.Reserve reserve.AllocError) refl _
+            (begins i row items (sole_writer places) false _ at
+            (fresh-fits setting.drops t.blocks places items
+            (omega (
+              arith,
+              enough,
+              room-enough setting.drops _ setting.item_size row k places
+                  (sym is),
+            ))))
+        filled_each from.Spare is = on-block from.Spare is tt
+        filled_each from.Behind is = on-block from.Behind is tt
+        filled_each from.Front is = on-block from.Front is tt
+        filled_each (from.Growth places) is =
+            asking_block_each short refl (reply.Reserve reserve.AllocError) refl _
+            (on-block (from.Growth places) is tt)
+
+      module _ (k : ℕ) where
+        has-room : (r : RoomFrom) → r ≡ room_of setting row k → IsMade r
+            → After (reply.Yes, (changed t i (with_room r row)).1)
+        has-room r is made =
+            refits i row (with_room r row) reply.Yes (inl refl) at sole (stays-alone r)
+            (λ f. subst (λ x. RowFits setting.drops (with_room x row)) (sym is)
+            (room-alone-fits setting.drops _ setting.item_size row k sole f
+            (subst IsMade is made)))
+
+        reclaimed_each : (r : RoomFrom) → r ≡ room_of setting row k → After (reclaimed t i row r)
+        reclaimed_each (from.Refused e) is = same reply.No (inl refl)
+        reclaimed_each (from.Fresh places) is = same reply.No (inl refl)
+        reclaimed_each (from.Growth places) is = same reply.No (inl refl)
+        reclaimed_each from.Spare is = has-room from.Spare is tt
+        reclaimed_each from.Behind is = has-room from.Behind is tt
+        reclaimed_each from.Front is = has-room from.Front is tt
+
+      -- the row is read from now on
+      frozen_each : shortage reply.Refused this ≡ of_blocks → After (frozen setting short t i row)
+      frozen_each told =
+          let made : Row T M = founded_row setting t row.items in
+          let nothing = setting.has_static && (length row.items == 0) in
+          let fresh : After (begun t i made) =
+          begins i row row.items reader nothing (native_facts setting.drops (length row.items)) at
+          (founded-fits setting.drops t.blocks row.items nothing (λ none.
+          eqb-true (length row.items) 0
+          (and_parts setting.has_static (length row.items == 0) none).1)) in
+          either (is_some (block_of row.place)) (changed t i (as_reader row))
+          (if is_some (block_of made.place) then
+          asking_block short reply.Refused t (begun t i made) else begun t i made)
+          (refits i row (as_reader row) reply.Ok (inl refl) at sole refl
+          (λ f. reads-fit setting.drops (as_reader row) refl f.within))
+          (either (is_some (block_of made.place))
+          (asking_block short reply.Refused t (begun t i made)) (begun t i made)
+          (asking_block_each short refl reply.Refused told (begun t i made) fresh) fresh)
+
+  pub answer_each : (c : Command) → c ≡ this → After (answer setting short t c)
+  answer_each (Slice items) e =
       asking_each short refl (founded setting t items)
       (founds items reader (setting.has_static && (length items == 0))
       (native_facts setting.drops (length items))
       (founded-fits setting.drops t.blocks items (setting.has_static && (length items == 0))
       (λ none. eqb-true (length items) 0
       (and_parts setting.has_static (length items == 0) none).1)))
-  answer_each (Static items) =
+  answer_each (Static items) e =
       either setting.has_static (asking short t (with_static t items)) (reply.Kind, t)
       (asking_each short refl (with_static t items) (statics items)) (same reply.Kind (inl refl))
-  answer_each New =
+  answer_each New e =
       asking_each short refl (with_writer setting t [] 0)
       (founds [] (sole_writer 0) true (partly_full setting.drops 0 0)
       (writer-fits setting.drops t.blocks [] 0 (omega arith)))
-  answer_each (Cap places) =
+  answer_each (Cap places) e =
       asking_each short refl (with_writer setting t [] places)
       (founds [] (sole_writer places) (places == 0) (partly_full setting.drops places 0)
       (writer-fits setting.drops t.blocks [] places (omega arith)))
-  answer_each (MSlice items) =
+  answer_each (MSlice items) e =
       asking_each short refl (with_writer setting t items (length items))
       (founds items (sole_writer (length items)) (length items == 0)
       (partly_full setting.drops (length items) (length items))
       (writer-fits setting.drops t.blocks items (length items) (omega arith)))
-  answer_each (Clone i) =
+  answer_each (Clone i) e =
       on_row_each i (Clone i) _ (λ row at is.
       with_owner_each row.place (t.rows ++ Some row ∷ [])
       (more i row row at (reads-only (Clone i) (λ places. refl) row.role is)
       (stays-same row.place, refl) (λ f. f)))
-  answer_each (Sub i start end) =
+  answer_each (Sub i start end) e =
       on_row_each i (Sub i start end) _ (λ row at is.
       let part = part_of setting row start end in
       let shares = reads-only (Sub i start end) (λ places. refl) row.role is in
@@ -264,7 +428,7 @@ module _ {T M : Type 0} (setting : Setting T) (short : Shortage) (t : Table T M)
       with_owner_each part.place (t.rows ++ Some part ∷ [])
       (more i row part at shares (part_is row start end) (λ f.
       part-fits setting row shares f start end ranged.0 ranged.1))))
-  answer_each (Off i at) =
+  answer_each (Off i at) e =
       on_row_each i (Off i at) _ (λ row there is.
       let shares = reads-only (Off i at) (λ places. refl) row.role is in
       in_range_each (edge_answer setting.boundary row.items at) _ (λ ok.
@@ -273,7 +437,7 @@ module _ {T M : Type 0} (setting : Setting T) (short : Shortage) (t : Table T M)
       (stays-moved 0 row.place, refl) (off_is row at)
       (λ f. cut-fits setting row shares f 0 at (omega arith) within)
       (λ f. off-fits setting row shares f at within)))
-  answer_each (To i at) =
+  answer_each (To i at) e =
       on_row_each i (To i at) _ (λ row there is.
       let shares = reads-only (To i at) (λ places. refl) row.role is in
       in_range_each (edge_answer setting.boundary row.items at) _ (λ ok.
@@ -282,22 +446,43 @@ module _ {T M : Type 0} (setting : Setting T) (short : Shortage) (t : Table T M)
       (to_part setting row at) there shares (stays-moved at row.place, refl) (to_is row at)
       (λ f. cut-fits setting row shares f at (length row.items) within (omega arith))
       (λ f. to-fits setting row shares f at within)))
-  answer_each (Uniq i) =
+  answer_each (Uniq i) e =
       on_row_each i (Uniq i) _ (λ row at is.
       same (if is_alone t row.place then reply.Yes else reply.No)
       (yes_or_no (is_alone t row.place)))
-  answer_each (Show i) =
+  answer_each (Show i) e =
       on_row_each i (Show i) _ (λ row at is.
       asking_each short refl (reply.Items row.items, t) (same (reply.Items row.items) (inl refl)))
-  answer_each (Len i) =
+  answer_each (Len i) e =
       on_row_each i (Len i) _ (λ row at is. same (reply.Number (length row.items)) (inl refl))
-  answer_each (Room i) =
+  answer_each (Room i) e =
       on_row_each i (Room i) _ (λ row at is. same (reply.Number (capacity_of row.role)) (inl refl))
-  answer_each (Mut i) =
+  answer_each (Mut i) e =
       on_row_each i (Mut i) _ (λ row at is.
       either-is (may_write t row) (changed t i (as_sole setting.drops row)) (reply.Refused, t)
-      (writes i row at) (same reply.Refused (inl refl)))
-  answer_each (Adv i by) =
+      (writes i row at)
+      (same reply.Refused (inl (sym (ap (λ d. shortage reply.Refused d) e)))))
+  answer_each (Res i k) e =
+      on_row_each i (Res i k) _ (λ row at is.
+      filled_each i row at (writes-only (Res i k) refl (λ places. refl) refl row.role is) [] k
+      (omega arith) (room_of setting row k) refl)
+  answer_each (Push i x) e =
+      on_row_each i (Push i x) _ (λ row at is.
+      filled_each i row at (writes-only (Push i x) refl (λ places. refl) refl row.role is)
+      (x ∷ []) 1 (omega arith) (room_of setting row 1) refl)
+  answer_each (Ext i xs) e =
+      on_row_each i (Ext i xs) _ (λ row at is.
+      filled_each i row at (writes-only (Ext i xs) refl (λ places. refl) refl row.role is) xs
+      (length xs) (omega arith) (room_of setting row (length xs)) refl)
+  answer_each (Rec i k) e =
+      on_row_each i (Rec i k) _ (λ row at is.
+      reclaimed_each i row at (writes-only (Rec i k) refl (λ places. refl) refl row.role is) k
+      (room_of setting row k) refl)
+  answer_each (Freeze i) e =
+      on_row_each i (Freeze i) _ (λ row at is.
+      frozen_each i row at (writes-only (Freeze i) refl (λ places. refl) refl row.role is)
+      (sym (ap (λ d. shortage reply.Refused d) e)))
+  answer_each (Adv i by) e =
       on_row_each i (Adv i by) _ (λ row at is.
       let part = after_advance by row in
       in_range_each (edge_answer setting.boundary row.items by) (changed t i part) (λ ok.
@@ -305,7 +490,7 @@ module _ {T M : Type 0} (setting : Setting T) (short : Shortage) (t : Table T M)
         stays-moved by row.place,
         sole-with row.role (capacity_of row.role - by),
       ) (advance-fits setting.drops row by (in-edge setting.boundary row.items by ok))))
-  answer_each (Trunc i len) =
+  answer_each (Trunc i len) e =
       on_row_each i (Trunc i len) _ (λ row at is.
       let part = truncated setting.drops row len in
       let ranged : Outcome =
@@ -317,25 +502,28 @@ module _ {T M : Type 0} (setting : Setting T) (short : Shortage) (t : Table T M)
         sole-either setting.drops row.role (with_capacity row.role len) (sole-with row.role len),
       ) (truncate-fits setting.drops row len (ltb-true len (length row.items) less))))
       (same reply.Ok (inl refl)))
-  answer_each (Drop i) = on_row_each i (Drop i) _ (λ row at is. goes reply.Ok (inl refl) i)
-  answer_each (TakeStatic i) =
+  answer_each (Drop i) e = on_row_each i (Drop i) _ (λ row at is. goes reply.Ok (inl refl) i)
+  answer_each (TakeStatic i) e =
       on_row_each i (TakeStatic i) _ (λ row at is.
       either (is_some (block_of row.place)) (reply.Refused, t) (take_items t i row)
-      (same reply.Refused (inl refl)) (goes (reply.Static row.items) (inl refl) i))
+      (same reply.Refused (inl (sym (ap (λ d. shortage reply.Refused d) e))))
+      (goes (reply.Static row.items) (inl refl) i))
 
-module _ {T M : Type 0} (setting : Setting T) (t : Table T M) where
-  tells_none : (r : Reply (List T) (List T)) → MayTell no_shortage r → shortage r ≡ no_shortage
+module _ {T M : Type 0} (setting : Setting T) (t : Table T M) (c : Cmd (List T) (List T) T) where
+  tells_none : (r : Reply (List T) (List T)) → MayTell no_shortage c r
+      → shortage r c ≡ no_shortage
   tells_none r (inl is) = is
   tells_none r (inr is) = is
 
-  answer_ample : (c : Cmd (List T) (List T)) → shortage (answer setting no_shortage t c).0 ≡ no_shortage
+  answer_ample : shortage (answer setting no_shortage t c).0 c ≡ no_shortage
   answer_ample =
-      answer_each setting no_shortage t (λ reply new. shortage reply ≡ no_shortage) tells_none
+      answer_each setting no_shortage t c (λ reply new. shortage reply c ≡ no_shortage) tells_none
       (λ items role nothing info fits. refl) (λ items. refl) (λ i row part at shares is fits. refl)
       (λ i row kept handed at shares one other fits also. refl) (λ i row part at is fits. refl)
-      (λ i row at may. refl)
-      (λ r tells i. tells_none r tells)
+      (λ i row at may. refl) (λ i row new r tells at sole put fits. tells_none r tells)
+      (λ i row items role nothing info at fits. refl)
+      (λ r tells i. tells_none r tells) c refl
 
-  pub answer_step : (c : Cmd (List T) (List T))
-      → Step setting t c (answer setting no_shortage t c).0 (answer setting no_shortage t c).1
-  answer_step c = ap (λ short. answer setting short t c) (answer_ample c)
+  pub answer_step : Step setting t c (answer setting no_shortage t c).0
+      (answer setting no_shortage t c).1
+  answer_step = ap (λ short. answer setting short t c) answer_ample

@@ -15,7 +15,7 @@ use Rattle.arc_block.proofs.Alone.{is_alone-means}
 use Rattle.arc_block.proofs.Lists.{push-cases, set-cases}
 use Rattle.arc_table.specs.Blocks.{SaysOf, RowsAgree, is_sole}
 use Rattle.arc_table.specs.Step.{Setting, Shortage, shortage, Step, Run, answer, with_static}
-use Rattle.arc_table.specs.Step.{changed, may_write}
+use Rattle.arc_table.specs.Step.{changed, may_write, begun}
 use Rattle.arc_table.specs.declared.command.Cmd.{Cmd}
 use Rattle.arc_table.specs.declared.command.Reply.{Reply}
 use Rattle.arc_table.proofs.Answers.{StaysOn, IsPart, answer_each}
@@ -29,6 +29,12 @@ pub there : {X : Type 0} (x : Option (Option X)) (y : X) → option_flatten x �
 there None y is = absurd (none-some y is)
 there (Some None) y is = absurd (none-some y is)
 there (Some (Some z)) y is = ap Some is
+
+-- what a place says of its block
+abbrev info_at : {M : Type 0} → Place ℕ M → Option (BlockInfo M)
+info_at nowhere = None
+info_at static_data = None
+info_at (on_block block offset info) = Some info
 
 module _ {T M : Type 0} where
   -- this holds of the place of each row
@@ -151,6 +157,27 @@ module _ {T M : Type 0} where
               | inl also ↦ only j block other also.1 was beside ∙ end.0
               | inr set ↦ sym set.0 ∙ end.0
             ]
+      ]
+
+  -- a row that stands on no block on which another does comes in the place of one
+  alone-fresh : (rows : List (Option (Row T M))) (k : ℕ) (new : Row T M) → Alone rows
+      → ((j block : ℕ) (other : Row T M) → slice_get rows j ≡ Some (Some other)
+      → OnBlock block new → OnBlock block other → ⊥)
+      → Alone (slice_set rows k (Some new))
+  alone-fresh rows k new alone none i j block one other at second writes on beside =
+      elim (set-cases rows k i (Some one) (Some new) at) [
+        | inl old ↦ elim (set-cases rows k j (Some other) (Some new) second) [
+          | inl also ↦ alone i j block one other old.1 also.1 writes on beside
+          | inr set ↦
+              absurd (none i block one old.1
+              (subst (OnBlock block) (sym (same-row new other set.1)) beside) on)
+        ]
+        | inr end ↦ elim (set-cases rows k j (Some other) (Some new) second) [
+          | inl also ↦
+              absurd (none j block other also.1
+              (subst (OnBlock block) (sym (same-row new one end.1)) on) beside)
+          | inr set ↦ sym set.0 ∙ end.0
+        ]
       ]
 
   module _ (t : Table T M) where
@@ -366,12 +393,6 @@ module _ {T M : Type 0} where
           (alone-writes t.rows i row new alone-now (there (slice_get t.rows i) row at)
           (sole-on drops row.items row.place) (only-here i row at may))
 
-      goes : (i : ℕ) → RowsAgree (record { rows = slice_set t.rows i None; blocks = t.blocks })
-      goes i =
-          agree-after (record { rows = slice_set t.rows i None; blocks = t.blocks })
-          (each-set IsSaid t.rows i None said-each tt) refl
-          (alone-set t.rows i None alone-now (λ new none. absurd (none-some new none)))
-
       within-blocks : (j block : ℕ) (other : Row T M) → slice_get t.rows j ≡ Some (Some other)
           → (place : Place ℕ M) → other.place ≡ place → block_of place ≡ Some block
           → block < t.blocks
@@ -384,6 +405,100 @@ module _ {T M : Type 0} where
       known : (j block : ℕ) (other : Row T M) → slice_get t.rows j ≡ Some (Some other)
           → OnBlock block other → block < t.blocks
       known j block other at on = within-blocks j block other at other.place refl on
+
+      -- of a sole writer's row another one on its block, which may say another thing of it
+      module _ (i : ℕ) (row new : Row T M) (at : row_at t i ≡ Some row)
+          (sole : is_sole row.role ≡ true) (put : block_of new.place ≡ block_of row.place) where
+        abbrev refitted : Table T M
+        refitted = record { rows = slice_set t.rows i (Some new); blocks = t.blocks }
+
+        -- a row says what it said, and isn't this one, or it is this one
+        abbrev Says : ℕ → BlockInfo M → Type 0
+        Says block info =
+            ((j : ℕ) × (other : Row T M) × (offset : ℕ) × ¬ (i ≡ j)
+            × (slice_get t.rows j ≡ Some (Some other)) × (other.place ≡ on_block block offset info))
+            ⊎ ((offset : ℕ) × (new.place ≡ on_block block offset info))
+
+        says : (block : ℕ) (info : BlockInfo M) → SaysOf refitted block info → Says block info
+        says block info (j, other, offset, here, is) =
+            elim (set-cases t.rows i j (Some other) (Some new)
+            (there (slice_get refitted.rows j) other here)) [
+              | inl old ↦ inl (j, other, offset, old.0, old.1, is)
+              | inr set ↦
+                  inr (offset, ap (λ (r : Row T M). r.place) (same-row new other set.1) ∙ is)
+            ]
+
+        row-here : slice_get t.rows i ≡ Some (Some row)
+        row-here = there (slice_get t.rows i) row at
+
+        -- beside it no other row stands
+        beside-none : (j block offset : ℕ) (other : Row T M) (one info : BlockInfo M) → ¬ (i ≡ j)
+            → slice_get t.rows j ≡ Some (Some other) → other.place ≡ on_block block offset one
+            → (o : ℕ) → new.place ≡ on_block block o info → ⊥
+        beside-none j block offset other one info apart here is o there-too =
+            let on : OnBlock block row = sym put ∙ ap block_of there-too in
+            apart (sym (alone-now i j block row other row-here here sole on (ap block_of is)))
+
+        one-says : (block : ℕ) (one other : BlockInfo M) → Says block one → Says block other
+            → one ≡ other
+        one-says block one other (inl a) (inl b) =
+            agree.same block one other
+            (a.0, a.1, a.2, ap option_flatten a.4, a.5) (b.0, b.1, b.2, ap option_flatten b.4, b.5)
+        one-says block one other (inl a) (inr b) =
+            absurd (beside-none a.0 block a.2 a.1 one other a.3 a.4 a.5 b.0 b.1)
+        one-says block one other (inr a) (inl b) =
+            absurd (beside-none b.0 block b.2 b.1 other one b.3 b.4 b.5 a.0 a.1)
+        one-says block one other (inr a) (inr b) =
+            same_Some one other (sym (ap info_at a.1) ∙ ap info_at b.1)
+
+        block-known : (block : ℕ) (info : BlockInfo M) → Says block info → block < t.blocks
+        block-known block info (inl a) =
+            agree.numbered block info (a.0, a.1, a.2, ap option_flatten a.4, a.5)
+        block-known block info (inr a) =
+            known i block row row-here (sym put ∙ ap block_of a.1)
+
+        refits : RowsAgree refitted
+        refits = record {
+          same = λ block one other a b.
+              one-says block one other (says block one a) (says block other b);
+          numbered = λ block info a. block-known block info (says block info a);
+          alone =
+              alone-of refitted (alone-set t.rows i (Some new) alone-now (λ other is.
+              subst (Stood t.rows i) (same-row new other is) (record {
+                row = row;
+                there = row-here;
+                on = λ block on. sym put ∙ on;
+                writes = λ writing. sole;
+              })));
+        }
+
+      -- a row becomes one on a block more, or on none
+      begins : (i : ℕ) (items : List T) (role : Role) (nothing : Bool) (info : BlockInfo M)
+          → let place = if nothing then nowhere else on_block t.blocks 0 info in
+          RowsAgree (begun t i (record { items = items; place = place; role = role })).1
+      begins i items role true info =
+          let row : Row T M = record { items = items; place = nowhere; role = role } in
+          agree-after (record { rows = slice_set t.rows i (Some row); blocks = t.blocks })
+          (each-set IsSaid t.rows i (Some row) said-each tt) refl
+          (alone-fresh t.rows i row alone-now (λ j block other at on beside.
+          none-some block on))
+      begins i items role false info =
+          let row : Row T M = record {
+            items = items;
+            place = on_block t.blocks 0 info;
+            role = role;
+          } in
+          agree-made info (record { rows = slice_set t.rows i (Some row); blocks = t.blocks + 1 })
+          (each-set (IsSaidOrNew info) t.rows i (Some row)
+          (λ j other at. said-new info other.place (said-each j other at)) (inr (refl, refl))) refl
+          (alone-fresh t.rows i row alone-now (λ j block other at on beside.
+          omega (arith, same_Some t.blocks block on, known j block other at beside)))
+
+      goes : (i : ℕ) → RowsAgree (record { rows = slice_set t.rows i None; blocks = t.blocks })
+      goes i =
+          agree-after (record { rows = slice_set t.rows i None; blocks = t.blocks })
+          (each-set IsSaid t.rows i None said-each tt) refl
+          (alone-set t.rows i None alone-now (λ new none. absurd (none-some new none)))
 
       -- a row on no block of the table's
       apart : (new : Row T M) → ((block : ℕ) → OnBlock block new → t.blocks ≤ block)
@@ -440,10 +555,10 @@ module _ {T M : Type 0} where
           (apart row (λ block on. omega (arith, same_Some t.blocks block on))))
 
   module _ (setting : Setting T) where
-    answer-agrees : (short : Shortage) (t : Table T M) (c : Cmd (List T) (List T)) → RowsAgree t
+    answer-agrees : (short : Shortage) (t : Table T M) (c : Cmd (List T) (List T) T) → RowsAgree t
         → RowsAgree (answer setting short t c).1
     answer-agrees short t c agree =
-        answer_each setting short t (λ reply new. RowsAgree new) (λ reply tells. agree)
+        answer_each setting short t c (λ reply new. RowsAgree new) (λ reply tells. agree)
         (λ items role nothing info fits. founds t agree items role nothing info)
         (statics t agree)
         (λ i row part at shares is fits. more t agree i row part at shares is)
@@ -451,15 +566,17 @@ module _ {T M : Type 0} where
         splits t agree i row kept handed at shares one other)
         (λ i row part at is fits. becomes t agree i row part at is)
         (writes t agree setting.drops)
-        (λ r tells i. goes t agree i) c
+        (λ i row new r tells at sole put fits. refits t agree i row new at sole put)
+        (λ i row items role nothing info at fits. begins t agree i items role nothing info)
+        (λ r tells i. goes t agree i) c refl
 
-    pub step_agrees : (t : Table T M) (c : Cmd (List T) (List T)) (r : Reply (List T) (List T)) (new : Table T M)
+    pub step_agrees : (t : Table T M) (c : Cmd (List T) (List T) T) (r : Reply (List T) (List T)) (new : Table T M)
         → Step setting t c r new → RowsAgree t → RowsAgree new
     step_agrees t c r new step agree =
         subst (λ (o : Reply (List T) (List T) × Table T M). RowsAgree o.1) step
-        (answer-agrees (shortage r) t c agree)
+        (answer-agrees (shortage r c) t c agree)
 
-    pub run_agrees : (t : Table T M) (cs : List (Cmd (List T) (List T))) (rs : List (Reply (List T) (List T)))
+    pub run_agrees : (t : Table T M) (cs : List (Cmd (List T) (List T) T)) (rs : List (Reply (List T) (List T)))
         (new : Table T M) → Run setting t cs rs new → RowsAgree t → RowsAgree new
     run_agrees t [] [] new run agree = subst RowsAgree (sym run) agree
     run_agrees t (c ∷ cs) (r ∷ rs) new run agree =

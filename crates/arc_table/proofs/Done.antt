@@ -39,7 +39,7 @@ abbrev pub Fact : {T M : Type 0} → List (Option (SlotView T M)) → List (Pass
 Fact slots passes = IsKept MAX_OWNERS (stands_of slots) passes
     × RowsAgree (state_of slots passes).table
 
-pub record Done {T M : Type 0} (setting : Setting T) (old : State T M) (c : Cmd (List T) (List T))
+pub record Done {T M : Type 0} (setting : Setting T) (old : State T M) (c : Cmd (List T) (List T) T)
     (r : Reply (List T) (List T)) (slots : List (Option (SlotView T M))) (passes : List (Pass Whole))
     : Type 0 where
   pub kept : Fact slots passes
@@ -47,7 +47,7 @@ pub record Done {T M : Type 0} (setting : Setting T) (old : State T M) (c : Cmd 
   pub passes_are : Adds old.table old.standing c r (state_of slots passes).standing
 
 -- the fact of the type follows of the owners, and of the step
-pub done : {T M : Type 0} {setting : Setting T} {old : State T M} {c : Cmd (List T) (List T)}
+pub done : {T M : Type 0} {setting : Setting T} {old : State T M} {c : Cmd (List T) (List T) T}
     {r : Reply (List T) (List T)} {slots : List (Option (SlotView T M))} {passes : List (Pass Whole)}
     → RowsAgree old.table → IsKept MAX_OWNERS (stands_of slots) passes
     → Step setting old.table c r (state_of slots passes).table
@@ -63,7 +63,7 @@ done {setting = setting} {old = old} {c = c} {r = r} {slots = slots} {passes = p
 module _ {T M : Type 0} (setting : Setting T) (slots : List (Option (SlotView T M)))
     (passes : List (Pass Whole)) (i : ℕ) (s : SlotView T M)
     (there : slice_get slots i ≡ Some (Some s)) (fact : Fact slots passes)
-    (c : Cmd (List T) (List T)) (slots' : List (Option (SlotView T M)))
+    (c : Cmd (List T) (List T) T) (slots' : List (Option (SlotView T M)))
     (passes' : List (Pass Whole)) where
   abbrev old : State T M
   old = state_of slots passes
@@ -217,7 +217,7 @@ module _ {T M : Type 0} (setting : Setting T) (slots : List (Option (SlotView T 
         (end-added slots passes i s there slots' passes' set along)
 
     -- the window has become a part of itself
-    pub become : (c : Cmd (List T) (List T)) (s' : SlotView T M) (part : Row T M)
+    pub become : (c : Cmd (List T) (List T) T) (s' : SlotView T M) (part : Row T M)
         → answer setting no_shortage t.table c ≡ changed t.table i part
         → ((new : Standing Whole) → new ≡ t.standing → Adds t.table t.standing c reply.Ok new)
         → stand_of (Some s') ≡ stand_of (Some s) → row_of s' ≡ part

@@ -45,11 +45,11 @@ module _ {T M : Type 0} (drops : Bool) where
       ]
 
 module _ {T M : Type 0} (setting : Setting T) where
-  answer-fits : (short : Shortage) (t : Table T M) (c : Cmd (List T) (List T))
+  answer-fits : (short : Shortage) (t : Table T M) (c : Cmd (List T) (List T) T)
       → RowsFit setting.drops t → RowsFit setting.drops (answer setting short t c).1
   answer-fits short t c fit =
       let d = setting.drops in
-      answer_each setting short t (λ reply new. RowsFit d new) (λ reply tells. fit)
+      answer_each setting short t c (λ reply new. RowsFit d new) (λ reply tells. fit)
       (λ items role nothing info fits. each-push d t.rows _ fit (this d _ fits))
       (λ items. each-push d t.rows _ fit (this d _ (reads-fit d (record {
         items = items;
@@ -64,16 +64,19 @@ module _ {T M : Type 0} (setting : Setting T) where
       (λ i row part at is fits. each-set d t.rows i _ fit (this d part (fits (fit i row at))))
       (λ i row at may. each-set d t.rows i _ fit
       (this d (as_sole d row) (sole-fits d row (fit i row at))))
-      (λ r tells i. each-set d t.rows i None fit (λ row none. absurd (none-some row none))) c
+      (λ i row new r tells at sole put fits.
+      each-set d t.rows i _ fit (this d new (fits (fit i row at))))
+      (λ i row items role nothing info at fits. each-set d t.rows i _ fit (this d _ fits))
+      (λ r tells i. each-set d t.rows i None fit (λ row none. absurd (none-some row none))) c refl
 
-  pub step_fits : (t : Table T M) (c : Cmd (List T) (List T)) (r : Reply (List T) (List T))
+  pub step_fits : (t : Table T M) (c : Cmd (List T) (List T) T) (r : Reply (List T) (List T))
       (new : Table T M) → Step setting t c r new → RowsFit setting.drops t
       → RowsFit setting.drops new
   step_fits t c r new step fit =
       subst (λ (o : Reply (List T) (List T) × Table T M). RowsFit setting.drops o.1) step
-      (answer-fits (shortage r) t c fit)
+      (answer-fits (shortage r c) t c fit)
 
-  pub run_fits : (t : Table T M) (cs : List (Cmd (List T) (List T)))
+  pub run_fits : (t : Table T M) (cs : List (Cmd (List T) (List T) T))
       (rs : List (Reply (List T) (List T))) (new : Table T M) → Run setting t cs rs new
       → RowsFit setting.drops t → RowsFit setting.drops new
   run_fits t [] [] new run fit = subst (RowsFit setting.drops) (sym run) fit

@@ -18,3 +18,6 @@ mod Fits
 mod FitsStep
 pub mod Statics
 pub mod Written
+mod Filled
+mod FitsRoom
+mod Filling

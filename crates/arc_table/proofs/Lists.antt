@@ -1,12 +1,12 @@
 -- Elements of lists, at their places.
-use Rattle.std.proofs.Common.{inl, inr, ◌≡◌, ℕ, ◌+◌, ◌<◌, ◌≤◌, zero, suc, List, [], ◌∷◌, ◌++◌}
-use Rattle.std.proofs.Common.{length, false, Result, Ok, Err}
+use Rattle.std.proofs.Common.{inl, inr, ◌⊎◌, ◌≡◌, ℕ, ◌+◌, ◌<◌, ◌≤◌, zero, suc, List, [], ◌∷◌, ◌++◌}
+use Rattle.std.proofs.Common.{length, true, false, Result, Ok, Err}
 use Rattle.std.proofs.Common.{Option, Some, None, slice_get, slice_set, slice_index_or, refl, sym}
 use Rattle.std.proofs.Common.{ap}
 use Rattle.std.proofs.Common.{◌∙◌, subst, arith}
 use Rattle.std.specs.Option.{option_flatten}
 use Rattle.std.proofs.lemmas.Bool.{cases_eq, false≢true}
-use Rattle.std.specs.Result.{is_err, OnOk}
+use Rattle.std.specs.Result.{is_err, OnOk, OnErr}
 use Rattle.std.proofs.lemmas.Option.{same_Some, slice_get_cases, slice_get_read, slice_get_within}
 use Rattle.arc_block.proofs.Lists.{get-set_other}
 
@@ -52,3 +52,18 @@ all-gone xs n long below j =
 pub no_error : {X E P : Type 0} (r : Result X E) → is_err r ≡ false → OnOk r P → P
 no_error (Ok x) fine p = p
 no_error (Err e) fine p = absurd (false≢true (sym fine))
+
+-- and what holds of an error where there is one
+pub an_error : {X E P : Type 0} (r : Result X E) → is_err r ≡ true → OnErr r P → P
+an_error (Ok x) bad p = absurd (false≢true bad)
+an_error (Err e) bad p = p
+
+-- no items are as many as none
+pub none-of : {X : Type 0} (xs : List X) → length xs ≡ 0 → xs ≡ []
+none-of [] is = refl
+none-of (x ∷ xs) is = absurd (omega (arith, is))
+
+-- a number is none, or at least one
+pub none-or-some : (n : ℕ) → (n ≡ 0) ⊎ (1 ≤ n)
+none-or-some zero = inl refl
+none-or-some (suc n) = inr (omega arith)

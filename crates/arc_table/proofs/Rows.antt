@@ -34,7 +34,7 @@ module _ {T M : Type 0} (setting : Setting T) (slots : List (Option (SlotView T 
   t = (state_of slots passes).table
 
   -- memory is asked for, and refused
-  pub alloc-step : (c : Cmd (List T) (List T)) (slots' : List (Option (SlotView T M)))
+  pub alloc-step : (c : Cmd (List T) (List T) T) (slots' : List (Option (SlotView T M)))
       → answer setting of_table t c ≡ (reply.Alloc, t) → slots' ≡ slots
       → Step setting t c reply.Alloc (state_of slots' passes).table
   alloc-step c slots' answers same =

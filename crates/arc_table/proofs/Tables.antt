@@ -70,7 +70,7 @@ alone-at t (on_block n offset facts) b is =
     ap (λ x. option_map_or (λ n. owners t n == 1) x false) is
 
 -- what holds of each writer's role
-of-writer : (P : Role → Type 0) (capacity : Option ℕ) → is_some capacity ≡ true
+pub of-writer : (P : Role → Type 0) (capacity : Option ℕ) → is_some capacity ≡ true
     → ((places : ℕ) → P (sole_writer places)) → P (role_of capacity)
 of-writer P None some each = absurd (false≢true some)
 of-writer P (Some places) some each = each places
@@ -100,7 +100,7 @@ module _ {T M : Type 0} (slots : List (Option (SlotView T M))) (passes : List (P
   t = (state_of slots passes).table
 
   -- a window of either role is shown, counted, cut and ended
-  abbrev IsForBoth : Cmd (List T) (List T) → Type 0
+  abbrev IsForBoth : Cmd (List T) (List T) T → Type 0
   IsForBoth c = (capacity : Option ℕ) → is_for c (role_of capacity) ≡ true
 
   pub show-for : (i : ℕ) → IsForBoth (command.Show i)
@@ -124,7 +124,7 @@ module _ {T M : Type 0} (slots : List (Option (SlotView T M))) (passes : List (P
   drop-for i (Some places) = refl
 
   -- what is for a reader is for a window that is read
-  pub reads-for : (s : SlotView T M) → s.capacity ≡ None → (c : Cmd (List T) (List T))
+  pub reads-for : (s : SlotView T M) → s.capacity ≡ None → (c : Cmd (List T) (List T) T)
       → is_for c reader ≡ true → is_for c (role_of s.capacity) ≡ true
   reads-for s reads c is = ap (λ x. is_for c (role_of x)) reads ∙ is
 
@@ -136,7 +136,7 @@ module _ {T M : Type 0} (slots : List (Option (SlotView T M))) (passes : List (P
       ∙ ap (λ n. record { rows = map (option_map row_of) slots; blocks = n }) many
 
   -- where there is no window, the answer is so
-  pub unanswered : (i : ℕ) (c : Cmd (List T) (List T)) (found : Row T M → Outcome T M)
+  pub unanswered : (i : ℕ) (c : Cmd (List T) (List T) T) (found : Row T M → Outcome T M)
       → option_flatten (slice_get slots i) ≡ None → on_row t i c found ≡ (reply.NoWindow, t)
   unanswered i c found none =
       let row = ap option_flatten (slice_get-map (option_map row_of) slots i) in
@@ -153,7 +153,7 @@ module _ {T M : Type 0} (slots : List (Option (SlotView T M))) (passes : List (P
     stand-there = slice_get-map stand_of slots i ∙ ap (option_map stand_of) there
 
     -- what is answered for a row is what is answered for this one
-    by-role : (c : Cmd (List T) (List T)) (found : Row T M → Outcome T M) (b : Bool)
+    by-role : (c : Cmd (List T) (List T) T) (found : Row T M → Outcome T M) (b : Bool)
         → is_for c (role_of s.capacity) ≡ b
         → on_row t i c found ≡ (if b then found (row_of s) else (reply.Kind, t))
     by-role c found b is =
@@ -162,18 +162,23 @@ module _ {T M : Type 0} (slots : List (Option (SlotView T M))) (passes : List (P
         ∙ ap (λ (x : Bool). if x then found (row_of s) else (reply.Kind, t)) is
 
     -- where the command is for its role, where it isn't for a writer's, and where it is for a reader's
-    pub answered : (c : Cmd (List T) (List T)) → is_for c (role_of s.capacity) ≡ true
+    pub answered : (c : Cmd (List T) (List T) T) → is_for c (role_of s.capacity) ≡ true
         → (found : Row T M → Outcome T M) → on_row t i c found ≡ found (row_of s)
     answered c is found = by-role c found true is
 
-    pub no-writer : is_some s.capacity ≡ true → (c : Cmd (List T) (List T))
+    pub no-writer : is_some s.capacity ≡ true → (c : Cmd (List T) (List T) T)
         → ((places : ℕ) → is_for c (sole_writer places) ≡ false)
         → (found : Row T M → Outcome T M) → on_row t i c found ≡ (reply.Kind, t)
     no-writer some c each found =
         by-role c found false (of-writer (λ role. is_for c role ≡ false) s.capacity some each)
 
+    pub no-reader : s.capacity ≡ None → (c : Cmd (List T) (List T) T) → is_for c reader ≡ false
+        → (found : Row T M → Outcome T M) → on_row t i c found ≡ (reply.Kind, t)
+    no-reader reads c is found =
+        by-role c found false (ap (λ x. is_for c (role_of x)) reads ∙ is)
+
     -- where the range isn't one of the window
-    pub out-of-range : (c : Cmd (List T) (List T)) → is_for c (role_of s.capacity) ≡ true
+    pub out-of-range : (c : Cmd (List T) (List T) T) → is_for c (role_of s.capacity) ≡ true
         → (range : Row T M → Result (Unit {0}) RangeError) (found : Row T M → Outcome T M)
         (e : RangeError) → range (row_of s) ≡ Err e
         → on_row t i c (λ row. in_range (range row) t (found row)) ≡ (reply.Range e, t)
@@ -181,7 +186,7 @@ module _ {T M : Type 0} (slots : List (Option (SlotView T M))) (passes : List (P
         answered c is (λ row. in_range (range row) t (found row))
         ∙ ap (λ a. in_range a t (found (row_of s))) said
 
-    pub for-reader : s.capacity ≡ None → (c : Cmd (List T) (List T)) → is_for c reader ≡ true
+    pub for-reader : s.capacity ≡ None → (c : Cmd (List T) (List T) T) → is_for c reader ≡ true
         → (found : Row T M → Outcome T M) → on_row t i c found ≡ found (row_of s)
     for-reader reads c is found =
         answered c (reads-for s reads c is) found
@@ -270,7 +275,7 @@ module _ {T M : Type 0} (slots : List (Option (SlotView T M))) (passes : List (P
           (rows-counted slots passes n ∙ full-along i k passes' n o at why.1)
 
       -- a command that asks for an owner more at this place, and then leads to these rows
-      module _ (setting : Setting T) (c : Cmd (List T) (List T)) (place : Place ℕ M)
+      module _ (setting : Setting T) (c : Cmd (List T) (List T) T) (place : Place ℕ M)
           (rows : List (Option (Row T M)))
           (answers : (short : Shortage) → answer setting short t c
           ≡ asking short t (with_owner setting short t place rows)) where

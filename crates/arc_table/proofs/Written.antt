@@ -1,5 +1,5 @@
 -- A writer that was made: on nothing, or as the first owner of a new block.
-use Rattle.std.proofs.Common.{inl, inr, ◌≡◌, ◌⊎◌, ℕ, zero, suc, ◌+◌, ◌≤◌, Bool, true}
+use Rattle.std.proofs.Common.{inl, inr, ◌≡◌, ◌⊎◌, ℕ, ◌+◌, ◌≤◌, Bool, true}
 use Rattle.std.proofs.Common.{if◌then◌else◌, List, []}
 use Rattle.std.proofs.Common.{◌∷◌, ◌++◌, length, map, Option, Some, None, refl, sym, ap, ◌∙◌}
 use Rattle.std.proofs.Common.{subst, arith}
@@ -25,18 +25,8 @@ use Rattle.arc_table.specs.Step.{Setting, no_shortage, answer, with_writer}
 use Rattle.arc_table.specs.declared.command.Cmd.{Cmd}
 use Rattle.arc_table.specs.declared.command.Reply.{Reply}
 use Rattle.arc_table.specs.declared.command.Reply.TheVariants as reply
-use Rattle.arc_table.proofs.Lists.{behind}
+use Rattle.arc_table.proofs.Lists.{behind, none-or-some}
 use Rattle.arc_table.proofs.Done.{Done, Fact, done}
-
--- no items are as many as none
-pub none-of : {X : Type 0} (xs : List X) → length xs ≡ 0 → xs ≡ []
-none-of [] is = refl
-none-of (x ∷ xs) is = absurd (omega (arith, is))
-
--- a number is none, or at least one
-pub none-or-some : (n : ℕ) → (n ≡ 0) ⊎ (1 ≤ n)
-none-or-some zero = inl refl
-none-or-some (suc n) = inr (omega arith)
 
 -- it is a sole writer, and stands where it should
 module _ {T M : Type 0} (drops : Bool) (items : List T) (places : ℕ) (w : PartsView T M)
@@ -77,7 +67,7 @@ pub record Pushed {T M : Type 0} (w : PartsView T M) (places : ℕ) (pass : Pass
       × (passes' ≡ among ++ pass ∷ [])
 
 module _ {T M : Type 0} (setting : Setting T) (slots : List (Option (SlotView T M)))
-    (passes : List (Pass Whole)) (fact : Fact slots passes) (c : Cmd (List T) (List T))
+    (passes : List (Pass Whole)) (fact : Fact slots passes) (c : Cmd (List T) (List T) T)
     (items : List T) (places : ℕ) where
   abbrev old : State T M
   old = state_of slots passes

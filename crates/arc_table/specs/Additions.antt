@@ -16,7 +16,7 @@ use Rattle.arc_block.specs.Table.{Table, row_at}
 use Rattle.arc_table.specs.declared.command.Cmd.{Cmd}
 use Rattle.arc_table.specs.declared.command.Cmd.TheVariants.{Slice, Clone, Sub, Off, To, Uniq}
 use Rattle.arc_table.specs.declared.command.Cmd.TheVariants.{Drop, Static, TakeStatic, MSlice}
-use Rattle.arc_table.specs.declared.command.Cmd.TheVariants.{New, Cap, Mut}
+use Rattle.arc_table.specs.declared.command.Cmd.TheVariants.{New, Cap, Mut, Res, Push, Ext, Freeze}
 use Rattle.arc_table.specs.declared.command.Reply.{Reply}
 use Rattle.arc_table.specs.declared.command.Reply.TheVariants as reply
 
@@ -100,9 +100,16 @@ module _ {H : Type 0} where
   Enters old i entries new =
       (new.stands ≡ old.stands) × AddsAt (stand_in old i) entries old.passes new.passes
 
+  -- The window with this number stands where it stood. Where that was on nothing it may be the
+  -- first owner of a block more, whose pass is a fresh one.
+  abbrev pub MayBegin : Stand → Standing H → ℕ → Standing H → Type 0
+  MayBegin None old i new = (made : Stand) × Founds made old.passes new.passes
+      × (new.stands ≡ slice_set old.stands i made)
+  MayBegin (Some here) old i new = new ≡ old
+
   -- what a command adds, by what it is answered. A split that leaves nothing hands out the window
   -- itself
-  abbrev pub Adds : {T M : Type 0} → Table T M → Standing H → Cmd (List T) (List T)
+  abbrev pub Adds : {T M : Type 0} → Table T M → Standing H → Cmd (List T) (List T) T
       → Reply (List T) (List T) → Standing H → Type 0
   Adds t old (Slice items) (reply.New number) new = MakesWindow old new
   Adds t old New (reply.New number) new = MakesWindow old new
@@ -121,6 +128,10 @@ module _ {H : Type 0} where
   Adds t old (To i at) (reply.Owner e) new = Enters old i (refused e) new
   Adds t old (Uniq i) reply.Yes new = Enters old i (asked true) new
   Adds t old (Uniq i) reply.No new = Enters old i (asked false) new
+  Adds t old (Res i additional) reply.Ok new = MayBegin (stand_in old i) old i new
+  Adds t old (Push i item) reply.Ok new = MayBegin (stand_in old i) old i new
+  Adds t old (Ext i items) reply.Ok new = MayBegin (stand_in old i) old i new
+  Adds t old (Freeze i) reply.Ok new = MayBegin (stand_in old i) old i new
   Adds t old (Mut i) reply.Ok new = Enters old i (asked true) new
   Adds t old (Mut i) reply.Refused new = Enters old i (asked false) new
   Adds t old (Drop i) reply.Ok new = (new.stands ≡ slice_set old.stands i None)

@@ -9,3 +9,4 @@ pub mod Calls
 pub mod Additions
 pub mod State
 pub mod Splits
+pub mod Writing

@@ -6,12 +6,13 @@ use Rattle.arc_table.specs.declared.command.Cmd.{Cmd}
 use Rattle.arc_table.specs.declared.command.Cmd.TheVariants.{Slice, Clone, Sub, Uniq, Show, Len}
 use Rattle.arc_table.specs.declared.command.Cmd.TheVariants.{Off, To, Adv, Trunc, Drop}
 use Rattle.arc_table.specs.declared.command.Cmd.TheVariants.{Static, TakeStatic, MSlice}
-use Rattle.arc_table.specs.declared.command.Cmd.TheVariants.{New, Cap, Room, Mut}
+use Rattle.arc_table.specs.declared.command.Cmd.TheVariants.{New, Cap, Room, Mut, Res, Push, Ext}
+use Rattle.arc_table.specs.declared.command.Cmd.TheVariants.{Rec, Freeze}
 use Rattle.arc_table.specs.declared.command.Reply.{Reply}
 use Rattle.arc_table.specs.declared.command.Reply.TheVariants as reply
 
 -- each item list of a command, or of a reply, under f
-abbrev pub map_command : {X Y F : Type 0} → (X → Y) → Cmd X F → Cmd Y F
+abbrev pub map_command : {X Y F T : Type 0} → (X → Y) → Cmd X F T → Cmd Y F T
 map_command f (Slice items) = Slice (f items)
 map_command f (Static items) = Static items
 map_command f New = New
@@ -25,6 +26,11 @@ map_command f (Off i at) = Off i at
 map_command f (To i at) = To i at
 map_command f (Len i) = Len i
 map_command f (Room i) = Room i
+map_command f (Res i additional) = Res i additional
+map_command f (Push i item) = Push i item
+map_command f (Ext i items) = Ext i (f items)
+map_command f (Rec i additional) = Rec i additional
+map_command f (Freeze i) = Freeze i
 map_command f (Mut i) = Mut i
 map_command f (Adv i by) = Adv i by
 map_command f (Trunc i len) = Trunc i len
@@ -44,10 +50,11 @@ map_reply f reply.Kind = reply.Kind
 map_reply f reply.Refused = reply.Refused
 map_reply f (reply.Range e) = reply.Range e
 map_reply f (reply.Owner e) = reply.Owner e
+map_reply f (reply.Reserve e) = reply.Reserve e
 map_reply f reply.Alloc = reply.Alloc
 
 -- a command in memory, and what it says
-abbrev pub seen_command : {T A : Type 0} → Cmd (Vec T A) (List T) → Cmd (List T) (List T)
+abbrev pub seen_command : {T A : Type 0} → Cmd (Vec T A) (List T) T → Cmd (List T) (List T) T
 seen_command c = map_command vec_items c
 
 abbrev pub seen_reply : {T A : Type 0} → Reply (Vec T A) (List T) → Reply (List T) (List T)

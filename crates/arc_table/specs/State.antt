@@ -37,14 +37,14 @@ Agrees s = map (option_and_then (λ row. block_of row.place)) s.table.rows
 
 -- a command is carried out: one step of the table, which adds what it adds to the histories
 pub record CarriesOut {T M : Type 0} (setting : Setting T) (old : State T M)
-    (c : Cmd (List T) (List T)) (reply : Reply (List T) (List T)) (new : State T M)
+    (c : Cmd (List T) (List T) T) (reply : Reply (List T) (List T)) (new : State T M)
     : Type 0 where
   pub rows : Step setting old.table c reply new.table
   pub passes : Adds old.table old.standing c reply new.standing
   pub agree : Agrees new
 
 -- the end of each window of so many, in the order of their numbers
-abbrev pub drops : {T : Type 0} → ℕ → List (Cmd (List T) (List T))
+abbrev pub drops : {T : Type 0} → ℕ → List (Cmd (List T) (List T) T)
 drops n = map Drop (range_with_len 0 n)
 
 -- every window that is left ends by a `Drop` of its own

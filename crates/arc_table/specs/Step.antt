@@ -10,52 +10,63 @@ use Rattle.arc_block.specs.declared.block.TheConstants.{MAX_OWNERS}
 use Rattle.arc_block.specs.Block.{Sort, native_facts, partly_full}
 use Rattle.arc_block.specs.Place.{Place, nowhere, static_data, on_block, made_place, part_place}
 use Rattle.arc_block.specs.Place.{moved}
-use Rattle.arc_block.specs.Table.{Row, Table, row_at, block_of, owners, is_alone}
+use Rattle.arc_block.specs.Table.{Row, RowOf, Table, row_at, block_of, owners, is_alone}
 use Rattle.arc_block.specs.Table.{Role, reader, sole_writer, one_writer_of_several, inline}
 use Rattle.arc_block.specs.Table.{forgotten}
 use Rattle.arc_block.specs.Writers.{capacity_of, with_capacity, as_sole, after_advance}
+use Rattle.arc_block.specs.Writers.{room, with_room, new_writer, with_more, as_reader}
+use Rattle.arc_block.specs.declared.parts.room.Room.{Room as RoomFrom}
+use Rattle.arc_block.specs.declared.parts.room.Room.TheVariants as from
+use Rattle.arc_owners.specs.declared.error.TryReserveError.TheVariants as reserve
 use Rattle.arc_table.specs.RunOf.{RunOf}
 use Rattle.arc_table.specs.declared.command.Cmd.{Cmd}
 use Rattle.arc_table.specs.declared.command.Cmd.TheVariants.{Slice, Clone, Sub, Uniq, Show, Len}
 use Rattle.arc_table.specs.declared.command.Cmd.TheVariants.{Off, To, Adv, Trunc, Drop}
 use Rattle.arc_table.specs.declared.command.Cmd.TheVariants.{Static, TakeStatic, MSlice}
-use Rattle.arc_table.specs.declared.command.Cmd.TheVariants.{New, Cap, Room, Mut}
+use Rattle.arc_table.specs.declared.command.Cmd.TheVariants.{New, Cap, Room, Mut, Res, Push, Ext}
+use Rattle.arc_table.specs.declared.command.Cmd.TheVariants.{Rec, Freeze}
 use Rattle.arc_table.specs.declared.command.Reply.{Reply}
 use Rattle.arc_table.specs.declared.command.Reply.TheVariants as reply
 
 -- what a table is run under: of its layout, whether it has static data and on which sorts of blocks
--- its clones may want memory; of its kind, whether blocks count their full places and where a list
--- may be cut
+-- its clones may want memory; of its kind, whether blocks count their full places, where a list may
+-- be cut and how many bytes an item has
 pub record Setting (T : Type 0) : Type 0 where
   pub has_static : Bool
   pub clone_wants : Sort → Bool
   pub drops : Bool
   pub boundary : List T → ℕ → Bool
+  pub item_size : ℕ
 
-abbrev pub setting_of : {T : Type 0} → Bool → (Sort → Bool) → Bool → (List T → ℕ → Bool)
+abbrev pub setting_of : {T : Type 0} → Bool → (Sort → Bool) → Bool → (List T → ℕ → Bool) → ℕ
     → Setting T
-setting_of has_static clone_wants drops boundary = record {
+setting_of has_static clone_wants drops boundary item_size = record {
   has_static = has_static;
   clone_wants = clone_wants;
   drops = drops;
   boundary = boundary;
+  item_size = item_size;
 }
 
 -- What a step leaves free: where memory was refused. Nowhere, or for what the table asks for itself
--- (room, a block, a copy of items), or for an owner more, where the layout's clones want some.
+-- (room, a block, a copy of items), or for an owner more, where the layout's clones want some, or
+-- for the block of a window that is there: its first one, or a larger one.
 pub data Shortage : Type 0 where
   no_shortage : Shortage
   of_table : Shortage
   of_clones : Shortage
+  of_blocks : Shortage
 
--- where it was refused, as the reply tells
-abbrev pub shortage : {X F : Type 0} → Reply X F → Shortage
-shortage reply.Alloc = of_table
-shortage (reply.Owner AllocError) = of_clones
-shortage other = no_shortage
+-- where it was refused, as the reply to a command tells
+abbrev pub shortage : {X F T : Type 0} → Reply X F → Cmd X F T → Shortage
+shortage reply.Alloc command = of_table
+shortage (reply.Owner AllocError) command = of_clones
+shortage (reply.Reserve reserve.AllocError) command = of_blocks
+shortage reply.Refused (Freeze i) = of_blocks
+shortage other command = no_shortage
 
 -- the roles that a command is for
-abbrev pub is_for : {X F : Type 0} → Cmd X F → Role → Bool
+abbrev pub is_for : {X F T : Type 0} → Cmd X F T → Role → Bool
 is_for command forgotten = false
 is_for (Clone i) reader = true
 is_for (Clone i) inline = true
@@ -75,6 +86,11 @@ is_for (Show i) role = true
 is_for (Len i) role = true
 is_for (Room i) (sole_writer capacity) = true
 is_for (Room i) (one_writer_of_several capacity) = true
+is_for (Res i additional) (sole_writer capacity) = true
+is_for (Push i item) (sole_writer capacity) = true
+is_for (Ext i items) (sole_writer capacity) = true
+is_for (Rec i additional) (sole_writer capacity) = true
+is_for (Freeze i) (sole_writer capacity) = true
 is_for (Drop i) role = true
 is_for command role = false
 
@@ -83,17 +99,36 @@ abbrev pub asking : {X F S : Type 0} → Shortage → S → Reply X F × S → R
 asking no_shortage t outcome = outcome
 asking of_table t outcome = (reply.Alloc, t)
 asking of_clones t outcome = outcome
+asking of_blocks t outcome = outcome
+
+-- memory is asked for, for the block of a window that is there: where it is refused, this is the
+-- reply, and nothing changes
+abbrev pub asking_block : {X F S : Type 0} → Shortage → Reply X F → S → Reply X F × S
+    → Reply X F × S
+asking_block of_blocks answer t outcome = (answer, t)
+asking_block short answer t outcome = outcome
+
+-- what is made of a list: a reader of it, on the block with this number, or on nothing
+abbrev pub made_row : {T M : Type 0} → (has_static drops : Bool) → (block : ℕ) → List T → Row T M
+made_row has_static drops block items = record {
+  items = items;
+  place = made_place has_static block (native_facts drops (length items)) items;
+  role = reader;
+}
+
+-- the same on the next block
+abbrev pub founded_row : {T M : Type 0} → Setting T → Table T M → List T → Row T M
+founded_row setting t items = made_row setting.has_static setting.drops t.blocks items
 
 -- a window over a copy of the items
 abbrev pub founded : {T M : Type 0} → Setting T → Table T M → List T
     → Reply (List T) (List T) × Table T M
 founded setting t items =
-    let place =
-    made_place setting.has_static t.blocks (native_facts setting.drops (length items)) items in (
+    let row = founded_row setting t items in (
       reply.New (length t.rows),
       record {
-        rows = t.rows ++ Some (record { items = items; place = place; role = reader }) ∷ [];
-        blocks = option_map_or (λ block. t.blocks + 1) (block_of place) t.blocks;
+        rows = t.rows ++ Some row ∷ [];
+        blocks = option_map_or (λ block. t.blocks + 1) (block_of row.place) t.blocks;
       },
     )
 
@@ -202,8 +237,54 @@ abbrev pub changed : {T M : Type 0} → Table T M → ℕ → Row T M
     → Reply (List T) (List T) × Table T M
 changed t i row = (reply.Ok, record { rows = slice_set t.rows i (Some row); blocks = t.blocks })
 
+-- the row with this number has become another one, on a block more if it stands on one
+abbrev pub begun : {T M : Type 0} → Table T M → ℕ → Row T M → Reply (List T) (List T) × Table T M
+begun t i row = (
+  reply.Ok,
+  record {
+    rows = slice_set t.rows i (Some row);
+    blocks = option_map_or (λ block. t.blocks + 1) (block_of row.place) t.blocks;
+  },
+)
+
+-- where a writer has room for so many items more; a first block has places for so many
+abbrev pub room_of : {N T M : Type 0} → Setting T → RowOf N T M → ℕ → RoomFrom
+room_of setting row additional =
+    room setting.drops (if setting.item_size == 1 then 8 else 4) setting.item_size row additional
+
+-- The row with this number has this room, and these items behind its others. Memory is asked for a
+-- first block, and for a larger one.
+abbrev pub filled : {T M : Type 0} → Setting T → Shortage → Table T M → ℕ → Row T M → List T
+    → RoomFrom → Reply (List T) (List T) × Table T M
+filled setting short t i row items (from.Refused e) = (reply.Reserve e, t)
+filled setting short t i row items (from.Fresh places) =
+    asking_block short (reply.Reserve reserve.AllocError) t
+    (begun t i (with_more items (new_writer setting.drops t.blocks [] places)))
+filled setting short t i row items (from.Growth places) =
+    asking_block short (reply.Reserve reserve.AllocError) t
+    (changed t i (with_more items (with_room (from.Growth places) row)))
+filled setting short t i row items room = changed t i (with_more items (with_room room row))
+
+-- the row with this number has this room, if that takes no memory
+abbrev pub reclaimed : {T M : Type 0} → Table T M → ℕ → Row T M → RoomFrom
+    → Reply (List T) (List T) × Table T M
+reclaimed t i row (from.Refused e) = (reply.No, t)
+reclaimed t i row (from.Fresh places) = (reply.No, t)
+reclaimed t i row (from.Growth places) = (reply.No, t)
+reclaimed t i row room = (reply.Yes, (changed t i (with_room room row)).1)
+
+-- The writer with this number is a reader from now on: where he stands, or on no block as what is
+-- made of his items, which are none.
+abbrev pub frozen : {T M : Type 0} → Setting T → Shortage → Table T M → ℕ → Row T M
+    → Reply (List T) (List T) × Table T M
+frozen setting short t i row =
+    let made = founded_row setting t row.items in
+    if is_some (block_of row.place) then changed t i (as_reader row) else
+    if is_some (block_of made.place) then asking_block short reply.Refused t (begun t i made)
+    else begun t i made
+
 -- the row with this number, if there is one, and if the command is for its role
-abbrev pub on_row : {T M : Type 0} → Table T M → ℕ → Cmd (List T) (List T)
+abbrev pub on_row : {T M : Type 0} → Table T M → ℕ → Cmd (List T) (List T) T
     → (Row T M → Reply (List T) (List T) × Table T M) → Reply (List T) (List T) × Table T M
 on_row t i command found =
     option_map_or (λ row. if is_for command row.role then found row else (reply.Kind, t))
@@ -220,7 +301,7 @@ in_range (Err e) t outcome = (reply.Range e, t)
 -- rows on native blocks, on static slices or on none, which are read or of a sole writer: no
 -- command makes others yet. Of one writer of several a split would keep a capacity that isn't the
 -- part's, and `Uniq` doesn't ask the block's sort.
-abbrev pub answer : {T M : Type 0} → Setting T → Shortage → Table T M → Cmd (List T) (List T)
+abbrev pub answer : {T M : Type 0} → Setting T → Shortage → Table T M → Cmd (List T) (List T) T
     → Reply (List T) (List T) × Table T M
 answer setting short t (Slice items) = asking short t (founded setting t items)
 answer setting short t (Static items) =
@@ -255,6 +336,15 @@ answer setting short t (Room i) = on_row t i (Room i) (λ row.
     (reply.Number (capacity_of row.role), t))
 answer setting short t (Mut i) = on_row t i (Mut i) (λ row.
     if may_write t row then changed t i (as_sole setting.drops row) else (reply.Refused, t))
+answer setting short t (Res i additional) = on_row t i (Res i additional) (λ row.
+    filled setting short t i row [] (room_of setting row additional))
+answer setting short t (Push i item) = on_row t i (Push i item) (λ row.
+    filled setting short t i row (item ∷ []) (room_of setting row 1))
+answer setting short t (Ext i items) = on_row t i (Ext i items) (λ row.
+    filled setting short t i row items (room_of setting row (length items)))
+answer setting short t (Rec i additional) = on_row t i (Rec i additional) (λ row.
+    reclaimed t i row (room_of setting row additional))
+answer setting short t (Freeze i) = on_row t i (Freeze i) (λ row. frozen setting short t i row)
 answer setting short t (Adv i by) = on_row t i (Adv i by) (λ row.
     in_range (edge_answer setting.boundary row.items by) t
     (changed t i (after_advance by row)))
@@ -269,12 +359,12 @@ answer setting short t (TakeStatic i) = on_row t i (TakeStatic i) (λ row.
     else take_items t i row)
 
 -- From old, the table may give this reply to the command and go on to new: it is the answer, where
--- memory was refused as the reply tells. A refusal changes nothing.
-abbrev pub Step : {T M : Type 0} → Setting T → Table T M → Cmd (List T) (List T)
+-- memory was refused as the reply tells. What is refused changes nothing.
+abbrev pub Step : {T M : Type 0} → Setting T → Table T M → Cmd (List T) (List T) T
     → Reply (List T) (List T) → Table T M → Type 0
-Step setting old c reply new = answer setting (shortage reply) old c ≡ (reply, new)
+Step setting old c reply new = answer setting (shortage reply c) old c ≡ (reply, new)
 
 -- the table may give these replies to these commands, one after another
-abbrev pub Run : {T M : Type 0} → Setting T → Table T M → List (Cmd (List T) (List T))
+abbrev pub Run : {T M : Type 0} → Setting T → Table T M → List (Cmd (List T) (List T) T)
     → List (Reply (List T) (List T)) → Table T M → Type 0
 Run setting = RunOf (Step setting)

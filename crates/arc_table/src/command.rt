@@ -1,11 +1,11 @@
 //! What a table is asked, and what it answers.
 use arc_block::static_slice::StaticSlice;
-use arc_owners::error::{OwnerError, RangeError};
+use arc_owners::error::{OwnerError, RangeError, TryReserveError};
 
-/// A command, where X holds items and F a slice that is there for good. Windows go by their
-/// numbers.
+/// A command, where X holds items, F is a slice that is there for good and T an item. Windows go by
+/// their numbers.
 #[derive(Debug, Drop)]
-pub enum Cmd<X, F> {
+pub enum Cmd<X, F, T> {
     /// A window over a copy of these items.
     Slice(X),
     /// A window over a slice that is there for good.
@@ -54,6 +54,30 @@ pub enum Cmd<X, F> {
     Room {
         window: usize,
     },
+    /// Makes room for so many items more in a window that is written.
+    Res {
+        window: usize,
+        additional: usize,
+    },
+    /// An item more, behind the others of a window that is written.
+    Push {
+        window: usize,
+        item: T,
+    },
+    /// These items more, behind the others of a window that is written.
+    Ext {
+        window: usize,
+        items: X,
+    },
+    /// Makes room for so many items more in a window that is written, if that takes no memory.
+    Rec {
+        window: usize,
+        additional: usize,
+    },
+    /// Makes a window that is written one that is read.
+    Freeze {
+        window: usize,
+    },
     /// Makes a window that is alone one that is written.
     Mut {
         window: usize,
@@ -85,9 +109,9 @@ pub enum Reply<X, F> {
     New(usize),
     /// It is done.
     Ok,
-    /// The window is the only owner of its block.
+    /// The window is the only owner of its block, or it has the room.
     Yes,
-    /// It isn't: the block has another owner, or the window stands on none.
+    /// It isn't: the block has another owner, or the window stands on none. Or it hasn't.
     No,
     /// The items of the window.
     Items(X),
@@ -99,18 +123,20 @@ pub enum Reply<X, F> {
     NoWindow,
     /// The command isn't for a window of this role.
     Kind,
-    /// The window stands on a block; nothing changed.
+    /// What the window stands on doesn't allow it, or memory for it was refused; nothing changed.
     Refused,
     /// The range isn't one of the window.
     Range(RangeError),
     /// There is no owner more.
     Owner(OwnerError),
+    /// There is no room for so many items more.
+    Reserve(TryReserveError),
     /// Memory was refused; nothing changed.
     Alloc,
 }
 
 /// What a table of windows over items of type T is asked: what it copies lies in a vector.
-pub type TableCmd<T, A> = Cmd<Vec<T, A>, StaticSlice<T>>;
+pub type TableCmd<T, A> = Cmd<Vec<T, A>, StaticSlice<T>, T>;
 
 /// What a table of windows over items of type T answers: what it shows lies in a vector.
 pub type TableReply<T, A> = Reply<Vec<T, A>, StaticSlice<T>>;

@@ -15,14 +15,15 @@ ghost use Rattle.arc_table.specs.declared.command.Reply.{Reply};
 /// metadata of any type.
 pub fn rows_agree<T, M>()
     ensures empty { RowsAgree {T = T} {M = M} empty_table }
-    ensures step { (setting : Setting T) (old : Table T M) (command : Cmd (List T) (List T))
+    ensures step { (setting : Setting T) (old : Table T M) (command : Cmd (List T) (List T) T)
         (reply : Reply (List T) (List T)) (new : Table T M) → Step setting old command reply new
         → RowsAgree old → RowsAgree new }
-    ensures run { (setting : Setting T) (old : Table T M) (commands : List (Cmd (List T) (List T)))
+    ensures run { (setting : Setting T) (old : Table T M)
+        (commands : List (Cmd (List T) (List T) T))
         (replies : List (Reply (List T) (List T))) (new : Table T M)
         → Run setting old commands replies new → RowsAgree old → RowsAgree new }
     ensures carried_out { (setting : Setting T) (old : State T M)
-        (commands : List (Cmd (List T) (List T))) (replies : List (Reply (List T) (List T)))
+        (commands : List (Cmd (List T) (List T) T)) (replies : List (Reply (List T) (List T)))
         (new : State T M)
         → RunOf (CarriesOut setting) old commands replies new
         → RowsAgree old.table → RowsAgree new.table }
@@ -34,15 +35,16 @@ pub fn rows_agree<T, M>()
 /// run. Does nothing: its contract is the law, for items and metadata of any type.
 pub fn rows_fit<T, M>()
     ensures empty { (drops : Bool) → RowsFit {T = T} {M = M} drops empty_table }
-    ensures step { (setting : Setting T) (old : Table T M) (command : Cmd (List T) (List T))
+    ensures step { (setting : Setting T) (old : Table T M) (command : Cmd (List T) (List T) T)
         (reply : Reply (List T) (List T)) (new : Table T M) → Step setting old command reply new
         → RowsFit setting.drops old → RowsFit setting.drops new }
-    ensures run { (setting : Setting T) (old : Table T M) (commands : List (Cmd (List T) (List T)))
+    ensures run { (setting : Setting T) (old : Table T M)
+        (commands : List (Cmd (List T) (List T) T))
         (replies : List (Reply (List T) (List T))) (new : Table T M)
         → Run setting old commands replies new → RowsFit setting.drops old
         → RowsFit setting.drops new }
     ensures carried_out { (setting : Setting T) (old : State T M)
-        (commands : List (Cmd (List T) (List T))) (replies : List (Reply (List T) (List T)))
+        (commands : List (Cmd (List T) (List T) T)) (replies : List (Reply (List T) (List T)))
         (new : State T M) → RunOf (CarriesOut setting) old commands replies new
         → RowsFit setting.drops old.table → RowsFit setting.drops new.table }
 {}

@@ -1,16 +1,20 @@
 //! One window of a table.
-ghost use Rattle.std.specs.Prelude.{◌≡◌, ◌==◌, ◌&&◌, if◌then◌else◌, Bool, None};
+ghost use Rattle.std.specs.Prelude.{◌≡◌, ◌==◌, ◌&&◌, if◌then◌else◌, Bool, None, true, IfErr, OnOk};
+ghost use Rattle.std.specs.Prelude.{Err};
+ghost use Rattle.std.specs.Mem.{FitsInMemory, type_size};
 ghost use Rattle.arc_owners.specs.count.Calls.{Leaves};
 ghost use Rattle.arc_block.specs.Place.{at_owner};
 ghost use Rattle.arc_block.specs.Steps.{IsPassAt};
+ghost use Rattle.arc_block.specs.Writers.{room, MakesRoom, Pushes};
 ghost use Rattle.arc_table.specs.Slots.{held};
+ghost use Rattle.arc_table.specs.Writing.{seen_writing, items_of, additional_of};
 
 use crate::passes::Passes;
 use arc_block::layout::{Layout, LayoutMut, stands_on_nothing};
 use arc_block::parts::Parts;
 use arc_block::static_slice::StaticSlice;
-use arc_buffer::kinds::{AnyItems, Slice, Subsliceable};
-use arc_owners::error::{OwnerError, RangeError};
+use arc_buffer::kinds::{AnyItems, CopySlice, Extendable, Slice, Subsliceable};
+use arc_owners::error::{OwnerError, RangeError, TryReserveError};
 use arc_owners::mark::Whole;
 use arc_owners::owners::Pass;
 use arc_read::slice::ArcSlice;
@@ -55,6 +59,61 @@ where
         × (is_writer s.window ≡ true) };
 }
 
+/// What is written into a window, where X holds items and T is one.
+#[derive(Drop)]
+pub enum Writing<X, T> {
+    /// Nothing, but room is made for so many items more.
+    Nothing(usize),
+    /// An item.
+    Item(T),
+    /// Items.
+    Items(X),
+}
+
+impl<T, A: Allocator> Writing<Vec<T, A>, T> {
+    ghost use Rattle.arc_table.specs.Writing.{seen_writing, additional_of};
+
+    /// For how many items there is to be room.
+    pub fn additional(&self) -> usize
+        ensures { result ≡ additional_of (seen_writing self.now) }
+    {
+        match self {
+            Writing::Nothing(additional) => *additional,
+            Writing::Item(_) => 1,
+            Writing::Items(items) => items.len(),
+        }
+    }
+}
+
+/// Writes into a window: room is made, and the items are put behind the others. Refused, nothing
+/// changes, and what was to be written is let go.
+fn write_as<S: CopySlice + Extendable, K: LayoutMut, B, M, A: Allocator + Copy>(
+    window: &mut ArcSliceMut<S, K, 1, B, M, A, Whole>,
+    what: Writing<Vec<S::Item, A>, S::Item>,
+    pass: &mut Pass<Whole>,
+) -> Result<(), TryReserveError>
+where
+    S::Item: Copy,
+    requires item { FitsInMemory S.Item.row }
+    requires pass { IsPassAt window.old.place pass.old }
+    ensures written { OnOk result (Pushes S.DROPS true (room S.DROPS
+        (if type_size S.Item.row == 1 then 8 else 4) (type_size S.Item.row) window.old
+        (additional_of (seen_writing what))) (items_of (seen_writing what)) window.old window.new
+        pass.old pass.new) }
+    ensures refused { IfErr result (λ e. MakesRoom S.DROPS true (room S.DROPS
+        (if type_size S.Item.row == 1 then 8 else 4) (type_size S.Item.row) window.old
+        (additional_of (seen_writing what))) window.old window.new pass.old pass.new (Err e)) }
+{
+    match what {
+        Writing::Nothing(additional) => window.try_reserve_as(additional, pass),
+        Writing::Item(item) => match window.try_push_as(item, pass) {
+            Ok(()) => Ok(()),
+            Err((e, _)) => Err(e),
+        },
+        Writing::Items(items) => window.try_extend_from_slice_as(&items, pass),
+    }
+}
+
 /// The block on which a part with so many items stands, if it stands on one.
 fn part_block<L: Layout>(block: Option<usize>, len: usize) -> Option<usize>
     ensures { result ≡ (if L.STATIC && (len == 0) then None else block) }
@@ -90,16 +149,21 @@ where
     ghost use Rattle.arc_block.specs.Place.{part_place};
     ghost use Rattle.arc_block.specs.Table.{block_of, reader};
     ghost use Rattle.arc_block.specs.Window.{window_of};
-    ghost use Rattle.arc_block.specs.Writers.{after_advance, as_sole, capacity_of};
+    ghost use Rattle.arc_block.specs.Writers.{after_advance, as_reader, as_sole, capacity_of};
     ghost use Rattle.arc_block.specs.Place.{static_data};
+    ghost use Rattle.std.specs.Prelude.{not};
     ghost use Rattle.arc_owners.specs.count.Calls.{Asks, Leaves};
     ghost use Rattle.arc_table.specs.Stands.{HasPassFor, is_numbered};
     ghost use Rattle.arc_table.specs.Calls.{Along, Beside, RefusesAt};
     ghost use Rattle.arc_table.specs.Step.{setting_of, cut_row, off_part, to_part};
-    ghost use Rattle.arc_table.specs.Step.{truncated};
+    ghost use Rattle.arc_table.specs.Step.{truncated, made_row};
+    ghost use Rattle.arc_table.specs.Additions.{Founds};
     ghost use Rattle.arc_table.specs.Splits.{IsSplit};
     ghost use Rattle.arc_table.specs.Blocks.{is_sole};
     ghost use Rattle.arc_table.specs.Slots.{row_of, stand_of};
+    ghost use Rattle.arc_table.specs.Writing.{Fills, is_fresh};
+    ghost use Rattle.arc_block.specs.Writers.{Reclaims};
+    ghost use Rattle.std.specs.Vec.{vec_capacity};
 
     /// A window over a slice that is there for good, under a layout with static data.
     pub fn on_static(alloc: A, items: StaticSlice<S::Item>) -> Self
@@ -342,16 +406,18 @@ where
         requires at { IsEdge S.boundary self.old.window.items at }
         requires pass { HasPassFor passes.old.of_blocks.items (stand_of (Some self.old)) }
         ensures start { IfOk result (λ back. at ≡ 0 → IsSplit self.old back self.new
-            (row_of self.old) (off_part (setting_of L.STATIC L.clone_wants S.DROPS S.boundary)
+            (row_of self.old) (off_part (setting_of L.STATIC L.clone_wants S.DROPS S.boundary
+            (type_size S.Item.row))
             (row_of self.old) at)
             passes.old.of_blocks.items passes.new.of_blocks.items) }
         ensures later { IfOk result (λ back. 0 < at → IsSplit self.old self.new back
             (cut_row (row_of self.old) 0 at) (off_part (setting_of L.STATIC L.clone_wants S.DROPS
-            S.boundary) (row_of self.old) at)
+            S.boundary (type_size S.Item.row)) (row_of self.old) at)
             passes.old.of_blocks.items passes.new.of_blocks.items) }
         ensures kept { IfErr result (λ _. self.new ≡ self.old) }
         ensures refused { IfErr result (RefusesAt L.clone_wants
-            (off_part (setting_of L.STATIC L.clone_wants S.DROPS S.boundary) (row_of self.old)
+            (off_part (setting_of L.STATIC L.clone_wants S.DROPS S.boundary
+            (type_size S.Item.row)) (row_of self.old)
             at).place
             (stand_of (Some self.old)) passes.old.of_blocks.items passes.new.of_blocks.items) }
     {
@@ -390,17 +456,19 @@ where
         requires pass { HasPassFor passes.old.of_blocks.items (stand_of (Some self.old)) }
         ensures end { IfOk result (λ front. at ≡ length self.old.window.items → IsSplit self.old
             front self.new
-            (row_of self.old) (to_part (setting_of L.STATIC L.clone_wants S.DROPS S.boundary)
+            (row_of self.old) (to_part (setting_of L.STATIC L.clone_wants S.DROPS S.boundary
+            (type_size S.Item.row))
             (row_of self.old) at)
             passes.old.of_blocks.items passes.new.of_blocks.items) }
         ensures earlier { IfOk result (λ front. at < length self.old.window.items → IsSplit
             self.old self.new front
             (cut_row (row_of self.old) at (length self.old.window.items)) (to_part (setting_of
-            L.STATIC L.clone_wants S.DROPS S.boundary) (row_of self.old) at)
+            L.STATIC L.clone_wants S.DROPS S.boundary (type_size S.Item.row)) (row_of self.old) at)
             passes.old.of_blocks.items passes.new.of_blocks.items) }
         ensures kept { IfErr result (λ _. self.new ≡ self.old) }
         ensures refused { IfErr result (RefusesAt L.clone_wants
-            (to_part (setting_of L.STATIC L.clone_wants S.DROPS S.boundary) (row_of self.old)
+            (to_part (setting_of L.STATIC L.clone_wants S.DROPS S.boundary
+            (type_size S.Item.row)) (row_of self.old)
             at).place
             (stand_of (Some self.old)) passes.old.of_blocks.items passes.new.of_blocks.items) }
     {
@@ -456,6 +524,128 @@ where
                 window: Held::Read(window),
                 block,
             }),
+        }
+    }
+
+    /// Whether a first block has to be made for so many items more in the window, which is written.
+    pub fn wants_block(&self, additional: usize) -> bool
+        requires { is_some self.now.capacity ≡ true }
+        ensures { result ≡ is_fresh (room S.DROPS (if type_size S.Item.row == 1 then 8 else 4)
+            (type_size S.Item.row) (row_of self.now) additional) }
+    {
+        let Held::Write(window) = &self.window else {
+            unreachable!()
+        };
+        self.block.is_none() && window.capacity().saturating_sub(window.len()) < additional
+    }
+
+    /// Writes into the window, which is one that is written. Refused, nothing changes.
+    pub fn write(
+        &mut self,
+        what: Writing<Vec<S::Item, A>, S::Item>,
+        passes: &mut Passes<A>,
+    ) -> Result<(), TryReserveError>
+    where
+        S: CopySlice + Extendable,
+        S::Item: Copy,
+        requires item { FitsInMemory S.Item.row }
+        requires writes { is_some self.old.capacity ≡ true }
+        requires room { is_fresh (room S.DROPS (if type_size S.Item.row == 1 then 8 else 4)
+            (type_size S.Item.row) (row_of self.old) (additional_of (seen_writing what))) ≡ true
+            → length passes.old.of_blocks.items < vec_capacity passes.old.of_blocks }
+        requires pass { HasPassFor passes.old.of_blocks.items (stand_of (Some self.old)) }
+        ensures { Fills S.DROPS (room S.DROPS (if type_size S.Item.row == 1 then 8 else 4)
+            (type_size S.Item.row) (row_of self.old) (additional_of (seen_writing what)))
+            (items_of (seen_writing what)) self.old self.new passes.old.of_blocks.items
+            passes.new.of_blocks.items result }
+    {
+        let begins = self.wants_block(what.additional());
+        let block = self.block;
+        let Held::Write(window) = &mut self.window else {
+            unreachable!()
+        };
+        let mut pass = passes.lend(block);
+        match write_as(window, what, &mut pass) {
+            Ok(()) => {
+                self.block = passes.keep(block, begins, pass);
+                Ok(())
+            }
+            Err(e) => {
+                passes.give_back(block, pass);
+                Err(e)
+            }
+        }
+    }
+
+    /// Whether there is room for so many items more without memory in the window, which is one
+    /// that is written; then it is made.
+    pub fn try_reclaim(&mut self, additional: usize) -> bool
+        requires item { FitsInMemory S.Item.row }
+        requires writes { is_some self.old.capacity ≡ true }
+        ensures row { Reclaims (room S.DROPS (if type_size S.Item.row == 1 then 8 else 4)
+            (type_size S.Item.row) (row_of self.old) additional) (row_of self.old)
+            (row_of self.new) result }
+        ensures kept { result ≡ false → self.new ≡ self.old }
+        ensures stand { stand_of (Some self.new) ≡ stand_of (Some self.old) }
+    {
+        let Held::Write(window) = &mut self.window else {
+            unreachable!()
+        };
+        window.try_reclaim(additional)
+    }
+
+    /// Whether a first block has to be made for the window to be read: it stands on none, and
+    /// under the layout what is made of its items stands on one.
+    pub fn wants_block_to_read(&self) -> bool
+        ensures { result ≡ (not (is_some (block_of (row_of self.now).place))
+            && not (L.STATIC && (length self.now.window.items == 0))) }
+    {
+        self.block.is_none() && !stands_on_nothing::<L>(self.len())
+    }
+
+    /// The window, which is one that is written, as one that is read: where it stands, or on no
+    /// block as what is made of its items. It comes back where memory for a block is refused.
+    pub fn try_freeze(self, passes: &mut Passes<A>) -> Result<Self, Self>
+        requires writes { is_some self.capacity ≡ true }
+        requires pass { HasPassFor passes.old.of_blocks.items (stand_of (Some self)) }
+        requires room { is_some (block_of (row_of self).place) ≡ false
+            → (L.STATIC && (length self.window.items == 0)) ≡ false
+            → length passes.old.of_blocks.items < vec_capacity passes.old.of_blocks }
+        ensures stays { IfOk result (λ slot. is_some (block_of (row_of self).place) ≡ true
+            → (row_of slot ≡ as_reader (row_of self))
+            × (stand_of (Some slot) ≡ stand_of (Some self))
+            × (passes.new.of_blocks.items ≡ passes.old.of_blocks.items)) }
+        ensures made { IfOk result (λ slot. is_some (block_of (row_of self).place) ≡ false
+            → (row_of slot ≡ made_row L.STATIC S.DROPS (length passes.old.of_blocks.items)
+            self.window.items)
+            × Founds (stand_of (Some slot)) passes.old.of_blocks.items
+            passes.new.of_blocks.items) }
+        ensures back { IfErr result (λ slot. (slot ≡ self)
+            × (passes.new.of_blocks.items ≡ passes.old.of_blocks.items)) }
+        ensures refused { IfErr result (λ _. (is_some (block_of (row_of self).place) ≡ false)
+            × (L.STATIC ≡ false)) }
+    {
+        let begins = self.wants_block_to_read();
+        let Slot { window, block } = self;
+        let Held::Write(window) = window else {
+            unreachable!()
+        };
+        let mut pass = passes.lend(block);
+        match window.try_freeze_as::<L>(&mut pass) {
+            Ok(window) => {
+                let block = passes.keep(block, begins, pass);
+                Ok(Slot {
+                    window: Held::Read(window),
+                    block,
+                })
+            }
+            Err(window) => {
+                passes.give_back(block, pass);
+                Err(Slot {
+                    window: Held::Write(window),
+                    block,
+                })
+            }
         }
     }
 

@@ -3,16 +3,18 @@ ghost use Rattle.std.specs.Prelude.{◌≡◌, ◌<◌, ◌≤◌, ◌++◌, ◌
 ghost use Rattle.std.specs.Prelude.{MatchOption, slice_get, slice_set};
 ghost use Rattle.std.specs.Option.{option_flatten};
 ghost use Rattle.std.specs.Vec.{vec_capacity};
+ghost use Rattle.std.specs.Mem.{FitsInMemory, type_size};
 ghost use Rattle.arc_table.specs.Blocks.{is_sole};
 ghost use Rattle.arc_table.specs.Slots.{writer_slot};
 ghost use Rattle.arc_table.specs.Stands.{is_numbered};
 
-use crate::command::{Cmd, Reply, TableReply};
+use crate::command::{Cmd, Reply, TableCmd, TableReply};
 use crate::passes::Passes;
-use crate::slot::{Held, Slot};
+use crate::slot::{Held, Slot, Writing};
 use arc_block::layout::{DefaultLayout, Layout, LayoutMut, stands_on_nothing};
 use arc_block::static_slice::StaticSlice;
-use arc_buffer::kinds::{CopySlice, Emptyable, Slice, Subsliceable};
+use arc_buffer::kinds::{CopySlice, Emptyable, Extendable, Slice, Subsliceable};
+use arc_owners::error::TryReserveError;
 use arc_owners::mark::Whole;
 use arc_owners::owners::Pass;
 use arc_read::slice::ArcSlice;
@@ -138,13 +140,13 @@ where
     slots.destroy_empty();
 }
 
-impl<S: CopySlice + Emptyable + Subsliceable, L: Layout, B, M, A: Allocator + Copy> Table<
-    S,
-    L,
+impl<
+    S: CopySlice + Emptyable + Extendable + Subsliceable,
+    L: Layout,
     B,
     M,
-    A,
->
+    A: Allocator + Copy,
+> Table<S, L, B, M, A>
 where
     S::Item: Copy,
     L::Writable: LayoutMut,
@@ -155,6 +157,7 @@ where
     ghost use Rattle.arc_table.specs.Step.{Step, no_shortage, setting_of, shortage};
     ghost use Rattle.arc_table.specs.Seen.{map_reply, seen_command, seen_reply};
     ghost use Rattle.arc_table.specs.Additions.{Adds};
+    ghost use Rattle.arc_table.specs.Writing.{seen_writing, write_command};
     ghost use Rattle.arc_table.specs.Blocks.{RowsAgree};
     ghost use Rattle.arc_table.specs.State.{Agrees, CarriesOut, EndsAll, EndsWith, empty_state};
     ghost use Rattle.arc_table.specs.declared.command.Cmd.TheVariants as command;
@@ -176,12 +179,10 @@ where
     ///
     /// Takes memory for a window more, for what a window is made of and for what is shown; refused,
     /// the answer is `Alloc`.
-    pub fn step(
-        &mut self,
-        rt: &impl Wait,
-        command: Cmd<Vec<S::Item, A>, StaticSlice<S::Item>>,
-    ) -> TableReply<S::Item, A>
-        ensures { CarriesOut (setting_of L.STATIC L.clone_wants S.DROPS S.boundary) self.old
+    pub fn step(&mut self, rt: &impl Wait, command: TableCmd<S::Item, A>) -> TableReply<S::Item, A>
+        requires item { FitsInMemory S.Item.row }
+        ensures { CarriesOut (setting_of L.STATIC L.clone_wants S.DROPS S.boundary
+            (type_size S.Item.row)) self.old
             (seen_command command) (seen_reply result) self.new }
     {
         let reply = self.answer(rt, command);
@@ -190,12 +191,10 @@ where
     }
 
     /// The reply to one command, by the method for it.
-    fn answer(
-        &mut self,
-        rt: &impl Wait,
-        command: Cmd<Vec<S::Item, A>, StaticSlice<S::Item>>,
-    ) -> TableReply<S::Item, A>
-        ensures rows { Step (setting_of L.STATIC L.clone_wants S.DROPS S.boundary) self.old.table
+    fn answer(&mut self, rt: &impl Wait, command: TableCmd<S::Item, A>) -> TableReply<S::Item, A>
+        requires item { FitsInMemory S.Item.row }
+        ensures rows { Step (setting_of L.STATIC L.clone_wants S.DROPS S.boundary
+            (type_size S.Item.row)) self.old.table
             (seen_command command) (seen_reply result) self.new.table }
         ensures passes { Adds self.old.table self.old.standing (seen_command command)
             (seen_reply result) self.new.standing }
@@ -214,6 +213,11 @@ where
             Cmd::To { window, at } => self.split_to(rt, window, at),
             Cmd::Len { window } => self.len(window),
             Cmd::Room { window } => self.room(window),
+            Cmd::Res { window, additional } => self.write(window, Writing::Nothing(additional)),
+            Cmd::Push { window, item } => self.write(window, Writing::Item(item)),
+            Cmd::Ext { window, items } => self.write(window, Writing::Items(items)),
+            Cmd::Rec { window, additional } => self.reclaim(window, additional),
+            Cmd::Freeze { window } => self.freeze(window),
             Cmd::Mut { window } => self.make_mut(window),
             Cmd::Adv { window, by } => self.advance(window, by),
             Cmd::Trunc { window, len } => self.truncate(window, len),
@@ -237,7 +241,8 @@ where
     pub fn end(mut self) -> Passes<A>
         ensures ended { IsKept MAX_OWNERS [] result.of_blocks.items }
         ensures blocks { length result.of_blocks.items ≡ self.table.blocks }
-        ensures passes { EndsWith (setting_of L.STATIC L.clone_wants S.DROPS S.boundary) self
+        ensures passes { EndsWith (setting_of L.STATIC L.clone_wants S.DROPS S.boundary
+            (type_size S.Item.row)) self
             result.of_blocks.items }
     {
         self.release_all();
@@ -252,7 +257,8 @@ where
 
     /// Releases every window that is left, in the order of their numbers.
     fn release_all(&mut self)
-        ensures passes { EndsAll (setting_of L.STATIC L.clone_wants S.DROPS S.boundary) self.old
+        ensures passes { EndsAll (setting_of L.STATIC L.clone_wants S.DROPS S.boundary
+            (type_size S.Item.row)) self.old
             self.new }
         ensures blocks { self.new.table.blocks ≡ self.old.table.blocks }
     {
@@ -264,7 +270,8 @@ where
 
     /// A window over a copy of the items.
     fn slice(&mut self, items: Vec<S::Item, A>) -> TableReply<S::Item, A>
-        ensures rows { Step (setting_of L.STATIC L.clone_wants S.DROPS S.boundary) self.old.table
+        ensures rows { Step (setting_of L.STATIC L.clone_wants S.DROPS S.boundary
+            (type_size S.Item.row)) self.old.table
             (command.Slice items.items) (seen_reply result) self.new.table }
         ensures passes { Adds self.old.table self.old.standing (command.Slice items.items)
             (seen_reply result) self.new.standing }
@@ -294,7 +301,8 @@ where
     /// A window that is written, with no items and no places, on nothing. Takes memory for the new
     /// slot; refused, the answer is `Alloc`.
     fn empty_window(&mut self) -> TableReply<S::Item, A>
-        ensures rows { Step (setting_of L.STATIC L.clone_wants S.DROPS S.boundary) self.old.table
+        ensures rows { Step (setting_of L.STATIC L.clone_wants S.DROPS S.boundary
+            (type_size S.Item.row)) self.old.table
             command.New (seen_reply result) self.new.table }
         ensures passes { Adds self.old.table self.old.standing command.New (seen_reply result)
             self.new.standing }
@@ -316,7 +324,8 @@ where
     /// nothing. Takes memory for the new slot, the block and its pass; refused, the answer is
     /// `Alloc`.
     fn with_capacity(&mut self, places: usize) -> TableReply<S::Item, A>
-        ensures rows { Step (setting_of L.STATIC L.clone_wants S.DROPS S.boundary) self.old.table
+        ensures rows { Step (setting_of L.STATIC L.clone_wants S.DROPS S.boundary
+            (type_size S.Item.row)) self.old.table
             (command.Cap places) (seen_reply result) self.new.table }
         ensures passes { Adds self.old.table self.old.standing (command.Cap places)
             (seen_reply result) self.new.standing }
@@ -340,7 +349,8 @@ where
     /// A window that is written, over a copy of the items: on a new block, or for none on nothing.
     /// Takes memory for the new slot, the block and its pass; refused, the answer is `Alloc`.
     fn slice_mut(&mut self, items: Vec<S::Item, A>) -> TableReply<S::Item, A>
-        ensures rows { Step (setting_of L.STATIC L.clone_wants S.DROPS S.boundary) self.old.table
+        ensures rows { Step (setting_of L.STATIC L.clone_wants S.DROPS S.boundary
+            (type_size S.Item.row)) self.old.table
             (command.MSlice items.items) (seen_reply result) self.new.table }
         ensures passes { Adds self.old.table self.old.standing (command.MSlice items.items)
             (seen_reply result) self.new.standing }
@@ -364,7 +374,8 @@ where
     /// A window over a slice that is there for good. `Kind` where the layout has no static data.
     /// Takes memory for the new slot; refused, the answer is `Alloc`.
     fn static_window(&mut self, items: StaticSlice<S::Item>) -> TableReply<S::Item, A>
-        ensures rows { Step (setting_of L.STATIC L.clone_wants S.DROPS S.boundary) self.old.table
+        ensures rows { Step (setting_of L.STATIC L.clone_wants S.DROPS S.boundary
+            (type_size S.Item.row)) self.old.table
             (command.Static items) (seen_reply result) self.new.table }
         ensures passes { Adds self.old.table self.old.standing (command.Static items)
             (seen_reply result) self.new.standing }
@@ -385,7 +396,8 @@ where
     /// there, `Owner` where its block has as many owners as it can have. Takes memory for the new
     /// slot; refused, the answer is `Alloc`.
     fn clone_window(&mut self, rt: &impl Wait, i: usize) -> TableReply<S::Item, A>
-        ensures rows { Step (setting_of L.STATIC L.clone_wants S.DROPS S.boundary) self.old.table
+        ensures rows { Step (setting_of L.STATIC L.clone_wants S.DROPS S.boundary
+            (type_size S.Item.row)) self.old.table
             (command.Clone i) (seen_reply result) self.new.table }
         ensures passes { Adds self.old.table self.old.standing (command.Clone i) (seen_reply result)
             self.new.standing }
@@ -414,7 +426,8 @@ where
 
     /// A window over the part from `start` to `end` of another.
     fn sub(&mut self, rt: &impl Wait, i: usize, start: usize, end: usize) -> TableReply<S::Item, A>
-        ensures rows { Step (setting_of L.STATIC L.clone_wants S.DROPS S.boundary) self.old.table
+        ensures rows { Step (setting_of L.STATIC L.clone_wants S.DROPS S.boundary
+            (type_size S.Item.row)) self.old.table
             (command.Sub i start end) (seen_reply result) self.new.table }
         ensures passes { Adds self.old.table self.old.standing (command.Sub i start end)
             (seen_reply result) self.new.standing }
@@ -446,7 +459,8 @@ where
 
     /// Whether a window is the only owner of its block. `No` where it stands on no block.
     fn uniq(&mut self, i: usize) -> TableReply<S::Item, A>
-        ensures rows { Step (setting_of L.STATIC L.clone_wants S.DROPS S.boundary) self.old.table
+        ensures rows { Step (setting_of L.STATIC L.clone_wants S.DROPS S.boundary
+            (type_size S.Item.row)) self.old.table
             (command.Uniq i) (seen_reply result) self.new.table }
         ensures passes { Adds self.old.table self.old.standing (command.Uniq i) (seen_reply result)
             self.new.standing }
@@ -466,7 +480,8 @@ where
 
     /// The items of a window.
     fn show(&self, i: usize) -> TableReply<S::Item, A>
-        ensures rows { Step (setting_of L.STATIC L.clone_wants S.DROPS S.boundary) self.now.table
+        ensures rows { Step (setting_of L.STATIC L.clone_wants S.DROPS S.boundary
+            (type_size S.Item.row)) self.now.table
             (command.Show i) (seen_reply result) self.now.table }
         ensures passes { Adds self.now.table self.now.standing (command.Show i) (seen_reply result)
             self.now.standing }
@@ -483,9 +498,11 @@ where
     /// Carries out a `Cmd::Show`, and answers with the items where they stand in the window. Takes
     /// no memory.
     pub fn show_in_place(&self, i: usize) -> Reply<&[S::Item], StaticSlice<S::Item>>
-        ensures carried { CarriesOut (setting_of L.STATIC L.clone_wants S.DROPS S.boundary) self.now
+        ensures carried { CarriesOut (setting_of L.STATIC L.clone_wants S.DROPS S.boundary
+            (type_size S.Item.row)) self.now
             (command.Show i) (map_reply (λ items. items.now) result) self.now }
-        ensures lent { shortage result ≡ no_shortage }
+        ensures lent { shortage {T = S.Item} (map_reply (λ items. items.now) result)
+            (command.Show i) ≡ no_shortage }
     {
         self.agree();
         match slot_at(&self.slots, i) {
@@ -496,7 +513,8 @@ where
 
     /// Splits a window, and hands out the back under the next number.
     fn split_off(&mut self, rt: &impl Wait, i: usize, at: usize) -> TableReply<S::Item, A>
-        ensures rows { Step (setting_of L.STATIC L.clone_wants S.DROPS S.boundary) self.old.table
+        ensures rows { Step (setting_of L.STATIC L.clone_wants S.DROPS S.boundary
+            (type_size S.Item.row)) self.old.table
             (command.Off i at) (seen_reply result) self.new.table }
         ensures passes { Adds self.old.table self.old.standing (command.Off i at)
             (seen_reply result) self.new.standing }
@@ -528,7 +546,8 @@ where
 
     /// Splits a window, and hands out the front under the next number.
     fn split_to(&mut self, rt: &impl Wait, i: usize, at: usize) -> TableReply<S::Item, A>
-        ensures rows { Step (setting_of L.STATIC L.clone_wants S.DROPS S.boundary) self.old.table
+        ensures rows { Step (setting_of L.STATIC L.clone_wants S.DROPS S.boundary
+            (type_size S.Item.row)) self.old.table
             (command.To i at) (seen_reply result) self.new.table }
         ensures passes { Adds self.old.table self.old.standing (command.To i at) (seen_reply result)
             self.new.standing }
@@ -560,7 +579,8 @@ where
 
     /// How many items a window has.
     fn len(&self, i: usize) -> TableReply<S::Item, A>
-        ensures rows { Step (setting_of L.STATIC L.clone_wants S.DROPS S.boundary) self.now.table
+        ensures rows { Step (setting_of L.STATIC L.clone_wants S.DROPS S.boundary
+            (type_size S.Item.row)) self.now.table
             (command.Len i) (seen_reply result) self.now.table }
         ensures passes { Adds self.now.table self.now.standing (command.Len i) (seen_reply result)
             self.now.standing }
@@ -573,7 +593,8 @@ where
 
     /// How many places a window has that is written. `Kind` where it is read.
     fn room(&self, i: usize) -> TableReply<S::Item, A>
-        ensures rows { Step (setting_of L.STATIC L.clone_wants S.DROPS S.boundary) self.now.table
+        ensures rows { Step (setting_of L.STATIC L.clone_wants S.DROPS S.boundary
+            (type_size S.Item.row)) self.now.table
             (command.Room i) (seen_reply result) self.now.table }
         ensures passes { Adds self.now.table self.now.standing (command.Room i) (seen_reply result)
             self.now.standing }
@@ -590,7 +611,8 @@ where
     /// Makes a window that is read one that is written. `Refused` where another owner of its block
     /// lives, or where it has items and stands on none. Takes no memory.
     fn make_mut(&mut self, i: usize) -> TableReply<S::Item, A>
-        ensures rows { Step (setting_of L.STATIC L.clone_wants S.DROPS S.boundary) self.old.table
+        ensures rows { Step (setting_of L.STATIC L.clone_wants S.DROPS S.boundary
+            (type_size S.Item.row)) self.old.table
             (command.Mut i) (seen_reply result) self.new.table }
         ensures passes { Adds self.old.table self.old.standing (command.Mut i) (seen_reply result)
             self.new.standing }
@@ -616,9 +638,98 @@ where
         }
     }
 
+    /// Writes into a window. `Kind` where it is read, `Reserve` where there is no room. Takes
+    /// memory for a first block and its pass, or for a larger block.
+    fn write(&mut self, i: usize, what: Writing<Vec<S::Item, A>, S::Item>) -> TableReply<S::Item, A>
+        requires item { FitsInMemory S.Item.row }
+        ensures rows { Step (setting_of L.STATIC L.clone_wants S.DROPS S.boundary
+            (type_size S.Item.row)) self.old.table (write_command i (seen_writing what))
+            (seen_reply result) self.new.table }
+        ensures passes { Adds self.old.table self.old.standing
+            (write_command i (seen_writing what)) (seen_reply result) self.new.standing }
+    {
+        let Some(slot) = slot_at(&self.slots, i) else {
+            return Reply::NoWindow;
+        };
+        if !slot.is_written() {
+            return Reply::Kind;
+        }
+        let begins = slot.wants_block(what.additional());
+        if self.passes.reserve_for(begins).is_err() {
+            return Reply::Reserve(TryReserveError::AllocError);
+        }
+        let Some(slot) = &mut self.slots[i] else {
+            unreachable!()
+        };
+        if let Err(e) = slot.write(what, &mut self.passes) {
+            return Reply::Reserve(e);
+        }
+        Reply::Ok
+    }
+
+    /// Makes room in a window, if that takes no memory. `Kind` where it is read.
+    fn reclaim(&mut self, i: usize, additional: usize) -> TableReply<S::Item, A>
+        requires item { FitsInMemory S.Item.row }
+        ensures rows { Step (setting_of L.STATIC L.clone_wants S.DROPS S.boundary
+            (type_size S.Item.row)) self.old.table (command.Rec i additional) (seen_reply result)
+            self.new.table }
+        ensures passes { Adds self.old.table self.old.standing (command.Rec i additional)
+            (seen_reply result) self.new.standing }
+    {
+        let Some(slot) = slot_at(&self.slots, i) else {
+            return Reply::NoWindow;
+        };
+        if !slot.is_written() {
+            return Reply::Kind;
+        }
+        let Some(slot) = &mut self.slots[i] else {
+            unreachable!()
+        };
+        if slot.try_reclaim(additional) {
+            return Reply::Yes;
+        }
+        Reply::No
+    }
+
+    /// Makes a window that is written one that is read. `Kind` where it is read, `Refused` where
+    /// memory for a block is refused: it takes some for a window on nothing under a layout without
+    /// static data.
+    fn freeze(&mut self, i: usize) -> TableReply<S::Item, A>
+        ensures rows { Step (setting_of L.STATIC L.clone_wants S.DROPS S.boundary
+            (type_size S.Item.row)) self.old.table (command.Freeze i) (seen_reply result)
+            self.new.table }
+        ensures passes { Adds self.old.table self.old.standing (command.Freeze i)
+            (seen_reply result) self.new.standing }
+    {
+        let Some(slot) = slot_at(&self.slots, i) else {
+            return Reply::NoWindow;
+        };
+        if !slot.is_written() {
+            return Reply::Kind;
+        }
+        let begins = slot.wants_block_to_read();
+        if self.passes.reserve_for(begins).is_err() {
+            return Reply::Refused;
+        }
+        let Some(slot) = mem::replace(&mut self.slots[i], None) else {
+            unreachable!()
+        };
+        match slot.try_freeze(&mut self.passes) {
+            Ok(slot) => {
+                put_slot(&mut self.slots, i, slot);
+                Reply::Ok
+            }
+            Err(slot) => {
+                put_slot(&mut self.slots, i, slot);
+                Reply::Refused
+            }
+        }
+    }
+
     /// Takes the first `by` items off a window.
     fn advance(&mut self, i: usize, by: usize) -> TableReply<S::Item, A>
-        ensures rows { Step (setting_of L.STATIC L.clone_wants S.DROPS S.boundary) self.old.table
+        ensures rows { Step (setting_of L.STATIC L.clone_wants S.DROPS S.boundary
+            (type_size S.Item.row)) self.old.table
             (command.Adv i by) (seen_reply result) self.new.table }
         ensures passes { Adds self.old.table self.old.standing (command.Adv i by)
             (seen_reply result) self.new.standing }
@@ -638,7 +749,8 @@ where
 
     /// Leaves the first `len` items of a window, or all where it has no more.
     fn truncate(&mut self, i: usize, len: usize) -> TableReply<S::Item, A>
-        ensures rows { Step (setting_of L.STATIC L.clone_wants S.DROPS S.boundary) self.old.table
+        ensures rows { Step (setting_of L.STATIC L.clone_wants S.DROPS S.boundary
+            (type_size S.Item.row)) self.old.table
             (command.Trunc i len) (seen_reply result) self.new.table }
         ensures passes { Adds self.old.table self.old.standing (command.Trunc i len)
             (seen_reply result) self.new.standing }
@@ -661,7 +773,8 @@ where
 
     /// The end of a window.
     fn release(&mut self, i: usize) -> TableReply<S::Item, A>
-        ensures rows { Step (setting_of L.STATIC L.clone_wants S.DROPS S.boundary) self.old.table
+        ensures rows { Step (setting_of L.STATIC L.clone_wants S.DROPS S.boundary
+            (type_size S.Item.row)) self.old.table
             (command.Drop i) (seen_reply result) self.new.table }
         ensures passes { Adds self.old.table self.old.standing (command.Drop i) (seen_reply result)
             self.new.standing }
@@ -681,7 +794,8 @@ where
     /// The slice on which a window stands that is on no block, and the window's end. `Refused`
     /// where it stands on a block. Takes no memory.
     fn take_static(&mut self, i: usize) -> TableReply<S::Item, A>
-        ensures rows { Step (setting_of L.STATIC L.clone_wants S.DROPS S.boundary) self.old.table
+        ensures rows { Step (setting_of L.STATIC L.clone_wants S.DROPS S.boundary
+            (type_size S.Item.row)) self.old.table
             (command.TakeStatic i) (seen_reply result) self.new.table }
         ensures passes { Adds self.old.table self.old.standing (command.TakeStatic i)
             (seen_reply result) self.new.standing }

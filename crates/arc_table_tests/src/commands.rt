@@ -2,7 +2,7 @@
 use arc_block::layout::{ArcLayout, DefaultLayout};
 use arc_block::static_slice::StaticSlice;
 use arc_buffer::kinds::Plain;
-use arc_owners::error::RangeError;
+use arc_owners::error::{RangeError, TryReserveError};
 use arc_table::command::{Cmd, Reply, TableCmd, TableReply};
 use arc_table::table::Table;
 use linked_list_allocator::LocalHeap;
@@ -558,6 +558,155 @@ fn writer_refused(rt: HostRuntime) -> Result<(), Fail> {
     assert!(rt;
         0 < short && 0 < whole,
         "{short} were short, and {whole} whole"
+    );
+    Ok(())
+}
+
+/// A list with a capacity: room is made in front, behind and by growth, and what was written is
+/// read once it is frozen.
+#[test]
+fn written_and_frozen(rt: HostRuntime) -> Result<(), Fail> {
+    let items = Vec::from_slice(rt.alloc(), &[2u8, 3])?;
+    let mut table: ByteTable<_> = Table::new(rt.alloc());
+    let _ = table.step(&rt, Cmd::New);
+    let pushed = table.step(&rt, Cmd::Push { window: 0, item: 1 });
+    let eight = table.step(&rt, Cmd::Room { window: 0 });
+    let extended = table.step(&rt, Cmd::Ext { window: 0, items });
+    let reserved = table.step(
+        &rt,
+        Cmd::Res {
+            window: 0,
+            additional: 6,
+        },
+    );
+    let grown = table.step(&rt, Cmd::Room { window: 0 });
+    let _ = table.step(&rt, Cmd::Adv { window: 0, by: 2 });
+    let found = table.step(
+        &rt,
+        Cmd::Rec {
+            window: 0,
+            additional: 15,
+        },
+    );
+    let none = table.step(
+        &rt,
+        Cmd::Rec {
+            window: 0,
+            additional: 16,
+        },
+    );
+    let frozen = table.step(&rt, Cmd::Freeze { window: 0 });
+    let again = table.step(&rt, Cmd::Freeze { window: 0 });
+    let shown = table.step(&rt, Cmd::Show { window: 0 });
+    let _ = table.end();
+    assert!(rt; matches!(pushed, Reply::Ok));
+    assert!(rt; matches!(eight, Reply::Number(8)));
+    assert!(rt; matches!(extended, Reply::Ok));
+    assert!(rt; matches!(reserved, Reply::Ok));
+    assert!(rt; matches!(grown, Reply::Number(16)));
+    assert!(rt; matches!(found, Reply::Yes));
+    assert!(rt; matches!(none, Reply::No));
+    assert!(rt; matches!(frozen, Reply::Ok));
+    assert!(rt; matches!(again, Reply::Kind));
+    assert!(rt; has_items(&shown, &[3]));
+    Ok(())
+}
+
+/// Under a layout without static data a writer on nothing is frozen on a block of no places, which
+/// it has alone.
+#[test]
+fn frozen_without_static_data(rt: HostRuntime) {
+    let mut table: Table<Plain<u8>, ArcLayout<true, false>, Vec<u8>, (), _> = Table::new(
+        rt.alloc(),
+    );
+    let _ = table.step(&rt, Cmd::New);
+    let frozen = table.step(&rt, Cmd::Freeze { window: 0 });
+    let alone = table.step(&rt, Cmd::Uniq { window: 0 });
+    let many = table.step(&rt, Cmd::Len { window: 0 });
+    let written = table.step(&rt, Cmd::Mut { window: 0 });
+    let room = table.step(&rt, Cmd::Room { window: 0 });
+    let pushed = table.step(&rt, Cmd::Push { window: 0, item: 7 });
+    let one = table.step(&rt, Cmd::Room { window: 0 });
+    let _ = table.end();
+    assert!(rt; matches!(frozen, Reply::Ok));
+    assert!(rt; matches!(alone, Reply::Yes));
+    assert!(rt; matches!(many, Reply::Number(0)));
+    assert!(rt; matches!(written, Reply::Ok));
+    assert!(rt; matches!(room, Reply::Number(0)));
+    assert!(rt; matches!(pushed, Reply::Ok));
+    assert!(rt; matches!(one, Reply::Number(1)));
+}
+
+/// More room than a block can have is refused, and nothing changes.
+#[test]
+fn too_much_room(rt: HostRuntime) {
+    let most = Cmd::Res {
+        window: 0,
+        additional: 18_446_744_073_709_551_615,
+    };
+    let (mut table, _) = table_of_writer(&rt, rt.alloc(), &[1]);
+    let refused = table.step(&rt, most);
+    let room = table.step(&rt, Cmd::Room { window: 0 });
+    let shown = table.step(&rt, Cmd::Show { window: 0 });
+    let _ = table.end();
+    assert!(rt; matches!(refused, Reply::Reserve(TryReserveError::CapacityOverflow)));
+    assert!(rt; matches!(room, Reply::Number(1)));
+    assert!(rt; has_items(&shown, &[1]));
+}
+
+/// What a writer on nothing is left as by a push, and then by one that has to grow the block: how
+/// many of them were refused memory.
+fn pushes_refused<A: Allocator + Copy>(rt: &impl Wait, table: &mut ByteTable<A>) -> Option<usize> {
+    let mut refused = 0;
+    for item in 0u8..9 {
+        let before = table.step(rt, Cmd::Room { window: 0 });
+        let pushed = table.step(rt, Cmd::Push { window: 0, item });
+        let after = table.step(rt, Cmd::Room { window: 0 });
+        match pushed {
+            Reply::Ok => {}
+            Reply::Reserve(TryReserveError::AllocError) => {
+                if !is_same_number(&before, &after) {
+                    return None;
+                }
+                refused += 1;
+            }
+            _ => return None,
+        }
+    }
+    Some(refused)
+}
+
+/// Whether both replies are one number.
+fn is_same_number<A: Allocator>(one: &TableReply<u8, A>, other: &TableReply<u8, A>) -> bool {
+    match (one, other) {
+        (Reply::Number(one), Reply::Number(other)) => *one == *other,
+        _ => false,
+    }
+}
+
+/// With more and more memory a first block is refused, then a larger one, and then none.
+#[test]
+fn pushes_in_need(rt: HostRuntime) -> Result<(), Fail> {
+    let mut all = 0u32;
+    let mut growth = 0u32;
+    let mut none = 0u32;
+    for units in 1..64usize {
+        let heap = LocalHeap::new(rt.alloc(), units * 16)?;
+        let mut table: ByteTable<_> = Table::new(&heap);
+        if matches!(table.step(&rt, Cmd::New), Reply::New(0)) {
+            match pushes_refused(&rt, &mut table) {
+                Some(0) => none = none.wrapping_add(1),
+                Some(1) => growth = growth.wrapping_add(1),
+                Some(9) => all = all.wrapping_add(1),
+                _ => {}
+            }
+        }
+        let _ = table.end();
+        assert_eq!(rt; heap.used(), 0, "in {units} units");
+    }
+    assert!(rt;
+        0 < all && 0 < growth && 0 < none,
+        "{all} had no block, {growth} couldn't grow, and {none} were whole"
     );
     Ok(())
 }

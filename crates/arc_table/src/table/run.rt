@@ -1,22 +1,23 @@
 //! A list of commands, carried out one after another.
 ghost use Rattle.std.specs.Prelude.{◌≡◌, map, IfOk, IfErr, IsOk};
+ghost use Rattle.std.specs.Mem.{FitsInMemory, type_size};
 ghost use Rattle.std.specs.Vec.{vec_len};
 
 use super::Table;
 use crate::command::{TableCmd, TableReply};
 use arc_block::layout::{Layout, LayoutMut};
-use arc_buffer::kinds::{CopySlice, Emptyable, Subsliceable};
+use arc_buffer::kinds::{CopySlice, Emptyable, Extendable, Subsliceable};
 use arc_owners::error::AllocError;
 use std::alloc::Allocator;
 use std::sync::Wait;
 
-impl<S: CopySlice + Emptyable + Subsliceable, L: Layout, B, M, A: Allocator + Copy> Table<
-    S,
-    L,
+impl<
+    S: CopySlice + Emptyable + Extendable + Subsliceable,
+    L: Layout,
     B,
     M,
-    A,
->
+    A: Allocator + Copy,
+> Table<S, L, B, M, A>
 where
     S::Item: Copy,
     L::Writable: LayoutMut,
@@ -47,8 +48,10 @@ where
         rt: &impl Wait,
         commands: Vec<TableCmd<S::Item, A>, A>,
     ) -> Result<Vec<TableReply<S::Item, A>, A>, (Vec<TableCmd<S::Item, A>, A>, AllocError)>
+        requires item { FitsInMemory S.Item.row }
         ensures run { IfOk result (λ replies.
-            RunOf (CarriesOut (setting_of L.STATIC L.clone_wants S.DROPS S.boundary)) self.old
+            RunOf (CarriesOut (setting_of L.STATIC L.clone_wants S.DROPS S.boundary
+            (type_size S.Item.row))) self.old
             (map seen_command commands.items) (map seen_reply replies.items) self.new) }
         ensures many { IfOk result (λ replies. vec_len replies ≡ vec_len commands) }
         ensures succeeds { vec_len commands ≡ 0 → IsOk result }

@@ -16,4 +16,4 @@ give_back-requires g c =
     let has =
     subst (λ s. HasPassFor passes (stand_of (Some s))) (sym view) c.requires.pass in
     still-number passes c.lend-pass.new.self.of_blocks.items c.lend-pass.result
-    b w.place fits has c.lend-pass.ensures
+    b w.place fits has c.lend-pass.ensures.taken

@@ -14,4 +14,4 @@ give_back-requires g c =
     (subst (λ s. HasPassFor passes (stand_of (Some s))) (sym c.self.view_is) c.requires) in
     still-number passes c.lend-pass.new.self.of_blocks.items c.lend-pass.result
     c.self.inside.block place
-    c.self.invariant.0 has c.lend-pass.ensures
+    c.self.invariant.0 has c.lend-pass.ensures.taken

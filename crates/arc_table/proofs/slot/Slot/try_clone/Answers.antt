@@ -18,7 +18,7 @@ give_back-requires g c =
     let has =
     subst (λ s. HasPassFor passes (stand_of (Some s))) (sym view) c.requires.pass in
     still-number passes c.lend-pass.new.self.of_blocks.items c.lend-pass.result
-    b w.place fits has c.lend-pass.ensures
+    b w.place fits has c.lend-pass.ensures.taken
 
 pub returns-in-Err-clause-refused : goal.returns-in-Err-clause-refused
 returns-in-Err-clause-refused g c =
@@ -41,7 +41,7 @@ returns-in-Err-clause-refused g c =
     (stand_at s.block s.window.place) passes c.give_back.new.self.of_blocks.items e in
     let at =
     refuses passes left p new g.L.Layout.clone_wants e b place fits has
-    c.lend-pass.ensures c.in-Err.ensures.refused in
+    c.lend-pass.ensures.taken c.in-Err.ensures.refused in
     subst P view
     (subst (λ ps. RefusesAt g.L.Layout.clone_wants (numbered b place) (stand_at b place) passes ps e)
     (sym c.give_back.ensures) at)
@@ -66,7 +66,7 @@ returns-in-Ok-clause-stand g c =
     Beside (stand_at s.block s.window.place) passes c.give_back.new.self.of_blocks.items
     (stand_at b there) in
     let at =
-    shares passes left p new b place there fits has c.lend-pass.ensures
+    shares passes left p new b place there fits has c.lend-pass.ensures.taken
     c.in-Ok.ensures.place in
     subst P view
     (subst (λ ps. Beside (stand_at b place) passes ps (stand_at b there)) (sym c.give_back.ensures)

@@ -19,7 +19,7 @@ give_back-requires g c =
     let has =
     subst (λ s. HasPassFor passes (stand_of (Some s))) (sym view) c.requires.pass in
     still-number passes c.lend-pass.new.self.of_blocks.items c.lend-pass.result
-    b w.place fits has c.lend-pass.ensures
+    b w.place fits has c.lend-pass.ensures.taken
 
 pub returns-in-Ok-clause-alone : goal.returns-in-Ok-clause-alone
 returns-in-Ok-clause-alone g c =
@@ -37,7 +37,7 @@ returns-in-Ok-clause-alone g c =
     let at =
     along passes c.lend-pass.new.self.of_blocks.items p new
     ((length w.items ≡ 0) × (new ≡ p)) (λ o q r. Asks o q r true) b w.place fits has
-    c.lend-pass.ensures (λ n. n.1) c.in-Ok.ensures.sole.1 in
+    c.lend-pass.ensures.taken (λ n. n.1) c.in-Ok.ensures.sole.1 in
     subst (λ s. Along (stand_of (Some s)) passes c.give_back.new.self.of_blocks.items (λ o q r.
     Asks o q r true)) view
     (subst (λ ps. Along (stand_at b w.place) passes ps (λ o q r. Asks o q r true))

@@ -1,5 +1,6 @@
 -- Of the two parts one has the owner, and what the other adds to the pass that was lent for it, it
 -- adds to the passes.
+use Rattle.std.specs.Mem.{type_size}
 use Rattle.std.proofs.Common.{◌≡◌, ◌<◌, length, Some, sym, subst, ◌∙◌}
 use Rattle.arc_table.specs.Slots.{SlotView, row_of, stand_of}
 use Rattle.arc_table.specs.Splits.{IsSplit}
@@ -21,7 +22,7 @@ give_back-requires g c =
     let has =
     subst (λ s. HasPassFor passes (stand_of (Some s))) (sym view) c.requires.pass in
     still-number passes c.lend-pass.new.self.of_blocks.items c.lend-pass.result
-    b w.place fits has c.lend-pass.ensures
+    b w.place fits has c.lend-pass.ensures.taken
 
 pub returns-then-len-at-clause-end : goal.returns-then-len-at-clause-end
 returns-then-len-at-clause-end g c =
@@ -32,7 +33,7 @@ returns-then-len-at-clause-end g c =
     let fits =
     reads-fits c.self.inside.window w b c.in-Read.is c.self.invariant.0 in
     let setting : Setting g.row.S-Item.Denot =
-    setting_of g.L.Layout.STATIC g.L.Layout.clone_wants g.S.Slice.DROPS g.S.Subsliceable.boundary in
+    setting_of g.L.Layout.STATIC g.L.Layout.clone_wants g.S.Slice.DROPS g.S.Subsliceable.boundary (type_size g.row.S-Item) in
     let passes = c.args.passes.now.of_blocks.items in
     let after = c.give_back.new.self.of_blocks.items in
     let has =
@@ -45,7 +46,7 @@ returns-then-len-at-clause-end g c =
     view
     (to-end setting passes c.lend-pass.new.self.of_blocks.items c.lend-pass.result
     c.try_split_to_as-made.new.pass after w b c.give_back.ensures fits has
-    c.lend-pass.ensures c.args.at c.in-Ok.window c.try_split_to_as-made.new.self c.part_block-self-inside.result c.len.result
+    c.lend-pass.ensures.taken c.args.at c.in-Ok.window c.try_split_to_as-made.new.self c.part_block-self-inside.result c.len.result
     c.in-Ok.ensures.ok c.len.ensures c.part_block-self-inside.ensures)
 
 pub returns-clause-earlier : goal.returns-clause-earlier
@@ -57,7 +58,7 @@ returns-clause-earlier g c =
     let fits =
     reads-fits c.self.inside.window w b c.in-Read.is c.self.invariant.0 in
     let setting : Setting g.row.S-Item.Denot =
-    setting_of g.L.Layout.STATIC g.L.Layout.clone_wants g.S.Slice.DROPS g.S.Subsliceable.boundary in
+    setting_of g.L.Layout.STATIC g.L.Layout.clone_wants g.S.Slice.DROPS g.S.Subsliceable.boundary (type_size g.row.S-Item) in
     let passes = c.args.passes.now.of_blocks.items in
     let after = c.give_back.new.self.of_blocks.items in
     let has =
@@ -70,5 +71,5 @@ returns-clause-earlier g c =
     view
     (to-earlier setting passes c.lend-pass.new.self.of_blocks.items c.lend-pass.result
     c.try_split_to_as-made.new.pass after w b c.give_back.ensures fits has
-    c.lend-pass.ensures c.args.at c.in-Ok.window c.try_split_to_as-made.new.self c.part_block-block.result c.len-2.result
+    c.lend-pass.ensures.taken c.args.at c.in-Ok.window c.try_split_to_as-made.new.self c.part_block-block.result c.len-2.result
     c.in-Ok.ensures.ok c.len-2.ensures c.part_block-block.ensures)

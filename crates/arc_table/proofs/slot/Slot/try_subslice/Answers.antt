@@ -22,7 +22,7 @@ give_back-requires g c =
     let has =
     subst (λ s. HasPassFor passes (stand_of (Some s))) (sym view) c.requires.pass in
     still-number passes c.lend-pass.new.self.of_blocks.items c.lend-pass.result
-    b w.place fits has c.lend-pass.ensures
+    b w.place fits has c.lend-pass.ensures.taken
 
 pub invariant_of-result : goal.invariant_of-result
 invariant_of-result g c =
@@ -78,7 +78,7 @@ returns-in-Err-clause-refused g c =
     (stand_at s.block s.window.place) passes after e in
     let at =
     refuses-part passes left p new nothing wants e start b place fits has
-    c.lend-pass.ensures c.in-Err.ensures.refused in
+    c.lend-pass.ensures.taken c.in-Err.ensures.refused in
     subst P view
     (subst (λ ps. RefusesAt wants
     (part_place g.L.Layout.STATIC (sub items start end) start (numbered b place))
@@ -117,7 +117,7 @@ returns-in-Ok-clause-stand g c =
     Beside (stand_at s.block s.window.place) passes after (stand_at c.part_block.result there) in
     let at =
     shares-part passes left p new nothing start b place there fits has
-    c.lend-pass.ensures c.in-Ok.ensures.place in
+    c.lend-pass.ensures.taken c.in-Ok.ensures.place in
     subst P view
     (subst (λ ps. Beside (stand_at b place) passes ps (stand_at c.part_block.result there))
     (sym c.give_back.ensures)

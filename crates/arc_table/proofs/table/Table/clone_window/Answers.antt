@@ -1,5 +1,6 @@
 -- The clone stands on the same block, as another owner; or the block has as many owners as it may
 -- have, or the layout wanted memory.
+use Rattle.std.specs.Mem.{type_size}
 use Rattle.std.specs.Option.{option_flatten}
 use Rattle.std.proofs.Common.{◌≡◌, [], ◌∷◌, ◌++◌, length, Some, slice_get, sym, ap, ◌∙◌, subst}
 use Rattle.std.proofs.Common.{refl, arith}
@@ -21,7 +22,7 @@ use Rattle.arc_table.proofs.table.Table.clone_window.Goals as goal
 
 abbrev setting : (g : Over) → Setting g.row.S-Item.Denot
 setting g =
-    setting_of g.L.Layout.STATIC g.L.Layout.clone_wants g.S.Slice.DROPS g.S.Subsliceable.boundary
+    setting_of g.L.Layout.STATIC g.L.Layout.clone_wants g.S.Slice.DROPS g.S.Subsliceable.boundary (type_size g.row.S-Item)
 
 made : (g : Over) (c : After-push_reserved g)
     → Done (setting g) c.args.self.now (command.Clone c.args.i) (reply.New c.len-number.result)

@@ -1,4 +1,5 @@
 -- The writer stands on nothing.
+use Rattle.std.specs.Mem.{type_size}
 use Rattle.std.proofs.Common.{[], refl, sym, subst, arith}
 use Rattle.arc_table.specs.State.{State}
 use Rattle.arc_table.specs.Step.{Setting, setting_of}
@@ -13,7 +14,7 @@ use Rattle.arc_table.proofs.table.Table.empty_window.Goals as goal
 
 abbrev setting : (g : Over) → Setting g.row.S-Item.Denot
 setting g =
-    setting_of g.L.Layout.STATIC g.L.Layout.clone_wants g.S.Slice.DROPS g.S.Subsliceable.boundary
+    setting_of g.L.Layout.STATIC g.L.Layout.clone_wants g.S.Slice.DROPS g.S.Subsliceable.boundary (type_size g.row.S-Item)
 
 did : (g : Over) (c : After-push_writer g)
     → Done (setting g) c.args.self.now command.New (reply.New c.push_writer.result)

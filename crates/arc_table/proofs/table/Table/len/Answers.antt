@@ -1,4 +1,5 @@
 -- A window of either role is counted.
+use Rattle.std.specs.Mem.{type_size}
 use Rattle.std.proofs.Common.{slice_get, length, sym, ap, ◌∙◌, subst}
 use Rattle.std.specs.Option.{option_flatten}
 use Rattle.arc_table.specs.State.{State, state_of}
@@ -11,7 +12,7 @@ use Rattle.arc_table.proofs.table.Table.len.Goals as goal
 
 abbrev setting : (g : Over) → Setting g.row.S-Item.Denot
 setting g =
-    setting_of g.L.Layout.STATIC g.L.Layout.clone_wants g.S.Slice.DROPS g.S.Subsliceable.boundary
+    setting_of g.L.Layout.STATIC g.L.Layout.clone_wants g.S.Slice.DROPS g.S.Subsliceable.boundary (type_size g.row.S-Item)
 
 pub returns-in-Some-clause-rows : goal.returns-in-Some-clause-rows
 returns-in-Some-clause-rows g c =

@@ -1,4 +1,5 @@
 -- The window is one that is written from now on, or stands where it stood.
+use Rattle.std.specs.Mem.{type_size}
 use Rattle.std.proofs.lemmas.Option.{none-some, same_Some, slice_get_within}
 use Rattle.std.specs.Option.{option_flatten}
 use Rattle.std.proofs.Common.{◌≡◌, true, false, Some, length, slice_get, slice_set, refl}
@@ -21,7 +22,7 @@ use Rattle.arc_table.proofs.table.Table.make_mut.Goals as goal
 
 abbrev setting : (g : Over) → Setting g.row.S-Item.Denot
 setting g =
-    setting_of g.L.Layout.STATIC g.L.Layout.clone_wants g.S.Slice.DROPS g.S.Subsliceable.boundary
+    setting_of g.L.Layout.STATIC g.L.Layout.clone_wants g.S.Slice.DROPS g.S.Subsliceable.boundary (type_size g.row.S-Item)
 
 -- it is alone
 writes : (g : Over) (c : After-put_slot g)

@@ -1,4 +1,5 @@
 -- The row of the window is gone, and its owner has ended.
+use Rattle.std.specs.Mem.{type_size}
 use Rattle.std.proofs.lemmas.Option.{slice_get_within}
 use Rattle.std.proofs.Common.{◌≡◌, Some, None, length, map, slice_get, slice_set, sym, ap, ◌∙◌}
 use Rattle.std.proofs.Common.{arith}
@@ -21,7 +22,7 @@ use Rattle.arc_table.proofs.table.Table.release.Goals as goal
 
 abbrev setting : (g : Over) → Setting g.row.S-Item.Denot
 setting g =
-    setting_of g.L.Layout.STATIC g.L.Layout.clone_wants g.S.Slice.DROPS g.S.Subsliceable.boundary
+    setting_of g.L.Layout.STATIC g.L.Layout.clone_wants g.S.Slice.DROPS g.S.Subsliceable.boundary (type_size g.row.S-Item)
 
 did : (g : Over) (c : After-release g)
     → Done (setting g) c.args.self.now (command.Drop c.args.i) reply.Ok

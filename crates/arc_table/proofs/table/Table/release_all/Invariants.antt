@@ -1,3 +1,4 @@
+use Rattle.std.specs.Mem.{type_size}
 use Rattle.std.proofs.Common.{◌≡◌, ℕ, ◌<◌, List, None, length}
 use Rattle.arc_block.specs.Table.{row_at}
 use Rattle.arc_table.specs.RunOf.{RunOf}
@@ -15,5 +16,5 @@ invariant-loop-i g l = record {
   passes :
       (replies : List (Reply (List g.row.S-Item.Denot) (List g.row.S-Item.Denot)))
       × RunOf (CarriesOut (setting_of g.L.Layout.STATIC g.L.Layout.clone_wants g.S.Slice.DROPS
-      g.S.Subsliceable.boundary)) l.fn.self (drops l.i) replies l.self;
+      g.S.Subsliceable.boundary (type_size g.row.S-Item))) l.fn.self (drops l.i) replies l.self;
 }

@@ -1,4 +1,5 @@
 -- The row is there, so its items may want memory.
+use Rattle.std.specs.Mem.{type_size}
 use Rattle.arc_table.proofs.Tables.{unanswered}
 use Rattle.std.specs.Option.{option_flatten}
 use Rattle.std.proofs.Common.{sym, ap, ◌∙◌, subst, slice_get}
@@ -12,7 +13,7 @@ use Rattle.arc_table.proofs.table.Table.show.Goals as goal
 
 abbrev setting : (g : Over) → Setting g.row.S-Item.Denot
 setting g =
-    setting_of g.L.Layout.STATIC g.L.Layout.clone_wants g.S.Slice.DROPS g.S.Subsliceable.boundary
+    setting_of g.L.Layout.STATIC g.L.Layout.clone_wants g.S.Slice.DROPS g.S.Subsliceable.boundary (type_size g.row.S-Item)
 
 pub returns-in-Err-clause-rows : goal.returns-in-Err-clause-rows
 returns-in-Err-clause-rows g c =

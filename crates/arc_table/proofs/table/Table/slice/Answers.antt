@@ -1,5 +1,6 @@
 -- The window stands on nothing, or as the first owner on a new block, whose pass is the one that
 -- was given.
+use Rattle.std.specs.Mem.{type_size}
 use Rattle.std.proofs.Common.{◌&&◌, ◌==◌, true, false, Some, [], ◌∷◌, length, refl, ap, sym, ◌∙◌}
 use Rattle.std.proofs.Common.{subst, arith}
 use Rattle.arc_table.specs.Additions.{Adds}
@@ -16,7 +17,7 @@ use Rattle.arc_table.proofs.table.Table.slice.Goals as goal
 
 abbrev setting : (g : Over) → Setting g.row.S-Item.Denot
 setting g =
-    setting_of g.L.Layout.STATIC g.L.Layout.clone_wants g.S.Slice.DROPS g.S.Subsliceable.boundary
+    setting_of g.L.Layout.STATIC g.L.Layout.clone_wants g.S.Slice.DROPS g.S.Subsliceable.boundary (type_size g.row.S-Item)
 
 pub invariant_of-self-then-stands_on_nothing : goal.invariant_of-self-then-stands_on_nothing
 invariant_of-self-then-stands_on_nothing g c =

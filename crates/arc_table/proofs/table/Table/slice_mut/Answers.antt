@@ -1,5 +1,6 @@
 -- The writer stands on nothing, or as the first owner on a new block, whose pass is the one that was
 -- given.
+use Rattle.std.specs.Mem.{type_size}
 use Rattle.std.proofs.Common.{length, refl, sym, ◌∙◌, subst, arith}
 use Rattle.arc_table.specs.State.{State, state_of}
 use Rattle.arc_table.specs.Step.{Setting, setting_of}
@@ -7,14 +8,15 @@ use Rattle.arc_table.specs.declared.command.Cmd.TheVariants as command
 use Rattle.arc_table.specs.declared.command.Reply.TheVariants as reply
 use Rattle.arc_table.proofs.Lists.{no_error}
 use Rattle.arc_table.proofs.Done.{Done}
-use Rattle.arc_table.proofs.Written.{Pushed, made, none-of}
+use Rattle.arc_table.proofs.Lists.{none-of}
+use Rattle.arc_table.proofs.Written.{Pushed, made}
 use Rattle.arc_table.proofs.table.Table.slice_mut.Given.{Over}
 use Rattle.arc_table.proofs.table.Table.slice_mut.Goals.{After-push_writer}
 use Rattle.arc_table.proofs.table.Table.slice_mut.Goals as goal
 
 abbrev setting : (g : Over) → Setting g.row.S-Item.Denot
 setting g =
-    setting_of g.L.Layout.STATIC g.L.Layout.clone_wants g.S.Slice.DROPS g.S.Subsliceable.boundary
+    setting_of g.L.Layout.STATIC g.L.Layout.clone_wants g.S.Slice.DROPS g.S.Subsliceable.boundary (type_size g.row.S-Item)
 
 did : (g : Over) (c : After-push_writer g)
     → Done (setting g) c.args.self.now (command.MSlice c.args.items.items) (reply.New c.push_writer.result)

@@ -1,5 +1,6 @@
 -- One part has the owner of the window, and the other was made beside it, or on nothing; or the
 -- block has as many owners as it may have, or the layout wanted memory.
+use Rattle.std.specs.Mem.{type_size}
 use Rattle.std.proofs.Common.{inl, inr, ◌≡◌, ℕ, ◌==◌, false, [], ◌∷◌, ◌++◌, length, Option, Some}
 use Rattle.std.proofs.Common.{Ok}
 use Rattle.std.proofs.Common.{slice_get, slice_set, refl, sym, ap, ◌∙◌, subst, arith}
@@ -28,7 +29,7 @@ use Rattle.arc_table.proofs.table.Table.split_to.Goals as goal
 
 abbrev setting : (g : Over) → Setting g.row.S-Item.Denot
 setting g =
-    setting_of g.L.Layout.STATIC g.L.Layout.clone_wants g.S.Slice.DROPS g.S.Subsliceable.boundary
+    setting_of g.L.Layout.STATIC g.L.Layout.clone_wants g.S.Slice.DROPS g.S.Subsliceable.boundary (type_size g.row.S-Item)
 
 made : (g : Over) (c : After-push_reserved g)
     → Done (setting g) c.args.self.now (command.To c.args.i c.args.at)

@@ -1,4 +1,5 @@
 -- The window stands on no block, so no block's owners change.
+use Rattle.std.specs.Mem.{type_size}
 use Rattle.std.proofs.Common.{◌≡◌, ◌∷◌, ◌++◌, [], Some, true, refl, sym, ap, ◌∙◌, arith}
 use Rattle.arc_table.specs.Step.{Setting, setting_of}
 use Rattle.arc_table.proofs.Lists.{behind, no_error}
@@ -8,7 +9,7 @@ use Rattle.arc_table.proofs.table.Table.static_window.Goals as goal
 pub invariant_of-self-2 : goal.invariant_of-self-2
 invariant_of-self-2 g c =
     let setting : Setting g.row.S-Item.Denot =
-    setting_of g.L.Layout.STATIC g.L.Layout.clone_wants g.S.Slice.DROPS g.S.Subsliceable.boundary in
+    setting_of g.L.Layout.STATIC g.L.Layout.clone_wants g.S.Slice.DROPS g.S.Subsliceable.boundary (type_size g.row.S-Item) in
     let slots = c.self.inside.slots.items in
     let has : g.L.Layout.STATIC ≡ true = search in
     (statics setting slots c.self.inside.passes.of_blocks.items c.self.invariant c.args.items _

@@ -1,5 +1,6 @@
 -- The part stands on the same block, as another owner, or on nothing; or the block has as many
 -- owners as it may have, or the layout wanted memory.
+use Rattle.std.specs.Mem.{type_size}
 use Rattle.std.specs.Option.{option_flatten}
 use Rattle.std.proofs.Common.{◌≡◌, [], ◌∷◌, ◌++◌, length, Some, Ok, slice_get, refl, sym, ap, ◌∙◌}
 use Rattle.std.proofs.Common.{arith}
@@ -23,7 +24,7 @@ use Rattle.arc_table.proofs.table.Table.sub.Goals as goal
 
 abbrev setting : (g : Over) → Setting g.row.S-Item.Denot
 setting g =
-    setting_of g.L.Layout.STATIC g.L.Layout.clone_wants g.S.Slice.DROPS g.S.Subsliceable.boundary
+    setting_of g.L.Layout.STATIC g.L.Layout.clone_wants g.S.Slice.DROPS g.S.Subsliceable.boundary (type_size g.row.S-Item)
 
 made : (g : Over) (c : After-push_reserved g)
     → Done (setting g) c.args.self.now (command.Sub c.args.i c.args.start c.args.end)

@@ -1,4 +1,5 @@
 -- The row of the window is gone, and no block had it.
+use Rattle.std.specs.Mem.{type_size}
 use Rattle.std.proofs.lemmas.Option.{none-some, same_Some, slice_get_within}
 use Rattle.arc_table.proofs.Tables.{unanswered, no-writer}
 use Rattle.std.specs.Option.{option_flatten}
@@ -21,7 +22,7 @@ use Rattle.arc_table.proofs.table.Table.take_static.Goals as goal
 
 abbrev setting : (g : Over) → Setting g.row.S-Item.Denot
 setting g =
-    setting_of g.L.Layout.STATIC g.L.Layout.clone_wants g.S.Slice.DROPS g.S.Subsliceable.boundary
+    setting_of g.L.Layout.STATIC g.L.Layout.clone_wants g.S.Slice.DROPS g.S.Subsliceable.boundary (type_size g.row.S-Item)
 
 did : (g : Over) (c : After-into_static g)
     → Done (setting g) c.args.self.now (command.TakeStatic c.args.i) (reply.Static c.into_static.result)

@@ -1,4 +1,5 @@
 -- The row has become the part, and no window stands elsewhere.
+use Rattle.std.specs.Mem.{type_size}
 use Rattle.std.proofs.lemmas.Option.{none-some, same_Some, slice_get_within}
 use Rattle.arc_table.proofs.Tables.{unanswered}
 use Rattle.std.specs.Option.{option_flatten}
@@ -27,7 +28,7 @@ use Rattle.arc_table.proofs.table.Table.truncate.Goals as goal
 
 abbrev setting : (g : Over) → Setting g.row.S-Item.Denot
 setting g =
-    setting_of g.L.Layout.STATIC g.L.Layout.clone_wants g.S.Slice.DROPS g.S.Subsliceable.boundary
+    setting_of g.L.Layout.STATIC g.L.Layout.clone_wants g.S.Slice.DROPS g.S.Subsliceable.boundary (type_size g.row.S-Item)
 
 did : (g : Over) (c : After-truncate g)
     → Done (setting g) c.args.self.now (command.Trunc c.args.i c.args.len) reply.Ok

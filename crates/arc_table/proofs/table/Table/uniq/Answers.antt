@@ -1,4 +1,5 @@
 -- Being alone, as the count says, is what the table says.
+use Rattle.std.specs.Mem.{type_size}
 use Rattle.std.specs.Option.{option_flatten}
 use Rattle.std.proofs.Common.{◌≡◌, Bool, true, false, if◌then◌else◌, Some, slice_get, sym, ap, ◌∙◌}
 use Rattle.std.proofs.Common.{subst, refl}
@@ -18,7 +19,7 @@ use Rattle.arc_table.proofs.table.Table.uniq.Goals as goal
 
 abbrev setting : (g : Over) → Setting g.row.S-Item.Denot
 setting g =
-    setting_of g.L.Layout.STATIC g.L.Layout.clone_wants g.S.Slice.DROPS g.S.Subsliceable.boundary
+    setting_of g.L.Layout.STATIC g.L.Layout.clone_wants g.S.Slice.DROPS g.S.Subsliceable.boundary (type_size g.row.S-Item)
 
 did : (g : Over) (c : After-is_unique-alone g) (found : Bool) → c.is_unique-alone.result ≡ found
     → Done (setting g) c.args.self.now (command.Uniq c.args.i)

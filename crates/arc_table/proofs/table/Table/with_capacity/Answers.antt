@@ -1,5 +1,6 @@
 -- The writer stands on nothing, or as the first owner on a new block, whose pass is the one that was
 -- given.
+use Rattle.std.specs.Mem.{type_size}
 use Rattle.std.proofs.Common.{[], refl, sym, subst, arith}
 use Rattle.arc_table.specs.State.{State}
 use Rattle.arc_table.specs.Step.{Setting, setting_of}
@@ -14,7 +15,7 @@ use Rattle.arc_table.proofs.table.Table.with_capacity.Goals as goal
 
 abbrev setting : (g : Over) → Setting g.row.S-Item.Denot
 setting g =
-    setting_of g.L.Layout.STATIC g.L.Layout.clone_wants g.S.Slice.DROPS g.S.Subsliceable.boundary
+    setting_of g.L.Layout.STATIC g.L.Layout.clone_wants g.S.Slice.DROPS g.S.Subsliceable.boundary (type_size g.row.S-Item)
 
 did : (g : Over) (c : After-push_writer g)
     → Done (setting g) c.args.self.now (command.Cap c.args.places) (reply.New c.push_writer.result)
