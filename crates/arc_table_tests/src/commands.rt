@@ -657,7 +657,7 @@ fn too_much_room(rt: HostRuntime) {
 /// What a writer on nothing is left as by a push, and then by one that has to grow the block: how
 /// many of them were refused memory.
 fn pushes_refused<A: Allocator + Copy>(rt: &impl Wait, table: &mut ByteTable<A>) -> Option<usize> {
-    let mut refused = 0;
+    let mut refused = 0usize;
     for item in 0u8..9 {
         let before = table.step(rt, Cmd::Room { window: 0 });
         let pushed = table.step(rt, Cmd::Push { window: 0, item });
@@ -668,7 +668,7 @@ fn pushes_refused<A: Allocator + Copy>(rt: &impl Wait, table: &mut ByteTable<A>)
                 if !is_same_number(&before, &after) {
                     return None;
                 }
-                refused += 1;
+                refused = refused.wrapping_add(1);
             }
             _ => return None,
         }
