@@ -117,7 +117,7 @@ pub enum Reply<X, F> {
     Items(X),
     /// The slice on which the window stood, which is gone, or no items where it stood on nothing.
     Static(F),
-    /// So many items.
+    /// So many items, or places.
     Number(usize),
     /// No window has this number, or none has it any more.
     NoWindow,
@@ -129,7 +129,7 @@ pub enum Reply<X, F> {
     Range(RangeError),
     /// There is no owner more.
     Owner(OwnerError),
-    /// There is no room for so many items more.
+    /// There is no room for so many items more, or memory for it was refused; nothing changed.
     Reserve(TryReserveError),
     /// Memory was refused; nothing changed.
     Alloc,

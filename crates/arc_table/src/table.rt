@@ -176,9 +176,9 @@ where
     }
 
     /// Carries out one command. A refusal changes nothing; what the command brought is let go.
-    ///
-    /// Takes memory for a window more, for what a window is made of and for what is shown; refused,
-    /// the answer is `Alloc`.
+    /// It adds to the histories what `Adds` says. Takes memory for a window more, what it is made
+    /// of and what is shown (refused: `Alloc`), for the block of a window that is there (`Reserve`,
+    /// and `Refused` of a `Freeze`), and for an owner more where the layout wants it (`Owner`).
     pub fn step(&mut self, rt: &impl Wait, command: TableCmd<S::Item, A>) -> TableReply<S::Item, A>
         requires item { FitsInMemory S.Item.row }
         ensures { CarriesOut (setting_of L.STATIC L.clone_wants S.DROPS S.boundary
@@ -638,8 +638,8 @@ where
         }
     }
 
-    /// Writes into a window. `Kind` where it is read, `Reserve` where there is no room. Takes
-    /// memory for a first block and its pass, or for a larger block.
+    /// Writes into a window. `Kind` where it is read, `Reserve` where there is no room, or memory
+    /// is refused: it takes some for a first block and its pass, or for a larger block.
     fn write(&mut self, i: usize, what: Writing<Vec<S::Item, A>, S::Item>) -> TableReply<S::Item, A>
         requires item { FitsInMemory S.Item.row }
         ensures rows { Step (setting_of L.STATIC L.clone_wants S.DROPS S.boundary
@@ -667,7 +667,7 @@ where
         Reply::Ok
     }
 
-    /// Makes room in a window, if that takes no memory. `Kind` where it is read.
+    /// Makes room in a window, if that takes no memory: whether it did. `Kind` where it is read.
     fn reclaim(&mut self, i: usize, additional: usize) -> TableReply<S::Item, A>
         requires item { FitsInMemory S.Item.row }
         ensures rows { Step (setting_of L.STATIC L.clone_wants S.DROPS S.boundary
