@@ -130,6 +130,7 @@ abbrev pub writer_forms : List Form
 writer_forms =
     entry (codes "new") [] command.New ∷
     entry (codes "cap") (ANumber ∷ []) command.Cap ∷
+    entry (codes "zero") (ANumber ∷ []) command.Zero ∷
     []
 
 abbrev pub asking_forms : List Form

@@ -356,6 +356,9 @@ fn making_writers<A: Allocator>(verb: &[u8], rest: Rest) -> Option<Command<A>>
         b"cap" => Some(Cmd::Cap {
             places: one_number(rest)?,
         }),
+        b"zero" => Some(Cmd::Zero {
+            count: one_number(rest)?,
+        }),
         _ => asking(verb, rest),
     }
 }

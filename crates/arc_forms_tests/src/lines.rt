@@ -38,6 +38,12 @@ fn commands(rt: HostRuntime) {
     );
     assert!(rt;
         matches!(
+            parse(rt.alloc(), b"zero 3"),
+            Ok(Some(Cmd::Zero { count: 3 }))
+        )
+    );
+    assert!(rt;
+        matches!(
             parse(rt.alloc(), b"room 2"),
             Ok(Some(Cmd::Room { window: 2 }))
         )

@@ -32,7 +32,7 @@ pub record AreLines (input : List ℕ) (lines : List (List ℕ)) : Type 0 where
 
 -- a byte window may be cut anywhere, and its layout has static data; a byte is one
 abbrev pub byte_setting : Setting ℕ
-byte_setting = setting_of true (λ sort. false) false (λ items at. true) 1
+byte_setting = setting_of true (λ sort. false) false (λ items at. true) 1 (Some 0)
 
 -- the script's tables: no window has metadata
 abbrev pub ByteTable : Type 0

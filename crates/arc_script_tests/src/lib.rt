@@ -3,4 +3,6 @@
 #![tactic(auto)]
 
 #[cfg(test)]
+mod rows;
+#[cfg(test)]
 mod scripts;

@@ -5,8 +5,9 @@ use Rattle.std.proofs.Common.{Some}
 use Rattle.std.proofs.Common.{None, Result, Ok, Err, refl, length, slice_set, ◌++◌, [], ◌∷◌, ◌==◌}
 use Rattle.std.proofs.Common.{◌&&◌, ap, sym, ◌∙◌, subst}
 use Rattle.std.specs.Prelude.{◌≤◌}
-use Rattle.std.specs.Prelude.{nat_lt, is_some, ◌+◌, ◌-◌}
+use Rattle.std.specs.Prelude.{nat_lt, is_some, ◌+◌, ◌-◌, replicate}
 use Rattle.std.proofs.Common.{arith}
+use Rattle.std.proofs.lemmas.List.{length-replicate}
 use Rattle.std.proofs.lemmas.Bool.{false≢true, and_parts, eqb-true, ltb-true}
 use Rattle.std.specs.Option.{option_map_or}
 use Rattle.arc_owners.specs.declared.error.RangeError.{RangeError}
@@ -39,7 +40,7 @@ use Rattle.arc_table.specs.declared.command.Cmd.{Cmd}
 use Rattle.arc_table.specs.declared.command.Cmd.TheVariants.{Slice, Clone, Sub, Uniq, Show, Len}
 use Rattle.arc_table.specs.declared.command.Cmd.TheVariants.{Off, To, Adv, Trunc, Drop}
 use Rattle.arc_table.specs.declared.command.Cmd.TheVariants.{Static, TakeStatic, MSlice}
-use Rattle.arc_table.specs.declared.command.Cmd.TheVariants.{New, Cap, Room, Mut, Res, Push, Ext}
+use Rattle.arc_table.specs.declared.command.Cmd.TheVariants.{New, Cap, Zero, Room, Mut, Res, Push, Ext}
 use Rattle.arc_table.specs.declared.command.Cmd.TheVariants.{Rec, Freeze}
 use Rattle.arc_table.specs.declared.command.Reply.{Reply}
 use Rattle.arc_table.specs.declared.command.Reply.TheVariants as reply
@@ -238,7 +239,7 @@ module _ {T M : Type 0} (setting : Setting T) (short : Shortage) (t : Table T M)
       (wanting_each short refl setting.clone_wants place (if is_full t place then full else made)
       (either (is_full t place) full made (same (reply.Owner CountFull) (inl refl)) after))
 
-  part_is : (row : Row T M) (start end : ℕ) → IsPart row (part_of setting row start end)
+  part_is : (row : Row T M) (start end : ℕ) → IsPart row (part_of setting.has_static row start end)
   part_is row start end = (
     stays-part (setting.has_static && (length (sub row.items start end) == 0)) start row.place,
     refl,
@@ -266,15 +267,15 @@ module _ {T M : Type 0} (setting : Setting T) (short : Shortage) (t : Table T M)
       (one-is out row row part (stays-same row.place, refl) other)
       (one-fits out row part cut fits-too fits) (one-fits out row row part (λ f. f) fits-too))
 
-  off_is : (row : Row T M) (at : ℕ) → IsPart row (off_part setting row at)
+  off_is : (row : Row T M) (at : ℕ) → IsPart row (off_part setting.has_static row at)
   off_is row at =
-      one-is (at == 0) row (part_of setting row 0 0) (part_of setting row at (length row.items))
+      one-is (at == 0) row (part_of setting.has_static row 0 0) (part_of setting.has_static row at (length row.items))
       (part_is row 0 0) (part_is row at (length row.items))
 
-  to_is : (row : Row T M) (at : ℕ) → IsPart row (to_part setting row at)
+  to_is : (row : Row T M) (at : ℕ) → IsPart row (to_part setting.has_static row at)
   to_is row at =
-      one-is (at == length row.items) row (part_of setting row at at)
-      (part_of setting row 0 at) (part_is row at at) (part_is row 0 at)
+      one-is (at == length row.items) row (part_of setting.has_static row at at)
+      (part_of setting.has_static row 0 at) (part_is row at at) (part_is row 0 at)
 
   yes_or_no : (yes : Bool) → MayTell short this (if yes then reply.Yes else reply.No)
   yes_or_no true = inl refl
@@ -390,6 +391,18 @@ module _ {T M : Type 0} (setting : Setting T) (short : Shortage) (t : Table T M)
           (asking_block short reply.Refused t (begun t i made)) (begun t i made)
           (asking_block_each short refl reply.Refused told (begun t i made) fresh) fresh)
 
+  zero_each : (count : ℕ) (x : Option T)
+      → After (option_map_or (λ item.
+      asking short t (with_writer setting t (replicate count item) count)) x (reply.Kind, t))
+  zero_each count None = same reply.Kind (inl refl)
+  zero_each count (Some item) =
+      let zeros = replicate count item in
+      asking_each short refl (with_writer setting t zeros count)
+      (founds zeros (sole_writer count) (count == 0)
+      (partly_full setting.drops count (length zeros))
+      (writer-fits setting.drops t.blocks zeros count
+      (omega (arith, length-replicate count item))))
+
   pub answer_each : (c : Command) → c ≡ this → After (answer setting short t c)
   answer_each (Slice items) e =
       asking_each short refl (founded setting t items)
@@ -409,6 +422,7 @@ module _ {T M : Type 0} (setting : Setting T) (short : Shortage) (t : Table T M)
       asking_each short refl (with_writer setting t [] places)
       (founds [] (sole_writer places) (places == 0) (partly_full setting.drops places 0)
       (writer-fits setting.drops t.blocks [] places (omega arith)))
+  answer_each (Zero count) e = zero_each count setting.zero
   answer_each (MSlice items) e =
       asking_each short refl (with_writer setting t items (length items))
       (founds items (sole_writer (length items)) (length items == 0)
@@ -421,7 +435,7 @@ module _ {T M : Type 0} (setting : Setting T) (short : Shortage) (t : Table T M)
       (stays-same row.place, refl) (λ f. f)))
   answer_each (Sub i start end) e =
       on_row_each i (Sub i start end) _ (λ row at is.
-      let part = part_of setting row start end in
+      let part = part_of setting.has_static row start end in
       let shares = reads-only (Sub i start end) (λ places. refl) row.role is in
       in_range_each (range_answer setting.boundary row.items start end) _ (λ ok.
       let ranged = in-range setting.boundary row.items start end ok in
@@ -433,7 +447,7 @@ module _ {T M : Type 0} (setting : Setting T) (short : Shortage) (t : Table T M)
       let shares = reads-only (Off i at) (λ places. refl) row.role is in
       in_range_each (edge_answer setting.boundary row.items at) _ (λ ok.
       let within = in-edge setting.boundary row.items at ok in
-      split_each i (at == 0) row (cut_row row 0 at) (off_part setting row at) there shares
+      split_each i (at == 0) row (cut_row row 0 at) (off_part setting.has_static row at) there shares
       (stays-moved 0 row.place, refl) (off_is row at)
       (λ f. cut-fits setting row shares f 0 at (omega arith) within)
       (λ f. off-fits setting row shares f at within)))
@@ -443,7 +457,7 @@ module _ {T M : Type 0} (setting : Setting T) (short : Shortage) (t : Table T M)
       in_range_each (edge_answer setting.boundary row.items at) _ (λ ok.
       let within = in-edge setting.boundary row.items at ok in
       split_each i (at == length row.items) row (cut_row row at (length row.items))
-      (to_part setting row at) there shares (stays-moved at row.place, refl) (to_is row at)
+      (to_part setting.has_static row at) there shares (stays-moved at row.place, refl) (to_is row at)
       (λ f. cut-fits setting row shares f at (length row.items) within (omega arith))
       (λ f. to-fits setting row shares f at within)))
   answer_each (Uniq i) e =

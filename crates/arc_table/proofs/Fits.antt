@@ -271,11 +271,11 @@ module _ {T M : Type 0} (setting : Setting T) (row : Row T M) (reads : is_sole r
       f.within (omega (arith, length-sub row.items start end ordered within, ordered, within))
 
   pub part-fits : (start end : ℕ) → start ≤ end → end ≤ length row.items
-      → RowFits setting.drops (part_of setting row start end)
+      → RowFits setting.drops (part_of setting.has_static row start end)
   part-fits start end ordered within =
       let items = sub row.items start end in
       let nothing = setting.has_static && (length items == 0) in
-      reads-fit setting.drops (part_of setting row start end) reads
+      reads-fit setting.drops (part_of setting.has_static row start end) reads
       (within-if setting.drops nothing (moved start row.place) (length items)
       (λ none. eqb-true (length items) 0 (and_parts setting.has_static (length items == 0) none).1)
       (lies start end ordered within))
@@ -291,13 +291,13 @@ module _ {T M : Type 0} (setting : Setting T) (row : Row T M) (reads : is_sole r
   one-fits false one other h k = k
 
   pub off-fits : (at : ℕ) → at ≤ length row.items
-      → RowFits setting.drops (off_part setting row at)
+      → RowFits setting.drops (off_part setting.has_static row at)
   off-fits at within =
-      one-fits (at == 0) (part_of setting row 0 0) (part_of setting row at (length row.items))
+      one-fits (at == 0) (part_of setting.has_static row 0 0) (part_of setting.has_static row at (length row.items))
       (part-fits 0 0 (omega arith) (omega arith))
       (part-fits at (length row.items) within (omega arith))
 
-  pub to-fits : (at : ℕ) → at ≤ length row.items → RowFits setting.drops (to_part setting row at)
+  pub to-fits : (at : ℕ) → at ≤ length row.items → RowFits setting.drops (to_part setting.has_static row at)
   to-fits at within =
-      one-fits (at == length row.items) (part_of setting row at at) (part_of setting row 0 at)
+      one-fits (at == length row.items) (part_of setting.has_static row at at) (part_of setting.has_static row 0 at)
       (part-fits at at (omega arith) within) (part-fits 0 at (omega arith) within)

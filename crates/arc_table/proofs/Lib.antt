@@ -18,6 +18,7 @@ mod Fits
 mod FitsStep
 pub mod Statics
 pub mod Written
+mod Zeros
 mod Filled
 mod FitsRoom
 mod Filling

@@ -59,24 +59,24 @@ module _ {T M : Type 0} (setting : Setting T) (slots : List (Option (SlotView T 
         asking short t (reply.Items row.items, t))
 
     pub sub-answers : s.capacity ≡ None → (start end : ℕ) → range_answer setting.boundary r.items start end ≡ Ok tt
-        → (short : Shortage) → let part = part_of setting r start end in
+        → (short : Shortage) → let part = part_of setting.has_static r start end in
         answer setting short t (command.Sub i start end)
         ≡ asks setting short t part (t.rows ++ Some part ∷ [])
     sub-answers reads start end ranged short =
         for-reader slots passes i s there reads (command.Sub i start end) refl (λ row.
         in_range (range_answer setting.boundary row.items start end) t
-        (asks setting short t (part_of setting row start end)
-        (t.rows ++ Some (part_of setting row start end) ∷ [])))
-        ∙ ap (λ a. in_range a t (asks setting short t (part_of setting r start end)
-        (t.rows ++ Some (part_of setting r start end) ∷ []))) ranged
+        (asks setting short t (part_of setting.has_static row start end)
+        (t.rows ++ Some (part_of setting.has_static row start end) ∷ [])))
+        ∙ ap (λ a. in_range a t (asks setting short t (part_of setting.has_static r start end)
+        (t.rows ++ Some (part_of setting.has_static r start end) ∷ []))) ranged
 
     module _ (at : ℕ) (edge : edge_answer setting.boundary r.items at ≡ Ok tt) where
       abbrev off-found : Shortage → Row T M → Reply (List T) (List T) × Table T M
       off-found short row =
-          asks setting short t (off_part setting row at)
-          (split_rows t i (at == 0) row (cut_row row 0 at) (off_part setting row at))
+          asks setting short t (off_part setting.has_static row at)
+          (split_rows t i (at == 0) row (cut_row row 0 at) (off_part setting.has_static row at))
 
-      pub off-answers : s.capacity ≡ None → (short : Shortage) → let part = off_part setting r at in
+      pub off-answers : s.capacity ≡ None → (short : Shortage) → let part = off_part setting.has_static r at in
           answer setting short t (command.Off i at)
           ≡ asks setting short t part (split_rows t i (at == 0) r (cut_row r 0 at) part)
       off-answers reads short =
@@ -86,11 +86,11 @@ module _ {T M : Type 0} (setting : Setting T) (slots : List (Option (SlotView T 
 
       abbrev to-found : Shortage → Row T M → Reply (List T) (List T) × Table T M
       to-found short row =
-          asks setting short t (to_part setting row at)
+          asks setting short t (to_part setting.has_static row at)
           (split_rows t i (at == length row.items) row (cut_row row at (length row.items))
-          (to_part setting row at))
+          (to_part setting.has_static row at))
 
-      pub to-answers : s.capacity ≡ None → (short : Shortage) → let part = to_part setting r at in
+      pub to-answers : s.capacity ≡ None → (short : Shortage) → let part = to_part setting.has_static r at in
           answer setting short t (command.To i at)
           ≡ asks setting short t part (split_rows t i (at == length r.items) r
           (cut_row r at (length r.items)) part)

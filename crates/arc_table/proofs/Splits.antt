@@ -18,7 +18,7 @@ use Rattle.arc_table.proofs.Slots.{shares-part, part-place, moved-numbered, move
 abbrev pub slot : {T M : Type 0} → Window T M → Option ℕ → SlotView T M
 slot w b = record { window = w; capacity = None; block = b }
 
-module _ {T M H : Type 0} (setting : Setting T) (passes left : List (Pass H)) (p new : Pass H)
+module _ {T M H : Type 0} (has_static : Bool) (passes left : List (Pass H)) (p new : Pass H)
     (after : List (Pass H)) (w : Window T M) (b : Option ℕ)
     (back : after ≡ put_back left b new) (fits : is_numbered b w.place ≡ true)
     (has : HasPassFor passes (stand_at b w.place)) (took : TakenOut passes b p left) where
@@ -27,17 +27,17 @@ module _ {T M H : Type 0} (setting : Setting T) (passes left : List (Pass H)) (p
 
   -- a part that was made, and the block that its length tells
   module _ (start end : ℕ) (part : Window T M) (block : Option ℕ) (len : ℕ)
-      (made : SharesPart setting.has_static w start end p new part) (counted : len ≡ length part.items)
-      (is : block ≡ (if setting.has_static && (len == 0) then None else b)) where
+      (made : SharesPart has_static w start end p new part) (counted : len ≡ length part.items)
+      (is : block ≡ (if has_static && (len == 0) then None else b)) where
     abbrev nothing : Bool
-    nothing = setting.has_static && (length (sub w.items start end) == 0)
+    nothing = has_static && (length (sub w.items start end) == 0)
 
     block-is : block ≡ (if nothing then None else b)
     block-is =
-        is ∙ ap (λ n. if setting.has_static && (n == 0) then None else b)
+        is ∙ ap (λ n. if has_static && (n == 0) then None else b)
         (counted ∙ ap length made.0)
 
-    part-row : row_of (slot part block) ≡ part_of setting (row_of s) start end
+    part-row : row_of (slot part block) ≡ part_of has_static (row_of s) start end
     part-row =
         ap (λ xs. record { items = xs; place = numbered block part.place; role = reader }) made.0
         ∙ ap (λ o. record {
@@ -69,14 +69,14 @@ module _ {T M H : Type 0} (setting : Setting T) (passes left : List (Pass H)) (p
       ap (λ (v : Window T M). stand_at b v.place) is ∙ moved-stand b start w.place
 
   pub off-start : (at : ℕ) (front behind : Window T M) (block : Option ℕ) (len : ℕ)
-      → SplitsOff setting.has_static w at p new front behind → len ≡ length front.items
-      → block ≡ (if setting.has_static && (len == 0) then None else b) → at ≡ 0
-      → IsSplit s (slot behind b) (slot front block) (row_of s) (off_part setting (row_of s) at)
+      → SplitsOff has_static w at p new front behind → len ≡ length front.items
+      → block ≡ (if has_static && (len == 0) then None else b) → at ≡ 0
+      → IsSplit s (slot behind b) (slot front block) (row_of s) (off_part has_static (row_of s) at)
       passes after
   off-start at front behind block len splits counted is zero =
       let parts = splits.at_start zero in
-      let pick = ap (λ c. if c then part_of setting (row_of s) 0 0 else
-      part_of setting (row_of s) at (length w.items)) (eq-eqb at 0 zero) in
+      let pick = ap (λ c. if c then part_of has_static (row_of s) 0 0 else
+      part_of has_static (row_of s) at (length w.items)) (eq-eqb at 0 zero) in
       record {
         same_is = ap (λ v. row_of (slot v b)) parts.0;
         made_is = part-row 0 0 front block len parts.1 counted is ∙ sym pick;
@@ -85,15 +85,15 @@ module _ {T M H : Type 0} (setting : Setting T) (passes left : List (Pass H)) (p
       }
 
   pub off-later : (at : ℕ) (front behind : Window T M) (block : Option ℕ) (len : ℕ)
-      → SplitsOff setting.has_static w at p new front behind → len ≡ length behind.items
-      → block ≡ (if setting.has_static && (len == 0) then None else b) → 0 < at
+      → SplitsOff has_static w at p new front behind → len ≡ length behind.items
+      → block ≡ (if has_static && (len == 0) then None else b) → 0 < at
       → IsSplit s (slot front b) (slot behind block) (cut_row (row_of s) 0 at)
-      (off_part setting (row_of s) at) passes after
+      (off_part has_static (row_of s) at) passes after
   off-later at front behind block len splits counted is more =
       let parts = splits.later more in
       let long = length w.items in
-      let pick = ap (λ c. if c then part_of setting (row_of s) 0 0 else
-      part_of setting (row_of s) at long) (ne_eqb at 0 (λ e. omega (arith, more, e))) in
+      let pick = ap (λ c. if c then part_of has_static (row_of s) 0 0 else
+      part_of has_static (row_of s) at long) (ne_eqb at 0 (λ e. omega (arith, more, e))) in
       record {
         same_is = cut-row 0 at front parts.0;
         made_is = part-row at long behind block len parts.1 counted is ∙ sym pick;
@@ -102,14 +102,14 @@ module _ {T M H : Type 0} (setting : Setting T) (passes left : List (Pass H)) (p
       }
 
   pub to-end : (at : ℕ) (front behind : Window T M) (block : Option ℕ) (len : ℕ)
-      → SplitsTo setting.has_static w at p new front behind → len ≡ length behind.items
-      → block ≡ (if setting.has_static && (len == 0) then None else b) → at ≡ length w.items
-      → IsSplit s (slot front b) (slot behind block) (row_of s) (to_part setting (row_of s) at)
+      → SplitsTo has_static w at p new front behind → len ≡ length behind.items
+      → block ≡ (if has_static && (len == 0) then None else b) → at ≡ length w.items
+      → IsSplit s (slot front b) (slot behind block) (row_of s) (to_part has_static (row_of s) at)
       passes after
   to-end at front behind block len splits counted is last =
       let parts = splits.at_end last in
-      let pick = ap (λ c. if c then part_of setting (row_of s) at at else
-      part_of setting (row_of s) 0 at) (eq-eqb at (length w.items) last) in
+      let pick = ap (λ c. if c then part_of has_static (row_of s) at at else
+      part_of has_static (row_of s) 0 at) (eq-eqb at (length w.items) last) in
       record {
         same_is = ap (λ v. row_of (slot v b)) parts.0;
         made_is = part-row at at behind block len parts.1 counted is ∙ sym pick;
@@ -118,15 +118,15 @@ module _ {T M H : Type 0} (setting : Setting T) (passes left : List (Pass H)) (p
       }
 
   pub to-earlier : (at : ℕ) (front behind : Window T M) (block : Option ℕ) (len : ℕ)
-      → SplitsTo setting.has_static w at p new front behind → len ≡ length front.items
-      → block ≡ (if setting.has_static && (len == 0) then None else b) → at < length w.items
+      → SplitsTo has_static w at p new front behind → len ≡ length front.items
+      → block ≡ (if has_static && (len == 0) then None else b) → at < length w.items
       → IsSplit s (slot behind b) (slot front block) (cut_row (row_of s) at (length w.items))
-      (to_part setting (row_of s) at) passes after
+      (to_part has_static (row_of s) at) passes after
   to-earlier at front behind block len splits counted is inside =
       let parts = splits.earlier inside in
       let long = length w.items in
-      let pick = ap (λ c. if c then part_of setting (row_of s) at at else
-      part_of setting (row_of s) 0 at) (ne_eqb at long (λ e. omega (arith, inside, e))) in
+      let pick = ap (λ c. if c then part_of has_static (row_of s) at at else
+      part_of has_static (row_of s) 0 at) (ne_eqb at long (λ e. omega (arith, inside, e))) in
       record {
         same_is = cut-row at long behind parts.0;
         made_is = part-row 0 at front block len parts.1 counted is ∙ sym pick;

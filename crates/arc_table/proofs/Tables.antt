@@ -82,7 +82,7 @@ pub part-as : {T M : Type 0} (setting : Setting T) (s : SlotView T M) → s.capa
       items = items;
       place = part_place setting.has_static items start (row_of s).place;
       role = reader;
-    }) (part_of setting (row_of s) start end)
+    }) (part_of setting.has_static (row_of s) start end)
 part-as {T} {M} setting s reads start end =
     let items = sub s.window.items start end in
     ap {B = Row T M} (λ x. record {

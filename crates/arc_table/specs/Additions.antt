@@ -16,7 +16,8 @@ use Rattle.arc_block.specs.Table.{Table, row_at}
 use Rattle.arc_table.specs.declared.command.Cmd.{Cmd}
 use Rattle.arc_table.specs.declared.command.Cmd.TheVariants.{Slice, Clone, Sub, Off, To, Uniq}
 use Rattle.arc_table.specs.declared.command.Cmd.TheVariants.{Drop, Static, TakeStatic, MSlice}
-use Rattle.arc_table.specs.declared.command.Cmd.TheVariants.{New, Cap, Mut, Res, Push, Ext, Freeze}
+use Rattle.arc_table.specs.declared.command.Cmd.TheVariants.{New, Cap, Zero, Mut, Res, Push, Ext}
+use Rattle.arc_table.specs.declared.command.Cmd.TheVariants.{Freeze}
 use Rattle.arc_table.specs.declared.command.Reply.{Reply}
 use Rattle.arc_table.specs.declared.command.Reply.TheVariants as reply
 
@@ -114,6 +115,7 @@ module _ {H : Type 0} where
   Adds t old (Slice items) (reply.New number) new = MakesWindow old new
   Adds t old New (reply.New number) new = MakesWindow old new
   Adds t old (Cap places) (reply.New number) new = MakesWindow old new
+  Adds t old (Zero count) (reply.New number) new = MakesWindow old new
   Adds t old (MSlice items) (reply.New number) new = MakesWindow old new
   Adds t old (Static items) (reply.New number) new =
       (new.stands ≡ old.stands ++ None ∷ []) × (new.passes ≡ old.passes)

@@ -6,7 +6,7 @@ use Rattle.arc_table.specs.declared.command.Cmd.{Cmd}
 use Rattle.arc_table.specs.declared.command.Cmd.TheVariants.{Slice, Clone, Sub, Uniq, Show, Len}
 use Rattle.arc_table.specs.declared.command.Cmd.TheVariants.{Off, To, Adv, Trunc, Drop}
 use Rattle.arc_table.specs.declared.command.Cmd.TheVariants.{Static, TakeStatic, MSlice}
-use Rattle.arc_table.specs.declared.command.Cmd.TheVariants.{New, Cap, Room, Mut, Res, Push, Ext}
+use Rattle.arc_table.specs.declared.command.Cmd.TheVariants.{New, Cap, Zero, Room, Mut, Res, Push, Ext}
 use Rattle.arc_table.specs.declared.command.Cmd.TheVariants.{Rec, Freeze}
 use Rattle.arc_table.specs.declared.command.Reply.{Reply}
 use Rattle.arc_table.specs.declared.command.Reply.TheVariants as reply
@@ -17,6 +17,7 @@ map_command f (Slice items) = Slice (f items)
 map_command f (Static items) = Static items
 map_command f New = New
 map_command f (Cap places) = Cap places
+map_command f (Zero count) = Zero count
 map_command f (MSlice items) = MSlice (f items)
 map_command f (Clone i) = Clone i
 map_command f (Sub i start end) = Sub i start end

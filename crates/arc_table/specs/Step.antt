@@ -1,7 +1,7 @@
 -- One step of a table of lists: what each command is answered, and the table after it.
 use Rattle.std.specs.Prelude.{◌≡◌, ℕ, ◌+◌, ◌==◌, Bool, true, false, if◌then◌else◌, List, [], ◌∷◌}
 use Rattle.std.specs.Prelude.{◌++◌, length, Option, Some, None, slice_set, Result, Ok, Err, take}
-use Rattle.std.specs.Prelude.{is_some, nat_lt}
+use Rattle.std.specs.Prelude.{is_some, nat_lt, replicate}
 use Rattle.std.specs.Option.{option_map_or}
 use Rattle.arc_owners.specs.declared.error.RangeError.{RangeError}
 use Rattle.arc_owners.specs.declared.error.OwnerError.TheVariants.{AllocError, CountFull}
@@ -23,29 +23,31 @@ use Rattle.arc_table.specs.declared.command.Cmd.{Cmd}
 use Rattle.arc_table.specs.declared.command.Cmd.TheVariants.{Slice, Clone, Sub, Uniq, Show, Len}
 use Rattle.arc_table.specs.declared.command.Cmd.TheVariants.{Off, To, Adv, Trunc, Drop}
 use Rattle.arc_table.specs.declared.command.Cmd.TheVariants.{Static, TakeStatic, MSlice}
-use Rattle.arc_table.specs.declared.command.Cmd.TheVariants.{New, Cap, Room, Mut, Res, Push, Ext}
+use Rattle.arc_table.specs.declared.command.Cmd.TheVariants.{New, Cap, Zero, Room, Mut, Res, Push, Ext}
 use Rattle.arc_table.specs.declared.command.Cmd.TheVariants.{Rec, Freeze}
 use Rattle.arc_table.specs.declared.command.Reply.{Reply}
 use Rattle.arc_table.specs.declared.command.Reply.TheVariants as reply
 
 -- what a table is run under: of its layout, whether it has static data and on which sorts of blocks
 -- its clones may want memory; of its kind, whether blocks count their full places, where a list may
--- be cut and how many bytes an item has
+-- be cut, how many bytes an item has, and its zero, if it has one
 pub record Setting (T : Type 0) : Type 0 where
   pub has_static : Bool
   pub clone_wants : Sort → Bool
   pub drops : Bool
   pub boundary : List T → ℕ → Bool
   pub item_size : ℕ
+  pub zero : Option T
 
 abbrev pub setting_of : {T : Type 0} → Bool → (Sort → Bool) → Bool → (List T → ℕ → Bool) → ℕ
-    → Setting T
-setting_of has_static clone_wants drops boundary item_size = record {
+    → Option T → Setting T
+setting_of has_static clone_wants drops boundary item_size zero = record {
   has_static = has_static;
   clone_wants = clone_wants;
   drops = drops;
   boundary = boundary;
   item_size = item_size;
+  zero = zero;
 }
 
 -- What a step leaves free: where memory was refused. Nowhere, or for what the table asks for itself
@@ -182,12 +184,12 @@ with_owner setting short t place rows =
     (reply.New (length t.rows), record { rows = rows; blocks = t.blocks })
 
 -- the part from start to end of a row, as a row that is read
-abbrev pub part_of : {T M : Type 0} → Setting T → Row T M → ℕ → ℕ → Row T M
-part_of setting row start end =
+abbrev pub part_of : {T M : Type 0} → (has_static : Bool) → Row T M → ℕ → ℕ → Row T M
+part_of has_static row start end =
     let items = sub row.items start end in
     record {
       items = items;
-      place = part_place setting.has_static items start row.place;
+      place = part_place has_static items start row.place;
       role = row.role;
     }
 
@@ -215,14 +217,14 @@ cut_row row start end = record {
 }
 
 -- the part that is made by a split: the back, or at the front end a front with no items
-abbrev pub off_part : {T M : Type 0} → Setting T → Row T M → ℕ → Row T M
-off_part setting row at =
-    if at == 0 then part_of setting row 0 0 else part_of setting row at (length row.items)
+abbrev pub off_part : {T M : Type 0} → (has_static : Bool) → Row T M → ℕ → Row T M
+off_part has_static row at =
+    if at == 0 then part_of has_static row 0 0 else part_of has_static row at (length row.items)
 
 -- the front, or at the back end a back with no items
-abbrev pub to_part : {T M : Type 0} → Setting T → Row T M → ℕ → Row T M
-to_part setting row at =
-    if at == length row.items then part_of setting row at at else part_of setting row 0 at
+abbrev pub to_part : {T M : Type 0} → (has_static : Bool) → Row T M → ℕ → Row T M
+to_part has_static row at =
+    if at == length row.items then part_of has_static row at at else part_of has_static row 0 at
 
 -- The rows after a split. The part that was made is handed out under the next number, and the other
 -- stays; or the row itself is handed out, and what was made stays under its number.
@@ -308,22 +310,25 @@ answer setting short t (Static items) =
     if setting.has_static then asking short t (with_static t items) else (reply.Kind, t)
 answer setting short t New = asking short t (with_writer setting t [] 0)
 answer setting short t (Cap places) = asking short t (with_writer setting t [] places)
+answer setting short t (Zero count) = option_map_or (λ item.
+    asking short t (with_writer setting t (replicate count item) count)) setting.zero
+    (reply.Kind, t)
 answer setting short t (MSlice items) =
     asking short t (with_writer setting t items (length items))
 answer setting short t (Clone i) = on_row t i (Clone i) (λ row.
     asking short t (with_owner setting short t row.place (t.rows ++ Some row ∷ [])))
 answer setting short t (Sub i start end) = on_row t i (Sub i start end) (λ row.
     in_range (range_answer setting.boundary row.items start end) t (asking short t
-    (let part = part_of setting row start end in
+    (let part = part_of setting.has_static row start end in
     with_owner setting short t part.place (t.rows ++ Some part ∷ []))))
 answer setting short t (Off i at) = on_row t i (Off i at) (λ row.
     in_range (edge_answer setting.boundary row.items at) t (asking short t
-    (let part = off_part setting row at in
+    (let part = off_part setting.has_static row at in
     with_owner setting short t part.place
     (split_rows t i (at == 0) row (cut_row row 0 at) part))))
 answer setting short t (To i at) = on_row t i (To i at) (λ row.
     in_range (edge_answer setting.boundary row.items at) t (asking short t
-    (let part = to_part setting row at in
+    (let part = to_part setting.has_static row at in
     with_owner setting short t part.place
     (split_rows t i (at == length row.items) row (cut_row row at (length row.items)) part))))
 answer setting short t (Uniq i) = on_row t i (Uniq i) (λ row.

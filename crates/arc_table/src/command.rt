@@ -16,6 +16,10 @@ pub enum Cmd<X, F, T> {
     Cap {
         places: usize,
     },
+    /// A window that is written, over so many zeros.
+    Zero {
+        count: usize,
+    },
     /// A window that is written, over a copy of these items.
     MSlice(X),
     /// Another window with the same items at the same place.

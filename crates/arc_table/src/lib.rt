@@ -2,6 +2,7 @@
 #![tactic(auto)]
 
 pub mod command;
+pub mod commands;
 pub mod laws;
 pub mod passes;
 mod slot;

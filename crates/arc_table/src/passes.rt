@@ -44,7 +44,12 @@ impl<A: Allocator> Passes<A> {
 
     /// Takes back what was lent for a block; or where a first block was made, keeps its pass under
     /// the next number. Answers the number of the block.
-    pub fn keep(&mut self, block: Option<usize>, begins: bool, pass: Pass<Whole>) -> Option<usize>
+    pub(crate) fn keep(
+        &mut self,
+        block: Option<usize>,
+        begins: bool,
+        pass: Pass<Whole>,
+    ) -> Option<usize>
         requires number { HasNumber self.old.of_blocks.items block }
         requires room { begins ≡ true
             → length self.old.of_blocks.items < vec_capacity self.old.of_blocks }
@@ -63,7 +68,7 @@ impl<A: Allocator> Passes<A> {
     }
 
     /// Makes room for the pass of a first block, where one is to be made.
-    pub fn reserve_for(&mut self, begins: bool) -> Result<(), AllocError>
+    pub(crate) fn reserve_for(&mut self, begins: bool) -> Result<(), AllocError>
         ensures items { self.new.of_blocks.items ≡ self.old.of_blocks.items }
         ensures room { OnOk result (begins ≡ true
             → length self.new.of_blocks.items < vec_capacity self.new.of_blocks) }

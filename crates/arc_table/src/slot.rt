@@ -155,7 +155,7 @@ where
     ghost use Rattle.arc_owners.specs.count.Calls.{Asks, Leaves};
     ghost use Rattle.arc_table.specs.Stands.{HasPassFor, is_numbered};
     ghost use Rattle.arc_table.specs.Calls.{Along, Beside, RefusesAt};
-    ghost use Rattle.arc_table.specs.Step.{setting_of, cut_row, off_part, to_part};
+    ghost use Rattle.arc_table.specs.Step.{cut_row, off_part, to_part};
     ghost use Rattle.arc_table.specs.Step.{truncated, made_row};
     ghost use Rattle.arc_table.specs.Additions.{Founds};
     ghost use Rattle.arc_table.specs.Splits.{IsSplit};
@@ -406,18 +406,15 @@ where
         requires at { IsEdge S.boundary self.old.window.items at }
         requires pass { HasPassFor passes.old.of_blocks.items (stand_of (Some self.old)) }
         ensures start { IfOk result (λ back. at ≡ 0 → IsSplit self.old back self.new
-            (row_of self.old) (off_part (setting_of L.STATIC L.clone_wants S.DROPS S.boundary
-            (type_size S.Item.row))
+            (row_of self.old) (off_part L.STATIC
             (row_of self.old) at)
             passes.old.of_blocks.items passes.new.of_blocks.items) }
         ensures later { IfOk result (λ back. 0 < at → IsSplit self.old self.new back
-            (cut_row (row_of self.old) 0 at) (off_part (setting_of L.STATIC L.clone_wants S.DROPS
-            S.boundary (type_size S.Item.row)) (row_of self.old) at)
+            (cut_row (row_of self.old) 0 at) (off_part L.STATIC (row_of self.old) at)
             passes.old.of_blocks.items passes.new.of_blocks.items) }
         ensures kept { IfErr result (λ _. self.new ≡ self.old) }
         ensures refused { IfErr result (RefusesAt L.clone_wants
-            (off_part (setting_of L.STATIC L.clone_wants S.DROPS S.boundary
-            (type_size S.Item.row)) (row_of self.old)
+            (off_part L.STATIC (row_of self.old)
             at).place
             (stand_of (Some self.old)) passes.old.of_blocks.items passes.new.of_blocks.items) }
     {
@@ -456,19 +453,16 @@ where
         requires pass { HasPassFor passes.old.of_blocks.items (stand_of (Some self.old)) }
         ensures end { IfOk result (λ front. at ≡ length self.old.window.items → IsSplit self.old
             front self.new
-            (row_of self.old) (to_part (setting_of L.STATIC L.clone_wants S.DROPS S.boundary
-            (type_size S.Item.row))
+            (row_of self.old) (to_part L.STATIC
             (row_of self.old) at)
             passes.old.of_blocks.items passes.new.of_blocks.items) }
         ensures earlier { IfOk result (λ front. at < length self.old.window.items → IsSplit
             self.old self.new front
-            (cut_row (row_of self.old) at (length self.old.window.items)) (to_part (setting_of
-            L.STATIC L.clone_wants S.DROPS S.boundary (type_size S.Item.row)) (row_of self.old) at)
+            (cut_row (row_of self.old) at (length self.old.window.items)) (to_part L.STATIC (row_of self.old) at)
             passes.old.of_blocks.items passes.new.of_blocks.items) }
         ensures kept { IfErr result (λ _. self.new ≡ self.old) }
         ensures refused { IfErr result (RefusesAt L.clone_wants
-            (to_part (setting_of L.STATIC L.clone_wants S.DROPS S.boundary
-            (type_size S.Item.row)) (row_of self.old)
+            (to_part L.STATIC (row_of self.old)
             at).place
             (stand_of (Some self.old)) passes.old.of_blocks.items passes.new.of_blocks.items) }
     {

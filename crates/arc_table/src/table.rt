@@ -1,24 +1,17 @@
 //! `Table`, windows by number.
-ghost use Rattle.std.specs.Prelude.{◌≡◌, ◌<◌, ◌≤◌, ◌++◌, ◌∷◌, [], ℕ, true, Some, None, length};
-ghost use Rattle.std.specs.Prelude.{MatchOption, slice_get, slice_set};
-ghost use Rattle.std.specs.Option.{option_flatten};
-ghost use Rattle.std.specs.Vec.{vec_capacity};
 ghost use Rattle.std.specs.Mem.{FitsInMemory, type_size};
-ghost use Rattle.arc_table.specs.Blocks.{is_sole};
-ghost use Rattle.arc_table.specs.Slots.{writer_slot};
-ghost use Rattle.arc_table.specs.Stands.{is_numbered};
 
 use crate::command::{Cmd, Reply, TableCmd, TableReply};
+use crate::commands::Commands;
 use crate::passes::Passes;
 use crate::slot::{Held, Slot, Writing};
 use arc_block::layout::{DefaultLayout, Layout, LayoutMut, stands_on_nothing};
 use arc_block::static_slice::StaticSlice;
-use arc_buffer::kinds::{CopySlice, Emptyable, Extendable, Slice, Subsliceable};
-use arc_owners::error::TryReserveError;
+use arc_buffer::kinds::Slice;
 use arc_owners::mark::Whole;
 use arc_owners::owners::Pass;
 use arc_read::slice::ArcSlice;
-use arc_write::slice_mut::ArcSliceMut;
+use slots::{end_slots, make_room, slot_at};
 use std::alloc::{Allocator, Global};
 use std::marker::Model;
 use std::mem;
@@ -64,89 +57,7 @@ where
         × RowsAgree (state_of t.slots.items t.passes.of_blocks.items).table };
 }
 
-/// The slot with this number, if its window was made and hasn't gone.
-fn slot_at<S: Slice, L: Layout, B, M, A: Allocator + Copy>(
-    slots: &[Option<Slot<S, L, B, M, A>>],
-    i: usize,
-) -> Option<&Slot<S, L, B, M, A>>
-where
-    L::Writable: LayoutMut,
-    ensures { MatchOption result (option_flatten (slice_get slots.now i) ≡ None) (λ slot.
-        slice_get slots.now i ≡ Some (Some slot.now)) }
-{
-    slots.get(i)?.as_ref()
-}
-
-/// Puts a slot under a number under which there is none.
-fn put_slot<S: Slice, L: Layout, B, M, A: Allocator + Copy>(
-    slots: &mut Vec<Option<Slot<S, L, B, M, A>>, A>,
-    i: usize,
-    slot: Slot<S, L, B, M, A>,
-)
-where
-    L::Writable: LayoutMut,
-    requires { slice_get slots.old.items i ≡ Some None }
-    ensures { slots.new.items ≡ slice_set slots.old.items i (Some slot) }
-{
-    let left = mem::replace(&mut slots[i], Some(slot));
-    let None = left else { unreachable!() };
-}
-
-/// Puts a writer that was made behind the slots, and its pass, which is then a new block's, behind
-/// the passes. With no places it stands on nothing, and the pass isn't kept. Answers its number.
-fn push_writer<S: Slice, L: Layout, B, M, A: Allocator + Copy>(
-    slots: &mut Vec<Option<Slot<S, L, B, M, A>>, A>,
-    passes: &mut Vec<Pass<Whole>, A>,
-    window: ArcSliceMut<S, L::Writable, 1, B, M, A, Whole>,
-    places: usize,
-    pass: Pass<Whole>,
-) -> usize
-where
-    L::Writable: LayoutMut,
-    requires slot { length slots.old.items < vec_capacity slots.old }
-    requires pass { 1 ≤ places → length passes.old.items < vec_capacity passes.old }
-    requires writes { is_sole window.role ≡ true }
-    requires nowhere { places ≡ 0 → is_numbered None window.place ≡ true }
-    requires block { 1 ≤ places → (n : ℕ) → is_numbered (Some n) window.place ≡ true }
-    ensures number { result ≡ length slots.old.items }
-    ensures idle { places ≡ 0 → (slots.new.items ≡ slots.old.items ++ Some (writer_slot window None)
-        ∷ []) × (passes.new.items ≡ passes.old.items) }
-    ensures new { 1 ≤ places → (slots.new.items ≡ slots.old.items ++ Some (writer_slot window
-        (Some (length passes.old.items))) ∷ [])
-        × (passes.new.items ≡ passes.old.items ++ pass ∷ []) }
-{
-    let number = slots.len();
-    if places == 0 {
-        slots.push_reserved(Some(Slot::written(window, None)));
-        return number;
-    }
-    let block = Some(passes.len());
-    passes.push_reserved(pass);
-    slots.push_reserved(Some(Slot::written(window, block)));
-    number
-}
-
-/// Gives back the memory of slots whose windows have all gone.
-fn end_slots<S: Slice, L: Layout, B, M, A: Allocator + Copy>(
-    mut slots: Vec<Option<Slot<S, L, B, M, A>>, A>,
-)
-where
-    L::Writable: LayoutMut,
-    requires { (i : ℕ) → option_flatten (slice_get slots.items i) ≡ None }
-{
-    while let Some(slot) = slots.pop() {
-        let None = slot else { unreachable!() };
-    }
-    slots.destroy_empty();
-}
-
-impl<
-    S: CopySlice + Emptyable + Extendable + Subsliceable,
-    L: Layout,
-    B,
-    M,
-    A: Allocator + Copy,
-> Table<S, L, B, M, A>
+impl<S: Commands, L: Layout, B, M, A: Allocator + Copy> Table<S, L, B, M, A>
 where
     S::Item: Copy,
     L::Writable: LayoutMut,
@@ -175,14 +86,29 @@ where
         }
     }
 
-    /// Carries out one command. A refusal changes nothing; what the command brought is let go.
-    /// It adds to the histories what `Adds` says. Takes memory for a window more, what it is made
-    /// of and what is shown (refused: `Alloc`), for the block of a window that is there (`Reserve`,
-    /// and `Refused` of a `Freeze`), and for an owner more where the layout wants it (`Owner`).
+    /// Carries out one command, and answers its reply (`CarriesOut`).
+    ///
+    /// # Errors
+    ///
+    /// A refusal is a reply. It changes nothing, and what the command brought is let go. In this
+    /// order: `NoWindow` where the number is no window's; `Kind` where the command isn't for the
+    /// window's role, or the kind or the layout lacks what it asks for; `Range` where the range
+    /// isn't one of the window; `Alloc`, `Reserve`, `Owner` and `Refused` as the call below is
+    /// refused, or memory for it.
+    ///
+    /// # Allocates
+    ///
+    /// For a window more, what it is made of and what is shown (refused: `Alloc`), for the block of
+    /// a window that is there (`Reserve`, and `Refused` of a `Freeze`), and for an owner more where
+    /// the layout wants it (`Owner`).
+    ///
+    /// # History
+    ///
+    /// What `Adds` says of the command and its reply.
     pub fn step(&mut self, rt: &impl Wait, command: TableCmd<S::Item, A>) -> TableReply<S::Item, A>
         requires item { FitsInMemory S.Item.row }
         ensures { CarriesOut (setting_of L.STATIC L.clone_wants S.DROPS S.boundary
-            (type_size S.Item.row)) self.old
+            (type_size S.Item.row) S.Zero.zero) self.old
             (seen_command command) (seen_reply result) self.new }
     {
         let reply = self.answer(rt, command);
@@ -194,7 +120,7 @@ where
     fn answer(&mut self, rt: &impl Wait, command: TableCmd<S::Item, A>) -> TableReply<S::Item, A>
         requires item { FitsInMemory S.Item.row }
         ensures rows { Step (setting_of L.STATIC L.clone_wants S.DROPS S.boundary
-            (type_size S.Item.row)) self.old.table
+            (type_size S.Item.row) S.Zero.zero) self.old.table
             (seen_command command) (seen_reply result) self.new.table }
         ensures passes { Adds self.old.table self.old.standing (seen_command command)
             (seen_reply result) self.new.standing }
@@ -204,6 +130,7 @@ where
             Cmd::Static(items) => self.static_window(items),
             Cmd::New => self.empty_window(),
             Cmd::Cap { places } => self.with_capacity(places),
+            Cmd::Zero { count } => self.zeroed(count),
             Cmd::MSlice(items) => self.slice_mut(items),
             Cmd::Clone { window } => self.clone_window(rt, window),
             Cmd::Sub { window, start, end } => self.sub(rt, window, start, end),
@@ -242,7 +169,7 @@ where
         ensures ended { IsKept MAX_OWNERS [] result.of_blocks.items }
         ensures blocks { length result.of_blocks.items ≡ self.table.blocks }
         ensures passes { EndsWith (setting_of L.STATIC L.clone_wants S.DROPS S.boundary
-            (type_size S.Item.row)) self
+            (type_size S.Item.row) S.Zero.zero) self
             result.of_blocks.items }
     {
         self.release_all();
@@ -258,7 +185,7 @@ where
     /// Releases every window that is left, in the order of their numbers.
     fn release_all(&mut self)
         ensures passes { EndsAll (setting_of L.STATIC L.clone_wants S.DROPS S.boundary
-            (type_size S.Item.row)) self.old
+            (type_size S.Item.row) S.Zero.zero) self.old
             self.new }
         ensures blocks { self.new.table.blocks ≡ self.old.table.blocks }
     {
@@ -271,12 +198,12 @@ where
     /// A window over a copy of the items.
     fn slice(&mut self, items: Vec<S::Item, A>) -> TableReply<S::Item, A>
         ensures rows { Step (setting_of L.STATIC L.clone_wants S.DROPS S.boundary
-            (type_size S.Item.row)) self.old.table
+            (type_size S.Item.row) S.Zero.zero) self.old.table
             (command.Slice items.items) (seen_reply result) self.new.table }
         ensures passes { Adds self.old.table self.old.standing (command.Slice items.items)
             (seen_reply result) self.new.standing }
     {
-        if self.slots.reserve(1).is_err() || self.passes.of_blocks.reserve(1).is_err() {
+        if make_room(&mut self.slots, &mut self.passes.of_blocks).is_err() {
             return Reply::Alloc;
         }
         let mut pass = Pass::none();
@@ -298,84 +225,11 @@ where
         Reply::New(number)
     }
 
-    /// A window that is written, with no items and no places, on nothing. Takes memory for the new
-    /// slot; refused, the answer is `Alloc`.
-    fn empty_window(&mut self) -> TableReply<S::Item, A>
-        ensures rows { Step (setting_of L.STATIC L.clone_wants S.DROPS S.boundary
-            (type_size S.Item.row)) self.old.table
-            command.New (seen_reply result) self.new.table }
-        ensures passes { Adds self.old.table self.old.standing command.New (seen_reply result)
-            self.new.standing }
-    {
-        if self.slots.reserve(1).is_err() {
-            return Reply::Alloc;
-        }
-        let window = ArcSliceMut::new(self.alloc);
-        Reply::New(push_writer(
-            &mut self.slots,
-            &mut self.passes.of_blocks,
-            window,
-            0,
-            Pass::none(),
-        ))
-    }
-
-    /// A window that is written, with no items and so many places: on a new block, or for none on
-    /// nothing. Takes memory for the new slot, the block and its pass; refused, the answer is
-    /// `Alloc`.
-    fn with_capacity(&mut self, places: usize) -> TableReply<S::Item, A>
-        ensures rows { Step (setting_of L.STATIC L.clone_wants S.DROPS S.boundary
-            (type_size S.Item.row)) self.old.table
-            (command.Cap places) (seen_reply result) self.new.table }
-        ensures passes { Adds self.old.table self.old.standing (command.Cap places)
-            (seen_reply result) self.new.standing }
-    {
-        if self.slots.reserve(1).is_err() || self.passes.of_blocks.reserve(1).is_err() {
-            return Reply::Alloc;
-        }
-        let mut pass = Pass::none();
-        let Ok(window) = ArcSliceMut::try_with_capacity_as(self.alloc, places, &mut pass) else {
-            return Reply::Alloc;
-        };
-        Reply::New(push_writer(
-            &mut self.slots,
-            &mut self.passes.of_blocks,
-            window,
-            places,
-            pass,
-        ))
-    }
-
-    /// A window that is written, over a copy of the items: on a new block, or for none on nothing.
-    /// Takes memory for the new slot, the block and its pass; refused, the answer is `Alloc`.
-    fn slice_mut(&mut self, items: Vec<S::Item, A>) -> TableReply<S::Item, A>
-        ensures rows { Step (setting_of L.STATIC L.clone_wants S.DROPS S.boundary
-            (type_size S.Item.row)) self.old.table
-            (command.MSlice items.items) (seen_reply result) self.new.table }
-        ensures passes { Adds self.old.table self.old.standing (command.MSlice items.items)
-            (seen_reply result) self.new.standing }
-    {
-        if self.slots.reserve(1).is_err() || self.passes.of_blocks.reserve(1).is_err() {
-            return Reply::Alloc;
-        }
-        let mut pass = Pass::none();
-        let Ok(window) = ArcSliceMut::try_from_slice_as(self.alloc, &items, &mut pass) else {
-            return Reply::Alloc;
-        };
-        Reply::New(push_writer(
-            &mut self.slots,
-            &mut self.passes.of_blocks,
-            window,
-            items.len(),
-            pass,
-        ))
-    }
-
     /// A window over a slice that is there for good. `Kind` where the layout has no static data.
     /// Takes memory for the new slot; refused, the answer is `Alloc`.
     fn static_window(&mut self, items: StaticSlice<S::Item>) -> TableReply<S::Item, A>
         ensures rows { Step (setting_of L.STATIC L.clone_wants S.DROPS S.boundary
-            (type_size S.Item.row)) self.old.table
+            (type_size S.Item.row) S.Zero.zero) self.old.table
             (command.Static items) (seen_reply result) self.new.table }
         ensures passes { Adds self.old.table self.old.standing (command.Static items)
             (seen_reply result) self.new.standing }
@@ -393,11 +247,11 @@ where
     }
 
     /// Another window with the same items at the same place. `NoWindow` where the window isn't
-    /// there, `Owner` where its block has as many owners as it can have. Takes memory for the new
-    /// slot; refused, the answer is `Alloc`.
+    /// there, `Kind` where it is written, `Owner` where its block has as many owners as it can have.
+    /// Takes memory for the new slot; refused, the answer is `Alloc`.
     fn clone_window(&mut self, rt: &impl Wait, i: usize) -> TableReply<S::Item, A>
         ensures rows { Step (setting_of L.STATIC L.clone_wants S.DROPS S.boundary
-            (type_size S.Item.row)) self.old.table
+            (type_size S.Item.row) S.Zero.zero) self.old.table
             (command.Clone i) (seen_reply result) self.new.table }
         ensures passes { Adds self.old.table self.old.standing (command.Clone i) (seen_reply result)
             self.new.standing }
@@ -427,7 +281,7 @@ where
     /// A window over the part from `start` to `end` of another.
     fn sub(&mut self, rt: &impl Wait, i: usize, start: usize, end: usize) -> TableReply<S::Item, A>
         ensures rows { Step (setting_of L.STATIC L.clone_wants S.DROPS S.boundary
-            (type_size S.Item.row)) self.old.table
+            (type_size S.Item.row) S.Zero.zero) self.old.table
             (command.Sub i start end) (seen_reply result) self.new.table }
         ensures passes { Adds self.old.table self.old.standing (command.Sub i start end)
             (seen_reply result) self.new.standing }
@@ -460,7 +314,7 @@ where
     /// Whether a window is the only owner of its block. `No` where it stands on no block.
     fn uniq(&mut self, i: usize) -> TableReply<S::Item, A>
         ensures rows { Step (setting_of L.STATIC L.clone_wants S.DROPS S.boundary
-            (type_size S.Item.row)) self.old.table
+            (type_size S.Item.row) S.Zero.zero) self.old.table
             (command.Uniq i) (seen_reply result) self.new.table }
         ensures passes { Adds self.old.table self.old.standing (command.Uniq i) (seen_reply result)
             self.new.standing }
@@ -481,7 +335,7 @@ where
     /// The items of a window.
     fn show(&self, i: usize) -> TableReply<S::Item, A>
         ensures rows { Step (setting_of L.STATIC L.clone_wants S.DROPS S.boundary
-            (type_size S.Item.row)) self.now.table
+            (type_size S.Item.row) S.Zero.zero) self.now.table
             (command.Show i) (seen_reply result) self.now.table }
         ensures passes { Adds self.now.table self.now.standing (command.Show i) (seen_reply result)
             self.now.standing }
@@ -499,7 +353,7 @@ where
     /// no memory.
     pub fn show_in_place(&self, i: usize) -> Reply<&[S::Item], StaticSlice<S::Item>>
         ensures carried { CarriesOut (setting_of L.STATIC L.clone_wants S.DROPS S.boundary
-            (type_size S.Item.row)) self.now
+            (type_size S.Item.row) S.Zero.zero) self.now
             (command.Show i) (map_reply (λ items. items.now) result) self.now }
         ensures lent { shortage {T = S.Item} (map_reply (λ items. items.now) result)
             (command.Show i) ≡ no_shortage }
@@ -514,7 +368,7 @@ where
     /// Splits a window, and hands out the back under the next number.
     fn split_off(&mut self, rt: &impl Wait, i: usize, at: usize) -> TableReply<S::Item, A>
         ensures rows { Step (setting_of L.STATIC L.clone_wants S.DROPS S.boundary
-            (type_size S.Item.row)) self.old.table
+            (type_size S.Item.row) S.Zero.zero) self.old.table
             (command.Off i at) (seen_reply result) self.new.table }
         ensures passes { Adds self.old.table self.old.standing (command.Off i at)
             (seen_reply result) self.new.standing }
@@ -547,7 +401,7 @@ where
     /// Splits a window, and hands out the front under the next number.
     fn split_to(&mut self, rt: &impl Wait, i: usize, at: usize) -> TableReply<S::Item, A>
         ensures rows { Step (setting_of L.STATIC L.clone_wants S.DROPS S.boundary
-            (type_size S.Item.row)) self.old.table
+            (type_size S.Item.row) S.Zero.zero) self.old.table
             (command.To i at) (seen_reply result) self.new.table }
         ensures passes { Adds self.old.table self.old.standing (command.To i at) (seen_reply result)
             self.new.standing }
@@ -580,7 +434,7 @@ where
     /// How many items a window has.
     fn len(&self, i: usize) -> TableReply<S::Item, A>
         ensures rows { Step (setting_of L.STATIC L.clone_wants S.DROPS S.boundary
-            (type_size S.Item.row)) self.now.table
+            (type_size S.Item.row) S.Zero.zero) self.now.table
             (command.Len i) (seen_reply result) self.now.table }
         ensures passes { Adds self.now.table self.now.standing (command.Len i) (seen_reply result)
             self.now.standing }
@@ -591,145 +445,10 @@ where
         }
     }
 
-    /// How many places a window has that is written. `Kind` where it is read.
-    fn room(&self, i: usize) -> TableReply<S::Item, A>
-        ensures rows { Step (setting_of L.STATIC L.clone_wants S.DROPS S.boundary
-            (type_size S.Item.row)) self.now.table
-            (command.Room i) (seen_reply result) self.now.table }
-        ensures passes { Adds self.now.table self.now.standing (command.Room i) (seen_reply result)
-            self.now.standing }
-    {
-        let Some(slot) = slot_at(&self.slots, i) else {
-            return Reply::NoWindow;
-        };
-        match slot.capacity() {
-            Some(places) => Reply::Number(places),
-            None => Reply::Kind,
-        }
-    }
-
-    /// Makes a window that is read one that is written. `Refused` where another owner of its block
-    /// lives, or where it has items and stands on none. Takes no memory.
-    fn make_mut(&mut self, i: usize) -> TableReply<S::Item, A>
-        ensures rows { Step (setting_of L.STATIC L.clone_wants S.DROPS S.boundary
-            (type_size S.Item.row)) self.old.table
-            (command.Mut i) (seen_reply result) self.new.table }
-        ensures passes { Adds self.old.table self.old.standing (command.Mut i) (seen_reply result)
-            self.new.standing }
-    {
-        let Some(slot) = slot_at(&self.slots, i) else {
-            return Reply::NoWindow;
-        };
-        if slot.is_written() {
-            return Reply::Kind;
-        }
-        let Some(slot) = mem::replace(&mut self.slots[i], None) else {
-            unreachable!()
-        };
-        match slot.try_into_mut(&mut self.passes) {
-            Ok(slot) => {
-                put_slot(&mut self.slots, i, slot);
-                Reply::Ok
-            }
-            Err(slot) => {
-                put_slot(&mut self.slots, i, slot);
-                Reply::Refused
-            }
-        }
-    }
-
-    /// Writes into a window. `Kind` where it is read, `Reserve` where there is no room, or memory
-    /// is refused: it takes some for a first block and its pass, or for a larger block.
-    fn write(&mut self, i: usize, what: Writing<Vec<S::Item, A>, S::Item>) -> TableReply<S::Item, A>
-        requires item { FitsInMemory S.Item.row }
-        ensures rows { Step (setting_of L.STATIC L.clone_wants S.DROPS S.boundary
-            (type_size S.Item.row)) self.old.table (write_command i (seen_writing what))
-            (seen_reply result) self.new.table }
-        ensures passes { Adds self.old.table self.old.standing
-            (write_command i (seen_writing what)) (seen_reply result) self.new.standing }
-    {
-        let Some(slot) = slot_at(&self.slots, i) else {
-            return Reply::NoWindow;
-        };
-        if !slot.is_written() {
-            return Reply::Kind;
-        }
-        let begins = slot.wants_block(what.additional());
-        if self.passes.reserve_for(begins).is_err() {
-            return Reply::Reserve(TryReserveError::AllocError);
-        }
-        let Some(slot) = &mut self.slots[i] else {
-            unreachable!()
-        };
-        if let Err(e) = slot.write(what, &mut self.passes) {
-            return Reply::Reserve(e);
-        }
-        Reply::Ok
-    }
-
-    /// Makes room in a window, if that takes no memory: whether it did. `Kind` where it is read.
-    fn reclaim(&mut self, i: usize, additional: usize) -> TableReply<S::Item, A>
-        requires item { FitsInMemory S.Item.row }
-        ensures rows { Step (setting_of L.STATIC L.clone_wants S.DROPS S.boundary
-            (type_size S.Item.row)) self.old.table (command.Rec i additional) (seen_reply result)
-            self.new.table }
-        ensures passes { Adds self.old.table self.old.standing (command.Rec i additional)
-            (seen_reply result) self.new.standing }
-    {
-        let Some(slot) = slot_at(&self.slots, i) else {
-            return Reply::NoWindow;
-        };
-        if !slot.is_written() {
-            return Reply::Kind;
-        }
-        let Some(slot) = &mut self.slots[i] else {
-            unreachable!()
-        };
-        if slot.try_reclaim(additional) {
-            return Reply::Yes;
-        }
-        Reply::No
-    }
-
-    /// Makes a window that is written one that is read. `Kind` where it is read, `Refused` where
-    /// memory for a block is refused: it takes some for a window on nothing under a layout without
-    /// static data.
-    fn freeze(&mut self, i: usize) -> TableReply<S::Item, A>
-        ensures rows { Step (setting_of L.STATIC L.clone_wants S.DROPS S.boundary
-            (type_size S.Item.row)) self.old.table (command.Freeze i) (seen_reply result)
-            self.new.table }
-        ensures passes { Adds self.old.table self.old.standing (command.Freeze i)
-            (seen_reply result) self.new.standing }
-    {
-        let Some(slot) = slot_at(&self.slots, i) else {
-            return Reply::NoWindow;
-        };
-        if !slot.is_written() {
-            return Reply::Kind;
-        }
-        let begins = slot.wants_block_to_read();
-        if self.passes.reserve_for(begins).is_err() {
-            return Reply::Refused;
-        }
-        let Some(slot) = mem::replace(&mut self.slots[i], None) else {
-            unreachable!()
-        };
-        match slot.try_freeze(&mut self.passes) {
-            Ok(slot) => {
-                put_slot(&mut self.slots, i, slot);
-                Reply::Ok
-            }
-            Err(slot) => {
-                put_slot(&mut self.slots, i, slot);
-                Reply::Refused
-            }
-        }
-    }
-
     /// Takes the first `by` items off a window.
     fn advance(&mut self, i: usize, by: usize) -> TableReply<S::Item, A>
         ensures rows { Step (setting_of L.STATIC L.clone_wants S.DROPS S.boundary
-            (type_size S.Item.row)) self.old.table
+            (type_size S.Item.row) S.Zero.zero) self.old.table
             (command.Adv i by) (seen_reply result) self.new.table }
         ensures passes { Adds self.old.table self.old.standing (command.Adv i by)
             (seen_reply result) self.new.standing }
@@ -750,7 +469,7 @@ where
     /// Leaves the first `len` items of a window, or all where it has no more.
     fn truncate(&mut self, i: usize, len: usize) -> TableReply<S::Item, A>
         ensures rows { Step (setting_of L.STATIC L.clone_wants S.DROPS S.boundary
-            (type_size S.Item.row)) self.old.table
+            (type_size S.Item.row) S.Zero.zero) self.old.table
             (command.Trunc i len) (seen_reply result) self.new.table }
         ensures passes { Adds self.old.table self.old.standing (command.Trunc i len)
             (seen_reply result) self.new.standing }
@@ -774,7 +493,7 @@ where
     /// The end of a window.
     fn release(&mut self, i: usize) -> TableReply<S::Item, A>
         ensures rows { Step (setting_of L.STATIC L.clone_wants S.DROPS S.boundary
-            (type_size S.Item.row)) self.old.table
+            (type_size S.Item.row) S.Zero.zero) self.old.table
             (command.Drop i) (seen_reply result) self.new.table }
         ensures passes { Adds self.old.table self.old.standing (command.Drop i) (seen_reply result)
             self.new.standing }
@@ -791,11 +510,11 @@ where
         Reply::Ok
     }
 
-    /// The slice on which a window stands that is on no block, and the window's end. `Refused`
-    /// where it stands on a block. Takes no memory.
+    /// The slice on which a window stands that is on no block, and the window's end. `Kind` where
+    /// it is written, `Refused` where it stands on a block. Takes no memory.
     fn take_static(&mut self, i: usize) -> TableReply<S::Item, A>
         ensures rows { Step (setting_of L.STATIC L.clone_wants S.DROPS S.boundary
-            (type_size S.Item.row)) self.old.table
+            (type_size S.Item.row) S.Zero.zero) self.old.table
             (command.TakeStatic i) (seen_reply result) self.new.table }
         ensures passes { Adds self.old.table self.old.standing (command.TakeStatic i)
             (seen_reply result) self.new.standing }
@@ -817,3 +536,5 @@ where
 }
 
 mod run;
+mod slots;
+mod writers;

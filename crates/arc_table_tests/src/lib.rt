@@ -4,3 +4,7 @@
 
 #[cfg(test)]
 mod commands;
+#[cfg(test)]
+mod needs;
+#[cfg(test)]
+mod zeros;

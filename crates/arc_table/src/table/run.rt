@@ -5,19 +5,13 @@ ghost use Rattle.std.specs.Vec.{vec_len};
 
 use super::Table;
 use crate::command::{TableCmd, TableReply};
+use crate::commands::Commands;
 use arc_block::layout::{Layout, LayoutMut};
-use arc_buffer::kinds::{CopySlice, Emptyable, Extendable, Subsliceable};
 use arc_owners::error::AllocError;
 use std::alloc::Allocator;
 use std::sync::Wait;
 
-impl<
-    S: CopySlice + Emptyable + Extendable + Subsliceable,
-    L: Layout,
-    B,
-    M,
-    A: Allocator + Copy,
-> Table<S, L, B, M, A>
+impl<S: Commands, L: Layout, B, M, A: Allocator + Copy> Table<S, L, B, M, A>
 where
     S::Item: Copy,
     L::Writable: LayoutMut,
@@ -51,7 +45,7 @@ where
         requires item { FitsInMemory S.Item.row }
         ensures run { IfOk result (λ replies.
             RunOf (CarriesOut (setting_of L.STATIC L.clone_wants S.DROPS S.boundary
-            (type_size S.Item.row))) self.old
+            (type_size S.Item.row) S.Zero.zero)) self.old
             (map seen_command commands.items) (map seen_reply replies.items) self.new) }
         ensures many { IfOk result (λ replies. vec_len replies ≡ vec_len commands) }
         ensures succeeds { vec_len commands ≡ 0 → IsOk result }

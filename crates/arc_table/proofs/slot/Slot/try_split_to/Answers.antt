@@ -1,11 +1,10 @@
 -- Of the two parts one has the owner, and what the other adds to the pass that was lent for it, it
 -- adds to the passes.
-use Rattle.std.specs.Mem.{type_size}
 use Rattle.std.proofs.Common.{◌≡◌, ◌<◌, length, Some, sym, subst, ◌∙◌}
 use Rattle.arc_table.specs.Slots.{SlotView, row_of, stand_of}
 use Rattle.arc_table.specs.Splits.{IsSplit}
 use Rattle.arc_table.specs.Stands.{HasPassFor}
-use Rattle.arc_table.specs.Step.{Setting, setting_of, to_part, cut_row}
+use Rattle.arc_table.specs.Step.{to_part, cut_row}
 use Rattle.arc_table.proofs.Slots.{still-number, reads-view, reads-fits}
 use Rattle.arc_table.proofs.Splits.{slot, to-end, to-earlier}
 use Rattle.arc_table.proofs.slot.Slot.try_split_to.Goals as goal
@@ -32,8 +31,6 @@ returns-then-len-at-clause-end g c =
     sym (reads-view c.self.inside.window w b c.in-Read.is) ∙ c.self.view_is in
     let fits =
     reads-fits c.self.inside.window w b c.in-Read.is c.self.invariant.0 in
-    let setting : Setting g.row.S-Item.Denot =
-    setting_of g.L.Layout.STATIC g.L.Layout.clone_wants g.S.Slice.DROPS g.S.Subsliceable.boundary (type_size g.row.S-Item) in
     let passes = c.args.passes.now.of_blocks.items in
     let after = c.give_back.new.self.of_blocks.items in
     let has =
@@ -42,9 +39,9 @@ returns-then-len-at-clause-end g c =
     let other = slot c.try_split_to_as-made.new.self c.part_block-self-inside.result in
     subst (λ (s : SlotView g.row.S-Item.Denot g.row.M.Denot).
     c.args.at ≡ length s.window.items → IsSplit s one other
-    (row_of s) (to_part setting (row_of s) c.args.at) passes after)
+    (row_of s) (to_part g.L.Layout.STATIC (row_of s) c.args.at) passes after)
     view
-    (to-end setting passes c.lend-pass.new.self.of_blocks.items c.lend-pass.result
+    (to-end g.L.Layout.STATIC passes c.lend-pass.new.self.of_blocks.items c.lend-pass.result
     c.try_split_to_as-made.new.pass after w b c.give_back.ensures fits has
     c.lend-pass.ensures.taken c.args.at c.in-Ok.window c.try_split_to_as-made.new.self c.part_block-self-inside.result c.len.result
     c.in-Ok.ensures.ok c.len.ensures c.part_block-self-inside.ensures)
@@ -57,8 +54,6 @@ returns-clause-earlier g c =
     sym (reads-view c.self.inside.window w b c.in-Read.is) ∙ c.self.view_is in
     let fits =
     reads-fits c.self.inside.window w b c.in-Read.is c.self.invariant.0 in
-    let setting : Setting g.row.S-Item.Denot =
-    setting_of g.L.Layout.STATIC g.L.Layout.clone_wants g.S.Slice.DROPS g.S.Subsliceable.boundary (type_size g.row.S-Item) in
     let passes = c.args.passes.now.of_blocks.items in
     let after = c.give_back.new.self.of_blocks.items in
     let has =
@@ -67,9 +62,9 @@ returns-clause-earlier g c =
     let other = slot c.in-Ok.window c.part_block-block.result in
     subst (λ (s : SlotView g.row.S-Item.Denot g.row.M.Denot).
     c.args.at < length s.window.items → IsSplit s one other
-    (cut_row (row_of s) c.args.at (length s.window.items)) (to_part setting (row_of s) c.args.at) passes after)
+    (cut_row (row_of s) c.args.at (length s.window.items)) (to_part g.L.Layout.STATIC (row_of s) c.args.at) passes after)
     view
-    (to-earlier setting passes c.lend-pass.new.self.of_blocks.items c.lend-pass.result
+    (to-earlier g.L.Layout.STATIC passes c.lend-pass.new.self.of_blocks.items c.lend-pass.result
     c.try_split_to_as-made.new.pass after w b c.give_back.ensures fits has
     c.lend-pass.ensures.taken c.args.at c.in-Ok.window c.try_split_to_as-made.new.self c.part_block-block.result c.len-2.result
     c.in-Ok.ensures.ok c.len-2.ensures c.part_block-block.ensures)

@@ -11,7 +11,7 @@ use Rattle.arc_table.proofs.table.Table.answer.Goals as goal
 abbrev setting : (g : Over) → Setting g.row.S-Item.Denot
 setting g =
     setting_of g.L.Layout.STATIC g.L.Layout.clone_wants g.S.Slice.DROPS g.S.Subsliceable.boundary
-    (type_size g.row.S-Item)
+    (type_size g.row.S-Item) g.S.Zero.ZeroOf.zero
 
 -- what a table is asked
 abbrev Asked : Over → Type 0

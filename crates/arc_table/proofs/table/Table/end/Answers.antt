@@ -6,8 +6,8 @@ use Rattle.arc_table.specs.State.{State}
 use Rattle.arc_table.proofs.Ended.{slots-gone, kept-gone-all}
 use Rattle.arc_table.proofs.table.Table.end.Goals as goal
 
-pub end_slots-requires-after_bounds : goal.end_slots-requires-after_bounds
-end_slots-requires-after_bounds g c κs within =
+pub end_slots-requires : goal.end_slots-requires
+end_slots-requires g c =
     let none =
     subst (λ (o : State g.row.S-Item.Denot g.row.M.Denot). (i : ℕ) → row_at o.table i ≡ None)
     (sym c.self.view_is)

@@ -32,7 +32,7 @@ use Rattle.arc_table.proofs.table.Table.freeze.Goals as goal
 abbrev setting : (g : Over) → Setting g.row.S-Item.Denot
 setting g =
     setting_of g.L.Layout.STATIC g.L.Layout.clone_wants g.S.Slice.DROPS g.S.Subsliceable.boundary
-    (type_size g.row.S-Item)
+    (type_size g.row.S-Item) g.S.Zero.ZeroOf.zero
 
 pub returns-in_default-clause-rows : goal.returns-in_default-clause-rows
 returns-in_default-clause-rows g c =
@@ -74,16 +74,16 @@ unreachable-requires g c =
     none-some s (sym c.in_default-replace.is ∙ c.replace.ensures.value
     ∙ same_Some c.index_mut.result.now (Some s) (sym at ∙ got))
 
-pub put_slot-requires-after_bounds : goal.put_slot-requires-after_bounds
-put_slot-requires-after_bounds g c κs within =
+pub put_slot-requires : goal.put_slot-requires
+put_slot-requires g c =
     let slots = c.self.inside.slots.items in
     let i = c.args.i in
     let got = ap (λ ss. slice_get ss i) (sym c.deref.ensures.value) ∙ c.in-Some.ensures in
     get-set slots i (Some c.in-Some.slot.now) c.replace.new.dest got
     ∙ ap Some c.replace.ensures.after
 
-pub put_slot-requires-in-Err-after_bounds : goal.put_slot-requires-in-Err-after_bounds
-put_slot-requires-in-Err-after_bounds g c κs within =
+pub put_slot-requires-in-Err : goal.put_slot-requires-in-Err
+put_slot-requires-in-Err g c =
     let slots = c.self.inside.slots.items in
     let i = c.args.i in
     let got = ap (λ ss. slice_get ss i) (sym c.deref.ensures.value) ∙ c.in-Some.ensures in

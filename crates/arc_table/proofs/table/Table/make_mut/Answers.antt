@@ -22,7 +22,7 @@ use Rattle.arc_table.proofs.table.Table.make_mut.Goals as goal
 
 abbrev setting : (g : Over) → Setting g.row.S-Item.Denot
 setting g =
-    setting_of g.L.Layout.STATIC g.L.Layout.clone_wants g.S.Slice.DROPS g.S.Subsliceable.boundary (type_size g.row.S-Item)
+    setting_of g.L.Layout.STATIC g.L.Layout.clone_wants g.S.Slice.DROPS g.S.Subsliceable.boundary (type_size g.row.S-Item) g.S.Zero.ZeroOf.zero
 
 -- it is alone
 writes : (g : Over) (c : After-put_slot g)
@@ -152,16 +152,16 @@ try_into_mut-requires-clause-pass g c κs within =
     known-pass i c.self.invariant.0 (stand_of (Some s))
     (stand-there slots c.self.inside.passes.of_blocks.items i s there)
 
-pub put_slot-requires-after_bounds : goal.put_slot-requires-after_bounds
-put_slot-requires-after_bounds g c κs within =
+pub put_slot-requires : goal.put_slot-requires
+put_slot-requires g c =
     let slots = c.self.inside.slots.items in
     let i = c.args.i in
     let got = ap (λ ss. slice_get ss i) (sym c.deref.ensures.value) ∙ c.in-Some.ensures in
     get-set slots i (Some c.in-Some.slot.now) c.replace.new.dest got
     ∙ ap Some c.replace.ensures.after
 
-pub put_slot-requires-in-Err-after_bounds : goal.put_slot-requires-in-Err-after_bounds
-put_slot-requires-in-Err-after_bounds g c κs within =
+pub put_slot-requires-in-Err : goal.put_slot-requires-in-Err
+put_slot-requires-in-Err g c =
     let slots = c.self.inside.slots.items in
     let i = c.args.i in
     let got = ap (λ ss. slice_get ss i) (sym c.deref.ensures.value) ∙ c.in-Some.ensures in

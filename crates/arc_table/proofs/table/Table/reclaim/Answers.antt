@@ -21,7 +21,7 @@ use Rattle.arc_table.proofs.table.Table.reclaim.Goals as goal
 abbrev setting : (g : Over) → Setting g.row.S-Item.Denot
 setting g =
     setting_of g.L.Layout.STATIC g.L.Layout.clone_wants g.S.Slice.DROPS g.S.Subsliceable.boundary
-    (type_size g.row.S-Item)
+    (type_size g.row.S-Item) g.S.Zero.ZeroOf.zero
 
 pub returns-in_default-clause-rows : goal.returns-in_default-clause-rows
 returns-in_default-clause-rows g c =

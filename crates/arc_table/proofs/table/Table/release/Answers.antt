@@ -22,7 +22,7 @@ use Rattle.arc_table.proofs.table.Table.release.Goals as goal
 
 abbrev setting : (g : Over) → Setting g.row.S-Item.Denot
 setting g =
-    setting_of g.L.Layout.STATIC g.L.Layout.clone_wants g.S.Slice.DROPS g.S.Subsliceable.boundary (type_size g.row.S-Item)
+    setting_of g.L.Layout.STATIC g.L.Layout.clone_wants g.S.Slice.DROPS g.S.Subsliceable.boundary (type_size g.row.S-Item) g.S.Zero.ZeroOf.zero
 
 did : (g : Over) (c : After-release g)
     → Done (setting g) c.args.self.now (command.Drop c.args.i) reply.Ok

@@ -16,5 +16,5 @@ invariant-loop-i g l = record {
   passes :
       (replies : List (Reply (List g.row.S-Item.Denot) (List g.row.S-Item.Denot)))
       × RunOf (CarriesOut (setting_of g.L.Layout.STATIC g.L.Layout.clone_wants g.S.Slice.DROPS
-      g.S.Subsliceable.boundary (type_size g.row.S-Item))) l.fn.self (drops l.i) replies l.self;
+      g.S.Subsliceable.boundary (type_size g.row.S-Item) g.S.Zero.ZeroOf.zero)) l.fn.self (drops l.i) replies l.self;
 }

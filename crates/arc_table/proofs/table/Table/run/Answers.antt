@@ -14,7 +14,7 @@ use Rattle.arc_table.proofs.table.Table.run.Goals as goal
 pub loop-command-preserved : goal.loop-command-preserved
 loop-command-preserved g c =
     let setting : Setting g.row.S-Item.Denot =
-    setting_of g.L.Layout.STATIC g.L.Layout.clone_wants g.S.Slice.DROPS g.S.Subsliceable.boundary (type_size g.row.S-Item) in
+    setting_of g.L.Layout.STATIC g.L.Layout.clone_wants g.S.Slice.DROPS g.S.Subsliceable.boundary (type_size g.row.S-Item) g.S.Zero.ZeroOf.zero in
     let at = c.loop-command in
     let said = at.invariant in
     let command = c.in-Some.command in
@@ -37,7 +37,7 @@ loop-command-preserved g c =
 pub returns-clause-run : goal.returns-clause-run
 returns-clause-run g c =
     let setting : Setting g.row.S-Item.Denot =
-    setting_of g.L.Layout.STATIC g.L.Layout.clone_wants g.S.Slice.DROPS g.S.Subsliceable.boundary (type_size g.row.S-Item) in
+    setting_of g.L.Layout.STATIC g.L.Layout.clone_wants g.S.Slice.DROPS g.S.Subsliceable.boundary (type_size g.row.S-Item) g.S.Zero.ZeroOf.zero in
     let at = c.loop-command in
     let said = at.invariant in
     let none : into_iter_items at.command-iterator ≡ [] =

@@ -15,7 +15,7 @@ invariant-loop-command g l = record {
   left : into_iter_len l.command-iterator ≡ length (into_iter_items l.command-iterator);
   run :
       RunOf (CarriesOut (setting_of g.L.Layout.STATIC g.L.Layout.clone_wants g.S.Slice.DROPS
-      g.S.Subsliceable.boundary (type_size g.row.S-Item))) l.fn.self (map seen_command l.yielded)
+      g.S.Subsliceable.boundary (type_size g.row.S-Item) g.S.Zero.ZeroOf.zero)) l.fn.self (map seen_command l.yielded)
       (map seen_reply l.replies.items) l.self;
   many : vec_len l.replies + into_iter_len l.command-iterator ≡ vec_len l.fn.commands;
   room : vec_len l.fn.commands ≤ vec_capacity l.replies;

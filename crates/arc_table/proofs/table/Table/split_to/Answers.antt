@@ -29,7 +29,7 @@ use Rattle.arc_table.proofs.table.Table.split_to.Goals as goal
 
 abbrev setting : (g : Over) → Setting g.row.S-Item.Denot
 setting g =
-    setting_of g.L.Layout.STATIC g.L.Layout.clone_wants g.S.Slice.DROPS g.S.Subsliceable.boundary (type_size g.row.S-Item)
+    setting_of g.L.Layout.STATIC g.L.Layout.clone_wants g.S.Slice.DROPS g.S.Subsliceable.boundary (type_size g.row.S-Item) g.S.Zero.ZeroOf.zero
 
 made : (g : Over) (c : After-push_reserved g)
     → Done (setting g) c.args.self.now (command.To c.args.i c.args.at)
@@ -77,7 +77,7 @@ made g c =
     (row-there slots passes i s there))) joins in
     let answers = to-answers (setting g) slots passes i s there c.args.at may reads in
     let cut = cut_row (row_of s) c.args.at (length s.window.items) in
-    let part = to_part (setting g) (row_of s) c.args.at in
+    let part = to_part (setting g).has_static (row_of s) c.args.at in
     subst (λ (o : State g.row.S-Item.Denot g.row.M.Denot).
     Done (setting g) o (command.To i c.args.at) (reply.New number) slots' after) c.self.view_is
     (elim (cases_eq c.args.at (length s.window.items)) [
@@ -123,7 +123,7 @@ refused g c =
     ap (λ v. slice_set read i (Some v)) c.in-Err-try_split_to.ensures.kept
     ∙ set-back read i (Some s) there_read ∙ c.reserve.ensures.items in
     let cut = cut_row (row_of s) c.args.at (length s.window.items) in
-    let part = to_part (setting g) (row_of s) c.args.at in
+    let part = to_part (setting g).has_static (row_of s) c.args.at in
     subst (λ (o : State g.row.S-Item.Denot g.row.M.Denot).
     Done (setting g) o (command.To i c.args.at) (reply.Owner e) slots' after) c.self.view_is
     (unmade (setting g) slots passes i s there c.self.invariant (command.To i c.args.at) slots'

@@ -9,7 +9,7 @@ use Rattle.arc_table.proofs.table.Table.static_window.Goals as goal
 pub invariant_of-self-2 : goal.invariant_of-self-2
 invariant_of-self-2 g c =
     let setting : Setting g.row.S-Item.Denot =
-    setting_of g.L.Layout.STATIC g.L.Layout.clone_wants g.S.Slice.DROPS g.S.Subsliceable.boundary (type_size g.row.S-Item) in
+    setting_of g.L.Layout.STATIC g.L.Layout.clone_wants g.S.Slice.DROPS g.S.Subsliceable.boundary (type_size g.row.S-Item) g.S.Zero.ZeroOf.zero in
     let slots = c.self.inside.slots.items in
     let has : g.L.Layout.STATIC ≡ true = search in
     (statics setting slots c.self.inside.passes.of_blocks.items c.self.invariant c.args.items _

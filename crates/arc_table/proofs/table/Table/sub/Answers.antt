@@ -24,7 +24,7 @@ use Rattle.arc_table.proofs.table.Table.sub.Goals as goal
 
 abbrev setting : (g : Over) → Setting g.row.S-Item.Denot
 setting g =
-    setting_of g.L.Layout.STATIC g.L.Layout.clone_wants g.S.Slice.DROPS g.S.Subsliceable.boundary (type_size g.row.S-Item)
+    setting_of g.L.Layout.STATIC g.L.Layout.clone_wants g.S.Slice.DROPS g.S.Subsliceable.boundary (type_size g.row.S-Item) g.S.Zero.ZeroOf.zero
 
 made : (g : Over) (c : After-push_reserved g)
     → Done (setting g) c.args.self.now (command.Sub c.args.i c.args.start c.args.end)
@@ -52,7 +52,7 @@ made g c =
     let number = c.len-number.result in
     let counted : number ≡ length slots =
     c.len-number.ensures ∙ c.reserve.new.self.ok.0 ∙ ap length c.reserve.ensures.items in
-    let part = part_of (setting g) (row_of s) c.args.start c.args.end in
+    let part = part_of (setting g).has_static (row_of s) c.args.start c.args.end in
     subst (λ (o : State g.row.S-Item.Denot g.row.M.Denot).
     Done (setting g) o (command.Sub i c.args.start c.args.end) (reply.New number) slots' after)
     c.self.view_is
@@ -89,7 +89,7 @@ refused g c =
     let slots' = c.reserve.new.self.items in
     let after = c.try_subslice.new.passes.of_blocks.items in
     let e = c.in-Err-try_subslice.e in
-    let part = part_of (setting g) (row_of s) c.args.start c.args.end in
+    let part = part_of (setting g).has_static (row_of s) c.args.start c.args.end in
     subst (λ (o : State g.row.S-Item.Denot g.row.M.Denot).
     Done (setting g) o (command.Sub i c.args.start c.args.end) (reply.Owner e) slots' after)
     c.self.view_is

@@ -28,7 +28,7 @@ use Rattle.arc_table.proofs.table.Table.truncate.Goals as goal
 
 abbrev setting : (g : Over) → Setting g.row.S-Item.Denot
 setting g =
-    setting_of g.L.Layout.STATIC g.L.Layout.clone_wants g.S.Slice.DROPS g.S.Subsliceable.boundary (type_size g.row.S-Item)
+    setting_of g.L.Layout.STATIC g.L.Layout.clone_wants g.S.Slice.DROPS g.S.Subsliceable.boundary (type_size g.row.S-Item) g.S.Zero.ZeroOf.zero
 
 did : (g : Over) (c : After-truncate g)
     → Done (setting g) c.args.self.now (command.Trunc c.args.i c.args.len) reply.Ok

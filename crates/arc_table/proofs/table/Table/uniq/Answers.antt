@@ -19,7 +19,7 @@ use Rattle.arc_table.proofs.table.Table.uniq.Goals as goal
 
 abbrev setting : (g : Over) → Setting g.row.S-Item.Denot
 setting g =
-    setting_of g.L.Layout.STATIC g.L.Layout.clone_wants g.S.Slice.DROPS g.S.Subsliceable.boundary (type_size g.row.S-Item)
+    setting_of g.L.Layout.STATIC g.L.Layout.clone_wants g.S.Slice.DROPS g.S.Subsliceable.boundary (type_size g.row.S-Item) g.S.Zero.ZeroOf.zero
 
 did : (g : Over) (c : After-is_unique-alone g) (found : Bool) → c.is_unique-alone.result ≡ found
     → Done (setting g) c.args.self.now (command.Uniq c.args.i)

@@ -15,7 +15,7 @@ use Rattle.arc_table.proofs.table.Table.with_capacity.Goals as goal
 
 abbrev setting : (g : Over) → Setting g.row.S-Item.Denot
 setting g =
-    setting_of g.L.Layout.STATIC g.L.Layout.clone_wants g.S.Slice.DROPS g.S.Subsliceable.boundary (type_size g.row.S-Item)
+    setting_of g.L.Layout.STATIC g.L.Layout.clone_wants g.S.Slice.DROPS g.S.Subsliceable.boundary (type_size g.row.S-Item) g.S.Zero.ZeroOf.zero
 
 did : (g : Over) (c : After-push_writer g)
     → Done (setting g) c.args.self.now (command.Cap c.args.places) (reply.New c.push_writer.result)
@@ -27,10 +27,10 @@ did g c =
     let push = c.push_writer in
     let pushed : Pushed c.in-Ok.window places c.try_with_capacity_as.new.pass slots passes
     push.new.slots.items push.new.passes.items push.result = record {
-      read = c.reserve.new.self.items;
-      among = c.reserve-else-is_err.new.self.items;
-      same_slots = c.reserve.ensures.items;
-      same_passes = c.reserve-else-is_err.ensures.items;
+      read = c.make_room.new.slots.items;
+      among = c.make_room.new.passes.items;
+      same_slots = c.make_room.ensures.slots;
+      same_passes = c.make_room.ensures.passes;
       number = push.ensures.number;
       idle = push.ensures.idle;
       new = push.ensures.new;
@@ -45,14 +45,11 @@ did g c =
 
 pub push_writer-requires-clause-slot : goal.push_writer-requires-clause-slot
 push_writer-requires-clause-slot g c κs within =
-    let room = no_error c.reserve.result (sym c.if-is_err.ensures.value) c.reserve.ensures.ok in
-    omega (arith, room)
+    no_error c.make_room.result (sym c.if-is_err.ensures.value) c.make_room.ensures.slot
 
 pub push_writer-requires-clause-pass : goal.push_writer-requires-clause-pass
 push_writer-requires-clause-pass g c κs within some =
-    let again = c.reserve-else-is_err in
-    let room = no_error again.result (sym c.if-is_err-2.ensures.value) again.ensures.ok in
-    omega (arith, room)
+    no_error c.make_room.result (sym c.if-is_err.ensures.value) c.make_room.ensures.pass
 
 pub invariant_of-self-2 : goal.invariant_of-self-2
 invariant_of-self-2 g c = (did g (goal.at.invariant_of-self-2 g c).After-push_writer).kept

@@ -1,5 +1,5 @@
 use Rattle.arc_table.proofs.Ended.{AllGone}
-use Rattle.arc_table.proofs.table.end_slots.Given as goal
+use Rattle.arc_table.proofs.table.slots.end_slots.Given as goal
 
 -- no slot has a window
 abbrev pub invariant-loop-slot : goal.invariant-loop-slot

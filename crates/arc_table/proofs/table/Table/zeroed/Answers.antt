@@ -1,0 +1,85 @@
+-- The writer of zeros stands on nothing, or as the first owner on a new block, whose pass is the one
+-- that was given.
+use Rattle.std.specs.Mem.{type_size}
+use Rattle.std.specs.Prelude.{replicate}
+use Rattle.std.proofs.Common.{[], true, refl, sym, subst, ap, length, arith}
+use Rattle.arc_block.specs.Writers.{MakesWriter}
+use Rattle.arc_table.specs.State.{State}
+use Rattle.arc_table.specs.Step.{Setting, setting_of, no_shortage}
+use Rattle.arc_table.specs.declared.command.Cmd.TheVariants as command
+use Rattle.arc_table.specs.declared.command.Reply.TheVariants as reply
+use Rattle.arc_table.proofs.Lists.{no_error}
+use Rattle.arc_table.proofs.Done.{Done}
+use Rattle.arc_table.proofs.Written.{Pushed, made}
+use Rattle.arc_table.proofs.Zeros.{has, said, zeros-answer, zeros-refused}
+use Rattle.arc_table.proofs.table.Table.zeroed.Given.{Over}
+use Rattle.arc_table.proofs.table.Table.zeroed.Goals.{After-push_writer}
+use Rattle.arc_table.proofs.table.Table.zeroed.Goals as goal
+
+abbrev setting : (g : Over) → Setting g.row.S-Item.Denot
+setting g =
+    setting_of g.L.Layout.STATIC g.L.Layout.clone_wants g.S.Slice.DROPS g.S.Subsliceable.boundary (type_size g.row.S-Item) g.S.Zero.ZeroOf.zero
+
+did : (g : Over) (c : After-push_writer g)
+    → Done (setting g) c.args.self.now (command.Zero c.args.count) (reply.New c.push_writer.result)
+    c.push_writer.new.slots.items c.push_writer.new.passes.items
+did g c =
+    let slots = c.self.inside.slots.items in
+    let passes = c.self.inside.passes.of_blocks.items in
+    let count = c.args.count in
+    let push = c.push_writer in
+    let h = has g.S.Zero.ZeroOf.zero c.if-not-has_zero.ensures in
+    let made-of : g.row.S-Item.Denot → Type 0 = λ item.
+    MakesWriter g.S.Slice.DROPS true (replicate count item) count c.in-Ok.window c.none-pass.result
+    c.try_zeroed_as.new.pass in
+    let pushed : Pushed c.in-Ok.window count c.try_zeroed_as.new.pass slots passes
+    push.new.slots.items push.new.passes.items push.result = record {
+      read = c.make_room.new.slots.items;
+      among = c.make_room.new.passes.items;
+      same_slots = c.make_room.ensures.slots;
+      same_passes = c.make_room.ensures.passes;
+      number = push.ensures.number;
+      idle = push.ensures.idle;
+      new = push.ensures.new;
+    } in
+    subst (λ (o : State g.row.S-Item.Denot g.row.M.Denot).
+    Done (setting g) o (command.Zero count) (reply.New push.result) push.new.slots.items
+    push.new.passes.items) c.self.view_is
+    (made (setting g) slots passes c.self.invariant (command.Zero count)
+    (replicate count h.item) count (zeros-answer (setting g) _ count h no_shortage)
+    (λ n new adds. adds) c.in-Ok.window c.none-pass.result c.try_zeroed_as.new.pass
+    (said made-of g.S.Zero.ZeroOf.zero h c.in-Ok.ensures.made) push.new.slots.items
+    push.new.passes.items push.result pushed
+    (λ none. ap (λ n. replicate n h.item) none))
+
+pub returns-then-is_err-clause-rows : goal.returns-then-is_err-clause-rows
+returns-then-is_err-clause-rows g c =
+    let h = has g.S.Zero.ZeroOf.zero c.if-not-has_zero.ensures in
+    zeros-refused (setting g) c.args.self.now.table c.args.count h
+    (ap (λ (o : State g.row.S-Item.Denot g.row.M.Denot). o.table) (sym c.self.view_is))
+    c.make_room.ensures.slots c.make_room.ensures.passes
+
+pub returns-in_default-clause-rows : goal.returns-in_default-clause-rows
+returns-in_default-clause-rows g c =
+    let h = has g.S.Zero.ZeroOf.zero c.if-not-has_zero.ensures in
+    zeros-refused (setting g) c.args.self.now.table c.args.count h
+    (ap (λ (o : State g.row.S-Item.Denot g.row.M.Denot). o.table) (sym c.self.view_is))
+    c.make_room.ensures.slots c.make_room.ensures.passes
+
+pub push_writer-requires-clause-slot : goal.push_writer-requires-clause-slot
+push_writer-requires-clause-slot g c κs within =
+    no_error c.make_room.result (sym c.if-is_err.ensures.value) c.make_room.ensures.slot
+
+pub push_writer-requires-clause-pass : goal.push_writer-requires-clause-pass
+push_writer-requires-clause-pass g c κs within some =
+    no_error c.make_room.result (sym c.if-is_err.ensures.value) c.make_room.ensures.pass
+
+pub invariant_of-self-2 : goal.invariant_of-self-2
+invariant_of-self-2 g c = (did g (goal.at.invariant_of-self-2 g c).After-push_writer).kept
+
+pub returns-clause-rows : goal.returns-clause-rows
+returns-clause-rows g c = (did g (goal.at.returns-clause-rows g c).After-push_writer).rows
+
+pub returns-clause-passes : goal.returns-clause-passes
+returns-clause-passes g c =
+    (did g (goal.at.returns-clause-passes g c).After-push_writer).passes_are

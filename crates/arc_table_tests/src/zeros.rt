@@ -1,0 +1,102 @@
+//! Windows over zeros, of kinds that have a zero and of one that has none.
+use arc_block::layout::DefaultLayout;
+use arc_buffer::kinds::{ByteText, Plain};
+use arc_table::command::{Cmd, Reply};
+use arc_table::commands::{NoZero, TableItem};
+use arc_table::table::Table;
+use linked_list_allocator::LocalHeap;
+use std::test::Fail;
+
+/// A type of a user's own, whose items have no zero.
+#[derive(Clone, Copy, Drop)]
+enum Color {
+    Red,
+    Blue,
+}
+
+impl TableItem for Color {
+    type Zero = NoZero;
+}
+
+/// So many zeros are all that the block has places for, and none stand on nothing.
+#[test]
+fn zeros(rt: HostRuntime) {
+    let mut table: Table<Plain<u8>, DefaultLayout, Vec<u8>, (), _> = Table::new(rt.alloc());
+    let three = table.step(&rt, Cmd::Zero { count: 3 });
+    let none = table.step(&rt, Cmd::Zero { count: 0 });
+    let room = table.step(&rt, Cmd::Room { window: 0 });
+    let shown = table.step(&rt, Cmd::Show { window: 0 });
+    let idle = table.step(&rt, Cmd::Room { window: 1 });
+    let _ = table.end();
+    assert!(rt; matches!(three, Reply::New(0)));
+    assert!(rt; matches!(none, Reply::New(1)));
+    assert!(rt; matches!(room, Reply::Number(3)));
+    assert!(rt; matches!(idle, Reply::Number(0)));
+    let shows = match &shown {
+        Reply::Items(items) => items.as_slice() == b"\x00\x00\x00",
+        _ => false,
+    };
+    assert!(rt; shows);
+}
+
+/// Byte text has a zero, and so have numbers with a sign.
+#[test]
+fn zeros_of_kinds(rt: HostRuntime) {
+    let mut text: Table<ByteText, DefaultLayout, Vec<u8>, (), _> = Table::new(rt.alloc());
+    let made = text.step(&rt, Cmd::Zero { count: 2 });
+    let many = text.step(&rt, Cmd::Len { window: 0 });
+    let _ = text.end();
+    assert!(rt; matches!(made, Reply::New(0)));
+    assert!(rt; matches!(many, Reply::Number(2)));
+    let mut table: Table<Plain<i32>, DefaultLayout, Vec<i32>, (), _> = Table::new(rt.alloc());
+    let signed = table.step(&rt, Cmd::Zero { count: 1 });
+    let shown = table.step(&rt, Cmd::Show { window: 0 });
+    let _ = table.end();
+    assert!(rt; matches!(signed, Reply::New(0)));
+    let shows = match &shown {
+        Reply::Items(items) => items.as_slice() == &[0i32],
+        _ => false,
+    };
+    assert!(rt; shows);
+}
+
+/// A kind without a zero is answered `Kind`, and what else a table does it does for it.
+#[test]
+fn no_zero(rt: HostRuntime) -> Result<(), Fail> {
+    let items = Vec::from_slice(rt.alloc(), &[Color::Red, Color::Blue])?;
+    let mut table: Table<Plain<Color>, DefaultLayout, Vec<Color>, (), _> = Table::new(rt.alloc());
+    let zeros = table.step(&rt, Cmd::Zero { count: 2 });
+    let made = table.step(&rt, Cmd::MSlice(items));
+    let many = table.step(&rt, Cmd::Len { window: 0 });
+    let _ = table.end();
+    assert!(rt; matches!(zeros, Reply::Kind));
+    assert!(rt; matches!(made, Reply::New(0)));
+    assert!(rt; matches!(many, Reply::Number(2)));
+    Ok(())
+}
+
+/// With more and more memory the zeros are refused, and then made; a refusal leaves no window.
+#[test]
+fn zeros_in_need(rt: HostRuntime) -> Result<(), Fail> {
+    let mut refused = 0u32;
+    let mut made = 0u32;
+    for units in 1..64usize {
+        let heap = LocalHeap::new(rt.alloc(), units * 16)?;
+        let mut table: Table<Plain<u8>, DefaultLayout, Vec<u8>, (), _> = Table::new(&heap);
+        let zeros = table.step(&rt, Cmd::Zero { count: 4 });
+        let many = table.step(&rt, Cmd::Len { window: 0 });
+        if matches!(zeros, Reply::Alloc) && matches!(many, Reply::NoWindow) {
+            refused = refused.wrapping_add(1);
+        }
+        if matches!(zeros, Reply::New(0)) && matches!(many, Reply::Number(4)) {
+            made = made.wrapping_add(1);
+        }
+        let _ = table.end();
+        assert_eq!(rt; heap.used(), 0, "in {units} units");
+    }
+    assert!(rt;
+        0 < refused && 0 < made && refused.wrapping_add(made) == 63,
+        "{refused} weren't made, and {made} were"
+    );
+    Ok(())
+}
