@@ -368,6 +368,3 @@ impl<S: Slice, B, M, A: Allocator + Copy, const MAX: u64, H: Stepping> Block<S, 
         self.piece.pass()
     }
 }
-
-#[cfg(test)]
-mod tests;

@@ -3,7 +3,7 @@
 
 pub mod block;
 pub mod layout;
-mod memory;
+pub mod memory;
 pub mod parts;
 pub mod static_slice;
 pub mod table;

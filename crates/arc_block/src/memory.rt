@@ -1,5 +1,9 @@
 //! The memory in which a native block's items lie: its places, and apart from them the right to
 //! free it.
+//!
+//! `take_apart` makes both of a vector, and `put_together` the vector again. Places can be cut and
+//! joined, edited by a vector that lodges in them (`Lodging`), and lent for a lifetime to several
+//! writers (`LentPlaces`).
 
 mod allocation;
 mod base;
@@ -10,8 +14,10 @@ mod lodging;
 mod native;
 mod places;
 
+pub use allocation::{Allocation, put_together, take_apart};
 pub(crate) use base::Base;
+pub use lent_places::{LentPlaces, OpenPlaces, PlacesInheritance};
+pub use lifetime::{EndedLifetime, LifetimeToken};
+pub use lodging::Lodging;
 pub(crate) use native::Native;
-
-#[cfg(test)]
-mod tests;
+pub use places::Places;

@@ -11,10 +11,10 @@ use std::slice;
 /// That items lie side by side at a place for good, for all to read. It has no bytes, and can be
 /// had again. Contracts see the place and the items.
 #[derive(Drop)]
-struct StaticShare<T> {
+pub struct StaticShare<T> {
     mark: PhantomData<*const T>,
-    ghost ptr: { Ptr },
-    ghost items: { List T },
+    pub ghost ptr: { Ptr },
+    pub ghost items: { List T },
 }
 
 impl<T> Model for StaticShare<T> {
@@ -30,7 +30,7 @@ unsafe impl<T: Sync> Sync for StaticShare<T> {}
 impl<T: 'static> StaticShare<T> {
     /// Where a slice's items begin, and that they lie there for good.
     #[inline(always)]
-    fn of(items: &'static [T]) -> (*const T, StaticShare<T>)
+    pub fn of(items: &'static [T]) -> (*const T, StaticShare<T>)
         ensures { (result.1.ptr ≡ result.0) × (result.1.items ≡ items.now) }
     {
         (items.as_ptr(), StaticShare { mark: PhantomData })
@@ -48,7 +48,7 @@ impl<T: 'static> StaticShare<T> {
     /// The items from `start` to before `end`, for good. `base` is where all begin. Reads no
     /// memory.
     #[inline(always)]
-    fn as_static(&self, base: *const T, start: usize, end: usize) -> &'static [T]
+    pub fn as_static(&self, base: *const T, start: usize, end: usize) -> &'static [T]
         requires place { base ≡ self.now.ptr }
         requires range { (start ≤ end) × (end ≤ length self.now.items) }
         ensures { result.now ≡ sub self.now.items start end }
@@ -69,7 +69,7 @@ impl<T> StaticShare<T> {
 
     /// The same again.
     #[inline(always)]
-    fn again(&self) -> StaticShare<T>
+    pub fn again(&self) -> StaticShare<T>
         ensures { result ≡ self.now }
     {
         StaticShare { mark: PhantomData }
@@ -86,7 +86,7 @@ impl<T> StaticShare<T> {
 
     /// The items from `start` to before `end`. `base` is where all begin. Reads no memory.
     #[inline(always)]
-    fn as_slice(&self, base: *const T, start: usize, end: usize) -> &[T]
+    pub fn as_slice(&self, base: *const T, start: usize, end: usize) -> &[T]
         requires place { base ≡ self.now.ptr }
         requires range { (start ≤ end) × (end ≤ length self.now.items) }
         ensures { result.now ≡ sub self.now.items start end }
@@ -97,10 +97,10 @@ impl<T> StaticShare<T> {
 
 /// Items that lie side by side for good, with the place where they begin. Contracts see the items.
 ///
-/// It is one word, for who keeps a range himself: a read is one sum and one difference, and reads
-/// no memory.
+/// It is one word, for who keeps a range himself, as `Parts` do: a read is one sum and one
+/// difference, and reads no memory. It is made and read within this crate alone.
 #[derive(Drop)]
-pub(crate) struct StaticItems<T> {
+pub struct StaticItems<T> {
     base: Base<T>,
     share: StaticShare<T>,
 }
@@ -280,6 +280,3 @@ impl<T> StaticSlice<T> {
         }
     }
 }
-
-#[cfg(test)]
-mod tests;

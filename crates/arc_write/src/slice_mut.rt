@@ -118,7 +118,5 @@ mod make;
 mod own;
 mod plain;
 mod read;
-#[cfg(test)]
-mod tests;
 mod text;
 mod write;

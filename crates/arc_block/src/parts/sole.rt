@@ -465,6 +465,4 @@ impl<S: Slice, B, M, A: Allocator + Copy, H: Mark> SoleParts<S, B, M, A, H> {
 }
 
 mod ends;
-#[cfg(test)]
-mod tests;
 mod write;

@@ -1,10 +1,10 @@
 //! Windows extended by an iterator's items, and made of them.
 ghost use Rattle.std.specs.Prelude.{◌≡◌, ◌++◌, true};
 
-use crate::slice_mut::{ArcBytesMut, ArcSliceMut};
 use arc_block::layout::{ArcLayout, DefaultLayoutMut, LayoutMut, VecLayout};
 use arc_buffer::kinds::{Owned, Plain};
 use arc_owners::error::TryReserveError;
+use arc_write::slice_mut::{ArcBytesMut, ArcSliceMut};
 use linked_list_allocator::LocalHeap;
 use std::alloc::Global;
 use std::test::Fail;

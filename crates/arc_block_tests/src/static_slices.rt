@@ -1,7 +1,8 @@
+//! Static slices: made, read, cut, given back, kept in a vector, and sent to a thread.
 ghost use Rattle.std.specs.Prelude.{◌≡◌, ◌≤◌, [], length};
 ghost use Rattle.arc_buffer.specs.Slice.{sub};
 
-use super::*;
+use arc_block::static_slice::{StaticItems, StaticShare, StaticSlice};
 use std::alloc::Layout;
 use std::test::Fail;
 use std::thread;

@@ -1,9 +1,9 @@
+//! A sole writer's parts: written, with room made, cut, frozen, written again, and ended.
 ghost use Rattle.std.specs.Prelude.{◌≡◌, IfOk, IfErr};
 ghost use Rattle.arc_block.specs.Table.{reader as reader_only};
 
-use super::SoleParts;
-use crate::layout::DefaultLayout;
-use crate::parts::Parts;
+use arc_block::layout::DefaultLayout;
+use arc_block::parts::{Parts, SoleParts};
 use arc_buffer::kinds::{Owned, Plain};
 use arc_owners::error::TryReserveError;
 use arc_owners::owners::Pass;

@@ -1,9 +1,14 @@
+//! Blocks: made, read, shared, asked whether they are alone, taken back, ended and refused.
 ghost use Rattle.std.specs.Prelude.{◌≡◌, IfOk};
 ghost use Rattle.arc_owners.specs.count.Calls.{IsPassFor, MakesAnother};
 
-use super::*;
+use arc_block::block::Block;
 use arc_buffer::kinds::Plain;
+use arc_owners::error::{AllocError, CountFull};
+use arc_owners::mark::Open;
+use arc_owners::owners::Pass;
 use linked_list_allocator::LocalHeap;
+use std::alloc::Allocator;
 use std::test::Fail;
 use std::thread;
 

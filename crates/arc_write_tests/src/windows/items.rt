@@ -1,12 +1,12 @@
 //! Write windows: zeros, and items that are lent to be changed.
 ghost use Rattle.std.specs.Prelude.{◌≡◌, ◌<◌, length, slice_set};
 
-use crate::slice_mut::{ArcBytesMut, ArcSliceMut, ArcStrMut};
 use arc_block::layout::{DefaultLayout, DefaultLayoutMut, LayoutMut, VecLayout};
 use arc_buffer::kinds::{AnyItems, ByteText, Owned, Plain};
 use arc_owners::error::AllocError;
 use arc_owners::mark::{Mark, Whole};
 use arc_owners::owners::Pass;
+use arc_write::slice_mut::{ArcBytesMut, ArcSliceMut, ArcStrMut};
 use linked_list_allocator::LocalHeap;
 use std::alloc::{Allocator, Global};
 use std::test::Fail;

@@ -1,11 +1,11 @@
 //! Write windows: the worked rows, under each form of the default layout, and each call once.
-use super::{ArcBytesMut, ArcSliceMut, ArcStrMut, try_into_mut, try_into_mut_as};
 use arc_block::layout::{ArcLayout, DefaultLayout, DefaultLayoutMut, Layout, LayoutMut, VecLayout};
 use arc_buffer::kinds::{ByteText, Owned, Plain};
 use arc_owners::error::{AllocError, RangeError, TryReserveError};
 use arc_owners::mark::Whole;
 use arc_owners::owners::Pass;
 use arc_read::slice::ArcSlice;
+use arc_write::slice_mut::{ArcBytesMut, ArcSliceMut, ArcStrMut, try_into_mut, try_into_mut_as};
 use linked_list_allocator::LocalHeap;
 use std::alloc::Global;
 use std::test::Fail;

@@ -1,7 +1,7 @@
 //! Worked rows of writing, and items of no size.
-use crate::slice_mut::{ArcBytesMut, ArcSliceMut};
 use arc_block::layout::{DefaultLayout, DefaultLayoutMut};
 use arc_buffer::kinds::Plain;
+use arc_write::slice_mut::{ArcBytesMut, ArcSliceMut};
 use std::alloc::Global;
 use std::test::Fail;
 

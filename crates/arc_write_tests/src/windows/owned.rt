@@ -1,8 +1,8 @@
 //! Owned items: each is dropped once.
-use crate::slice_mut::ArcSliceMut;
 use arc_block::layout::{DefaultLayout, DefaultLayoutMut};
 use arc_buffer::kinds::Owned;
 use arc_owners::error::TryReserveError;
+use arc_write::slice_mut::ArcSliceMut;
 use linked_list_allocator::LocalHeap;
 use std::alloc::Global;
 use std::sync::atomic::{AtomicU64, Ordering};

@@ -1,9 +1,7 @@
+//! Memory: taken apart and put together, cut and joined, edited by a lodging vector, and lent.
 ghost use Rattle.std.specs.Prelude.{◌≡◌};
 
-use super::allocation::{Allocation, put_together, take_apart};
-use super::lent_places::LentPlaces;
-use super::lifetime::LifetimeToken;
-use super::lodging::Lodging;
+use arc_block::memory::{Allocation, LentPlaces, LifetimeToken, Lodging, put_together, take_apart};
 use linked_list_allocator::LocalHeap;
 use std::test::Fail;
 

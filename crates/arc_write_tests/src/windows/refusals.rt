@@ -1,7 +1,7 @@
 //! Each request for memory is refused: what was given comes back, and nothing changes.
-use crate::slice_mut::{ArcBytesMut, ArcSliceMut, ArcStrMut};
 use arc_block::layout::DefaultLayoutMut;
 use arc_owners::error::{AllocError, TryReserveError};
+use arc_write::slice_mut::{ArcBytesMut, ArcSliceMut, ArcStrMut};
 use linked_list_allocator::LocalHeap;
 use std::test::Fail;
 
