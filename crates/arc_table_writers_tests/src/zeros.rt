@@ -33,7 +33,7 @@ fn zeros(rt: HostRuntime) {
     assert!(rt; matches!(room, Reply::Number(3)));
     assert!(rt; matches!(idle, Reply::Number(0)));
     let shows = match &shown {
-        Reply::Items(items) => items.as_slice() == b"\x00\x00\x00",
+        Reply::Items(items) => items.as_slice() == b"\x00\x00\x00".as_slice(),
         _ => false,
     };
     assert!(rt; shows);
@@ -54,7 +54,7 @@ fn zeros_of_kinds(rt: HostRuntime) {
     let _ = table.end();
     assert!(rt; matches!(signed, Reply::New(0)));
     let shows = match &shown {
-        Reply::Items(items) => items.as_slice() == &[0i32],
+        Reply::Items(items) => items.as_slice() == [0i32].as_slice(),
         _ => false,
     };
     assert!(rt; shows);

@@ -15,9 +15,7 @@ fn frozen_in_need(rt: HostRuntime) -> Result<(), Fail> {
     let mut frozen = 0u32;
     for units in 1..64usize {
         let heap = LocalHeap::new(rt.alloc(), units * 16)?;
-        let mut table: Table<Plain<u8>, ArcLayout<true, false>, Vec<u8>, (), _> = Table::new(
-            &heap,
-        );
+        let mut table: Table<Plain<u8>, ArcLayout<true, false>, Vec<u8>, (), _> = Table::new(&heap);
         let _ = table.step(&rt, Cmd::New);
         let reply = table.step(&rt, Cmd::Freeze { window: 0 });
         let room = table.step(&rt, Cmd::Room { window: 0 });
@@ -30,7 +28,10 @@ fn frozen_in_need(rt: HostRuntime) -> Result<(), Fail> {
         let _ = table.end();
         assert_eq!(rt; heap.used(), 0, "in {units} units");
     }
-    assert!(rt; 0 < refused && 0 < frozen, "{refused} weren't frozen, and {frozen} were");
+    assert!(rt;
+        0 < refused && 0 < frozen,
+        "{refused} weren't frozen, and {frozen} were"
+    );
     Ok(())
 }
 
@@ -63,7 +64,10 @@ fn room_in_need(rt: HostRuntime) -> Result<(), Fail> {
         let _ = table.end();
         assert_eq!(rt; heap.used(), 0, "in {units} units");
     }
-    assert!(rt; 0 < refused && 0 < grown, "{refused} weren't given room, and {grown} were");
+    assert!(rt;
+        0 < refused && 0 < grown,
+        "{refused} weren't given room, and {grown} were"
+    );
     Ok(())
 }
 
@@ -92,6 +96,9 @@ fn extended_in_need(rt: HostRuntime) -> Result<(), Fail> {
         let _ = table.end();
         assert_eq!(rt; heap.used(), 0, "in {units} units");
     }
-    assert!(rt; 0 < refused && 0 < extended, "{refused} weren't put, and {extended} were");
+    assert!(rt;
+        0 < refused && 0 < extended,
+        "{refused} weren't put, and {extended} were"
+    );
     Ok(())
 }

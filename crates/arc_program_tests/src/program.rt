@@ -1,0 +1,286 @@
+//! The program's words and statuses, and memory that it is refused.
+use arc_script::io::Counted;
+use arc_script::program::{Arguments, run_args, start, words};
+use arc_script_tests::devices::{Pieces, Taken, push_digits};
+use arc_script_tests::rows::{
+    CLONES, CLONES_IN_NEED, CLONES_REPLIES, HELLO, HELLO_REPLIES, OTHER_WORDS, REPLIES_IN_NEED,
+    USAGE,
+};
+use linked_list_allocator::LocalHeap;
+use std::alloc::{AllocError, Allocator};
+use std::env::FillError;
+use std::sync::Wait;
+use std::test::Fail;
+
+/// Runs the program over memory.
+fn program<A: Allocator + Copy>(
+    rt: &(impl Wait + AllocGlobal),
+    alloc: A,
+    words: &[&str],
+    reader: &mut Pieces,
+    writer: &mut Taken,
+    faults: &mut Taken,
+) -> Result<u8, AllocError> {
+    let mut owned = Vec::new(rt.alloc());
+    for word in words {
+        owned.push(String::from_str(rt.alloc(), word)?)?;
+    }
+    let mut source = Counted::new(reader);
+    let mut sink = Counted::new(writer);
+    let mut told = Counted::new(faults);
+    Ok(run_args(rt, alloc, &owned, &mut source, &mut sink, &mut told))
+}
+
+#[test]
+fn other_words(rt: HostRuntime) -> Result<(), Fail> {
+    for words in OTHER_WORDS {
+        for size in [usize::MAX, 1, 0] {
+            let mut reader = Pieces::new(HELLO, usize::MAX);
+            let mut writer = Taken::new(rt.alloc(), usize::MAX);
+            let mut faults = Taken::new(rt.alloc(), size);
+            let status = program(
+                &rt,
+                rt.alloc(),
+                words,
+                &mut reader,
+                &mut writer,
+                &mut faults,
+            )?;
+            assert_eq!(rt; status, 2, "at {words:?}");
+            assert_eq!(rt; reader.calls, 0);
+            assert_eq!(rt; writer.calls, 0);
+            let told = if size == 0 { b"".as_slice() } else { USAGE };
+            assert_eq!(rt; faults.bytes.as_slice(), told);
+        }
+    }
+    Ok(())
+}
+
+/// Arguments, the program's name first.
+#[derive(Clone, Copy)]
+struct Given<'a> {
+    arguments: &'a [&'a [u8]],
+}
+
+impl Arguments for Given<'_> {
+    ghost answers = { λ _ i room answer. Unit {0} };
+
+    fn arg(&self, i: usize, buf: &mut [u8]) -> Result<usize, FillError> {
+        let Some(argument) = self.arguments.get(i) else {
+            return Err(FillError::NotPresent);
+        };
+        if argument.len() > buf.len() {
+            return Err(FillError::TooLong);
+        }
+        buf[..argument.len()].copy_from_slice(argument);
+        Ok(argument.len())
+    }
+}
+
+/// A word that isn't text, or of which only the end isn't, and one of 65 bytes are empty words.
+#[test]
+fn words_of_arguments(rt: HostRuntime) -> Result<(), Fail> {
+    let long = [b'a'; 65];
+    let given = Given {
+        arguments: &[
+            b"arcs",
+            b"arc",
+            b"\xff",
+            b"arc\xc3",
+            &long,
+            b"",
+            b"caf\xc3\xa9",
+        ],
+    };
+    let read = words(&given, rt.alloc())?;
+    assert_eq!(rt; read.len(), 6);
+    for (word, wanted) in read.iter().zip(["arc", "", "", "", "", "café"]) {
+        assert_eq!(rt; word.as_str(), wanted);
+    }
+    let none = words(
+        &Given {
+            arguments: &[b"arcs"],
+        },
+        rt.alloc(),
+    )?;
+    assert!(rt; none.is_empty());
+    Ok(())
+}
+
+/// The program by its arguments: `arc` runs the script, and anything else is told the usage.
+#[test]
+fn started(rt: HostRuntime) -> Result<(), Fail> {
+    for (arguments, wanted, replies) in [
+        ([b"arcs".as_slice(), b"arc"], 0, HELLO_REPLIES),
+        ([b"arcs".as_slice(), b"arc\xff"], 2, b"".as_slice()),
+    ] {
+        let mut input = Pieces::new(HELLO, usize::MAX);
+        let mut output = Taken::new(rt.alloc(), usize::MAX);
+        let mut told = Taken::new(rt.alloc(), usize::MAX);
+        let status = start(
+            &rt,
+            rt.alloc(),
+            &Given {
+                arguments: &arguments,
+            },
+            &mut Counted::new(&mut input),
+            &mut Counted::new(&mut output),
+            &mut Counted::new(&mut told),
+        );
+        assert_eq!(rt; status, wanted);
+        assert_eq!(rt; output.bytes.as_slice(), replies);
+    }
+    Ok(())
+}
+
+#[test]
+fn statuses(rt: HostRuntime) -> Result<(), Fail> {
+    for (read_fails, write_fails, wanted, told, replies) in [
+        (None, None, 0, b"".as_slice(), HELLO_REPLIES),
+        (
+            Some(1),
+            None,
+            3,
+            b"read failed\n".as_slice(),
+            b"".as_slice(),
+        ),
+        (
+            None,
+            Some(1),
+            4,
+            b"write failed\n".as_slice(),
+            b"".as_slice(),
+        ),
+        (Some(2), None, 3, b"read failed\n".as_slice(), HELLO_REPLIES),
+        (
+            None,
+            Some(2),
+            4,
+            b"write failed\n".as_slice(),
+            b"h0\n".as_slice(),
+        ),
+    ] {
+        for fault_fails in [None, Some(1)] {
+            let mut reader = Pieces::new(HELLO, usize::MAX);
+            reader.fails_at = read_fails;
+            let mut writer = Taken::new(rt.alloc(), if write_fails.is_some() { 3 } else { 100 });
+            writer.fails_at = write_fails;
+            let mut faults = Taken::new(rt.alloc(), 5);
+            faults.fails_at = fault_fails;
+            let status = program(
+                &rt,
+                rt.alloc(),
+                &["arc"],
+                &mut reader,
+                &mut writer,
+                &mut faults,
+            )?;
+            assert_eq!(rt; status, wanted);
+            assert_eq!(rt; writer.bytes.as_slice(), replies);
+            let told = if fault_fails.is_some() {
+                b"".as_slice()
+            } else {
+                told
+            };
+            assert_eq!(rt; faults.bytes.as_slice(), told);
+        }
+    }
+    Ok(())
+}
+
+/// A heap of its own, larger each time: at first it has no room for a piece of the input. A refusal
+/// while a command is carried out is a reply, and any other ends the run.
+#[test]
+fn memory_refused(rt: HostRuntime) -> Result<(), Fail> {
+    let mut cut = 0u64;
+    let mut whole = 0u64;
+    for blocks in 4064..4352usize {
+        let heap = LocalHeap::new(rt.alloc(), blocks * 16)?;
+        let mut reader = Pieces::new(HELLO, 1);
+        let mut writer = Taken::new(rt.alloc(), usize::MAX);
+        let mut faults = Taken::new(rt.alloc(), usize::MAX);
+        let status = program(&rt, &heap, &["arc"], &mut reader, &mut writer, &mut faults)?;
+        let text = writer.bytes.as_slice();
+        let is_begun = REPLIES_IN_NEED
+            .iter()
+            .any(|replies| replies.starts_with(text));
+        assert!(rt; is_begun, "in {blocks} blocks");
+        assert_eq!(rt; heap.used(), 0, "in {blocks} blocks");
+        if status == 0 {
+            assert_eq!(rt; faults.bytes.len(), 0, "in {blocks} blocks");
+            assert!(rt; reader.input.is_empty(), "in {blocks} blocks");
+            let is_whole = REPLIES_IN_NEED.iter().any(|replies| *replies == text);
+            assert!(rt; is_whole, "in {blocks} blocks");
+        } else {
+            assert_eq!(rt; status, 1, "in {blocks} blocks");
+            assert_eq!(rt; faults.bytes.as_slice(), b"allocation error\n".as_slice());
+            cut = cut.saturating_add(1);
+        }
+        if text == HELLO_REPLIES {
+            assert_eq!(rt; status, 0, "in {blocks} blocks");
+            whole = whole.saturating_add(1);
+        }
+    }
+    assert!(rt; 32 < cut && 0 < whole, "{cut} were cut, and {whole} whole");
+    Ok(())
+}
+
+/// A heap of its own, larger each time: where the list of windows can't grow, only a clone is
+/// refused, and it uses no number.
+#[test]
+fn clone_refused(rt: HostRuntime) -> Result<(), Fail> {
+    let mut refused = 0u64;
+    let mut whole = 0u64;
+    for blocks in 4096..4352usize {
+        let heap = LocalHeap::new(rt.alloc(), blocks * 16)?;
+        let mut reader = Pieces::new(CLONES, usize::MAX);
+        let mut writer = Taken::new(rt.alloc(), usize::MAX);
+        let mut faults = Taken::new(rt.alloc(), usize::MAX);
+        program(&rt, &heap, &["arc"], &mut reader, &mut writer, &mut faults)?;
+        let text = writer.bytes.as_slice();
+        assert_eq!(rt; heap.used(), 0, "in {blocks} blocks");
+        if text == CLONES_IN_NEED {
+            refused = refused.saturating_add(1);
+        }
+        if text == CLONES_REPLIES {
+            whole = whole.saturating_add(1);
+        }
+    }
+    assert!(rt;
+        0 < refused && 0 < whole,
+        "{refused} were refused, and {whole} whole"
+    );
+    Ok(())
+}
+
+/// The replies to earlier lines stand where a later line has no room: only the line is refused
+/// here.
+#[test]
+fn line_refused(rt: HostRuntime) -> Result<(), Fail> {
+    let mut script = Vec::from_slice(rt.alloc(), HELLO)?;
+    script.extend_from_slice(b"show ")?;
+    push_digits(&mut script, 20_000)?;
+    let mut replies = Vec::from_slice(rt.alloc(), HELLO_REPLIES)?;
+    replies.extend_from_slice(b"bad line\n")?;
+    for (size, wanted, told) in [
+        (72_000, 1, b"allocation error\n".as_slice()),
+        (80_000, 1, b"allocation error\n".as_slice()),
+        (200_000, 0, b"".as_slice()),
+    ] {
+        let heap = LocalHeap::new(rt.alloc(), size)?;
+        let mut reader = Pieces::new(&script, 46);
+        let mut writer = Taken::new(rt.alloc(), usize::MAX);
+        let mut faults = Taken::new(rt.alloc(), usize::MAX);
+        let status = program(&rt, &heap, &["arc"], &mut reader, &mut writer, &mut faults)?;
+        let text = if wanted == 0 {
+            replies.as_slice()
+        } else {
+            HELLO_REPLIES
+        };
+        assert_eq!(rt; status, wanted, "in {size} bytes");
+        assert_eq!(rt; writer.bytes.as_slice(), text, "in {size} bytes");
+        assert_eq!(rt; faults.bytes.as_slice(), told, "in {size} bytes");
+        assert_eq!(rt; heap.used(), 0, "in {size} bytes");
+    }
+    Ok(())
+}
