@@ -1,6 +1,6 @@
 //! What a table's commands may ask of a kind, beside what all its kinds have.
 ghost use Rattle.std.specs.Prelude.{◌≡◌, ◌≤◌, Bool, true, false, Option, Some, None, is_some};
-ghost use Rattle.std.specs.Prelude.{replicate, IfOk, IfSome, OnErr};
+ghost use Rattle.std.specs.Prelude.{replicate, IfNone, IfOk, IfSome, OnErr};
 ghost use Rattle.arc_owners.specs.count.Calls.{IsPassOfNone};
 ghost use Rattle.arc_block.specs.Writers.{MakesWriter};
 
@@ -34,7 +34,8 @@ pub trait ZeroOf<S: Slice> {
     fn has_zero() -> bool
         ensures { result ≡ is_some zero };
 
-    /// A window that is written, over so many zeros, as `ArcSliceMut::try_zeroed_as` makes it.
+    /// A window that is written, over so many zeros, as `ArcSliceMut::try_zeroed_as` makes it, or
+    /// `None` where there is no zero; the pass is then as before.
     ///
     /// # Errors
     ///
@@ -51,12 +52,14 @@ pub trait ZeroOf<S: Slice> {
         alloc: A,
         count: usize,
         pass: &mut Pass<Whole>,
-    ) -> Result<ArcSliceMut<S, L, 1, B, M, A, Whole>, AllocError>
-        requires zero { is_some zero ≡ true }
-        requires pass { IsPassOfNone pass.old }
-        ensures made { IfOk result (λ window. IfSome zero (λ item.
-            MakesWriter S.DROPS true (replicate count item) count window pass.old pass.new)) }
-        ensures refused { OnErr result ((1 ≤ count) × (pass.new ≡ pass.old)) };
+    ) -> Option<Result<ArcSliceMut<S, L, 1, B, M, A, Whole>, AllocError>>
+        requires { IsPassOfNone pass.old }
+        ensures zero { is_some result ≡ is_some zero }
+        ensures made { IfSome zero (λ item. IfSome result (λ made. IfOk made (λ window.
+            MakesWriter S.DROPS true (replicate count item) count window pass.old pass.new))) }
+        ensures refused { IfSome result (λ made. OnErr made ((1 ≤ count)
+            × (pass.new ≡ pass.old))) }
+        ensures none { IfNone result (pass.new ≡ pass.old) };
 }
 
 /// There is a zero.
@@ -76,11 +79,11 @@ impl<S: Slice> ZeroOf<S> for NoZero {
         alloc: A,
         count: usize,
         pass: &mut Pass<Whole>,
-    ) -> Result<ArcSliceMut<S, L, 1, B, M, A, Whole>, AllocError> {
+    ) -> Option<Result<ArcSliceMut<S, L, 1, B, M, A, Whole>, AllocError>> {
         let _ = alloc;
         let _ = count;
         let _ = pass;
-        unreachable!()
+        None
     }
 }
 
@@ -103,8 +106,8 @@ impl ZeroOf<ByteText> for HasZero {
         alloc: A,
         count: usize,
         pass: &mut Pass<Whole>,
-    ) -> Result<ArcSliceMut<ByteText, L, 1, B, M, A, Whole>, AllocError> {
-        ArcSliceMut::try_zeroed_as(alloc, count, pass)
+    ) -> Option<Result<ArcSliceMut<ByteText, L, 1, B, M, A, Whole>, AllocError>> {
+        Some(ArcSliceMut::try_zeroed_as(alloc, count, pass))
     }
 }
 

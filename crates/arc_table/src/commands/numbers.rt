@@ -28,8 +28,8 @@ impl ZeroOf<Plain<u8>> for HasZero {
         alloc: A,
         count: usize,
         pass: &mut Pass<Whole>,
-    ) -> Result<ArcSliceMut<Plain<u8>, L, 1, B, M, A, Whole>, AllocError> {
-        ArcSliceMut::try_zeroed_as(alloc, count, pass)
+    ) -> Option<Result<ArcSliceMut<Plain<u8>, L, 1, B, M, A, Whole>, AllocError>> {
+        Some(ArcSliceMut::try_zeroed_as(alloc, count, pass))
     }
 }
 
@@ -48,8 +48,8 @@ impl ZeroOf<Plain<u16>> for HasZero {
         alloc: A,
         count: usize,
         pass: &mut Pass<Whole>,
-    ) -> Result<ArcSliceMut<Plain<u16>, L, 1, B, M, A, Whole>, AllocError> {
-        ArcSliceMut::try_zeroed_as(alloc, count, pass)
+    ) -> Option<Result<ArcSliceMut<Plain<u16>, L, 1, B, M, A, Whole>, AllocError>> {
+        Some(ArcSliceMut::try_zeroed_as(alloc, count, pass))
     }
 }
 
@@ -68,8 +68,8 @@ impl ZeroOf<Plain<u32>> for HasZero {
         alloc: A,
         count: usize,
         pass: &mut Pass<Whole>,
-    ) -> Result<ArcSliceMut<Plain<u32>, L, 1, B, M, A, Whole>, AllocError> {
-        ArcSliceMut::try_zeroed_as(alloc, count, pass)
+    ) -> Option<Result<ArcSliceMut<Plain<u32>, L, 1, B, M, A, Whole>, AllocError>> {
+        Some(ArcSliceMut::try_zeroed_as(alloc, count, pass))
     }
 }
 
@@ -88,8 +88,8 @@ impl ZeroOf<Plain<u64>> for HasZero {
         alloc: A,
         count: usize,
         pass: &mut Pass<Whole>,
-    ) -> Result<ArcSliceMut<Plain<u64>, L, 1, B, M, A, Whole>, AllocError> {
-        ArcSliceMut::try_zeroed_as(alloc, count, pass)
+    ) -> Option<Result<ArcSliceMut<Plain<u64>, L, 1, B, M, A, Whole>, AllocError>> {
+        Some(ArcSliceMut::try_zeroed_as(alloc, count, pass))
     }
 }
 
@@ -108,8 +108,8 @@ impl ZeroOf<Plain<u128>> for HasZero {
         alloc: A,
         count: usize,
         pass: &mut Pass<Whole>,
-    ) -> Result<ArcSliceMut<Plain<u128>, L, 1, B, M, A, Whole>, AllocError> {
-        ArcSliceMut::try_zeroed_as(alloc, count, pass)
+    ) -> Option<Result<ArcSliceMut<Plain<u128>, L, 1, B, M, A, Whole>, AllocError>> {
+        Some(ArcSliceMut::try_zeroed_as(alloc, count, pass))
     }
 }
 
@@ -128,8 +128,8 @@ impl ZeroOf<Plain<usize>> for HasZero {
         alloc: A,
         count: usize,
         pass: &mut Pass<Whole>,
-    ) -> Result<ArcSliceMut<Plain<usize>, L, 1, B, M, A, Whole>, AllocError> {
-        ArcSliceMut::try_zeroed_as(alloc, count, pass)
+    ) -> Option<Result<ArcSliceMut<Plain<usize>, L, 1, B, M, A, Whole>, AllocError>> {
+        Some(ArcSliceMut::try_zeroed_as(alloc, count, pass))
     }
 }
 
@@ -148,8 +148,8 @@ impl ZeroOf<Plain<i8>> for HasZero {
         alloc: A,
         count: usize,
         pass: &mut Pass<Whole>,
-    ) -> Result<ArcSliceMut<Plain<i8>, L, 1, B, M, A, Whole>, AllocError> {
-        ArcSliceMut::try_zeroed_as(alloc, count, pass)
+    ) -> Option<Result<ArcSliceMut<Plain<i8>, L, 1, B, M, A, Whole>, AllocError>> {
+        Some(ArcSliceMut::try_zeroed_as(alloc, count, pass))
     }
 }
 
@@ -168,8 +168,8 @@ impl ZeroOf<Plain<i16>> for HasZero {
         alloc: A,
         count: usize,
         pass: &mut Pass<Whole>,
-    ) -> Result<ArcSliceMut<Plain<i16>, L, 1, B, M, A, Whole>, AllocError> {
-        ArcSliceMut::try_zeroed_as(alloc, count, pass)
+    ) -> Option<Result<ArcSliceMut<Plain<i16>, L, 1, B, M, A, Whole>, AllocError>> {
+        Some(ArcSliceMut::try_zeroed_as(alloc, count, pass))
     }
 }
 
@@ -188,8 +188,8 @@ impl ZeroOf<Plain<i32>> for HasZero {
         alloc: A,
         count: usize,
         pass: &mut Pass<Whole>,
-    ) -> Result<ArcSliceMut<Plain<i32>, L, 1, B, M, A, Whole>, AllocError> {
-        ArcSliceMut::try_zeroed_as(alloc, count, pass)
+    ) -> Option<Result<ArcSliceMut<Plain<i32>, L, 1, B, M, A, Whole>, AllocError>> {
+        Some(ArcSliceMut::try_zeroed_as(alloc, count, pass))
     }
 }
 
@@ -208,8 +208,8 @@ impl ZeroOf<Plain<i64>> for HasZero {
         alloc: A,
         count: usize,
         pass: &mut Pass<Whole>,
-    ) -> Result<ArcSliceMut<Plain<i64>, L, 1, B, M, A, Whole>, AllocError> {
-        ArcSliceMut::try_zeroed_as(alloc, count, pass)
+    ) -> Option<Result<ArcSliceMut<Plain<i64>, L, 1, B, M, A, Whole>, AllocError>> {
+        Some(ArcSliceMut::try_zeroed_as(alloc, count, pass))
     }
 }
 
@@ -228,8 +228,8 @@ impl ZeroOf<Plain<i128>> for HasZero {
         alloc: A,
         count: usize,
         pass: &mut Pass<Whole>,
-    ) -> Result<ArcSliceMut<Plain<i128>, L, 1, B, M, A, Whole>, AllocError> {
-        ArcSliceMut::try_zeroed_as(alloc, count, pass)
+    ) -> Option<Result<ArcSliceMut<Plain<i128>, L, 1, B, M, A, Whole>, AllocError>> {
+        Some(ArcSliceMut::try_zeroed_as(alloc, count, pass))
     }
 }
 
@@ -248,7 +248,7 @@ impl ZeroOf<Plain<isize>> for HasZero {
         alloc: A,
         count: usize,
         pass: &mut Pass<Whole>,
-    ) -> Result<ArcSliceMut<Plain<isize>, L, 1, B, M, A, Whole>, AllocError> {
-        ArcSliceMut::try_zeroed_as(alloc, count, pass)
+    ) -> Option<Result<ArcSliceMut<Plain<isize>, L, 1, B, M, A, Whole>, AllocError>> {
+        Some(ArcSliceMut::try_zeroed_as(alloc, count, pass))
     }
 }

@@ -99,7 +99,10 @@ where
             return Reply::Alloc;
         }
         let mut pass = Pass::none();
-        let Ok(window) = S::Zero::try_zeroed_as(self.alloc, count, &mut pass) else {
+        let Some(made) = S::Zero::try_zeroed_as(self.alloc, count, &mut pass) else {
+            unreachable!()
+        };
+        let Ok(window) = made else {
             return Reply::Alloc;
         };
         Reply::New(push_writer(

@@ -1,8 +1,9 @@
 -- The writer of zeros stands on nothing, or as the first owner on a new block, whose pass is the one
 -- that was given.
 use Rattle.std.specs.Mem.{type_size}
-use Rattle.std.specs.Prelude.{replicate}
+use Rattle.std.specs.Prelude.{replicate, IfOk}
 use Rattle.std.proofs.Common.{[], true, refl, sym, subst, ap, length, arith}
+use Rattle.arc_block.specs.Window.{PartsView}
 use Rattle.arc_block.specs.Writers.{MakesWriter}
 use Rattle.arc_table.specs.State.{State}
 use Rattle.arc_table.specs.Step.{Setting, setting_of, no_shortage}
@@ -29,9 +30,13 @@ did g c =
     let count = c.args.count in
     let push = c.push_writer in
     let h = has g.S.Zero.ZeroOf.zero c.if-not-has_zero.ensures in
-    let made-of : g.row.S-Item.Denot → Type 0 = λ item.
-    MakesWriter g.S.Slice.DROPS true (replicate count item) count c.in-Ok.window c.none-pass.result
+    let writes : g.row.S-Item.Denot → PartsView g.row.S-Item.Denot g.row.M.Denot → Type 0 =
+    λ item w. MakesWriter g.S.Slice.DROPS true (replicate count item) count w c.none-pass.result
     c.try_zeroed_as.new.pass in
+    let makes =
+    subst (λ r. IfOk r (writes h.item)) c.in-Ok.is
+    (said (λ item. IfOk c.in-Some.made (writes item)) g.S.Zero.ZeroOf.zero h
+    c.in-Some.ensures.made) in
     let pushed : Pushed c.in-Ok.window count c.try_zeroed_as.new.pass slots passes
     push.new.slots.items push.new.passes.items push.result = record {
       read = c.make_room.new.slots.items;
@@ -48,8 +53,7 @@ did g c =
     (made (setting g) slots passes c.self.invariant (command.Zero count)
     (replicate count h.item) count (zeros-answer (setting g) _ count h no_shortage)
     (λ n new adds. adds) c.in-Ok.window c.none-pass.result c.try_zeroed_as.new.pass
-    (said made-of g.S.Zero.ZeroOf.zero h c.in-Ok.ensures.made) push.new.slots.items
-    push.new.passes.items push.result pushed
+    makes push.new.slots.items push.new.passes.items push.result pushed
     (λ none. ap (λ n. replicate n h.item) none))
 
 pub returns-then-is_err-clause-rows : goal.returns-then-is_err-clause-rows
@@ -59,8 +63,8 @@ returns-then-is_err-clause-rows g c =
     (ap (λ (o : State g.row.S-Item.Denot g.row.M.Denot). o.table) (sym c.self.view_is))
     c.make_room.ensures.slots c.make_room.ensures.passes
 
-pub returns-in_default-clause-rows : goal.returns-in_default-clause-rows
-returns-in_default-clause-rows g c =
+pub returns-in_default-made-clause-rows : goal.returns-in_default-made-clause-rows
+returns-in_default-made-clause-rows g c =
     let h = has g.S.Zero.ZeroOf.zero c.if-not-has_zero.ensures in
     zeros-refused (setting g) c.args.self.now.table c.args.count h
     (ap (λ (o : State g.row.S-Item.Denot g.row.M.Denot). o.table) (sym c.self.view_is))
