@@ -8,8 +8,8 @@ use Rattle.std.proofs.lemmas.Bool.{cases_Bool, leb-true, le-leb, cond-false, con
 use Rattle.std.proofs.lemmas.List.Splits.{join_with_byte-slice_split, slice_split_none, length-slice_split}
 use Rattle.std.proofs.lemmas.List.{drop_all}
 use Rattle.std.proofs.lemmas.Option.{none-some, same_Some}
-use Rattle.arc_table.specs.declared.command.Cmd.{Cmd}
-use Rattle.arc_table.specs.declared.command.Cmd.TheVariants as command
+use Rattle.arc_commands.specs.declared.command.Cmd.{Cmd}
+use Rattle.arc_commands.specs.declared.command.Cmd.TheVariants as command
 use Rattle.arc_forms.specs.Text.{space, longest_line, words_of, form, Operand, Number, Byte, Items, operand_word, IsWritable, IsSayable, Says, IsBad}
 use Rattle.arc_forms.specs.Reading.{◌>>=◌, is_space, words_of_line, Sort, ANumber, AByte, SomeItems, number_of, byte_of, items_of, operand_of, operands_of, Value, Makes, made, spells_from, spells, Form, forms, read_by, command_of, BringsItems}
 use Rattle.arc_forms.proofs.Words.{number_is, number_again, byte_is, byte_again, items_is, items_again, items_fit, items_are_bytes, NoSpace, no_space_text, no_space_number, no_space_byte, no_space_items, words-join}

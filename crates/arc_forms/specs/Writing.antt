@@ -1,9 +1,9 @@
 -- Writing at the end of a list.
 use Rattle.std.specs.Prelude.{◌≡◌, ℕ, List, [], ◌∷◌, ◌++◌, Option}
 use Rattle.std.specs.Option.{option_map}
-use Rattle.arc_table.specs.declared.command.Reply.{Reply}
+use Rattle.arc_commands.specs.declared.command.Reply.{Reply}
 use Rattle.arc_forms.specs.Text.{line_feed, answer_text}
-use Rattle.arc_table.specs.Seen.{map_reply}
+use Rattle.arc_commands.specs.Seen.{map_reply}
 
 -- new is old and something behind it
 pub record Extends (old new : List ℕ) : Type 0 where

@@ -6,8 +6,8 @@ ghost use Rattle.std.specs.Char.{digit_value};
 ghost use Rattle.std.specs.List.{list_all, position_or_len};
 ghost use Rattle.std.specs.Vec.{vec_items};
 ghost use Rattle.arc_forms.specs.Text.{Number, Byte, Items, Says, IsBad};
-ghost use Rattle.arc_table.specs.Seen.{seen_command};
-ghost use Rattle.arc_table.specs.declared.command.Cmd.{Cmd};
+ghost use Rattle.arc_commands.specs.Seen.{seen_command};
+ghost use Rattle.arc_commands.specs.declared.command.Cmd.{Cmd};
 ghost use Rattle.arc_forms.specs.Reading.{ANumber, SomeItems, BringsItems, command_of, first_by};
 ghost use Rattle.arc_forms.specs.Reading.{is_hex_digit, is_space, items_of, number_of, operand_of};
 ghost use Rattle.arc_forms.specs.Reading.{operands_of, pairs, plain_forms, read_by, words_in};
@@ -17,8 +17,8 @@ ghost use Rattle.std.specs.Prelude.{◌++◌};
 ghost use Rattle.arc_forms.specs.Reading.{words_of_line};
 
 use arc_block::static_slice::StaticSlice;
+use arc_commands::command::Cmd;
 use arc_owners::error::AllocError;
-use arc_table::command::Cmd;
 use std::alloc::Allocator;
 
 /// A command over bytes.

@@ -2,12 +2,12 @@
 ghost use Rattle.std.specs.Prelude.{◌≡◌, ◌++◌, ◌<◌, ◌*◌, decimal, length, OnErr, OnOk};
 ghost use Rattle.arc_forms.specs.Text.{hex, hex_digit, items_word, owner_text, range_text};
 ghost use Rattle.arc_forms.specs.Text.{reply_text, reserve_text};
-ghost use Rattle.arc_table.specs.Seen.{map_reply};
+ghost use Rattle.arc_commands.specs.Seen.{map_reply};
 ghost use Rattle.arc_forms.specs.Writing.{Extends, answer_line};
 
 use arc_block::static_slice::StaticSlice;
+use arc_commands::command::Reply;
 use arc_owners::error::{AllocError, OwnerError, RangeError, TryReserveError};
-use arc_table::command::Reply;
 use itoa::Buffer;
 use std::alloc::Allocator;
 use std::convert::AsSlice;

@@ -1,6 +1,6 @@
 //! Lines that say commands, and lines that say none.
+use arc_commands::command::Cmd;
 use arc_forms::parse::parse;
-use arc_table::command::Cmd;
 
 fn is_bad(rt: &HostRuntime, line: &[u8]) -> bool {
     matches!(parse(rt.alloc(), line), Ok(None))

@@ -1,8 +1,8 @@
 //! Each reply as it is written.
 use arc_block::static_slice::StaticSlice;
+use arc_commands::command::Reply;
 use arc_forms::text::push_answer;
 use arc_owners::error::{AllocError, OwnerError, RangeError, TryReserveError};
-use arc_table::command::Reply;
 
 fn writes(
     rt: &HostRuntime,

@@ -2,7 +2,7 @@
 use Rattle.std.proofs.Common.{◌≡◌, ℕ, Bool, false, List, [], ◌∷◌, ◌++◌, Result, Ok, Err, OnErr}
 use Rattle.std.proofs.Common.{OnOk, IfErr, IsErrAnd, refl, sym, ap, ◌∙◌, subst, append_assoc, arith}
 use Rattle.std.proofs.lemmas.List.{append-nil}
-use Rattle.arc_table.specs.State.{empty_state}
+use Rattle.arc_commands.specs.State.{empty_state}
 use Rattle.arc_script.specs.State.{ByteState}
 use Rattle.arc_forms.specs.Text.{line_feed}
 use Rattle.arc_script.specs.Script.{HasNoFeed}

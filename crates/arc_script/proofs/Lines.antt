@@ -7,16 +7,16 @@ use Rattle.std.proofs.lemmas.List.{map-append}
 use Rattle.std.proofs.lemmas.List.Concat.{flat_map-append}
 use Rattle.std.proofs.lemmas.List.Elements.{All-contains, recursion_from_All}
 use Rattle.arc_block.specs.Table.{Table, empty_table}
-use Rattle.arc_table.specs.declared.command.Cmd.{Cmd}
-use Rattle.arc_table.specs.declared.command.Reply.{Reply}
-use Rattle.arc_table.specs.declared.command.Reply.TheVariants as reply
-use Rattle.arc_table.specs.RunOf.{RunOf}
-use Rattle.arc_table.specs.Step.{no_shortage, answer}
+use Rattle.arc_commands.specs.declared.command.Cmd.{Cmd}
+use Rattle.arc_commands.specs.declared.command.Reply.{Reply}
+use Rattle.arc_commands.specs.declared.command.Reply.TheVariants as reply
+use Rattle.arc_commands.specs.RunOf.{RunOf}
+use Rattle.arc_commands.specs.Step.{no_shortage, answer}
 use Rattle.arc_forms.specs.Text.{line_feed, Says, answer_text}
 use Rattle.arc_script.specs.Script.{ended, HasNoFeed, AreLines, byte_setting, ByteTable, Answers, BeginsReplyText}
 use Rattle.arc_forms.proofs.Forms.{reading, reading_says, unread_is_none}
-use Rattle.arc_table.proofs.Answers.{answer_step}
-use Rattle.arc_table.proofs.Runs.{run_append}
+use Rattle.arc_commands.proofs.Answers.{answer_step}
+use Rattle.arc_commands.proofs.Runs.{run_append}
 use Rattle.arc_forms.proofs.Words.{all_by}
 
 -- ---- each line, and each list of lines

@@ -3,21 +3,21 @@ use Rattle.std.proofs.Common.{ℕ, Bool, List, Option, Some, None}
 use Rattle.std.proofs.Common.{ap, sym, ◌∙◌, subst, inr}
 use Rattle.std.proofs.lemmas.List.{append-nil}
 use Rattle.std.specs.Option.{option_map}
-use Rattle.arc_table.specs.RunOf.{RunOf}
+use Rattle.arc_commands.specs.RunOf.{RunOf}
 use Rattle.arc_script.specs.Script.{AreLines, Answers, IsReplyText, BeginsReplyText}
 use Rattle.arc_forms.specs.Seen.{IsReadAs}
-use Rattle.arc_table.specs.Seen.{seen_command}
-use Rattle.arc_table.specs.State.{empty_state}
+use Rattle.arc_commands.specs.Seen.{seen_command}
+use Rattle.arc_commands.specs.State.{empty_state}
 use Rattle.arc_script.specs.State.{ByteState}
 use Rattle.arc_script.specs.State.{CarriesOutSaid, AnswersLine}
 use Rattle.arc_script.specs.Traffic.{Traffic, Exchanges}
 use Rattle.arc_script.specs.Underway.{IsThrough, IsBrokenOff, Holds, Ends, MayEnd, AnswersInto}
-use Rattle.arc_table.specs.declared.command.Cmd.{Cmd}
-use Rattle.arc_table.specs.declared.command.Reply.{Reply}
+use Rattle.arc_commands.specs.declared.command.Cmd.{Cmd}
+use Rattle.arc_commands.specs.declared.command.Reply.{Reply}
 use Rattle.arc_script.specs.declared.script.ScriptError.{ScriptError}
 use Rattle.std.specs.declared.vec.Vec.{Vec}
 use Rattle.arc_script.proofs.Lines.{begins}
-use Rattle.arc_table.proofs.Runs.{run_seen}
+use Rattle.arc_commands.proofs.Runs.{run_seen}
 
 -- a line that was read is answered
 pub line_carried_out : {A : Type 0} (old : ByteState) (said : Option (Cmd (Vec ℕ A) (List ℕ) ℕ))

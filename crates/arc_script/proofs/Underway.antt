@@ -5,8 +5,8 @@ use Rattle.std.proofs.lemmas.List.{map-append, append-nil}
 use Rattle.std.proofs.lemmas.Grind.{flat_map-append}
 use Rattle.std.specs.List.{AllByRecursion}
 use Rattle.arc_block.specs.Table.{empty_table}
-use Rattle.arc_table.specs.RunOf.{RunOf}
-use Rattle.arc_table.specs.State.{empty_state}
+use Rattle.arc_commands.specs.RunOf.{RunOf}
+use Rattle.arc_commands.specs.State.{empty_state}
 use Rattle.arc_script.specs.State.{AnswersLine, ByteState}
 use Rattle.arc_forms.specs.Text.{line_feed, answer_text}
 use Rattle.arc_script.specs.Script.{HasNoFeed, AreLines, ended, last_line, IsReplyText}
@@ -15,8 +15,8 @@ use Rattle.arc_script.specs.Underway.{AnswersHeld, Holds, IsUnderway, IsAnswered
 use Rattle.arc_script.specs.Underway.{IsBegun, Ends, MayEnd, MayLack}
 use Rattle.arc_script.specs.declared.script.ScriptError.{ScriptError}
 use Rattle.arc_script.specs.declared.script.ScriptError.TheVariants.{Read, Write, Alloc}
-use Rattle.arc_table.specs.declared.command.Reply.{Reply}
-use Rattle.arc_table.proofs.Runs.{run_push}
+use Rattle.arc_commands.specs.declared.command.Reply.{Reply}
+use Rattle.arc_commands.proofs.Runs.{run_push}
 use Rattle.arc_script.proofs.Lines.{run_exists}
 use Rattle.arc_script.proofs.Splits.{split_exists, empty_has_no_feed, no_feed-append, all-append}
 

@@ -3,11 +3,11 @@ use Rattle.std.specs.Prelude.{◌≡◌, ℕ, true, false, List, [], ◌∷◌, 
 use Rattle.std.specs.Prelude.{flat_map, Contains}
 use Rattle.std.specs.List.{AllByRecursion}
 use Rattle.arc_block.specs.Table.{Table, empty_table}
-use Rattle.arc_table.specs.RunOf.{RunOf}
-use Rattle.arc_table.specs.Step.{Setting, Step, setting_of}
+use Rattle.arc_commands.specs.RunOf.{RunOf}
+use Rattle.arc_commands.specs.Step.{Setting, Step, setting_of}
 use Rattle.arc_forms.specs.Text.{line_feed, Says, IsBad, answer_text}
-use Rattle.arc_table.specs.declared.command.Cmd.{Cmd}
-use Rattle.arc_table.specs.declared.command.Reply.{Reply}
+use Rattle.arc_commands.specs.declared.command.Cmd.{Cmd}
+use Rattle.arc_commands.specs.declared.command.Reply.{Reply}
 
 -- each line with its line feed
 abbrev pub ended : List (List ℕ) → List ℕ

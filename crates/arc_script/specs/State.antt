@@ -1,9 +1,9 @@
 -- What a line does to a table of byte windows.
 use Rattle.std.specs.Prelude.{◌≡◌, ℕ, List, Option, Some, None}
-use Rattle.arc_table.specs.State.{State, CarriesOut}
+use Rattle.arc_commands.specs.State.{State, CarriesOut}
 use Rattle.arc_script.specs.Script.{byte_setting, AnswersBy}
-use Rattle.arc_table.specs.declared.command.Cmd.{Cmd}
-use Rattle.arc_table.specs.declared.command.Reply.{Reply}
+use Rattle.arc_commands.specs.declared.command.Cmd.{Cmd}
+use Rattle.arc_commands.specs.declared.command.Reply.{Reply}
 
 -- the windows of a script: a table of bytes, with its histories
 abbrev pub ByteState : Type 0

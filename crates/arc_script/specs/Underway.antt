@@ -5,14 +5,14 @@ use Rattle.std.specs.Prelude.{Option, ◌⊎◌, ⊤}
 use Rattle.std.specs.List.{AllByRecursion}
 use Rattle.arc_owners.specs.declared.count.tokens.Pass.{Pass}
 use Rattle.arc_owners.specs.declared.mark.Whole.{Whole}
-use Rattle.arc_table.specs.RunOf.{RunOf}
-use Rattle.arc_table.specs.State.{empty_state, EndsWith}
+use Rattle.arc_commands.specs.RunOf.{RunOf}
+use Rattle.arc_commands.specs.State.{empty_state, EndsWith}
 use Rattle.arc_script.specs.State.{AnswersLine, ByteState, CarriesOutSaid}
 use Rattle.arc_forms.specs.Text.{longest_line, line_feed, answer_text}
 use Rattle.arc_script.specs.Script.{AreLines, HasNoFeed, byte_setting, ended}
 use Rattle.arc_script.specs.Traffic.{Traffic}
-use Rattle.arc_table.specs.declared.command.Cmd.{Cmd}
-use Rattle.arc_table.specs.declared.command.Reply.{Reply}
+use Rattle.arc_commands.specs.declared.command.Cmd.{Cmd}
+use Rattle.arc_commands.specs.declared.command.Reply.{Reply}
 use Rattle.arc_script.specs.declared.script.ScriptError.{ScriptError}
 use Rattle.arc_script.specs.declared.script.ScriptError.TheVariants.{Read, Write, Alloc}
 

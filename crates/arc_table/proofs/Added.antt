@@ -22,13 +22,13 @@ use Rattle.arc_owners.proofs.Wholes.{before-is, may-stand}
 use Rattle.arc_block.specs.Block.{Sort}
 use Rattle.arc_block.specs.Owned.{Stand}
 use Rattle.arc_block.specs.Place.{Place}
-use Rattle.arc_table.specs.Additions.{Standing, stand_in, AddsAt, Raises, Joins, Enters}
-use Rattle.arc_table.specs.Additions.{raised, asked, refused}
-use Rattle.arc_table.specs.Calls.{Along, Beside, RefusesAt, AddsNothing}
-use Rattle.arc_table.specs.Slots.{SlotView, stand_of, stands_of}
-use Rattle.arc_table.specs.State.{state_of}
+use Rattle.arc_commands.specs.Additions.{Standing, stand_in, AddsAt, Raises, Joins, Enters}
+use Rattle.arc_commands.specs.Additions.{raised, asked, refused}
+use Rattle.arc_slots.specs.Calls.{Along, Beside, RefusesAt, AddsNothing}
+use Rattle.arc_slots.specs.Slots.{SlotView, stand_of, stands_of}
+use Rattle.arc_slots.specs.Slots.{state_of}
 use Rattle.arc_table.proofs.Kept.{Ended}
-use Rattle.arc_table.proofs.Taken.{set-back}
+use Rattle.arc_slots.proofs.Taken.{set-back}
 use Rattle.arc_table.proofs.Tables.{stand-there, map-slice_set}
 
 promoted-counted : (b : Beginning) (h : List Entry) → IsTrue (is_promoted h) → is_counted b h ≡ true

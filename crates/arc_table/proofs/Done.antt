@@ -11,19 +11,20 @@ use Rattle.arc_block.specs.declared.block.TheConstants.{MAX_OWNERS}
 use Rattle.arc_block.specs.Owned.{IsKept}
 use Rattle.arc_block.specs.Table.{Row}
 use Rattle.arc_block.specs.Writers.{as_sole}
-use Rattle.arc_table.specs.Additions.{Standing, Adds, Joins, Enters, refused}
-use Rattle.arc_table.specs.Additions as History
-use Rattle.arc_table.specs.Blocks.{RowsAgree}
-use Rattle.arc_table.specs.Calls.{Along, Beside, RefusesAt}
-use Rattle.arc_table.specs.Slots.{SlotView, row_of, stand_of, stands_of}
-use Rattle.arc_table.specs.State.{State, state_of}
-use Rattle.arc_table.specs.Splits.{IsSplit}
-use Rattle.arc_table.specs.Step.{Setting, Shortage, no_shortage, Step, answer, split_rows, changed}
-use Rattle.arc_table.specs.declared.command.Cmd.{Cmd}
-use Rattle.arc_table.specs.declared.command.Cmd.TheVariants as command
-use Rattle.arc_table.specs.declared.command.Reply.{Reply}
-use Rattle.arc_table.specs.declared.command.Reply.TheVariants as reply
-use Rattle.arc_table.proofs.Blocks.{step_agrees}
+use Rattle.arc_commands.specs.Additions.{Standing, Adds, Joins, Enters, refused}
+use Rattle.arc_commands.specs.Additions as History
+use Rattle.arc_commands.specs.Blocks.{RowsAgree}
+use Rattle.arc_slots.specs.Calls.{Along, Beside, RefusesAt}
+use Rattle.arc_slots.specs.Slots.{SlotView, row_of, stand_of, stands_of}
+use Rattle.arc_commands.specs.State.{State}
+use Rattle.arc_slots.specs.Slots.{state_of}
+use Rattle.arc_slots.specs.Splits.{IsSplit}
+use Rattle.arc_commands.specs.Step.{Setting, Shortage, no_shortage, Step, answer, split_rows, changed}
+use Rattle.arc_commands.specs.declared.command.Cmd.{Cmd}
+use Rattle.arc_commands.specs.declared.command.Cmd.TheVariants as command
+use Rattle.arc_commands.specs.declared.command.Reply.{Reply}
+use Rattle.arc_commands.specs.declared.command.Reply.TheVariants as reply
+use Rattle.arc_commands.proofs.Blocks.{step_agrees}
 use Rattle.arc_table.proofs.Kept.{Ended, kept-asked-along}
 use Rattle.arc_table.proofs.Rows.{asks}
 use Rattle.arc_table.proofs.Tables.{rows-more, makes-step, refused-step, kept-made, kept-unmade}

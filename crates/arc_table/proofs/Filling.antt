@@ -20,24 +20,25 @@ use Rattle.arc_block.specs.Place.{nowhere, on_block}
 use Rattle.arc_block.specs.Table.{Row, Table, reader, sole_writer, block_of}
 use Rattle.arc_block.specs.Writers.{new_writer, with_more, with_room, Reclaims, as_reader}
 use Rattle.arc_block.proofs.Owned.{kept-begun, kept-gone-nowhere}
-use Rattle.arc_table.specs.Additions.{Standing, Adds, Founds, MayBegin, stand_in}
-use Rattle.arc_table.specs.Slots.{SlotView, row_of, stand_of, stands_of}
-use Rattle.arc_table.specs.State.{State, state_of}
-use Rattle.arc_table.specs.Step.{Setting, Shortage, no_shortage, of_blocks, shortage, answer, on_row}
-use Rattle.arc_table.specs.Step.{is_for, filled, reclaimed, frozen, begun, changed, room_of}
-use Rattle.arc_table.specs.Step.{founded_row, made_row, asking_block}
-use Rattle.arc_table.specs.Writing.{Fills, is_fresh, items_of, additional_of, write_command}
-use Rattle.arc_table.specs.declared.command.Cmd.{Cmd}
-use Rattle.arc_table.specs.declared.command.Cmd.TheVariants as command
-use Rattle.arc_table.specs.declared.command.Reply.{Reply}
-use Rattle.arc_table.specs.declared.command.Reply.TheVariants as reply
-use Rattle.arc_table.specs.declared.slot.Writing.{Writing}
-use Rattle.arc_table.specs.declared.slot.Writing.TheVariants as writing
+use Rattle.arc_commands.specs.Additions.{Standing, Adds, Founds, MayBegin, stand_in}
+use Rattle.arc_slots.specs.Slots.{SlotView, row_of, stand_of, stands_of}
+use Rattle.arc_commands.specs.State.{State}
+use Rattle.arc_slots.specs.Slots.{state_of}
+use Rattle.arc_commands.specs.Step.{Setting, Shortage, no_shortage, of_blocks, shortage, answer, on_row}
+use Rattle.arc_commands.specs.Step.{is_for, filled, reclaimed, frozen, begun, changed, room_of}
+use Rattle.arc_commands.specs.Step.{founded_row, made_row, asking_block}
+use Rattle.arc_slots.specs.Writing.{Fills, is_fresh, items_of, additional_of, write_command}
+use Rattle.arc_commands.specs.declared.command.Cmd.{Cmd}
+use Rattle.arc_commands.specs.declared.command.Cmd.TheVariants as command
+use Rattle.arc_commands.specs.declared.command.Reply.{Reply}
+use Rattle.arc_commands.specs.declared.command.Reply.TheVariants as reply
+use Rattle.arc_slots.specs.declared.slot.Writing.{Writing}
+use Rattle.arc_slots.specs.declared.slot.Writing.TheVariants as writing
 use Rattle.arc_table.proofs.Done.{Done, Fact, done}
 use Rattle.arc_table.proofs.Places.{place_agrees, stand_block}
 use Rattle.arc_table.proofs.Tables.{answered, changed-added, changed-row, kept-changed}
 use Rattle.arc_table.proofs.Tables.{map-slice_set, of-writer, stand-there, unanswered, no-reader}
-use Rattle.arc_table.proofs.Taken.{set-back}
+use Rattle.arc_slots.proofs.Taken.{set-back}
 
 -- what is refused for one reason is refused for no other
 refused-same : (e f : TryReserveError)

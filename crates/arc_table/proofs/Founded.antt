@@ -18,17 +18,17 @@ use Rattle.std.specs.Option.{option_map, option_map_or}
 use Rattle.arc_block.specs.Block.{BlockInfo}
 use Rattle.arc_block.specs.Place.{moved}
 use Rattle.arc_block.specs.Table.{Row, block_of, reader}
-use Rattle.arc_table.specs.Blocks.{RowsAgree}
-use Rattle.arc_table.specs.Step.{Setting, Step}
-use Rattle.arc_table.specs.Slots.{role_of, row_of}
-use Rattle.arc_table.specs.Stands.{numbered}
-use Rattle.arc_table.specs.declared.command.Cmd.TheVariants as command
-use Rattle.arc_table.specs.declared.command.Reply.TheVariants as reply
-use Rattle.arc_table.proofs.Blocks.{step_agrees}
-use Rattle.arc_table.specs.Additions.{Standing, Founds}
-use Rattle.arc_table.specs.Slots.{SlotView, stand_of, stands_of}
-use Rattle.arc_table.specs.Stands.{stand_at}
-use Rattle.arc_table.specs.State.{state_of}
+use Rattle.arc_commands.specs.Blocks.{RowsAgree}
+use Rattle.arc_commands.specs.Step.{Setting, Step}
+use Rattle.arc_slots.specs.Slots.{role_of, row_of}
+use Rattle.arc_slots.specs.Stands.{numbered}
+use Rattle.arc_commands.specs.declared.command.Cmd.TheVariants as command
+use Rattle.arc_commands.specs.declared.command.Reply.TheVariants as reply
+use Rattle.arc_commands.proofs.Blocks.{step_agrees}
+use Rattle.arc_commands.specs.Additions.{Standing, Founds}
+use Rattle.arc_slots.specs.Slots.{SlotView, stand_of, stands_of}
+use Rattle.arc_slots.specs.Stands.{stand_at}
+use Rattle.arc_slots.specs.Slots.{state_of}
 
 abbrev At : Type 0 → Type 0
 At M = Place (Option Owner) M

@@ -16,8 +16,8 @@ use Rattle.arc_block.specs.Place.{Place}
 use Rattle.arc_block.proofs.Owned.{kept-nowhere, kept-gone-nowhere, kept-shared, kept-asked}
 use Rattle.arc_block.proofs.Owned.{kept-full, kept-gone, kept-same, alone-exact, full-here}
 use Rattle.arc_block.proofs.Owned.{room-here}
-use Rattle.arc_table.specs.Calls.{Through, Along, Beside, RefusesAt, AddsNothing}
-use Rattle.arc_table.specs.Stands.{HasPassFor}
+use Rattle.arc_slots.specs.Calls.{Through, Along, Beside, RefusesAt, AddsNothing}
+use Rattle.arc_slots.specs.Stands.{HasPassFor}
 
 -- what a call does to the pass of the owner by which it goes
 abbrev Call : Type 0 → Type 1

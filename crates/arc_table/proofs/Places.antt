@@ -9,9 +9,10 @@ use Rattle.arc_block.specs.Owned.{Stand, number_on, owners_on}
 use Rattle.arc_block.specs.Place.{Place, nowhere, static_data, on_block}
 use Rattle.arc_block.specs.Table.{Row, block_of, stands_on, owners}
 use Rattle.arc_block.proofs.Alone.{same_owners}
-use Rattle.arc_table.specs.Slots.{SlotView, row_of, stand_of, stands_of}
-use Rattle.arc_table.specs.Stands.{numbered, stand_at}
-use Rattle.arc_table.specs.State.{state_of, Agrees}
+use Rattle.arc_slots.specs.Slots.{SlotView, row_of, stand_of, stands_of}
+use Rattle.arc_slots.specs.Stands.{numbered, stand_at}
+use Rattle.arc_commands.specs.State.{Agrees}
+use Rattle.arc_slots.specs.Slots.{state_of}
 
 abbrev At : Type 0 → Type 0
 At M = Place (Option Owner) M

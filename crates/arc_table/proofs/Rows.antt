@@ -10,16 +10,16 @@ use Rattle.arc_owners.specs.declared.count.tokens.Pass.{Pass}
 use Rattle.arc_buffer.specs.Slice.{range_answer, edge_answer}
 use Rattle.arc_block.specs.Table.{Row, Table}
 use Rattle.arc_block.specs.Writers.{after_advance}
-use Rattle.arc_table.specs.Slots.{SlotView, row_of}
-use Rattle.arc_table.specs.State.{state_of}
-use Rattle.arc_table.specs.Step.{Setting, Shortage, no_shortage, of_table, Step, answer, asking}
-use Rattle.arc_table.specs.Step.{with_owner, part_of, cut_row, off_part, to_part, split_rows}
-use Rattle.arc_table.specs.Step.{changed, truncated}
-use Rattle.arc_table.specs.Step.{in_range}
-use Rattle.arc_table.specs.declared.command.Cmd.{Cmd}
-use Rattle.arc_table.specs.declared.command.Cmd.TheVariants as command
-use Rattle.arc_table.specs.declared.command.Reply.{Reply}
-use Rattle.arc_table.specs.declared.command.Reply.TheVariants as reply
+use Rattle.arc_slots.specs.Slots.{SlotView, row_of}
+use Rattle.arc_slots.specs.Slots.{state_of}
+use Rattle.arc_commands.specs.Step.{Setting, Shortage, no_shortage, of_table, Step, answer, asking}
+use Rattle.arc_commands.specs.Step.{with_owner, part_of, cut_row, off_part, to_part, split_rows}
+use Rattle.arc_commands.specs.Step.{changed, truncated}
+use Rattle.arc_commands.specs.Step.{in_range}
+use Rattle.arc_commands.specs.declared.command.Cmd.{Cmd}
+use Rattle.arc_commands.specs.declared.command.Cmd.TheVariants as command
+use Rattle.arc_commands.specs.declared.command.Reply.{Reply}
+use Rattle.arc_commands.specs.declared.command.Reply.TheVariants as reply
 use Rattle.arc_table.proofs.Tables.{answered, for-reader, same-table, show-for, adv-for, trunc-for}
 
 -- what is answered where an owner more is asked for at this row's place, and then these rows are

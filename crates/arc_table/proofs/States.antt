@@ -1,12 +1,12 @@
 -- Ends one after another.
 use Rattle.std.proofs.Common.{ℕ, ◌+◌, List, [], ◌∷◌, ◌++◌, sym, subst, arith}
 use Rattle.std.proofs.lemmas.List.FromFn.{map-range_with_len_more}
-use Rattle.arc_table.specs.RunOf.{RunOf}
-use Rattle.arc_table.specs.State.{State, CarriesOut, drops}
-use Rattle.arc_table.specs.Step.{Setting}
-use Rattle.arc_table.specs.declared.command.Cmd.TheVariants.{Drop}
-use Rattle.arc_table.specs.declared.command.Reply.{Reply}
-use Rattle.arc_table.proofs.Runs.{run_push}
+use Rattle.arc_commands.specs.RunOf.{RunOf}
+use Rattle.arc_commands.specs.State.{State, CarriesOut, drops}
+use Rattle.arc_commands.specs.Step.{Setting}
+use Rattle.arc_commands.specs.declared.command.Cmd.TheVariants.{Drop}
+use Rattle.arc_commands.specs.declared.command.Reply.{Reply}
+use Rattle.arc_commands.proofs.Runs.{run_push}
 
 -- one window more has ended
 pub dropped_more : {T M : Type 0} (setting : Setting T) (old : State T M) (n : ℕ)

@@ -12,12 +12,13 @@ use Rattle.arc_block.specs.Owned.{Stand, IsKept}
 use Rattle.arc_block.specs.Place.{static_data}
 use Rattle.arc_block.specs.Table.{Table, block_of}
 use Rattle.arc_block.proofs.Owned.{kept-nowhere, kept-gone-nowhere}
-use Rattle.arc_table.specs.Slots.{SlotView, row_of, stand_of, stands_of}
-use Rattle.arc_table.specs.State.{State, state_of}
-use Rattle.arc_table.specs.Step.{Setting, Shortage, no_shortage, of_table, Step, answer, asking}
-use Rattle.arc_table.specs.Step.{with_static, take_items}
-use Rattle.arc_table.specs.declared.command.Cmd.TheVariants as command
-use Rattle.arc_table.specs.declared.command.Reply.TheVariants as reply
+use Rattle.arc_slots.specs.Slots.{SlotView, row_of, stand_of, stands_of}
+use Rattle.arc_commands.specs.State.{State}
+use Rattle.arc_slots.specs.Slots.{state_of}
+use Rattle.arc_commands.specs.Step.{Setting, Shortage, no_shortage, of_table, Step, answer, asking}
+use Rattle.arc_commands.specs.Step.{with_static, take_items}
+use Rattle.arc_commands.specs.declared.command.Cmd.TheVariants as command
+use Rattle.arc_commands.specs.declared.command.Reply.TheVariants as reply
 use Rattle.arc_table.proofs.Done.{Done, Fact, done}
 use Rattle.arc_table.proofs.Places.{stand_block, place_agrees}
 use Rattle.arc_table.proofs.Tables.{for-reader, stand-there, map-slice_set}

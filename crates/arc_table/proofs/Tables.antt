@@ -19,24 +19,24 @@ use Rattle.arc_block.specs.Place.{Place, nowhere, static_data, on_block, part_pl
 use Rattle.arc_block.specs.Table.{Row, Table, Role, reader, sole_writer, row_at, block_of}
 use Rattle.arc_block.specs.Table.{owners, is_alone}
 use Rattle.arc_block.specs.Writers.{as_sole}
-use Rattle.arc_table.specs.Calls.{Along, Beside, RefusesAt}
+use Rattle.arc_slots.specs.Calls.{Along, Beside, RefusesAt}
 use Rattle.arc_block.proofs.Owned.{kept-turned}
-use Rattle.arc_table.specs.Slots.{SlotView, role_of, row_of, stand_of, stands_of}
-use Rattle.arc_table.specs.State.{state_of}
-use Rattle.arc_table.specs.Step.{Setting, Shortage, no_shortage, of_clones, Step, answer, asking}
-use Rattle.arc_table.specs.Step.{with_owner, is_full, on_row, is_for, changed, split_rows}
-use Rattle.arc_table.specs.Step.{in_range, part_of, may_write}
+use Rattle.arc_slots.specs.Slots.{SlotView, role_of, row_of, stand_of, stands_of}
+use Rattle.arc_slots.specs.Slots.{state_of}
+use Rattle.arc_commands.specs.Step.{Setting, Shortage, no_shortage, of_clones, Step, answer, asking}
+use Rattle.arc_commands.specs.Step.{with_owner, is_full, on_row, is_for, changed, split_rows}
+use Rattle.arc_commands.specs.Step.{in_range, part_of, may_write}
 use Rattle.arc_owners.specs.declared.error.RangeError.{RangeError}
 use Rattle.arc_buffer.specs.Slice.{sub}
-use Rattle.arc_table.specs.declared.command.Cmd.{Cmd}
-use Rattle.arc_table.specs.declared.command.Cmd.TheVariants as command
-use Rattle.arc_table.specs.declared.command.Reply.{Reply}
-use Rattle.arc_table.specs.declared.command.Reply.TheVariants as reply
+use Rattle.arc_commands.specs.declared.command.Cmd.{Cmd}
+use Rattle.arc_commands.specs.declared.command.Cmd.TheVariants as command
+use Rattle.arc_commands.specs.declared.command.Reply.{Reply}
+use Rattle.arc_commands.specs.declared.command.Reply.TheVariants as reply
 use Rattle.arc_table.proofs.Kept.{room-beside, full-along, alone-along, many-along, many-beside}
 use Rattle.arc_table.proofs.Kept.{many-refused, kept-beside, kept-refused, kept-gone-along}
 use Rattle.arc_table.proofs.Kept.{Ended}
 use Rattle.arc_table.proofs.Places.{stand_block, place_agrees, rows-counted}
-use Rattle.arc_table.proofs.Taken.{set-back}
+use Rattle.arc_slots.proofs.Taken.{set-back}
 
 -- a place may be set before each is changed, or after
 pub map-slice_set : {X Y : Type 0} (f : X → Y) (xs : List X) (i : ℕ) (x : X)

@@ -16,16 +16,17 @@ use Rattle.arc_block.specs.Table.{Row, Table, sole_writer, block_of}
 use Rattle.arc_block.specs.Window.{PartsView}
 use Rattle.arc_block.specs.Writers.{MakesWriter, idle_writer, new_writer}
 use Rattle.arc_block.proofs.Owned.{kept-new, kept-nowhere}
-use Rattle.arc_table.specs.Additions.{Standing, Adds, MakesWindow}
-use Rattle.arc_table.specs.Blocks.{is_sole}
-use Rattle.arc_table.specs.Slots.{SlotView, row_of, stand_of, writer_slot}
-use Rattle.arc_table.specs.Stands.{is_numbered}
-use Rattle.arc_table.specs.State.{State, state_of}
-use Rattle.arc_table.specs.Step.{Setting, no_shortage, answer, with_writer}
-use Rattle.arc_table.specs.declared.command.Cmd.{Cmd}
-use Rattle.arc_table.specs.declared.command.Reply.{Reply}
-use Rattle.arc_table.specs.declared.command.Reply.TheVariants as reply
-use Rattle.arc_table.proofs.Lists.{behind, none-or-some}
+use Rattle.arc_commands.specs.Additions.{Standing, Adds, MakesWindow}
+use Rattle.arc_commands.specs.Blocks.{is_sole}
+use Rattle.arc_slots.specs.Slots.{SlotView, row_of, stand_of, writer_slot}
+use Rattle.arc_slots.specs.Stands.{is_numbered}
+use Rattle.arc_commands.specs.State.{State}
+use Rattle.arc_slots.specs.Slots.{state_of}
+use Rattle.arc_commands.specs.Step.{Setting, no_shortage, answer, with_writer}
+use Rattle.arc_commands.specs.declared.command.Cmd.{Cmd}
+use Rattle.arc_commands.specs.declared.command.Reply.{Reply}
+use Rattle.arc_commands.specs.declared.command.Reply.TheVariants as reply
+use Rattle.arc_commands.proofs.Lists.{behind, none-or-some}
 use Rattle.arc_table.proofs.Done.{Done, Fact, done}
 
 -- it is a sole writer, and stands where it should

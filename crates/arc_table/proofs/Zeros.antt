@@ -7,11 +7,11 @@ use Rattle.std.proofs.lemmas.Bool.{false≢true}
 use Rattle.arc_owners.specs.declared.count.tokens.Pass.{Pass}
 use Rattle.arc_owners.specs.declared.mark.Whole.{Whole}
 use Rattle.arc_block.specs.Table.{Table}
-use Rattle.arc_table.specs.Slots.{SlotView}
-use Rattle.arc_table.specs.State.{state_of}
-use Rattle.arc_table.specs.Step.{Setting, Shortage, Step, answer, asking, of_table, with_writer}
-use Rattle.arc_table.specs.declared.command.Cmd.TheVariants as command
-use Rattle.arc_table.specs.declared.command.Reply.TheVariants as reply
+use Rattle.arc_slots.specs.Slots.{SlotView}
+use Rattle.arc_slots.specs.Slots.{state_of}
+use Rattle.arc_commands.specs.Step.{Setting, Shortage, Step, answer, asking, of_table, with_writer}
+use Rattle.arc_commands.specs.declared.command.Cmd.TheVariants as command
+use Rattle.arc_commands.specs.declared.command.Reply.TheVariants as reply
 
 -- the one that there is
 pub record Has {T : Type 0} (x : Option T) : Type 0 where

@@ -1,13 +1,13 @@
 //! Laws of the table of lists.
 ghost use Rattle.std.specs.Prelude.{Bool, List};
 ghost use Rattle.arc_block.specs.Table.{Table, empty_table};
-ghost use Rattle.arc_table.specs.Blocks.{RowsAgree};
-ghost use Rattle.arc_table.specs.Fits.{RowsFit};
-ghost use Rattle.arc_table.specs.RunOf.{RunOf};
-ghost use Rattle.arc_table.specs.State.{CarriesOut, State};
-ghost use Rattle.arc_table.specs.Step.{Run, Setting, Step};
-ghost use Rattle.arc_table.specs.declared.command.Cmd.{Cmd};
-ghost use Rattle.arc_table.specs.declared.command.Reply.{Reply};
+ghost use Rattle.arc_commands.specs.Blocks.{RowsAgree};
+ghost use Rattle.arc_commands.specs.Fits.{RowsFit};
+ghost use Rattle.arc_commands.specs.RunOf.{RunOf};
+ghost use Rattle.arc_commands.specs.State.{CarriesOut, State};
+ghost use Rattle.arc_commands.specs.Step.{Run, Setting, Step};
+ghost use Rattle.arc_commands.specs.declared.command.Cmd.{Cmd};
+ghost use Rattle.arc_commands.specs.declared.command.Reply.{Reply};
 
 /// The rows that stand on one block agree about it, in every table that comes of the empty one: no
 /// row of that stands on a block, each step keeps the agreement, and so does each run, also one of

@@ -1,17 +1,17 @@
 //! `Table`, windows by number.
 ghost use Rattle.std.specs.Mem.{FitsInMemory, type_size};
 
-use crate::command::{Cmd, Reply, TableCmd, TableReply};
-use crate::commands::Commands;
-use crate::passes::Passes;
-use crate::slot::{Held, Slot, Writing};
 use arc_block::layout::{DefaultLayout, Layout, LayoutMut, stands_on_nothing};
 use arc_block::static_slice::StaticSlice;
 use arc_buffer::kinds::Slice;
+use arc_commands::command::{Cmd, Reply, TableCmd, TableReply};
+use arc_kinds::kinds::Commands;
 use arc_owners::mark::Whole;
 use arc_owners::owners::Pass;
 use arc_read::slice::ArcSlice;
-use slots::{end_slots, make_room, slot_at};
+use arc_slots::passes::Passes;
+use arc_slots::slot::{Held, Slot, Writing};
+use arc_slots::slots::{end_slots, make_room, slot_at};
 use std::alloc::{Allocator, Global};
 use std::marker::Model;
 use std::mem;
@@ -44,9 +44,10 @@ where
 {
     ghost use Rattle.arc_block.specs.declared.block.TheConstants.{MAX_OWNERS};
     ghost use Rattle.arc_block.specs.Owned.{IsKept};
-    ghost use Rattle.arc_table.specs.Blocks.{RowsAgree};
-    ghost use Rattle.arc_table.specs.Slots.{stands_of};
-    ghost use Rattle.arc_table.specs.State.{State, state_of};
+    ghost use Rattle.arc_commands.specs.Blocks.{RowsAgree};
+    ghost use Rattle.arc_slots.specs.Slots.{stands_of};
+    ghost use Rattle.arc_commands.specs.State.{State};
+    ghost use Rattle.arc_slots.specs.Slots.{state_of};
 
     ghost Value = { State S.Item M };
 
@@ -65,13 +66,13 @@ where
     ghost use Rattle.std.specs.Prelude.{◌≡◌, [], length, slice_set};
     ghost use Rattle.arc_block.specs.declared.block.TheConstants.{MAX_OWNERS};
     ghost use Rattle.arc_block.specs.Owned.{IsKept};
-    ghost use Rattle.arc_table.specs.Step.{Step, no_shortage, setting_of, shortage};
-    ghost use Rattle.arc_table.specs.Seen.{map_reply, seen_command, seen_reply};
-    ghost use Rattle.arc_table.specs.Additions.{Adds};
-    ghost use Rattle.arc_table.specs.Writing.{seen_writing, write_command};
-    ghost use Rattle.arc_table.specs.Blocks.{RowsAgree};
-    ghost use Rattle.arc_table.specs.State.{Agrees, CarriesOut, EndsAll, EndsWith, empty_state};
-    ghost use Rattle.arc_table.specs.declared.command.Cmd.TheVariants as command;
+    ghost use Rattle.arc_commands.specs.Step.{Step, no_shortage, setting_of, shortage};
+    ghost use Rattle.arc_commands.specs.Seen.{map_reply, seen_command, seen_reply};
+    ghost use Rattle.arc_commands.specs.Additions.{Adds};
+    ghost use Rattle.arc_slots.specs.Writing.{seen_writing, write_command};
+    ghost use Rattle.arc_commands.specs.Blocks.{RowsAgree};
+    ghost use Rattle.arc_commands.specs.State.{Agrees, CarriesOut, EndsAll, EndsWith, empty_state};
+    ghost use Rattle.arc_commands.specs.declared.command.Cmd.TheVariants as command;
 
     /// No window yet. Takes no memory.
     pub fn new(alloc: A) -> Self
@@ -536,5 +537,4 @@ where
 }
 
 mod run;
-mod slots;
 mod writers;

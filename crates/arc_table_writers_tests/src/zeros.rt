@@ -2,7 +2,7 @@
 use arc_block::layout::DefaultLayout;
 use arc_buffer::kinds::{ByteText, Plain};
 use arc_table::command::{Cmd, Reply};
-use arc_table::commands::{NoZero, TableItem};
+use arc_table::kinds::{NoZero, TableItem};
 use arc_table::table::Table;
 use linked_list_allocator::LocalHeap;
 use std::test::Fail;

@@ -4,9 +4,9 @@ ghost use Rattle.std.specs.Mem.{FitsInMemory, type_size};
 ghost use Rattle.std.specs.Vec.{vec_len};
 
 use super::Table;
-use crate::command::{TableCmd, TableReply};
-use crate::commands::Commands;
 use arc_block::layout::{Layout, LayoutMut};
+use arc_commands::command::{TableCmd, TableReply};
+use arc_kinds::kinds::Commands;
 use arc_owners::error::AllocError;
 use std::alloc::Allocator;
 use std::sync::Wait;
@@ -16,10 +16,10 @@ where
     S::Item: Copy,
     L::Writable: LayoutMut,
 {
-    ghost use Rattle.arc_table.specs.RunOf.{RunOf};
-    ghost use Rattle.arc_table.specs.Seen.{seen_command, seen_reply};
-    ghost use Rattle.arc_table.specs.State.{CarriesOut};
-    ghost use Rattle.arc_table.specs.Step.{setting_of};
+    ghost use Rattle.arc_commands.specs.RunOf.{RunOf};
+    ghost use Rattle.arc_commands.specs.Seen.{seen_command, seen_reply};
+    ghost use Rattle.arc_commands.specs.State.{CarriesOut};
+    ghost use Rattle.arc_commands.specs.Step.{setting_of};
 
     /// Carries out the commands one after another, each as `step` does, and answers the reply to
     /// each at its place.

@@ -2,13 +2,13 @@
 ghost use Rattle.std.specs.Mem.{FitsInMemory, type_size};
 
 use super::Table;
-use super::slots::{make_room, push_writer, put_slot, slot_at};
-use crate::command::{Reply, TableReply};
-use crate::commands::{Commands, ZeroOf};
-use crate::slot::Writing;
 use arc_block::layout::{Layout, LayoutMut};
+use arc_commands::command::{Reply, TableReply};
+use arc_kinds::kinds::{Commands, ZeroOf};
 use arc_owners::error::TryReserveError;
 use arc_owners::owners::Pass;
+use arc_slots::slot::Writing;
+use arc_slots::slots::{make_room, push_writer, put_slot, slot_at};
 use arc_write::slice_mut::ArcSliceMut;
 use std::alloc::Allocator;
 use std::mem;
@@ -18,11 +18,11 @@ where
     S::Item: Copy,
     L::Writable: LayoutMut,
 {
-    ghost use Rattle.arc_table.specs.Step.{Step, setting_of};
-    ghost use Rattle.arc_table.specs.Seen.{seen_reply};
-    ghost use Rattle.arc_table.specs.Additions.{Adds};
-    ghost use Rattle.arc_table.specs.Writing.{seen_writing, write_command};
-    ghost use Rattle.arc_table.specs.declared.command.Cmd.TheVariants as command;
+    ghost use Rattle.arc_commands.specs.Step.{Step, setting_of};
+    ghost use Rattle.arc_commands.specs.Seen.{seen_reply};
+    ghost use Rattle.arc_commands.specs.Additions.{Adds};
+    ghost use Rattle.arc_slots.specs.Writing.{seen_writing, write_command};
+    ghost use Rattle.arc_commands.specs.declared.command.Cmd.TheVariants as command;
 
     /// A window that is written, with no items and no places, on nothing. Takes memory for the new
     /// slot; refused, the answer is `Alloc`.

@@ -1,4 +1,4 @@
-use Rattle.arc_table.specs.Seen.{seen_command}
+use Rattle.arc_commands.specs.Seen.{seen_command}
 use Rattle.arc_forms.proofs.Forms.{read_ok, read_err}
 use Rattle.arc_forms.proofs.parse.parse.Goals as goal
 

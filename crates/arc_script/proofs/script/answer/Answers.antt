@@ -1,9 +1,9 @@
 -- The reply is the one that the windows gave; its text stands in out, or there was no room for it.
 use Rattle.std.proofs.Common.{Some, ap, subst, sym, ◌∙◌}
 use Rattle.std.specs.Option.{option_map}
-use Rattle.arc_table.specs.Seen.{map_reply, seen_command, seen_reply}
-use Rattle.arc_table.specs.State.{CarriesOut}
-use Rattle.arc_table.specs.declared.command.Cmd.TheVariants.{Show}
+use Rattle.arc_commands.specs.Seen.{map_reply, seen_command, seen_reply}
+use Rattle.arc_commands.specs.State.{CarriesOut}
+use Rattle.arc_commands.specs.declared.command.Cmd.TheVariants.{Show}
 use Rattle.arc_script.specs.Script.{byte_setting}
 use Rattle.arc_script.specs.State.{CarriesOutSaid}
 use Rattle.arc_forms.proofs.Forms.{on_err}

@@ -1,8 +1,8 @@
 -- A step keeps the agreement, and so does a run.
-use Rattle.arc_table.specs.State.{State, CarriesOut}
-use Rattle.arc_table.specs.Step.{Step}
-use Rattle.arc_table.proofs.Blocks.{step_agrees, run_agrees}
-use Rattle.arc_table.proofs.Runs.{run_seen}
+use Rattle.arc_commands.specs.State.{State, CarriesOut}
+use Rattle.arc_commands.specs.Step.{Step}
+use Rattle.arc_commands.proofs.Blocks.{step_agrees, run_agrees}
+use Rattle.arc_commands.proofs.Runs.{run_seen}
 use Rattle.arc_table.proofs.laws.rows_agree.Goals as goal
 
 pub returns-clause-step : goal.returns-clause-step

@@ -1,6 +1,6 @@
 use Rattle.std.proofs.Common.{subst}
-use Rattle.arc_table.specs.Blocks.{RowsAgree}
-use Rattle.arc_table.specs.State.{State, Agrees}
+use Rattle.arc_commands.specs.Blocks.{RowsAgree}
+use Rattle.arc_commands.specs.State.{State, Agrees}
 use Rattle.arc_table.proofs.Places.{state-agrees}
 use Rattle.arc_table.proofs.table.Table.agree.Goals as goal
 

@@ -2,9 +2,9 @@
 use Rattle.std.specs.Mem.{type_size}
 use Rattle.std.proofs.Common.{List, sym, subst}
 use Rattle.std.specs.declared.vec.Vec.{Vec}
-use Rattle.arc_table.specs.Seen.{seen_command, seen_reply}
-use Rattle.arc_table.specs.Step.{Setting, Step, setting_of}
-use Rattle.arc_table.specs.declared.command.Cmd.{Cmd}
+use Rattle.arc_commands.specs.Seen.{seen_command, seen_reply}
+use Rattle.arc_commands.specs.Step.{Setting, Step, setting_of}
+use Rattle.arc_commands.specs.declared.command.Cmd.{Cmd}
 use Rattle.arc_table.proofs.table.Table.answer.Given.{Over}
 use Rattle.arc_table.proofs.table.Table.answer.Goals as goal
 

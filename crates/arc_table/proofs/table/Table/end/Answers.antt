@@ -2,8 +2,8 @@
 use Rattle.std.proofs.Common.{◌≡◌, ℕ, None, ap, sym, subst}
 use Rattle.arc_block.specs.declared.block.TheConstants.{MAX_OWNERS}
 use Rattle.arc_block.specs.Table.{row_at}
-use Rattle.arc_table.specs.State.{State}
-use Rattle.arc_table.proofs.Ended.{slots-gone, kept-gone-all}
+use Rattle.arc_commands.specs.State.{State}
+use Rattle.arc_slots.proofs.Ended.{slots-gone, kept-gone-all}
 use Rattle.arc_table.proofs.table.Table.end.Goals as goal
 
 pub end_slots-requires : goal.end_slots-requires

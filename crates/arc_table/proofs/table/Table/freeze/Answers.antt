@@ -4,25 +4,26 @@ use Rattle.std.proofs.Common.{◌≡◌, ◌==◌, true, false, Some, length, is
 use Rattle.std.proofs.Common.{slice_set, List, refl, sym, ap, ◌∙◌, subst, arith}
 use Rattle.std.specs.Option.{option_flatten}
 use Rattle.std.proofs.lemmas.Option.{none-some, same_Some, slice_get_within}
-use Rattle.arc_table.specs.Slots.{SlotView, row_of, stand_of}
-use Rattle.arc_table.specs.Stands.{HasPassFor}
-use Rattle.arc_table.specs.State.{State, state_of}
-use Rattle.arc_table.specs.Step.{Setting, Step, setting_of, answer, of_blocks}
-use Rattle.arc_table.specs.declared.command.Cmd.TheVariants as command
-use Rattle.arc_table.specs.declared.command.Reply.TheVariants as reply
-use Rattle.arc_table.proofs.Lists.{read-there, same_entry, no_error, an_error}
+use Rattle.arc_slots.specs.Slots.{SlotView, row_of, stand_of}
+use Rattle.arc_slots.specs.Stands.{HasPassFor}
+use Rattle.arc_commands.specs.State.{State}
+use Rattle.arc_slots.specs.Slots.{state_of}
+use Rattle.arc_commands.specs.Step.{Setting, Step, setting_of, answer, of_blocks}
+use Rattle.arc_commands.specs.declared.command.Cmd.TheVariants as command
+use Rattle.arc_commands.specs.declared.command.Reply.TheVariants as reply
+use Rattle.arc_commands.proofs.Lists.{read-there, same_entry, no_error, an_error}
 use Rattle.arc_table.proofs.Kept.{known-pass}
 use Rattle.arc_table.proofs.Done.{Done}
 use Rattle.arc_table.proofs.Tables.{stand-there, unanswered, no-reader}
 use Rattle.arc_block.proofs.Lists.{get-set}
-use Rattle.arc_table.proofs.Taken.{set-twice}
+use Rattle.arc_slots.proofs.Taken.{set-twice}
 use Rattle.std.proofs.Common.{◌&&◌, not}
 use Rattle.std.proofs.Common.{Bool}
 use Rattle.std.proofs.lemmas.Bool.{false≢true}
 use Rattle.arc_owners.specs.declared.mark.Whole.{Whole}
 use Rattle.arc_owners.specs.declared.count.tokens.Pass.{Pass}
-use Rattle.arc_table.specs.Additions.{Founds}
-use Rattle.arc_table.specs.Step.{made_row}
+use Rattle.arc_commands.specs.Additions.{Founds}
+use Rattle.arc_commands.specs.Step.{made_row}
 use Rattle.arc_block.specs.Table.{block_of}
 use Rattle.arc_table.proofs.Filling.{froze, unfroze, no-block}
 use Rattle.arc_table.proofs.table.Table.freeze.Given.{Over}

@@ -6,14 +6,15 @@ use Rattle.std.proofs.Common.{◌≡◌, true, false, Some, length, slice_get, s
 use Rattle.std.proofs.Common.{sym, ap, ◌∙◌, subst, arith}
 use Rattle.std.proofs.lemmas.Bool.{eq-eqb, ne_eqb}
 use Rattle.arc_block.proofs.Lists.{get-set}
-use Rattle.arc_table.specs.Slots.{SlotView, stand_of}
-use Rattle.arc_table.specs.State.{State, state_of}
-use Rattle.arc_table.specs.Step.{Setting, Step, setting_of}
-use Rattle.arc_table.specs.declared.command.Cmd.TheVariants as command
-use Rattle.arc_table.specs.declared.command.Reply.TheVariants as reply
+use Rattle.arc_slots.specs.Slots.{SlotView, stand_of}
+use Rattle.arc_commands.specs.State.{State}
+use Rattle.arc_slots.specs.Slots.{state_of}
+use Rattle.arc_commands.specs.Step.{Setting, Step, setting_of}
+use Rattle.arc_commands.specs.declared.command.Cmd.TheVariants as command
+use Rattle.arc_commands.specs.declared.command.Reply.TheVariants as reply
 use Rattle.arc_table.proofs.Kept.{known-pass}
-use Rattle.arc_table.proofs.Lists.{read-there, same_entry}
-use Rattle.arc_table.proofs.Taken.{set-twice, set-back}
+use Rattle.arc_commands.proofs.Lists.{read-there, same_entry}
+use Rattle.arc_slots.proofs.Taken.{set-twice, set-back}
 use Rattle.arc_table.proofs.Tables.{unanswered, no-writer, stand-there}
 use Rattle.arc_table.proofs.Done.{Done, wrote, unwritten}
 use Rattle.arc_table.proofs.table.Table.make_mut.Given.{Over}

@@ -4,13 +4,13 @@ use Rattle.std.proofs.Common.{◌≡◌, true, false, Some, is_some, slice_get}
 use Rattle.std.proofs.Common.{slice_set, List, refl, sym, ap, ◌∙◌, subst, arith}
 use Rattle.std.specs.Option.{option_flatten}
 use Rattle.std.proofs.lemmas.Option.{none-some, same_Some, slice_get_within}
-use Rattle.arc_table.specs.Slots.{SlotView, row_of}
-use Rattle.arc_table.specs.State.{State}
-use Rattle.arc_table.specs.Step.{Setting, Step, setting_of, room_of}
-use Rattle.arc_table.specs.declared.command.Cmd.TheVariants as command
-use Rattle.arc_table.specs.declared.command.Reply.{Reply}
-use Rattle.arc_table.specs.declared.command.Reply.TheVariants as reply
-use Rattle.arc_table.proofs.Lists.{read-there, same_entry}
+use Rattle.arc_slots.specs.Slots.{SlotView, row_of}
+use Rattle.arc_commands.specs.State.{State}
+use Rattle.arc_commands.specs.Step.{Setting, Step, setting_of, room_of}
+use Rattle.arc_commands.specs.declared.command.Cmd.TheVariants as command
+use Rattle.arc_commands.specs.declared.command.Reply.{Reply}
+use Rattle.arc_commands.specs.declared.command.Reply.TheVariants as reply
+use Rattle.arc_commands.proofs.Lists.{read-there, same_entry}
 use Rattle.arc_table.proofs.Done.{Done}
 use Rattle.arc_table.proofs.Tables.{unanswered, no-reader}
 use Rattle.arc_table.proofs.Filling.{has, has-none}

@@ -5,13 +5,13 @@ use Rattle.std.proofs.Common.{◌≡◌, Some, None, length, map, slice_get, sli
 use Rattle.std.proofs.Common.{arith}
 use Rattle.std.proofs.Common.{subst}
 use Rattle.std.specs.Option.{option_map, option_flatten}
-use Rattle.arc_table.specs.Slots.{row_of, stand_of}
-use Rattle.arc_table.specs.State.{State}
-use Rattle.arc_table.specs.Step.{Setting, setting_of}
-use Rattle.arc_table.specs.Step.{Step}
-use Rattle.arc_table.specs.declared.command.Cmd.TheVariants as command
-use Rattle.arc_table.specs.declared.command.Reply.TheVariants as reply
-use Rattle.arc_table.proofs.Lists.{read-there}
+use Rattle.arc_slots.specs.Slots.{row_of, stand_of}
+use Rattle.arc_commands.specs.State.{State}
+use Rattle.arc_commands.specs.Step.{Setting, setting_of}
+use Rattle.arc_commands.specs.Step.{Step}
+use Rattle.arc_commands.specs.declared.command.Cmd.TheVariants as command
+use Rattle.arc_commands.specs.declared.command.Reply.TheVariants as reply
+use Rattle.arc_commands.proofs.Lists.{read-there}
 use Rattle.arc_table.proofs.Kept.{known-pass, many-along, Ended}
 use Rattle.arc_table.proofs.Tables.{stand-there, none-there, map-slice_set}
 use Rattle.arc_table.proofs.Tables.{unanswered}

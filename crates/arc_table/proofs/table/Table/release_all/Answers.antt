@@ -3,12 +3,12 @@ use Rattle.std.specs.Mem.{type_size}
 use Rattle.std.proofs.Common.{◌≡◌, ◌++◌, ◌∷◌, [], length, None, refl, sym, ap, ◌∙◌, subst, arith}
 use Rattle.std.proofs.lemmas.List.{length-map, length-set}
 use Rattle.std.specs.Option.{option_map}
-use Rattle.arc_table.specs.RunOf.{RunOf}
-use Rattle.arc_table.specs.Seen.{seen_reply}
-use Rattle.arc_table.specs.Slots.{row_of}
-use Rattle.arc_table.specs.State.{State, CarriesOut, drops}
-use Rattle.arc_table.specs.Step.{Setting, setting_of}
-use Rattle.arc_table.proofs.Lists.{gone-below, all-gone}
+use Rattle.arc_commands.specs.RunOf.{RunOf}
+use Rattle.arc_commands.specs.Seen.{seen_reply}
+use Rattle.arc_slots.specs.Slots.{row_of}
+use Rattle.arc_commands.specs.State.{State, CarriesOut, drops}
+use Rattle.arc_commands.specs.Step.{Setting, setting_of}
+use Rattle.arc_commands.proofs.Lists.{gone-below, all-gone}
 use Rattle.arc_table.proofs.States.{dropped_more}
 use Rattle.arc_table.proofs.table.Table.release_all.Goals as goal
 

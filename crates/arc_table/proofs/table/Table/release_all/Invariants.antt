@@ -1,10 +1,10 @@
 use Rattle.std.specs.Mem.{type_size}
 use Rattle.std.proofs.Common.{◌≡◌, ℕ, ◌<◌, List, None, length}
 use Rattle.arc_block.specs.Table.{row_at}
-use Rattle.arc_table.specs.RunOf.{RunOf}
-use Rattle.arc_table.specs.State.{CarriesOut, drops}
-use Rattle.arc_table.specs.Step.{setting_of}
-use Rattle.arc_table.specs.declared.command.Reply.{Reply}
+use Rattle.arc_commands.specs.RunOf.{RunOf}
+use Rattle.arc_commands.specs.State.{CarriesOut, drops}
+use Rattle.arc_commands.specs.Step.{setting_of}
+use Rattle.arc_commands.specs.declared.command.Reply.{Reply}
 use Rattle.arc_table.proofs.table.Table.release_all.Given as goal
 
 -- the rows that were reached have ended, one after another

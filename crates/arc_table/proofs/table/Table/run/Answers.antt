@@ -4,11 +4,11 @@ use Rattle.std.proofs.Common.{◌≡◌, [], ◌∷◌, ◌++◌, length, map, s
 use Rattle.std.proofs.Common.{append_assoc, append-nil, arith}
 use Rattle.std.proofs.lemmas.List.{nil_from_length}
 use Rattle.std.specs.Vec.Iter.{into_iter_items}
-use Rattle.arc_table.specs.RunOf.{RunOf}
-use Rattle.arc_table.specs.Seen.{seen_command, seen_reply}
-use Rattle.arc_table.specs.State.{CarriesOut}
-use Rattle.arc_table.specs.Step.{Setting, setting_of}
-use Rattle.arc_table.proofs.Runs.{run_push_seen}
+use Rattle.arc_commands.specs.RunOf.{RunOf}
+use Rattle.arc_commands.specs.Seen.{seen_command, seen_reply}
+use Rattle.arc_commands.specs.State.{CarriesOut}
+use Rattle.arc_commands.specs.Step.{Setting, setting_of}
+use Rattle.arc_commands.proofs.Runs.{run_push_seen}
 use Rattle.arc_table.proofs.table.Table.run.Goals as goal
 
 pub loop-command-preserved : goal.loop-command-preserved

@@ -3,15 +3,16 @@
 use Rattle.std.specs.Mem.{type_size}
 use Rattle.std.proofs.Common.{◌&&◌, ◌==◌, true, false, Some, [], ◌∷◌, length, refl, ap, sym, ◌∙◌}
 use Rattle.std.proofs.Common.{subst, arith}
-use Rattle.arc_table.specs.Additions.{Adds}
-use Rattle.arc_table.specs.State.{State, state_of}
-use Rattle.arc_table.specs.declared.command.Cmd.TheVariants as command
-use Rattle.arc_table.specs.declared.command.Reply.TheVariants as reply
-use Rattle.arc_table.proofs.Lists.{behind, no_error}
+use Rattle.arc_commands.specs.Additions.{Adds}
+use Rattle.arc_commands.specs.State.{State}
+use Rattle.arc_slots.specs.Slots.{state_of}
+use Rattle.arc_commands.specs.declared.command.Cmd.TheVariants as command
+use Rattle.arc_commands.specs.declared.command.Reply.TheVariants as reply
+use Rattle.arc_commands.proofs.Lists.{behind, no_error}
 use Rattle.arc_table.proofs.Founded.{nowhere-kept, nowhere-added, block-kept, block-added}
 use Rattle.arc_table.proofs.Founded.{founded-agrees}
 use Rattle.std.proofs.lemmas.List.{length-append}
-use Rattle.arc_table.specs.Step.{Setting, setting_of}
+use Rattle.arc_commands.specs.Step.{Setting, setting_of}
 use Rattle.arc_table.proofs.table.Table.slice.Given.{Over}
 use Rattle.arc_table.proofs.table.Table.slice.Goals as goal
 

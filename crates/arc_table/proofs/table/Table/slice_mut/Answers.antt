@@ -2,13 +2,14 @@
 -- given.
 use Rattle.std.specs.Mem.{type_size}
 use Rattle.std.proofs.Common.{length, refl, sym, ◌∙◌, subst, arith}
-use Rattle.arc_table.specs.State.{State, state_of}
-use Rattle.arc_table.specs.Step.{Setting, setting_of}
-use Rattle.arc_table.specs.declared.command.Cmd.TheVariants as command
-use Rattle.arc_table.specs.declared.command.Reply.TheVariants as reply
-use Rattle.arc_table.proofs.Lists.{no_error}
+use Rattle.arc_commands.specs.State.{State}
+use Rattle.arc_slots.specs.Slots.{state_of}
+use Rattle.arc_commands.specs.Step.{Setting, setting_of}
+use Rattle.arc_commands.specs.declared.command.Cmd.TheVariants as command
+use Rattle.arc_commands.specs.declared.command.Reply.TheVariants as reply
+use Rattle.arc_commands.proofs.Lists.{no_error}
 use Rattle.arc_table.proofs.Done.{Done}
-use Rattle.arc_table.proofs.Lists.{none-of}
+use Rattle.arc_commands.proofs.Lists.{none-of}
 use Rattle.arc_table.proofs.Written.{Pushed, made}
 use Rattle.arc_table.proofs.table.Table.slice_mut.Given.{Over}
 use Rattle.arc_table.proofs.table.Table.slice_mut.Goals.{After-push_writer}

@@ -10,14 +10,15 @@ use Rattle.std.proofs.lemmas.Bool.{cases_eq, eq-eqb, ne_eqb}
 use Rattle.std.proofs.lemmas.Option.{none-some, same_Some, slice_get_within}
 use Rattle.arc_buffer.specs.Slice.{IsEdge, edge_answer}
 use Rattle.arc_block.specs.Table.{Row}
-use Rattle.arc_table.specs.Additions.{Joins}
-use Rattle.arc_table.specs.Slots.{SlotView, row_of, stand_of}
-use Rattle.arc_table.specs.State.{State, state_of}
-use Rattle.arc_table.specs.Step.{Setting, Step, setting_of, of_table, split_rows, to_part, cut_row}
-use Rattle.arc_table.specs.declared.command.Cmd.TheVariants as command
-use Rattle.arc_table.specs.declared.command.Reply.TheVariants as reply
-use Rattle.arc_table.proofs.Lists.{read-there, same_entry, no_error}
-use Rattle.arc_table.proofs.Taken.{set-back}
+use Rattle.arc_commands.specs.Additions.{Joins}
+use Rattle.arc_slots.specs.Slots.{SlotView, row_of, stand_of}
+use Rattle.arc_commands.specs.State.{State}
+use Rattle.arc_slots.specs.Slots.{state_of}
+use Rattle.arc_commands.specs.Step.{Setting, Step, setting_of, of_table, split_rows, to_part, cut_row}
+use Rattle.arc_commands.specs.declared.command.Cmd.TheVariants as command
+use Rattle.arc_commands.specs.declared.command.Reply.TheVariants as reply
+use Rattle.arc_commands.proofs.Lists.{read-there, same_entry, no_error}
+use Rattle.arc_slots.proofs.Taken.{set-back}
 use Rattle.arc_table.proofs.Kept.{known-pass}
 use Rattle.arc_table.proofs.Tables.{row-there, stand-there}
 use Rattle.arc_table.proofs.Tables.{unanswered, no-writer, out-of-range, reads-for}

@@ -1,8 +1,8 @@
 -- The window stands on no block, so no block's owners change.
 use Rattle.std.specs.Mem.{type_size}
 use Rattle.std.proofs.Common.{◌≡◌, ◌∷◌, ◌++◌, [], Some, true, refl, sym, ap, ◌∙◌, arith}
-use Rattle.arc_table.specs.Step.{Setting, setting_of}
-use Rattle.arc_table.proofs.Lists.{behind, no_error}
+use Rattle.arc_commands.specs.Step.{Setting, setting_of}
+use Rattle.arc_commands.proofs.Lists.{behind, no_error}
 use Rattle.arc_table.proofs.Statics.{statics}
 use Rattle.arc_table.proofs.table.Table.static_window.Goals as goal
 

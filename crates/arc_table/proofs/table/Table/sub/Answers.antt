@@ -6,13 +6,14 @@ use Rattle.std.proofs.Common.{◌≡◌, [], ◌∷◌, ◌++◌, length, Some, 
 use Rattle.std.proofs.Common.{arith}
 use Rattle.std.proofs.Common.{subst}
 use Rattle.arc_buffer.specs.Slice.{IsRange, range_answer}
-use Rattle.arc_table.specs.Slots.{SlotView, row_of, stand_of}
-use Rattle.arc_table.specs.State.{State, state_of}
-use Rattle.arc_table.specs.Step.{Setting, Step, setting_of, of_table, part_of}
-use Rattle.arc_table.specs.declared.command.Cmd.TheVariants as command
-use Rattle.arc_table.specs.declared.command.Reply.TheVariants as reply
-use Rattle.arc_table.proofs.Lists.{slice_in, behind, same_entry}
-use Rattle.arc_table.proofs.Lists.{no_error}
+use Rattle.arc_slots.specs.Slots.{SlotView, row_of, stand_of}
+use Rattle.arc_commands.specs.State.{State}
+use Rattle.arc_slots.specs.Slots.{state_of}
+use Rattle.arc_commands.specs.Step.{Setting, Step, setting_of, of_table, part_of}
+use Rattle.arc_commands.specs.declared.command.Cmd.TheVariants as command
+use Rattle.arc_commands.specs.declared.command.Reply.TheVariants as reply
+use Rattle.arc_commands.proofs.Lists.{slice_in, behind, same_entry}
+use Rattle.arc_commands.proofs.Lists.{no_error}
 use Rattle.arc_table.proofs.Kept.{known-pass}
 use Rattle.arc_table.proofs.Tables.{stand-there}
 use Rattle.arc_table.proofs.Tables.{unanswered, no-writer, out-of-range, reads-for, part-as}

@@ -7,13 +7,13 @@ use Rattle.std.proofs.Common.{◌≡◌, false, Some, is_some, slice_get, slice_
 use Rattle.std.proofs.Common.{refl, arith}
 use Rattle.std.proofs.Common.{subst}
 use Rattle.arc_block.specs.Table.{block_of}
-use Rattle.arc_table.specs.Slots.{SlotView, row_of}
-use Rattle.arc_table.specs.State.{State}
-use Rattle.arc_table.specs.Step.{Setting, no_shortage, setting_of}
-use Rattle.arc_table.specs.Step.{Step}
-use Rattle.arc_table.specs.declared.command.Cmd.TheVariants as command
-use Rattle.arc_table.specs.declared.command.Reply.TheVariants as reply
-use Rattle.arc_table.proofs.Lists.{read-there, same_entry}
+use Rattle.arc_slots.specs.Slots.{SlotView, row_of}
+use Rattle.arc_commands.specs.State.{State}
+use Rattle.arc_commands.specs.Step.{Setting, no_shortage, setting_of}
+use Rattle.arc_commands.specs.Step.{Step}
+use Rattle.arc_commands.specs.declared.command.Cmd.TheVariants as command
+use Rattle.arc_commands.specs.declared.command.Reply.TheVariants as reply
+use Rattle.arc_commands.proofs.Lists.{read-there, same_entry}
 use Rattle.arc_table.proofs.Done.{Done}
 use Rattle.arc_table.proofs.Statics.{takes, take-refused}
 use Rattle.arc_table.proofs.table.Table.take_static.Given.{Over}

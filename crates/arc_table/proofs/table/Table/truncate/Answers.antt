@@ -12,13 +12,13 @@ use Rattle.std.proofs.lemmas.Bool.{lt-ltb, le-ltb}
 use Rattle.arc_buffer.specs.Slice.{edge_answer}
 use Rattle.arc_buffer.specs.Slice.{IsEdge}
 use Rattle.arc_block.specs.Table.{Row}
-use Rattle.arc_table.specs.Slots.{SlotView, row_of}
-use Rattle.arc_table.specs.State.{State}
-use Rattle.arc_table.specs.Step.{Setting, setting_of, truncated}
-use Rattle.arc_table.specs.Step.{Step}
-use Rattle.arc_table.specs.declared.command.Cmd.TheVariants as command
-use Rattle.arc_table.specs.declared.command.Reply.TheVariants as reply
-use Rattle.arc_table.proofs.Lists.{read-there, same_entry}
+use Rattle.arc_slots.specs.Slots.{SlotView, row_of}
+use Rattle.arc_commands.specs.State.{State}
+use Rattle.arc_commands.specs.Step.{Setting, setting_of, truncated}
+use Rattle.arc_commands.specs.Step.{Step}
+use Rattle.arc_commands.specs.declared.command.Cmd.TheVariants as command
+use Rattle.arc_commands.specs.declared.command.Reply.TheVariants as reply
+use Rattle.arc_commands.proofs.Lists.{read-there, same_entry}
 use Rattle.arc_table.proofs.Rows.{trunc-answers}
 use Rattle.arc_table.proofs.Rows.{trunc-out-of-range, trunc-longer}
 use Rattle.arc_table.proofs.Done.{Done, become}

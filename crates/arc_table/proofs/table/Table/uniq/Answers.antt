@@ -3,12 +3,12 @@ use Rattle.std.specs.Mem.{type_size}
 use Rattle.std.specs.Option.{option_flatten}
 use Rattle.std.proofs.Common.{◌≡◌, Bool, true, false, if◌then◌else◌, Some, slice_get, sym, ap, ◌∙◌}
 use Rattle.std.proofs.Common.{subst, refl}
-use Rattle.arc_table.specs.Slots.{stand_of}
-use Rattle.arc_table.specs.State.{State}
-use Rattle.arc_table.specs.Step.{Setting, setting_of}
-use Rattle.arc_table.specs.Step.{Step}
-use Rattle.arc_table.specs.declared.command.Cmd.TheVariants as command
-use Rattle.arc_table.specs.declared.command.Reply.TheVariants as reply
+use Rattle.arc_slots.specs.Slots.{stand_of}
+use Rattle.arc_commands.specs.State.{State}
+use Rattle.arc_commands.specs.Step.{Setting, setting_of}
+use Rattle.arc_commands.specs.Step.{Step}
+use Rattle.arc_commands.specs.declared.command.Cmd.TheVariants as command
+use Rattle.arc_commands.specs.declared.command.Reply.TheVariants as reply
 use Rattle.arc_table.proofs.Kept.{known-pass, AsksAlong}
 use Rattle.arc_table.proofs.Tables.{stand-there}
 use Rattle.arc_table.proofs.Tables.{unanswered, no-writer}

@@ -5,21 +5,22 @@ use Rattle.std.proofs.Common.{List, is_some, slice_get, slice_set, refl, sym, ap
 use Rattle.std.proofs.Common.{arith}
 use Rattle.std.specs.Option.{option_flatten}
 use Rattle.std.proofs.lemmas.Option.{none-some, same_Some, slice_get_within}
-use Rattle.arc_table.specs.Slots.{SlotView, row_of, stand_of}
-use Rattle.arc_table.specs.State.{State, state_of}
+use Rattle.arc_slots.specs.Slots.{SlotView, row_of, stand_of}
+use Rattle.arc_commands.specs.State.{State}
+use Rattle.arc_slots.specs.Slots.{state_of}
 use Rattle.arc_owners.specs.declared.error.TryReserveError.{TryReserveError}
 use Rattle.arc_owners.specs.declared.error.TryReserveError.TheVariants.{AllocError}
-use Rattle.arc_table.specs.Stands.{HasPassFor}
-use Rattle.arc_table.specs.Step.{Setting, Step, setting_of, room_of, answer, of_blocks}
-use Rattle.arc_table.specs.declared.command.Reply.{Reply}
-use Rattle.arc_table.specs.declared.command.Reply.TheVariants as reply
-use Rattle.arc_table.proofs.Lists.{read-there, same_entry, no_error, an_error}
+use Rattle.arc_slots.specs.Stands.{HasPassFor}
+use Rattle.arc_commands.specs.Step.{Setting, Step, setting_of, room_of, answer, of_blocks}
+use Rattle.arc_commands.specs.declared.command.Reply.{Reply}
+use Rattle.arc_commands.specs.declared.command.Reply.TheVariants as reply
+use Rattle.arc_commands.proofs.Lists.{read-there, same_entry, no_error, an_error}
 use Rattle.arc_table.proofs.Kept.{known-pass}
 use Rattle.arc_table.proofs.Done.{Done}
 use Rattle.arc_table.proofs.Tables.{stand-there}
-use Rattle.arc_table.specs.Writing.{Fills, is_fresh, items_of, additional_of, seen_writing}
-use Rattle.arc_table.specs.Writing.{write_command}
-use Rattle.arc_table.proofs.Filled.{fresh-stands}
+use Rattle.arc_slots.specs.Writing.{Fills, is_fresh, items_of, additional_of, seen_writing}
+use Rattle.arc_slots.specs.Writing.{write_command}
+use Rattle.arc_slots.proofs.Filled.{fresh-stands}
 use Rattle.arc_table.proofs.Filling.{write-no-window, write-kind, write-adds-other}
 use Rattle.arc_table.proofs.Filling.{write-adds-none, wrote-in, unwritten-in, no-pass}
 use Rattle.arc_table.proofs.table.Table.write.Given.{Over}

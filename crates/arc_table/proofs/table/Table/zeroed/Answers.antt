@@ -5,11 +5,11 @@ use Rattle.std.specs.Prelude.{replicate, IfOk}
 use Rattle.std.proofs.Common.{[], true, refl, sym, subst, ap, length, arith}
 use Rattle.arc_block.specs.Window.{PartsView}
 use Rattle.arc_block.specs.Writers.{MakesWriter}
-use Rattle.arc_table.specs.State.{State}
-use Rattle.arc_table.specs.Step.{Setting, setting_of, no_shortage}
-use Rattle.arc_table.specs.declared.command.Cmd.TheVariants as command
-use Rattle.arc_table.specs.declared.command.Reply.TheVariants as reply
-use Rattle.arc_table.proofs.Lists.{no_error}
+use Rattle.arc_commands.specs.State.{State}
+use Rattle.arc_commands.specs.Step.{Setting, setting_of, no_shortage}
+use Rattle.arc_commands.specs.declared.command.Cmd.TheVariants as command
+use Rattle.arc_commands.specs.declared.command.Reply.TheVariants as reply
+use Rattle.arc_commands.proofs.Lists.{no_error}
 use Rattle.arc_table.proofs.Done.{Done}
 use Rattle.arc_table.proofs.Written.{Pushed, made}
 use Rattle.arc_table.proofs.Zeros.{has, said, zeros-answer, zeros-refused}

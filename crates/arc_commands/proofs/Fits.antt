@@ -1,0 +1,303 @@
+-- Rows lie within their blocks, and what each command makes of them does too.
+use Rattle.std.proofs.Common.{◌≡◌, ℕ, ◌+◌, ◌-◌, ◌≤◌, ◌<◌, ◌==◌, ◌&&◌, not, Bool, true}
+use Rattle.std.proofs.Common.{false, if◌then◌else◌, List, length, take, drop, Option, Some, None}
+use Rattle.std.proofs.Common.{is_some, Result, Ok, Err, refl, sym, ap, ◌∙◌, subst, arith}
+use Rattle.std.specs.Prelude.{nat_lt}
+use Rattle.std.specs.Option.{option_map_or}
+use Rattle.std.proofs.lemmas.Bool.{false≢true, ltb-false, eq-eqb, eqb-true, ne_eqb, and_parts}
+use Rattle.std.proofs.lemmas.List.{length-drop, length-take-le}
+use Rattle.arc_owners.specs.declared.error.RangeError.{RangeError}
+use Rattle.arc_owners.specs.declared.error.RangeError.TheVariants.{OutOfRange}
+use Rattle.arc_buffer.specs.Slice.{sub, range_answer, edge_answer}
+use Rattle.arc_buffer.proofs.Sub.{length-sub}
+use Rattle.arc_block.specs.Block.{native_facts, partly_full, full_places}
+use Rattle.arc_block.specs.Place.{Place, nowhere, static_data, on_block, moved}
+use Rattle.arc_block.specs.Room.{ends_full}
+use Rattle.arc_block.specs.Table.{Row, Role, reader, sole_writer, one_writer_of_several}
+use Rattle.arc_block.specs.Table.{inline, forgotten}
+use Rattle.arc_block.specs.Writers.{capacity_of, with_capacity, writer_capacity, after_advance}
+use Rattle.arc_block.specs.Writers.{as_sole, sole_at}
+use Rattle.arc_commands.specs.Blocks.{is_sole}
+use Rattle.arc_commands.specs.Fits.{LieWithin, HasPlaces, RowFits}
+use Rattle.arc_commands.specs.Step.{Setting, part_of, cut_row, off_part, to_part, truncated}
+
+-- ---- ranges that were tested
+
+abbrev Tested : Type 0
+Tested = Result (Unit {0}) RangeError
+
+not-past : (b : Bool) (m n : ℕ) (e : RangeError) (rest : Tested) → nat_lt m n ≡ b
+    → (if b then Err e else rest) ≡ Ok tt → n ≤ m
+not-past true m n e rest is ok = absurd (cc)
+not-past false m n e rest is ok = ltb-false m n is
+
+then-rest : (b : Bool) (e : RangeError) (rest : Tested) → (if b then Err e else rest) ≡ Ok tt
+    → rest ≡ Ok tt
+then-rest true e rest ok = absurd (cc)
+then-rest false e rest ok = ok
+
+module _ {T : Type 0} (boundary : List T → ℕ → Bool) (xs : List T) where
+  pub in-edge : (at : ℕ) → edge_answer boundary xs at ≡ Ok tt → at ≤ length xs
+  in-edge at ok = not-past (nat_lt (length xs) at) (length xs) at _ _ refl ok
+
+  pub in-range : (start end : ℕ) → range_answer boundary xs start end ≡ Ok tt
+      → (start ≤ end) × (end ≤ length xs)
+  in-range start end ok = (
+    not-past (nat_lt end start) end start _ _ refl
+        (then-rest (nat_lt (length xs) end) OutOfRange _ ok),
+    not-past (nat_lt (length xs) end) (length xs) end _ _ refl ok,
+  )
+
+-- ---- numbers
+
+less-by : (b : Bool) (by len capacity size offset : ℕ)
+    → capacity ≡ (if b then len else size - offset)
+    → capacity - by ≡ (if b then len - by else size - (offset + by))
+less-by true by len capacity size offset is = ap (λ n. n - by) is
+less-by false by len capacity size offset is = omega (arith, is)
+
+ends-before : (full : Option ℕ) (size offset len n : ℕ) → is_some full ≡ true
+    → offset + len ≤ option_map_or (λ f. f) full size → n < len
+    → option_map_or (λ f. offset + n == f) full true ≡ false
+ends-before None size offset len n counted fits less = absurd (false≢true counted)
+ends-before (Some f) size offset len n counted fits less =
+    ne_eqb (offset + n) f (λ e. omega (arith, fits, less, e))
+
+counted : (drops : Bool) (n : ℕ) → is_some (full_places drops n) ≡ drops
+counted true n = refl
+counted false n = refl
+
+ends-at : (drops : Bool) (size n : ℕ) → n ≤ size
+    → (n ≤ option_map_or (λ f. f) (full_places drops n) size)
+    × (option_map_or (λ f. f) (full_places drops n) size ≤ size)
+ends-at true size n less = (omega arith, less)
+ends-at false size n less = (less, omega arith)
+
+-- ---- places
+
+module _ {M : Type 0} (drops : Bool) where
+  within-moved : (place : Place ℕ M) (by len n : ℕ) → LieWithin drops place len → by + n ≤ len
+      → LieWithin drops (moved by place) n
+  within-moved nowhere by len n w fits = omega (arith, w, fits)
+  within-moved static_data by len n w fits = tt
+  within-moved (on_block block offset info) by len n w fits =
+      (w.0, omega (arith, w.1, fits), w.2)
+
+  within-less : (place : Place ℕ M) (len n : ℕ) → LieWithin drops place len → n ≤ len
+      → LieWithin drops place n
+  within-less nowhere len n w fits = omega (arith, w, fits)
+  within-less static_data len n w fits = tt
+  within-less (on_block block offset info) len n w fits = (w.0, omega (arith, w.1, fits), w.2)
+
+  within-if : (b : Bool) (place : Place ℕ M) (n : ℕ) → (b ≡ true → n ≡ 0)
+      → LieWithin drops place n → LieWithin drops (if b then nowhere else place) n
+  within-if true place n none w = none refl
+  within-if false place n none w = w
+
+  places-moved : (place : Place ℕ M) (by len capacity : ℕ) → by ≤ len
+      → HasPlaces drops place len capacity
+      → HasPlaces drops (moved by place) (len - by) (capacity - by)
+  places-moved nowhere by len capacity fits has = omega (arith, has)
+  places-moved static_data by len capacity fits has = has
+  places-moved (on_block block offset info) by len capacity fits has =
+      let same : offset + len ≡ offset + by + (len - by) = omega (arith, fits) in
+      less-by (drops && not (ends_full info (offset + len))) by len capacity info.size offset has
+      ∙ ap (λ end. if drops && not (ends_full info end) then len - by else
+      info.size - (offset + by)) same
+
+-- What is not dropped one by one leaves its places when it is cut off; what is ends before the
+-- block's full places then, and so has none behind it.
+module _ {M : Type 0} where
+  places-left : (place : Place ℕ M) (len n capacity : ℕ) → HasPlaces false place len capacity
+      → HasPlaces false place n capacity
+  places-left nowhere len n capacity has = has
+  places-left static_data len n capacity has = has
+  places-left (on_block block offset info) len n capacity has = has
+
+  places-own : (place : Place ℕ M) (len n capacity : ℕ) → LieWithin true place len → n < len
+      → HasPlaces true place len capacity → HasPlaces true place n n
+  places-own nowhere len n capacity w less has = absurd (omega (arith, w, less))
+  places-own static_data len n capacity w less has = has
+  places-own (on_block block offset info) len n capacity w less has =
+      sym (ap (λ b. if not b then n else info.size - offset)
+      (ends-before info.full info.size offset len n w.0 w.1 less))
+
+-- ---- roles
+
+capacity-with : (role : Role) (n : ℕ) → is_sole (with_capacity role n) ≡ true
+    → capacity_of (with_capacity role n) ≡ n
+capacity-with reader n sole = absurd (false≢true sole)
+capacity-with (sole_writer before) n sole = refl
+capacity-with (one_writer_of_several before) n sole = absurd (false≢true sole)
+capacity-with inline n sole = absurd (false≢true sole)
+capacity-with forgotten n sole = absurd (false≢true sole)
+
+sole-before : (role : Role) (n : ℕ) → is_sole (with_capacity role n) ≡ true → is_sole role ≡ true
+sole-before reader n sole = sole
+sole-before (sole_writer before) n sole = refl
+sole-before (one_writer_of_several before) n sole = sole
+sole-before inline n sole = sole
+sole-before forgotten n sole = sole
+
+-- ---- rows
+
+module _ {T M : Type 0} (drops : Bool) where
+  -- a row that is read, or on a static slice, has no places to tell
+  pub reads-fit : (row : Row T M) → is_sole row.role ≡ false
+      → LieWithin drops row.place (length row.items) → RowFits drops row
+  reads-fit row reads w = record {
+    within = w;
+    writer = λ sole. absurd (false≢true (sym reads ∙ sole));
+  }
+
+  pub advance-fits : (row : Row T M) (by : ℕ) → by ≤ length row.items → RowFits drops row
+      → RowFits drops (after_advance by row)
+  advance-fits row by less f =
+      let long : length (drop by row.items) ≡ length row.items - by = length-drop by row.items in
+      record {
+        within =
+            within-moved drops row.place by (length row.items) (length (drop by row.items)) f.within
+            (omega (arith, long, less));
+        writer = λ sole.
+            let places : capacity_of (with_capacity row.role (capacity_of row.role - by))
+            ≡ capacity_of row.role - by =
+            capacity-with row.role (capacity_of row.role - by) sole in
+            subst (λ n. HasPlaces drops (moved by row.place) (length (drop by row.items)) n)
+            (sym places)
+            (subst (λ n. HasPlaces drops (moved by row.place) n (capacity_of row.role - by))
+            (sym long)
+            (places-moved drops row.place by (length row.items) (capacity_of row.role) less
+            (f.writer (sole-before row.role (capacity_of row.role - by) sole))));
+      }
+
+  -- as a sole writer a row has the places that its place gives
+  at-fits : (items : List T) (place : Place ℕ M) → LieWithin drops place (length items)
+      → RowFits drops (sole_at drops items place)
+  at-fits items nowhere w = record { within = refl; writer = λ sole. refl }
+  at-fits items static_data w = record { within = refl; writer = λ sole. refl }
+  at-fits items (on_block block offset info) w = record { within = w; writer = λ sole. refl }
+
+  pub sole-fits : (row : Row T M) → RowFits drops row → RowFits drops (as_sole drops row)
+  sole-fits row f = at-fits row.items row.place f.within
+
+  -- a window that is made of a list
+  pub founded-fits : (block : ℕ) (items : List T) (nothing : Bool)
+      → (nothing ≡ true → length items ≡ 0)
+      → RowFits {M = M} drops (record {
+        items = items;
+        place = if nothing then nowhere else on_block block 0 (native_facts drops (length items));
+        role = reader;
+      })
+  founded-fits block items nothing none =
+      let n = length items in
+      let ends = ends-at drops n n (omega arith) in
+      let place : Place ℕ M = on_block block 0 (native_facts drops n) in
+      reads-fit (record {
+        items = items;
+        place = if nothing then nowhere else place;
+        role = reader;
+      }) refl
+      (within-if drops nothing place n none (counted drops n, omega (arith, ends.0), ends.1))
+
+  -- a writer with so many places, which are at least as many as its items
+  pub writer-fits : (block : ℕ) (items : List T) (places : ℕ) → length items ≤ places
+      → RowFits {M = M} drops (record {
+        items = items;
+        place = if places == 0 then nowhere else
+            on_block block 0 (partly_full drops places (length items));
+        role = sole_writer places;
+      })
+  writer-fits block items places less =
+      let n = length items in
+      let ends = ends-at drops places n less in
+      let place : Place ℕ M = on_block block 0 (partly_full drops places n) in
+      record {
+        within =
+            within-if drops (places == 0) place n
+            (λ none. omega (arith, eqb-true places 0 none, less))
+            (counted drops n, omega (arith, ends.0), ends.1);
+        writer = λ sole. has (places == 0) refl;
+      }
+    where
+      whole : (d : Bool) (n places : ℕ)
+          → places ≡ writer_capacity {M = M} d (partly_full d places n) 0 n
+      whole true n places =
+          let end : (0 + n == n) ≡ true = eq-eqb (0 + n) n (omega arith) in
+          (omega arith) ∙ sym (ap (λ b. if not b then n else places - 0) end)
+      whole false n places = omega arith
+
+      has : (b : Bool) → (places == 0) ≡ b
+          → HasPlaces {M = M} drops (if b then nowhere else
+          on_block block 0 (partly_full drops places (length items))) (length items) places
+      has true is = eqb-true places 0 is
+      has false is = whole drops (length items) places
+
+-- the row's first items
+pub truncate-fits : {T M : Type 0} (drops : Bool) (row : Row T M) (n : ℕ) → n < length row.items
+    → RowFits drops row → RowFits drops (truncated drops row n)
+truncate-fits true row n less f =
+    let long : length (take n row.items) ≡ n = length-take-le n row.items (omega (arith, less)) in
+    record {
+      within =
+          within-less true row.place (length row.items) (length (take n row.items)) f.within
+          (omega (arith, long, less));
+      writer = λ sole.
+          let places = capacity-with row.role n sole in
+          subst (λ c. HasPlaces true row.place (length (take n row.items)) c) (sym places)
+          (subst (λ m. HasPlaces true row.place m n) (sym long)
+          (places-own row.place (length row.items) n (capacity_of row.role) f.within less
+          (f.writer (sole-before row.role n sole))));
+    }
+truncate-fits false row n less f =
+    let long : length (take n row.items) ≡ n = length-take-le n row.items (omega (arith, less)) in
+    record {
+      within =
+          within-less false row.place (length row.items) (length (take n row.items)) f.within
+          (omega (arith, long, less));
+      writer = λ sole.
+          places-left row.place (length row.items) (length (take n row.items))
+          (capacity_of row.role) (f.writer sole);
+    }
+
+-- ---- parts of a row that is read
+
+module _ {T M : Type 0} (setting : Setting T) (row : Row T M) (reads : is_sole row.role ≡ false)
+    (f : RowFits setting.drops row) where
+  lies : (start end : ℕ) → start ≤ end → end ≤ length row.items
+      → LieWithin setting.drops (moved start row.place) (length (sub row.items start end))
+  lies start end ordered within =
+      within-moved setting.drops row.place start (length row.items)
+      (length (sub row.items start end))
+      f.within (omega (arith, length-sub row.items start end ordered within, ordered, within))
+
+  pub part-fits : (start end : ℕ) → start ≤ end → end ≤ length row.items
+      → RowFits setting.drops (part_of setting.has_static row start end)
+  part-fits start end ordered within =
+      let items = sub row.items start end in
+      let nothing = setting.has_static && (length items == 0) in
+      reads-fit setting.drops (part_of setting.has_static row start end) reads
+      (within-if setting.drops nothing (moved start row.place) (length items)
+      (λ none. eqb-true (length items) 0 (and_parts setting.has_static (length items == 0) none).1)
+      (lies start end ordered within))
+
+  pub cut-fits : (start end : ℕ) → start ≤ end → end ≤ length row.items
+      → RowFits setting.drops (cut_row row start end)
+  cut-fits start end ordered within =
+      reads-fit setting.drops (cut_row row start end) reads (lies start end ordered within)
+
+  one-fits : (b : Bool) (one other : Row T M) → RowFits setting.drops one
+      → RowFits setting.drops other → RowFits setting.drops (if b then one else other)
+  one-fits true one other h k = h
+  one-fits false one other h k = k
+
+  pub off-fits : (at : ℕ) → at ≤ length row.items
+      → RowFits setting.drops (off_part setting.has_static row at)
+  off-fits at within =
+      one-fits (at == 0) (part_of setting.has_static row 0 0) (part_of setting.has_static row at (length row.items))
+      (part-fits 0 0 (omega arith) (omega arith))
+      (part-fits at (length row.items) within (omega arith))
+
+  pub to-fits : (at : ℕ) → at ≤ length row.items → RowFits setting.drops (to_part setting.has_static row at)
+  to-fits at within =
+      one-fits (at == length row.items) (part_of setting.has_static row at at) (part_of setting.has_static row 0 at)
+      (part-fits at at (omega arith) within) (part-fits 0 at (omega arith) within)

@@ -1,0 +1,367 @@
+-- A writer that has got room, and items behind its others, still lies within its block and has the
+-- places that are behind it.
+use Rattle.std.proofs.Common.{inl, inr, ◌≡◌, ℕ, ◌+◌, ◌-◌, ◌≤◌, ◌==◌, ◌&&◌, not, Bool}
+use Rattle.std.proofs.Common.{true, false, if◌then◌else◌, List, [], ◌++◌, length, Option, Some, None}
+use Rattle.std.proofs.Common.{is_some, refl, sym, ap, ◌∙◌, subst, arith}
+use Rattle.std.specs.Prelude.{nat_lt, max, ◌*◌, ◌^◌}
+use Rattle.std.specs.Option.{option_map, option_map_or}
+use Rattle.std.proofs.lemmas.Bool.{false≢true, not-true, ltb-false, eq-eqb, eqb-true, and_parts}
+use Rattle.std.proofs.lemmas.List.{append-nil, length-append}
+use Rattle.arc_owners.specs.declared.error.TryReserveError.{TryReserveError}
+use Rattle.arc_owners.specs.declared.error.TryReserveError.TheVariants.{AllocError, Unsupported}
+use Rattle.arc_owners.specs.declared.error.TryReserveError.TheVariants.{CapacityOverflow}
+use Rattle.arc_block.specs.Block.{Sort, native, BlockInfo, full_places}
+use Rattle.arc_block.specs.Place.{Place, nowhere, static_data, on_block}
+use Rattle.arc_block.specs.Room.{ends_full, growth, room_in}
+use Rattle.arc_block.specs.Table.{Row, sole_writer}
+use Rattle.arc_block.specs.Writers.{capacity_of, room, room_at, with_room, with_more, with_full}
+use Rattle.arc_block.specs.Writers.{new_writer}
+use Rattle.arc_block.specs.declared.parts.room.Room.{Room}
+use Rattle.arc_block.specs.declared.parts.room.Room.TheVariants.{Spare, Fresh, Behind, Front}
+use Rattle.arc_block.specs.declared.parts.room.Room.TheVariants.{Growth, Refused}
+use Rattle.arc_commands.specs.Blocks.{is_sole}
+use Rattle.arc_commands.specs.Fits.{LieWithin, HasPlaces, RowFits}
+use Rattle.arc_commands.proofs.Roles.{sole_each}
+use Rattle.arc_commands.proofs.Lists.{none-of, none-or-some}
+
+-- what isn't both isn't the second where it is the first
+ends-so : (d e : Bool) → (d && not e) ≡ false → d ≡ true → e ≡ true
+ends-so true true off is = refl
+ends-so true false off is = absurd (false≢true (sym off))
+ends-so false e off is = absurd (false≢true is)
+
+-- what room in a block says of the block
+module _ {M : Type 0} (drops : Bool) (size : ℕ) (info : BlockInfo M) (offset len k : ℕ) where
+  abbrev Ends : Type 0
+  Ends = drops ≡ true → ends_full info (offset + len) ≡ true
+
+  abbrev Tells : Room → Type 0
+  Tells Spare = ⊥
+  Tells (Fresh places) = ⊥
+  Tells Behind = Ends × (k ≤ info.size - offset - len)
+  Tells Front = (drops ≡ false) × (k ≤ info.size - len)
+  Tells (Growth places) = Ends × (offset + len + k ≤ places)
+  Tells (Refused e) = Unit {0}
+
+  grown : (b : Bool) (places : ℕ) → Ends → offset + len + k ≤ places
+      → Tells (if b then Refused CapacityOverflow else Growth places)
+  grown true places ends enough = tt
+  grown false places ends enough = (ends, enough)
+
+  larger : (b : Bool) → offset + len + k
+      ≤ (if b then max (2 * info.size) (offset + len + k) else offset + len + k)
+  larger true = omega arith
+  larger false = omega arith
+
+  third : Ends → (b : Bool)
+      → b ≡ (not drops && not (nat_lt offset len) && not (nat_lt (info.size - len) k))
+      → Tells (if b then Front else growth size info.size (offset + len + k))
+  third ends true is =
+      let both = and_parts (not drops && not (nat_lt offset len)) (not (nat_lt (info.size - len) k))
+      (sym is) in
+      let first = and_parts (not drops) (not (nat_lt offset len)) both.0 in
+      (not-true drops first.0, ltb-false (info.size - len) k (not-true _ both.1))
+  third ends false is = grown _ _ ends (larger (nat_lt (2 * info.size) (2 ^ 64)))
+
+  second : Ends → (b : Bool) → b ≡ not (nat_lt (info.size - offset - len) k)
+      → Tells (if b then Behind else
+      if not drops && not (nat_lt offset len) && not (nat_lt (info.size - len) k) then Front else
+      growth size info.size (offset + len + k))
+  second ends true is = (ends, ltb-false (info.size - offset - len) k (not-true _ (sym is)))
+  second ends false is = third ends _ refl
+
+  first : (b : Bool) → b ≡ (drops && not (ends_full info (offset + len)))
+      → Tells (if b then Refused Unsupported else
+      if not (nat_lt (info.size - offset - len) k) then Behind else
+      if not drops && not (nat_lt offset len) && not (nat_lt (info.size - len) k) then Front else
+      growth size info.size (offset + len + k))
+  first true is = tt
+  first false is = second (ends-so drops (ends_full info (offset + len)) (sym is)) _ refl
+
+  room-tells : Tells (room_in drops size info offset len k)
+  room-tells = first _ refl
+
+-- So many items, and then so many more, that end where the full places do and for which there are
+-- places.
+block-fits : {M : Type 0} (drops : Bool) (sort : Sort) (full : Option ℕ) (meta : Option M)
+    (block offset len more places : ℕ) → is_some full ≡ drops → offset + len + more ≤ places
+    → (drops ≡ true → option_map_or (λ f. offset + len == f) full true ≡ true)
+    → let place : Place ℕ M = on_block block offset (record {
+      sort = sort;
+      size = places;
+      full = option_map (λ f. f + more) full;
+      metadata = meta;
+    }) in
+    LieWithin drops place (len + more) × HasPlaces drops place (len + more) (places - offset)
+block-fits false sort None meta block offset len more places counted fits ends =
+    ((refl, omega (arith, fits), omega arith), refl)
+block-fits true sort None meta block offset len more places counted fits ends =
+    absurd (false≢true counted)
+block-fits false sort (Some f) meta block offset len more places counted fits ends =
+    absurd (false≢true (sym counted))
+block-fits true sort (Some f) meta block offset len more places counted fits ends =
+    let at : offset + len ≡ f = eqb-true (offset + len) f (ends refl) in
+    let last : (offset + (len + more) == f + more) ≡ true =
+    eq-eqb (offset + (len + more)) (f + more) (omega (arith, at)) in (
+      (refl, omega (arith, at), omega (arith, at, fits)),
+      sym (ap (λ b. if not b then len + more else places - offset) last),
+    )
+
+-- no items more change nothing
+same-full : (full : Option ℕ) → option_map (λ f. f + 0) full ≡ full
+same-full None = refl
+same-full (Some f) = let same : f + 0 ≡ f = omega arith in ap Some same
+
+same-place : {M : Type 0} (place : Place ℕ M) → with_full 0 place ≡ place
+same-place nowhere = refl
+same-place static_data = refl
+same-place (on_block block offset info) =
+    ap (λ full. on_block block offset (record info { full = full })) (same-full info.full)
+
+pub no-more : {T M : Type 0} (row : Row T M) → with_more [] row ≡ row
+no-more row =
+    ap (λ xs. record row { items = xs; place = with_full 0 row.place }) (append-nil row.items)
+    ∙ ap (λ place. record row { place = place }) (same-place row.place)
+
+-- room was made on the row's own block
+abbrev pub IsMade : Room → Type 0
+IsMade (Fresh places) = ⊥
+IsMade (Refused e) = ⊥
+IsMade room = Unit {0}
+
+module _ {T M : Type 0} (drops : Bool) (first size : ℕ) (old more : List T) (k : ℕ)
+    (enough : length more ≤ k) where
+  abbrev row-at : Place ℕ M → ℕ → Row T M
+  row-at place places = record { items = old; place = place; role = sole_writer places }
+
+  -- the row, of which is known how long it is
+  fit : (place : Place ℕ M) (places : ℕ) → LieWithin drops place ((length old) + (length more))
+      → HasPlaces drops place ((length old) + (length more)) places
+      → RowFits drops (record { items = old ++ more; place = place; role = sole_writer places })
+  fit place places within has =
+      let long : (length old) + (length more) ≡ length (old ++ more) = sym (length-append old more) in
+      record {
+        within = subst (λ l. LieWithin drops place l) long within;
+        writer = λ sole. subst (λ l. HasPlaces drops place l places) long has;
+      }
+
+  module _ (place : Place ℕ M) (places : ℕ) (f : RowFits drops (row-at place places)) where
+    -- nothing is written
+    unwritten : more ≡ [] → RowFits drops (with_more more (row-at place places))
+    unwritten none =
+        subst (λ xs. RowFits drops (with_more xs (row-at place places))) (sym none)
+        (subst (RowFits drops) (sym (no-more (row-at place places))) f)
+
+  spare-more : (place : Place ℕ M) (places : ℕ) → RowFits drops (row-at place places)
+      → nat_lt (places - (length old)) k ≡ false → 1 ≤ (length more) → RowFits drops (with_more more (row-at place places))
+  spare-more nowhere places f spare some =
+      let less : k ≤ places - (length old) = ltb-false (places - (length old)) k spare in
+      let none : places ≡ 0 = f.writer refl in
+      absurd (omega (arith, less, none, some, enough))
+  spare-more static_data places f spare some = absurd (f.writer refl)
+  spare-more (on_block block offset info) places f spare some =
+      let less : k ≤ places - (length old) = ltb-false (places - (length old)) k spare in
+      at-end (drops && not (ends_full info (offset + (length old)))) refl (f.writer refl) less
+    where
+      at-end : (b : Bool) → (drops && not (ends_full info (offset + (length old)))) ≡ b
+          → places ≡ (if b then (length old) else info.size - offset) → k ≤ places - (length old)
+          → RowFits drops (with_more more (row-at (on_block block offset info) places))
+      at-end true is has less = absurd (omega (arith, has, less, some, enough))
+      at-end false is has less =
+          let w = f.within in
+          let all =
+          block-fits drops info.sort info.full info.metadata block offset (length old) (length more) info.size w.0
+          (omega (arith, has, less, some, enough)) (ends-so drops _ is) in
+          fit (with_full (length more) (on_block block offset info)) places all.0
+          (subst (λ c. HasPlaces drops (with_full (length more) (on_block block offset info)) ((length old) + (length more)) c)
+          (sym has) all.1)
+
+  -- the places of the row are enough
+  spare-fits : (place : Place ℕ M) (places : ℕ) → RowFits drops (row-at place places)
+      → nat_lt (places - (length old)) k ≡ false → RowFits drops (with_more more (row-at place places))
+  spare-fits place places f spare = elim (none-or-some (length more)) [
+    | inl none ↦ unwritten place places f (none-of more none)
+    | inr some ↦ spare-more place places f spare some
+  ]
+
+  -- in the block there is room
+  module _ (block offset places : ℕ) (info : BlockInfo M)
+      (f : RowFits drops (row-at (on_block block offset info) places)) where
+    abbrev here : Row T M
+    here = row-at (on_block block offset info) places
+
+    behind-fits : Tells drops size info offset (length old) k Behind
+        → RowFits drops (with_more more (with_room Behind here))
+    behind-fits tells =
+        let less : k ≤ info.size - offset - (length old) = tells.1 in
+        let all =
+        block-fits drops info.sort info.full info.metadata block offset (length old) (length more) info.size f.within.0
+        (omega (arith, less, enough, f.within.1, f.within.2)) tells.0 in
+        fit (with_full (length more) (on_block block offset info)) (info.size - offset) all.0 all.1
+
+    front-fits : Tells drops size info offset (length old) k Front
+        → RowFits drops (with_more more (with_room Front here))
+    front-fits tells =
+        let all =
+        block-fits drops info.sort info.full info.metadata block 0 (length old) (length more) info.size f.within.0
+        (omega (arith, tells.1, enough, f.within.1, f.within.2))
+        (λ owned. absurd (false≢true (sym tells.0 ∙ owned))) in
+        let whole : info.size - 0 ≡ info.size = omega arith in
+        fit (with_full (length more) (on_block block 0 info)) info.size all.0
+        (subst (λ c. HasPlaces drops (with_full (length more) (on_block block 0 info)) ((length old) + (length more)) c) whole all.1)
+
+    growth-fits : (made : ℕ) → Tells drops size info offset (length old) k (Growth made)
+        → RowFits drops (with_more more (with_room (Growth made) here))
+    growth-fits made tells =
+        let all =
+        block-fits drops info.sort info.full info.metadata block offset (length old) (length more) made f.within.0
+        (omega (arith, tells.1, enough)) tells.0 in
+        fit (with_full (length more) (on_block block offset (record info { size = made }))) (made - offset)
+        all.0 all.1
+
+    in-block : (r : Room) → Tells drops size info offset (length old) k r → IsMade r
+        → RowFits drops (with_more more (with_room r here))
+    in-block Spare tells made = absurd tells
+    in-block (Fresh places) tells made = absurd tells
+    in-block Behind tells made = behind-fits tells
+    in-block Front tells made = front-fits tells
+    in-block (Growth places) tells made = growth-fits places tells
+    in-block (Refused e) tells made = absurd made
+
+  -- whichever room it has
+  row-fits : (place : Place ℕ M) (places : ℕ) → RowFits drops (row-at place places) → (b : Bool)
+      → nat_lt (places - (length old)) k ≡ b
+      → IsMade (if not b then Spare else room_at drops first size place (length old) k)
+      → RowFits drops (with_more more (with_room (if not b then Spare else
+      room_at drops first size place (length old) k) (row-at place places)))
+  row-fits place places f false is made = spare-fits place places f is
+  row-fits nowhere places f true is made = absurd made
+  row-fits static_data places f true is made = absurd made
+  row-fits (on_block block offset info) places f true is made =
+      in-block block offset places info f (room_in drops size info offset (length old) k)
+      (room-tells drops size info offset (length old) k) made
+
+-- a row of a sole writer that has got room on its block, and items behind its others
+pub room-fits : {T M : Type 0} (drops : Bool) (first size : ℕ) (row : Row T M) (more : List T)
+    (k : ℕ) → length more ≤ k → is_sole row.role ≡ true → RowFits drops row
+    → IsMade (room drops first size row k)
+    → RowFits drops (with_more more (with_room (room drops first size row k) row))
+room-fits {T} {M} drops first size row more k enough sole f made =
+    sole_each (λ role. let r : Row T M = record row { role = role } in
+    RowFits drops r → IsMade (room drops first size r k)
+    → RowFits drops (with_more more (with_room (room drops first size r k) r)))
+    (λ places fits makes. row-fits drops first size row.items more k enough row.place places fits
+    (nat_lt (places - length row.items) k) refl makes) row.role sole f made
+
+-- a row of a sole writer that has got room on its block
+pub room-alone-fits : {T M : Type 0} (drops : Bool) (first size : ℕ) (row : Row T M) (k : ℕ)
+    → is_sole row.role ≡ true → RowFits drops row → IsMade (room drops first size row k)
+    → RowFits drops (with_room (room drops first size row k) row)
+room-alone-fits drops first size row k sole f made =
+    subst (RowFits drops) (no-more (with_room (room drops first size row k) row))
+    (room-fits drops first size row [] k (omega arith) sole f made)
+
+-- a first block is as large as is asked for
+abbrev IsEnough : ℕ → Room → Type 0
+IsEnough k (Fresh places) = k ≤ places
+IsEnough k room = Unit {0}
+
+tells-enough : {M : Type 0} (drops : Bool) (size : ℕ) (info : BlockInfo M) (offset len k : ℕ)
+    (r : Room) → Tells drops size info offset len k r → IsEnough k r
+tells-enough drops size info offset len k Spare tells = tt
+tells-enough drops size info offset len k (Fresh places) tells = absurd tells
+tells-enough drops size info offset len k Behind tells = tt
+tells-enough drops size info offset len k Front tells = tt
+tells-enough drops size info offset len k (Growth places) tells = tt
+tells-enough drops size info offset len k (Refused e) tells = tt
+
+enough-at : {M : Type 0} (drops : Bool) (first size : ℕ) (place : Place ℕ M) (len k : ℕ) (b : Bool)
+    → IsEnough k (if b then Spare else room_at drops first size place len k)
+enough-at drops first size place len k true = tt
+enough-at drops first size nowhere len k false = omega arith
+enough-at drops first size static_data len k false = omega arith
+enough-at drops first size (on_block block offset info) len k false =
+    tells-enough drops size info offset len k (room_in drops size info offset len k)
+    (room-tells drops size info offset len k)
+
+pub room-enough : {T M : Type 0} (drops : Bool) (first size : ℕ) (row : Row T M) (k places : ℕ)
+    → room drops first size row k ≡ Fresh places → k ≤ places
+room-enough drops first size row k places is =
+    subst (IsEnough k) is (enough-at drops first size row.place (length row.items) k
+    (not (nat_lt (capacity_of row.role - length row.items) k)))
+
+-- no room is refused for want of memory, before any is asked for
+abbrev IsAmple : Room → Type 0
+IsAmple (Refused e) = ¬ (e ≡ AllocError)
+IsAmple room = Unit {0}
+
+ample-growth : (b : Bool) (places : ℕ)
+    → IsAmple (if b then Refused CapacityOverflow else Growth places)
+ample-growth true places = λ same. absurd (cc)
+ample-growth false places = tt
+
+module _ {M : Type 0} (drops : Bool) (size : ℕ) (info : BlockInfo M) (offset len k : ℕ) where
+  ample-third : (b : Bool) → IsAmple (if b then Front else
+      growth size info.size (offset + len + k))
+  ample-third true = tt
+  ample-third false = ample-growth _ _
+
+  ample-second : (b : Bool) → IsAmple (if b then Behind else
+      if not drops && not (nat_lt offset len) && not (nat_lt (info.size - len) k) then Front else
+      growth size info.size (offset + len + k))
+  ample-second true = tt
+  ample-second false = ample-third _
+
+  ample-first : (b : Bool) → IsAmple (if b then Refused Unsupported else
+      if not (nat_lt (info.size - offset - len) k) then Behind else
+      if not drops && not (nat_lt offset len) && not (nat_lt (info.size - len) k) then Front else
+      growth size info.size (offset + len + k))
+  ample-first true = λ same. absurd (cc)
+  ample-first false = ample-second _
+
+ample-at : {M : Type 0} (drops : Bool) (first size : ℕ) (place : Place ℕ M) (len k : ℕ) (b : Bool)
+    → IsAmple (if b then Spare else room_at drops first size place len k)
+ample-at drops first size place len k true = tt
+ample-at drops first size nowhere len k false = tt
+ample-at drops first size static_data len k false = tt
+ample-at drops first size (on_block block offset info) len k false =
+    ample-first drops size info offset len k _
+
+pub never-short : {T M : Type 0} (drops : Bool) (first size : ℕ) (row : Row T M) (k : ℕ)
+    (e : TryReserveError) → room drops first size row k ≡ Refused e → ¬ (e ≡ AllocError)
+never-short drops first size row k e is =
+    subst IsAmple is (ample-at drops first size row.place (length row.items) k
+    (not (nat_lt (capacity_of row.role - length row.items) k)))
+
+-- a writer's first block, and its items
+pub fresh-fits : {T M : Type 0} (drops : Bool) (block places : ℕ) (more : List T)
+    → length more ≤ places
+    → RowFits {M = M} drops (with_more more (new_writer drops block [] places))
+fresh-fits {T} {M} drops block places more less =
+    let m = length more in
+    let all =
+    block-fits {M = M} drops native (full_places drops 0) None block 0 0 m places (counted drops)
+    (omega (arith, less)) (λ owned. empty drops) in
+    let whole : places - 0 ≡ places = omega arith in
+    let at : Place ℕ M = on_block block 0 (record {
+      sort = native;
+      size = places;
+      full = option_map (λ f. f + m) (full_places drops 0);
+      metadata = None;
+    }) in
+    record {
+      within = subst (λ l. LieWithin drops at l) (none-before m) all.0;
+      writer = λ sole. subst (λ l. HasPlaces drops at l places) (none-before m)
+          (subst (λ c. HasPlaces drops at (0 + m) c) whole all.1);
+    }
+  where
+    counted : (d : Bool) → is_some (full_places d 0) ≡ d
+    counted true = refl
+    counted false = refl
+
+    empty : (d : Bool) → option_map_or (λ f. 0 + 0 == f) (full_places d 0) true ≡ true
+    empty true = refl
+    empty false = refl
+
+    none-before : (l : ℕ) → 0 + l ≡ l
+    none-before l = omega arith

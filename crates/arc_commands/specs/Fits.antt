@@ -1,0 +1,38 @@
+-- What each row of a table says of the place where it stands.
+use Rattle.std.specs.Prelude.{◌≡◌, ℕ, ◌+◌, ◌≤◌, Bool, true, is_some, Some, length}
+use Rattle.std.specs.Option.{option_map_or}
+use Rattle.arc_block.specs.Block.{BlockInfo}
+use Rattle.arc_block.specs.Place.{Place, nowhere, static_data, on_block}
+use Rattle.arc_block.specs.Table.{Row, Table, row_at}
+use Rattle.arc_block.specs.Writers.{capacity_of, writer_capacity}
+use Rattle.arc_commands.specs.Blocks.{is_sole}
+
+module _ {M : Type 0} where
+  -- where the full places of a block end, which are all where they aren't counted
+  abbrev pub full_end : BlockInfo M → ℕ
+  full_end info = option_map_or (λ full. full) info.full info.size
+
+  -- So many items lie within the full places of a block, which are counted where items are dropped
+  -- one by one. On nothing there are none.
+  abbrev pub LieWithin : Bool → Place ℕ M → ℕ → Type 0
+  LieWithin drops nowhere len = len ≡ 0
+  LieWithin drops static_data len = Unit {0}
+  LieWithin drops (on_block block offset info) len = (is_some info.full ≡ drops)
+      × (offset + len ≤ full_end info) × (full_end info ≤ info.size)
+
+  -- a sole writer of so many items, who stands here, has so many places: none on static data
+  abbrev pub HasPlaces : Bool → Place ℕ M → (len capacity : ℕ) → Type 0
+  HasPlaces drops nowhere len capacity = capacity ≡ 0
+  HasPlaces drops static_data len capacity = ⊥
+  HasPlaces drops (on_block block offset info) len capacity =
+      capacity ≡ writer_capacity drops info offset len
+
+-- a row's items lie within its block, and a sole writer has the places that are behind them
+pub record RowFits {T M : Type 0} (drops : Bool) (row : Row T M) : Type 0 where
+  pub within : LieWithin drops row.place (length row.items)
+  pub writer : is_sole row.role ≡ true
+      → HasPlaces drops row.place (length row.items) (capacity_of row.role)
+
+-- so it is of each row
+abbrev pub RowsFit : {T M : Type 0} → Bool → Table T M → Type 0
+RowsFit {T} {M} drops t = (i : ℕ) (row : Row T M) → row_at t i ≡ Some row → RowFits drops row

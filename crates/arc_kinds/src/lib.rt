@@ -1,0 +1,4 @@
+//! The kinds that a table of windows may have.
+#![tactic(auto)]
+
+pub mod kinds;

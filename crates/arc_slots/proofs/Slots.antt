@@ -1,0 +1,250 @@
+-- What a call by a slot's window adds to the pass of its block, it adds to the passes of the table,
+-- where that pass was taken out for it and is put back.
+use Rattle.std.proofs.Common.{◌≡◌, ℕ, Bool, true, false, if◌then◌else◌, List}
+use Rattle.std.proofs.Common.{Option, Some, None, slice_set, refl, sym, ap}
+use Rattle.std.proofs.Common.{◌∙◌, subst}
+use Rattle.std.proofs.lemmas.Bool.{false≢true}
+use Rattle.arc_owners.specs.declared.count.tokens.Pass.{Pass}
+use Rattle.arc_owners.specs.count.Calls.{Owner, MakesAnother, FindsFull}
+use Rattle.arc_owners.specs.declared.error.OwnerError.{OwnerError}
+use Rattle.arc_owners.specs.declared.error.OwnerError.TheVariants.{AllocError, CountFull}
+use Rattle.arc_block.specs.Block.{Sort, BlockInfo}
+use Rattle.arc_block.specs.Place.{Place, nowhere, static_data, on_block, at_owner, moved}
+use Rattle.arc_block.specs.Steps.{IsPassAt, Shares, Refuses}
+use Rattle.arc_block.specs.Window.{Window, PartsView}
+use Rattle.arc_slots.specs.Slots.{held}
+use Rattle.arc_slots.specs.declared.slot.Held.{Held}
+use Rattle.arc_slots.specs.declared.slot.Held.TheVariants.{Read, Write}
+use Rattle.arc_slots.specs.Calls.{Through, Along, Beside, RefusesAt, AddsNothing}
+use Rattle.arc_slots.specs.Stands.{numbered, is_numbered, stand_at, HasPassFor, TakenOut, put_back}
+use Rattle.arc_slots.specs.Stands.{HasNumber}
+use Rattle.arc_slots.proofs.Taken.{back-same, left-number}
+
+-- where a window stands, by its owner
+abbrev At : Type 0 → Type 0
+At M = Place (Option Owner) M
+
+pub held-block : {T M : Type 0} (h : Held (Window T M) (PartsView T M)) (b : Option ℕ)
+    → (held h b).block ≡ b
+held-block (Read w) b = refl
+held-block (Write w) b = refl
+
+-- a slot whose window is read
+module _ {T M : Type 0} (h : Held (Window T M) (PartsView T M)) (w : Window T M) (b : Option ℕ)
+    (is : h ≡ Read w) where
+  pub reads-view : held h b ≡ record { window = w; capacity = None; block = b }
+  reads-view = ap (λ x. held x b) is
+
+  pub reads-fits : is_numbered b (held h b).window.place ≡ true → is_numbered b w.place ≡ true
+  reads-fits fits = ap (λ x. is_numbered b (held x b).window.place) (sym is) ∙ fits
+
+-- what a call does to the pass of the owner by which it goes
+abbrev Call : Type 0 → Type 1
+Call H = Owner → Pass H → Pass H → Type 0
+
+-- the part of a place stands on the same block, as the same owner
+abbrev pub part_at : {M : Type 0} → Bool → ℕ → At M → At M
+part_at nothing start place = if nothing then nowhere else moved start place
+
+pub moved-numbered : {M : Type 0} (b : Option ℕ) (start : ℕ) (place : At M)
+    → numbered b (moved start place) ≡ moved start (numbered b place)
+moved-numbered b start nowhere = refl
+moved-numbered b start static_data = refl
+moved-numbered b start (on_block None offset facts) = refl
+moved-numbered None start (on_block (Some owner) offset facts) = refl
+moved-numbered (Some n) start (on_block (Some owner) offset facts) = refl
+
+pub moved-stand : {M : Type 0} (b : Option ℕ) (start : ℕ) (place : At M)
+    → stand_at b (moved start place) ≡ stand_at b place
+moved-stand b start nowhere = refl
+moved-stand b start static_data = refl
+moved-stand b start (on_block None offset facts) = refl
+moved-stand None start (on_block (Some owner) offset facts) = refl
+moved-stand (Some n) start (on_block (Some owner) offset facts) = refl
+
+moved-fits : {M : Type 0} (b : Option ℕ) (start : ℕ) (place : At M)
+    → is_numbered b (moved start place) ≡ is_numbered b place
+moved-fits None start nowhere = refl
+moved-fits None start static_data = refl
+moved-fits None start (on_block owner offset facts) = refl
+moved-fits (Some n) start nowhere = refl
+moved-fits (Some n) start static_data = refl
+moved-fits (Some n) start (on_block None offset facts) = refl
+moved-fits (Some n) start (on_block (Some owner) offset facts) = refl
+
+-- a call through the one pass of a block
+module _ {H : Type 0} (passes left : List (Pass H)) (p new : Pass H) where
+  through : (n : ℕ) (owner : Owner) (call : Call H) → HasPassFor passes (Some (n, owner))
+      → TakenOut passes (Some n) p left → call owner p new
+      → Through n owner passes (slice_set left n new) call
+  through n owner call has took called = record {
+    before = p;
+    after = new;
+    was = took.0;
+    pass = has.0.1 p took.0;
+    whole = has.1;
+    called = called;
+    others = took.1 new;
+  }
+
+module _ {M H : Type 0} (passes : List (Pass H)) where
+  pub has-number : (b : Option ℕ) (place : At M) → is_numbered b place ≡ true
+      → HasPassFor passes (stand_at b place) → HasNumber passes b
+  has-number None place fits has = tt
+  has-number (Some n) nowhere fits has = absurd (false≢true fits)
+  has-number (Some n) static_data fits has = absurd (false≢true fits)
+  has-number (Some n) (on_block None offset facts) fits has = absurd (false≢true fits)
+  has-number (Some n) (on_block (Some owner) offset facts) fits has = has.0.0
+
+  module _ (left : List (Pass H)) (p : Pass H) where
+    pub window-pass : (b : Option ℕ) (place : At M) → is_numbered b place ≡ true
+        → HasPassFor passes (stand_at b place) → TakenOut passes b p left → IsPassAt place p
+    window-pass None nowhere fits has took = took.0
+    window-pass None static_data fits has took = took.0
+    window-pass None (on_block owner offset facts) fits has took = absurd (false≢true fits)
+    window-pass (Some n) nowhere fits has took = absurd (false≢true fits)
+    window-pass (Some n) static_data fits has took = absurd (false≢true fits)
+    window-pass (Some n) (on_block None offset facts) fits has took = absurd (false≢true fits)
+    window-pass (Some n) (on_block (Some owner) offset facts) fits has took = has.0.1 p took.0
+
+    pub still-number : (b : Option ℕ) (place : At M) → is_numbered b place ≡ true
+        → HasPassFor passes (stand_at b place) → TakenOut passes b p left → HasNumber left b
+    still-number b place fits has took =
+        left-number passes left p b took (has-number b place fits has)
+
+    module _ (new : Pass H) where
+      -- a call by a window, which adds nothing where the window is no owner
+      pub along : (none : Type 0) (call : Call H) (b : Option ℕ) (place : At M)
+          → is_numbered b place ≡ true → HasPassFor passes (stand_at b place)
+          → TakenOut passes b p left → (none → new ≡ p) → at_owner place none (λ o. call o p new)
+          → Along (stand_at b place) passes (put_back left b new) call
+      along none call b nowhere fits has took same called =
+          back-same passes left p b took new (same called)
+      along none call b static_data fits has took same called =
+          back-same passes left p b took new (same called)
+      along none call None (on_block owner offset facts) fits has took same called =
+          absurd (false≢true fits)
+      along none call (Some n) (on_block None offset facts) fits has took same called =
+          absurd (false≢true fits)
+      along none call (Some n) (on_block (Some owner) offset facts) fits has took same called =
+          through passes left p new n owner call has took called
+
+      -- a window was made that stands where this one does
+      pub shares : (b : Option ℕ) (place there : At M) → is_numbered b place ≡ true
+          → HasPassFor passes (stand_at b place) → TakenOut passes b p left
+          → Shares place p new there
+          → Beside (stand_at b place) passes (put_back left b new) (stand_at b there)
+      shares b nowhere there fits has took made =
+          subst (λ q. Beside None passes (put_back left b new) (stand_at b q)) (sym made.0)
+          (back-same passes left p b took new made.1)
+      shares b static_data there fits has took made =
+          subst (λ q. Beside None passes (put_back left b new) (stand_at b q)) (sym made.0)
+          (back-same passes left p b took new made.1)
+      shares None (on_block owner offset facts) there fits has took made =
+          absurd (false≢true fits)
+      shares (Some n) (on_block None offset facts) there fits has took made =
+          absurd (false≢true fits)
+      shares (Some n) (on_block (Some owner) offset facts) there fits has took made =
+          subst (λ q. Beside (Some (n, owner)) passes (slice_set left n new) (stand_at (Some n) q))
+          (sym made.2) (
+            refl,
+            through passes left p new n owner (λ o q r. MakesAnother o q r made.0) has took
+                made.1,
+          )
+
+      -- none was made
+      pub refuses : (wants : Sort → Bool) (e : OwnerError) (b : Option ℕ) (place : At M)
+          → is_numbered b place ≡ true → HasPassFor passes (stand_at b place)
+          → TakenOut passes b p left → Refuses wants place p new e
+          → RefusesAt wants (numbered b place) (stand_at b place) passes (put_back left b new) e
+      refuses wants e b nowhere fits has took why = absurd why
+      refuses wants e b static_data fits has took why = absurd why
+      refuses wants CountFull None (on_block owner offset facts) fits has took why =
+          absurd (false≢true fits)
+      refuses wants CountFull (Some n) (on_block None offset facts) fits has took why =
+          absurd (false≢true fits)
+      refuses wants CountFull (Some n) (on_block (Some owner) offset facts) fits has took why =
+          (refl, through passes left p new n owner FindsFull has took why)
+      refuses wants AllocError None (on_block owner offset facts) fits has took why =
+          absurd (false≢true fits)
+      refuses wants AllocError (Some n) (on_block None offset facts) fits has took why =
+          absurd (false≢true fits)
+      refuses wants AllocError (Some n) (on_block (Some owner) offset facts) fits has took why =
+          (why.0, through passes left p new n owner AddsNothing has took (why.1, why.2))
+
+      -- the same for a part
+      pub shares-part : (nothing : Bool) (start : ℕ) (b : Option ℕ) (place there : At M)
+          → is_numbered b place ≡ true → HasPassFor passes (stand_at b place)
+          → TakenOut passes b p left → Shares (part_at nothing start place) p new there
+          → Beside (stand_at b place) passes (put_back left b new)
+          (stand_at (if nothing then None else b) there)
+      shares-part true start b place there fits has took made =
+          subst (λ q. Beside (stand_at b place) passes (put_back left b new) (stand_at None q))
+          (sym made.0) (back-same passes left p b took new made.1)
+      shares-part false start b place there fits has took made =
+          subst (λ s. Beside s passes (put_back left b new) (stand_at b there))
+          (moved-stand b start place)
+          (shares b (moved start place) there (moved-fits b start place ∙ fits)
+          (subst (HasPassFor passes) (sym (moved-stand b start place)) has) took made)
+
+      pub refuses-part : (nothing : Bool) (wants : Sort → Bool) (e : OwnerError) (start : ℕ)
+          (b : Option ℕ) (place : At M) → is_numbered b place ≡ true
+          → HasPassFor passes (stand_at b place) → TakenOut passes b p left
+          → Refuses wants (part_at nothing start place) p new e
+          → RefusesAt wants (if nothing then nowhere else moved start (numbered b place))
+          (stand_at b place) passes (put_back left b new) e
+      refuses-part true wants e start b place fits has took why = absurd why
+      refuses-part false wants e start b place fits has took why =
+          subst (λ s. RefusesAt wants (moved start (numbered b place)) s passes
+          (put_back left b new) e) (moved-stand b start place)
+          (subst (λ q. RefusesAt wants q (stand_at b (moved start place)) passes
+          (put_back left b new) e) (moved-numbered b start place)
+          (refuses wants e b (moved start place) (moved-fits b start place ∙ fits)
+          (subst (HasPassFor passes) (sym (moved-stand b start place)) has) took why))
+
+-- the new window stands on the block with the same number
+module _ {M H : Type 0} (p new : Pass H) where
+  for-fits : (b : Option ℕ) (owner other : Owner) (offset : ℕ) (facts : BlockInfo M)
+      → is_numbered b (on_block (Some owner) offset facts) ≡ true
+      → is_numbered b (on_block (Some other) offset facts) ≡ true
+  for-fits None owner other offset facts fits = fits
+  for-fits (Some n) owner other offset facts fits = refl
+
+  pub shares-fits : (b : Option ℕ) (place there : At M) → is_numbered b place ≡ true
+      → Shares place p new there → is_numbered b there ≡ true
+  shares-fits b nowhere there fits made = ap (is_numbered b) made.0 ∙ fits
+  shares-fits b static_data there fits made = ap (is_numbered b) made.0 ∙ fits
+  shares-fits b (on_block None offset facts) there fits made = ap (is_numbered b) made.0 ∙ fits
+  shares-fits b (on_block (Some owner) offset facts) there fits made =
+      ap (is_numbered b) made.2 ∙ for-fits b owner made.0 offset facts fits
+
+  pub part-fits : (nothing : Bool) (start : ℕ) (b : Option ℕ) (place there : At M)
+      → is_numbered b place ≡ true → Shares (part_at nothing start place) p new there
+      → is_numbered (if nothing then None else b) there ≡ true
+  part-fits true start b place there fits made = ap (is_numbered None) made.0
+  part-fits false start b place there fits made =
+      shares-fits b (moved start place) there (moved-fits b start place ∙ fits) made
+
+  -- at the same place of it
+  for-place : (b : Option ℕ) (owner other : Owner) (offset : ℕ) (facts : BlockInfo M)
+      → numbered b (on_block (Some other) offset facts)
+      ≡ numbered b (on_block (Some owner) offset facts)
+  for-place None owner other offset facts = refl
+  for-place (Some n) owner other offset facts = refl
+
+  pub shares-place : (b : Option ℕ) (place there : At M) → is_numbered b place ≡ true
+      → Shares place p new there → numbered b there ≡ numbered b place
+  shares-place b nowhere there fits made = ap (numbered b) made.0
+  shares-place b static_data there fits made = ap (numbered b) made.0
+  shares-place b (on_block None offset facts) there fits made = ap (numbered b) made.0
+  shares-place b (on_block (Some owner) offset facts) there fits made =
+      ap (numbered b) made.2 ∙ for-place b owner made.0 offset facts
+
+  pub part-place : (nothing : Bool) (start : ℕ) (b : Option ℕ) (place there : At M)
+      → is_numbered b place ≡ true → Shares (part_at nothing start place) p new there
+      → numbered (if nothing then None else b) there
+      ≡ (if nothing then nowhere else moved start (numbered b place))
+  part-place true start b place there fits made = ap (numbered None) made.0
+  part-place false start b place there fits made =
+      shares-place b (moved start place) there (moved-fits b start place ∙ fits) made
+      ∙ moved-numbered b start place

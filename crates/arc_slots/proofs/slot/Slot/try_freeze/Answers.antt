@@ -1,0 +1,50 @@
+-- The window stands where it stood, or is what is made of its items, on a block more or on none.
+use Rattle.std.proofs.Common.{Some, ◌<◌, length, sym, ◌∙◌, subst}
+use Rattle.std.specs.Vec.{vec_capacity}
+use Rattle.arc_slots.specs.Slots.{stand_of}
+use Rattle.arc_slots.specs.Stands.{HasPassFor}
+use Rattle.arc_slots.proofs.Filled.{slot-frozen, room-to-read, writes-view, writes-fits}
+use Rattle.arc_slots.proofs.Slots.{still-number}
+use Rattle.arc_slots.proofs.slot.Slot.try_freeze.Goals as goal
+
+pub keep-block-requires-clause-number : goal.keep-block-requires-clause-number
+keep-block-requires-clause-number g c =
+    let b = c.self.inside.block in
+    let w = c.in-Write.window in
+    let h = c.self.inside.window in
+    let passes = c.args.passes.now.of_blocks.items in
+    still-number passes c.lend-pass.new.self.of_blocks.items c.lend-pass.result b w.place
+    (writes-fits h w b c.in-Write.is c.self.invariant.0)
+    (subst (λ s. HasPassFor passes (stand_of (Some s)))
+    (sym (sym (writes-view h w b c.in-Write.is) ∙ c.self.view_is)) c.requires.pass)
+    c.lend-pass.ensures.taken
+
+pub keep-block-requires-clause-room : goal.keep-block-requires-clause-room
+keep-block-requires-clause-room g c begins =
+    room-to-read c.self.inside.window c.in-Write.window c.self.inside.block c.in-Write.is c.args.self
+    c.self.view_is c.self.invariant.0 g.L.Layout.STATIC c.args.passes.now.of_blocks.items
+    c.lend-pass.new.self.of_blocks.items c.lend-pass.result
+    (vec_capacity c.lend-pass.new.self.of_blocks) c.lend-pass.ensures.taken (λ off some.
+    subst (λ n. length c.args.passes.now.of_blocks.items < n) (sym c.lend-pass.ensures.room)
+    (c.requires.room off some))
+    (sym c.wants_block_to_read-begins.ensures ∙ begins)
+
+pub returns-in-Ok-clause-stays : goal.returns-in-Ok-clause-stays
+returns-in-Ok-clause-stays g c =
+    (slot-frozen c.self.inside.window c.in-Write.window c.self.inside.block c.in-Write.is c.args.self
+    c.self.view_is c.self.invariant.0 g.L.Layout.STATIC g.S.Slice.DROPS
+    c.args.passes.now.of_blocks.items c.lend-pass.new.self.of_blocks.items c.lend-pass.result
+    c.try_freeze_as.new.pass c.in-Ok.window c.keep-block.result
+    c.keep-block.new.self.of_blocks.items c.wants_block_to_read-begins.result c.lend-pass.ensures.taken
+    c.in-Ok.ensures.frozen c.wants_block_to_read-begins.ensures c.keep-block.ensures.same
+    c.keep-block.ensures.new).0
+
+pub returns-in-Ok-clause-made : goal.returns-in-Ok-clause-made
+returns-in-Ok-clause-made g c =
+    (slot-frozen c.self.inside.window c.in-Write.window c.self.inside.block c.in-Write.is c.args.self
+    c.self.view_is c.self.invariant.0 g.L.Layout.STATIC g.S.Slice.DROPS
+    c.args.passes.now.of_blocks.items c.lend-pass.new.self.of_blocks.items c.lend-pass.result
+    c.try_freeze_as.new.pass c.in-Ok.window c.keep-block.result
+    c.keep-block.new.self.of_blocks.items c.wants_block_to_read-begins.result c.lend-pass.ensures.taken
+    c.in-Ok.ensures.frozen c.wants_block_to_read-begins.ensures c.keep-block.ensures.same
+    c.keep-block.ensures.new).1

@@ -1,0 +1,5 @@
+pub mod Stands
+pub mod Slots
+pub mod Calls
+pub mod Splits
+pub mod Writing

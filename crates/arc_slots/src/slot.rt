@@ -1,0 +1,676 @@
+//! One window of a table.
+ghost use Rattle.std.specs.Prelude.{◌≡◌, ◌==◌, ◌&&◌, if◌then◌else◌, Bool, None, true, IfErr, OnOk};
+ghost use Rattle.std.specs.Prelude.{Err};
+ghost use Rattle.std.specs.Mem.{FitsInMemory, type_size};
+ghost use Rattle.arc_owners.specs.count.Calls.{Leaves};
+ghost use Rattle.arc_block.specs.Place.{at_owner};
+ghost use Rattle.arc_block.specs.Steps.{IsPassAt};
+ghost use Rattle.arc_block.specs.Writers.{room, MakesRoom, Pushes};
+ghost use Rattle.arc_slots.specs.Slots.{held};
+ghost use Rattle.arc_slots.specs.Writing.{seen_writing, items_of, additional_of};
+
+use crate::passes::Passes;
+use arc_block::layout::{Layout, LayoutMut, stands_on_nothing};
+use arc_block::parts::Parts;
+use arc_block::static_slice::StaticSlice;
+use arc_buffer::kinds::{AnyItems, CopySlice, Extendable, Slice, Subsliceable};
+use arc_owners::error::{OwnerError, RangeError, TryReserveError};
+use arc_owners::mark::Whole;
+use arc_owners::owners::Pass;
+use arc_read::slice::ArcSlice;
+use arc_write::slice_mut::{ArcSliceMut, try_into_mut_as};
+use std::alloc::Allocator;
+use std::marker::Model;
+use std::sync::Wait;
+
+/// A window that is read, or one that is written.
+pub enum Held<R, W> {
+    Read(R),
+    Write(W),
+}
+
+/// A window, and the number of the block that it stands on, if it stands on one. It can't be
+/// dropped: each ends by `release`, since a window that is dropped would stay an owner of its block
+/// for good.
+pub struct Slot<S: Slice, L: Layout, B, M, A: Allocator + Copy>
+where
+    L::Writable: LayoutMut,
+{
+    pub window: Held<
+        ArcSlice<S, L, B, M, A, Whole>,
+        ArcSliceMut<S, L::Writable, 1, B, M, A, Whole>,
+    >,
+    pub block: Option<usize>,
+}
+
+impl<S: Slice, L: Layout, B, M, A: Allocator + Copy> Model for Slot<S, L, B, M, A>
+where
+    L::Writable: LayoutMut,
+{
+    ghost use Rattle.std.specs.Prelude.{◌≡◌, true};
+    ghost use Rattle.arc_slots.specs.Stands.{is_numbered};
+    ghost use Rattle.arc_slots.specs.Slots.{SlotView, held, is_writer};
+
+    ghost Value = { SlotView S.Item M };
+
+    ghost view = { λ s. held s.window s.block };
+
+    ghost invariant = { λ s. (is_numbered s.block (held s.window s.block).window.place ≡ true)
+        × (is_writer s.window ≡ true) };
+}
+
+/// What is written into a window, where X holds items and T is one.
+#[derive(Drop)]
+pub enum Writing<X, T> {
+    /// Nothing, but room is made for so many items more.
+    Nothing(usize),
+    /// An item.
+    Item(T),
+    /// Items.
+    Items(X),
+}
+
+impl<T, A: Allocator> Writing<Vec<T, A>, T> {
+    ghost use Rattle.arc_slots.specs.Writing.{seen_writing, additional_of};
+
+    /// For how many items there is to be room.
+    pub fn additional(&self) -> usize
+        ensures { result ≡ additional_of (seen_writing self.now) }
+    {
+        match self {
+            Writing::Nothing(additional) => *additional,
+            Writing::Item(_) => 1,
+            Writing::Items(items) => items.len(),
+        }
+    }
+}
+
+/// Writes into a window: room is made, and the items are put behind the others. Refused, nothing
+/// changes, and what was to be written is let go.
+fn write_as<S: CopySlice + Extendable, K: LayoutMut, B, M, A: Allocator + Copy>(
+    window: &mut ArcSliceMut<S, K, 1, B, M, A, Whole>,
+    what: Writing<Vec<S::Item, A>, S::Item>,
+    pass: &mut Pass<Whole>,
+) -> Result<(), TryReserveError>
+where
+    S::Item: Copy,
+    requires item { FitsInMemory S.Item.row }
+    requires pass { IsPassAt window.old.place pass.old }
+    ensures written { OnOk result (Pushes S.DROPS true (room S.DROPS
+        (if type_size S.Item.row == 1 then 8 else 4) (type_size S.Item.row) window.old
+        (additional_of (seen_writing what))) (items_of (seen_writing what)) window.old window.new
+        pass.old pass.new) }
+    ensures refused { IfErr result (λ e. MakesRoom S.DROPS true (room S.DROPS
+        (if type_size S.Item.row == 1 then 8 else 4) (type_size S.Item.row) window.old
+        (additional_of (seen_writing what))) window.old window.new pass.old pass.new (Err e)) }
+{
+    match what {
+        Writing::Nothing(additional) => window.try_reserve_as(additional, pass),
+        Writing::Item(item) => match window.try_push_as(item, pass) {
+            Ok(()) => Ok(()),
+            Err((e, _)) => Err(e),
+        },
+        Writing::Items(items) => window.try_extend_from_slice_as(&items, pass),
+    }
+}
+
+/// The block on which a part with so many items stands, if it stands on one.
+fn part_block<L: Layout>(block: Option<usize>, len: usize) -> Option<usize>
+    ensures { result ≡ (if L.STATIC && (len == 0) then None else block) }
+{
+    if stands_on_nothing::<L>(len) {
+        return None;
+    }
+    block
+}
+
+/// Ends a window.
+fn end_window<S: Slice, L: Layout, K: LayoutMut, B, M, A: Allocator + Copy>(
+    window: Held<ArcSlice<S, L, B, M, A, Whole>, ArcSliceMut<S, K, 1, B, M, A, Whole>>,
+    pass: &mut Pass<Whole>,
+)
+    requires { IsPassAt (held window None).window.place pass.old }
+    ensures { at_owner (held window None).window.place (pass.new ≡ pass.old) (λ o. (last : Bool)
+        × Leaves o pass.old pass.new last) }
+{
+    match window {
+        Held::Read(window) => window.release_as(pass),
+        Held::Write(window) => window.release_as(pass),
+    }
+}
+
+impl<S: Slice, L: Layout, B, M, A: Allocator + Copy> Slot<S, L, B, M, A>
+where
+    L::Writable: LayoutMut,
+{
+    ghost use Rattle.std.specs.Prelude.{◌≡◌, ◌<◌, ◌≤◌, ◌↔◌, length, Bool, false, None, Some};
+    ghost use Rattle.std.specs.Prelude.{IfOk, IfErr, IsOk, take, drop, true, is_some};
+    ghost use Rattle.arc_buffer.specs.Slice.{IsRange, IsEdge, sub, range_answer, edge_answer};
+    ghost use Rattle.arc_block.specs.Place.{part_place};
+    ghost use Rattle.arc_block.specs.Table.{block_of, reader};
+    ghost use Rattle.arc_block.specs.Window.{window_of};
+    ghost use Rattle.arc_block.specs.Writers.{after_advance, as_reader, as_sole, capacity_of};
+    ghost use Rattle.arc_block.specs.Place.{static_data};
+    ghost use Rattle.std.specs.Prelude.{not};
+    ghost use Rattle.arc_owners.specs.count.Calls.{Asks, Leaves};
+    ghost use Rattle.arc_slots.specs.Stands.{HasPassFor, is_numbered};
+    ghost use Rattle.arc_slots.specs.Calls.{Along, Beside, RefusesAt};
+    ghost use Rattle.arc_commands.specs.Step.{cut_row, off_part, to_part};
+    ghost use Rattle.arc_commands.specs.Step.{truncated, made_row};
+    ghost use Rattle.arc_commands.specs.Additions.{Founds};
+    ghost use Rattle.arc_slots.specs.Splits.{IsSplit};
+    ghost use Rattle.arc_commands.specs.Blocks.{is_sole};
+    ghost use Rattle.arc_slots.specs.Slots.{row_of, stand_of};
+    ghost use Rattle.arc_slots.specs.Writing.{Fills, is_fresh};
+    ghost use Rattle.arc_block.specs.Writers.{Reclaims};
+    ghost use Rattle.std.specs.Vec.{vec_capacity};
+
+    /// A window over a slice that is there for good, under a layout with static data.
+    pub fn on_static(alloc: A, items: StaticSlice<S::Item>) -> Self
+    where
+        S: AnyItems,
+        requires { L.STATIC ≡ true }
+        ensures { result ≡ record {
+          window = record { items = items; place = static_data };
+          capacity = None;
+          block = None;
+        } }
+    {
+        Slot {
+            window: Held::Read(ArcSlice::from_parts(Parts::on_static(alloc, items))),
+            block: None,
+        }
+    }
+
+    /// A window that is written, of a sole writer's parts, on the block with this number.
+    pub fn written(
+        window: ArcSliceMut<S, L::Writable, 1, B, M, A, Whole>,
+        block: Option<usize>,
+    ) -> Self
+        requires writes { is_sole window.role ≡ true }
+        requires block { is_numbered block window.place ≡ true }
+        ensures { result ≡ record {
+          window = window_of window;
+          capacity = Some (capacity_of window.role);
+          block = block;
+        } }
+    {
+        Slot {
+            window: Held::Write(window),
+            block,
+        }
+    }
+
+    /// Whether the window is one that is written.
+    pub fn is_written(&self) -> bool
+        ensures answer { result ≡ is_some self.now.capacity }
+        ensures reads { result ≡ false → self.now.capacity ≡ None }
+    {
+        match &self.window {
+            Held::Read(_) => false,
+            Held::Write(_) => true,
+        }
+    }
+
+    /// How many places the window has, if it is one that is written.
+    pub fn capacity(&self) -> Option<usize>
+        ensures { result ≡ self.now.capacity }
+    {
+        match &self.window {
+            Held::Read(_) => None,
+            Held::Write(window) => Some(window.capacity()),
+        }
+    }
+
+    /// Whether the window stands on a block.
+    pub fn is_on_block(&self) -> bool
+        ensures { result ≡ is_some (block_of (row_of self.now).place) }
+    {
+        self.block.is_some()
+    }
+
+    /// The items of a window that stands on no block, for good. Takes no memory.
+    pub fn into_static(self) -> StaticSlice<S::Item>
+        requires reads { self.capacity ≡ None }
+        requires nowhere { is_some (block_of (row_of self).place) ≡ false }
+        ensures { result ≡ self.window.items }
+    {
+        let Slot { window, block: _ } = self;
+        let Held::Read(window) = window else {
+            unreachable!()
+        };
+        match window.into_parts().try_into_static() {
+            Ok(items) => items,
+            Err(_) => unreachable!(),
+        }
+    }
+
+    /// The items of the window.
+    pub fn as_slice(&self) -> &[S::Item]
+        ensures { result.now ≡ self.now.window.items }
+    {
+        match &self.window {
+            Held::Read(window) => window.as_slice(),
+            Held::Write(window) => window.as_slice(),
+        }
+    }
+
+    /// Whether `start` to `end` is a range of the window, which is one that is read.
+    pub fn check_range(&self, start: usize, end: usize) -> Result<(), RangeError>
+    where
+        S: Subsliceable,
+        requires { self.now.capacity ≡ None }
+        ensures answer { result ≡ range_answer S.boundary self.now.window.items start end }
+        ensures ok { IsOk result ↔ IsRange S.boundary self.now.window.items start end }
+    {
+        let Held::Read(window) = &self.window else {
+            unreachable!()
+        };
+        window.check_range(start, end)
+    }
+
+    /// How many items the window has.
+    pub fn len(&self) -> usize
+        ensures { result ≡ length self.now.window.items }
+    {
+        match &self.window {
+            Held::Read(window) => window.len(),
+            Held::Write(window) => window.len(),
+        }
+    }
+
+    /// Whether the window may be cut at `at`.
+    pub fn check_at(&self, at: usize) -> Result<(), RangeError>
+    where
+        S: Subsliceable,
+        ensures answer { result ≡ edge_answer S.boundary self.now.window.items at }
+        ensures ok { IsOk result ↔ IsEdge S.boundary self.now.window.items at }
+    {
+        match &self.window {
+            Held::Read(window) => window.check_at(at),
+            Held::Write(window) => window.check_at(at),
+        }
+    }
+
+    /// Takes the first `by` items off the window, which stays on its block.
+    pub fn advance(&mut self, by: usize)
+    where
+        S: Subsliceable,
+        requires { IsEdge S.boundary self.old.window.items by }
+        ensures row { row_of self.new ≡ after_advance by (row_of self.old) }
+        ensures stand { stand_of (Some self.new) ≡ stand_of (Some self.old) }
+    {
+        match &mut self.window {
+            Held::Read(window) => window.advance(by),
+            Held::Write(window) => window.advance(by),
+        }
+    }
+
+    /// Leaves the window's first `len` items. It stays on its block.
+    pub fn truncate(&mut self, len: usize)
+    where
+        S: Subsliceable,
+        requires at { IsEdge S.boundary self.old.window.items len }
+        requires shorter { len < length self.old.window.items }
+        ensures row { row_of self.new ≡ truncated S.DROPS (row_of self.old) len }
+        ensures stand { stand_of (Some self.new) ≡ stand_of (Some self.old) }
+    {
+        match &mut self.window {
+            Held::Read(window) => window.truncate(len),
+            Held::Write(window) => window.truncate(len),
+        }
+    }
+
+    /// Another window with the same items at the same place, an owner more of the same block.
+    /// `CountFull` where the block has as many owners as it can have, `AllocError` where the
+    /// layout's clones want memory and it was refused.
+    pub fn try_clone(&self, rt: &impl Wait, passes: &mut Passes<A>) -> Result<Self, OwnerError>
+        requires reads { self.now.capacity ≡ None }
+        requires pass { HasPassFor passes.old.of_blocks.items (stand_of (Some self.now)) }
+        ensures row { IfOk result (λ slot. row_of slot ≡ row_of self.now) }
+        ensures stand { IfOk result (λ slot.
+            Beside (stand_of (Some self.now)) passes.old.of_blocks.items
+            passes.new.of_blocks.items (stand_of (Some slot))) }
+        ensures refused { IfErr result (RefusesAt L.clone_wants (row_of self.now).place
+            (stand_of (Some self.now)) passes.old.of_blocks.items passes.new.of_blocks.items) }
+    {
+        let Held::Read(window) = &self.window else {
+            unreachable!()
+        };
+        let mut pass = passes.lend(self.block);
+        let made = window.try_clone_as(rt, &mut pass);
+        passes.give_back(self.block, pass);
+        match made {
+            Ok(window) => Ok(Slot {
+                window: Held::Read(window),
+                block: self.block,
+            }),
+            Err(e) => Err(e),
+        }
+    }
+
+    /// A window over the items from `start` to `end`, an owner more of the same block, or with no
+    /// items on nothing where the layout has static data. Refused as `try_clone` is.
+    pub fn try_subslice(
+        &self,
+        rt: &impl Wait,
+        start: usize,
+        end: usize,
+        passes: &mut Passes<A>,
+    ) -> Result<Self, OwnerError>
+    where
+        S: Subsliceable,
+        requires range { IsRange S.boundary self.now.window.items start end }
+        requires reads { self.now.capacity ≡ None }
+        requires pass { HasPassFor passes.old.of_blocks.items (stand_of (Some self.now)) }
+        ensures row { IfOk result (λ slot.
+            row_of slot ≡ record {
+              items = sub self.now.window.items start end;
+              place = part_place L.STATIC (sub self.now.window.items start end) start
+                  (row_of self.now).place;
+              role = reader;
+            }) }
+        ensures stand { IfOk result (λ slot.
+            Beside (stand_of (Some self.now)) passes.old.of_blocks.items
+            passes.new.of_blocks.items (stand_of (Some slot))) }
+        ensures refused { IfErr result (RefusesAt L.clone_wants
+            (part_place L.STATIC (sub self.now.window.items start end) start
+            (row_of self.now).place) (stand_of (Some self.now)) passes.old.of_blocks.items
+            passes.new.of_blocks.items) }
+    {
+        let Held::Read(window) = &self.window else {
+            unreachable!()
+        };
+        let mut pass = passes.lend(self.block);
+        let made = window.try_subslice_as(rt, start, end, &mut pass);
+        passes.give_back(self.block, pass);
+        match made {
+            Ok(window) => Ok(Slot {
+                window: Held::Read(window),
+                block: part_block::<L>(self.block, end - start),
+            }),
+            Err(e) => Err(e),
+        }
+    }
+
+    /// Splits the window, and hands out the back: at the front end that is the window itself.
+    pub fn try_split_off(
+        &mut self,
+        rt: &impl Wait,
+        at: usize,
+        passes: &mut Passes<A>,
+    ) -> Result<Self, OwnerError>
+    where
+        S: Subsliceable,
+        requires reads { self.old.capacity ≡ None }
+        requires at { IsEdge S.boundary self.old.window.items at }
+        requires pass { HasPassFor passes.old.of_blocks.items (stand_of (Some self.old)) }
+        ensures start { IfOk result (λ back. at ≡ 0 → IsSplit self.old back self.new
+            (row_of self.old) (off_part L.STATIC
+            (row_of self.old) at)
+            passes.old.of_blocks.items passes.new.of_blocks.items) }
+        ensures later { IfOk result (λ back. 0 < at → IsSplit self.old self.new back
+            (cut_row (row_of self.old) 0 at) (off_part L.STATIC (row_of self.old) at)
+            passes.old.of_blocks.items passes.new.of_blocks.items) }
+        ensures kept { IfErr result (λ _. self.new ≡ self.old) }
+        ensures refused { IfErr result (RefusesAt L.clone_wants
+            (off_part L.STATIC (row_of self.old)
+            at).place
+            (stand_of (Some self.old)) passes.old.of_blocks.items passes.new.of_blocks.items) }
+    {
+        let block = self.block;
+        let Held::Read(front) = &mut self.window else {
+            unreachable!()
+        };
+        let mut pass = passes.lend(block);
+        let made = front.try_split_off_as(rt, at, &mut pass);
+        passes.give_back(block, pass);
+        let back = match made {
+            Ok(window) => window,
+            Err(e) => return Err(e),
+        };
+        if at == 0 {
+            self.block = part_block::<L>(block, front.len());
+            let window = Held::Read(back);
+            return Ok(Slot { window, block });
+        }
+        let block = part_block::<L>(block, back.len());
+        let window = Held::Read(back);
+        Ok(Slot { window, block })
+    }
+
+    /// Splits the window, and hands out the front: at the back end that is the window itself.
+    pub fn try_split_to(
+        &mut self,
+        rt: &impl Wait,
+        at: usize,
+        passes: &mut Passes<A>,
+    ) -> Result<Self, OwnerError>
+    where
+        S: Subsliceable,
+        requires reads { self.old.capacity ≡ None }
+        requires at { IsEdge S.boundary self.old.window.items at }
+        requires pass { HasPassFor passes.old.of_blocks.items (stand_of (Some self.old)) }
+        ensures end { IfOk result (λ front. at ≡ length self.old.window.items → IsSplit self.old
+            front self.new
+            (row_of self.old) (to_part L.STATIC
+            (row_of self.old) at)
+            passes.old.of_blocks.items passes.new.of_blocks.items) }
+        ensures earlier { IfOk result (λ front. at < length self.old.window.items → IsSplit
+            self.old self.new front
+            (cut_row (row_of self.old) at (length self.old.window.items)) (to_part L.STATIC (row_of self.old) at)
+            passes.old.of_blocks.items passes.new.of_blocks.items) }
+        ensures kept { IfErr result (λ _. self.new ≡ self.old) }
+        ensures refused { IfErr result (RefusesAt L.clone_wants
+            (to_part L.STATIC (row_of self.old)
+            at).place
+            (stand_of (Some self.old)) passes.old.of_blocks.items passes.new.of_blocks.items) }
+    {
+        let block = self.block;
+        let Held::Read(back) = &mut self.window else {
+            unreachable!()
+        };
+        let len = back.len();
+        let mut pass = passes.lend(block);
+        let made = back.try_split_to_as(rt, at, &mut pass);
+        passes.give_back(block, pass);
+        let front = match made {
+            Ok(window) => window,
+            Err(e) => return Err(e),
+        };
+        if len == at {
+            self.block = part_block::<L>(block, back.len());
+            let window = Held::Read(front);
+            return Ok(Slot { window, block });
+        }
+        let block = part_block::<L>(block, front.len());
+        let window = Held::Read(front);
+        Ok(Slot { window, block })
+    }
+
+    /// The window as one that is written, where no other owner of its block lives, or where it has
+    /// no items and stands on none. Else it comes back. Takes no memory.
+    pub fn try_into_mut(self, passes: &mut Passes<A>) -> Result<Self, Self>
+        requires reads { self.capacity ≡ None }
+        requires pass { HasPassFor passes.old.of_blocks.items (stand_of (Some self)) }
+        ensures row { IfOk result (λ slot. row_of slot ≡ as_sole S.DROPS (row_of self)) }
+        ensures stand { IfOk result (λ slot. stand_of (Some slot) ≡ stand_of (Some self)) }
+        ensures alone { IfOk result (λ _. Along (stand_of (Some self)) passes.old.of_blocks.items
+            passes.new.of_blocks.items (λ o p q. Asks o p q true)) }
+        ensures empty { IfOk result (λ _. stand_of (Some self) ≡ None
+            → length self.window.items ≡ 0) }
+        ensures back { IfErr result (λ slot. slot ≡ self) }
+        ensures beside { IfErr result (λ _. Along (stand_of (Some self)) passes.old.of_blocks.items
+            passes.new.of_blocks.items (λ o p q. Asks o p q false)) }
+        ensures items { IfErr result (λ _. stand_of (Some self) ≡ None
+            → 1 ≤ length self.window.items) }
+    {
+        let Slot { window, block } = self;
+        let Held::Read(window) = window else {
+            unreachable!()
+        };
+        let mut pass = passes.lend(block);
+        let asked = try_into_mut_as(window, &mut pass);
+        passes.give_back(block, pass);
+        match asked {
+            Ok(window) => Ok(Slot::written(window, block)),
+            Err(window) => Err(Slot {
+                window: Held::Read(window),
+                block,
+            }),
+        }
+    }
+
+    /// Whether a first block has to be made for so many items more in the window, which is written.
+    pub fn wants_block(&self, additional: usize) -> bool
+        requires { is_some self.now.capacity ≡ true }
+        ensures { result ≡ is_fresh (room S.DROPS (if type_size S.Item.row == 1 then 8 else 4)
+            (type_size S.Item.row) (row_of self.now) additional) }
+    {
+        let Held::Write(window) = &self.window else {
+            unreachable!()
+        };
+        self.block.is_none() && window.capacity().saturating_sub(window.len()) < additional
+    }
+
+    /// Writes into the window, which is one that is written. Refused, nothing changes.
+    pub fn write(
+        &mut self,
+        what: Writing<Vec<S::Item, A>, S::Item>,
+        passes: &mut Passes<A>,
+    ) -> Result<(), TryReserveError>
+    where
+        S: CopySlice + Extendable,
+        S::Item: Copy,
+        requires item { FitsInMemory S.Item.row }
+        requires writes { is_some self.old.capacity ≡ true }
+        requires room { is_fresh (room S.DROPS (if type_size S.Item.row == 1 then 8 else 4)
+            (type_size S.Item.row) (row_of self.old) (additional_of (seen_writing what))) ≡ true
+            → length passes.old.of_blocks.items < vec_capacity passes.old.of_blocks }
+        requires pass { HasPassFor passes.old.of_blocks.items (stand_of (Some self.old)) }
+        ensures { Fills S.DROPS (room S.DROPS (if type_size S.Item.row == 1 then 8 else 4)
+            (type_size S.Item.row) (row_of self.old) (additional_of (seen_writing what)))
+            (items_of (seen_writing what)) self.old self.new passes.old.of_blocks.items
+            passes.new.of_blocks.items result }
+    {
+        let begins = self.wants_block(what.additional());
+        let block = self.block;
+        let Held::Write(window) = &mut self.window else {
+            unreachable!()
+        };
+        let mut pass = passes.lend(block);
+        match write_as(window, what, &mut pass) {
+            Ok(()) => {
+                self.block = passes.keep(block, begins, pass);
+                Ok(())
+            }
+            Err(e) => {
+                passes.give_back(block, pass);
+                Err(e)
+            }
+        }
+    }
+
+    /// Whether there is room for so many items more without memory in the window, which is one
+    /// that is written; then it is made.
+    pub fn try_reclaim(&mut self, additional: usize) -> bool
+        requires item { FitsInMemory S.Item.row }
+        requires writes { is_some self.old.capacity ≡ true }
+        ensures row { Reclaims (room S.DROPS (if type_size S.Item.row == 1 then 8 else 4)
+            (type_size S.Item.row) (row_of self.old) additional) (row_of self.old)
+            (row_of self.new) result }
+        ensures kept { result ≡ false → self.new ≡ self.old }
+        ensures stand { stand_of (Some self.new) ≡ stand_of (Some self.old) }
+    {
+        let Held::Write(window) = &mut self.window else {
+            unreachable!()
+        };
+        window.try_reclaim(additional)
+    }
+
+    /// Whether a first block has to be made for the window to be read: it stands on none, and
+    /// under the layout what is made of its items stands on one.
+    pub fn wants_block_to_read(&self) -> bool
+        ensures { result ≡ (not (is_some (block_of (row_of self.now).place))
+            && not (L.STATIC && (length self.now.window.items == 0))) }
+    {
+        self.block.is_none() && !stands_on_nothing::<L>(self.len())
+    }
+
+    /// The window, which is one that is written, as one that is read: where it stands, or on no
+    /// block as what is made of its items. It comes back where memory for a block is refused.
+    pub fn try_freeze(self, passes: &mut Passes<A>) -> Result<Self, Self>
+        requires writes { is_some self.capacity ≡ true }
+        requires pass { HasPassFor passes.old.of_blocks.items (stand_of (Some self)) }
+        requires room { is_some (block_of (row_of self).place) ≡ false
+            → (L.STATIC && (length self.window.items == 0)) ≡ false
+            → length passes.old.of_blocks.items < vec_capacity passes.old.of_blocks }
+        ensures stays { IfOk result (λ slot. is_some (block_of (row_of self).place) ≡ true
+            → (row_of slot ≡ as_reader (row_of self))
+            × (stand_of (Some slot) ≡ stand_of (Some self))
+            × (passes.new.of_blocks.items ≡ passes.old.of_blocks.items)) }
+        ensures made { IfOk result (λ slot. is_some (block_of (row_of self).place) ≡ false
+            → (row_of slot ≡ made_row L.STATIC S.DROPS (length passes.old.of_blocks.items)
+            self.window.items)
+            × Founds (stand_of (Some slot)) passes.old.of_blocks.items
+            passes.new.of_blocks.items) }
+        ensures back { IfErr result (λ slot. (slot ≡ self)
+            × (passes.new.of_blocks.items ≡ passes.old.of_blocks.items)) }
+        ensures refused { IfErr result (λ _. (is_some (block_of (row_of self).place) ≡ false)
+            × (L.STATIC ≡ false)) }
+    {
+        let begins = self.wants_block_to_read();
+        let Slot { window, block } = self;
+        let Held::Write(window) = window else {
+            unreachable!()
+        };
+        let mut pass = passes.lend(block);
+        match window.try_freeze_as::<L>(&mut pass) {
+            Ok(window) => {
+                let block = passes.keep(block, begins, pass);
+                Ok(Slot {
+                    window: Held::Read(window),
+                    block,
+                })
+            }
+            Err(window) => {
+                passes.give_back(block, pass);
+                Err(Slot {
+                    window: Held::Write(window),
+                    block,
+                })
+            }
+        }
+    }
+
+    /// Whether no other owner of the window's block lives. `false` on no block. Takes no memory.
+    pub fn is_unique(&self, passes: &mut Passes<A>) -> bool
+        requires reads { self.now.capacity ≡ None }
+        requires pass { HasPassFor passes.old.of_blocks.items (stand_of (Some self.now)) }
+        ensures asked { Along (stand_of (Some self.now)) passes.old.of_blocks.items
+            passes.new.of_blocks.items (λ o p q.
+            Asks o p q result) }
+        ensures nowhere { stand_of (Some self.now) ≡ None → result ≡ false }
+    {
+        let Held::Read(window) = &self.window else {
+            unreachable!()
+        };
+        let mut pass = passes.lend(self.block);
+        let alone = window.is_unique_as(&mut pass);
+        passes.give_back(self.block, pass);
+        alone
+    }
+
+    /// Ends the window: the last owner gives its block back. Takes no memory.
+    pub fn release(self, passes: &mut Passes<A>)
+        requires { HasPassFor passes.old.of_blocks.items (stand_of (Some self)) }
+        ensures { Along (stand_of (Some self)) passes.old.of_blocks.items
+            passes.new.of_blocks.items (λ o p q. (last : Bool)
+            × Leaves o p q last) }
+    {
+        let Slot { window, block } = self;
+        let mut pass = passes.lend(block);
+        end_window(window, &mut pass);
+        passes.give_back(block, pass);
+    }
+}

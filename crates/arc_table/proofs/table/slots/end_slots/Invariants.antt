@@ -1,9 +1,0 @@
-use Rattle.arc_table.proofs.Ended.{AllGone}
-use Rattle.arc_table.proofs.table.slots.end_slots.Given as goal
-
--- no slot has a window
-abbrev pub invariant-loop-slot : goal.invariant-loop-slot
-invariant-loop-slot g l = AllGone l.slots.items
-
-abbrev pub decreases-loop-slot : goal.decreases-loop-slot
-decreases-loop-slot g l = goal.left-loop-slot g l
