@@ -18,8 +18,8 @@ use Rattle.arc_block.specs.Block.{BlockInfo, native_facts}
 use Rattle.arc_block.specs.Place.{Place, nowhere, static_data, on_block, IsOnBlock}
 use Rattle.arc_block.specs.Place.{at_owner}
 use Rattle.arc_block.specs.Room.{ends_full, growth, room_in}
-use Rattle.arc_block.specs.Table.{Row, Role, reader, sole_writer, one_writer_of_several, inline}
-use Rattle.arc_block.specs.Table.{forgotten, block_of}
+use Rattle.arc_block.specs.Table.{Row, Role, reader, sole_writer}
+use Rattle.arc_block.specs.Table.{block_of}
 use Rattle.arc_block.specs.Window.{Window, PartsView, window_of, parts_of}
 use Rattle.arc_block.specs.Writers.{capacity_of, room, room_at, with_room, with_more, with_full}
 use Rattle.arc_block.specs.Writers.{new_writer, MakesRoom, Pushes, Freezes, Reclaims, as_reader}
@@ -34,6 +34,7 @@ use Rattle.arc_commands.specs.Step.{made_row}
 use Rattle.arc_slots.specs.Writing.{is_fresh, Fills}
 use Rattle.arc_slots.specs.declared.slot.Held.{Held}
 use Rattle.arc_slots.specs.declared.slot.Held.TheVariants.{Read, Write}
+use Rattle.arc_commands.proofs.Roles.{sole_each}
 use Rattle.arc_slots.proofs.Taken.{back-same}
 
 -- where no items are written, there is room and nothing else

@@ -1,6 +1,6 @@
 //! The slots of a table of windows, and the passes of the blocks on which they stand.
 #![tactic(auto)]
 
+pub mod list;
 pub mod passes;
 pub mod slot;
-pub mod slots;

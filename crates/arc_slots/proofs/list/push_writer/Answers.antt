@@ -1,6 +1,6 @@
 -- With places the writer stands on a block.
 use Rattle.std.proofs.Common.{arith}
-use Rattle.arc_slots.proofs.slots.push_writer.Goals as goal
+use Rattle.arc_slots.proofs.list.push_writer.Goals as goal
 
 pub written-requires-2-clause-block : goal.written-requires-2-clause-block
 written-requires-2-clause-block g c κs within =

@@ -1,5 +1,5 @@
 use Rattle.arc_slots.proofs.Ended.{AllGone}
-use Rattle.arc_slots.proofs.slots.end_slots.Given as goal
+use Rattle.arc_slots.proofs.list.end_slots.Given as goal
 
 -- no slot has a window
 abbrev pub invariant-loop-slot : goal.invariant-loop-slot
