@@ -3,7 +3,7 @@ use Rattle.std.specs.Prelude.{◌≡◌, ℕ, Bool, if◌then◌else◌, Option,
 use Rattle.arc_owners.specs.count.Calls.{Owner}
 use Rattle.std.specs.declared.vec.Vec.{Vec}
 use Rattle.std.specs.Vec.{vec_capacity}
-use Rattle.arc_block.specs.declared.memory.native.Native.{Native}
+use Rattle.arc_memory.specs.declared.native.Native.{Native}
 
 -- how a block keeps its items
 pub data Sort : Type 0 where

@@ -7,8 +7,5 @@ pub mod Window
 pub mod Steps
 pub mod StaticSlices
 pub mod Lends
-pub mod LentMemory
-pub mod Memory
-pub mod Allocations
 pub mod Room
 pub mod Writers

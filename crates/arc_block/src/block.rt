@@ -9,8 +9,8 @@ ghost use Rattle.arc_block.specs.Block.{native, native_block, IsLimited};
 
 mod sole;
 
-use crate::memory::{Base, Native};
 use arc_buffer::kinds::Slice;
+use arc_memory::{Base, Native};
 use arc_owners::error::{AllocError, CountFull};
 use arc_owners::mark::{Mark, Open, Stepping};
 use arc_owners::owners::{CountedBox, Pass};

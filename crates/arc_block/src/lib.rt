@@ -3,7 +3,6 @@
 
 pub mod block;
 pub mod layout;
-pub mod memory;
 pub mod parts;
 pub mod static_slice;
 pub mod table;

@@ -4,7 +4,7 @@ ghost use denote.RawPtr.{Ptr};
 ghost use Rattle.arc_buffer.specs.Slice.{sub};
 ghost use Rattle.arc_block.specs.StaticSlices.{slice_lent};
 
-use crate::memory::Base;
+use arc_memory::Base;
 use std::marker::{Model, PhantomData};
 use std::slice;
 

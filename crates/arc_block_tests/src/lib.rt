@@ -5,8 +5,6 @@
 #[cfg(test)]
 mod blocks;
 #[cfg(test)]
-mod memory;
-#[cfg(test)]
 mod static_slices;
 #[cfg(test)]
 mod writers;

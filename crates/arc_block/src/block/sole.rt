@@ -8,8 +8,8 @@ ghost use Rattle.arc_owners.specs.memory.SoleBoxes.{sole_in};
 ghost use Rattle.arc_block.specs.Block.{held_as, IsLimited};
 
 use super::{Base, Block};
-use crate::memory::Native;
 use arc_buffer::kinds::Slice;
+use arc_memory::Native;
 use arc_owners::error::AllocError;
 use arc_owners::mark::Mark;
 use arc_owners::owners::{Pass, SoleBox};

@@ -1,6 +1,6 @@
 -- The vector that comes back is the one that came in.
 use Rattle.std.proofs.Common.{ap, ◌∙◌}
-use Rattle.arc_block.proofs.memory.SameVecs.{same_vec}
+use Rattle.arc_memory.proofs.SameVecs.{same_vec}
 use Rattle.arc_block.proofs.block.Block.try_from_exact.Goals as goal
 
 pub returns-in-Err-clause-refused : goal.returns-in-Err-clause-refused

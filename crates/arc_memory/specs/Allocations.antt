@@ -1,0 +1,18 @@
+-- Places as parts of an allocation, as contracts see them.
+use Rattle.std.specs.Prelude.{◌≡◌}
+use Rattle.arc_memory.specs.Memory.{Extent}
+use Rattle.arc_memory.specs.LentMemory.{LentMemory}
+use Rattle.arc_memory.specs.declared.places.Places.{Places}
+
+module _ {T : Type 0} where
+  -- both lie in the same allocation
+  abbrev pub IsPart : Places T → Places T → Type 0
+  IsPart p q = (q.base ≡ p.base) × (q.whole ≡ p.whole)
+
+  -- all the places that an allocation has
+  abbrev pub IsAllOf : {A : Type 0} → Places T → Extent A → Type 0
+  IsAllOf p e = (p.base ≡ e.base) × (p.whole ≡ e.count) × (p.start ≡ 0) × (p.count ≡ e.count)
+
+  -- they lie in the memory that was lent
+  abbrev pub IsPartOfLent : LentMemory → Places T → Type 0
+  IsPartOfLent m p = (p.base ≡ m.base) × (p.whole ≡ m.whole)

@@ -1,0 +1,24 @@
+//! The memory in which a native block's items lie: its places, and apart from them the right to
+//! free it.
+//!
+//! `take_apart` makes both of a vector, and `put_together` the vector again. Places can be cut and
+//! joined, edited by a vector that lodges in them (`Lodging`), and lent for a lifetime to several
+//! writers (`LentPlaces`).
+#![tactic(auto)]
+
+pub use allocation::{Allocation, put_together, take_apart};
+pub use base::Base;
+pub use lent_places::{LentPlaces, OpenPlaces, PlacesInheritance};
+pub use lifetime::{EndedLifetime, LifetimeToken};
+pub use lodging::Lodging;
+pub use native::Native;
+pub use places::Places;
+
+mod allocation;
+mod base;
+mod emptied;
+mod lent_places;
+mod lifetime;
+mod lodging;
+mod native;
+mod places;

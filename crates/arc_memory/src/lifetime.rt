@@ -1,0 +1,100 @@
+//! A lifetime for which memory is lent.
+ghost use Rattle.std.specs.Prelude.{◌≡◌, ℕ, [], ◌∷◌};
+ghost use base.Fraction.{full_share, left, right};
+ghost use base.Fml.{Share, flft, fdead};
+ghost use base.SetCodes.{coded_share};
+
+use std::marker::{Model, PhantomData};
+
+/// A share of a lifetime, which lasts as long as the share isn't given up. It has no bytes, and is
+/// neither copied nor dropped.
+pub struct LifetimeToken {
+    pub(crate) marker: PhantomData<()>,
+    pub ghost lifetime: { ℕ },
+    pub ghost share: { Share } by { coded_share },
+}
+
+impl Model for LifetimeToken {
+    ghost also_owns = { λ t. flft (t.lifetime ∷ []) t.share };
+}
+
+/// That a lifetime has ended, for which what was lent comes back. It has no bytes.
+pub struct EndedLifetime {
+    pub(crate) marker: PhantomData<()>,
+    pub ghost lifetime: { ℕ },
+}
+
+impl Model for EndedLifetime {
+    ghost also_owns = { λ e. fdead (e.lifetime ∷ []) };
+}
+
+impl LifetimeToken {
+    /// A new lifetime, all of it.
+    pub fn new() -> LifetimeToken
+        ensures { result.share ≡ full_share }
+    {
+        LifetimeToken {
+            marker: PhantomData,
+        }
+    }
+
+    /// Two halves of the share, for two who each hold what is lent.
+    pub fn split(self) -> (LifetimeToken, LifetimeToken)
+        ensures lifetime { (result.0.lifetime ≡ self.lifetime)
+            × (result.1.lifetime ≡ self.lifetime) }
+        ensures halves { (result.0.share ≡ left self.share)
+            × (result.1.share ≡ right self.share) }
+    {
+        let LifetimeToken { marker: _ } = self;
+        (
+            LifetimeToken {
+                marker: PhantomData,
+            },
+            LifetimeToken {
+                marker: PhantomData,
+            },
+        )
+    }
+
+    /// The share of which these are the halves.
+    pub fn join(self, other: LifetimeToken) -> LifetimeToken
+        ghost whole: { Share }
+        requires lifetime { other.lifetime ≡ self.lifetime }
+        requires halves { (self.share ≡ left whole) × (other.share ≡ right whole) }
+        ensures { (result.lifetime ≡ self.lifetime) × (result.share ≡ whole) }
+    {
+        let LifetimeToken { marker: _ } = self;
+        let LifetimeToken { marker } = other;
+        LifetimeToken { marker }
+    }
+
+    /// Ends the lifetime, of which nobody else has a share.
+    pub fn end(self) -> EndedLifetime
+        requires { self.share ≡ full_share }
+        ensures { result.lifetime ≡ self.lifetime }
+    {
+        let LifetimeToken { marker } = self;
+        EndedLifetime { marker }
+    }
+}
+
+impl EndedLifetime {
+    /// The same twice, for two who have something back.
+    pub fn again(self) -> (EndedLifetime, EndedLifetime)
+        ensures { (result.0.lifetime ≡ self.lifetime) × (result.1.lifetime ≡ self.lifetime) }
+    {
+        let EndedLifetime { marker: _ } = self;
+        (
+            EndedLifetime {
+                marker: PhantomData,
+            },
+            EndedLifetime {
+                marker: PhantomData,
+            },
+        )
+    }
+}
+
+unsafe impl Send for LifetimeToken {}
+
+unsafe impl Send for EndedLifetime {}
