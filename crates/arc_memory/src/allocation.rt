@@ -5,7 +5,8 @@ ghost use Rattle.arc_memory.specs.Memory.{Extent, extent_of};
 
 use crate::emptied::Emptied;
 use crate::places::Places;
-use std::alloc::{AllocError, Allocator};
+use arc_owners::error::AllocError;
+use std::alloc::Allocator;
 use std::marker::Model;
 
 /// The right to free an allocation, whose places are owned apart. Contracts see where it begins,
@@ -57,7 +58,7 @@ impl<T, A: Allocator> Allocation<T, A> {
     {
         match Vec::with_capacity(alloc, count) {
             Ok(empty) => Ok(take_apart(empty)),
-            Err(refused) => Err(refused),
+            Err(_) => Err(AllocError),
         }
     }
 
