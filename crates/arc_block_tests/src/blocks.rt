@@ -31,8 +31,8 @@ fn shared<A: Allocator + Copy>(block: &Bytes<A>, pass: &mut Pass<Open>) -> Resul
 #[test]
 fn shared_up_to_three(rt: HostRuntime) -> Result<(), Fail> {
     let (first, mut pass) = Bytes::try_from_slice(rt.alloc(), b"Hello")?;
-    assert_eq!(rt; first.range(0, 5), b"Hello".as_slice());
-    assert_eq!(rt; first.size(), 5);
+    assert!(rt; first.range(0, 5) == b"Hello".as_slice());
+    assert!(rt; first.size() == 5);
     assert!(rt; first.is_unique_as(&mut pass));
     let second = shared(&first, &mut pass)?;
     let third = shared(&second, &mut pass)?;
@@ -43,8 +43,8 @@ fn shared_up_to_three(rt: HostRuntime) -> Result<(), Fail> {
     assert!(rt; !second.release_as(&mut pass));
     assert!(rt; !third.release_as(&mut pass));
     assert!(rt; fourth.is_unique_as(&mut pass));
-    assert_eq!(rt; fourth.range(0, 5), b"Hello".as_slice());
-    assert_eq!(rt; fourth.size(), 5);
+    assert!(rt; fourth.range(0, 5) == b"Hello".as_slice());
+    assert!(rt; fourth.size() == 5);
     assert!(rt; fourth.release_as(&mut pass));
     Ok(())
 }
@@ -62,8 +62,8 @@ fn items_taken_back_where_alone(rt: HostRuntime) -> Result<(), Fail> {
     let Ok(items) = first.try_into_items_as(&mut pass) else {
         return Err("alone".into());
     };
-    assert_eq!(rt; items.as_slice(), b"Hello".as_slice());
-    assert_eq!(rt; items.capacity(), 5);
+    assert!(rt; items.as_slice() == b"Hello".as_slice());
+    assert!(rt; items.capacity() == 5);
     Ok(())
 }
 
@@ -73,7 +73,7 @@ fn shared_by_two_threads(rt: HostRuntime) -> Result<(), Fail> {
     let (first, mut pass) = Bytes::try_from_slice(rt.alloc(), b"Hello")?;
     let second = shared(&first, &mut pass)?;
     let (one, two) = thread::join(&rt, || first.size(), move || second.size());
-    assert_eq!(rt; (one, two), (5, 5));
+    assert!(rt; (one, two) == (5, 5));
     assert!(rt; first.is_unique_as(&mut pass));
     Ok(())
 }
@@ -100,7 +100,7 @@ fn memory_refused(rt: HostRuntime) -> Result<(), Fail> {
                 made = made.saturating_add(1);
             }
             Err(error) => {
-                assert_eq!(rt; error, AllocError);
+                assert!(rt; error == AllocError);
                 if has_room {
                     refused_count = refused_count.saturating_add(1);
                 } else {

@@ -48,16 +48,16 @@ fn empty_beside<T>(items: &[T]) -> StaticSlice<T>
 #[test]
 fn made_read_and_cut(rt: HostRuntime) -> Result<(), Fail> {
     let whole = StaticSlice::new(b"Hello");
-    assert_eq!(rt; whole.as_slice(), b"Hello".as_slice());
-    assert_eq!(rt; whole.len(), 5);
+    assert!(rt; whole.as_slice() == b"Hello".as_slice());
+    assert!(rt; whole.len() == 5);
     assert!(rt; !whole.is_empty());
     let part = whole.part(1, 4);
-    assert_eq!(rt; part.as_slice(), b"ell".as_slice());
-    assert_eq!(rt; part.part(1, 3).as_slice(), b"ll".as_slice());
+    assert!(rt; part.as_slice() == b"ell".as_slice());
+    assert!(rt; part.part(1, 3).as_slice() == b"ll".as_slice());
     let none = part.part(3, 3);
     assert!(rt; none.is_empty());
-    assert_eq!(rt; none.as_slice(), b"".as_slice());
-    assert_eq!(rt; lengths(&whole, &none), (5, 0));
+    assert!(rt; none.as_slice() == b"".as_slice());
+    assert!(rt; lengths(&whole, &none) == (5, 0));
     Ok(())
 }
 
@@ -68,7 +68,7 @@ fn empty_of_any_items(rt: HostRuntime) -> Result<(), Fail> {
     let one: [&u32; 1] = [&number];
     let none = empty_beside(&one);
     assert!(rt; none.is_empty());
-    assert_eq!(rt; none.part(0, 0).as_slice().len(), 0);
+    assert!(rt; none.part(0, 0).as_slice().len() == 0);
     Ok(())
 }
 
@@ -77,10 +77,10 @@ fn given_back_while_another_lives(rt: HostRuntime) -> Result<(), Fail> {
     let whole = StaticSlice::new(b"Hello");
     let again = whole.again();
     let items: &'static [u8] = again.into_static();
-    assert_eq!(rt; items, whole.as_slice());
+    assert!(rt; items == whole.as_slice());
     drop(whole);
-    assert_eq!(rt; items, b"Hello".as_slice());
-    assert_eq!(rt; part_of(&NUMBERS, 1, 3), [3u32, 5].as_slice());
+    assert!(rt; items == b"Hello".as_slice());
+    assert!(rt; part_of(&NUMBERS, 1, 3) == [3u32, 5].as_slice());
     Ok(())
 }
 
@@ -98,12 +98,12 @@ fn kept_in_a_vector(rt: HostRuntime) -> Result<(), Fail> {
             total = total.saturating_add(slice.as_slice().len());
         }
     }
-    assert_eq!(rt; total, 12);
+    assert!(rt; total == 12);
     let Some(Some(last)) = slots.pop() else {
         return Err("a slice".into());
     };
     drop(slots);
-    assert_eq!(rt; last.as_slice(), b"Hello".as_slice());
+    assert!(rt; last.as_slice() == b"Hello".as_slice());
     Ok(())
 }
 
@@ -112,18 +112,18 @@ fn sent_to_a_thread(rt: HostRuntime) -> Result<(), Fail> {
     let whole = StaticSlice::new(b"Hello");
     let part = whole.part(1, 4);
     let (here, there) = thread::join(&rt, || whole.as_slice().len(), move || part.into_static());
-    assert_eq!(rt; here, 5);
-    assert_eq!(rt; there, b"ell".as_slice());
+    assert!(rt; here == 5);
+    assert!(rt; there == b"ell".as_slice());
     Ok(())
 }
 
 #[test]
 fn items_of_no_size(rt: HostRuntime) -> Result<(), Fail> {
     let whole = StaticSlice::new(&NOTHINGS);
-    assert_eq!(rt; whole.len(), 3);
-    assert_eq!(rt; whole.as_slice(), [Nothing; 3].as_slice());
-    assert_eq!(rt; whole.part(1, 3).into_static(), [Nothing; 2].as_slice());
-    assert_eq!(rt; part_of(&NOTHINGS, 2, 2).len(), 0);
+    assert!(rt; whole.len() == 3);
+    assert!(rt; whole.as_slice() == [Nothing; 3].as_slice());
+    assert!(rt; whole.part(1, 3).into_static() == [Nothing; 2].as_slice());
+    assert!(rt; part_of(&NOTHINGS, 2, 2).len() == 0);
     Ok(())
 }
 
@@ -134,8 +134,8 @@ fn items_that_are_references(rt: HostRuntime) -> Result<(), Fail> {
     for word in words.as_slice() {
         bytes = bytes.saturating_add(word.len());
     }
-    assert_eq!(rt; bytes, 11);
-    assert_eq!(rt; words.part(1, 3).len(), 2);
+    assert!(rt; bytes == 11);
+    assert!(rt; words.part(1, 3).len() == 2);
     Ok(())
 }
 
@@ -144,19 +144,19 @@ fn items_that_are_references(rt: HostRuntime) -> Result<(), Fail> {
 fn read_by_place_and_range(rt: HostRuntime) -> Result<(), Fail> {
     let (base, kept) = StaticShare::of(b"Hello");
     let again = kept.again();
-    assert_eq!(rt; kept.as_slice(base, 0, 5), b"Hello".as_slice());
-    assert_eq!(rt; again.as_slice(base, 1, 4), b"ell".as_slice());
+    assert!(rt; kept.as_slice(base, 0, 5) == b"Hello".as_slice());
+    assert!(rt; again.as_slice(base, 1, 4) == b"ell".as_slice());
     let items = again.as_static(base, 2, 2);
     drop(again);
     assert!(rt; items.is_empty());
-    assert_eq!(rt; kept.as_static(base, 4, 5), b"o".as_slice());
+    assert!(rt; kept.as_static(base, 4, 5) == b"o".as_slice());
     Ok(())
 }
 
 #[test]
 fn three_words_of_memory(rt: HostRuntime) -> Result<(), Fail> {
-    assert_eq!(rt; Layout::new::<StaticSlice<u8>>().size(), 24);
-    assert_eq!(rt; Layout::new::<StaticItems<u8>>().size(), 8);
-    assert_eq!(rt; Layout::new::<StaticShare<u8>>().size(), 0);
+    assert!(rt; Layout::new::<StaticSlice<u8>>().size() == 24);
+    assert!(rt; Layout::new::<StaticItems<u8>>().size() == 8);
+    assert!(rt; Layout::new::<StaticShare<u8>>().size() == 0);
     Ok(())
 }

@@ -68,20 +68,20 @@ fn alone<A: Allocator + Copy>(reader: Reader<A>) -> Result<Writer<A>, Reader<A>>
 #[test]
 fn native_growth_is_exact(rt: HostRuntime) -> Result<(), Fail> {
     let mut writer = bytes(rt.alloc(), &[1, 2, 3, 4, 5, 6, 7, 8])?;
-    assert_eq!(rt; writer.len(), 8);
+    assert!(rt; writer.len() == 8);
     if writer.len() < 3 {
         return Err("fewer than were given".into());
     }
     writer.advance(3);
     assert!(rt; push(&mut writer, 9).is_ok());
-    assert_eq!(rt; reserve(&mut writer, 7), Ok(()));
-    assert_eq!(rt; writer.capacity(), 13);
-    assert_eq!(rt; reserve(&mut writer, 8), Ok(()));
-    assert_eq!(rt; writer.capacity(), 29);
+    assert!(rt; reserve(&mut writer, 7) == Ok(()));
+    assert!(rt; writer.capacity() == 13);
+    assert!(rt; reserve(&mut writer, 8) == Ok(()));
+    assert!(rt; writer.capacity() == 29);
     assert!(rt; writer.as_slice() == [4, 5, 6, 7, 8, 9].as_slice());
     writer.truncate(2);
     assert!(rt; writer.as_slice() == [4, 5].as_slice());
-    assert_eq!(rt; writer.capacity(), 29);
+    assert!(rt; writer.capacity() == 29);
     Ok(())
 }
 
@@ -91,14 +91,14 @@ fn room_is_reclaimed_in_front(rt: HostRuntime) -> Result<(), Fail> {
     let mut pass = Pass::none();
     let made = Writer::<_>::try_with_capacity_as(rt.alloc(), 8, &mut pass);
     let mut writer = made?;
-    assert_eq!(rt; extend(&mut writer, &[1, 2, 3]), Ok(()));
+    assert!(rt; extend(&mut writer, &[1, 2, 3]) == Ok(()));
     if writer.len() < 3 {
         return Err("fewer than were given".into());
     }
     writer.advance(3);
-    assert_eq!(rt; writer.capacity(), 5);
+    assert!(rt; writer.capacity() == 5);
     assert!(rt; writer.try_reclaim(8));
-    assert_eq!(rt; writer.capacity(), 8);
+    assert!(rt; writer.capacity() == 8);
     assert!(rt; !writer.try_reclaim(9));
     Ok(())
 }
@@ -107,20 +107,14 @@ fn room_is_reclaimed_in_front(rt: HostRuntime) -> Result<(), Fail> {
 #[test]
 fn too_much_room_is_refused(rt: HostRuntime) -> Result<(), Fail> {
     let mut writer = bytes(rt.alloc(), &[1])?;
-    assert_eq!(rt;
-        reserve(&mut writer, usize::MAX),
-        Err(TryReserveError::CapacityOverflow)
-    );
+    assert!(rt; reserve(&mut writer, usize::MAX) == Err(TryReserveError::CapacityOverflow));
     assert!(rt; writer.as_slice() == [1].as_slice());
-    assert_eq!(rt; writer.capacity(), 1);
+    assert!(rt; writer.capacity() == 1);
     let mut idle = Writer::<_>::on_nothing(rt.alloc());
-    assert_eq!(rt;
-        reserve(&mut idle, usize::MAX),
-        Err(TryReserveError::AllocError)
-    );
-    assert_eq!(rt; idle.capacity(), 0);
+    assert!(rt; reserve(&mut idle, usize::MAX) == Err(TryReserveError::AllocError));
+    assert!(rt; idle.capacity() == 0);
     assert!(rt; push(&mut idle, 1).is_ok());
-    assert_eq!(rt; idle.capacity(), 8);
+    assert!(rt; idle.capacity() == 8);
     Ok(())
 }
 
@@ -155,13 +149,10 @@ fn owned_items_cut_short(rt: HostRuntime) -> Result<(), Fail> {
         return Err("no memory".into());
     };
     writer.truncate(2);
-    assert_eq!(rt; (writer.len(), writer.capacity()), (2, 2));
+    assert!(rt; (writer.len(), writer.capacity()) == (2, 2));
     assert!(rt; !writer.try_reclaim(1));
     let mut pass = writer.pass();
-    assert_eq!(rt;
-        writer.try_reserve_as(1, &mut pass),
-        Err(TryReserveError::Unsupported)
-    );
+    assert!(rt; writer.try_reserve_as(1, &mut pass) == Err(TryReserveError::Unsupported));
     assert!(rt; writer.as_slice().iter().all(|item| **item < 9));
     Ok(())
 }
@@ -176,14 +167,14 @@ fn release<A: Allocator + Copy>(writer: Writer<A>) {
 fn memory_is_given_back(rt: HostRuntime) -> Result<(), Fail> {
     let heap = LocalHeap::new(rt.alloc(), 4096)?;
     drop(bytes(&heap, &[1, 2, 3])?);
-    assert_eq!(rt; heap.used(), 0);
+    assert!(rt; heap.used() == 0);
     release(bytes(&heap, &[1, 2, 3])?);
-    assert_eq!(rt; heap.used(), 0);
+    assert!(rt; heap.used() == 0);
     drop(bytes(&heap, &[1, 2, 3])?.freeze());
-    assert_eq!(rt; heap.used(), 0);
+    assert!(rt; heap.used() == 0);
     let mut writer = bytes(&heap, &[1, 2, 3])?;
     assert!(rt; push(&mut writer, 4).is_ok());
     drop(writer);
-    assert_eq!(rt; heap.used(), 0);
+    assert!(rt; heap.used() == 0);
     Ok(())
 }

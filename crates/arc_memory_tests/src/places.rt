@@ -15,19 +15,16 @@ fn numbers_apart_and_together(rt: HostRuntime) -> Result<(), Fail> {
     let numbers = Vec::from_slice(&heap, &[1u64, 2, 3])?;
     let taken = heap.used();
     let (base, allocation, places) = take_apart(numbers);
-    assert_eq!(rt; allocation.count(), 3);
-    assert_eq!(rt;
-        unsafe { places.as_slice(base, 0, 3) },
-        [1u64, 2, 3].as_slice()
-    );
-    assert_eq!(rt; unsafe { places.as_slice(base, 1, 2) }, [2u64].as_slice());
-    assert_eq!(rt; unsafe { places.as_slice(base, 3, 3) }.len(), 0);
-    assert_eq!(rt; heap.used(), taken);
+    assert!(rt; allocation.count() == 3);
+    assert!(rt; unsafe { places.as_slice(base, 0, 3) } == [1u64, 2, 3].as_slice());
+    assert!(rt; unsafe { places.as_slice(base, 1, 2) } == [2u64].as_slice());
+    assert!(rt; unsafe { places.as_slice(base, 3, 3) }.len() == 0);
+    assert!(rt; heap.used() == taken);
     let numbers = put_together(allocation, places);
-    assert_eq!(rt; numbers.as_slice(), [1u64, 2, 3].as_slice());
-    assert_eq!(rt; numbers.capacity(), 3);
+    assert!(rt; numbers.as_slice() == [1u64, 2, 3].as_slice());
+    assert!(rt; numbers.capacity() == 3);
     drop(numbers);
-    assert_eq!(rt; heap.used(), 0);
+    assert!(rt; heap.used() == 0);
     Ok(())
 }
 
@@ -39,14 +36,14 @@ fn owned_items_apart_and_together(rt: HostRuntime) -> Result<(), Fail> {
     boxes.push(Box::new(&heap, 7u8)?)?;
     boxes.push(Box::new(&heap, 8u8)?)?;
     let (base, allocation, places) = take_apart(boxes);
-    assert_eq!(rt; allocation.count(), 4);
-    assert_eq!(rt; *unsafe { places.as_slice(base, 1, 2) }[0], 8);
+    assert!(rt; allocation.count() == 4);
+    assert!(rt; *unsafe { places.as_slice(base, 1, 2) }[0] == 8);
     let mut boxes = put_together(allocation, places);
     boxes.push(Box::new(&heap, 9u8)?)?;
-    assert_eq!(rt; (boxes.len(), boxes.capacity()), (3, 4));
-    assert_eq!(rt; *boxes[2], 9);
+    assert!(rt; (boxes.len(), boxes.capacity()) == (3, 4));
+    assert!(rt; *boxes[2] == 9);
     drop(boxes);
-    assert_eq!(rt; heap.used(), 0);
+    assert!(rt; heap.used() == 0);
     Ok(())
 }
 
@@ -55,18 +52,18 @@ fn items_of_no_size_apart_and_together(rt: HostRuntime) -> Result<(), Fail> {
     let heap = LocalHeap::new(rt.alloc(), 1024)?;
     let nothings = Vec::from_slice(&heap, &[Nothing; 3])?;
     let (base, allocation, places) = take_apart(nothings);
-    assert_eq!(rt; unsafe { places.as_slice(base, 1, 3) }.len(), 2);
+    assert!(rt; unsafe { places.as_slice(base, 1, 3) }.len() == 2);
     drop(put_together(allocation, places));
-    assert_eq!(rt; heap.used(), 0);
+    assert!(rt; heap.used() == 0);
     Ok(())
 }
 
 #[test]
 fn no_places_apart_and_together(rt: HostRuntime) -> Result<(), Fail> {
     let (base, allocation, places) = take_apart(Vec::<u64, _>::new(rt.alloc()));
-    assert_eq!(rt; unsafe { places.as_slice(base, 0, 0) }.len(), 0);
+    assert!(rt; unsafe { places.as_slice(base, 0, 0) }.len() == 0);
     let none = put_together(allocation, places);
-    assert_eq!(rt; (none.len(), none.capacity()), (0, 0));
+    assert!(rt; (none.len(), none.capacity()) == (0, 0));
     Ok(())
 }
 
@@ -81,16 +78,13 @@ fn number_replaced_in_a_part(rt: HostRuntime) -> Result<(), Fail> {
     let (base, allocation, places) = take_apart(numbers);
     let (front, back) = places.split(1);
     let (mut lodger, under) = unsafe { Lodging::house(back, base, 1, 2, 2) };
-    assert_eq!(rt; lodger.as_slice(), [2u64, 3].as_slice());
-    assert_eq!(rt; lodger.take_last(), 3);
+    assert!(rt; lodger.as_slice() == [2u64, 3].as_slice());
+    assert!(rt; lodger.take_last() == 3);
     lodger.push_reserved(4);
     let places = front.join(under.vacate(lodger));
-    assert_eq!(rt;
-        unsafe { places.as_slice(base, 0, 3) },
-        [1u64, 2, 4].as_slice()
-    );
+    assert!(rt; unsafe { places.as_slice(base, 0, 3) } == [1u64, 2, 4].as_slice());
     drop(put_together(allocation, places));
-    assert_eq!(rt; heap.used(), 0);
+    assert!(rt; heap.used() == 0);
     Ok(())
 }
 
@@ -104,7 +98,7 @@ fn empty_places_given_back(rt: HostRuntime) -> Result<(), Fail> {
     let (_base, allocation, places) = Allocation::<u64, _>::new(&heap, 4)?;
     assert!(rt; 0 < heap.used());
     allocation.free(places);
-    assert_eq!(rt; heap.used(), 0);
+    assert!(rt; heap.used() == 0);
     Ok(())
 }
 
@@ -133,22 +127,19 @@ fn lent_in_parts_and_regained(rt: HostRuntime) -> Result<(), Fail> {
     let (room, left) = back.open(lifetime);
     let (mut lodger, under) = unsafe { Lodging::house(room, base, 3, 0, 1) };
     lodger.push_reserved(9);
-    assert_eq!(rt; lodger.as_slice(), [9u64].as_slice());
-    assert_eq!(rt; lodger.take_last(), 9);
+    assert!(rt; lodger.as_slice() == [9u64].as_slice());
+    assert!(rt; lodger.take_last() == 9);
     let (back, lifetime) = left.close(under.vacate(lodger));
     let part = front.unsplit(back);
     let (room, left) = part.open(lifetime);
     let (mut lodger, under) = unsafe { Lodging::house(room, base, 0, 2, 4) };
-    assert_eq!(rt; lodger.take_last(), 2);
+    assert!(rt; lodger.take_last() == 2);
     lodger.push_reserved(7);
     let (part, lifetime) = left.close(under.vacate(lodger));
     let places = inheritance.regain_whole(lifetime.end(), part);
-    assert_eq!(rt;
-        unsafe { places.as_slice(base, 0, 2) },
-        [1u64, 7].as_slice()
-    );
+    assert!(rt; unsafe { places.as_slice(base, 0, 2) } == [1u64, 7].as_slice());
     drop(put_together(allocation, places));
-    assert_eq!(rt; heap.used(), 0);
+    assert!(rt; heap.used() == 0);
     Ok(())
 }
 
@@ -173,9 +164,9 @@ fn owned_items_lent_and_regained(rt: HostRuntime) -> Result<(), Fail> {
     lodger.push_reserved(first);
     let places = under.vacate(lodger).join(own).join(behind);
     let boxes = put_together(allocation, places);
-    assert_eq!(rt; (*boxes[0], *boxes[1]), (7, 8));
+    assert!(rt; (*boxes[0], *boxes[1]) == (7, 8));
     drop(boxes);
-    assert_eq!(rt; heap.used(), 0);
+    assert!(rt; heap.used() == 0);
     Ok(())
 }
 
@@ -194,9 +185,9 @@ fn two_rooms_lent_and_regained(rt: HostRuntime) -> Result<(), Fail> {
     let before = front_back.regain_whole(one, front);
     let own = part_back.regain_whole(other, part);
     let (mut lodger, under) = unsafe { Lodging::house(own, base, 1, 1, 2) };
-    assert_eq!(rt; lodger.take_last(), 5);
+    assert!(rt; lodger.take_last() == 5);
     allocation.free(before.join(under.vacate(lodger)));
-    assert_eq!(rt; heap.used(), 0);
+    assert!(rt; heap.used() == 0);
     Ok(())
 }
 
@@ -224,9 +215,9 @@ fn two_writers_at_once(rt: HostRuntime) -> Result<(), Fail> {
     let lifetime = first.join(second);
     let places = inheritance.regain_whole(lifetime.end(), front.unsplit(back));
     let numbers = put_together(allocation, places);
-    assert_eq!(rt; numbers.as_slice(), [2u64, 1].as_slice());
+    assert!(rt; numbers.as_slice() == [2u64, 1].as_slice());
     drop(numbers);
-    assert_eq!(rt; heap.used(), 0);
+    assert!(rt; heap.used() == 0);
     Ok(())
 }
 
@@ -241,7 +232,7 @@ fn items_of_no_size_lent_and_regained(rt: HostRuntime) -> Result<(), Fail> {
     let part = front.unsplit(back);
     let places = inheritance.regain_whole(lifetime.end(), part);
     drop(put_together(allocation, places));
-    assert_eq!(rt; heap.used(), 0);
+    assert!(rt; heap.used() == 0);
     Ok(())
 }
 

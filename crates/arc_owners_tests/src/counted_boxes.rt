@@ -16,15 +16,15 @@ fn last_owner_gets_the_value(rt: HostRuntime) -> Result<(), Fail> {
     let Ok((first, mut pass)) = CountedBox::<u64, _, 3, Open>::new(rt.alloc(), 7) else {
         return Err(AllocError.into());
     };
-    assert_eq!(rt; *first.get(), 7);
+    assert!(rt; *first.get() == 7);
     assert!(rt; first.is_unique_as(&mut pass));
     let second = first.try_clone_as(&rt, &mut pass)?;
-    assert_eq!(rt; *second.get(), 7);
+    assert!(rt; *second.get() == 7);
     assert!(rt; !second.is_unique_as(&mut pass));
     assert!(rt; first.release_as(&mut pass).is_none());
     assert!(rt; second.is_unique_as(&mut pass));
-    assert_eq!(rt; *second.get(), 7);
-    assert_eq!(rt; second.release_as(&mut pass), Some(7));
+    assert!(rt; *second.get() == 7);
+    assert!(rt; second.release_as(&mut pass) == Some(7));
     Ok(())
 }
 
@@ -41,7 +41,7 @@ fn taken_back_where_alone(rt: HostRuntime) -> Result<(), Fail> {
     let Ok(value) = first.try_into_value_as(&mut pass) else {
         return Err("alone".into());
     };
-    assert_eq!(rt; value, 7);
+    assert!(rt; value == 7);
     Ok(())
 }
 
@@ -55,7 +55,7 @@ fn fourth_owner_refused(rt: HostRuntime) -> Result<(), Fail> {
     assert!(rt; third.try_clone_as(&rt, &mut pass).is_err());
     assert!(rt; first.release_as(&mut pass).is_none());
     let fourth = third.try_clone_as(&rt, &mut pass)?;
-    assert_eq!(rt; *fourth.get(), 7);
+    assert!(rt; *fourth.get() == 7);
     Ok(())
 }
 
@@ -72,16 +72,16 @@ fn memory_given_back_once(rt: HostRuntime) -> Result<(), Fail> {
         let taken = heap.used();
         assert!(rt; before < taken);
         let second = first.try_clone_as(&rt, &mut pass)?;
-        assert_eq!(rt; heap.used(), taken);
+        assert!(rt; heap.used() == taken);
         let (early, late) = if order == 0 {
             (first, second)
         } else {
             (second, first)
         };
         assert!(rt; early.release_as(&mut pass).is_none());
-        assert_eq!(rt; heap.used(), taken);
-        assert_eq!(rt; late.release_as(&mut pass), Some(7));
-        assert_eq!(rt; heap.used(), before);
+        assert!(rt; heap.used() == taken);
+        assert!(rt; late.release_as(&mut pass) == Some(7));
+        assert!(rt; heap.used() == before);
     }
     Ok(())
 }
@@ -96,9 +96,9 @@ fn value_handed_back_without_memory(rt: HostRuntime) -> Result<(), Fail> {
     let Err(back) = CountedBox::<[u64; 3], _, 3, Open>::new(&heap, [4, 5, 6]) else {
         return Err("two pieces in the room of one".into());
     };
-    assert_eq!(rt; back, [4, 5, 6]);
-    assert_eq!(rt; heap.used(), used);
-    assert_eq!(rt; first.release_as(&mut pass), Some([1, 2, 3]));
+    assert!(rt; back == [4, 5, 6]);
+    assert!(rt; heap.used() == used);
+    assert!(rt; first.release_as(&mut pass) == Some([1, 2, 3]));
     Ok(())
 }
 
@@ -113,10 +113,10 @@ fn memory_given_back_by_drop(rt: HostRuntime) -> Result<(), Fail> {
     let taken = heap.used();
     let second = first.try_clone_as(&rt, &mut pass)?;
     drop(first);
-    assert_eq!(rt; heap.used(), taken);
-    assert_eq!(rt; *second.get(), 7);
+    assert!(rt; heap.used() == taken);
+    assert!(rt; *second.get() == 7);
     drop(second);
-    assert_eq!(rt; heap.used(), before);
+    assert!(rt; heap.used() == before);
     Ok(())
 }
 
@@ -135,7 +135,7 @@ fn memory_kept_by_forgotten_owner(rt: HostRuntime) -> Result<(), Fail> {
     drop(first);
     assert!(rt; !second.is_unique_as(&mut pass));
     assert!(rt; second.release_as(&mut pass).is_none());
-    assert_eq!(rt; heap.used(), taken);
+    assert!(rt; heap.used() == taken);
     Ok(())
 }
 
@@ -160,7 +160,7 @@ fn released_by_two_threads(rt: HostRuntime) -> Result<(), Fail> {
             },
         );
         assert!(rt; one.is_some() != two.is_some(), "in round {round}");
-        assert_eq!(rt; one.or(two), Some(round));
+        assert!(rt; one.or(two) == Some(round));
     }
     Ok(())
 }
@@ -201,7 +201,7 @@ fn read_in_another_thread(rt: HostRuntime) -> Result<(), Fail> {
     let second = first.try_clone_as(&rt, &mut pass)?;
     assert!(rt; !first.is_unique_as(&mut pass));
     let (one, two, other) = read_by_two(&rt, &first, second);
-    assert_eq!(rt; (one, two), (7, 7));
+    assert!(rt; (one, two) == (7, 7));
     first.learn(&mut pass, &other);
     assert!(rt; first.is_unique_as(&mut pass));
     Ok(())

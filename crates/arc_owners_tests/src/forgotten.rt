@@ -41,9 +41,9 @@ fn value_ends_with_last_drop(rt: HostRuntime) -> Result<(), Fail> {
             (second, first)
         };
         drop(early);
-        assert_eq!(rt; heap.used(), taken);
+        assert!(rt; heap.used() == taken);
         drop(late);
-        assert_eq!(rt; heap.used(), before);
+        assert!(rt; heap.used() == before);
     }
     Ok(())
 }

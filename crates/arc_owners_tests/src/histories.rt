@@ -61,19 +61,19 @@ const PROMOTION: [Event; 5] = [
 fn counted_run(rt: HostRuntime) -> Result<(), Fail> {
     let world = replay::<3, _>(rt.alloc(), &COUNTED_RUN)?;
     assert!(rt; world.counted);
-    assert_eq!(rt; world.count, 2);
-    assert_eq!(rt; world.live.as_slice(), [0, 2].as_slice());
-    assert_eq!(rt; world.ready.len(), 0);
-    assert_eq!(rt;
-        world.entries.as_slice(),
-        [
-            Entry::Up(0, 1),
-            Entry::Up(0, 2),
-            Entry::Full(0),
-            Entry::Down(1),
-            Entry::Alone(0, false)
-        ]
-        .as_slice()
+    assert!(rt; world.count == 2);
+    assert!(rt; world.live.as_slice() == [0, 2].as_slice());
+    assert!(rt; world.ready.len() == 0);
+    assert!(rt;
+        world.entries.as_slice()
+            == [
+                Entry::Up(0, 1),
+                Entry::Up(0, 2),
+                Entry::Full(0),
+                Entry::Down(1),
+                Entry::Alone(0, false)
+            ]
+            .as_slice()
     );
     Ok(())
 }
@@ -88,11 +88,11 @@ fn lone_runs(rt: HostRuntime) -> Result<(), Fail> {
     keeps::<3>(&PROMOTION);
     let world = replay_lone::<3, _>(rt.alloc(), &PROMOTION)?;
     assert!(rt; world.counted);
-    assert_eq!(rt; world.count, 3);
-    assert_eq!(rt; world.live.as_slice(), [0, 1, 2].as_slice());
-    assert_eq!(rt;
-        world.entries.as_slice(),
-        [Entry::Promote(0, 1), Entry::Joined(0), Entry::Up(0, 2)].as_slice()
+    assert!(rt; world.count == 3);
+    assert!(rt; world.live.as_slice() == [0, 1, 2].as_slice());
+    assert!(rt;
+        world.entries.as_slice()
+            == [Entry::Promote(0, 1), Entry::Joined(0), Entry::Up(0, 2)].as_slice()
     );
     let events = [
         Event::Load { thread: 2, by: 0 },
@@ -109,8 +109,8 @@ fn lone_runs(rt: HostRuntime) -> Result<(), Fail> {
         },
     ];
     let world = replay_lone::<3, _>(rt.alloc(), &events)?;
-    assert_eq!(rt; world.count, 1);
-    assert_eq!(rt; world.live.as_slice(), [1].as_slice());
+    assert!(rt; world.count == 1);
+    assert!(rt; world.live.as_slice() == [1].as_slice());
     Ok(())
 }
 
@@ -125,7 +125,7 @@ fn number_never_live(rt: HostRuntime) -> Result<(), Fail> {
             new: 7,
         }],
     )?;
-    assert_eq!(rt; world.live.as_slice(), [0, 7].as_slice());
+    assert!(rt; world.live.as_slice() == [0, 7].as_slice());
     Ok(())
 }
 
@@ -250,7 +250,7 @@ fn nothing_changes_at_the_greatest_count(rt: HostRuntime) -> Result<(), Fail> {
 fn nothing_changes_on_a_lone_word(rt: HostRuntime) -> Result<(), Fail> {
     let events = [Event::Load { thread: 1, by: 0 }];
     let wanted = replay_lone::<3, _>(rt.alloc(), &events)?;
-    assert_eq!(rt; wanted.ready.as_slice(), [1].as_slice());
+    assert!(rt; wanted.ready.as_slice() == [1].as_slice());
     for event in [
         Event::Load { thread: 2, by: 1 },
         Event::ExchangeWon {
@@ -310,7 +310,7 @@ fn memory_refused(rt: HostRuntime) -> Result<(), Fail> {
                 );
             }
             Err(error) => {
-                assert_eq!(rt; error, AllocError);
+                assert!(rt; error == AllocError);
                 refused = refused.wrapping_add(1);
             }
         }

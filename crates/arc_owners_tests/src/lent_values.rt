@@ -19,20 +19,20 @@ fn lent_read_and_had_back(rt: HostRuntime) -> Result<(), Fail> {
     let taken = heap.used();
     let (lent, alloc) = LentValue::lend(memory, &first);
     let second = owners.up_as(&rt, &first, &mut pass)?;
-    assert_eq!(rt; *lent.get(&first), 7);
+    assert!(rt; *lent.get(&first) == 7);
     let other = lent.again();
     let Release::NotLast = owners.down_as(first, &mut pass) else {
         return Err("beside another owner".into());
     };
-    assert_eq!(rt; *other.get(&second), 7);
-    assert_eq!(rt; heap.used(), taken);
+    assert!(rt; *other.get(&second) == 7);
+    assert!(rt; heap.used() == taken);
     let Release::Last(end) = owners.down_as(second, &mut pass) else {
         return Err("the last owner".into());
     };
     let memory = other.take_back(alloc, end);
-    assert_eq!(rt; *memory, 7);
+    assert!(rt; *memory == 7);
     drop(memory);
-    assert_eq!(rt; heap.used(), before);
+    assert!(rt; heap.used() == before);
     Ok(())
 }
 
@@ -48,13 +48,13 @@ fn read_in_two_threads(rt: HostRuntime) -> Result<(), Fail> {
     let kept = lent.again();
     let other = lent.again();
     let (one, two) = join(&rt, || *lent.get(&first), || *other.get(&second));
-    assert_eq!(rt; (one, two), (7, 7));
+    assert!(rt; (one, two) == (7, 7));
     let Release::NotLast = owners.down_as(first, &mut pass) else {
         return Err("beside another owner".into());
     };
     let Release::Last(end) = owners.down_as(second, &mut pass) else {
         return Err("the last owner".into());
     };
-    assert_eq!(rt; *kept.take_back(alloc, end), 7);
+    assert!(rt; *kept.take_back(alloc, end) == 7);
     Ok(())
 }

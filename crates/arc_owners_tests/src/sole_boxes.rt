@@ -29,19 +29,19 @@ fn taken_back_and_lent_anew(rt: HostRuntime) -> Result<(), Fail> {
     let Ok(sole) = first.try_into_sole_as(&mut pass) else {
         return Err("alone".into());
     };
-    assert_eq!(rt; *sole.get(), 7);
+    assert!(rt; *sole.get() == 7);
     sole.only(&mut pass);
     let first = sole.lend();
     let second = first.try_clone_as(&rt, &mut pass)?;
-    assert_eq!(rt; heap.used(), taken);
-    assert_eq!(rt; *second.get(), 7);
+    assert!(rt; heap.used() == taken);
+    assert!(rt; *second.get() == 7);
     assert!(rt; first.release_as(&mut pass).is_none());
     let Ok(sole) = second.try_into_sole_as(&mut pass) else {
         return Err("alone again".into());
     };
-    assert_eq!(rt; heap.used(), taken);
-    assert_eq!(rt; sole.into_value_as(&mut pass), 7);
-    assert_eq!(rt; heap.used(), before);
+    assert!(rt; heap.used() == taken);
+    assert!(rt; sole.into_value_as(&mut pass) == 7);
+    assert!(rt; heap.used() == before);
     Ok(())
 }
 
@@ -64,15 +64,15 @@ fn changed_and_lent_anew(rt: HostRuntime) -> Result<(), Fail> {
     *sole.get_mut() = 8;
     let first = sole.lend();
     let second = first.try_clone_as(&rt, &mut pass)?;
-    assert_eq!(rt; *second.get(), 8);
+    assert!(rt; *second.get() == 8);
     assert!(rt; first.release_as(&mut pass).is_none());
     let Ok(mut sole) = second.try_into_sole_as(&mut pass) else {
         return Err("alone".into());
     };
     *sole.get_mut() = 9;
-    assert_eq!(rt; *sole.get(), 9);
-    assert_eq!(rt; sole.lend().release_as(&mut pass), Some(9));
-    assert_eq!(rt; heap.used(), before);
+    assert!(rt; *sole.get() == 9);
+    assert!(rt; sole.lend().release_as(&mut pass) == Some(9));
+    assert!(rt; heap.used() == before);
     Ok(())
 }
 
@@ -82,7 +82,7 @@ fn sole_value_set(rt: HostRuntime) -> Result<(), Fail> {
         return Err(AllocError.into());
     };
     set(&mut sole, 8);
-    assert_eq!(rt; sole.into_value_as(&mut pass), 8);
+    assert!(rt; sole.into_value_as(&mut pass) == 8);
     Ok(())
 }
 
@@ -93,11 +93,11 @@ fn sole_from_the_beginning(rt: HostRuntime) -> Result<(), Fail> {
     let Ok((sole, mut pass)) = SoleBox::<u64, _, 3, Open>::new(&heap, 7) else {
         return Err(AllocError.into());
     };
-    assert_eq!(rt; *sole.get(), 7);
+    assert!(rt; *sole.get() == 7);
     let first = sole.lend();
     assert!(rt; first.is_unique_as(&mut pass));
-    assert_eq!(rt; first.release_as(&mut pass), Some(7));
-    assert_eq!(rt; heap.used(), before);
+    assert!(rt; first.release_as(&mut pass) == Some(7));
+    assert!(rt; heap.used() == before);
     Ok(())
 }
 
@@ -110,8 +110,8 @@ fn value_handed_back_without_memory(rt: HostRuntime) -> Result<(), Fail> {
     let Err(back) = SoleBox::<[u64; 3], _, 3, Open>::new(&heap, [4, 5, 6]) else {
         return Err("two values in the room of one".into());
     };
-    assert_eq!(rt; back, [4, 5, 6]);
-    assert_eq!(rt; sole.into_value_as(&mut pass), [1, 2, 3]);
+    assert!(rt; back == [4, 5, 6]);
+    assert!(rt; sole.into_value_as(&mut pass) == [1, 2, 3]);
     Ok(())
 }
 
@@ -126,12 +126,12 @@ fn memory_after_a_drop(rt: HostRuntime) -> Result<(), Fail> {
     let taken = heap.used();
     assert!(rt; before < taken);
     drop(open);
-    assert_eq!(rt; heap.used(), before);
+    assert!(rt; heap.used() == before);
     let Ok((whole, _pass)) = SoleBox::<u64, _, 3, Whole>::new(&heap, 7) else {
         return Err(AllocError.into());
     };
     drop(whole);
-    assert_eq!(rt; heap.used(), taken);
+    assert!(rt; heap.used() == taken);
     Ok(())
 }
 
@@ -155,6 +155,6 @@ fn ended_in_another_thread(rt: HostRuntime) -> Result<(), Fail> {
             two.into_value_as(&mut pass)
         },
     );
-    assert_eq!(rt; (seven, eight), (7, 8));
+    assert!(rt; (seven, eight) == (7, 8));
     Ok(())
 }

@@ -47,10 +47,10 @@ fn other_words(rt: HostRuntime) -> Result<(), Fail> {
                 &mut faults,
             )?;
             assert_eq!(rt; status, 2, "at {words:?}");
-            assert_eq!(rt; reader.calls, 0);
-            assert_eq!(rt; writer.calls, 0);
+            assert!(rt; reader.calls == 0);
+            assert!(rt; writer.calls == 0);
             let told = if size == 0 { b"".as_slice() } else { USAGE };
-            assert_eq!(rt; faults.bytes.as_slice(), told);
+            assert!(rt; faults.bytes.as_slice() == told);
         }
     }
     Ok(())
@@ -93,9 +93,9 @@ fn words_of_arguments(rt: HostRuntime) -> Result<(), Fail> {
         ],
     };
     let read = words(&given, rt.alloc())?;
-    assert_eq!(rt; read.len(), 6);
+    assert!(rt; read.len() == 6);
     for (word, wanted) in read.iter().zip(["arc", "", "", "", "", "café"]) {
-        assert_eq!(rt; word.as_str(), wanted);
+        assert!(rt; word.as_str() == wanted);
     }
     let none = words(
         &Given {
@@ -127,8 +127,8 @@ fn started(rt: HostRuntime) -> Result<(), Fail> {
             &mut Counted::new(&mut output),
             &mut Counted::new(&mut told),
         );
-        assert_eq!(rt; status, wanted);
-        assert_eq!(rt; output.bytes.as_slice(), replies);
+        assert!(rt; status == wanted);
+        assert!(rt; output.bytes.as_slice() == replies);
     }
     Ok(())
 }
@@ -175,14 +175,14 @@ fn statuses(rt: HostRuntime) -> Result<(), Fail> {
                 &mut writer,
                 &mut faults,
             )?;
-            assert_eq!(rt; status, wanted);
-            assert_eq!(rt; writer.bytes.as_slice(), replies);
+            assert!(rt; status == wanted);
+            assert!(rt; writer.bytes.as_slice() == replies);
             let told = if fault_fails.is_some() {
                 b"".as_slice()
             } else {
                 told
             };
-            assert_eq!(rt; faults.bytes.as_slice(), told);
+            assert!(rt; faults.bytes.as_slice() == told);
         }
     }
     Ok(())
@@ -213,7 +213,7 @@ fn memory_refused(rt: HostRuntime) -> Result<(), Fail> {
             assert!(rt; is_whole, "in {blocks} blocks");
         } else {
             assert_eq!(rt; status, 1, "in {blocks} blocks");
-            assert_eq!(rt; faults.bytes.as_slice(), b"allocation error\n".as_slice());
+            assert!(rt; faults.bytes.as_slice() == b"allocation error\n".as_slice());
             cut = cut.saturating_add(1);
         }
         if text == HELLO_REPLIES {

@@ -21,25 +21,25 @@ type Counted<'a> = ArcSlice<Plain<u8>, DefaultLayout, Vec<u8>, (), &'a LocalHeap
 #[test]
 fn cut_cloned_and_split(rt: HostRuntime) -> Result<(), Fail> {
     let mut text: ArcSlice<Plain<u8>> = ArcSlice::from_static(rt.alloc(), b"abcd");
-    assert_eq!(rt; text.check_range(0, 5), Err(RangeError::OutOfRange));
-    assert_eq!(rt; text.check_range(3, 2), Err(RangeError::InvalidRange));
-    assert_eq!(rt; text.check_at(5), Err(RangeError::OutOfRange));
+    assert!(rt; text.check_range(0, 5) == Err(RangeError::OutOfRange));
+    assert!(rt; text.check_range(3, 2) == Err(RangeError::InvalidRange));
+    assert!(rt; text.check_at(5) == Err(RangeError::OutOfRange));
     let clone = text.try_clone(&rt)?;
-    assert_eq!(rt; clone.as_slice(), b"abcd".as_slice());
+    assert!(rt; clone.as_slice() == b"abcd".as_slice());
     assert!(rt; !clone.is_unique() && !text.is_unique());
-    assert_eq!(rt; text.check_at(1), Ok(()));
+    assert!(rt; text.check_at(1) == Ok(()));
     let mut back = text.try_split_off(&rt, 1)?;
-    assert_eq!(rt; text.as_slice(), b"a".as_slice());
-    assert_eq!(rt; back.as_slice(), b"bcd".as_slice());
-    assert_eq!(rt; back.check_at(1), Ok(()));
+    assert!(rt; text.as_slice() == b"a".as_slice());
+    assert!(rt; back.as_slice() == b"bcd".as_slice());
+    assert!(rt; back.check_at(1) == Ok(()));
     back.advance(1);
-    assert_eq!(rt; back.as_slice(), b"cd".as_slice());
+    assert!(rt; back.as_slice() == b"cd".as_slice());
     back.truncate(3);
-    assert_eq!(rt; back.as_slice(), b"cd".as_slice());
-    assert_eq!(rt; back.check_at(1), Ok(()));
+    assert!(rt; back.as_slice() == b"cd".as_slice());
+    assert!(rt; back.check_at(1) == Ok(()));
     back.truncate(1);
-    assert_eq!(rt; back.as_slice(), b"c".as_slice());
-    assert_eq!(rt; clone.as_slice(), b"abcd".as_slice());
+    assert!(rt; back.as_slice() == b"c".as_slice());
+    assert!(rt; clone.as_slice() == b"abcd".as_slice());
     assert!(rt; !back.is_unique());
     assert!(rt; back.try_into_array::<1>().is_err());
     Ok(())
@@ -48,15 +48,15 @@ fn cut_cloned_and_split(rt: HostRuntime) -> Result<(), Fail> {
 #[test]
 fn taken_back_while_others_live(rt: HostRuntime) -> Result<(), Fail> {
     let text: ArcSlice<Plain<u8>> = ArcSlice::from_static(rt.alloc(), b"abcd");
-    assert_eq!(rt; text.check_range(0, 2), Ok(()));
+    assert!(rt; text.check_range(0, 2) == Ok(()));
     let front = text.try_subslice(&rt, 0, 2)?;
     let Ok(items) = front.try_into_static() else {
         return Err("a static window".into());
     };
-    assert_eq!(rt; items, b"ab".as_slice());
-    assert_eq!(rt; text.as_slice(), b"abcd".as_slice());
+    assert!(rt; items == b"ab".as_slice());
+    assert!(rt; text.as_slice() == b"abcd".as_slice());
     drop(text);
-    assert_eq!(rt; items, b"ab".as_slice());
+    assert!(rt; items == b"ab".as_slice());
     Ok(())
 }
 
@@ -74,7 +74,7 @@ fn empty_cut<S: Subsliceable, L: StaticLayout>(
 #[test]
 fn empty_cuts_stand_on_nothing(rt: HostRuntime) -> Result<(), Fail> {
     let text: ArcSlice<Plain<u8>> = ArcSlice::from_static(rt.alloc(), b"abcd");
-    assert_eq!(rt; text.check_range(0, 0), Ok(()));
+    assert!(rt; text.check_range(0, 0) == Ok(()));
     let none = empty_cut(&rt, &text)?;
     assert!(rt; none.is_empty() && !none.is_unique());
     let Ok(items) = none.try_into_static() else {
@@ -91,37 +91,37 @@ fn no_memory_taken(rt: HostRuntime) -> Result<(), Fail> {
     let before = heap.used();
     let mut text: Counted<'_> = ArcSlice::from_static(&heap, b"abcd");
     let clone = text.try_clone(&rt)?;
-    assert_eq!(rt; clone.check_range(1, 3), Ok(()));
+    assert!(rt; clone.check_range(1, 3) == Ok(()));
     let part = clone.try_subslice(&rt, 1, 3)?;
-    assert_eq!(rt; text.check_at(3), Ok(()));
+    assert!(rt; text.check_at(3) == Ok(()));
     let front = text.try_split_to(&rt, 3)?;
-    assert_eq!(rt; heap.used(), before);
-    assert_eq!(rt; part.as_slice(), b"bc".as_slice());
-    assert_eq!(rt; front.as_slice(), b"abc".as_slice());
-    assert_eq!(rt; text.as_slice(), b"d".as_slice());
+    assert!(rt; heap.used() == before);
+    assert!(rt; part.as_slice() == b"bc".as_slice());
+    assert!(rt; front.as_slice() == b"abc".as_slice());
+    assert!(rt; text.as_slice() == b"d".as_slice());
     drop(clone);
     part.drop_with_unique_hint();
     assert!(rt; front.try_into_static().is_ok());
     let mut pass = text.pass();
     text.release_as(&mut pass);
-    assert_eq!(rt; heap.used(), before);
+    assert!(rt; heap.used() == before);
     Ok(())
 }
 
 #[test]
 fn text_to_bytes_and_back(rt: HostRuntime) -> Result<(), Fail> {
     let text: ArcSlice<Text> = ArcSlice::from_static_str(rt.alloc(), "aéb");
-    assert_eq!(rt; text.as_str(), "aéb");
-    assert_eq!(rt; text.check_at(2), Err(RangeError::NotBoundary));
-    assert_eq!(rt; text.check_at(3), Ok(()));
+    assert!(rt; text.as_str() == "aéb");
+    assert!(rt; text.check_at(2) == Err(RangeError::NotBoundary));
+    assert!(rt; text.check_at(3) == Ok(()));
     let Ok(text) = ArcSlice::<Text>::try_from_arc_slice(text.into_arc_slice()) else {
         return Err("a text".into());
     };
-    assert_eq!(rt; text.as_str(), "aéb");
+    assert!(rt; text.as_str() == "aéb");
     let Ok(bytes) = text.try_into_static() else {
         return Err("a static window".into());
     };
-    assert_eq!(rt; bytes, [0x61u8, 0xc3, 0xa9, 0x62].as_slice());
+    assert!(rt; bytes == [0x61u8, 0xc3, 0xa9, 0x62].as_slice());
     Ok(())
 }
 
@@ -131,7 +131,7 @@ fn blocks_are_handed_back(rt: HostRuntime) -> Result<(), Fail> {
     let Err(block) = block.try_into_static() else {
         return Err("a block".into());
     };
-    assert_eq!(rt; block.as_slice(), b"abcd".as_slice());
+    assert!(rt; block.as_slice() == b"abcd".as_slice());
     assert!(rt; block.is_unique());
     let none: ArcSlice<Plain<u8>> = ArcSlice::new(rt.alloc());
     let Ok(items) = none.try_into_static() else {
@@ -156,7 +156,7 @@ fn kept_in_a_vector(rt: HostRuntime) -> Result<(), Fail> {
             alone = alone.saturating_add(u32::from(window.is_unique()));
         }
     }
-    assert_eq!(rt; (windows, items, alone), (3, 15, 1));
+    assert!(rt; (windows, items, alone) == (3, 15, 1));
     Ok(())
 }
 
@@ -170,7 +170,7 @@ fn moved_to_a_thread(rt: HostRuntime) -> Result<(), Fail> {
         move || text.try_into_static().is_ok(),
         move || clone.as_slice().len().saturating_add(none.len()),
     );
-    assert_eq!(rt; (here, there), (true, 4));
+    assert!(rt; (here, there) == (true, 4));
     Ok(())
 }
 
@@ -205,13 +205,13 @@ const NUMBERS: [u32; 4] = [2, 3, 5, 7];
 fn of_any_kind_and_layout(rt: HostRuntime) -> Result<(), Fail> {
     let (alloc, bytes) = (rt.alloc(), b"abcd".as_slice());
     let part = made_and_taken_back::<Plain<u8>, DefaultLayout>(&rt, alloc, bytes, 1, 3)?;
-    assert_eq!(rt; part, Some(b"bc".as_slice()));
+    assert!(rt; part == Some(b"bc".as_slice()));
     let part = made_and_taken_back::<ByteText, VecLayout>(&rt, alloc, bytes, 2, 4)?;
-    assert_eq!(rt; part, Some(b"cd".as_slice()));
+    assert!(rt; part == Some(b"cd".as_slice()));
     let part = made_and_taken_back::<Owned<u32>, RawLayout>(&rt, alloc, &NUMBERS, 0, 3)?;
-    assert_eq!(rt; part, Some([2u32, 3, 5].as_slice()));
+    assert!(rt; part == Some([2u32, 3, 5].as_slice()));
     let part = made_and_taken_back::<Plain<u32>, BoxedSliceLayout>(&rt, alloc, &NUMBERS, 4, 4)?;
-    assert_eq!(rt; part, Some([].as_slice()));
+    assert!(rt; part == Some([].as_slice()));
     Ok(())
 }
 
@@ -256,13 +256,13 @@ fn apart_and_together(rt: HostRuntime) -> Result<(), Fail> {
     assert!(rt; before < taken);
     let clone = window.try_clone(&rt)?;
     let again: Counted<'_> = ArcSlice::from_parts(window.into_parts());
-    assert_eq!(rt; again.as_slice(), b"abcd".as_slice());
+    assert!(rt; again.as_slice() == b"abcd".as_slice());
     assert!(rt; !again.is_unique());
     drop(clone);
     assert!(rt; again.is_unique());
-    assert_eq!(rt; heap.used(), taken);
+    assert!(rt; heap.used() == taken);
     drop(again);
-    assert_eq!(rt; heap.used(), before);
+    assert!(rt; heap.used() == before);
     Ok(())
 }
 
@@ -275,10 +275,10 @@ fn parts_end_as_windows(rt: HostRuntime) -> Result<(), Fail> {
     let clone = window.try_clone(&rt)?;
     let taken = heap.used();
     drop(window.into_parts());
-    assert_eq!(rt; heap.used(), taken);
+    assert!(rt; heap.used() == taken);
     assert!(rt; clone.is_unique());
     drop(clone.into_parts());
-    assert_eq!(rt; heap.used(), before);
+    assert!(rt; heap.used() == before);
     Ok(())
 }
 
@@ -291,9 +291,9 @@ fn apart_without_a_block(rt: HostRuntime) -> Result<(), Fail> {
     assert!(rt; none.is_empty() && !none.is_unique());
     let text: Counted<'_> = ArcSlice::from_static(&heap, b"abcd");
     let text: Counted<'_> = ArcSlice::from_parts(text.into_parts());
-    assert_eq!(rt; text.as_slice(), b"abcd".as_slice());
+    assert!(rt; text.as_slice() == b"abcd".as_slice());
     drop(none.into_parts());
     drop(text.into_parts());
-    assert_eq!(rt; heap.used(), before);
+    assert!(rt; heap.used() == before);
     Ok(())
 }

@@ -24,16 +24,16 @@ type InHeap<'a, T, H = Open> = ArcSlice<Plain<T>, DefaultLayout, Vec<T>, (), &'a
 #[test]
 fn cut_and_cloned(rt: HostRuntime) -> Result<(), Fail> {
     let text: ArcSlice<Plain<u8>> = ArcSlice::try_from_slice(rt.alloc(), b"Hello world")?;
-    assert_eq!(rt; text.len(), 11);
+    assert!(rt; text.len() == 11);
     assert!(rt; !text.is_empty());
-    assert_eq!(rt; text.check_range(0, 12), Err(RangeError::OutOfRange));
-    assert_eq!(rt; text.check_range(2, 1), Err(RangeError::InvalidRange));
-    assert_eq!(rt; text.check_range(0, 5), Ok(()));
+    assert!(rt; text.check_range(0, 12) == Err(RangeError::OutOfRange));
+    assert!(rt; text.check_range(2, 1) == Err(RangeError::InvalidRange));
+    assert!(rt; text.check_range(0, 5) == Ok(()));
     let front = text.try_subslice(&rt, 0, 5)?;
     let clone = front.try_clone(&rt)?;
     drop(text);
     drop(front);
-    assert_eq!(rt; clone.as_slice(), b"Hello".as_slice());
+    assert!(rt; clone.as_slice() == b"Hello".as_slice());
     Ok(())
 }
 
@@ -43,14 +43,14 @@ fn empty_windows(rt: HostRuntime) -> Result<(), Fail> {
     assert!(rt; none.is_empty());
     assert!(rt; none.try_clone(&rt)?.is_empty());
     let empty: ArcSlice<Plain<()>, WithoutStatic> = ArcSlice::try_from_slice(rt.alloc(), &[])?;
-    assert_eq!(rt; empty.check_range(0, 0), Ok(()));
+    assert!(rt; empty.check_range(0, 0) == Ok(()));
     assert!(rt; empty.try_subslice(&rt, 0, 0)?.is_empty());
     let units: ArcSlice<Plain<()>, WithoutStatic> = ArcSlice::try_from_slice(
         rt.alloc(),
         &[(), (), ()],
     )?;
-    assert_eq!(rt; units.check_range(1, 3), Ok(()));
-    assert_eq!(rt; units.try_subslice(&rt, 1, 3)?.len(), 2);
+    assert!(rt; units.check_range(1, 3) == Ok(()));
+    assert!(rt; units.try_subslice(&rt, 1, 3)?.len() == 2);
     Ok(())
 }
 
@@ -63,7 +63,7 @@ fn read_and_cloned_by_two_threads(rt: HostRuntime) -> Result<(), Fail> {
         || numbers.as_slice().len(),
         move || other.as_slice().len(),
     );
-    assert_eq!(rt; (one, two), (3, 3));
+    assert!(rt; (one, two) == (3, 3));
     Ok(())
 }
 
@@ -79,12 +79,12 @@ fn array_taken_back(rt: HostRuntime) -> Result<(), Fail> {
     let Err(window) = window.try_into_array::<3>() else {
         return Err("beside a clone".into());
     };
-    assert_eq!(rt; window.as_slice(), [1, 2, 3].as_slice());
+    assert!(rt; window.as_slice() == [1, 2, 3].as_slice());
     drop(clone);
     let Ok(array) = window.try_into_array::<3>() else {
         return Err("alone".into());
     };
-    assert_eq!(rt; array, [1, 2, 3]);
+    assert!(rt; array == [1, 2, 3]);
     let none: ArcSlice<Plain<u32>> = ArcSlice::new(rt.alloc());
     assert!(rt; none.try_into_array::<0>().is_err());
     Ok(())
@@ -132,7 +132,7 @@ fn called_on_no_block<R: Wait>(
 #[test]
 fn calls_on_no_block(rt: HostRuntime) -> Result<(), Fail> {
     let (_, found) = called_on_no_block(&rt, rt.alloc(), Pass::none())?;
-    assert_eq!(rt; found, 0);
+    assert!(rt; found == 0);
     Ok(())
 }
 
@@ -146,9 +146,9 @@ fn memory_given_back_once(rt: HostRuntime) -> Result<(), Fail> {
         let taken = heap.used();
         assert!(rt; before < taken);
         let clone = window.try_clone(&rt)?;
-        assert_eq!(rt; window.check_range(1, 3), Ok(()));
+        assert!(rt; window.check_range(1, 3) == Ok(()));
         let cut = window.try_subslice(&rt, 1, 3)?;
-        assert_eq!(rt; heap.used(), taken);
+        assert!(rt; heap.used() == taken);
         let (first, second, third) = match order {
             0 => (window, clone, cut),
             1 => (window, cut, clone),
@@ -158,9 +158,9 @@ fn memory_given_back_once(rt: HostRuntime) -> Result<(), Fail> {
             _ => (cut, clone, window),
         };
         drop(first);
-        assert_eq!(rt; heap.used(), taken);
+        assert!(rt; heap.used() == taken);
         second.drop_with_unique_hint();
-        assert_eq!(rt; heap.used(), taken);
+        assert!(rt; heap.used() == taken);
         match order % 3 {
             0 => drop(third),
             1 => third.drop_with_unique_hint(),
@@ -169,7 +169,7 @@ fn memory_given_back_once(rt: HostRuntime) -> Result<(), Fail> {
                 third.release_as(&mut pass);
             }
         }
-        assert_eq!(rt; heap.used(), before);
+        assert!(rt; heap.used() == before);
     }
     Ok(())
 }
@@ -185,7 +185,7 @@ fn memory_of_arrays_and_of_forgotten_windows(rt: HostRuntime) -> Result<(), Fail
     };
     assert!(rt; before < heap.used());
     assert!(rt; window.try_into_array::<3>().is_ok());
-    assert_eq!(rt; heap.used(), before);
+    assert!(rt; heap.used() == before);
     let mut pass = Pass::none();
     let kept = InHeap::<'_, u32, Whole>::try_from_slice_as(&heap, &[1, 2, 3], &mut pass)?;
     let clone = kept.try_clone_as(&rt, &mut pass)?;
@@ -194,7 +194,7 @@ fn memory_of_arrays_and_of_forgotten_windows(rt: HostRuntime) -> Result<(), Fail
     assert!(rt; kept.is_unique_as(&mut pass));
     let taken = heap.used();
     drop(kept);
-    assert_eq!(rt; heap.used(), taken);
+    assert!(rt; heap.used() == taken);
     Ok(())
 }
 
@@ -209,15 +209,15 @@ fn memory_refused(rt: HostRuntime) -> Result<(), Fail> {
         let made = InHeap::<'_, u64>::try_from_slice(&heap, &[1, 2, 3]);
         if made.is_err() {
             refused = refused.wrapping_add(1);
-            assert_eq!(rt; heap.used(), before);
+            assert!(rt; heap.used() == before);
         }
         drop(made);
-        assert_eq!(rt; heap.used(), before);
+        assert!(rt; heap.used() == before);
         match InHeap::<'_, u64>::try_from_array(&heap, [1, 2, 3]) {
             Ok(window) => drop(window),
-            Err(back) => assert_eq!(rt; back, [1, 2, 3]),
+            Err(back) => assert!(rt; back == [1, 2, 3]),
         }
-        assert_eq!(rt; heap.used(), before);
+        assert!(rt; heap.used() == before);
     }
     assert!(rt; 2 <= refused && refused < 16);
     Ok(())
@@ -261,7 +261,7 @@ fn ended_by_another_thread(rt: HostRuntime) -> Result<(), Fail> {
         { ended(&window, clone, other) },
         || window.as_slice().len(),
     );
-    assert_eq!(rt; len, 3);
+    assert!(rt; len == 3);
     window.learn(&mut own, &other);
     assert!(rt; window.is_unique_as(&mut own));
     Ok(())
@@ -273,15 +273,15 @@ const A_E_B: [u8; 4] = [0x61, 0xc3, 0xa9, 0x62];
 #[test]
 fn bytes_split(rt: HostRuntime) -> Result<(), Fail> {
     let mut text: ArcSlice<Plain<u8>> = ArcSlice::try_from_slice(rt.alloc(), b"Hello world")?;
-    assert_eq!(rt; text.check_at(6), Ok(()));
-    assert_eq!(rt; text.check_at(12), Err(RangeError::OutOfRange));
+    assert!(rt; text.check_at(6) == Ok(()));
+    assert!(rt; text.check_at(12) == Err(RangeError::OutOfRange));
     let front = text.try_split_to(&rt, 6)?;
-    assert_eq!(rt; front.as_slice(), b"Hello ".as_slice());
-    assert_eq!(rt; text.as_slice(), b"world".as_slice());
-    assert_eq!(rt; text.check_at(1), Ok(()));
+    assert!(rt; front.as_slice() == b"Hello ".as_slice());
+    assert!(rt; text.as_slice() == b"world".as_slice());
+    assert!(rt; text.check_at(1) == Ok(()));
     let back = text.try_split_off(&rt, 1)?;
-    assert_eq!(rt; back.as_slice(), b"orld".as_slice());
-    assert_eq!(rt; text.as_slice(), b"w".as_slice());
+    assert!(rt; back.as_slice() == b"orld".as_slice());
+    assert!(rt; text.as_slice() == b"w".as_slice());
     assert!(rt; !text.is_unique());
     drop(front);
     drop(back);
@@ -293,18 +293,18 @@ fn bytes_split(rt: HostRuntime) -> Result<(), Fail> {
 #[test]
 fn split_at_the_ends(rt: HostRuntime) -> Result<(), Fail> {
     let mut text: ArcSlice<Plain<u8>> = ArcSlice::try_from_slice(rt.alloc(), b"Hello")?;
-    assert_eq!(rt; text.check_at(0), Ok(()));
+    assert!(rt; text.check_at(0) == Ok(()));
     let mut whole = text.try_split_off(&rt, 0)?;
     assert!(rt; text.is_empty() && !text.is_unique());
-    assert_eq!(rt; whole.as_slice(), b"Hello".as_slice());
+    assert!(rt; whole.as_slice() == b"Hello".as_slice());
     assert!(rt; whole.is_unique());
-    assert_eq!(rt; whole.check_at(5), Ok(()));
+    assert!(rt; whole.check_at(5) == Ok(()));
     let all = whole.try_split_to(&rt, 5)?;
     assert!(rt; whole.is_empty() && !whole.is_unique());
-    assert_eq!(rt; all.as_slice(), b"Hello".as_slice());
+    assert!(rt; all.as_slice() == b"Hello".as_slice());
     assert!(rt; all.is_unique());
     let mut empty: ArcSlice<Plain<()>, WithoutStatic> = ArcSlice::try_from_slice(rt.alloc(), &[])?;
-    assert_eq!(rt; empty.check_at(0), Ok(()));
+    assert!(rt; empty.check_at(0) == Ok(()));
     let other = empty.try_split_to(&rt, 0)?;
     assert!(rt; !empty.is_unique() && !other.is_unique());
     Ok(())
@@ -313,11 +313,11 @@ fn split_at_the_ends(rt: HostRuntime) -> Result<(), Fail> {
 #[test]
 fn cut_in_place(rt: HostRuntime) -> Result<(), Fail> {
     let mut text: ArcSlice<Plain<u8>> = ArcSlice::try_from_slice(rt.alloc(), b"Hello")?;
-    assert_eq!(rt; text.check_at(2), Ok(()));
+    assert!(rt; text.check_at(2) == Ok(()));
     text.advance(2);
-    assert_eq!(rt; text.as_slice(), b"llo".as_slice());
+    assert!(rt; text.as_slice() == b"llo".as_slice());
     text.truncate(7);
-    assert_eq!(rt; text.as_slice(), b"llo".as_slice());
+    assert!(rt; text.as_slice() == b"llo".as_slice());
     text.truncate(0);
     assert!(rt; text.is_empty() && text.is_unique());
     Ok(())
@@ -326,26 +326,26 @@ fn cut_in_place(rt: HostRuntime) -> Result<(), Fail> {
 #[test]
 fn units_split(rt: HostRuntime) -> Result<(), Fail> {
     let mut units: ArcSlice<Plain<()>> = ArcSlice::try_from_slice(rt.alloc(), &[(); 5])?;
-    assert_eq!(rt; units.check_at(2), Ok(()));
+    assert!(rt; units.check_at(2) == Ok(()));
     let back = units.try_split_off(&rt, 2)?;
-    assert_eq!(rt; (units.len(), back.len()), (2, 3));
+    assert!(rt; (units.len(), back.len()) == (2, 3));
     Ok(())
 }
 
 #[test]
 fn text_is_cut_between_characters(rt: HostRuntime) -> Result<(), Fail> {
     let mut text: ArcSlice<Text> = ArcSlice::try_from_str(rt.alloc(), "aéb")?;
-    assert_eq!(rt; text.len(), 4);
-    assert_eq!(rt; text.check_at(2), Err(RangeError::NotBoundary));
-    assert_eq!(rt; text.check_range(3, 9), Err(RangeError::OutOfRange));
-    assert_eq!(rt; text.check_range(3, 1), Err(RangeError::InvalidRange));
-    assert_eq!(rt; text.check_range(0, 2), Err(RangeError::NotBoundary));
-    assert_eq!(rt; text.check_at(3), Ok(()));
+    assert!(rt; text.len() == 4);
+    assert!(rt; text.check_at(2) == Err(RangeError::NotBoundary));
+    assert!(rt; text.check_range(3, 9) == Err(RangeError::OutOfRange));
+    assert!(rt; text.check_range(3, 1) == Err(RangeError::InvalidRange));
+    assert!(rt; text.check_range(0, 2) == Err(RangeError::NotBoundary));
+    assert!(rt; text.check_at(3) == Ok(()));
     let back = text.try_split_off(&rt, 3)?;
-    assert_eq!(rt; text.as_str(), "aé");
-    assert_eq!(rt; back.as_str(), "b");
+    assert!(rt; text.as_str() == "aé");
+    assert!(rt; back.as_str() == "b");
     let bytes = text.into_arc_slice();
-    assert_eq!(rt; bytes.as_slice(), &A_E_B[..3]);
+    assert!(rt; bytes.as_slice() == &A_E_B[..3]);
     Ok(())
 }
 
@@ -355,19 +355,19 @@ fn text_from_bytes(rt: HostRuntime) -> Result<(), Fail> {
     let Err((error, half)) = ArcSlice::<Text>::try_from_arc_slice(half) else {
         return Err("half a character".into());
     };
-    assert_eq!(rt; error.valid_up_to(), 1);
-    assert_eq!(rt; half.as_slice(), &A_E_B[..2]);
+    assert!(rt; error.valid_up_to() == 1);
+    assert!(rt; half.as_slice() == &A_E_B[..2]);
     let whole: ArcSlice<Plain<u8>> = ArcSlice::try_from_slice(rt.alloc(), &A_E_B)?;
     let Ok(text) = ArcSlice::<Text>::try_from_arc_slice(whole) else {
         return Err("a text".into());
     };
-    assert_eq!(rt; text.as_str(), "aéb");
+    assert!(rt; text.as_str() == "aéb");
     let Ok(loose) = ArcSlice::<ByteText>::try_from_arc_slice(half) else {
         return Err("byte text".into());
     };
-    assert_eq!(rt; loose.into_arc_slice().as_slice(), &A_E_B[..2]);
+    assert!(rt; loose.into_arc_slice().as_slice() == &A_E_B[..2]);
     let mine: ArcSlice<ByteText> = ArcSlice::try_from_slice(rt.alloc(), &A_E_B[..2])?;
-    assert_eq!(rt; mine.check_at(2), Ok(()));
+    assert!(rt; mine.check_at(2) == Ok(()));
     Ok(())
 }
 
@@ -387,17 +387,17 @@ fn owned_items_are_dropped_once(rt: HostRuntime) -> Result<(), Fail> {
         return Err("no memory".into());
     };
     let clone = window.try_clone(&rt)?;
-    assert_eq!(rt; window.check_range(1, 2), Ok(()));
+    assert!(rt; window.check_range(1, 2) == Ok(()));
     let part = window.try_subslice(&rt, 1, 2)?;
-    assert_eq!(rt; *part.as_slice()[0], b'b');
+    assert!(rt; *part.as_slice()[0] == b'b');
     drop(window);
     drop(part);
     for item in [&a, &b, &c] {
-        assert_eq!(rt; Arc::strong_count(item), 2);
+        assert!(rt; Arc::strong_count(item) == 2);
     }
     drop(clone);
     for item in [&a, &b, &c] {
-        assert_eq!(rt; Arc::strong_count(item), 1);
+        assert!(rt; Arc::strong_count(item) == 1);
     }
     Ok(())
 }
@@ -413,9 +413,9 @@ fn owned_items_taken_back(rt: HostRuntime) -> Result<(), Fail> {
     let Ok(items) = window.try_into_array::<1>() else {
         return Err("alone".into());
     };
-    assert_eq!(rt; Arc::strong_count(&a), 2);
+    assert!(rt; Arc::strong_count(&a) == 2);
     drop(items);
-    assert_eq!(rt; Arc::strong_count(&a), 1);
+    assert!(rt; Arc::strong_count(&a) == 1);
     Ok(())
 }
 

@@ -48,11 +48,11 @@ fn frames_taken_off(rt: HostRuntime) -> Result<(), Fail> {
     let Some(second) = take_frame(&rt, &mut buffer)? else {
         return Err("no second frame".into());
     };
-    assert_eq!(rt; first.as_slice(), b"Hello".as_slice());
+    assert!(rt; first.as_slice() == b"Hello".as_slice());
     assert!(rt; second.is_empty());
     assert!(rt; take_frame(&rt, &mut buffer)?.is_none());
-    assert_eq!(rt; buffer.len(), 7);
+    assert!(rt; buffer.len() == 7);
     drop(buffer);
-    assert_eq!(rt; first.as_slice(), b"Hello".as_slice());
+    assert!(rt; first.as_slice() == b"Hello".as_slice());
     Ok(())
 }

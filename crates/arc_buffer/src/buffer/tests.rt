@@ -25,12 +25,12 @@ fn vector_written_in_its_places(rt: HostRuntime) -> Result<(), Fail> {
 #[test]
 fn vector_pushed_within_its_room(rt: HostRuntime) -> Result<(), Fail> {
     let mut vec = Vec::with_capacity(rt.alloc(), 2)?;
-    assert_eq!(rt; vec.try_push(1u8), Ok(()));
-    assert_eq!(rt; vec.try_push(2), Ok(()));
-    assert_eq!(rt; BufferMut::capacity(&vec), 2);
-    assert_eq!(rt; vec.try_push(3), Err(3));
-    assert_eq!(rt; BufferMut::try_reserve(&mut vec, 1), Ok(()));
-    assert_eq!(rt; vec.try_push(3), Ok(()));
+    assert!(rt; vec.try_push(1u8) == Ok(()));
+    assert!(rt; vec.try_push(2) == Ok(()));
+    assert!(rt; BufferMut::capacity(&vec) == 2);
+    assert!(rt; vec.try_push(3) == Err(3));
+    assert!(rt; BufferMut::try_reserve(&mut vec, 1) == Ok(()));
+    assert!(rt; vec.try_push(3) == Ok(()));
     assert!(rt; vec.as_slice() == [1, 2, 3].as_slice());
     Ok(())
 }
@@ -40,17 +40,12 @@ fn vector_pushed_within_its_room(rt: HostRuntime) -> Result<(), Fail> {
 fn vector_refuses_room(rt: HostRuntime) -> Result<(), Fail> {
     let mut vec = Vec::from_slice(rt.alloc(), &[5u8])?;
     let most = 9223372036854775806;
-    assert_eq!(rt;
-        BufferMut::try_reserve(&mut vec, most),
-        Err(TryReserveError::AllocError)
+    assert!(rt; BufferMut::try_reserve(&mut vec, most) == Err(TryReserveError::AllocError));
+    assert!(rt;
+        BufferMut::try_reserve(&mut vec, most + 1) == Err(TryReserveError::CapacityOverflow)
     );
-    assert_eq!(rt;
-        BufferMut::try_reserve(&mut vec, most + 1),
-        Err(TryReserveError::CapacityOverflow)
-    );
-    assert_eq!(rt;
-        BufferMut::try_reserve(&mut vec, usize::MAX),
-        Err(TryReserveError::CapacityOverflow)
+    assert!(rt;
+        BufferMut::try_reserve(&mut vec, usize::MAX) == Err(TryReserveError::CapacityOverflow)
     );
     assert!(rt; vec.as_slice() == [5].as_slice());
     Ok(())

@@ -36,7 +36,7 @@ fn as_many_as_come(rt: HostRuntime) -> Result<(), Fail> {
     ] {
         let mut window: ArcBytesMut = ArcSliceMut::new(rt.alloc());
         assert!(rt; appended(&mut window, &all[..count]));
-        assert_eq!(rt; window.as_slice(), &all[..count]);
+        assert!(rt; window.as_slice() == &all[..count]);
         assert_eq!(rt; window.capacity(), capacity, "of {count}");
     }
     Ok(())
@@ -47,12 +47,12 @@ fn none_come(rt: HostRuntime) -> Result<(), Fail> {
     let heap = LocalHeap::new(rt.alloc(), 512)?;
     let mut idle: ArcBytesMut<DefaultLayoutMut, Vec<u8>, (), &LocalHeap> = ArcSliceMut::new(&heap);
     assert!(rt; idle.try_extend(0..0).is_ok());
-    assert_eq!(rt; idle.capacity(), 0);
-    assert_eq!(rt; heap.used(), 0);
+    assert!(rt; idle.capacity() == 0);
+    assert!(rt; heap.used() == 0);
     let mut window: ArcBytesMut = ArcSliceMut::try_from_slice(rt.alloc(), &[1, 2])?;
     assert!(rt; window.try_extend(0..0).is_ok());
-    assert_eq!(rt; window.as_slice(), [1, 2].as_slice());
-    assert_eq!(rt; window.capacity(), 2);
+    assert!(rt; window.as_slice() == [1, 2].as_slice());
+    assert!(rt; window.capacity() == 2);
     Ok(())
 }
 
@@ -76,7 +76,7 @@ fn under_each_layout(rt: HostRuntime) -> Result<(), Fail> {
     assert_eq!(rt; collected::<ArcLayout<true, false>>(rt.alloc())?, expected);
     assert_eq!(rt; collected::<ArcLayout<false, true>>(rt.alloc())?, expected);
     assert_eq!(rt; collected::<ArcLayout<false, false>>(rt.alloc())?, expected);
-    assert_eq!(rt; collected::<VecLayout>(rt.alloc())?, expected);
+    assert!(rt; collected::<VecLayout>(rt.alloc())? == expected);
     Ok(())
 }
 
@@ -88,14 +88,11 @@ fn refused_in_the_midst(rt: HostRuntime) -> Result<(), Fail> {
     let mut window: ArcSliceMut<Plain<u16>, DefaultLayoutMut, 1, Vec<u16>, (), &LocalHeap> =
         ArcSliceMut::try_with_capacity(&heap, 200)?;
     let mut numbers = 0..1000u16;
-    assert_eq!(rt;
-        window.try_extend(&mut numbers),
-        Err((TryReserveError::AllocError, 200))
-    );
-    assert_eq!(rt; numbers.next(), Some(201));
-    assert_eq!(rt; (window.len(), window.capacity()), (200, 200));
+    assert!(rt; window.try_extend(&mut numbers) == Err((TryReserveError::AllocError, 200)));
+    assert!(rt; numbers.next() == Some(201));
+    assert!(rt; (window.len(), window.capacity()) == (200, 200));
     for (at, item) in window.as_slice().iter().enumerate() {
-        assert_eq!(rt; usize::from(*item), at);
+        assert!(rt; usize::from(*item) == at);
     }
     Ok(())
 }
@@ -118,11 +115,11 @@ fn made_in_part(rt: HostRuntime) -> Result<(), Fail> {
     let Err((window, e, item)) = made else {
         return Err("more memory than there is".into());
     };
-    assert_eq!(rt; e, TryReserveError::AllocError);
-    assert_eq!(rt; item, (4, 4, 4, 4));
+    assert!(rt; e == TryReserveError::AllocError);
+    assert!(rt; item == (4, 4, 4, 4));
     let taken = [(0, 0, 0, 0), (1, 1, 1, 1), (2, 2, 2, 2), (3, 3, 3, 3)];
-    assert_eq!(rt; window.as_slice(), taken.as_slice());
-    assert_eq!(rt; window.capacity(), 4);
+    assert!(rt; window.as_slice() == taken.as_slice());
+    assert!(rt; window.capacity() == 4);
     Ok(())
 }
 
@@ -135,15 +132,12 @@ fn owned_items_and_units(rt: HostRuntime) -> Result<(), Fail> {
         [1, 2],
     )?;
     assert!(rt; owned.try_extend([3, 4]).is_ok());
-    assert_eq!(rt; owned.as_slice(), [1, 2, 3, 4].as_slice());
+    assert!(rt; owned.as_slice() == [1, 2, 3, 4].as_slice());
     owned.truncate(1);
-    assert_eq!(rt;
-        owned.try_extend([5, 6]),
-        Err((TryReserveError::Unsupported, 5))
-    );
-    assert_eq!(rt; owned.as_slice(), [1].as_slice());
+    assert!(rt; owned.try_extend([5, 6]) == Err((TryReserveError::Unsupported, 5)));
+    assert!(rt; owned.as_slice() == [1].as_slice());
     let mut units: ArcSliceMut<Plain<()>, DefaultLayoutMut, 1> = ArcSliceMut::new(alloc);
     assert!(rt; units.try_extend([(), (), ()]).is_ok());
-    assert_eq!(rt; units.len(), 3);
+    assert!(rt; units.len() == 3);
     Ok(())
 }

@@ -34,18 +34,18 @@ fn written_after_advance(rt: HostRuntime) -> Result<(), Fail> {
         Err(_) => return Err("fewer than were given".into()),
     }
     window.as_mut_slice().reverse();
-    assert_eq!(rt; window.as_slice(), [5, 4, 3].as_slice());
+    assert!(rt; window.as_slice() == [5, 4, 3].as_slice());
     if window.len() < 2 {
         return Err("fewer than were left".into());
     }
     set(&mut window, 1, 9);
-    assert_eq!(rt; window.as_slice(), [5, 9, 3].as_slice());
-    assert_eq!(rt; window.capacity(), 3);
+    assert!(rt; window.as_slice() == [5, 9, 3].as_slice());
+    assert!(rt; window.capacity() == 3);
     assert!(rt; window.try_push(6).is_ok());
     let Ok(frozen) = window.try_freeze::<DefaultLayout>() else {
         return Err("not frozen".into());
     };
-    assert_eq!(rt; frozen.as_slice(), [5, 9, 3, 6].as_slice());
+    assert!(rt; frozen.as_slice() == [5, 9, 3, 6].as_slice());
     Ok(())
 }
 
@@ -58,28 +58,28 @@ fn written_within_the_window(rt: HostRuntime) -> Result<(), Fail> {
     )?;
     owned.truncate(2);
     owned.as_mut_slice().reverse();
-    assert_eq!(rt; owned.as_slice(), [2, 1].as_slice());
-    assert_eq!(rt; owned.capacity(), 2);
+    assert!(rt; owned.as_slice() == [2, 1].as_slice());
+    assert!(rt; owned.capacity() == 2);
     let mut empty: ArcSliceMut<ByteText, DefaultLayoutMut, 1> = ArcSliceMut::new(rt.alloc());
-    assert_eq!(rt; empty.as_mut_slice().len(), 0);
+    assert!(rt; empty.as_mut_slice().len() == 0);
     Ok(())
 }
 
 #[test]
 fn zeros(rt: HostRuntime) -> Result<(), Fail> {
     let bytes: ArcBytesMut = ArcSliceMut::try_zeroed(rt.alloc(), 3)?;
-    assert_eq!(rt; bytes.as_slice(), [0, 0, 0].as_slice());
-    assert_eq!(rt; bytes.capacity(), 3);
+    assert!(rt; bytes.as_slice() == [0, 0, 0].as_slice());
+    assert!(rt; bytes.capacity() == 3);
     let text: ArcStrMut = ArcSliceMut::try_zeroed(rt.alloc(), 2)?;
-    assert_eq!(rt; text.as_str(), "\0\0");
+    assert!(rt; text.as_str() == "\0\0");
     let byte_text: ArcSliceMut<ByteText, DefaultLayoutMut, 1> = ArcSliceMut::try_zeroed(
         rt.alloc(),
         1,
     )?;
-    assert_eq!(rt; byte_text.as_slice(), b"\0".as_slice());
+    assert!(rt; byte_text.as_slice() == b"\0".as_slice());
     let numbers: ArcSliceMut<Plain<i16>, VecLayout, 1> = ArcSliceMut::try_zeroed(rt.alloc(), 5)?;
-    assert_eq!(rt; numbers.as_slice(), [0, 0, 0, 0, 0].as_slice());
-    assert_eq!(rt; numbers.capacity(), 5);
+    assert!(rt; numbers.as_slice() == [0, 0, 0, 0, 0].as_slice());
+    assert!(rt; numbers.capacity() == 5);
     Ok(())
 }
 
@@ -89,7 +89,7 @@ fn zeros_with_one_pass(rt: HostRuntime) -> Result<(), Fail> {
     let mut window: ArcSliceMut<Plain<u8>, DefaultLayoutMut, 1, Vec<u8>, (), Global, Whole> =
         ArcSliceMut::try_zeroed_as(rt.alloc(), 2, &mut pass)?;
     assert!(rt; window.try_push_as(7, &mut pass).is_ok());
-    assert_eq!(rt; window.as_slice(), [0, 0, 7].as_slice());
+    assert!(rt; window.as_slice() == [0, 0, 7].as_slice());
     window.release_as(&mut pass);
     Ok(())
 }
@@ -100,13 +100,13 @@ fn zeros_and_memory(rt: HostRuntime) -> Result<(), Fail> {
     let none: ArcBytesMut<DefaultLayoutMut, Vec<u8>, (), &LocalHeap> = ArcSliceMut::try_zeroed(
         &heap, 0,
     )?;
-    assert_eq!(rt; heap.used(), 0);
+    assert!(rt; heap.used() == 0);
     assert!(rt; none.is_empty());
-    assert_eq!(rt; none.capacity(), 0);
+    assert!(rt; none.capacity() == 0);
     let large: Result<ArcBytesMut<DefaultLayoutMut, Vec<u8>, (), &LocalHeap>, AllocError> =
         ArcSliceMut::try_zeroed(&heap, 1000);
     assert!(rt; large.is_err());
-    assert_eq!(rt; heap.used(), 0);
+    assert!(rt; heap.used() == 0);
     Ok(())
 }
 
@@ -124,10 +124,7 @@ fn sevens_and_nines(alloc: Global, count: usize) -> Result<ArcBytesMut, Fail> {
 fn long_slices_pushed(rt: HostRuntime) -> Result<(), Fail> {
     for count in [0usize, 1, 15, 16, 33, 1000] {
         let window = sevens_and_nines(rt.alloc(), count)?;
-        assert_eq!(rt;
-            window.as_slice().iter().filter(|item| **item == 7).count(),
-            count
-        );
+        assert!(rt; window.as_slice().iter().filter(|item| **item == 7).count() == count);
         assert!(rt; window.as_slice().iter().take(count).all(|item| *item == 7));
         assert!(rt; window.as_slice().iter().skip(count).all(|item| *item == 9));
     }

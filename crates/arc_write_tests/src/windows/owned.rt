@@ -85,16 +85,16 @@ fn dropped_at_the_release(rt: HostRuntime) -> Result<(), Fail> {
     for drops in [&counts.a, &counts.b, &counts.c, &counts.d, &counts.e] {
         assert!(rt; window.try_push(Counted { drops }).is_ok());
     }
-    assert_eq!(rt; window.capacity(), 8);
+    assert!(rt; window.capacity() == 8);
     if window.check_at(1).is_err() {
         return Err("fewer items than that".into());
     }
     window.advance(1);
     window.truncate(2);
-    assert_eq!(rt; (window.len(), window.capacity()), (2, 2));
-    assert_eq!(rt; counts.now(), [0; 5]);
+    assert!(rt; (window.len(), window.capacity()) == (2, 2));
+    assert!(rt; counts.now() == [0; 5]);
     drop(window);
-    assert_eq!(rt; counts.now(), [1; 5]);
+    assert!(rt; counts.now() == [1; 5]);
     Ok(())
 }
 
@@ -108,9 +108,9 @@ fn dropped_after_freezing(rt: HostRuntime) -> Result<(), Fail> {
     };
     let clone = frozen.try_clone(&rt)?;
     drop(frozen);
-    assert_eq!(rt; counts.now(), [0; 5]);
+    assert!(rt; counts.now() == [0; 5]);
     drop(clone);
-    assert_eq!(rt; counts.now(), [1, 1, 1, 0, 0]);
+    assert!(rt; counts.now() == [1, 1, 1, 0, 0]);
     Ok(())
 }
 
@@ -119,16 +119,16 @@ fn dropped_after_freezing(rt: HostRuntime) -> Result<(), Fail> {
 fn refused_behind_a_cut(rt: HostRuntime) -> Result<(), Fail> {
     let counts = Counts::new();
     let mut window = cut_short(rt.alloc(), &counts)?;
-    assert_eq!(rt; (window.len(), window.capacity()), (2, 2));
+    assert!(rt; (window.len(), window.capacity()) == (2, 2));
     let Err((e, back)) = window.try_push(boxed(rt.alloc(), &counts.d)?) else {
         return Err("full places behind it".into());
     };
-    assert_eq!(rt; e, TryReserveError::Unsupported);
-    assert_eq!(rt; counts.now(), [0; 5]);
+    assert!(rt; e == TryReserveError::Unsupported);
+    assert!(rt; counts.now() == [0; 5]);
     drop(back);
-    assert_eq!(rt; counts.now(), [0, 0, 0, 1, 0]);
+    assert!(rt; counts.now() == [0, 0, 0, 1, 0]);
     drop(window);
-    assert_eq!(rt; counts.now(), [1, 1, 1, 1, 0]);
+    assert!(rt; counts.now() == [1, 1, 1, 1, 0]);
     Ok(())
 }
 
@@ -141,12 +141,12 @@ fn extended_behind_a_cut(rt: HostRuntime) -> Result<(), Fail> {
     let Err((e, back)) = window.try_extend(more) else {
         return Err("full places behind it".into());
     };
-    assert_eq!(rt; e, TryReserveError::Unsupported);
-    assert_eq!(rt; counts.now(), [0, 0, 0, 0, 1]);
+    assert!(rt; e == TryReserveError::Unsupported);
+    assert!(rt; counts.now() == [0, 0, 0, 0, 1]);
     drop(back);
-    assert_eq!(rt; counts.now(), [0, 0, 0, 1, 1]);
+    assert!(rt; counts.now() == [0, 0, 0, 1, 1]);
     drop(window);
-    assert_eq!(rt; counts.now(), [1; 5]);
+    assert!(rt; counts.now() == [1; 5]);
     Ok(())
 }
 
@@ -159,15 +159,15 @@ fn refused_memory(rt: HostRuntime) -> Result<(), Fail> {
     let Err((e, back)) = window.try_extend((0..42).map(|_| Counted { drops: &drops })) else {
         return Err("more memory than there is".into());
     };
-    assert_eq!(rt; e, TryReserveError::AllocError);
-    assert_eq!(rt; window.len(), 40);
-    assert_eq!(rt; drops.load(Ordering::SeqCst), 0);
+    assert!(rt; e == TryReserveError::AllocError);
+    assert!(rt; window.len() == 40);
+    assert!(rt; drops.load(Ordering::SeqCst) == 0);
     drop(back);
-    assert_eq!(rt; drops.load(Ordering::SeqCst), 1);
-    assert_eq!(rt; window.try_reserve(1), Err(TryReserveError::AllocError));
-    assert_eq!(rt; (window.len(), window.capacity()), (40, 40));
+    assert!(rt; drops.load(Ordering::SeqCst) == 1);
+    assert!(rt; window.try_reserve(1) == Err(TryReserveError::AllocError));
+    assert!(rt; (window.len(), window.capacity()) == (40, 40));
     drop(window);
-    assert_eq!(rt; drops.load(Ordering::SeqCst), 41);
-    assert_eq!(rt; heap.used(), 0);
+    assert!(rt; drops.load(Ordering::SeqCst) == 41);
+    assert!(rt; heap.used() == 0);
     Ok(())
 }

@@ -19,15 +19,15 @@ fn eight(alloc: Global, cut: usize) -> Result<ArcBytesMut, Fail> {
 fn written_and_read(rt: HostRuntime) -> Result<(), Fail> {
     let mut window: ArcBytesMut = ArcSliceMut::new(rt.alloc());
     window.try_extend_from_slice(b"Hello world")?;
-    assert_eq!(rt; window.capacity(), 11);
+    assert!(rt; window.capacity() == 11);
     let Ok(mut frozen) = window.try_freeze::<DefaultLayout>() else {
         return Err("not frozen".into());
     };
     let part = frozen.try_subslice(&rt, 0, 5)?;
-    assert_eq!(rt; part.as_slice(), b"Hello".as_slice());
+    assert!(rt; part.as_slice() == b"Hello".as_slice());
     let front = frozen.try_split_to(&rt, 6)?;
-    assert_eq!(rt; front.as_slice(), b"Hello ".as_slice());
-    assert_eq!(rt; frozen.as_slice(), b"world".as_slice());
+    assert!(rt; front.as_slice() == b"Hello ".as_slice());
+    assert!(rt; frozen.as_slice() == b"world".as_slice());
     Ok(())
 }
 
@@ -36,12 +36,12 @@ fn written_and_read(rt: HostRuntime) -> Result<(), Fail> {
 fn room_without_memory(rt: HostRuntime) -> Result<(), Fail> {
     let mut short = eight(rt.alloc(), 6)?;
     assert!(rt; short.try_reclaim(4));
-    assert_eq!(rt; short.as_slice(), [7, 8].as_slice());
-    assert_eq!(rt; short.capacity(), 8);
+    assert!(rt; short.as_slice() == [7, 8].as_slice());
+    assert!(rt; short.capacity() == 8);
     let mut long = eight(rt.alloc(), 3)?;
     assert!(rt; !long.try_reclaim(1));
-    assert_eq!(rt; long.as_slice(), [4, 5, 6, 7, 8].as_slice());
-    assert_eq!(rt; long.capacity(), 5);
+    assert!(rt; long.as_slice() == [4, 5, 6, 7, 8].as_slice());
+    assert!(rt; long.capacity() == 5);
     Ok(())
 }
 
@@ -50,8 +50,8 @@ fn room_without_memory(rt: HostRuntime) -> Result<(), Fail> {
 fn pushed_behind_a_cut(rt: HostRuntime) -> Result<(), Fail> {
     let mut window = eight(rt.alloc(), 3)?;
     assert!(rt; window.try_push(9).is_ok());
-    assert_eq!(rt; window.as_slice(), [4, 5, 6, 7, 8, 9].as_slice());
-    assert_eq!(rt; window.capacity(), 13);
+    assert!(rt; window.as_slice() == [4, 5, 6, 7, 8, 9].as_slice());
+    assert!(rt; window.capacity() == 13);
     Ok(())
 }
 
@@ -61,12 +61,12 @@ fn cut_to_nothing(rt: HostRuntime) -> Result<(), Fail> {
     let mut window = eight(rt.alloc(), 3)?;
     window.truncate(0);
     assert!(rt; window.is_empty());
-    assert_eq!(rt; window.capacity(), 5);
+    assert!(rt; window.capacity() == 5);
     let mut window = eight(rt.alloc(), 8)?;
-    assert_eq!(rt; window.capacity(), 0);
+    assert!(rt; window.capacity() == 0);
     assert!(rt; window.try_push(9).is_ok());
-    assert_eq!(rt; window.as_slice(), [9].as_slice());
-    assert_eq!(rt; window.capacity(), 8);
+    assert!(rt; window.as_slice() == [9].as_slice());
+    assert!(rt; window.capacity() == 8);
     Ok(())
 }
 
@@ -75,19 +75,19 @@ fn cut_to_nothing(rt: HostRuntime) -> Result<(), Fail> {
 fn items_of_no_size(rt: HostRuntime) -> Result<(), Fail> {
     let mut window: ArcSliceMut<Plain<()>, DefaultLayoutMut, 1> = ArcSliceMut::new(rt.alloc());
     assert!(rt; window.try_push(()).is_ok());
-    assert_eq!(rt; (window.len(), window.capacity()), (1, 4));
+    assert!(rt; (window.len(), window.capacity()) == (1, 4));
     window.try_extend_from_slice(&[(); 4])?;
-    assert_eq!(rt; (window.len(), window.capacity()), (5, 8));
+    assert!(rt; (window.len(), window.capacity()) == (5, 8));
     if window.check_at(2).is_err() {
         return Err("fewer items than that".into());
     }
     window.advance(2);
-    assert_eq!(rt; (window.len(), window.capacity()), (3, 6));
+    assert!(rt; (window.len(), window.capacity()) == (3, 6));
     window.truncate(1);
-    assert_eq!(rt; (window.len(), window.capacity()), (1, 6));
+    assert!(rt; (window.len(), window.capacity()) == (1, 6));
     assert!(rt; window.try_reclaim(7));
-    assert_eq!(rt; (window.len(), window.capacity()), (1, 8));
+    assert!(rt; (window.len(), window.capacity()) == (1, 8));
     window.try_reserve(20)?;
-    assert_eq!(rt; (window.len(), window.capacity()), (1, 21));
+    assert!(rt; (window.len(), window.capacity()) == (1, 21));
     Ok(())
 }
