@@ -3,6 +3,4 @@
 #![tactic(auto)]
 
 #[cfg(test)]
-mod static_windows;
-#[cfg(test)]
 mod windows;

@@ -10,9 +10,6 @@ use linked_list_allocator::LocalHeap;
 use std::alloc::Global;
 use std::test::Fail;
 
-mod extend;
-mod items;
-mod owned;
 mod refusals;
 mod rows;
 
