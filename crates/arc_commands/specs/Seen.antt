@@ -6,7 +6,8 @@ use Rattle.arc_commands.specs.declared.command.Cmd.{Cmd}
 use Rattle.arc_commands.specs.declared.command.Cmd.TheVariants.{Slice, Clone, Sub, Uniq, Show, Len}
 use Rattle.arc_commands.specs.declared.command.Cmd.TheVariants.{Off, To, Adv, Trunc, Drop}
 use Rattle.arc_commands.specs.declared.command.Cmd.TheVariants.{Static, TakeStatic, MSlice}
-use Rattle.arc_commands.specs.declared.command.Cmd.TheVariants.{New, Cap, Zero, Room, Mut, Res, Push, Ext}
+use Rattle.arc_commands.specs.declared.command.Cmd.TheVariants.{New, Cap, Zero, Room, Mut, Res}
+use Rattle.arc_commands.specs.declared.command.Cmd.TheVariants.{Push, Ext}
 use Rattle.arc_commands.specs.declared.command.Cmd.TheVariants.{Rec, Freeze}
 use Rattle.arc_commands.specs.declared.command.Reply.{Reply}
 use Rattle.arc_commands.specs.declared.command.Reply.TheVariants as reply

@@ -1,5 +1,6 @@
 //! What a table does with its slots, as a list.
-ghost use Rattle.std.specs.Prelude.{◌≡◌, ◌<◌, ◌≤◌, ◌++◌, ◌∷◌, [], ℕ, true, Some, None, length, OnOk};
+ghost use Rattle.std.specs.Prelude.{◌≡◌, ◌<◌, ◌≤◌, ◌++◌, ◌∷◌, [], ℕ, true, Some, None, length};
+ghost use Rattle.std.specs.Prelude.{OnOk};
 ghost use Rattle.std.specs.Prelude.{MatchOption, slice_get, slice_set};
 ghost use Rattle.std.specs.Option.{option_flatten};
 ghost use Rattle.std.specs.Vec.{vec_capacity};
@@ -34,7 +35,8 @@ pub fn put_slot<X, A: Allocator>(slots: &mut Vec<Option<X>, A>, i: usize, slot: 
     let None = left else { unreachable!() };
 }
 
-/// Makes room for a window more, and for the pass of a block more. Refused, the lists are as before.
+/// Makes room for a window more, and for the pass of a block more. Refused, the lists are as
+/// before.
 pub fn make_room<X, P, A: Allocator>(
     slots: &mut Vec<X, A>,
     passes: &mut Vec<P, A>,

@@ -322,8 +322,19 @@ where
     }
 
     /// Another window with the same items at the same place, an owner more of the same block.
-    /// `CountFull` where the block has as many owners as it can have, `AllocError` where the
-    /// layout's clones want memory and it was refused.
+    ///
+    /// # Errors
+    ///
+    /// On a block `CountFull`, exactly where `MAX_OWNERS` owners live, and `AllocError`, only where
+    /// the layout's clones may want memory on a block of its sort.
+    ///
+    /// # Allocates
+    ///
+    /// Only where the layout's clones want memory on a block of its sort.
+    ///
+    /// # History
+    ///
+    /// On a block Up, or Full where refused.
     pub fn try_clone(&self, rt: &impl Wait, passes: &mut Passes<A>) -> Result<Self, OwnerError>
         requires reads { self.now.capacity ≡ None }
         requires pass { HasPassFor passes.old.of_blocks.items (stand_of (Some self.now)) }
@@ -350,7 +361,19 @@ where
     }
 
     /// A window over the items from `start` to `end`, an owner more of the same block, or with no
-    /// items on nothing where the layout has static data. Refused as `try_clone` is.
+    /// items on nothing where the layout has static data.
+    ///
+    /// # Errors
+    ///
+    /// Those of `try_clone`, where the part stands on a block.
+    ///
+    /// # Allocates
+    ///
+    /// Only where `try_clone` does.
+    ///
+    /// # History
+    ///
+    /// Where the part stands on a block Up, or Full where refused.
     pub fn try_subslice(
         &self,
         rt: &impl Wait,
@@ -393,7 +416,21 @@ where
         }
     }
 
-    /// Splits the window, and hands out the back: at the front end that is the window itself.
+    /// Splits the window at `at`, and hands out the back: at the front end that is the window
+    /// itself. Refused, the window is as before.
+    ///
+    /// # Errors
+    ///
+    /// Those of `try_clone`; none where one part has no items and the layout has static data.
+    ///
+    /// # Allocates
+    ///
+    /// Only where `try_clone` does.
+    ///
+    /// # History
+    ///
+    /// On a block Up, or Full where refused; none where one part has no items and the layout has
+    /// static data.
     pub fn try_split_off(
         &mut self,
         rt: &impl Wait,
@@ -406,17 +443,15 @@ where
         requires at { IsEdge S.boundary self.old.window.items at }
         requires pass { HasPassFor passes.old.of_blocks.items (stand_of (Some self.old)) }
         ensures start { IfOk result (λ back. at ≡ 0 → IsSplit self.old back self.new
-            (row_of self.old) (off_part L.STATIC
-            (row_of self.old) at)
+            (row_of self.old) (off_part L.STATIC (row_of self.old) at)
             passes.old.of_blocks.items passes.new.of_blocks.items) }
         ensures later { IfOk result (λ back. 0 < at → IsSplit self.old self.new back
             (cut_row (row_of self.old) 0 at) (off_part L.STATIC (row_of self.old) at)
             passes.old.of_blocks.items passes.new.of_blocks.items) }
         ensures kept { IfErr result (λ _. self.new ≡ self.old) }
         ensures refused { IfErr result (RefusesAt L.clone_wants
-            (off_part L.STATIC (row_of self.old)
-            at).place
-            (stand_of (Some self.old)) passes.old.of_blocks.items passes.new.of_blocks.items) }
+            (off_part L.STATIC (row_of self.old) at).place (stand_of (Some self.old))
+            passes.old.of_blocks.items passes.new.of_blocks.items) }
     {
         let block = self.block;
         let Held::Read(front) = &mut self.window else {
@@ -439,7 +474,21 @@ where
         Ok(Slot { window, block })
     }
 
-    /// Splits the window, and hands out the front: at the back end that is the window itself.
+    /// Splits the window at `at`, and hands out the front: at the back end that is the window
+    /// itself. Refused, the window is as before.
+    ///
+    /// # Errors
+    ///
+    /// Those of `try_clone`; none where one part has no items and the layout has static data.
+    ///
+    /// # Allocates
+    ///
+    /// Only where `try_clone` does.
+    ///
+    /// # History
+    ///
+    /// On a block Up, or Full where refused; none where one part has no items and the layout has
+    /// static data.
     pub fn try_split_to(
         &mut self,
         rt: &impl Wait,
@@ -452,19 +501,17 @@ where
         requires at { IsEdge S.boundary self.old.window.items at }
         requires pass { HasPassFor passes.old.of_blocks.items (stand_of (Some self.old)) }
         ensures end { IfOk result (λ front. at ≡ length self.old.window.items → IsSplit self.old
-            front self.new
-            (row_of self.old) (to_part L.STATIC
-            (row_of self.old) at)
+            front self.new (row_of self.old) (to_part L.STATIC (row_of self.old) at)
             passes.old.of_blocks.items passes.new.of_blocks.items) }
         ensures earlier { IfOk result (λ front. at < length self.old.window.items → IsSplit
             self.old self.new front
-            (cut_row (row_of self.old) at (length self.old.window.items)) (to_part L.STATIC (row_of self.old) at)
+            (cut_row (row_of self.old) at (length self.old.window.items))
+            (to_part L.STATIC (row_of self.old) at)
             passes.old.of_blocks.items passes.new.of_blocks.items) }
         ensures kept { IfErr result (λ _. self.new ≡ self.old) }
         ensures refused { IfErr result (RefusesAt L.clone_wants
-            (to_part L.STATIC (row_of self.old)
-            at).place
-            (stand_of (Some self.old)) passes.old.of_blocks.items passes.new.of_blocks.items) }
+            (to_part L.STATIC (row_of self.old) at).place (stand_of (Some self.old))
+            passes.old.of_blocks.items passes.new.of_blocks.items) }
     {
         let block = self.block;
         let Held::Read(back) = &mut self.window else {
@@ -489,7 +536,15 @@ where
     }
 
     /// The window as one that is written, where no other owner of its block lives, or where it has
-    /// no items and stands on none. Else it comes back. Takes no memory.
+    /// no items and stands on none. Takes no memory.
+    ///
+    /// # Errors
+    ///
+    /// The window itself: on a block beside another owner, on none with items.
+    ///
+    /// # History
+    ///
+    /// On a block Alone, which says whether it is.
     pub fn try_into_mut(self, passes: &mut Passes<A>) -> Result<Self, Self>
         requires reads { self.capacity ≡ None }
         requires pass { HasPassFor passes.old.of_blocks.items (stand_of (Some self)) }
@@ -533,7 +588,20 @@ where
         self.block.is_none() && window.capacity().saturating_sub(window.len()) < additional
     }
 
-    /// Writes into the window, which is one that is written. Refused, nothing changes.
+    /// Writes into the window, which is one that is written: `what` goes behind its items. Refused,
+    /// nothing changes, and what was to be written is let go.
+    ///
+    /// # Errors
+    ///
+    /// `TryReserveError`, as `try_reserve` of such a window.
+    ///
+    /// # Allocates
+    ///
+    /// Where its places don't do: a first block, or a larger one.
+    ///
+    /// # History
+    ///
+    /// None. A first block's history begins.
     pub fn write(
         &mut self,
         what: Writing<Vec<S::Item, A>, S::Item>,
@@ -598,7 +666,20 @@ where
     }
 
     /// The window, which is one that is written, as one that is read: where it stands, or on no
-    /// block as what is made of its items. It comes back where memory for a block is refused.
+    /// block as what is made of its items.
+    ///
+    /// # Errors
+    ///
+    /// The window itself, on no block under a layout without static data, where memory for a block
+    /// is refused.
+    ///
+    /// # Allocates
+    ///
+    /// Only there: a block.
+    ///
+    /// # History
+    ///
+    /// None. A first block's history begins.
     pub fn try_freeze(self, passes: &mut Passes<A>) -> Result<Self, Self>
         requires writes { is_some self.capacity ≡ true }
         requires pass { HasPassFor passes.old.of_blocks.items (stand_of (Some self)) }
@@ -644,6 +725,10 @@ where
     }
 
     /// Whether no other owner of the window's block lives. `false` on no block. Takes no memory.
+    ///
+    /// # History
+    ///
+    /// On a block Alone, which says what is answered.
     pub fn is_unique(&self, passes: &mut Passes<A>) -> bool
         requires reads { self.now.capacity ≡ None }
         requires pass { HasPassFor passes.old.of_blocks.items (stand_of (Some self.now)) }
@@ -662,6 +747,10 @@ where
     }
 
     /// Ends the window: the last owner gives its block back. Takes no memory.
+    ///
+    /// # History
+    ///
+    /// On a block Down, which says whether it was the last.
     pub fn release(self, passes: &mut Passes<A>)
         requires { HasPassFor passes.old.of_blocks.items (stand_of (Some self)) }
         ensures { Along (stand_of (Some self)) passes.old.of_blocks.items

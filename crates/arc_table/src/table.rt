@@ -248,8 +248,8 @@ where
     }
 
     /// Another window with the same items at the same place. `NoWindow` where the window isn't
-    /// there, `Kind` where it is written, `Owner` where its block has as many owners as it can have.
-    /// Takes memory for the new slot; refused, the answer is `Alloc`.
+    /// there, `Kind` where it is written, `Owner` where its block has as many owners as it can
+    /// have. Takes memory for the new slot; refused, the answer is `Alloc`.
     fn clone_window(&mut self, rt: &impl Wait, i: usize) -> TableReply<S::Item, A>
         ensures rows { Step (setting_of L.STATIC L.clone_wants S.DROPS S.boundary
             (type_size S.Item.row) S.Zero.zero) self.old.table

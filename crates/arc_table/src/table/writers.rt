@@ -239,8 +239,8 @@ where
     pub(super) fn reclaim(&mut self, i: usize, additional: usize) -> TableReply<S::Item, A>
         requires item { FitsInMemory S.Item.row }
         ensures rows { Step (setting_of L.STATIC L.clone_wants S.DROPS S.boundary
-            (type_size S.Item.row) S.Zero.zero) self.old.table (command.Rec i additional) (seen_reply result)
-            self.new.table }
+            (type_size S.Item.row) S.Zero.zero) self.old.table (command.Rec i additional)
+            (seen_reply result) self.new.table }
         ensures passes { Adds self.old.table self.old.standing (command.Rec i additional)
             (seen_reply result) self.new.standing }
     {
@@ -274,8 +274,8 @@ where
     /// Such a block's begins; else nothing is added.
     pub(super) fn freeze(&mut self, i: usize) -> TableReply<S::Item, A>
         ensures rows { Step (setting_of L.STATIC L.clone_wants S.DROPS S.boundary
-            (type_size S.Item.row) S.Zero.zero) self.old.table (command.Freeze i) (seen_reply result)
-            self.new.table }
+            (type_size S.Item.row) S.Zero.zero) self.old.table (command.Freeze i)
+            (seen_reply result) self.new.table }
         ensures passes { Adds self.old.table self.old.standing (command.Freeze i)
             (seen_reply result) self.new.standing }
     {
