@@ -1,8 +1,10 @@
 -- Places are frozen, each by itself; what a reader has of them. Assumes `Logic`.
 --     freezes        borrowed places become items to be read, under names that have settled
---     frozen_twice, owned_twice      a reader's part can be had again
+--     frozen_twice, owned_twice      what a reader has can be had again
+--     frozen_part    so can a part of it
 --     frozen_read    it is read for as long as shares of the lifetime are borrowed
-use Rattle.std.proofs.Common.{ℕ, ◌+◌, ◌*◌, ◌^◌, List, [], ◌∷◌, ◌++◌, length, Some}
+use Rattle.std.proofs.Common.{◌≡◌, ℕ, ◌+◌, ◌-◌, ◌*◌, ◌^◌, ◌≤◌, List, [], ◌∷◌, ◌++◌, length, take, refl, sym, ap, ◌∙◌, arith, Some}
+use lib.ListN.{drop as drop_from}
 use seplogic.Ra.Ura.{Ura}
 use base.Fraction.{full_share}
 use base.Logic.{ent, sep, snd∗, never_e}
@@ -12,7 +14,7 @@ use contract.BorrowLft.{meet_⊑_left, meet_⊑_right}
 use ghost.Rules.{Toks, span}
 use types.Logic.{Logic, sem, lfts}
 use types.SemTy.{SemTy}
-use types.Kit.{‵, raw, ◌⊛◌, later, ◌$◌, ◌∵◌, !, qed, by, move, keep, drop, split, split3, fsplit, fjoin, flt_l, flt_i, use0, use1, use2, use3, await, updating, now, done}
+use types.Kit.{‵, raw, ◌⊛◌, later, ◌$◌, ◌∵◌, !, qed, by, move, keep, drop, split, split3, fsplit, fjoin, flt_l, flt_i, use0, use1, use2, use3, rewrite, await, updating, now, done}
 use types.Na.{before-Incl, before_lent}
 use types.Tokens.{name_done, res_dup}
 use denote.RattleType.{RattleType}
@@ -29,6 +31,9 @@ use Rattle.core.specs.Mem.{type_size}
 use Rattle.arc_memory.specs.Memory.{place_at}
 use Rattle.arc_memory.specs.LentMemory.{LentMemory, Held, held_code, holds, says, settles, named, each_name, contents, in_memory, names_from, frozen, frozen_owns}
 use Rattle.arc_memory.proofs.Borrowed.{Borrows}
+use Rattle.arc_memory.proofs.Contents.{take-contents, drop-contents}
+use Rattle.arc_memory.proofs.Names.{each_take, each_drop}
+use Rattle.arc_memory.proofs.Ranges.{sub, sub_length, sub_shared}
 
 module _ (E : El) {M : Type 1} {𝓤 : Ura M} (𝓛 : Logic 𝓤) (b a : ℕ) where
   open 𝓛 use {H}
@@ -87,6 +92,15 @@ module _ (T : RattleType) (L : Laws T) {M : Type 1} {𝓤 : Ura M} (𝓛 : Logic
   frozen_twice gs xs o = let Items : Fml = elements_shared T xs b o κ₀ in let Names : Fml = each_name T (settles T) gs (contents (length xs) xs) in
       qed 𝓛 (‵ (frozen T a gs xs b o) ∷ []) ∵ fsplit ! $ use1 𝓛 (‵ Items ⊛ ‵ Items) (contraction 𝓛 (elements_shared T xs b o) (elements_shr_laws T L.shr_laws xs b o) κ₀) $ split ! $ move ! (2 ∷ []) $
       use1 𝓛 (‵ Names ⊛ ‵ Names) (settled_twice gs (contents (length xs) xs)) $ split ! $ move ! (2 ∷ 0 ∷ []) $ fjoin ! $ move ! (2 ∷ 1 ∷ []) $ fjoin ! $ done !
+
+  -- a part of it
+  pub frozen_part : (gs : List GName) (xs : List T.Denot) (i j o : ℕ) → i ≤ j → j ≤ length xs → ent 𝓤 (sem 𝓛 (frozen T a gs xs b o)) (sem 𝓛 (frozen T a (drop_from i gs) (sub xs i j) b (i * type_size T + o)))
+  frozen_part gs xs i j o ordered within =
+      let n = length xs in let ys = sub xs i j in let K = settles T in let m : ℕ = j - i in let many : j ≡ i + m = omega (arith, ordered) in
+      let cut : drop_from i (take j (contents n xs)) ≡ contents (length ys) ys = ap (drop_from i) (take-contents j n xs within) ∙ drop-contents i j m (take j xs) many ∙ ap (λ (k : ℕ). contents k ys) (sym (sub_length xs i j ordered within)) in
+      qed 𝓛 (‵ (frozen T a gs xs b o) ∷ []) ∵ fsplit ! $ use1 𝓛 (‵ (elements_shared T ys b (i * type_size T + o) κ₀)) (sub_shared T 𝓛 κ₀ xs i j b o ordered within) $ move ! (1 ∷ []) $
+      use1 𝓛 (‵ (each_name T K gs (take j (contents n xs)))) (each_take T 𝓛 K j gs (contents n xs)) $ use1 𝓛 (‵ (each_name T K (drop_from i gs) (drop_from i (take j (contents n xs))))) (each_drop T 𝓛 K i gs (take j (contents n xs))) $
+      rewrite ! 0 (λ (us : List (Held T)). ‵ (each_name T K (drop_from i gs) us)) cut refl $ move ! (1 ∷ 0 ∷ []) $ fjoin ! $ done !
 
   -- whoever has shares of the lifetime for as long as κ reads it for κ
   pub frozen_read : (gs : List GName) (xs : List T.Denot) (o : ℕ) (κ : Lft) → ent 𝓤 (sep 𝓤 (sem 𝓛 (frozen T a gs xs b o)) (sem 𝓛 (fshr_bor κ (λ q. flft κ₀ q)))) (sem 𝓛 (elements_shared T xs b o κ))

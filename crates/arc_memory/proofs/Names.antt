@@ -1,19 +1,20 @@
--- What is known of a place's name is what it decides; so too for names side by side. Assumes
--- `Logic`.
+-- What is known of a place's name is what it decides; so too for names side by side, and for a
+-- part of them. Assumes `Logic`.
+--     each_take, each_drop      what is known of the first names, and of the others
 --     Agrees      what agrees so
 --     says_agrees, settles_agrees      what a name says, and what a settled one does
 --     agree       what is known of the names of a range is what lies there
 use Rattle.std.proofs.Common.{◌≡◌, ℕ, zero, suc, ◌+◌, ◌≤◌, List, [], ◌∷◌, length, take, refl, sym, ap₂, arith}
 use lib.ListN.{drop as drop_from}
 use seplogic.Ra.Ura.{Ura}
-use base.Logic.{ent, sep}
+use base.Logic.{ent, sep, emp, never_e, id⊢}
 use base.Fml.{GName, Fml, ftrue, fsep}
 use contract.Monad.{fact, fact_i}
 use types.Logic.{Logic, sem}
-use types.Kit.{‵, raw, ◌$◌, ◌∵◌, !, qed, by, move, drop, fsplit, use2}
+use types.Kit.{‵, raw, ◌$◌, ◌∵◌, !, qed, by, move, drop, fsplit, fjoin, use1, use2, done}
 use types.Tokens.{name_agree, res_agree}
 use denote.RattleType.{RattleType}
-use denote.Steps.{heard}
+use denote.Steps.{nothing, heard}
 use Rattle.arc_memory.specs.LentMemory.{Held, held_code, says, settles, decides, each_name}
 
 module _ (R : RattleType) where
@@ -35,6 +36,22 @@ module _ (R : RattleType) {M : Type 1} {𝓤 : Ura M} (𝓛 : Logic 𝓤) where
 
   pub settles_agrees : Agrees (settles R)
   settles_agrees γ y z = qed 𝓛 (‵ (decides R γ z) ∷ ‵ (settles R γ y) ∷ []) ∵ move ! (1 ∷ 0 ∷ []) $ res_agree ! (held_code R) (λ same. by ! (fact_i 𝓤 _ _ (sym same)))
+
+  module _ (K : GName → Y → Fml) where
+    abbrev Each : List GName → List Y → Fml
+    Each = each_name R K
+
+    pub each_take : (n : ℕ) (gs : List GName) (ys : List Y) → ent 𝓤 (sem 𝓛 (Each gs ys)) (sem 𝓛 (Each gs (take n ys)))
+    each_take zero gs ys = qed 𝓛 (‵ (Each gs ys) ∷ []) ∵ drop ! $ nothing ! $ done !
+    each_take (suc n) gs [] = id⊢ 𝓤 (emp 𝓤)
+    each_take (suc n) [] (y ∷ ys) = never_e 𝓤 _
+    each_take (suc n) (γ ∷ gs) (y ∷ ys) = qed 𝓛 (‵ (Each (γ ∷ gs) (y ∷ ys)) ∷ []) ∵ fsplit ! $ move ! (1 ∷ []) $ use1 𝓛 (‵ (Each gs (take n ys))) (each_take n gs ys) $ move ! (1 ∷ 0 ∷ []) $ fjoin ! $ done !
+
+    pub each_drop : (n : ℕ) (gs : List GName) (ys : List Y) → ent 𝓤 (sem 𝓛 (Each gs ys)) (sem 𝓛 (Each (drop_from n gs) (drop_from n ys)))
+    each_drop zero gs ys = id⊢ 𝓤 _
+    each_drop (suc n) gs [] = id⊢ 𝓤 (emp 𝓤)
+    each_drop (suc n) [] (y ∷ ys) = never_e 𝓤 _
+    each_drop (suc n) (γ ∷ gs) (y ∷ ys) = qed 𝓛 (‵ (Each (γ ∷ gs) (y ∷ ys)) ∷ []) ∵ fsplit ! $ drop ! $ by ! (each_drop n gs ys)
 
   module _ (K : GName → Y → Fml) (agrees : Agrees K) where
     agree_front : (gs : List GName) (zs ys : List Y) → length zs ≡ length gs → length ys ≤ length gs → ent 𝓤 (sep 𝓤 (sem 𝓛 (decided R gs zs)) (sem 𝓛 (each_name R K gs ys))) (fact 𝓤 (take (length ys) zs ≡ ys))

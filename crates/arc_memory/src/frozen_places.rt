@@ -34,9 +34,22 @@ impl<T> FrozenPlaces<T> {
             marker: PhantomData,
         }
     }
-}
 
-impl<T> FrozenPlaces<T> {
+    /// The places from `start` on and before `end` of the allocation, for another reader.
+    pub fn part(&self, start: usize, end: usize) -> FrozenPlaces<T>
+        requires range { (self.now.start ≤ start) × (start ≤ end)
+            × (end ≤ self.now.start + length self.now.items) }
+        ensures places { (result.memory ≡ self.now.memory) × (result.start ≡ start) }
+        ensures items { result.items
+            ≡ drop (start - self.now.start) (take (end - self.now.start) self.now.items) }
+    {
+        let _ = start;
+        let _ = end;
+        FrozenPlaces {
+            marker: PhantomData,
+        }
+    }
+
     /// The items from the place `start` on and before the place `end` of the allocation, for as
     /// long as a share of the lifetime is borrowed. It reads no memory.
     ///

@@ -290,6 +290,18 @@ impl<T> PlacesInheritance<T> {
         let (before, own, behind) = self.regain(ended, part);
         before.join(own).join(behind)
     }
+
+    /// All the places as one, with the items of a frozen range that begins where they do.
+    pub fn regain_frozen_whole(self, ended: EndedLifetime, range: &FrozenPlaces<T>) -> Places<T>
+        requires ended { ended.lifetime ≡ self.memory.lifetime }
+        requires range { (range.now.memory ≡ self.memory) × (range.now.start ≡ self.start) }
+        ensures memory { IsPartOfLent self.memory result }
+        ensures places { (result.start ≡ self.start) × (result.count ≡ self.count)
+            × (result.items ≡ range.now.items) }
+    {
+        let (front, items, back) = self.regain_frozen(ended, range);
+        front.join(items).join(back)
+    }
 }
 
 unsafe impl<T: Send> Send for LentPlaces<T> {}
