@@ -3,19 +3,19 @@
 --     lends, regains      they are lent, and come back once the lifetime has ended
 --     borrowed_cut, borrowed_glue      a range of them is cut, and put together, with none opened
 --     opens_all, closes_all      all of a range are taken out, and put back with what they hold now
-use Rattle.std.proofs.Common.{◌≡◌, ℕ, zero, suc, ◌+◌, ◌*◌, ◌≤◌, List, [], ◌∷◌, ◌++◌, length, take, refl, sym, ap, ap₂, ◌∙◌, arith}
+use Rattle.std.proofs.Common.{◌≡◌, ℕ, zero, suc, ◌+◌, ◌*◌, ◌≤◌, List, [], ◌∷◌, ◌++◌, length, take, refl, sym, ap, ◌∙◌, arith}
 use lib.ListN.{drop as drop_from}
 use seplogic.Ra.Ura.{Ura}
 use base.Share
 use base.Logic.{ent, sep, emp, never_e, id⊢}
 use base.Fml.{GName, Share, Fml, ftrue, ffalse, fsep, fex, feq, flft, fdead}
-use contract.Monad.{fact, fact_i}
 use types.Logic.{Logic, sem}
-use types.Kit.{‵, raw, ◌⊛◌, later, ◌$◌, ◌∵◌, !, qed, by, move, keep, drop, split, fsplit, fsplit3, fjoin, fpick, fpack, feq_l, feq_i, use1, use2, rewrite, await, updating, now, done}
+use types.Kit.{‵, ◌⊛◌, later, ◌$◌, ◌∵◌, !, qed, by, move, keep, drop, split, fsplit, fsplit3, fjoin, fpick, fpack, feq_l, feq_i, use1, use2, rewrite, await, updating, now, done}
 use types.Tokens.{name_new, name_agree, name_set, bor_new, lent_back, bor_open, obor_close}
-use denote.Steps.{nothing, heard}
+use denote.Steps.{nothing}
 use Rattle.std_alloc.proofs.VecSteps.El.{El, R, sz}
-use Rattle.arc_memory.specs.LentMemory.{held_code, holds, says, decides, named_as, settable, borrowed, opened, returning}
+use Rattle.arc_memory.specs.LentMemory.{held_code, holds, says, decides, named_as, settable, borrowed, opened, returning, each_name}
+use Rattle.arc_memory.proofs.Names.{decided}
 use Rattle.arc_memory.proofs.Spots.{Spot, spots, one_further, no_further}
 
 module _ (E : El) {M : Type 1} {𝓤 : Ura M} (𝓛 : Logic 𝓤) (b : ℕ) where
@@ -30,32 +30,9 @@ module _ (E : El) {M : Type 1} {𝓤 : Ura M} (𝓛 : Logic 𝓤) (b : ℕ) wher
   abbrev here : List Y → ℕ → Fml
   here = spots E 𝓛 b
 
-  -- what names say, apart from the borrows, and what they decide
+  -- what names say, apart from the borrows
   abbrev pub said : List GName → List Y → Fml
-  said gs [] = ftrue
-  said [] (y ∷ ys) = ffalse
-  said (γ ∷ gs) (y ∷ ys) = fsep (says (R E) γ y) (said gs ys)
-
-  abbrev pub decided : List GName → List Y → Fml
-  decided [] zs = ftrue
-  decided (γ ∷ gs) [] = ftrue
-  decided (γ ∷ gs) (z ∷ zs) = fsep (decides (R E) γ z) (decided gs zs)
-
-  agree_front : (gs : List GName) (zs ys : List Y) → length zs ≡ length gs → length ys ≤ length gs → ent 𝓤 (sep 𝓤 (sem 𝓛 (decided gs zs)) (sem 𝓛 (said gs ys))) (fact 𝓤 (take (length ys) zs ≡ ys))
-  agree_front gs zs [] e f = fact_i 𝓤 _ _ refl
-  agree_front [] zs (y ∷ ys) e f = absurd (omega arith)
-  agree_front (γ ∷ gs) [] (y ∷ ys) e f = absurd (omega arith)
-  agree_front (γ ∷ gs) (z ∷ zs) (y ∷ ys) e f =
-      qed 𝓛 (‵ (decided (γ ∷ gs) (z ∷ zs)) ∷ ‵ (said (γ ∷ gs) (y ∷ ys)) ∷ []) ∵ fsplit ! $ move ! (2 ∷ []) $ fsplit ! $ move ! (0 ∷ 2 ∷ []) $ name_agree ! (held_code (R E)) (λ same. keep ! (3 ∷ 2 ∷ []) $
-      use2 𝓛 (raw (fact 𝓤 (take (length ys) zs ≡ ys))) (agree_front gs zs ys (omega arith) (omega arith)) $ heard ! (take (length ys) zs ≡ ys) (λ rest. by ! (fact_i 𝓤 _ _ (ap₂ (λ (k : Y) (l : List Y). k ∷ l) (sym same) rest))))
-
-  -- what names say of a range is what lies there
-  pub agree : (n : ℕ) (gs : List GName) (zs ys : List Y) → length zs ≡ length gs → n + length ys ≤ length gs
-      → ent 𝓤 (sep 𝓤 (sem 𝓛 (decided gs zs)) (sem 𝓛 (said (drop_from n gs) ys))) (fact 𝓤 (take (length ys) (drop_from n zs) ≡ ys))
-  agree zero gs zs ys e f = agree_front gs zs ys e (omega arith)
-  agree (suc n) [] zs ys e f = absurd (omega arith)
-  agree (suc n) (γ ∷ gs) [] ys e f = absurd (omega arith)
-  agree (suc n) (γ ∷ gs) (z ∷ zs) ys e f = qed 𝓛 (‵ (decided (γ ∷ gs) (z ∷ zs)) ∷ ‵ (said (drop_from n gs) ys) ∷ []) ∵ fsplit ! $ drop ! $ by ! (agree n gs zs ys (omega arith) (omega arith))
+  said = each_name (R E) (says (R E))
 
   module _ (a : ℕ) where
     abbrev pub Borrows : List GName → List Y → ℕ → Fml
@@ -82,7 +59,7 @@ module _ (E : El) {M : Type 1} {𝓤 : Ura M} (𝓛 : Logic 𝓤) (b : ℕ) wher
         fpack ! (List GName) (Lent (y ∷ ys) o) (γ ∷ gs) $ now ! $ done !)))
 
     abbrev pub Back : List GName → ℕ → List Y → Fml
-    Back gs o zs = fsep (feq ℕ (length zs) (length gs)) (fsep (here zs o) (decided gs zs))
+    Back gs o zs = fsep (feq ℕ (length zs) (length gs)) (fsep (here zs o) (decided (R E) gs zs))
 
     pub regains : (gs : List GName) (o : ℕ) → ent 𝓤 (sep 𝓤 (sem 𝓛 (fdead (a ∷ []))) (sem 𝓛 (Returns gs o))) (H.⇛ (sem 𝓛 (fex (List Y) (Back gs o))))
     regains [] o = qed 𝓛 (‵ (fdead (a ∷ [])) ∷ ‵ ftrue ∷ []) ∵ updating ! $ drop ! $ nothing ! $ fjoin ! $ feq_i ! ℕ 0 0 refl $ fjoin ! $ fpack ! (List Y) (Back [] o) [] $ now ! $ done !

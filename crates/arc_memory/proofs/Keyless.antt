@@ -7,16 +7,20 @@ use base.Shift.{Keyless}
 use denote.RattleType.{RattleType}
 use denote.Array.{Array}
 use denote.RawPtr.{Ptr, block_ptr, null_ptr, room_for}
-use denote.Param.Send.{IsSend, array_send}
+use denote.Param.Send.{IsSend, IsSync, array_send, array_sync}
 use Rattle.core.specs.Allocator.{array_of}
 use Rattle.core.specs.Mem.{type_size}
 use Rattle.std_alloc.proofs.SendSync.{lies}
 use Rattle.arc_memory.specs.Memory.{place_at, side_by_side, places_own}
-use Rattle.arc_memory.specs.LentMemory.{LentMemory, Held, holds, named, contents, borrowed, opened, returning, in_memory, names_from, part_owns, open_owns, inheritance_owns}
+use Rattle.arc_memory.specs.LentMemory.{LentMemory, Held, holds, named, contents, borrowed, opened, returning, settles, each_name, in_memory, names_from, part_owns, open_owns, inheritance_owns, frozen_owns}
 
 bare : (τ : Ty) (p : Ptr) → Keyless (room_for τ p)
 bare τ null_ptr = tt
 bare τ (block_ptr _ _) = tt
+
+at_block : (p : Ptr) (F : ℕ → ℕ → Fml) → ((b o : ℕ) → Keyless (F b o)) → Keyless (in_memory p F)
+at_block null_ptr F k = tt
+at_block (block_ptr b o) F k = k b o
 
 module _ (R : RattleType) (s : IsSend R) where
   pub run : (p : Ptr) (count : ℕ) (xs : List R.Denot) → Keyless (side_by_side R p count xs)
@@ -47,10 +51,6 @@ module _ (R : RattleType) (s : IsSend R) where
     way_back [] b o = tt
     way_back (γ ∷ gs) b o = (place_keyless γ b o, way_back gs b (o + type_size R))
 
-  at_block : (p : Ptr) (F : ℕ → ℕ → Fml) → ((b o : ℕ) → Keyless (F b o)) → Keyless (in_memory p F)
-  at_block null_ptr F k = tt
-  at_block (block_ptr b o) F k = k b o
-
   pub part : (m : LentMemory) (start count : ℕ) (xs : List R.Denot) → Keyless (part_owns R m start count xs)
   part m start count xs = (tt, at_block (place_at R m.base start) _ (borrows m.lifetime (names_from R m start) (contents count xs)))
 
@@ -59,3 +59,12 @@ module _ (R : RattleType) (s : IsSend R) where
 
   pub inheritance : (m : LentMemory) (start : ℕ) → Keyless (inheritance_owns R m start)
   inheritance m start = (tt, at_block (place_at R m.base start) _ (way_back m.lifetime (names_from R m start)))
+
+module _ (R : RattleType) (y : IsSync R) where
+  names : (gs : List GName) (ys : List (Held R)) → Keyless (each_name R (settles R) gs ys)
+  names gs [] = tt
+  names [] (y ∷ ys) = tt
+  names (γ ∷ gs) (y ∷ ys) = (tt, names gs ys)
+
+  pub frozen_part : (m : LentMemory) (start : ℕ) (xs : List R.Denot) → Keyless (frozen_owns R m start xs)
+  frozen_part m start xs = let n = length xs in (tt, at_block (place_at R m.base start) _ (λ b o. (((array_sync R n y).shared xs b o (m.lifetime ∷ [])).1, names (names_from R m start) (contents n xs))))

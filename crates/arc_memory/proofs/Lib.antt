@@ -1,11 +1,14 @@
 pub mod Borrowed
 pub mod Contents
 pub mod Cuts
+pub mod Frozen
 pub mod Held
 pub mod Keyless
 pub mod LentHeld
+pub mod Names
 pub mod Parted
 pub mod Ranges
+pub mod Regained
 pub mod Runs
 pub mod SameVecs
 pub mod Spots

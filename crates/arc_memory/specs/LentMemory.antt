@@ -1,15 +1,16 @@
 -- Places that are lent for a lifetime. Each is borrowed by itself, under a ghost name that says
 -- what lies there, so a range of them is cut and put together with nothing opened.
-use Rattle.std.specs.Prelude.{refl, ℕ, zero, suc, ◌+◌, List, [], ◌∷◌, drop, Option, Some, None}
+use Rattle.std.specs.Prelude.{refl, ℕ, zero, suc, ◌+◌, List, [], ◌∷◌, length, drop, Option, Some, None}
 use Rattle.std.specs.Coded.{Coded, code_by, coded×, coded_ℕ, coded_list, coded_option}
 use base.Share
 use base.Fraction.{full_share}
-use base.Fml.{GName, Share, Fml, ftrue, ffalse, fsep, fex, flft, fobs, fauth}
+use base.Fml.{GName, Share, Fml, ftrue, ffalse, fsep, fex, flft, fobs, fauth, fres}
 use base.Fml.{fbor, fobor, flent, froom}
 use mir.Raw.{raw}
 use denote.RattleType.{RattleType}
 use denote.Memory.{lone, part_at}
 use denote.RawPtr.{Ptr, block_ptr, null_ptr, coded_ptr}
+use denote.Slice.{elements_shared}
 use Rattle.core.specs.Mem.{type_size}
 use Rattle.arc_memory.specs.Memory.{is_small, place_at}
 
@@ -57,6 +58,16 @@ module _ (R : RattleType) where
   abbrev pub decides : GName → Held → Fml
   decides γ y = fauth γ (held_code.code y)
 
+  -- what a name says once it can't be set again, to all who ask
+  abbrev pub settles : GName → Held → Fml
+  settles γ y = fres γ (held_code.code y)
+
+  -- this of each name of places side by side
+  abbrev pub each_name : (GName → Held → Fml) → List GName → List Held → Fml
+  each_name K gs [] = ftrue
+  each_name K [] (y ∷ ys) = ffalse
+  each_name K (γ ∷ gs) (y ∷ ys) = fsep (K γ y) (each_name K gs ys)
+
   -- what is lent of a place: what lies there is what its name says
   abbrev pub named_as : GName → ℕ → ℕ → Held → Fml
   named_as γ b o y = fsep (holds y b o) (decides γ y)
@@ -90,6 +101,11 @@ module _ (R : RattleType) where
     returning (γ ∷ gs) b o =
         fsep (flent (a ∷ []) (named γ b o)) (returning gs b (o + type_size R))
 
+    -- items side by side, to be read while the lifetime lasts, and their names have settled
+    abbrev pub frozen : List GName → List R.Denot → ℕ → ℕ → Fml
+    frozen gs xs b o = fsep (elements_shared R xs b o (a ∷ []))
+        (each_name settles gs (contents (length xs) xs))
+
   module _ (m : LentMemory) (start : ℕ) where
     -- the names from the place `start` on
     abbrev pub names_from : List GName
@@ -109,3 +125,7 @@ module _ (R : RattleType) where
     -- what the end of the lifetime gives back
     abbrev pub inheritance_owns : Fml
     inheritance_owns = there (returning m.lifetime names_from)
+
+    -- what each reader has of lent places that are frozen with these items
+    abbrev pub frozen_owns : List R.Denot → Fml
+    frozen_owns xs = there (frozen m.lifetime names_from xs)

@@ -6,6 +6,7 @@ ghost use Rattle.arc_memory.specs.LentMemory.{inheritance_owns, open_owns};
 ghost use base.Fml.{Share};
 ghost use base.SetCodes.{coded_share};
 
+use crate::frozen_places::FrozenPlaces;
 use crate::lifetime::{EndedLifetime, LifetimeToken};
 use crate::places::Places;
 use std::marker::{Model, PhantomData};
@@ -143,6 +144,27 @@ impl<T> LentPlaces<T> {
         )
     }
 
+    /// The items of a full part, for all to read while the lifetime lasts. The share of it comes
+    /// back.
+    pub fn freeze(self, share: LifetimeToken) -> (FrozenPlaces<T>, LifetimeToken)
+        requires full { length self.items ≡ self.count }
+        requires lifetime { share.lifetime ≡ self.memory.lifetime }
+        ensures frozen { (result.0.memory ≡ self.memory) × (result.0.start ≡ self.start)
+            × (result.0.items ≡ self.items) }
+        ensures share { (result.1.lifetime ≡ share.lifetime) × (result.1.share ≡ share.share) }
+    {
+        let LentPlaces { marker: _ } = self;
+        let LifetimeToken { marker: _ } = share;
+        (
+            FrozenPlaces {
+                marker: PhantomData,
+            },
+            LifetimeToken {
+                marker: PhantomData,
+            },
+        )
+    }
+
     /// Gives the part up: no item lies in it. Its memory comes back with the rest.
     pub fn give_up(self)
         requires { self.items ≡ [] }
@@ -218,6 +240,45 @@ impl<T> PlacesInheritance<T> {
 impl<T> PlacesInheritance<T> {
     ghost use Rattle.arc_memory.specs.Allocations.{IsPartOfLent};
 
+    /// The places, once the lifetime has ended: those before a frozen range, which are empty, those
+    /// of the range, with its items, and those behind it, which are empty.
+    pub fn regain_frozen(
+        self,
+        ended: EndedLifetime,
+        range: &FrozenPlaces<T>,
+    ) -> (Places<T>, Places<T>, Places<T>)
+        requires ended { ended.lifetime ≡ self.memory.lifetime }
+        requires range { (range.now.memory ≡ self.memory) × (self.start ≤ range.now.start) }
+        ensures memory { IsPartOfLent self.memory result.0 × IsPartOfLent self.memory result.1
+            × IsPartOfLent self.memory result.2 }
+        ensures before { (result.0.start ≡ self.start)
+            × (result.0.count ≡ range.now.start - self.start) × (result.0.items ≡ []) }
+        ensures range { (result.1.start ≡ range.now.start)
+            × (result.1.count ≡ length range.now.items) × (result.1.items ≡ range.now.items) }
+        ensures behind { (result.2.start ≡ range.now.start + length range.now.items)
+            × (result.2.start + result.2.count ≡ self.start + self.count)
+            × (result.2.items ≡ []) }
+    {
+        let PlacesInheritance { marker: _ } = self;
+        let EndedLifetime { marker: _ } = ended;
+        let _ = range;
+        (
+            Places {
+                marker: PhantomData,
+            },
+            Places {
+                marker: PhantomData,
+            },
+            Places {
+                marker: PhantomData,
+            },
+        )
+    }
+}
+
+impl<T> PlacesInheritance<T> {
+    ghost use Rattle.arc_memory.specs.Allocations.{IsPartOfLent};
+
     /// All the places as one, with the items of a part that begins where they do.
     pub fn regain_whole(self, ended: EndedLifetime, part: LentPlaces<T>) -> Places<T>
         requires ended { ended.lifetime ≡ self.memory.lifetime }
@@ -228,6 +289,18 @@ impl<T> PlacesInheritance<T> {
     {
         let (before, own, behind) = self.regain(ended, part);
         before.join(own).join(behind)
+    }
+
+    /// All the places as one, with the items of a frozen range that begins where they do.
+    pub fn regain_frozen_whole(self, ended: EndedLifetime, range: &FrozenPlaces<T>) -> Places<T>
+        requires ended { ended.lifetime ≡ self.memory.lifetime }
+        requires range { (range.now.memory ≡ self.memory) × (range.now.start ≡ self.start) }
+        ensures memory { IsPartOfLent self.memory result }
+        ensures places { (result.start ≡ self.start) × (result.count ≡ self.count)
+            × (result.items ≡ range.now.items) }
+    {
+        let (front, items, back) = self.regain_frozen(ended, range);
+        front.join(items).join(back)
     }
 }
 

@@ -8,6 +8,7 @@
 
 pub use allocation::{Allocation, put_together, take_apart};
 pub use base::Base;
+pub use frozen_places::FrozenPlaces;
 pub use lent_places::{LentPlaces, OpenPlaces, PlacesInheritance};
 pub use lifetime::{EndedLifetime, LifetimeToken};
 pub use lodging::Lodging;
@@ -17,6 +18,7 @@ pub use places::Places;
 mod allocation;
 mod base;
 mod emptied;
+mod frozen_places;
 mod lent_places;
 mod lifetime;
 mod lodging;

@@ -1,7 +1,7 @@
 //! A lifetime for which memory is lent.
 ghost use Rattle.std.specs.Prelude.{◌≡◌, ℕ, [], ◌∷◌};
 ghost use base.Fraction.{full_share, left, right};
-ghost use base.Fml.{Share, flft, fdead};
+ghost use base.Fml.{Share, flft, fdead, fshr_bor};
 ghost use base.SetCodes.{coded_share};
 
 use std::marker::{Model, PhantomData};
@@ -16,6 +16,8 @@ pub struct LifetimeToken {
 
 impl Model for LifetimeToken {
     ghost also_owns = { λ t. flft (t.lifetime ∷ []) t.share };
+
+    ghost also_shares = { λ t _ κ. fshr_bor κ (λ q. flft (t.lifetime ∷ []) q) };
 }
 
 /// That a lifetime has ended, for which what was lent comes back. It has no bytes.
@@ -96,5 +98,7 @@ impl EndedLifetime {
 }
 
 unsafe impl Send for LifetimeToken {}
+
+unsafe impl Sync for LifetimeToken {}
 
 unsafe impl Send for EndedLifetime {}

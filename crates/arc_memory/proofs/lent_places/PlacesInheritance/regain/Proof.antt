@@ -1,13 +1,13 @@
 -- `regain` takes each place back, of which a part's names say what lies in it. It touches no memory.
-use Rattle.std.proofs.Common.{◌≡◌, ℕ, ◌+◌, ◌-◌, ◌*◌, ◌≤◌, List, [], ◌∷◌, ◌++◌, length, take, refl, sym, ap, ◌∙◌, subst, arith, length-drop, length-take-le, drop-drop}
+use Rattle.std.proofs.Common.{◌≡◌, ℕ, ◌+◌, ◌-◌, ◌*◌, ◌≤◌, List, [], ◌∷◌, ◌++◌, length, refl, sym, ap, ◌∙◌, subst, arith, length-drop, drop-drop}
 use lib.ListN.{drop as drop_from}
 use mir.Syntax.{a_type}
-use mir.Val.{Val, vstruct, vcons, vnil, of_list}
+use mir.Val.{Val}
 use mir.MapTy.{inst_fn}
 use base.Logic.{SProp, ent, emp, id⊢}
-use base.Fml.{GName, ftrue, fsep, feq, fex, flft, fdead}
+use base.Fml.{GName, ftrue, fsep, flft, fdead}
 use prog.Wp.{WpFn}
-use types.Kit.{‵, raw, ◌⊛◌, later, ◌$◌, ◌∵◌, !, qed, by, move, keep, drop, split, fsplit, fsplit3, fjoin, fpick, fpack, feq_l, feq_i, suffices, use1, use2, await, rewrite}
+use types.Kit.{‵, raw, ◌⊛◌, later, ◌$◌, ◌∵◌, !, qed, by, move, keep, drop, split, split3, fsplit, fjoin, suffices, use1, use3, await, rewrite}
 use types.Run.{no_more, and_then, returns, enter}
 use types.ByLocal.{alloc_all, pass_all, free_all, look_at, get, sets}
 use types.Part.{agg}
@@ -15,7 +15,7 @@ use contract.Monad.{fact, fact_i}
 use contract.BorrowLft.{◌⊑◌}
 use contract.Running.{tables}
 use denote.Exit.{yes, no}
-use denote.RattleType.{RattleType, Valss, owns}
+use denote.RattleType.{RattleType, owns}
 use denote.Signature.{types_at, plain}
 use denote.Builtin.{unit}
 use denote.Steps.{nothing, heard}
@@ -25,14 +25,13 @@ use Rattle.core.proofs.alloc.Calls.{Goes-blank}
 use Rattle.std.proofs.raw_atomic.Walks.{proved_at}
 use Rattle.std_alloc.proofs.VecSteps.El.{El, R, el_x, sz, no_al}
 use Rattle.logbook.proofs.Fields.{token, token_told, ends}
-use Rattle.arc_memory.specs.LentMemory.{LentMemory, contents, borrowed, returning, names_from}
-use Rattle.arc_memory.proofs.Borrowed.{said, kept, Back, regains, agree}
-use Rattle.arc_memory.proofs.Contents.{length-contents}
-use Rattle.arc_memory.proofs.Cuts.{Side, further}
-use Rattle.arc_memory.proofs.Held.{Row, places_in}
+use Rattle.arc_memory.specs.LentMemory.{LentMemory, contents, says, borrowed, returning, names_from}
+use Rattle.arc_memory.proofs.Borrowed.{said, kept}
+use Rattle.arc_memory.proofs.Held.{Row}
 use Rattle.arc_memory.proofs.LentHeld.{there_out}
+use Rattle.arc_memory.proofs.Names.{says_agrees}
+use Rattle.arc_memory.proofs.Regained.{Before, Own, Behind, comes_back, runs, w, runs_in}
 use Rattle.arc_memory.proofs.Runs.{told}
-use Rattle.arc_memory.proofs.Spots.{Spot, spots, spots_as, spots_cut, spots_bare}
 use Rattle.arc_memory.specs.contracts.lifetime.EndedLifetime as EndedLifetime
 use Rattle.arc_memory.specs.contracts.lent_places.LentPlaces as LentPlaces
 use Rattle.arc_memory.specs.contracts.lent_places.PlacesInheritance as PlacesInheritance
@@ -50,17 +49,17 @@ regain_spec 𝓤 𝓛 𝓜 𝓡 wired T L =
     let κs = y.0.0 in let qs = y.0.1 in let vss = y.0.4 in let me : In.Denot = y.0.3.0 in let ended : Dead.Denot = y.0.3.1.0 in let part : Lt.Denot = y.0.3.1.1.0 in
     let m : LentMemory = me.memory in let xs : List (el_x E) = part.items in let ys = contents part.count xs in
     let Post : Val → SProp 𝓤 = (walk_of 𝓛 En hs c).post y in let Run : List Val → SProp 𝓤 = λ ws. WpFn 𝓤 H 𝓣.C 𝓣.Λ fn ws Post in
-    let Over : Type 0 = ended.lifetime ≡ m.lifetime in let Own : Type 0 = (part.memory ≡ m) × (me.start ≤ part.start) in
-    qed 𝓛 ((‵ (fsep (flft κs.0 qs.0) ftrue) ⊛ ‵ (owns (types_at En.signature.params κs) y.0.3 vss)) ∷ (raw (fact 𝓤 (κs.0 ⊑ T.lives)) ⊛ raw (fact 𝓤 Over) ⊛ raw (fact 𝓤 Own)) ∷ []) ∵
-    move ! (1 ∷ []) $ split ! $ drop ! $ split ! $ heard ! Over (λ over. heard ! Own (λ own. split ! $ move ! (1 ∷ []) $ fsplit ! $ fsplit ! $ drop ! $
+    let Over : Type 0 = ended.lifetime ≡ m.lifetime in let Within : Type 0 = (part.memory ≡ m) × (me.start ≤ part.start) in
+    qed 𝓛 ((‵ (fsep (flft κs.0 qs.0) ftrue) ⊛ ‵ (owns (types_at En.signature.params κs) y.0.3 vss)) ∷ (raw (fact 𝓤 (κs.0 ⊑ T.lives)) ⊛ raw (fact 𝓤 Over) ⊛ raw (fact 𝓤 Within)) ∷ []) ∵
+    move ! (1 ∷ []) $ split ! $ drop ! $ split ! $ heard ! Over (λ over. heard ! Within (λ own. split ! $ move ! (1 ∷ []) $ fsplit ! $ fsplit ! $ drop ! $
     there_out E ! m me.start (returning (R E) m.lifetime (names_from (R E) m me.start)) (λ b o at_b small. move ! (1 ∷ []) $ fsplit ! $ fsplit ! $ drop ! $ move ! (1 ∷ []) $ fsplit ! $ fsplit ! $ drop ! $
     there_out E ! part.memory part.start (borrowed (R E) part.memory.lifetime (names_from (R E) part.memory part.start) ys) (λ b₂ o₂ at_b₂ small₂.
     -- [the part's borrows; no more parameters; that the lifetime has ended; what comes back; the
     -- tokens]
-    let k : ℕ = part.start - me.start in let before : part.start ≡ me.start + k = omega (arith, own.1) in let gs : List GName = drop_from me.start m.names in
-    let behind : drop_from part.start part.memory.names ≡ drop_from k gs = ap (λ (i : LentMemory). drop_from part.start i.names) own.0 ∙ ap (λ (j : ℕ). drop_from j m.names) before ∙ sym (drop-drop k me.start m.names) in
+    let k : ℕ = part.start - me.start in let reach : part.start ≡ me.start + k = omega (arith, own.1) in let gs : List GName = drop_from me.start m.names in
+    let behind : drop_from part.start part.memory.names ≡ drop_from k gs = ap (λ (i : LentMemory). drop_from part.start i.names) own.0 ∙ ap (λ (j : ℕ). drop_from j m.names) reach ∙ sym (drop-drop k me.start m.names) in
     let same_many : length part.memory.names ≡ length m.names = ap (λ (i : LentMemory). length i.names) own.0 in let many : length gs ≡ me.count = omega (arith, length-drop me.start m.names, me.inside.0) in
-    let long : length ys ≡ part.count = length-contents part.count xs in let fits : k + part.count ≤ me.count = omega (arith, part.inside.0, same_many, me.inside.0, own.1) in
+    let n : ℕ = me.count - (k + part.count) in let all : k + part.count + n ≡ length gs = omega (arith, part.inside.0, same_many, many, me.inside.0, reach) in let fits : part.start + part.count + n ≤ m.whole = omega (arith, all, many, reach, me.inside.0, me.inside.1) in
     use1 𝓛 (‵ (said E 𝓛 b (drop_from part.start part.memory.names) ys)) (kept E 𝓛 b₂ part.memory.lifetime (drop_from part.start part.memory.names) ys (o₂ + part.start * s)) $
     rewrite ! 0 (λ (ks : List GName). ‵ (said E 𝓛 b ks ys)) behind refl $ move ! (1 ∷ []) $ drop ! $ move ! (1 ∷ []) $ rewrite ! 0 (λ (a : ℕ). ‵ (fdead (a ∷ []))) over refl $
     -- [that the lifetime has ended; what the part's names say; what comes back; the tokens]
@@ -68,30 +67,13 @@ regain_spec 𝓤 𝓛 𝓜 𝓡 wired T L =
     let ws : List Val = token ∷ token ∷ token ∷ [] in
     suffices ! (Run ws) (subst (λ (us : List Val). ent 𝓤 (Run ws) (Run us)) (sym (λ j. e₀ j ++ (e₁ j ++ (e₂ j ++ [])))) (id⊢ 𝓤 (Run ws))) $
     enter ! 𝓣.C 𝓣.Λ fn ws Post $ alloc_all ! (λ l. pass_all ! refl ((tt, (tt, tt)), ((tt, (tt, tt)), ((tt, (tt, tt)), tt))) $
-    let from : ℕ = o + me.start * s in let mid : ℕ = o + part.start * s in let end : ℕ = o + (part.start + part.count) * s in
-    move ! (0 ∷ 2 ∷ []) $ use2 𝓛 (later (‵ (fex (List (Spot E 𝓛 b)) (Back E 𝓛 b m.lifetime gs from)))) (regains E 𝓛 b m.lifetime gs from) $ await ! tt $ fpick ! (λ zs. fsplit3 ! $ feq_l ! (λ all.
-    let Same : Type 0 = take (length ys) (drop_from k zs) ≡ ys in
-    move ! (1 ∷ 2 ∷ []) $ use2 𝓛 (raw (fact 𝓤 Same)) (agree E 𝓛 b k gs zs ys all (omega (arith, many, long, fits))) $ heard ! Same (λ same.
-    -- [the places; the tokens]
-    let rest : List (Spot E 𝓛 b) = drop_from part.count (drop_from k zs) in let n : ℕ = me.count - (k + part.count) in
-    use1 𝓛 (‵ (spots E 𝓛 b (take k zs) from) ⊛ ‵ (spots E 𝓛 b (drop_from k zs) mid)) (spots_cut E 𝓛 b k from mid zs (sym (further o me.start k s) ∙ ap (λ (j : ℕ). o + j * s) (sym before))) $ split ! $
-    use1 𝓛 (‵ (Side E 𝓛 b from k [])) (spots_bare E 𝓛 b k from (take k zs) (length-take-le k zs (omega (arith, all, many, fits)))) $ move ! (1 ∷ []) $
-    use1 𝓛 (‵ (spots E 𝓛 b (take part.count (drop_from k zs)) mid) ⊛ ‵ (spots E 𝓛 b rest end)) (spots_cut E 𝓛 b part.count mid end (drop_from k zs) (sym (further o part.start part.count s))) $ split ! $
-    rewrite ! 0 (λ (us : List (Spot E 𝓛 b)). ‵ (spots E 𝓛 b us mid)) (ap (λ (j : ℕ). take j (drop_from k zs)) (sym long) ∙ same) refl $ use1 𝓛 (‵ (Side E 𝓛 b mid part.count xs)) (spots_as E 𝓛 b part.count mid xs part.inside.2) $ move ! (1 ∷ []) $
-    use1 𝓛 (‵ (Side E 𝓛 b end n [])) (spots_bare E 𝓛 b n end rest (omega (arith, length-drop part.count (drop_from k zs), length-drop k zs, all, many, fits))) $
-    -- [the places behind the part; those of the part; those before it; the tokens]
-    let low : part.start + part.count ≤ m.whole = omega (arith, fits, before, me.inside.0, me.inside.1) in let high : part.start + part.count + n ≤ m.whole = omega (arith, fits, before, me.inside.0, me.inside.1) in let none : 0 ≤ k = omega arith in let none₂ : 0 ≤ n = omega arith in
-    let first : Pl.Denot = record { marker = record {}; base = m.base; whole = m.whole; start = me.start; count = k; items = []; inside = (omega (arith, before, low), none, me.inside.2) } in
-    let second : Pl.Denot = record { marker = record {}; base = m.base; whole = m.whole; start = part.start; count = part.count; items = xs; inside = (low, part.inside.2, me.inside.2) } in
-    let third : Pl.Denot = record { marker = record {}; base = m.base; whole = m.whole; start = part.start + part.count; count = n; items = []; inside = (high, none₂, me.inside.2) } in
-    move ! (2 ∷ []) $ places_in E ! first b o at_b small $ move ! (2 ∷ []) $ places_in E ! second b o at_b small $ move ! (2 ∷ []) $ places_in E ! third b o at_b small $
+    use3 𝓛 (later (‵ (Before E 𝓛 b o me.start part.start part.count n xs) ⊛ ‵ (Own E 𝓛 b o me.start part.start part.count n xs) ⊛ ‵ (Behind E 𝓛 b o me.start part.start part.count n xs)))
+    (comes_back E 𝓛 b o me.start part.start part.count n xs m.lifetime gs (says (R E)) (says_agrees (R E) 𝓛) own.1 all part.inside.2) $ await ! tt $ split3 ! $ runs_in E m me.start part.start part.count n xs own.1 fits part.inside.2 me.inside.2 ! b o at_b small $
+    -- [the three runs; the tokens]
     sets ! (agg ! (no_more !)) refl (tt, tt) $ sets ! (agg ! (and_then ! (get ! refl) (no_more !))) refl (tt, (tt, tt)) $ sets ! (agg ! (no_more !)) refl (tt, tt) $ sets ! (agg ! (and_then ! (get ! refl) (no_more !))) refl (tt, (tt, tt)) $
     sets ! (agg ! (no_more !)) refl (tt, tt) $ sets ! (agg ! (and_then ! (get ! refl) (no_more !))) refl (tt, (tt, tt)) $
     sets ! (agg ! (and_then ! (get ! refl) (and_then ! (get ! refl) (and_then ! (get ! refl) (no_more !))))) refl (tt, ((tt, tt), ((tt, tt), ((tt, tt), tt)))) $
-    let w : Val = vstruct (vcons token (vcons token (vcons token vnil))) in let Rs : List RattleType = Pl ∷ Pl ∷ Pl ∷ [] in
-    nothing ! $ move ! (1 ∷ 0 ∷ []) $ fjoin ! $ move ! (1 ∷ 0 ∷ []) $ fjoin ! $ move ! (1 ∷ 0 ∷ []) $ fjoin ! $ feq_i ! (List Val) (w ∷ []) (w ∷ []) refl $ fjoin ! $
-    fpack ! (Valss Rs) (λ uss. fsep (feq (List Val) (w ∷ []) (vstruct (of_list (uss.0 ++ (uss.1.0 ++ (uss.1.1.0 ++ [])))) ∷ [])) (owns Rs (first, (second, (third, tt))) uss)) (token ∷ [], (token ∷ [], (token ∷ [], tt))) $
     nothing ! $ nothing ! $ fjoin ! $ nothing ! $ fjoin ! $ nothing ! $ fjoin ! $
     returns ! (look_at ! 0 refl) $ free_all ! refl $ keep ! (2 ∷ 0 ∷ 1 ∷ []) $
-    let sum : part.start + part.count + n ≡ me.start + me.count = omega (arith, fits, before) in
-    by ! (ends 𝓛 En hs c y w (first, second, third) (tt, (tt, (tt, tt))) (tt, (tt, (tt, tt))) (told 𝓤 ((refl, refl), (refl, refl), (refl, refl)) (told 𝓤 (refl, refl, refl) (told 𝓤 (refl, refl, refl) (fact_i 𝓤 _ (emp 𝓤) (refl, sum, refl)) 𝓛) 𝓛) 𝓛)))))))))))
+    let sum : part.start + part.count + n ≡ me.start + me.count = omega (arith, all, many, reach) in
+    by ! (ends 𝓛 En hs c y (w E m me.start part.start part.count n xs own.1 fits part.inside.2 me.inside.2) (runs E m me.start part.start part.count n xs own.1 fits part.inside.2 me.inside.2) (tt, (tt, (tt, tt))) (tt, (tt, (tt, tt))) (told 𝓤 ((refl, refl), (refl, refl), (refl, refl)) (told 𝓤 (refl, refl, refl) (told 𝓤 (refl, refl, refl) (fact_i 𝓤 _ (emp 𝓤) (refl, sum, refl)) 𝓛) 𝓛) 𝓛))))))))
