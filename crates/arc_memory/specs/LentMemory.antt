@@ -1,6 +1,7 @@
 -- Places that are lent for a lifetime. Each is borrowed by itself, under a ghost name that says
 -- what lies there, so a range of them is cut and put together with nothing opened.
-use Rattle.std.specs.Prelude.{refl, ℕ, zero, suc, ◌+◌, List, [], ◌∷◌, length, drop, Option, Some, None}
+use Rattle.std.specs.Prelude.{refl, ℕ, zero, suc, ◌+◌, List, [], ◌∷◌, length, drop}
+use Rattle.std.specs.Prelude.{Option, Some, None}
 use Rattle.std.specs.Coded.{Coded, code_by, coded×, coded_ℕ, coded_list, coded_option}
 use base.Share
 use base.Fraction.{full_share}

@@ -201,8 +201,9 @@ impl<T> OpenPlaces<T> {
 impl<T> PlacesInheritance<T> {
     ghost use Rattle.arc_memory.specs.Allocations.{IsPartOfLent};
 
-    /// The places, once the lifetime has ended: those before a part, which are empty, those of the
-    /// part, with its items, and those behind it, which are empty.
+    /// The places, once the lifetime has ended: those before a part, those of the part, with its
+    /// items, and those behind it. The others are answered as empty: what lies in them, of a part
+    /// that was neither joined nor given up, is forgotten.
     pub fn regain(
         self,
         ended: EndedLifetime,
@@ -240,8 +241,8 @@ impl<T> PlacesInheritance<T> {
 impl<T> PlacesInheritance<T> {
     ghost use Rattle.arc_memory.specs.Allocations.{IsPartOfLent};
 
-    /// The places, once the lifetime has ended: those before a frozen range, which are empty, those
-    /// of the range, with its items, and those behind it, which are empty.
+    /// The places, once the lifetime has ended: those before a frozen range, those of the range,
+    /// with its items, and those behind it. The others are answered as empty, as by `regain`.
     pub fn regain_frozen(
         self,
         ended: EndedLifetime,
