@@ -82,6 +82,3 @@ pub trait BufferMut<T>: Buffer<T> {
     ghost names_no_owner: { (b : Self) (additional : ℕ)
         → refuses b additional reserve.NotUnique → ⊥ };
 }
-
-#[cfg(test)]
-mod tests;

@@ -127,6 +127,3 @@ pub trait AnyItems: Slice {
 /// The Copy kinds, `Plain` and `ByteText`: a window may be made of a copy of any slice of the
 /// items.
 pub trait CopySlice: AnyItems {}
-
-#[cfg(test)]
-mod tests;

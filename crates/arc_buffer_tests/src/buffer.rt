@@ -1,7 +1,8 @@
 ghost use Rattle.std.specs.Prelude.{◌≡◌, ◌<◌, ◌+◌, ◌++◌, ◌∷◌, ℕ, [], length, OnOk, IfErr};
 ghost use Rattle.std.specs.Prelude.{slice_set};
 
-use super::*;
+use arc_buffer::buffer::{Buffer, BufferMut};
+use arc_owners::error::TryReserveError;
 use std::test::Fail;
 
 /// The buffer with an item in the place of the one at `i`: its other items and its places stay.

@@ -1,6 +1,8 @@
 ghost use Rattle.std.specs.Prelude.{◌≡◌};
 
-use super::*;
+use arc_buffer::kinds::{
+    ByteText, Extendable, Owned, Plain, Slice, Subsliceable, Text, VecIn, Wraps, Zeroable,
+};
 use bstr::BString;
 use std::alloc::{Allocator, Global};
 use std::boxed::{BoxedSlice, BoxedStr};
