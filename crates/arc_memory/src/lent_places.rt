@@ -144,8 +144,21 @@ impl<T> LentPlaces<T> {
         )
     }
 
-    /// The items of a full part, for all to read while the lifetime lasts. The share of it comes
-    /// back.
+    /// The items of a full part, for all to read while the lifetime lasts.
+    pub fn freeze_by(self, share: &LifetimeToken) -> FrozenPlaces<T>
+        requires full { length self.items ≡ self.count }
+        requires lifetime { share.now.lifetime ≡ self.memory.lifetime }
+        ensures { (result.memory ≡ self.memory) × (result.start ≡ self.start)
+            × (result.items ≡ self.items) }
+    {
+        let LentPlaces { marker: _ } = self;
+        let _ = share;
+        FrozenPlaces {
+            marker: PhantomData,
+        }
+    }
+
+    /// The same, by a share that comes back.
     pub fn freeze(self, share: LifetimeToken) -> (FrozenPlaces<T>, LifetimeToken)
         requires full { length self.items ≡ self.count }
         requires lifetime { share.lifetime ≡ self.memory.lifetime }
@@ -153,16 +166,8 @@ impl<T> LentPlaces<T> {
             × (result.0.items ≡ self.items) }
         ensures share { (result.1.lifetime ≡ share.lifetime) × (result.1.share ≡ share.share) }
     {
-        let LentPlaces { marker: _ } = self;
-        let LifetimeToken { marker: _ } = share;
-        (
-            FrozenPlaces {
-                marker: PhantomData,
-            },
-            LifetimeToken {
-                marker: PhantomData,
-            },
-        )
+        let range = self.freeze_by(&share);
+        (range, share)
     }
 
     /// Gives the part up: no item lies in it. Its memory comes back with the rest.

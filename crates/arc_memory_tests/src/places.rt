@@ -351,7 +351,7 @@ fn items_of_no_size_frozen_and_read(rt: HostRuntime) -> Result<(), Fail> {
     let (part, inheritance) = LentPlaces::lend(places, &lifetime);
     let (items, room) = part.split(3);
     room.give_up();
-    let (range, lifetime) = items.freeze(lifetime);
+    let range = items.freeze_by(&lifetime);
     assert!(rt; unsafe { range.as_slice(&lifetime, base, 1, 3) }.len() == 2);
     let middle = range.part(1, 2);
     assert!(rt; unsafe { middle.as_slice(&lifetime, base, 1, 2) }.len() == 1);
