@@ -144,8 +144,9 @@ impl<T> LentPlaces<T> {
         )
     }
 
-    /// The items of a full part, for all to read while the lifetime lasts.
-    pub fn freeze_by(self, share: &LifetimeToken) -> FrozenPlaces<T>
+    /// The items of a full part, for all to read while the lifetime lasts: nobody changes them
+    /// again.
+    pub fn freeze(self, share: &LifetimeToken) -> FrozenPlaces<T>
         requires full { length self.items ≡ self.count }
         requires lifetime { share.now.lifetime ≡ self.memory.lifetime }
         ensures { (result.memory ≡ self.memory) × (result.start ≡ self.start)
@@ -156,18 +157,6 @@ impl<T> LentPlaces<T> {
         FrozenPlaces {
             marker: PhantomData,
         }
-    }
-
-    /// The same, by a share that comes back.
-    pub fn freeze(self, share: LifetimeToken) -> (FrozenPlaces<T>, LifetimeToken)
-        requires full { length self.items ≡ self.count }
-        requires lifetime { share.lifetime ≡ self.memory.lifetime }
-        ensures frozen { (result.0.memory ≡ self.memory) × (result.0.start ≡ self.start)
-            × (result.0.items ≡ self.items) }
-        ensures share { (result.1.lifetime ≡ share.lifetime) × (result.1.share ≡ share.share) }
-    {
-        let range = self.freeze_by(&share);
-        (range, share)
     }
 
     /// Gives the part up: no item lies in it. Its memory comes back with the rest.

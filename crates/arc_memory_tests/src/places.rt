@@ -265,7 +265,7 @@ fn numbers_frozen_and_read(rt: HostRuntime) -> Result<(), Fail> {
     let (part, inheritance) = LentPlaces::lend(places, &lifetime);
     let (items, room) = part.split(3);
     room.give_up();
-    let (range, lifetime) = items.freeze(lifetime);
+    let range = items.freeze(&lifetime);
     assert!(rt; unsafe { range.as_slice(&lifetime, base, 0, 3) } == [1u64, 2, 3].as_slice());
     assert!(rt; unsafe { range.as_slice(&lifetime, base, 1, 2) } == [2u64].as_slice());
     assert!(rt; unsafe { range.as_slice(&lifetime, base, 3, 3) }.len() == 0);
@@ -295,7 +295,7 @@ fn owned_items_frozen_and_regained(rt: HostRuntime) -> Result<(), Fail> {
     front.give_up();
     let (items, room) = back.split(1);
     room.give_up();
-    let (range, lifetime) = items.freeze(lifetime);
+    let range = items.freeze(&lifetime);
     assert!(rt; *unsafe { range.as_slice(&lifetime, base, 1, 2) }[0] == 8);
     let (before, own, behind) = inheritance.regain_frozen(lifetime.end(), &range);
     let (mut lodger, under) = unsafe { Lodging::house(before, base, 0, 0, 1) };
@@ -321,7 +321,7 @@ fn two_readers_beside_a_writer(rt: HostRuntime) -> Result<(), Fail> {
     let lifetime = LifetimeToken::new();
     let (part, inheritance) = LentPlaces::lend(places, &lifetime);
     let (front, back) = part.split(2);
-    let (range, lifetime) = front.freeze(lifetime);
+    let range = front.freeze(&lifetime);
     let other = range.again();
     let last = other.part(1, 2);
     let (share, rest) = lifetime.split();
@@ -351,7 +351,7 @@ fn items_of_no_size_frozen_and_read(rt: HostRuntime) -> Result<(), Fail> {
     let (part, inheritance) = LentPlaces::lend(places, &lifetime);
     let (items, room) = part.split(3);
     room.give_up();
-    let range = items.freeze_by(&lifetime);
+    let range = items.freeze(&lifetime);
     assert!(rt; unsafe { range.as_slice(&lifetime, base, 1, 3) }.len() == 2);
     let middle = range.part(1, 2);
     assert!(rt; unsafe { middle.as_slice(&lifetime, base, 1, 2) }.len() == 1);
@@ -366,7 +366,7 @@ fn frozen_range_crosses_threads(rt: HostRuntime) -> Result<(), Fail> {
     let (_base, allocation, places) = take_apart(Vec::<u64, _>::new(rt.alloc()));
     let lifetime = LifetimeToken::new();
     let (part, inheritance) = LentPlaces::lend(places, &lifetime);
-    let (range, lifetime) = part.freeze(lifetime);
+    let range = part.freeze(&lifetime);
     crosses(&range);
     crosses(&lifetime);
     let places = inheritance.regain_frozen_whole(lifetime.end(), &range);

@@ -1,4 +1,4 @@
--- `freeze_by` shares the item of each place, by a share of the lifetime that is borrowed and a token
+-- `freeze` shares the item of each place, by a share of the lifetime that is borrowed and a token
 -- of the items' own lifetimes, and settles its name. It touches no memory.
 use Rattle.std.proofs.Common.{◌≡◌, ℕ, ◌+◌, ◌*◌, ◌≤◌, List, [], ◌∷◌, ◌++◌, length, refl, sym, subst, arith}
 use lib.ListN.{drop as drop_from}
@@ -39,12 +39,12 @@ use Rattle.arc_memory.proofs.LentHeld.{there_out, there_in, marked}
 use Rattle.arc_memory.specs.contracts.frozen_places.FrozenPlaces as FrozenPlaces
 use Rattle.arc_memory.specs.contracts.lifetime.LifetimeToken as LifetimeToken
 use Rattle.arc_memory.specs.contracts.lent_places.LentPlaces as LentPlaces
-use Rattle.arc_memory.specs.contracts.lent_places.LentPlaces.freeze_by as f
-use Rattle.arc_memory.proofs.lent_places.LentPlaces.freeze_by.Statement.{statement}
-use Rattle.arc_memory.proofs.lent_places.LentPlaces.freeze_by.Code as code
+use Rattle.arc_memory.specs.contracts.lent_places.LentPlaces.freeze as f
+use Rattle.arc_memory.proofs.lent_places.LentPlaces.freeze.Statement.{statement}
+use Rattle.arc_memory.proofs.lent_places.LentPlaces.freeze.Code as code
 
-pub freeze_by_spec : {M : Type 1} → statement M
-freeze_by_spec 𝓤 𝓛 𝓜 𝓡 wired T L =
+pub freeze_spec : {M : Type 1} → statement M
+freeze_spec 𝓤 𝓛 𝓜 𝓡 wired T L =
     let H = 𝓛.H in let 𝓣 = tables 𝓤 H 𝓜 𝓡 𝓡.env in let E : El = record { row = T; laws = L; al = no_al } in let s = sz E in
     let En = f.ended T in let c = f.clauses T 𝓛 𝓜.mem 𝓡.returns in let inst = layouts (a_type ∷ []) (T, tt) in let fn = inst_fn inst code.function in
     let Tok : RattleType = LifetimeToken.the_row in let Lt : RattleType = LentPlaces.the_row (R E) in let Fr : RattleType = FrozenPlaces.the_row (R E) in
