@@ -144,25 +144,19 @@ impl<T> LentPlaces<T> {
         )
     }
 
-    /// The items of a full part, for all to read while the lifetime lasts. The share of it comes
-    /// back.
-    pub fn freeze(self, share: LifetimeToken) -> (FrozenPlaces<T>, LifetimeToken)
+    /// The items of a full part, for all to read while the lifetime lasts: nobody changes them
+    /// again.
+    pub fn freeze(self, share: &LifetimeToken) -> FrozenPlaces<T>
         requires full { length self.items ≡ self.count }
-        requires lifetime { share.lifetime ≡ self.memory.lifetime }
-        ensures frozen { (result.0.memory ≡ self.memory) × (result.0.start ≡ self.start)
-            × (result.0.items ≡ self.items) }
-        ensures share { (result.1.lifetime ≡ share.lifetime) × (result.1.share ≡ share.share) }
+        requires lifetime { share.now.lifetime ≡ self.memory.lifetime }
+        ensures { (result.memory ≡ self.memory) × (result.start ≡ self.start)
+            × (result.items ≡ self.items) }
     {
         let LentPlaces { marker: _ } = self;
-        let LifetimeToken { marker: _ } = share;
-        (
-            FrozenPlaces {
-                marker: PhantomData,
-            },
-            LifetimeToken {
-                marker: PhantomData,
-            },
-        )
+        let _ = share;
+        FrozenPlaces {
+            marker: PhantomData,
+        }
     }
 
     /// Gives the part up: no item lies in it. Its memory comes back with the rest.

@@ -1,4 +1,5 @@
-//! Memory: taken apart and put together, cut and joined, edited by a lodging vector, and lent.
+//! Memory: taken apart and put together, cut and joined, edited by a lodging vector, lent, and
+//! frozen.
 ghost use Rattle.std.specs.Prelude.{◌≡◌};
 
 use arc_memory::{Allocation, LentPlaces, LifetimeToken, Lodging, put_together, take_apart};
@@ -250,6 +251,125 @@ fn parts_go_to_other_threads(rt: HostRuntime) -> Result<(), Fail> {
     let (room, left) = moves(part).open(lifetime);
     let (part, lifetime) = moves(left).close(room);
     let places = moves(inheritance).regain_whole(moves(lifetime.end()), part);
+    drop(put_together(allocation, places));
+    Ok(())
+}
+
+/// Read from the first place on, in the middle, and behind the last item.
+#[test]
+fn numbers_frozen_and_read(rt: HostRuntime) -> Result<(), Fail> {
+    let heap = LocalHeap::new(rt.alloc(), 1024)?;
+    let numbers = Vec::from_slice(&heap, &[1u64, 2, 3])?;
+    let (base, allocation, places) = take_apart(numbers);
+    let lifetime = LifetimeToken::new();
+    let (part, inheritance) = LentPlaces::lend(places, &lifetime);
+    let (items, room) = part.split(3);
+    room.give_up();
+    let range = items.freeze(&lifetime);
+    assert!(rt; unsafe { range.as_slice(&lifetime, base, 0, 3) } == [1u64, 2, 3].as_slice());
+    assert!(rt; unsafe { range.as_slice(&lifetime, base, 1, 2) } == [2u64].as_slice());
+    assert!(rt; unsafe { range.as_slice(&lifetime, base, 3, 3) }.len() == 0);
+    let places = inheritance.regain_frozen_whole(lifetime.end(), &range);
+    let numbers = put_together(allocation, places);
+    assert!(rt; numbers.as_slice() == [1u64, 2, 3].as_slice());
+    drop(numbers);
+    assert!(rt; heap.used() == 0);
+    Ok(())
+}
+
+/// The range comes back with its items, and the empty places on both sides of it.
+#[test]
+fn owned_items_frozen_and_regained(rt: HostRuntime) -> Result<(), Fail> {
+    let heap = LocalHeap::new(rt.alloc(), 1024)?;
+    let mut boxes = Vec::with_capacity(&heap, 4)?;
+    boxes.push_reserved(Box::new(&heap, 7u8)?);
+    boxes.push_reserved(Box::new(&heap, 8u8)?);
+    let (base, allocation, places) = take_apart(boxes);
+    let lifetime = LifetimeToken::new();
+    let (part, inheritance) = LentPlaces::lend(places, &lifetime);
+    let (front, back) = part.split(1);
+    let (room, left) = front.open(lifetime);
+    let (mut lodger, under) = unsafe { Lodging::house(room, base, 0, 1, 1) };
+    let first = lodger.take_last();
+    let (front, lifetime) = left.close(under.vacate(lodger));
+    front.give_up();
+    let (items, room) = back.split(1);
+    room.give_up();
+    let range = items.freeze(&lifetime);
+    assert!(rt; *unsafe { range.as_slice(&lifetime, base, 1, 2) }[0] == 8);
+    let (before, own, behind) = inheritance.regain_frozen(lifetime.end(), &range);
+    let (mut lodger, under) = unsafe { Lodging::house(before, base, 0, 0, 1) };
+    lodger.push_reserved(first);
+    let places = under.vacate(lodger).join(own).join(behind);
+    let mut boxes = put_together(allocation, places);
+    boxes.push(Box::new(&heap, 9u8)?)?;
+    assert!(rt; (*boxes[0], *boxes[1], *boxes[2]) == (7, 8, 9));
+    assert!(rt; (boxes.len(), boxes.capacity()) == (3, 4));
+    drop(boxes);
+    assert!(rt; heap.used() == 0);
+    Ok(())
+}
+
+/// Two readers have the same range, and one a part of it, while a writer's part behind is out.
+#[test]
+fn two_readers_beside_a_writer(rt: HostRuntime) -> Result<(), Fail> {
+    let heap = LocalHeap::new(rt.alloc(), 1024)?;
+    let mut numbers = Vec::with_capacity(&heap, 3)?;
+    numbers.push_reserved(1u64);
+    numbers.push_reserved(2);
+    let (base, allocation, places) = take_apart(numbers);
+    let lifetime = LifetimeToken::new();
+    let (part, inheritance) = LentPlaces::lend(places, &lifetime);
+    let (front, back) = part.split(2);
+    let range = front.freeze(&lifetime);
+    let other = range.again();
+    let last = other.part(1, 2);
+    let (share, rest) = lifetime.split();
+    let (room, left) = back.open(rest);
+    let (mut lodger, under) = unsafe { Lodging::house(room, base, 2, 0, 1) };
+    lodger.push_reserved(9);
+    assert!(rt; unsafe { range.as_slice(&share, base, 0, 2) } == [1u64, 2].as_slice());
+    assert!(rt; unsafe { other.as_slice(&share, base, 0, 2) } == [1u64, 2].as_slice());
+    assert!(rt; unsafe { last.as_slice(&share, base, 1, 2) } == [2u64].as_slice());
+    assert!(rt; lodger.take_last() == 9);
+    let (back, rest) = left.close(under.vacate(lodger));
+    back.give_up();
+    let lifetime = share.join(rest);
+    drop(range);
+    let places = inheritance.regain_frozen_whole(lifetime.end(), &other);
+    drop(put_together(allocation, places));
+    assert!(rt; heap.used() == 0);
+    Ok(())
+}
+
+#[test]
+fn items_of_no_size_frozen_and_read(rt: HostRuntime) -> Result<(), Fail> {
+    let heap = LocalHeap::new(rt.alloc(), 1024)?;
+    let nothings = Vec::from_slice(&heap, &[Nothing; 3])?;
+    let (base, allocation, places) = take_apart(nothings);
+    let lifetime = LifetimeToken::new();
+    let (part, inheritance) = LentPlaces::lend(places, &lifetime);
+    let (items, room) = part.split(3);
+    room.give_up();
+    let range = items.freeze(&lifetime);
+    assert!(rt; unsafe { range.as_slice(&lifetime, base, 1, 3) }.len() == 2);
+    let middle = range.part(1, 2);
+    assert!(rt; unsafe { middle.as_slice(&lifetime, base, 1, 2) }.len() == 1);
+    let places = inheritance.regain_frozen_whole(lifetime.end(), &range);
+    drop(put_together(allocation, places));
+    assert!(rt; heap.used() == 0);
+    Ok(())
+}
+
+#[test]
+fn frozen_range_crosses_threads(rt: HostRuntime) -> Result<(), Fail> {
+    let (_base, allocation, places) = take_apart(Vec::<u64, _>::new(rt.alloc()));
+    let lifetime = LifetimeToken::new();
+    let (part, inheritance) = LentPlaces::lend(places, &lifetime);
+    let range = part.freeze(&lifetime);
+    crosses(&range);
+    crosses(&lifetime);
+    let places = inheritance.regain_frozen_whole(lifetime.end(), &range);
     drop(put_together(allocation, places));
     Ok(())
 }

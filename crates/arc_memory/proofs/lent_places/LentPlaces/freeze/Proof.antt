@@ -1,14 +1,18 @@
--- `freeze` shares the item of each place, by a share of the lifetime and a token of the items' own
--- lifetimes, and settles its name. It touches no memory.
+-- `freeze` shares the item of each place, by a share of the lifetime that is borrowed and a token
+-- of the items' own lifetimes, and settles its name. It touches no memory.
 use Rattle.std.proofs.Common.{◌≡◌, ℕ, ◌+◌, ◌*◌, ◌≤◌, List, [], ◌∷◌, ◌++◌, length, refl, sym, subst, arith}
 use lib.ListN.{drop as drop_from}
-use mir.Val.{Val, vstruct, vcons, vnil, of_list}
+use mir.Val.{Val, vptr}
 use base.Logic.{SProp, ent, emp, id⊢}
-use base.Fml.{GName, Lft, Share, ftrue, fsep, feq, flft}
-use types.Kit.{‵, raw, ◌⊛◌, later, ◌$◌, ◌∵◌, !, qed, by, move, keep, drop, split, split3, fsplit, fjoin, fpack, feq_i, suffices, use3, await, rewrite}
+use base.Fml.{GName, Lft, Share, ftrue, fsep, flft, fhide, fshr_bor}
+use types.Kit.{‵, raw, ◌⊛◌, later, ◌$◌, ◌∵◌, !, qed, by, move, keep, drop, split, split3, fsplit, fjoin, feq_l, suffices, use1, use3, await, rewrite}
+use types.Tokens.{shr_bor-open, obor_close}
+use types.Within.{tokens_halve}
 use types.Run.{no_more, and_then, returns, enter}
 use contract.Monad.{fact, fact_i}
-use denote.Builtin.{unit}
+use denote.Builtin.{RefOf, unit}
+use denote.Memory.{hidden_shr}
+use denote.Opens.{unhide}
 use denote.Exit.{yes, no}
 use denote.Steps.{nothing, heard}
 use mir.Syntax.{a_type}
@@ -18,19 +22,20 @@ use types.ByLocal.{alloc_all, pass_all, free_all, look_at, get, sets}
 use types.Part.{agg}
 use contract.BorrowLft.{◌⊑◌}
 use contract.Running.{tables}
-use denote.RattleType.{RattleType, Valss, owns}
+use denote.RattleType.{RattleType, owns}
 use denote.Signature.{types_at, plain}
 use denote.Param.{layouts}
-use denote.Triple.Walked.{Stays, stay_dropped, walk_of}
+use denote.Struct.Lending.{lent_out}
+use denote.Triple.Walked.{Stays, stay_dropped, walk_of, Goes-dropped}
+use Rattle.core.specs.contracts.marker.PhantomData as marker
 use Rattle.core.proofs.alloc.Calls.{Goes-blank}
 use Rattle.std.proofs.raw_atomic.Walks.{proved_at}
 use Rattle.std_alloc.proofs.VecSteps.El.{El, R, el_x, sz, no_al}
-use Rattle.logbook.proofs.Fields.{token, token_told, ends}
+use Rattle.logbook.proofs.Fields.{token, Token, token_told, ends}
 use Rattle.arc_memory.specs.LentMemory.{LentMemory, contents, borrowed, frozen, names_from}
 use Rattle.arc_memory.proofs.Borrowed.{Borrows}
 use Rattle.arc_memory.proofs.Frozen.{freezes}
 use Rattle.arc_memory.proofs.LentHeld.{there_out, there_in, marked}
-use Rattle.arc_memory.proofs.Runs.{told}
 use Rattle.arc_memory.specs.contracts.frozen_places.FrozenPlaces as FrozenPlaces
 use Rattle.arc_memory.specs.contracts.lifetime.LifetimeToken as LifetimeToken
 use Rattle.arc_memory.specs.contracts.lent_places.LentPlaces as LentPlaces
@@ -43,32 +48,34 @@ freeze_spec 𝓤 𝓛 𝓜 𝓡 wired T L =
     let H = 𝓛.H in let 𝓣 = tables 𝓤 H 𝓜 𝓡 𝓡.env in let E : El = record { row = T; laws = L; al = no_al } in let s = sz E in
     let En = f.ended T in let c = f.clauses T 𝓛 𝓜.mem 𝓡.returns in let inst = layouts (a_type ∷ []) (T, tt) in let fn = inst_fn inst code.function in
     let Tok : RattleType = LifetimeToken.the_row in let Lt : RattleType = LentPlaces.the_row (R E) in let Fr : RattleType = FrozenPlaces.the_row (R E) in
-    let hs : Stays En.signature.params En.kept = (stay_dropped (plain (λ _. Lt)) no, (stay_dropped (plain (λ _. Tok)) yes, tt)) in
-    proved_at 𝓛 En hs c 𝓜 𝓡 (Goes-blank 𝓛 1 (plain (λ _. Lt)) no (λ κs x w. tt), (Goes-blank 𝓛 1 (plain (λ _. Tok)) yes (λ κs x w. tt), tt)) (f.Key.name inst) fn (code.unfolded 𝓤 H 𝓜 𝓡 wired (T, tt)) (λ y are.
-    let κs = y.0.0 in let qs = y.0.1 in let me : Lt.Denot = y.0.3.0 in let stake : Tok.Denot = y.0.3.1.0 in let vss = y.0.4 in let m : LentMemory = me.memory in let a : ℕ = m.lifetime in let q : Share = stake.share in let τ : Lft = κs.0 in let p : Share = qs.0 in
+    let hs : Stays En.signature.params En.kept = (stay_dropped (plain (λ _. Lt)) no, (stay_dropped (RefOf (0 ∷ []) tt (plain (λ _. Tok)) (λ _. tt)) yes, tt)) in
+    proved_at 𝓛 En hs c 𝓜 𝓡 (Goes-blank 𝓛 2 (plain (λ _. Lt)) no (λ κs x w. tt), (Goes-dropped 𝓛 2 (RefOf (0 ∷ []) tt (plain (λ _. Tok)) (λ _. tt)) yes (λ κs x w. refl), tt)) (f.Key.name inst) fn (code.unfolded 𝓤 H 𝓜 𝓡 wired (T, tt)) (λ y are.
+    let κs = y.0.0 in let qs = y.0.1 in let me : Lt.Denot = y.0.3.0 in let by_token : Tok.Denot = y.0.3.1.0.now in let b₁ = y.0.3.1.0.ref_ptr.0 in let o₁ = y.0.3.1.0.ref_ptr.1 in let vss = y.0.4 in
+    let m : LentMemory = me.memory in let a : ℕ = m.lifetime in let α : Lft = a ∷ [] in let κ : Lft = κs.0 in let τ : Lft = κs.1.0 in let p : Share = qs.1.0 in
     let xs : List (el_x E) = me.items in let Post : Val → SProp 𝓤 = (walk_of 𝓛 En hs c).post y in let Run : List Val → SProp 𝓤 = λ ws. WpFn 𝓤 H 𝓣.C 𝓣.Λ fn ws Post in
-    let Full : Type 0 = length xs ≡ me.count in let Lasting : Type 0 = stake.lifetime ≡ a in
-    qed 𝓛 ((‵ (fsep (flft τ p) ftrue) ⊛ ‵ (owns (types_at En.signature.params κs) y.0.3 vss)) ∷ (raw (fact 𝓤 (τ ⊑ T.lives)) ⊛ raw (fact 𝓤 Full) ⊛ raw (fact 𝓤 Lasting)) ∷ []) ∵
-    move ! (1 ∷ []) $ split ! $ heard ! (τ ⊑ T.lives) (λ inc. split ! $ heard ! Full (λ full. heard ! Lasting (λ lasting. split ! $ fsplit ! $ move ! (2 ∷ []) $ fsplit ! $ move ! (1 ∷ []) $ fsplit ! $ fsplit ! $ drop ! $
-    rewrite ! 0 (λ (k : ℕ). ‵ (flft (k ∷ []) q)) lasting refl $ move ! (2 ∷ []) $ fsplit ! $ drop ! $
-    there_out E ! m me.start (borrowed (R E) a (names_from (R E) m me.start) (contents me.count xs)) (λ b o at_b small.
-    -- [the borrows; the share; no more parameters; the token of T; no more tokens]
+    let Full : Type 0 = length xs ≡ me.count in let Lasting : Type 0 = by_token.lifetime ≡ a in
+    qed 𝓛 ((‵ (fsep (flft κ qs.0) (fsep (flft τ p) ftrue)) ⊛ ‵ (owns (types_at En.signature.params κs) y.0.3 vss)) ∷ (raw (fact 𝓤 (τ ⊑ T.lives)) ⊛ raw (fact 𝓤 Full) ⊛ raw (fact 𝓤 Lasting)) ∷ []) ∵
+    move ! (1 ∷ []) $ split ! $ heard ! (τ ⊑ T.lives) (λ inc. split ! $ heard ! Full (λ full. heard ! Lasting (λ lasting. split ! $ fsplit ! $ move ! (1 ∷ []) $ fsplit ! $ move ! (3 ∷ []) $ fsplit ! $ fsplit ! $ drop ! $
+    there_out E ! m me.start (borrowed (R E) a (names_from (R E) m me.start) (contents me.count xs)) (λ b o at_b small. move ! (1 ∷ []) $ fsplit ! $ fsplit ! $ feq_l ! (λ e₁.
+    use1 𝓛 (‵ (hidden_shr (Token unit) κ (by_token.marker, tt) b₁ o₁) ⊛ ‵ (fhide (fshr_bor κ (λ q. flft (by_token.lifetime ∷ []) q))))
+    (lent_out 𝓛 LifetimeToken.struct (LifetimeToken.the_codes (marker.the_row unit).coded) LifetimeToken.the_heap LifetimeToken.the_lent κ by_token b₁ o₁) $ split ! $ drop ! $ unhide ! $
+    -- [what is lent of the share; no more parameters; the borrows; the token of T; no more tokens;
+    -- the token of the borrow]
     let gs : List GName = drop_from me.start m.names in let from : ℕ = o + me.start * s in
-    rewrite ! 0 (λ (n : ℕ). ‵ (Borrows E 𝓛 b a gs (contents n xs) from)) (sym full) refl $
-    let e₀ : vss.0 ≡ token ∷ [] = token_told (R E) vss.0 are.0.0 in let e₁ : vss.1.0 ≡ token ∷ [] = token_told unit vss.1.0 are.1.0.0 in let ws : List Val = token ∷ token ∷ [] in
+    rewrite ! 0 (λ (k : ℕ). ‵ (fshr_bor κ (λ q. flft (k ∷ []) q))) lasting refl $ rewrite ! 2 (λ (n : ℕ). ‵ (Borrows E 𝓛 b a gs (contents n xs) from)) (sym full) refl $
+    let e₀ : vss.0 ≡ token ∷ [] = token_told (R E) vss.0 are.0.0 in let ws : List Val = token ∷ vptr b₁ o₁ ∷ [] in
     suffices ! (Run ws) (subst (λ (us : List Val). ent 𝓤 (Run ws) (Run us)) (sym (λ j. e₀ j ++ (e₁ j ++ []))) (id⊢ 𝓤 (Run ws))) $
-    enter ! 𝓣.C 𝓣.Λ fn ws Post $ alloc_all ! (λ l. pass_all ! refl ((tt, (tt, tt)), ((tt, (tt, tt)), tt)) $
-    move ! (0 ∷ 1 ∷ 3 ∷ []) $ use3 𝓛 (later (‵ (frozen (R E) a gs xs b from) ⊛ ‵ (flft (a ∷ []) q) ⊛ ‵ (flft τ p))) (freezes E 𝓛 b a q τ p inc gs xs from) $ await ! tt $ split3 ! $
+    enter ! 𝓣.C 𝓣.Λ fn ws Post $ alloc_all ! (λ l. pass_all ! refl ((tt, (tt, tt)), ((tt, tt), tt)) $
+    move ! (0 ∷ 5 ∷ []) $ shr_bor-open ! tt (tokens_halve 𝓛 α) (λ q.
+    -- [the open borrow of the share; the share; no more parameters; the borrows; the token of T; no
+    -- more tokens]
+    move ! (3 ∷ 1 ∷ 4 ∷ []) $ use3 𝓛 (later (‵ (frozen (R E) a gs xs b from) ⊛ ‵ (flft α q) ⊛ ‵ (flft τ p))) (freezes E 𝓛 b a q τ p inc gs xs from) $ await ! tt $ split3 ! $
+    move ! (3 ∷ 1 ∷ []) $ obor_close ! tt $ drop ! $ move ! (1 ∷ []) $
     let low : me.start + length xs ≤ length m.names = omega (arith, full, me.inside.0) in
     let range : Fr.Denot = record { marker = record {}; memory = m; start = me.start; items = xs; inside = (low, me.inside.1, me.inside.3) } in
-    let back : Tok.Denot = record { marker = record {}; lifetime = a; share = q } in
-    there_in E ! m me.start (frozen (R E) a gs xs) b o at_b small $ marked (R E) ! $ move ! (1 ∷ []) $ marked unit ! $
-    -- [the share; the range; the token of T; no more parameters; no more tokens]
-    sets ! (agg ! (no_more !)) refl (tt, tt) $ sets ! (agg ! (and_then ! (get ! refl) (no_more !))) refl (tt, (tt, tt)) $ sets ! (agg ! (no_more !)) refl (tt, tt) $ sets ! (agg ! (and_then ! (get ! refl) (no_more !))) refl (tt, (tt, tt)) $
-    sets ! (agg ! (and_then ! (get ! refl) (and_then ! (get ! refl) (no_more !)))) refl (tt, ((tt, tt), ((tt, tt), tt))) $
-    let w : Val = vstruct (vcons token (vcons token vnil)) in let Rs : List RattleType = Fr ∷ Tok ∷ [] in
-    nothing ! $ move ! (1 ∷ 0 ∷ []) $ fjoin ! $ move ! (1 ∷ 0 ∷ []) $ fjoin ! $ feq_i ! (List Val) (w ∷ []) (w ∷ []) refl $ fjoin ! $
-    fpack ! (Valss Rs) (λ uss. fsep (feq (List Val) (w ∷ []) (vstruct (of_list (uss.0 ++ (uss.1.0 ++ []))) ∷ [])) (owns Rs (range, (back, tt)) uss)) (token ∷ [], (token ∷ [], tt)) $
-    move ! (1 ∷ 3 ∷ []) $ fjoin ! $ nothing ! $ nothing ! $ fjoin ! $ nothing ! $ fjoin ! $
+    there_in E ! m me.start (frozen (R E) a gs xs) b o at_b small $ marked (R E) ! $
+    -- [the range; the token of the borrow; the token of T; no more parameters; no more tokens]
+    sets ! (agg ! (no_more !)) refl (tt, tt) $ sets ! (agg ! (and_then ! (get ! refl) (no_more !))) refl (tt, (tt, tt)) $
+    move ! (2 ∷ 3 ∷ []) $ fjoin ! $ move ! (2 ∷ 0 ∷ []) $ fjoin ! $ nothing ! $ nothing ! $ fjoin ! $ nothing ! $ fjoin ! $
     returns ! (look_at ! 0 refl) $ free_all ! refl $ keep ! (1 ∷ 0 ∷ 2 ∷ []) $
-    by ! (ends 𝓛 En hs c y w (range, back) (tt, (tt, tt)) (tt, (tt, tt)) (told 𝓤 (refl, refl, refl) (fact_i 𝓤 _ (emp 𝓤) (sym lasting, refl)) 𝓛))))))))
+    by ! (ends 𝓛 En hs c y token range (tt, (tt, tt)) (tt, (tt, tt)) (fact_i 𝓤 _ (emp 𝓤) (refl, refl, refl)))))))))))
