@@ -144,29 +144,12 @@ fn with_event(
     }
 }
 
-fn assert_same<A: Allocator, B: Allocator>(
-    rt: &impl Abort,
-    found: &World<A>,
-    wanted: &World<B>,
-    event: Event,
-) {
-    assert_eq!(rt; found.counted, wanted.counted, "at {event:?}");
-    assert_eq!(rt; found.count, wanted.count, "at {event:?}");
-    assert_eq!(rt;
-        found.live.as_slice(),
-        wanted.live.as_slice(),
-        "at {event:?}"
-    );
-    assert_eq!(rt;
-        found.ready.as_slice(),
-        wanted.ready.as_slice(),
-        "at {event:?}"
-    );
-    assert_eq!(rt;
-        found.entries.as_slice(),
-        wanted.entries.as_slice(),
-        "at {event:?}"
-    );
+fn is_same<A: Allocator, B: Allocator>(found: &World<A>, wanted: &World<B>) -> bool {
+    found.counted == wanted.counted
+        && found.count == wanted.count
+        && found.live.as_slice() == wanted.live.as_slice()
+        && found.ready.as_slice() == wanted.ready.as_slice()
+        && found.entries.as_slice() == wanted.entries.as_slice()
 }
 
 #[test]
@@ -227,7 +210,7 @@ fn nothing_changes_on_a_count(rt: HostRuntime) -> Result<(), Fail> {
         },
     ] {
         let found = with_event(rt.alloc(), true, &COUNTED_RUN, event)?;
-        assert_same(&rt, &found, &wanted, event);
+        assert!(rt; is_same(&found, &wanted), "at {event:?}");
     }
     Ok(())
 }
@@ -242,7 +225,7 @@ fn nothing_changes_at_the_greatest_count(rt: HostRuntime) -> Result<(), Fail> {
         new: 3,
     };
     let found = with_event(rt.alloc(), false, &PROMOTION, event)?;
-    assert_same(&rt, &found, &wanted, event);
+    assert!(rt; is_same(&found, &wanted));
     Ok(())
 }
 
@@ -283,9 +266,24 @@ fn nothing_changes_on_a_lone_word(rt: HostRuntime) -> Result<(), Fail> {
         },
     ] {
         let found = with_event(rt.alloc(), false, &events, event)?;
-        assert_same(&rt, &found, &wanted, event);
+        assert!(rt; is_same(&found, &wanted), "at {event:?}");
     }
     Ok(())
+}
+
+/// Whether a heap of so many bytes is refused the run. Where it isn't, the run is as it is wanted.
+fn is_refused(
+    rt: &impl Abort,
+    alloc: Global,
+    bytes: usize,
+    wanted: &World,
+) -> Result<bool, AllocError> {
+    let heap = LocalHeap::new(alloc, bytes)?;
+    let run = replay_lone::<3, _>(&heap, &PROMOTION);
+    if let Ok(found) = &run {
+        assert!(rt; is_same(found, wanted), "in {bytes} bytes");
+    }
+    Ok(run.is_err())
 }
 
 /// A heap of its own, larger each time: a run that the heap has no room for is refused, and one
@@ -295,24 +293,8 @@ fn memory_refused(rt: HostRuntime) -> Result<(), Fail> {
     let wanted = replay_lone::<3, _>(rt.alloc(), &PROMOTION)?;
     let mut refused = 0u64;
     for blocks in 2..64usize {
-        let heap = LocalHeap::new(rt.alloc(), blocks * 16)?;
-        match replay_lone::<3, _>(&heap, &PROMOTION) {
-            Ok(found) => {
-                assert_eq!(rt;
-                    found.live.as_slice(),
-                    wanted.live.as_slice(),
-                    "in {blocks} blocks"
-                );
-                assert_eq!(rt;
-                    found.entries.as_slice(),
-                    wanted.entries.as_slice(),
-                    "in {blocks} blocks"
-                );
-            }
-            Err(error) => {
-                assert!(rt; error == AllocError);
-                refused = refused.wrapping_add(1);
-            }
+        if is_refused(&rt, rt.alloc(), blocks * 16, &wanted)? {
+            refused = refused.wrapping_add(1);
         }
     }
     assert!(rt; 0 < refused && refused < 62, "{refused} were refused");
