@@ -94,9 +94,8 @@ fn memory_refused(rt: HostRuntime) -> Result<(), Fail> {
                 let other = shared(&block, &mut pass)?;
                 let taken = heap.used();
                 drop(block);
-                assert_eq!(rt; heap.used(), taken, "in {blocks} blocks");
-                assert_eq!(rt; other.range(0, 40), items.as_slice(), "in {blocks} blocks");
-                assert!(rt; other.release_as(&mut pass));
+                let is_kept = heap.used() == taken && other.range(0, 40) == items.as_slice();
+                assert!(rt; is_kept && other.release_as(&mut pass), "in {blocks} blocks");
                 made = made.saturating_add(1);
             }
             Err(error) => {
@@ -108,7 +107,7 @@ fn memory_refused(rt: HostRuntime) -> Result<(), Fail> {
                 }
             }
         }
-        assert_eq!(rt; heap.used(), 0, "in {blocks} blocks");
+        assert!(rt; heap.used() == 0, "in {blocks} blocks");
     }
     assert!(rt;
         0 < refused_items && 0 < refused_count && 0 < made,

@@ -46,11 +46,14 @@ fn other_words(rt: HostRuntime) -> Result<(), Fail> {
                 &mut writer,
                 &mut faults,
             )?;
-            assert_eq!(rt; status, 2, "at {words:?}");
-            assert!(rt; reader.calls == 0);
-            assert!(rt; writer.calls == 0);
             let told = if size == 0 { b"".as_slice() } else { USAGE };
-            assert!(rt; faults.bytes.as_slice() == told);
+            assert!(rt;
+                status == 2
+                    && reader.calls == 0
+                    && writer.calls == 0
+                    && faults.bytes.as_slice() == told,
+                "at {words:?}"
+            );
         }
     }
     Ok(())
@@ -204,20 +207,17 @@ fn memory_refused(rt: HostRuntime) -> Result<(), Fail> {
         let is_begun = REPLIES_IN_NEED
             .iter()
             .any(|replies| replies.starts_with(text));
-        assert!(rt; is_begun, "in {blocks} blocks");
-        assert_eq!(rt; heap.used(), 0, "in {blocks} blocks");
-        if status == 0 {
-            assert_eq!(rt; faults.bytes.len(), 0, "in {blocks} blocks");
-            assert!(rt; reader.input.is_empty(), "in {blocks} blocks");
-            let is_whole = REPLIES_IN_NEED.iter().any(|replies| *replies == text);
-            assert!(rt; is_whole, "in {blocks} blocks");
+        let is_whole = REPLIES_IN_NEED.iter().any(|replies| *replies == text);
+        let is_right = if status == 0 {
+            is_whole && faults.bytes.len() == 0 && reader.input.is_empty()
         } else {
-            assert_eq!(rt; status, 1, "in {blocks} blocks");
-            assert!(rt; faults.bytes.as_slice() == b"allocation error\n".as_slice());
             cut = cut.saturating_add(1);
-        }
+            status == 1
+                && text != HELLO_REPLIES
+                && faults.bytes.as_slice() == b"allocation error\n".as_slice()
+        };
+        assert!(rt; is_begun && is_right && heap.used() == 0, "in {blocks} blocks");
         if text == HELLO_REPLIES {
-            assert_eq!(rt; status, 0, "in {blocks} blocks");
             whole = whole.saturating_add(1);
         }
     }
@@ -238,7 +238,7 @@ fn clone_refused(rt: HostRuntime) -> Result<(), Fail> {
         let mut faults = Taken::new(rt.alloc(), usize::MAX);
         program(&rt, &heap, &["arc"], &mut reader, &mut writer, &mut faults)?;
         let text = writer.bytes.as_slice();
-        assert_eq!(rt; heap.used(), 0, "in {blocks} blocks");
+        assert!(rt; heap.used() == 0, "in {blocks} blocks");
         if text == CLONES_IN_NEED {
             refused = refused.saturating_add(1);
         }
@@ -277,10 +277,13 @@ fn line_refused(rt: HostRuntime) -> Result<(), Fail> {
         } else {
             HELLO_REPLIES
         };
-        assert_eq!(rt; status, wanted, "in {size} bytes");
-        assert_eq!(rt; writer.bytes.as_slice(), text, "in {size} bytes");
-        assert_eq!(rt; faults.bytes.as_slice(), told, "in {size} bytes");
-        assert_eq!(rt; heap.used(), 0, "in {size} bytes");
+        assert!(rt;
+            status == wanted
+                && writer.bytes.as_slice() == text
+                && faults.bytes.as_slice() == told
+                && heap.used() == 0,
+            "in {size} bytes"
+        );
     }
     Ok(())
 }

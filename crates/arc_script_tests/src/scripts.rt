@@ -115,14 +115,18 @@ fn failed_reads(rt: HostRuntime) {
     let mut reader = Pieces::new(HELLO, 7);
     let mut writer = Taken::new(rt.alloc(), usize::MAX);
     assert!(rt; run(&rt, rt.alloc(), &mut reader, &mut writer) == Ok(()));
-    assert_eq!(rt; reader.calls, 8, "46 bytes and the end");
+    // 46 bytes and the end.
+    assert!(rt; reader.calls == 8);
     for call in 1..=8 {
         let mut reader = Pieces::failing(HELLO, 7, call);
         let mut writer = Taken::new(rt.alloc(), usize::MAX);
         let ran = run(&rt, rt.alloc(), &mut reader, &mut writer);
-        assert_eq!(rt; ran, Err(ScriptError::Read), "at call {call}");
-        assert!(rt; reader.calls == call);
-        assert!(rt; HELLO_REPLIES.starts_with(&writer.bytes), "at call {call}");
+        assert!(rt;
+            ran == Err(ScriptError::Read)
+                && reader.calls == call
+                && HELLO_REPLIES.starts_with(&writer.bytes),
+            "at call {call}"
+        );
     }
 }
 
@@ -131,16 +135,17 @@ fn failed_writes(rt: HostRuntime) {
     let mut reader = Pieces::new(HELLO, usize::MAX);
     let mut writer = Taken::new(rt.alloc(), 3);
     assert!(rt; run(&rt, rt.alloc(), &mut reader, &mut writer) == Ok(()));
-    assert_eq!(rt; writer.calls, 6, "17 bytes");
+    // 17 bytes.
+    assert!(rt; writer.calls == 6);
     for call in 1..=6 {
         let mut reader = Pieces::new(HELLO, usize::MAX);
         let mut writer = Taken::failing(rt.alloc(), 3, call);
         let ran = run(&rt, rt.alloc(), &mut reader, &mut writer);
-        assert_eq!(rt; ran, Err(ScriptError::Write), "at call {call}");
-        assert!(rt; writer.calls == call);
-        assert_eq!(rt;
-            writer.bytes.as_slice(),
-            &HELLO_REPLIES[..3 * (call - 1)],
+        let begun = &HELLO_REPLIES[..3 * (call - 1)];
+        assert!(rt;
+            ran == Err(ScriptError::Write)
+                && writer.calls == call
+                && writer.bytes.as_slice() == begun,
             "at call {call}"
         );
     }
@@ -172,19 +177,21 @@ fn refused_in_a_piece(rt: HostRuntime) -> Result<(), Fail> {
         let mut reader = Pieces::new(&script, usize::MAX);
         let mut writer = Taken::new(rt.alloc(), usize::MAX);
         let ran = run(&rt, &heap, &mut reader, &mut writer);
-        assert_eq!(rt; ran, Err(ScriptError::Alloc), "in {size} bytes");
-        assert_eq!(rt; writer.bytes.as_slice(), replies, "in {size} bytes");
-        assert_eq!(rt; heap.used(), 0, "in {size} bytes");
+        assert!(rt;
+            ran == Err(ScriptError::Alloc)
+                && writer.bytes.as_slice() == replies
+                && heap.used() == 0,
+            "in {size} bytes"
+        );
         let mut reader = Pieces::new(&script, usize::MAX);
         let mut writer = Taken::failing(rt.alloc(), 2, 2);
         let ran = run(&rt, &heap, &mut reader, &mut writer);
-        assert_eq!(rt; ran, Err(ScriptError::Write), "in {size} bytes");
-        assert_eq!(rt;
-            writer.bytes.as_slice(),
-            b"h0".as_slice(),
-            "in {size} bytes"
+        assert!(rt;
+            ran == Err(ScriptError::Write)
+                && writer.bytes.as_slice() == b"h0".as_slice()
+                && heap.used() == 0,
+            "in {size} bytes, where a write fails"
         );
-        assert_eq!(rt; heap.used(), 0, "in {size} bytes");
     }
     Ok(())
 }
@@ -199,24 +206,30 @@ fn given_back(rt: HostRuntime) -> Result<(), Fail> {
     let mut writer = Taken::new(rt.alloc(), 2);
     assert!(rt; run(&rt, &heap, &mut reader, &mut writer) == Ok(()));
     assert!(rt; writer.bytes.as_slice() == LEFT_REPLIES);
-    assert_eq!(rt; heap.used(), 0, "at the end");
+    assert!(rt; heap.used() == 0);
     for before in 0..reader.calls {
         let call = before + 1;
         let mut reader = Pieces::failing(LEFT, 5, call);
         let mut writer = Taken::new(rt.alloc(), 2);
         let ran = run(&rt, &heap, &mut reader, &mut writer);
-        assert_eq!(rt; ran, Err(ScriptError::Read), "at read {call}");
-        assert!(rt; LEFT_REPLIES.starts_with(&writer.bytes), "at read {call}");
-        assert_eq!(rt; heap.used(), 0, "at read {call}");
+        assert!(rt;
+            ran == Err(ScriptError::Read)
+                && LEFT_REPLIES.starts_with(&writer.bytes)
+                && heap.used() == 0,
+            "at read {call}"
+        );
     }
     for before in 0..writer.calls {
         let call = before + 1;
         let mut reader = Pieces::new(LEFT, 5);
         let mut writer = Taken::failing(rt.alloc(), 2, call);
         let ran = run(&rt, &heap, &mut reader, &mut writer);
-        assert_eq!(rt; ran, Err(ScriptError::Write), "at write {call}");
-        assert!(rt; LEFT_REPLIES.starts_with(&writer.bytes), "at write {call}");
-        assert_eq!(rt; heap.used(), 0, "at write {call}");
+        assert!(rt;
+            ran == Err(ScriptError::Write)
+                && LEFT_REPLIES.starts_with(&writer.bytes)
+                && heap.used() == 0,
+            "at write {call}"
+        );
     }
     Ok(())
 }

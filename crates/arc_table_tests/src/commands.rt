@@ -115,7 +115,7 @@ fn list_refused(rt: HostRuntime) -> Result<(), Fail> {
         match answered {
             Err((commands, _)) => {
                 assert!(rt; are_hello(&commands) && had == has, "in {units} units");
-                assert_eq!(rt; heap.used(), used, "in {units} units");
+                assert!(rt; heap.used() == used, "in {units} units");
                 back = back.wrapping_add(1);
             }
             Ok(replies) => match replies.as_slice() {
@@ -127,7 +127,7 @@ fn list_refused(rt: HostRuntime) -> Result<(), Fail> {
             },
         }
         let _ = table.end();
-        assert_eq!(rt; heap.used(), 0, "in {units} units");
+        assert!(rt; heap.used() == 0, "in {units} units");
     }
     assert!(rt;
         0 < back && 0 < short && 0 < whole,
@@ -320,7 +320,7 @@ fn static_memory_refused(rt: HostRuntime) -> Result<(), Fail> {
         drop(slice);
         drop(made);
         let _ = table.end();
-        assert_eq!(rt; heap.used(), 0, "in {units} units");
+        assert!(rt; heap.used() == 0, "in {units} units");
     }
     assert!(rt;
         0 < unmade && 0 < taken && unmade.wrapping_add(taken) == 127,
@@ -361,7 +361,7 @@ fn memory_refused(rt: HostRuntime) -> Result<(), Fail> {
         drop(shown);
         drop(last);
         let _ = table.end();
-        assert_eq!(rt; heap.used(), 0, "in {units} units");
+        assert!(rt; heap.used() == 0, "in {units} units");
     }
     assert!(rt;
         0 < refused && 0 < whole,

@@ -174,7 +174,7 @@ fn writer_refused(rt: HostRuntime) -> Result<(), Fail> {
             _ => {}
         }
         let _ = table.end();
-        assert_eq!(rt; heap.used(), 0, "in {units} units");
+        assert!(rt; heap.used() == 0, "in {units} units");
     }
     assert!(rt; short.wrapping_add(whole) == 63);
     assert!(rt;
@@ -324,7 +324,7 @@ fn pushes_in_need(rt: HostRuntime) -> Result<(), Fail> {
             }
         }
         let _ = table.end();
-        assert_eq!(rt; heap.used(), 0, "in {units} units");
+        assert!(rt; heap.used() == 0, "in {units} units");
     }
     assert!(rt;
         0 < all && 0 < growth && 0 < none,

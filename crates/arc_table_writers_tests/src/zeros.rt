@@ -92,7 +92,7 @@ fn zeros_in_need(rt: HostRuntime) -> Result<(), Fail> {
             made = made.wrapping_add(1);
         }
         let _ = table.end();
-        assert_eq!(rt; heap.used(), 0, "in {units} units");
+        assert!(rt; heap.used() == 0, "in {units} units");
     }
     assert!(rt;
         0 < refused && 0 < made && refused.wrapping_add(made) == 63,

@@ -37,7 +37,7 @@ fn as_many_as_come(rt: HostRuntime) -> Result<(), Fail> {
         let mut window: ArcBytesMut = ArcSliceMut::new(rt.alloc());
         assert!(rt; appended(&mut window, &all[..count]));
         assert!(rt; window.as_slice() == &all[..count]);
-        assert_eq!(rt; window.capacity(), capacity, "of {count}");
+        assert!(rt; window.capacity() == capacity, "of {count}");
     }
     Ok(())
 }
@@ -72,10 +72,10 @@ fn collected<L: LayoutMut>(alloc: Global) -> Result<(bool, [usize; 2]), Fail> {
 #[test]
 fn under_each_layout(rt: HostRuntime) -> Result<(), Fail> {
     let expected = (true, [8, 16]);
-    assert_eq!(rt; collected::<ArcLayout<true, true>>(rt.alloc())?, expected);
-    assert_eq!(rt; collected::<ArcLayout<true, false>>(rt.alloc())?, expected);
-    assert_eq!(rt; collected::<ArcLayout<false, true>>(rt.alloc())?, expected);
-    assert_eq!(rt; collected::<ArcLayout<false, false>>(rt.alloc())?, expected);
+    assert!(rt; collected::<ArcLayout<true, true>>(rt.alloc())? == expected);
+    assert!(rt; collected::<ArcLayout<true, false>>(rt.alloc())? == expected);
+    assert!(rt; collected::<ArcLayout<false, true>>(rt.alloc())? == expected);
+    assert!(rt; collected::<ArcLayout<false, false>>(rt.alloc())? == expected);
     assert!(rt; collected::<VecLayout>(rt.alloc())? == expected);
     Ok(())
 }

@@ -39,10 +39,10 @@ fn grown<L: LayoutMut>(alloc: Global) -> Result<[usize; 2], Fail> {
 
 #[test]
 fn growth_is_exact(rt: HostRuntime) -> Result<(), Fail> {
-    assert_eq!(rt; grown::<ArcLayout<true, true>>(rt.alloc())?, [13, 29]);
-    assert_eq!(rt; grown::<ArcLayout<true, false>>(rt.alloc())?, [13, 29]);
-    assert_eq!(rt; grown::<ArcLayout<false, true>>(rt.alloc())?, [13, 29]);
-    assert_eq!(rt; grown::<ArcLayout<false, false>>(rt.alloc())?, [13, 29]);
+    assert!(rt; grown::<ArcLayout<true, true>>(rt.alloc())? == [13, 29]);
+    assert!(rt; grown::<ArcLayout<true, false>>(rt.alloc())? == [13, 29]);
+    assert!(rt; grown::<ArcLayout<false, true>>(rt.alloc())? == [13, 29]);
+    assert!(rt; grown::<ArcLayout<false, false>>(rt.alloc())? == [13, 29]);
     assert!(rt; grown::<VecLayout>(rt.alloc())? == [13, 29]);
     Ok(())
 }
@@ -62,10 +62,10 @@ fn reclaimed<L: LayoutMut>(alloc: Global) -> Result<([usize; 2], [bool; 2]), Fai
 #[test]
 fn room_in_front(rt: HostRuntime) -> Result<(), Fail> {
     let expected = ([5, 8], [true, false]);
-    assert_eq!(rt; reclaimed::<ArcLayout<true, true>>(rt.alloc())?, expected);
-    assert_eq!(rt; reclaimed::<ArcLayout<true, false>>(rt.alloc())?, expected);
-    assert_eq!(rt; reclaimed::<ArcLayout<false, true>>(rt.alloc())?, expected);
-    assert_eq!(rt; reclaimed::<ArcLayout<false, false>>(rt.alloc())?, expected);
+    assert!(rt; reclaimed::<ArcLayout<true, true>>(rt.alloc())? == expected);
+    assert!(rt; reclaimed::<ArcLayout<true, false>>(rt.alloc())? == expected);
+    assert!(rt; reclaimed::<ArcLayout<false, true>>(rt.alloc())? == expected);
+    assert!(rt; reclaimed::<ArcLayout<false, false>>(rt.alloc())? == expected);
     Ok(())
 }
 
