@@ -8,7 +8,7 @@ use Rattle.arc_commands.specs.Step.{Setting, setting_of}
 use Rattle.arc_commands.specs.declared.command.Cmd.TheVariants as command
 use Rattle.arc_commands.specs.declared.command.Reply.TheVariants as reply
 use Rattle.arc_commands.proofs.Lists.{behind, no_error}
-use Rattle.arc_table.proofs.Done.{Done}
+use Rattle.arc_table.proofs.Done.{Done, same-fact}
 use Rattle.arc_table.proofs.Founded.{nowhere-founded, block-founded}
 use Rattle.arc_table.proofs.table.Table.slice.Given.{Over}
 use Rattle.arc_table.proofs.table.Table.slice.Goals.{After-push_reserved, After-push_reserved-3}
@@ -110,3 +110,11 @@ push_reserved-requires g c =
     let room =
     no_error c.make_room.result (sym c.if-is_err.ensures.value) c.make_room.ensures.slot in
     omega (arith, room, c.make_room.new.slots.ok.0)
+
+pub invariant_of-self : goal.invariant_of-self
+invariant_of-self g c =
+    same-fact c.self.invariant c.make_room.ensures.slots c.make_room.ensures.passes
+
+pub invariant_of-self-in_default : goal.invariant_of-self-in_default
+invariant_of-self-in_default g c =
+    same-fact c.self.invariant c.make_room.ensures.slots c.make_room.ensures.passes

@@ -18,7 +18,7 @@ use Rattle.arc_table.proofs.Kept.{known-pass}
 use Rattle.arc_table.proofs.Tables.{stand-there}
 use Rattle.arc_table.proofs.Tables.{unanswered, no-writer, out-of-range, reads-for, part-as}
 use Rattle.arc_table.proofs.Rows.{alloc-step, sub-answers}
-use Rattle.arc_table.proofs.Done.{Done, joined, unmade}
+use Rattle.arc_table.proofs.Done.{Done, joined, unmade, same-fact}
 use Rattle.arc_table.proofs.table.Table.sub.Given.{Over}
 use Rattle.arc_table.proofs.table.Table.sub.Goals.{After-push_reserved, In-Err-try_subslice}
 use Rattle.arc_table.proofs.table.Table.sub.Goals as goal
@@ -224,3 +224,6 @@ pub push_reserved-requires : goal.push_reserved-requires
 push_reserved-requires g c =
     let room = no_error c.reserve.result (sym c.if-is_err.ensures.value) c.reserve.ensures.ok in
     omega (arith, room)
+
+pub invariant_of-self : goal.invariant_of-self
+invariant_of-self g c = same-fact c.self.invariant c.reserve.ensures.items refl
