@@ -7,6 +7,7 @@ use Rattle.std.proofs.Common.{arith}
 use Rattle.std.proofs.Common.{subst}
 use Rattle.arc_buffer.specs.Slice.{IsRange, range_answer}
 use Rattle.arc_slots.specs.Slots.{SlotView, row_of, stand_of}
+use Rattle.std.proofs.lemmas.Option.{none-some}
 use Rattle.arc_commands.specs.State.{State}
 use Rattle.arc_slots.specs.Slots.{state_of}
 use Rattle.arc_commands.specs.Step.{Setting, Step, setting_of, of_table, part_of}
@@ -227,3 +228,17 @@ push_reserved-requires g c =
 
 pub invariant_of-self : goal.invariant_of-self
 invariant_of-self g c = same-fact c.self.invariant c.reserve.ensures.items refl
+
+pub unreachable-requires : goal.unreachable-requires
+unreachable-requires g c =
+    let slots = c.self.inside.slots.items in
+    let i = c.args.i in
+    let s = c.in-Some.slot.now in
+    let first = ap (λ ss. slice_get ss i) (sym c.deref.ensures.value) ∙ c.in-Some.ensures in
+    let gone =
+    ap (λ ss. option_flatten (slice_get ss i)) (sym (c.deref-2.ensures.value
+    ∙ c.reserve.ensures.items)) ∙ c.in_default-slot_at.ensures in
+    none-some s (sym gone ∙ ap option_flatten first)
+
+pub check_range-requires-after_bounds : goal.check_range-requires-after_bounds
+check_range-requires-after_bounds g c κs within = c.is_written.ensures.reads c.if-is_written.false
