@@ -47,6 +47,14 @@ pub record Done {T M : Type 0} (setting : Setting T) (old : State T M) (c : Cmd 
   pub rows : Step setting old.table c r (state_of slots passes).table
   pub passes_are : Adds old.table old.standing c r (state_of slots passes).standing
 
+-- it stays where the lists are the same
+pub same-fact : {T M : Type 0} {slots slots' : List (Option (SlotView T M))}
+    {passes passes' : List (Pass Whole)} → Fact slots passes → slots' ≡ slots → passes' ≡ passes
+    → Fact slots' passes'
+same-fact {slots = slots} {slots' = slots'} {passes = passes} fact same_slots same_passes =
+    subst (λ ps. Fact slots' ps) (sym same_passes)
+    (subst (λ ss. Fact ss passes) (sym same_slots) fact)
+
 -- the fact of the type follows of the owners, and of the step
 pub done : {T M : Type 0} {setting : Setting T} {old : State T M} {c : Cmd (List T) (List T) T}
     {r : Reply (List T) (List T)} {slots : List (Option (SlotView T M))} {passes : List (Pass Whole)}

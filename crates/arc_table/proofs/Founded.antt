@@ -3,7 +3,7 @@ use Rattle.std.proofs.Common.{map, ◌+◌, ◌≡◌, ℕ, ◌&&◌, ◌==◌, 
 use Rattle.std.proofs.Common.{[], ◌∷◌}
 use Rattle.std.proofs.Common.{◌++◌}
 use Rattle.std.proofs.Common.{length, Option, Some, None, refl, sym, ap, ◌∙◌, subst}
-use Rattle.std.proofs.lemmas.List.{map-append}
+use Rattle.std.proofs.lemmas.List.{map-append, length-map, length-append}
 use Rattle.arc_owners.specs.declared.mark.Whole.{Whole}
 use Rattle.arc_owners.specs.declared.count.tokens.Pass.{Pass}
 use Rattle.arc_owners.specs.count.Calls.{Owner, IsFirst, IsFreshPass}
@@ -17,18 +17,17 @@ use Rattle.arc_block.specs.Window.{Window}
 use Rattle.std.specs.Option.{option_map, option_map_or}
 use Rattle.arc_block.specs.Block.{BlockInfo}
 use Rattle.arc_block.specs.Place.{moved}
-use Rattle.arc_block.specs.Table.{Row, block_of, reader}
-use Rattle.arc_commands.specs.Blocks.{RowsAgree}
+use Rattle.arc_block.specs.Table.{Row, Table, block_of, reader}
 use Rattle.arc_commands.specs.Step.{Setting, Step}
 use Rattle.arc_slots.specs.Slots.{role_of, row_of}
 use Rattle.arc_slots.specs.Stands.{numbered}
 use Rattle.arc_commands.specs.declared.command.Cmd.TheVariants as command
 use Rattle.arc_commands.specs.declared.command.Reply.TheVariants as reply
-use Rattle.arc_commands.proofs.Blocks.{step_agrees}
 use Rattle.arc_commands.specs.Additions.{Standing, Founds}
 use Rattle.arc_slots.specs.Slots.{SlotView, stand_of, stands_of}
 use Rattle.arc_slots.specs.Stands.{stand_at}
 use Rattle.arc_slots.specs.Slots.{state_of}
+use Rattle.arc_table.proofs.Done.{Done, Fact, done}
 
 abbrev At : Type 0 → Type 0
 At M = Place (Option Owner) M
@@ -56,13 +55,13 @@ module _ {T M : Type 0} (slots slots' : List (Option (SlotView T M))) (s : SlotV
 
   module _ (passes passes' : List (Pass Whole))
       (k : IsKept MAX_OWNERS (stands_of slots) passes) where
-    pub nowhere-kept : s.block ≡ None → passes' ≡ passes
+    nowhere-kept : s.block ≡ None → passes' ≡ passes
         → IsKept MAX_OWNERS (stands_of slots') passes'
     nowhere-kept none same =
         subst (λ ps. IsKept MAX_OWNERS (stands_of slots') ps) (sym same)
         (subst (λ ss. IsKept MAX_OWNERS ss passes) (sym (stands-nowhere none)) (kept-nowhere k))
 
-    pub nowhere-added : s.block ≡ None → passes' ≡ passes
+    nowhere-added : s.block ≡ None → passes' ≡ passes
         → Makes-one (state_of slots passes).standing (state_of slots' passes').standing
     nowhere-added none same = (None, same, stands-nowhere none)
 
@@ -87,7 +86,7 @@ module _ {T M : Type 0} (slots slots' : List (Option (SlotView T M))) (s : SlotV
           ∙ ap (λ p. stands_of slots ++ stand_at (Some n) p ∷ []) place in
           (owner, stands, first, fresh)
 
-      pub block-kept : n ≡ length passes → passes' ≡ passes ++ new ∷ []
+      block-kept : n ≡ length passes → passes' ≡ passes ++ new ∷ []
           → IsKept MAX_OWNERS (stands_of slots') passes'
       block-kept counted one_pass =
           let f = founded in
@@ -97,7 +96,7 @@ module _ {T M : Type 0} (slots slots' : List (Option (SlotView T M))) (s : SlotV
           IsKept MAX_OWNERS (stands_of slots ++ Some (m, f.0) ∷ []) (passes ++ new ∷ []))
           (sym counted) (kept-new new k f.2 f.3)))
 
-      pub block-added : n ≡ length passes → passes' ≡ passes ++ new ∷ []
+      block-added : n ≡ length passes → passes' ≡ passes ++ new ∷ []
           → Makes-one (state_of slots passes).standing (state_of slots' passes').standing
       block-added counted one_pass =
           let f = founded in
@@ -146,35 +145,60 @@ module _ {T M : Type 0} (slots slots' : List (Option (SlotView T M))) (s : SlotV
         (if nothing then nowhere else on_block (Some makes.owner) 0 facts))) block
         ∙ ap row (numbered-so nothing)
 
-    pub founded-agrees : (out : Bool) → nothing ≡ out
-        → s.block ≡ (if out then None else Some (length passes))
-        → length passes' ≡ (if out then length passes else length passes + 1)
-        → RowsAgree (state_of slots passes).table → RowsAgree (state_of slots' passes').table
-    founded-agrees out is block many agree =
-        let t = (state_of slots passes).table in
-        let rows : t.rows ++ Some (row (stands nothing)) ∷ [] ≡ map (option_map row_of) slots' =
-        ap (λ x. t.rows ++ Some x ∷ [])
-        (sym (founded-row (block ∙ ap (λ b. if b then None else Some (length passes)) (sym is))))
-        ∙ sym (ap (map (option_map row_of)) more
-        ∙ map-append (option_map row_of) slots (Some s ∷ [])) in
-        let blocks : option_map_or (λ block. length passes + 1) (block_of (stands nothing))
-        (length passes) ≡ length passes' =
-        sym (many ∙ ap (λ b. if b then length passes else length passes + 1) (sym is)
-        ∙ blocks-so nothing) in
-        let step : Step setting t (command.Slice items) (reply.New (length t.rows))
-        (state_of slots' passes').table =
-        ap (λ rs. (
-          reply.New (length t.rows),
-          record {
-            rows = rs;
-            blocks =
-                option_map_or (λ block. length passes + 1) (block_of (stands nothing))
-                (length passes);
-          },
-        )) rows
-        ∙ ap (λ n. (
-          reply.New (length t.rows),
-          record { rows = map (option_map row_of) slots'; blocks = n },
-        )) blocks in
-        step_agrees setting t (command.Slice items) (reply.New (length t.rows))
-        (state_of slots' passes').table step agree
+    module _ (fact : Fact slots passes) (number : ℕ) (counted : number ≡ length slots) where
+      abbrev t : Table T M
+      t = (state_of slots passes).table
+
+      founded-step : (out : Bool) → nothing ≡ out
+          → s.block ≡ (if out then None else Some (length passes))
+          → length passes' ≡ (if out then length passes else length passes + 1)
+          → Step setting t (command.Slice items) (reply.New number) (state_of slots' passes').table
+      founded-step out is block many =
+          let rows : t.rows ++ Some (row (stands nothing)) ∷ [] ≡ map (option_map row_of) slots' =
+          ap (λ x. t.rows ++ Some x ∷ [])
+          (sym (founded-row (block ∙ ap (λ b. if b then None else Some (length passes)) (sym is))))
+          ∙ sym (ap (map (option_map row_of)) more
+          ∙ map-append (option_map row_of) slots (Some s ∷ [])) in
+          let blocks : option_map_or (λ block. length passes + 1) (block_of (stands nothing))
+          (length passes) ≡ length passes' =
+          sym (many ∙ ap (λ b. if b then length passes else length passes + 1) (sym is)
+          ∙ blocks-so nothing) in
+          ap (λ rs. (
+            reply.New (length t.rows),
+            record {
+              rows = rs;
+              blocks =
+                  option_map_or (λ block. length passes + 1) (block_of (stands nothing))
+                  (length passes);
+            },
+          )) rows
+          ∙ ap (λ n. (
+            reply.New (length t.rows),
+            record { rows = map (option_map row_of) slots'; blocks = n },
+          )) blocks
+          ∙ ap (λ n. (
+            reply.New n,
+            record { rows = map (option_map row_of) slots'; blocks = length passes' },
+          )) (length-map slots (option_map row_of) ∙ sym counted)
+
+      -- the window stands on nothing
+      pub nowhere-founded : nothing ≡ true → s.block ≡ None → passes' ≡ passes
+          → Done setting (state_of slots passes) (command.Slice items) (reply.New number) slots'
+          passes'
+      nowhere-founded is none same =
+          done fact.1 (nowhere-kept passes passes' fact.0 none same)
+          (founded-step true is none (ap length same))
+          (nowhere-added passes passes' fact.0 none same)
+
+      -- it is the first owner of a new block
+      pub block-founded : (old new : Pass Whole) → Begins s.window old new → nothing ≡ false
+          → s.block ≡ Some (length passes) → passes' ≡ passes ++ new ∷ []
+          → Done setting (state_of slots passes) (command.Slice items) (reply.New number) slots'
+          passes'
+      block-founded old new begins some block one_pass =
+          done fact.1
+          (block-kept passes passes' fact.0 setting.has_static setting.drops items old new makes
+          begins some (length passes) block refl one_pass)
+          (founded-step false some block (ap length one_pass ∙ length-append passes (new ∷ [])))
+          (block-added passes passes' fact.0 setting.has_static setting.drops items old new makes
+          begins some (length passes) block refl one_pass)

@@ -191,6 +191,12 @@ module _ {T M : Type 0} (slots : List (Option (SlotView T M))) (passes : List (P
     for-reader reads c is found =
         answered c (reads-for s reads c is) found
 
+    pub for-writer : (places : ℕ) → s.capacity ≡ Some places → (c : Cmd (List T) (List T) T)
+        → is_for c (sole_writer places) ≡ true → (found : Row T M → Outcome T M)
+        → on_row t i c found ≡ found (row_of s)
+    for-writer places some c is found =
+        answered c (ap (λ k. is_for c (role_of k)) some ∙ is) found
+
     -- a window more, behind the others
     pub rows-more : (made : SlotView T M) (r : Row T M)
         (slots' : List (Option (SlotView T M))) → row_of made ≡ r → slots' ≡ slots ++ Some made ∷ []

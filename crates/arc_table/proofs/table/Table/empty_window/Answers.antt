@@ -6,7 +6,7 @@ use Rattle.arc_commands.specs.Step.{Setting, setting_of}
 use Rattle.arc_commands.specs.declared.command.Cmd.TheVariants as command
 use Rattle.arc_commands.specs.declared.command.Reply.TheVariants as reply
 use Rattle.arc_commands.proofs.Lists.{no_error}
-use Rattle.arc_table.proofs.Done.{Done}
+use Rattle.arc_table.proofs.Done.{Done, same-fact}
 use Rattle.arc_table.proofs.Written.{Pushed, made}
 use Rattle.arc_table.proofs.table.Table.empty_window.Given.{Over}
 use Rattle.arc_table.proofs.table.Table.empty_window.Goals.{After-push_writer}
@@ -58,3 +58,6 @@ returns-clause-rows g c = (did g (goal.at.returns-clause-rows g c).After-push_wr
 pub returns-clause-passes : goal.returns-clause-passes
 returns-clause-passes g c =
     (did g (goal.at.returns-clause-passes g c).After-push_writer).passes_are
+
+pub invariant_of-self : goal.invariant_of-self
+invariant_of-self g c = same-fact c.self.invariant c.reserve.ensures.items refl

@@ -13,7 +13,7 @@ use Rattle.arc_commands.specs.declared.command.Cmd.TheVariants as command
 use Rattle.arc_commands.specs.declared.command.Reply.TheVariants as reply
 use Rattle.arc_commands.proofs.Lists.{read-there, same_entry, no_error, an_error}
 use Rattle.arc_table.proofs.Kept.{known-pass}
-use Rattle.arc_table.proofs.Done.{Done}
+use Rattle.arc_table.proofs.Done.{Done, same-fact}
 use Rattle.arc_table.proofs.Tables.{stand-there, unanswered, no-reader}
 use Rattle.arc_block.proofs.Lists.{get-set}
 use Rattle.arc_slots.proofs.Taken.{set-twice}
@@ -261,3 +261,6 @@ returns-in-Err-clause-rows g c =
 pub returns-in-Err-clause-passes : goal.returns-in-Err-clause-passes
 returns-in-Err-clause-passes g c =
     (stays g (goal.at.returns-in-Err-clause-passes g c).After-put_slot-in-Err).passes_are
+
+pub invariant_of-self : goal.invariant_of-self
+invariant_of-self g c = same-fact c.self.invariant refl c.reserve_for.ensures.items

@@ -8,9 +8,9 @@ use Rattle.arc_commands.specs.Step.{Setting, setting_of}
 use Rattle.arc_commands.specs.declared.command.Cmd.TheVariants as command
 use Rattle.arc_commands.specs.declared.command.Reply.TheVariants as reply
 use Rattle.arc_commands.proofs.Lists.{no_error}
-use Rattle.arc_table.proofs.Done.{Done}
+use Rattle.arc_table.proofs.Done.{Done, same-fact}
 use Rattle.arc_commands.proofs.Lists.{none-of}
-use Rattle.arc_table.proofs.Written.{Pushed, made}
+use Rattle.arc_table.proofs.Written.{Pushed, made, writes, idle-nowhere, new-on-block}
 use Rattle.arc_table.proofs.table.Table.slice_mut.Given.{Over}
 use Rattle.arc_table.proofs.table.Table.slice_mut.Goals.{After-push_writer}
 use Rattle.arc_table.proofs.table.Table.slice_mut.Goals as goal
@@ -65,3 +65,28 @@ returns-clause-rows g c = (did g (goal.at.returns-clause-rows g c).After-push_wr
 pub returns-clause-passes : goal.returns-clause-passes
 returns-clause-passes g c =
     (did g (goal.at.returns-clause-passes g c).After-push_writer).passes_are
+
+pub invariant_of-self : goal.invariant_of-self
+invariant_of-self g c =
+    same-fact c.self.invariant c.make_room.ensures.slots c.make_room.ensures.passes
+
+pub invariant_of-self-in_default : goal.invariant_of-self-in_default
+invariant_of-self-in_default g c =
+    same-fact c.self.invariant c.make_room.ensures.slots c.make_room.ensures.passes
+
+pub push_writer-requires-clause-writes : goal.push_writer-requires-clause-writes
+push_writer-requires-clause-writes g c κs within =
+    writes g.S.Slice.DROPS c.deref.result.now _ c.in-Ok.window c.none-pass.result
+    c.try_from_slice_as.new.pass c.in-Ok.ensures.made
+
+pub push_writer-requires-clause-nowhere : goal.push_writer-requires-clause-nowhere
+push_writer-requires-clause-nowhere g c κs within none =
+    idle-nowhere g.S.Slice.DROPS c.deref.result.now _ c.in-Ok.window c.none-pass.result
+    c.try_from_slice_as.new.pass c.in-Ok.ensures.made
+    (c.deref.ensures.len ∙ sym c.len.ensures ∙ none)
+
+pub push_writer-requires-clause-block : goal.push_writer-requires-clause-block
+push_writer-requires-clause-block g c κs within some n =
+    new-on-block g.S.Slice.DROPS c.deref.result.now _ c.in-Ok.window c.none-pass.result
+    c.try_from_slice_as.new.pass c.in-Ok.ensures.made n
+    (omega (arith, c.deref.ensures.len, c.len.ensures, some))

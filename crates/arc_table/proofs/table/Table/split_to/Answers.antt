@@ -23,7 +23,7 @@ use Rattle.arc_table.proofs.Kept.{known-pass}
 use Rattle.arc_table.proofs.Tables.{row-there, stand-there}
 use Rattle.arc_table.proofs.Tables.{unanswered, no-writer, out-of-range, reads-for}
 use Rattle.arc_table.proofs.Rows.{alloc-step, to-answers}
-use Rattle.arc_table.proofs.Done.{Done, handed-out, part-out, unmade}
+use Rattle.arc_table.proofs.Done.{Done, handed-out, part-out, unmade, same-fact}
 use Rattle.arc_table.proofs.table.Table.split_to.Given.{Over}
 use Rattle.arc_table.proofs.table.Table.split_to.Goals.{After-push_reserved, In-Err-try_split_to}
 use Rattle.arc_table.proofs.table.Table.split_to.Goals as goal
@@ -287,3 +287,6 @@ try_split_to-requires-clause-reads g c κs within =
     ap (λ (v : SlotView g.row.S-Item.Denot g.row.M.Denot). v.capacity)
     (sym (same_entry slots i c.in-Some.slot.now s first there))
     ∙ c.is_written.ensures.reads c.if-is_written.false
+
+pub invariant_of-self : goal.invariant_of-self
+invariant_of-self g c = same-fact c.self.invariant c.reserve.ensures.items refl

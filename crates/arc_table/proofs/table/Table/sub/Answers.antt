@@ -7,6 +7,7 @@ use Rattle.std.proofs.Common.{arith}
 use Rattle.std.proofs.Common.{subst}
 use Rattle.arc_buffer.specs.Slice.{IsRange, range_answer}
 use Rattle.arc_slots.specs.Slots.{SlotView, row_of, stand_of}
+use Rattle.std.proofs.lemmas.Option.{none-some}
 use Rattle.arc_commands.specs.State.{State}
 use Rattle.arc_slots.specs.Slots.{state_of}
 use Rattle.arc_commands.specs.Step.{Setting, Step, setting_of, of_table, part_of}
@@ -18,7 +19,7 @@ use Rattle.arc_table.proofs.Kept.{known-pass}
 use Rattle.arc_table.proofs.Tables.{stand-there}
 use Rattle.arc_table.proofs.Tables.{unanswered, no-writer, out-of-range, reads-for, part-as}
 use Rattle.arc_table.proofs.Rows.{alloc-step, sub-answers}
-use Rattle.arc_table.proofs.Done.{Done, joined, unmade}
+use Rattle.arc_table.proofs.Done.{Done, joined, unmade, same-fact}
 use Rattle.arc_table.proofs.table.Table.sub.Given.{Over}
 use Rattle.arc_table.proofs.table.Table.sub.Goals.{After-push_reserved, In-Err-try_subslice}
 use Rattle.arc_table.proofs.table.Table.sub.Goals as goal
@@ -224,3 +225,20 @@ pub push_reserved-requires : goal.push_reserved-requires
 push_reserved-requires g c =
     let room = no_error c.reserve.result (sym c.if-is_err.ensures.value) c.reserve.ensures.ok in
     omega (arith, room)
+
+pub invariant_of-self : goal.invariant_of-self
+invariant_of-self g c = same-fact c.self.invariant c.reserve.ensures.items refl
+
+pub unreachable-requires : goal.unreachable-requires
+unreachable-requires g c =
+    let slots = c.self.inside.slots.items in
+    let i = c.args.i in
+    let s = c.in-Some.slot.now in
+    let first = ap (λ ss. slice_get ss i) (sym c.deref.ensures.value) ∙ c.in-Some.ensures in
+    let gone =
+    ap (λ ss. option_flatten (slice_get ss i)) (sym (c.deref-2.ensures.value
+    ∙ c.reserve.ensures.items)) ∙ c.in_default-slot_at.ensures in
+    none-some s (sym gone ∙ ap option_flatten first)
+
+pub check_range-requires-after_bounds : goal.check_range-requires-after_bounds
+check_range-requires-after_bounds g c κs within = c.is_written.ensures.reads c.if-is_written.false

@@ -10,33 +10,44 @@ use Rattle.arc_commands.specs.Step.{Setting, setting_of, no_shortage}
 use Rattle.arc_commands.specs.declared.command.Cmd.TheVariants as command
 use Rattle.arc_commands.specs.declared.command.Reply.TheVariants as reply
 use Rattle.arc_commands.proofs.Lists.{no_error}
-use Rattle.arc_table.proofs.Done.{Done}
-use Rattle.arc_table.proofs.Written.{Pushed, made}
+use Rattle.arc_table.proofs.Done.{Done, same-fact}
+use Rattle.arc_table.proofs.Written.{Pushed, made, writes, idle-nowhere, new-on-block}
 use Rattle.arc_table.proofs.Zeros.{has, said, zeros-answer, zeros-refused}
 use Rattle.arc_table.proofs.table.Table.zeroed.Given.{Over}
-use Rattle.arc_table.proofs.table.Table.zeroed.Goals.{After-push_writer}
+use Rattle.arc_table.proofs.table.Table.zeroed.Goals.{After-push_writer, In-Ok}
 use Rattle.arc_table.proofs.table.Table.zeroed.Goals as goal
 
 abbrev setting : (g : Over) → Setting g.row.S-Item.Denot
 setting g =
     setting_of g.L.Layout.STATIC g.L.Layout.clone_wants g.S.Slice.DROPS g.S.Subsliceable.boundary (type_size g.row.S-Item) g.S.Zero.ZeroOf.zero
 
+-- the window that was made is a writer of zeros
+written : (g : Over) (c : In-Ok g)
+    → MakesWriter g.S.Slice.DROPS true
+    (replicate c.args.count (has g.S.Zero.ZeroOf.zero c.if-not-has_zero.ensures).item) c.args.count
+    c.in-Ok.window c.none-pass.result c.try_zeroed_as.new.pass
+written g c =
+    let count = c.args.count in
+    let writer : g.row.S-Item.Denot → PartsView g.row.S-Item.Denot g.row.M.Denot → Type 0 =
+    λ item w. MakesWriter g.S.Slice.DROPS true (replicate count item) count w c.none-pass.result
+    c.try_zeroed_as.new.pass in
+    let h = has g.S.Zero.ZeroOf.zero c.if-not-has_zero.ensures in
+    subst (λ r. IfOk r (writer h.item)) c.in-Ok.is
+    (said (λ item. IfOk c.in-Some.made (writer item)) g.S.Zero.ZeroOf.zero h
+    c.in-Some.ensures.made)
+
 did : (g : Over) (c : After-push_writer g)
+    → MakesWriter g.S.Slice.DROPS true
+    (replicate c.args.count (has g.S.Zero.ZeroOf.zero c.if-not-has_zero.ensures).item) c.args.count
+    c.in-Ok.window c.none-pass.result c.try_zeroed_as.new.pass
     → Done (setting g) c.args.self.now (command.Zero c.args.count) (reply.New c.push_writer.result)
     c.push_writer.new.slots.items c.push_writer.new.passes.items
-did g c =
+did g c makes =
     let slots = c.self.inside.slots.items in
     let passes = c.self.inside.passes.of_blocks.items in
     let count = c.args.count in
     let push = c.push_writer in
     let h = has g.S.Zero.ZeroOf.zero c.if-not-has_zero.ensures in
-    let writes : g.row.S-Item.Denot → PartsView g.row.S-Item.Denot g.row.M.Denot → Type 0 =
-    λ item w. MakesWriter g.S.Slice.DROPS true (replicate count item) count w c.none-pass.result
-    c.try_zeroed_as.new.pass in
-    let makes =
-    subst (λ r. IfOk r (writes h.item)) c.in-Ok.is
-    (said (λ item. IfOk c.in-Some.made (writes item)) g.S.Zero.ZeroOf.zero h
-    c.in-Some.ensures.made) in
     let pushed : Pushed c.in-Ok.window count c.try_zeroed_as.new.pass slots passes
     push.new.slots.items push.new.passes.items push.result = record {
       read = c.make_room.new.slots.items;
@@ -79,11 +90,39 @@ push_writer-requires-clause-pass g c κs within some =
     no_error c.make_room.result (sym c.if-is_err.ensures.value) c.make_room.ensures.pass
 
 pub invariant_of-self-2 : goal.invariant_of-self-2
-invariant_of-self-2 g c = (did g (goal.at.invariant_of-self-2 g c).After-push_writer).kept
+invariant_of-self-2 g c =
+    (did g (goal.at.invariant_of-self-2 g c).After-push_writer
+    (written g (goal.at.invariant_of-self-2 g c).In-Ok)).kept
 
 pub returns-clause-rows : goal.returns-clause-rows
-returns-clause-rows g c = (did g (goal.at.returns-clause-rows g c).After-push_writer).rows
+returns-clause-rows g c =
+    (did g (goal.at.returns-clause-rows g c).After-push_writer
+    (written g (goal.at.returns-clause-rows g c).In-Ok)).rows
 
 pub returns-clause-passes : goal.returns-clause-passes
 returns-clause-passes g c =
-    (did g (goal.at.returns-clause-passes g c).After-push_writer).passes_are
+    (did g (goal.at.returns-clause-passes g c).After-push_writer
+    (written g (goal.at.returns-clause-passes g c).In-Ok)).passes_are
+
+pub invariant_of-self : goal.invariant_of-self
+invariant_of-self g c =
+    same-fact c.self.invariant c.make_room.ensures.slots c.make_room.ensures.passes
+
+pub invariant_of-self-in_default-made : goal.invariant_of-self-in_default-made
+invariant_of-self-in_default-made g c =
+    same-fact c.self.invariant c.make_room.ensures.slots c.make_room.ensures.passes
+
+pub push_writer-requires-clause-writes : goal.push_writer-requires-clause-writes
+push_writer-requires-clause-writes g c κs within =
+    writes g.S.Slice.DROPS _ c.args.count c.in-Ok.window c.none-pass.result
+    c.try_zeroed_as.new.pass (written g (goal.at.push_writer-requires-clause-writes g c).In-Ok)
+
+pub push_writer-requires-clause-nowhere : goal.push_writer-requires-clause-nowhere
+push_writer-requires-clause-nowhere g c κs within none =
+    idle-nowhere g.S.Slice.DROPS _ c.args.count c.in-Ok.window c.none-pass.result
+    c.try_zeroed_as.new.pass (written g (goal.at.push_writer-requires-clause-nowhere g c).In-Ok) none
+
+pub push_writer-requires-clause-block : goal.push_writer-requires-clause-block
+push_writer-requires-clause-block g c κs within some n =
+    new-on-block g.S.Slice.DROPS _ c.args.count c.in-Ok.window c.none-pass.result
+    c.try_zeroed_as.new.pass (written g (goal.at.push_writer-requires-clause-block g c).In-Ok) n some
