@@ -16,7 +16,7 @@ use Rattle.arc_commands.specs.declared.command.Reply.{Reply}
 use Rattle.arc_commands.specs.declared.command.Reply.TheVariants as reply
 use Rattle.arc_commands.proofs.Lists.{read-there, same_entry, no_error, an_error}
 use Rattle.arc_table.proofs.Kept.{known-pass}
-use Rattle.arc_table.proofs.Done.{Done}
+use Rattle.arc_table.proofs.Done.{Done, same-fact}
 use Rattle.arc_table.proofs.Tables.{stand-there}
 use Rattle.arc_slots.specs.Writing.{Fills, is_fresh, items_of, additional_of, seen_writing}
 use Rattle.arc_slots.specs.Writing.{write_command}
@@ -246,3 +246,6 @@ pub returns-in-Err-clause-passes : goal.returns-in-Err-clause-passes
 returns-in-Err-clause-passes g c =
     (unwrote g (goal.at.returns-in-Err-clause-passes g c).After-write c.in-Err.e
     c.in-Err.ensures).passes_are
+
+pub invariant_of-self : goal.invariant_of-self
+invariant_of-self g c = same-fact c.self.invariant refl c.reserve_for.ensures.items
