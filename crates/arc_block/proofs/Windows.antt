@@ -1,5 +1,6 @@
 -- What a window's parts are seen as: over a block, and cut.
-use Rattle.std.proofs.Common.{◌≡◌, ℕ, ◌+◌, ◌-◌, ◌≤◌, ◌==◌, ◌&&◌, Bool, true, false, if◌then◌else◌, List, [], length, Option, Some, refl, sym, ap, ◌∙◌, subst, arith}
+use Rattle.std.proofs.Common.{Fits, Fits-le, ◌≡◌, ℕ, ◌+◌, ◌-◌, ◌≤◌, ◌==◌, ◌&&◌, Bool, true, false, if◌then◌else◌, List, [], length, Option, Some, refl, sym, ap, ◌∙◌, subst, arith}
+use mir.Syntax.{w64}
 use Rattle.std.proofs.lemmas.Bool.{eqb-true, false≢true}
 use Rattle.std.proofs.lemmas.List.{nil_from_length}
 use Rattle.arc_owners.specs.declared.count.tokens.Pass.{Pass}
@@ -26,6 +27,15 @@ module _ {T M : Type 0} where
   how_long Nothing from to p view within = omega (arith, ap (λ (v : PartsView T M). length v.items) view, within.0, within.1)
   how_long (Static items) from to p view within = omega (arith, ap (λ (v : PartsView T M). length v.items) view, length-sub items from to within.0 within.1, within.0)
   how_long (Block b) from to p view within = omega (arith, ap (λ (v : PartsView T M). length v.items) view, length-sub b.items from to within.0 within.1, within.0)
+
+  -- places among the items are as small as the end, and so numbers of the code's
+  pub places_fit : (inner : Storage T (BlockView T M)) (from to : ℕ) (p : PartsView T M)
+      → parts_of (window_seen inner from to) ≡ p → IsWithin inner from to → Fits w64 to
+      → (start end : ℕ) → start ≤ end → end ≤ length p.items
+      → Fits w64 (from + start) × Fits w64 (from + end)
+  places_fit inner from to p view within fits start end ordered inside =
+      let long = how_long inner from to p view within in
+      (Fits-le (omega (arith, long, ordered, inside)) fits, Fits-le (omega (arith, long, inside)) fits)
 
   -- what is left between two ends lies within the block
   pub kept_within : (inner : Storage T (BlockView T M)) (from to start end : ℕ) → IsWithin inner from to → start ≤ end → from + end ≤ to → IsWithin inner (from + start) (from + end)
@@ -96,6 +106,12 @@ module _ {T M : Type 0} (inner : Storage T (BlockView T M)) (from to : ℕ) (p :
       pub part_items : (window_seen (Block b') (from + start) (from + end)).items ≡ sub p.items start end
       part_items = ap (λ xs. sub xs (from + start) (from + end)) items ∙ ap (λ (v : PartsView T M). v.items) part_seen
 
+      pub part_within : IsWithin (Block b') (from + start) (from + end)
+      part_within =
+          let places = ap (λ (f : BlockInfo M). f.size) facts in
+          let many = ap length items in
+          (omega (arith, ordered), omega (arith, upto, here.1, many), omega (arith, here.2, places, many))
+
       pub part_shares : {H : Type 0} (old new : Pass H) → MakesAnother b.owner old new b'.owner → Shares (part_place has_static (sub p.items start end) start p.place) old new (window_seen (Block b') (from + start) (from + end)).place
       part_shares old new makes =
           let P : Place (Option Owner) M → Type 0 = λ place. Shares place old new (on_block (Some b'.owner) (from + start) b'.facts) in
@@ -143,6 +159,14 @@ module _ {T M : Type 0} (inner : Storage T (BlockView T M)) (from to : ℕ) (p :
         ap (λ xs. sub xs (from + start) (from + end)) same ∙ sym (sub-sub all from to start end (omega (arith, inside, in_slice, inside_slice.0)))
         ∙ ap (λ (v : PartsView T M). sub v.items start end) (sym on_slice_seen)
 
+    pub slice_within : (items : List T) → items ≡ all
+        → IsWithin {T = T} {M = M} (Static items) (from + start) (from + end)
+    slice_within items same =
+        let many = ap length same in (
+          omega (arith, ordered),
+          omega (arith, inside, in_slice, inside_slice.0, inside_slice.1, many),
+        )
+
     pub slice_shares : {H : Type 0} (has_static : Bool) (old : Pass H) → (has_static && ((end - start) == 0)) ≡ false
         → Shares (part_place has_static (sub p.items start end) start p.place) old old static_data
     slice_shares has_static old kept =
@@ -153,6 +177,24 @@ module _ {T M : Type 0} (inner : Storage T (BlockView T M)) (from to : ℕ) (p :
 both_true : (b : Bool) (n : ℕ) → (b && (n == 0)) ≡ true → n ≡ 0
 both_true true n both = eqb-true n 0 both
 both_true false n both = absurd (false≢true both)
+
+-- a part that the code finds to have no items has none
+pub none_there : {T : Type 0} (has_static : Bool) (xs : List T) (start end : ℕ) → start ≤ end
+    → end ≤ length xs → (has_static && ((end - start) == 0)) ≡ true → [] ≡ sub xs start end
+none_there has_static xs start end ordered inside nothing =
+    let none = both_true has_static (end - start) nothing in
+    sym (nil_from_length (sub xs start end) (length-sub xs start end ordered inside ∙ none))
+
+-- nor has a part of what stands on nothing
+pub none_on_nothing : {T M : Type 0} (inner : Storage T (BlockView T M)) (from to : ℕ)
+    (p : PartsView T M) → parts_of (window_seen inner from to) ≡ p → inner ≡ Nothing
+    → (start end : ℕ) → start ≤ end → end ≤ length p.items → [] ≡ sub p.items start end
+none_on_nothing {T} {M} inner from to p view is start end ordered inside =
+    let none : p.items ≡ [] =
+    ap (λ (v : PartsView T M). v.items) (sym view ∙ ap (λ x. parts_of (window_seen x from to)) is) in
+    let long = length-sub p.items start end ordered inside in
+    let few = ap length none in
+    sym (nil_from_length (sub p.items start end) (omega (arith, long, inside, few)))
 
 module _ {T M : Type 0} (has_static drops one_pass : Bool) (items : List T) where
   -- all of a new block

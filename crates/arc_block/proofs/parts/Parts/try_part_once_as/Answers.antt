@@ -1,7 +1,10 @@
 -- The part lies where its source does, has its items, and stands that much further in.
-use Rattle.std.proofs.Common.{◌≡◌, sym, subst, IfOk}
+use Rattle.std.proofs.Common.{Fits, ◌≡◌, sym, ap, ◌∙◌, subst, rules, IfOk}
+use mir.Syntax.{w64}
 use Rattle.arc_owners.specs.count.Calls.{MakesAnother}
-use Rattle.arc_block.proofs.Windows.{part_items, part_shares, slice_items, slice_shares}
+use Rattle.arc_block.proofs.Windows.{part_items, part_shares, part_within}
+use Rattle.arc_block.proofs.Windows.{slice_items, slice_shares, slice_within, places_fit}
+use Rattle.arc_block.proofs.Windows.{none_there, none_on_nothing}
 use Rattle.arc_block.proofs.parts.Parts.try_part_once_as.Goals as goal
 
 pub returns-in-Ok-clause-items : goal.returns-in-Ok-clause-items
@@ -34,3 +37,52 @@ returns-in-Static-clause-place g c =
     slice_shares _ _ _ c.args.self.now _ c.self.view_is c.in-Static.is c.self.invariant
     c.args.start c.args.end c.requires.range.0 c.requires.range.1 g.L.Layout.STATIC
     c.args.pass.now (sym c.if-stands_on_nothing.ensures)
+
+pub invariant_of-result : goal.invariant_of-result
+invariant_of-result g c =
+    let alike = subst (λ r. IfOk r (λ other. (other.items ≡ c.in-Block.block.items)
+    × (other.facts ≡ c.in-Block.block.facts))) c.in-Ok.is c.in_ok-block-in-Block.ensures.alike in
+    part_within _ _ _ c.args.self.now _ c.self.view_is c.in-Block.is c.self.invariant
+    g.L.Layout.STATIC c.args.start c.args.end c.requires.range.0 c.requires.range.1
+    (sym c.if-stands_on_nothing.ensures) c.in-Ok.block alike.0 alike.1
+
+pub invariant_of-result-in-Static : goal.invariant_of-result-in-Static
+invariant_of-result-in-Static g c =
+    slice_within _ _ _ c.args.self.now _ c.self.view_is c.in-Static.is c.self.invariant
+    c.args.start c.args.end c.requires.range.0 c.requires.range.1 _ c.again.ensures
+
+pub overflow_add-result-in-Ok : goal.overflow_add-result-in-Ok
+overflow_add-result-in-Ok g c =
+    let last : Fits w64 c.self.inside.end = search rules in
+    (places_fit _ _ _ c.args.self.now c.self.view_is c.self.invariant last
+    c.args.start c.args.end c.requires.range.0 c.requires.range.1).1
+
+pub overflow_add-result : goal.overflow_add-result
+overflow_add-result g c =
+    let last : Fits w64 c.self.inside.end = search rules in
+    (places_fit _ _ _ c.args.self.now c.self.view_is c.self.invariant last
+    c.args.start c.args.end c.requires.range.0 c.requires.range.1).0
+
+pub overflow_add-result-in-Static : goal.overflow_add-result-in-Static
+overflow_add-result-in-Static g c =
+    let last : Fits w64 c.self.inside.end = search rules in
+    (places_fit _ _ _ c.args.self.now c.self.view_is c.self.invariant last
+    c.args.start c.args.end c.requires.range.0 c.requires.range.1).0
+
+pub overflow_add-result-in-Static-2 : goal.overflow_add-result-in-Static-2
+overflow_add-result-in-Static-2 g c =
+    let last : Fits w64 c.self.inside.end = search rules in
+    (places_fit _ _ _ c.args.self.now c.self.view_is c.self.invariant last
+    c.args.start c.args.end c.requires.range.0 c.requires.range.1).1
+
+pub returns-then-stands_on_nothing-clause-items : goal.returns-then-stands_on_nothing-clause-items
+returns-then-stands_on_nothing-clause-items g c =
+    ap (λ p. p.items) c.on_nothing.ensures
+    ∙ none_there g.L.Layout.STATIC c.args.self.now.items c.args.start c.args.end
+    c.requires.range.0 c.requires.range.1 (sym c.if-stands_on_nothing.ensures)
+
+pub returns-in-Nothing-clause-items : goal.returns-in-Nothing-clause-items
+returns-in-Nothing-clause-items g c =
+    ap (λ p. p.items) c.on_nothing-in-Nothing.ensures
+    ∙ none_on_nothing _ _ _ c.args.self.now c.self.view_is c.in-Nothing.is
+    c.args.start c.args.end c.requires.range.0 c.requires.range.1
