@@ -3,7 +3,7 @@
 //!
 //! `take_apart` makes both of a vector, and `put_together` the vector again. Places can be cut and
 //! joined, edited by a vector that lodges in them (`Lodging`), and lent for a lifetime to several
-//! writers (`LentPlaces`).
+//! writers (`LentPlaces`), who may freeze their items for readers (`FrozenPlaces`).
 #![tactic(auto)]
 
 pub use allocation::{Allocation, put_together, take_apart};
