@@ -95,7 +95,10 @@ fn memory_refused(rt: HostRuntime) -> Result<(), Fail> {
                 let taken = heap.used();
                 drop(block);
                 let is_kept = heap.used() == taken && other.range(0, 40) == items.as_slice();
-                assert!(rt; is_kept && other.release_as(&mut pass), "in {blocks} blocks");
+                assert!(rt;
+                    is_kept && other.release_as(&mut pass),
+                    "in {blocks} blocks"
+                );
                 made = made.saturating_add(1);
             }
             Err(error) => {

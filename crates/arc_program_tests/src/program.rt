@@ -216,7 +216,10 @@ fn memory_refused(rt: HostRuntime) -> Result<(), Fail> {
                 && text != HELLO_REPLIES
                 && faults.bytes.as_slice() == b"allocation error\n".as_slice()
         };
-        assert!(rt; is_begun && is_right && heap.used() == 0, "in {blocks} blocks");
+        assert!(rt;
+            is_begun && is_right && heap.used() == 0,
+            "in {blocks} blocks"
+        );
         if text == HELLO_REPLIES {
             whole = whole.saturating_add(1);
         }
