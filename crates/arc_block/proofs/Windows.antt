@@ -24,7 +24,7 @@ stays (on_block owner offset facts) = let same : offset + 0 ≡ offset = omega a
 module _ {T M : Type 0} where
   -- how many items there are
   pub how_long : (inner : Storage T (BlockView T M)) (from to : ℕ) (p : PartsView T M) → parts_of (window_seen inner from to) ≡ p → IsWithin inner from to → from + length p.items ≡ to
-  how_long Nothing from to p view within = omega (arith, ap (λ (v : PartsView T M). length v.items) view, within.0, within.1)
+  how_long (Nothing none) from to p view within = omega (arith, ap (λ (v : PartsView T M). length v.items) view, within.0, within.1)
   how_long (Static items) from to p view within = omega (arith, ap (λ (v : PartsView T M). length v.items) view, length-sub items from to within.0 within.1, within.0)
   how_long (Block b) from to p view within = omega (arith, ap (λ (v : PartsView T M). length v.items) view, length-sub b.items from to within.0 within.1, within.0)
 
@@ -39,17 +39,17 @@ module _ {T M : Type 0} where
 
   -- what is left between two ends lies within the block
   pub kept_within : (inner : Storage T (BlockView T M)) (from to start end : ℕ) → IsWithin inner from to → start ≤ end → from + end ≤ to → IsWithin inner (from + start) (from + end)
-  kept_within Nothing from to start end within ordered inside = (omega (arith, within.0, within.1, ordered, inside), omega (arith, within.0, within.1, inside))
+  kept_within (Nothing none) from to start end within ordered inside = (omega (arith, within.0, within.1, ordered, inside), omega (arith, within.0, within.1, inside))
   kept_within (Static items) from to start end within ordered inside = (omega (arith, ordered), omega (arith, inside, within.1))
   kept_within (Block b) from to start end within ordered inside = (omega (arith, ordered), omega (arith, inside, within.1), within.2)
 
   -- and is seen as the items between them, that much further in
   pub kept_seen : (inner : Storage T (BlockView T M)) (from to start end : ℕ) (p : PartsView T M) → parts_of (window_seen inner from to) ≡ p → IsWithin inner from to → start ≤ end → from + end ≤ to
       → parts_of (window_seen inner (from + start) (from + end)) ≡ record { items = sub p.items start end; place = moved start p.place; role = p.role }
-  kept_seen Nothing from to start end p view within ordered inside =
+  kept_seen (Nothing none) from to start end p view within ordered inside =
       let nil : List T = [] in
       let empty : sub nil start end ≡ [] = nil_from_length (sub nil start end) (omega (arith, length-sub nil start end ordered (omega (arith, within.0, within.1, inside)), within.0, within.1, inside)) in
-      let seen : PartsView T M → Type 0 = λ v. parts_of (window_seen {T = T} Nothing (from + start) (from + end)) ≡ record { items = sub v.items start end; place = moved start v.place; role = v.role } in
+      let seen : PartsView T M → Type 0 = λ v. parts_of (window_seen {T = T} (Nothing none) (from + start) (from + end)) ≡ record { items = sub v.items start end; place = moved start v.place; role = v.role } in
       subst seen view (ap (λ xs. record { items = xs; place = nowhere; role = reader }) (sym empty))
   kept_seen (Static items) from to start end p view within ordered inside =
       let seen : PartsView T M → Type 0 = λ v. parts_of (window_seen {T = T} (Static items) (from + start) (from + end)) ≡ record { items = sub v.items start end; place = moved start v.place; role = v.role } in
@@ -187,13 +187,13 @@ none_there has_static xs start end ordered inside nothing =
 
 -- nor has a part of what stands on nothing
 pub none_on_nothing : {T M : Type 0} (inner : Storage T (BlockView T M)) (from to : ℕ)
-    (p : PartsView T M) → parts_of (window_seen inner from to) ≡ p → inner ≡ Nothing
-    → (start end : ℕ) → start ≤ end → end ≤ length p.items → [] ≡ sub p.items start end
-none_on_nothing {T} {M} inner from to p view is start end ordered inside =
-    let none : p.items ≡ [] =
+    (p : PartsView T M) (none : List T) → parts_of (window_seen inner from to) ≡ p
+    → inner ≡ Nothing none → (start end : ℕ) → start ≤ end → end ≤ length p.items → [] ≡ sub p.items start end
+none_on_nothing {T} {M} inner from to p none view is start end ordered inside =
+    let empty : p.items ≡ [] =
     ap (λ (v : PartsView T M). v.items) (sym view ∙ ap (λ x. parts_of (window_seen x from to)) is) in
     let long = length-sub p.items start end ordered inside in
-    let few = ap length none in
+    let few = ap length empty in
     sym (nil_from_length (sub p.items start end) (omega (arith, long, inside, few)))
 
 module _ {T M : Type 0} (has_static drops one_pass : Bool) (items : List T) where

@@ -32,7 +32,7 @@ NeedsBlock {T} has_static items =
 
 -- the part from start to end of what a window stands on
 abbrev pub window_seen : {T M : Type 0} → Storage T (BlockView T M) → ℕ → ℕ → Window T M
-window_seen Nothing start end = record { items = []; place = nowhere }
+window_seen (Nothing none) start end = record { items = []; place = nowhere }
 window_seen (Static items) start end = record { items = sub items start end; place = static_data }
 window_seen (Block block) start end = record {
   items = sub block.items start end;
@@ -42,7 +42,7 @@ window_seen (Block block) start end = record {
 -- start to end lies within what the window stands on; a block has a place for each item; a window
 -- on nothing has no items
 abbrev pub IsWithin : {T M : Type 0} → Storage T (BlockView T M) → ℕ → ℕ → Type 0
-IsWithin Nothing start end = (start ≡ 0) × (end ≡ 0)
+IsWithin (Nothing none) start end = (start ≡ 0) × (end ≡ 0)
 IsWithin (Static items) start end = (start ≤ end) × (end ≤ length items)
 IsWithin (Block block) start end = (start ≤ end) × (end ≤ length block.items)
     × (length block.items ≤ block.facts.size)

@@ -37,8 +37,8 @@ pub fn max_owners() -> u64
 /// Dropped, it ends with a new pass under the mark `Open`. Under `Whole` it is a forgotten owner:
 /// the block stays for good.
 pub struct Block<S: Slice, B, M, A: Allocator + Copy, const MAX: u64, H: Mark = Open> {
-    piece: CountedBox<Native<S::Item, A>, A, MAX, H>,
     base: Base<S::Item>,
+    piece: CountedBox<Native<S::Item, A>, A, MAX, H>,
     of: PhantomData<(B, M)>,
 }
 

@@ -14,7 +14,7 @@ ghost use Rattle.arc_block.specs.Steps.{Makes, Begins};
 
 use crate::block::{Block, MAX_OWNERS};
 use crate::layout::{Layout, stands_on_nothing};
-use crate::static_slice::StaticSlice;
+use crate::static_slice::{StaticItems, StaticSlice};
 use arc_buffer::kinds::Slice;
 use arc_owners::error::AllocError;
 use arc_owners::mark::{Mark, Open};
@@ -66,7 +66,7 @@ impl<S: Slice, B, M, A: Allocator + Copy, H: Mark> Drop for Parts<S, B, M, A, H>
         match on {
             Storage::Block(block) => drop(block),
             Storage::Static(items) => drop(items),
-            Storage::Nothing => {}
+            Storage::Nothing(items) => drop(items),
         }
         drop(alloc);
     }
@@ -79,7 +79,7 @@ impl<S: Slice, B, M, A: Allocator + Copy, H: Mark> Parts<S, B, M, A, H> {
         ensures { result ≡ record { items = []; place = nowhere; role = reader } }
     {
         Parts {
-            on: Storage::Nothing,
+            on: Storage::Nothing(StaticItems::none()),
             start: 0,
             end: 0,
             alloc,
@@ -203,7 +203,7 @@ impl<S: Slice, B, M, A: Allocator + Copy, H: Mark> Parts<S, B, M, A, H> {
         match &self.on {
             Storage::Block(block) => block.range(self.start, self.end),
             Storage::Static(items) => items.range(self.start, self.end),
-            Storage::Nothing => &[],
+            Storage::Nothing(items) => items.range(self.start, self.end),
         }
     }
 

@@ -116,7 +116,7 @@ impl<T> Model for StaticItems<T> {
 impl<T> StaticItems<T> {
     /// No items.
     #[inline(always)]
-    fn none() -> Self
+    pub(crate) fn none() -> Self
         ensures { result ≡ [] }
     {
         let (at, share) = StaticShare::of_none(&[]);

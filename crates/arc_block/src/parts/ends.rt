@@ -136,7 +136,7 @@ impl<S: Slice, B, M, A: Allocator + Copy, H: Mark> Parts<S, B, M, A, H> {
         let on = match on {
             Storage::Block(block) => Storage::Block(block.into_kind()),
             Storage::Static(items) => Storage::Static(items),
-            Storage::Nothing => Storage::Nothing,
+            Storage::Nothing(items) => Storage::Nothing(items),
         };
         Parts {
             on,
@@ -164,7 +164,7 @@ impl<S: Slice, B, M, A: Allocator + Copy, H: Mark> Parts<S, B, M, A, H> {
                 start: self.start,
                 end: self.end,
             }),
-            Storage::Nothing => Ok(StaticSlice::empty()),
+            Storage::Nothing(_) => Ok(StaticSlice::empty()),
         }
     }
 }

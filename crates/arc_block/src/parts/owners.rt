@@ -51,7 +51,7 @@ impl<S: Slice, B, M, A: Allocator + Copy, H: Mark> Parts<S, B, M, A, H> {
                 Err(e) => return Some(Err(e.into())),
             },
             Storage::Static(items) => Storage::Static(items.again()),
-            Storage::Nothing => Storage::Nothing,
+            Storage::Nothing(items) => Storage::Nothing(items.again()),
         };
         Some(Ok(Parts {
             on,
@@ -116,7 +116,7 @@ impl<S: Slice, B, M, A: Allocator + Copy, H: Mark> Parts<S, B, M, A, H> {
                 end: self.start + end,
                 alloc: self.alloc,
             })),
-            Storage::Nothing => Some(Ok(Self::on_nothing(self.alloc))),
+            Storage::Nothing(_) => Some(Ok(Self::on_nothing(self.alloc))),
         }
     }
 

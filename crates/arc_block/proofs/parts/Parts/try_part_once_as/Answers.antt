@@ -84,5 +84,5 @@ returns-then-stands_on_nothing-clause-items g c =
 pub returns-in-Nothing-clause-items : goal.returns-in-Nothing-clause-items
 returns-in-Nothing-clause-items g c =
     ap (λ p. p.items) c.on_nothing-in-Nothing.ensures
-    ∙ none_on_nothing _ _ _ c.args.self.now c.self.view_is c.in-Nothing.is
+    ∙ none_on_nothing _ _ _ c.args.self.now _ c.self.view_is c.in-Nothing.is
     c.args.start c.args.end c.requires.range.0 c.requires.range.1
