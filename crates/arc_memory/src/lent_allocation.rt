@@ -72,7 +72,8 @@ impl<T, A: Allocator> LentAllocation<T, A> {
     /// All of the lifetime, to be shown for freezing a part and reading what is frozen.
     #[inline(always)]
     pub fn lifetime(&self) -> &LifetimeToken
-        ensures { result.now ≡ self.now.lifetime }
+        ensures share { result.now ≡ self.now.lifetime }
+        ensures lifetime { result.now.lifetime ≡ self.now.inheritance.memory.lifetime }
     {
         &self.lifetime
     }

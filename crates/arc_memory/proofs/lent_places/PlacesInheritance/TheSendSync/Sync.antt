@@ -5,5 +5,5 @@ use Rattle.arc_memory.proofs.lent_places.PlacesInheritance.TheSendSync.Send.{sen
 use Rattle.arc_memory.specs.contracts.lent_places.PlacesInheritance.{the_row}
 
 pub sync : (T : RattleType) → IsSend T → IsSync (the_row T)
-sync T s = let R : RattleType = the_row T in
-    record { shared = λ d b o κ q. whole-keyless (raw_all R.mir) R.own_val (send T s).owned q d b o }
+sync T s = let R : RattleType = the_row T in let own = (send T s).owned in
+    record { shared = λ d b o κ q. whole-keyless (raw_all R.mir) R.own_val own q d b o }

@@ -1,5 +1,6 @@
 -- `regain_empty` takes each place back, whatever lies in it. It touches no memory.
-use Rattle.std.proofs.Common.{◌≡◌, ℕ, ◌+◌, ◌*◌, List, [], ◌∷◌, ◌++◌, length, refl, sym, subst, arith, length-drop}
+use Rattle.std.proofs.Common.{◌≡◌, ℕ, ◌+◌, ◌*◌, List, [], ◌∷◌, ◌++◌, length}
+use Rattle.std.proofs.Common.{refl, sym, subst, arith, length-drop}
 use lib.ListN.{drop as drop_from}
 use mir.Syntax.{a_type}
 use mir.Val.{Val}
@@ -7,7 +8,8 @@ use mir.MapTy.{inst_fn}
 use base.Logic.{SProp, ent, emp, id⊢}
 use base.Fml.{GName, ftrue, fsep, flft, fdead}
 use prog.Wp.{WpFn}
-use types.Kit.{‵, raw, ◌⊛◌, later, ◌$◌, ◌∵◌, !, qed, by, move, keep, drop, split, fsplit, fjoin, suffices, use2, await, rewrite}
+use types.Kit.{‵, raw, ◌⊛◌, later, ◌$◌, ◌∵◌, !, qed, by, move, keep, drop, split, fsplit}
+use types.Kit.{fjoin, suffices, use2, await, rewrite}
 use types.Run.{no_more, and_then, returns, enter}
 use types.ByLocal.{alloc_all, pass_all, free_all, look_at, get, sets}
 use types.Part.{agg}
