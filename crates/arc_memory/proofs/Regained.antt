@@ -1,6 +1,7 @@
 -- Lent places come back in three runs, once the lifetime has ended: those before a range of which
 -- the names are known, those of the range, with its items, and those behind it. Assumes `Logic`.
 --     comes_back     what lies in them
+--     comes_back_empty      as one run, of which no item is known
 --     runs_in        the runs are made of it
 use Rattle.std.proofs.Common.{◌≡◌, ℕ, ◌+◌, ◌-◌, ◌*◌, ◌^◌, ◌<◌, ◌≤◌, List, [], ◌∷◌, ◌++◌, length, take, sym, ap, ◌∙◌, refl, arith, length-drop, length-take-le}
 use lib.ListN.{drop as drop_from}
@@ -10,7 +11,7 @@ use base.Logic.{ent, sep}
 use base.Fml.{GName, Fml, fsep, feq, fex, fdead}
 use contract.Monad.{fact}
 use types.Logic.{Logic, sem}
-use types.Kit.{Goal, Step, step, Item, ‵, raw, ◌⊛◌, later, ◌$◌, ◌∵◌, !, qed, move, split, fjoin, fpack, feq_i, fsplit3, fpick, feq_l, use1, use2, rewrite, await, updating, now, done}
+use types.Kit.{Goal, Step, step, Item, ‵, raw, ◌⊛◌, later, ◌$◌, ◌∵◌, !, qed, move, keep, split, fjoin, fpack, feq_i, fsplit3, fpick, feq_l, use1, use2, rewrite, await, updating, now, done}
 use denote.RattleType.{RattleType, Valss, owns}
 use denote.RawPtr.{block_ptr}
 use denote.Steps.{nothing, heard}
@@ -60,6 +61,26 @@ module _ (E : El) {M : Type 1} {𝓤 : Ura M} (𝓛 : Logic 𝓤) (b o first sta
         use1 𝓛 (‵ Behind) (spots_bare E 𝓛 b n end rest (omega (arith, length-drop count (drop_from k zs), length-drop k zs, many, all))) $
         -- [the places behind the range; those of the range; those before it]
         move ! (2 ∷ 1 ∷ []) $ now ! $ done !)))
+
+module _ (E : El) {M : Type 1} {𝓤 : Ura M} (𝓛 : Logic 𝓤) (b o count a : ℕ) where
+  open 𝓛 use {H}
+
+  module _ (gs : List GName) (many : length gs ≡ count) where
+    abbrev Bare : Fml
+    Bare = Side E 𝓛 b o count []
+
+    abbrev Found : Fml
+    Found = fex (List (Spot E 𝓛 b)) (Back E 𝓛 b a gs o)
+
+    pub comes_back_empty :
+        ent 𝓤 (sep 𝓤 (sem 𝓛 (fdead (a ∷ []))) (sem 𝓛 (Returns E 𝓛 b a gs o))) (H.⇛ (sem 𝓛 Bare))
+    comes_back_empty =
+        qed 𝓛 (‵ (fdead (a ∷ [])) ∷ ‵ (Returns E 𝓛 b a gs o) ∷ []) ∵ updating ! $
+        use2 𝓛 (later (‵ Found)) (regains E 𝓛 b a gs o) $ await ! tt $
+        fpick ! (λ zs. fsplit3 ! $ feq_l ! (λ same.
+        -- [the places; what their names decide]
+        use1 𝓛 (‵ Bare) (spots_bare E 𝓛 b count o zs (same ∙ many)) $ keep ! (0 ∷ []) $
+        now ! $ done !))
 
 module _ (E : El) (m : LentMemory) (first start count n : ℕ) (xs : List (el_x E)) (ordered : first ≤ start) (fits : start + count + n ≤ m.whole) (held : length xs ≤ count) (few : m.whole < 2 ^ 63) where
   abbrev Pl : RattleType

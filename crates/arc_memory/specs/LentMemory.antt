@@ -1,9 +1,10 @@
 -- Places that are lent for a lifetime. Each is borrowed by itself, under a ghost name that says
 -- what lies there, so a range of them is cut and put together with nothing opened.
-use Rattle.std.specs.Prelude.{refl, ℕ, zero, suc, ◌+◌, List, [], ◌∷◌, length, drop}
+use Rattle.std.specs.Prelude.{◌≡◌, refl, ℕ, zero, suc, ◌+◌, List, [], ◌∷◌, length, drop}
 use Rattle.std.specs.Prelude.{Option, Some, None}
 use Rattle.std.specs.Coded.{Coded, code_by, coded×, coded_ℕ, coded_list, coded_option}
 use base.Share
+use base.Stored.{Coded-set}
 use base.Fraction.{full_share}
 use base.Fml.{GName, Share, Fml, ftrue, ffalse, fsep, fex, flft, fobs, fauth, fres}
 use base.Fml.{fbor, fobor, flent, froom}
@@ -29,6 +30,10 @@ lent_memory_code = code_by (ℕ × (List ℕ × (Ptr × ℕ)))
     (coded× coded_ℕ (coded× (coded_list coded_ℕ) (coded× coded_ptr coded_ℕ)))
     (λ m. (m.lifetime, (m.names, (m.base, m.whole))))
     (λ p. record { lifetime = p.0; names = p.1.0; base = p.1.1.0; whole = p.1.1.1 }) (λ _. refl)
+
+-- which memory is lent can be a fact of a type
+pub LentMemory-set : (m n : LentMemory) (e f : m ≡ n) → e ≡ f
+LentMemory-set = Coded-set lent_memory_code
 
 -- what lies in so many places, of which the first hold these items and the others nothing
 abbrev pub contents : {T : Type 0} → ℕ → List T → List (Option T)

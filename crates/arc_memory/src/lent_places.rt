@@ -299,8 +299,29 @@ impl<T> PlacesInheritance<T> {
     }
 }
 
+impl<T> PlacesInheritance<T> {
+    ghost use Rattle.arc_memory.specs.Allocations.{IsPartOfLent};
+
+    /// All the places as one, answered as empty, once the lifetime has ended: what lies in them, of
+    /// parts that were not given up, is forgotten.
+    pub fn regain_empty(self, ended: EndedLifetime) -> Places<T>
+        requires ended { ended.lifetime ≡ self.memory.lifetime }
+        ensures memory { IsPartOfLent self.memory result }
+        ensures places { (result.start ≡ self.start) × (result.count ≡ self.count)
+            × (result.items ≡ []) }
+    {
+        let PlacesInheritance { marker: _ } = self;
+        let EndedLifetime { marker: _ } = ended;
+        Places {
+            marker: PhantomData,
+        }
+    }
+}
+
 unsafe impl<T: Send> Send for LentPlaces<T> {}
 
 unsafe impl<T: Send> Send for OpenPlaces<T> {}
 
 unsafe impl<T: Send> Send for PlacesInheritance<T> {}
+
+unsafe impl<T: Send> Sync for PlacesInheritance<T> {}

@@ -3,12 +3,14 @@
 //!
 //! `take_apart` makes both of a vector, and `put_together` the vector again. Places can be cut and
 //! joined, edited by a vector that lodges in them (`Lodging`), and lent for a lifetime to several
-//! writers (`LentPlaces`), who may freeze their items for readers (`FrozenPlaces`).
+//! writers (`LentPlaces`), who may freeze their items for readers (`FrozenPlaces`). Memory that is
+//! lent whole can be the value of a counted box (`LentAllocation`).
 #![tactic(auto)]
 
 pub use allocation::{Allocation, put_together, take_apart};
 pub use base::Base;
 pub use frozen_places::FrozenPlaces;
+pub use lent_allocation::LentAllocation;
 pub use lent_places::{LentPlaces, OpenPlaces, PlacesInheritance};
 pub use lifetime::{EndedLifetime, LifetimeToken};
 pub use lodging::Lodging;
@@ -19,6 +21,7 @@ mod allocation;
 mod base;
 mod emptied;
 mod frozen_places;
+mod lent_allocation;
 mod lent_places;
 mod lifetime;
 mod lodging;

@@ -3,4 +3,6 @@
 #![tactic(auto)]
 
 #[cfg(test)]
+mod lent_allocations;
+#[cfg(test)]
 mod places;

@@ -1,0 +1,251 @@
+//! Lent memory as the value of a counted box: read by several owners, taken back by the last one,
+//! and given back where all are dropped.
+ghost use Rattle.std.specs.Prelude.{◌≡◌, [], ◌∷◌, IfOk, IfSome, is_some, length};
+ghost use Rattle.arc_owners.specs.count.Calls.{IsPassFor, MakesAnother, Leaves};
+ghost use Rattle.arc_owners.specs.memory.Boxes.{owner_in, value_of};
+ghost use Rattle.arc_memory.specs.Allocations.{IsAllOf};
+ghost use Rattle.arc_memory.specs.LentMemory.{LentMemory-set};
+
+use arc_memory::{Allocation, Base, FrozenPlaces, LentAllocation, Lodging, Places, put_together};
+use arc_owners::error::{AllocError, CountFull};
+use arc_owners::mark::Open;
+use arc_owners::owners::{CountedBox, Pass};
+use linked_list_allocator::LocalHeap;
+use std::alloc::Allocator;
+use std::sync::Wait;
+use std::test::Fail;
+
+/// Memory with these two items, which are frozen, and where it begins.
+fn frozen<T: Drop, A: Allocator>(
+    alloc: A,
+    first: T,
+    second: T,
+) -> Result<(*const T, FrozenPlaces<T>, LentAllocation<T, A>), AllocError>
+    ensures range { IfOk result (λ r. (r.1.memory ≡ r.2.inheritance.memory) × (r.1.start ≡ 0)
+        × (r.1.items ≡ first ∷ second ∷ []) × (r.0 ≡ r.2.inheritance.memory.base)) }
+    ensures places { IfOk result (λ r. r.2.allocation.count ≡ 2) }
+{
+    let (base, part, lent) = LentAllocation::new(alloc, 2)?;
+    let (lifetime, inheritance, allocation) = lent.into_parts();
+    let (room, left) = part.open(lifetime);
+    let (mut lodger, under) = unsafe { Lodging::house(room, base, 0, 0, 2) };
+    lodger.push_reserved(first);
+    lodger.push_reserved(second);
+    let (part, lifetime) = left.close(under.vacate(lodger));
+    let lent = LentAllocation {
+        lifetime,
+        inheritance,
+        allocation,
+    };
+    let range = part.freeze(lent.lifetime());
+    Ok((base, range, lent))
+}
+
+/// One of several readers of frozen items, which owns the memory in which they lie: what a window
+/// on such memory would be.
+#[derive(Drop)]
+struct Reader<T, A: Allocator + Copy> {
+    owner: CountedBox<LentAllocation<T, A>, A, 3, Open>,
+    range: FrozenPlaces<T>,
+    base: Base<T>,
+    end: usize,
+    ghost lent: { range.memory ≡ (value_of owner).inheritance.memory } by { LentMemory-set _ _ },
+    ghost place: { base.at ≡ range.memory.base },
+    ghost fits: { (range.start ≡ 0) × (length range.items ≡ end) },
+}
+
+impl<T, A: Allocator + Copy> Reader<T, A> {
+    /// The items, for as long as this reader is borrowed.
+    fn as_slice(&self) -> &[T]
+        ensures { result.now ≡ self.now.range.items }
+    {
+        let lifetime = self.owner.get().lifetime();
+        unsafe { self.range.as_slice(lifetime, self.base.at, 0, self.end) }
+    }
+
+    /// Another reader of the same items.
+    fn try_clone(&self, rt: &impl Wait, pass: &mut Pass<Open>) -> Result<Self, CountFull>
+        requires { IsPassFor (owner_in self.now.owner) pass.old }
+        ensures items { IfOk result (λ r. r.range.items ≡ self.now.range.items) }
+        ensures made { IfOk result (λ r.
+            MakesAnother (owner_in self.now.owner) pass.old pass.new (owner_in r.owner)) }
+    {
+        Ok(Reader {
+            owner: self.owner.try_clone_as(rt, pass)?,
+            range: self.range.again(),
+            base: Base { at: self.base.at },
+            end: self.end,
+        })
+    }
+
+    /// Where the memory begins, its places, with the items, and the right to free them, where no
+    /// other reader is left.
+    fn release(self, pass: &mut Pass<Open>) -> Option<(*const T, Places<T>, Allocation<T, A>)>
+        requires { IsPassFor (owner_in self.owner) pass.old }
+        ensures entry { Leaves (owner_in self.owner) pass.old pass.new (is_some result) }
+        ensures places { IfSome result (λ r. IsAllOf r.1 r.2 × (r.1.items ≡ self.range.items)) }
+        ensures allocation { IfSome result (λ r. (r.2.base ≡ r.0) × (r.2.len ≡ 0)) }
+    {
+        let Reader {
+            owner,
+            range,
+            base: Base { at },
+            end: _,
+        } = self;
+        let lent = owner.release_as(pass)?;
+        let (places, allocation) = lent.regain_frozen_whole(&range);
+        Some((at, places, allocation))
+    }
+}
+
+/// The last owner has the places back, with the numbers, and frees them.
+#[test]
+fn numbers_read_by_two_owners(rt: HostRuntime) -> Result<(), Fail> {
+    let heap = LocalHeap::new(rt.alloc(), 1024)?;
+    let (base, range, lent) = frozen(&heap, 7, 8)?;
+    let Ok((first, mut pass)) = CountedBox::<LentAllocation<u64, _>, _, 3, Open>::new(&heap, lent)
+    else {
+        return Err(AllocError.into());
+    };
+    let second = first.try_clone_as(&rt, &mut pass)?;
+    let seen = unsafe { range.as_slice(first.get().lifetime(), base, 0, 2) };
+    assert!(rt; seen == [7u64, 8].as_slice());
+    let seen = unsafe { range.as_slice(second.get().lifetime(), base, 1, 2) };
+    assert!(rt; seen == [8u64].as_slice());
+    assert!(rt; first.release_as(&mut pass).is_none());
+    let Some(lent) = second.release_as(&mut pass) else {
+        return Err("beside another owner".into());
+    };
+    let (places, allocation) = lent.regain_frozen_whole(&range);
+    let (mut lodger, under) = unsafe { Lodging::house(places, base, 0, 2, 2) };
+    assert!(rt; lodger.take_last() == 8);
+    assert!(rt; lodger.take_last() == 7);
+    allocation.free(under.vacate(lodger));
+    assert!(rt; heap.used() == 0);
+    Ok(())
+}
+
+/// Two readers, one after the other: what owns an item reads it, and the last one has both back.
+#[test]
+fn owned_items_read_by_two_readers(rt: HostRuntime) -> Result<(), Fail> {
+    let heap = LocalHeap::new(rt.alloc(), 1024)?;
+    let (first, second) = (Box::new(rt.alloc(), 7u8)?, Box::new(rt.alloc(), 8u8)?);
+    let (base, range, lent) = frozen(&heap, first, second)?;
+    let Ok((owner, mut pass)) = CountedBox::<LentAllocation<_, _>, _, 3, Open>::new(&heap, lent)
+    else {
+        return Err(AllocError.into());
+    };
+    let reader = Reader {
+        owner,
+        range,
+        base: Base { at: base },
+        end: 2,
+    };
+    let other = reader.try_clone(&rt, &mut pass)?;
+    assert!(rt; *reader.as_slice()[1] == 8);
+    drop(reader);
+    assert!(rt; *other.as_slice()[0] == 7);
+    let Some((base, places, allocation)) = other.release(&mut pass) else {
+        return Err("the last one".into());
+    };
+    let (mut lodger, under) = unsafe { Lodging::house(places, base, 0, 2, allocation.count()) };
+    assert!(rt; *lodger.take_last() == 8);
+    assert!(rt; *lodger.take_last() == 7);
+    allocation.free(under.vacate(lodger));
+    assert!(rt; heap.used() == 0);
+    Ok(())
+}
+
+#[test]
+fn memory_given_back_by_drop(rt: HostRuntime) -> Result<(), Fail> {
+    let heap = LocalHeap::new(rt.alloc(), 1024)?;
+    let (base, range, lent) = frozen(&heap, 7, 8)?;
+    let Ok((first, mut pass)) = CountedBox::<LentAllocation<u64, _>, _, 3, Open>::new(&heap, lent)
+    else {
+        return Err(AllocError.into());
+    };
+    let second = first.try_clone_as(&rt, &mut pass)?;
+    let taken = heap.used();
+    drop(first);
+    assert!(rt; heap.used() == taken);
+    let seen = unsafe { range.as_slice(second.get().lifetime(), base, 0, 2) };
+    assert!(rt; seen == [7u64, 8].as_slice());
+    drop(second);
+    assert!(rt; heap.used() == 0);
+    Ok(())
+}
+
+/// Alone, an owner takes the numbers back and lends them anew, for another lifetime.
+#[test]
+fn lent_anew_where_alone(rt: HostRuntime) -> Result<(), Fail> {
+    let heap = LocalHeap::new(rt.alloc(), 1024)?;
+    let (base, range, lent) = frozen(&heap, 7, 8)?;
+    let Ok((first, mut pass)) = CountedBox::<LentAllocation<u64, _>, _, 3, Open>::new(&heap, lent)
+    else {
+        return Err(AllocError.into());
+    };
+    let second = first.try_clone_as(&rt, &mut pass)?;
+    let Err(first) = first.try_into_value_as(&mut pass) else {
+        return Err("beside another owner".into());
+    };
+    drop(second);
+    let Ok(lent) = first.try_into_value_as(&mut pass) else {
+        return Err("alone".into());
+    };
+    let (places, allocation) = lent.regain_frozen_whole(&range);
+    let (part, lent) = LentAllocation::lend(allocation, places);
+    let range = part.freeze(lent.lifetime());
+    let seen = unsafe { range.as_slice(lent.lifetime(), base, 0, 2) };
+    assert!(rt; seen == [7u64, 8].as_slice());
+    drop(lent);
+    assert!(rt; heap.used() == 0);
+    Ok(())
+}
+
+/// A part that was never written is frozen by what an owner shows, and a vector is made of the
+/// memory.
+#[test]
+fn vector_of_regained_memory(rt: HostRuntime) -> Result<(), Fail> {
+    let heap = LocalHeap::new(rt.alloc(), 1024)?;
+    let (_base, part, lent) = LentAllocation::<Box<u8>, _>::new(&heap, 2)?;
+    let Ok((owner, mut pass)) = CountedBox::<LentAllocation<Box<u8>, _>, _, 3, Open>::new(
+        &heap, lent,
+    ) else {
+        part.give_up();
+        return Err(AllocError.into());
+    };
+    let (none, room) = part.split(0);
+    room.give_up();
+    drop(none.freeze(owner.get().lifetime()));
+    let Some(lent) = owner.release_as(&mut pass) else {
+        return Err("alone".into());
+    };
+    let (places, allocation) = lent.regain_empty();
+    let mut boxes = put_together(allocation, places);
+    boxes.push_reserved(Box::new(rt.alloc(), 7u8)?);
+    assert!(rt; (boxes.len(), boxes.capacity(), *boxes[0]) == (1, 2, 7));
+    drop(boxes);
+    assert!(rt; heap.used() == 0);
+    Ok(())
+}
+
+#[test]
+fn no_places_lent_and_regained(rt: HostRuntime) -> Result<(), Fail> {
+    let (_base, part, lent) = LentAllocation::<u64, _>::new(rt.alloc(), 0)?;
+    let (places, allocation) = lent.regain_whole(part);
+    allocation.free(places);
+    Ok(())
+}
+
+fn crosses<T: Send + Sync>(_value: &T) {}
+
+#[test]
+fn owners_cross_threads(rt: HostRuntime) -> Result<(), Fail> {
+    let (_base, _range, lent) = frozen(rt.alloc(), 7, 8)?;
+    let Ok((owner, _pass)) = CountedBox::<LentAllocation<u64, _>, _, 3, Open>::new(rt.alloc(), lent)
+    else {
+        return Err(AllocError.into());
+    };
+    crosses(&owner);
+    Ok(())
+}
