@@ -11,8 +11,10 @@ use Rattle.arc_owners.specs.declared.error.OwnerError.TheVariants.{AllocError, C
 use Rattle.arc_block.specs.Block.{Sort, BlockInfo}
 use Rattle.arc_block.specs.Place.{Place, nowhere, static_data, on_block, at_owner, moved}
 use Rattle.arc_block.specs.Steps.{IsPassAt, Shares, Refuses}
+use Rattle.arc_block.specs.Table.{Row, reader}
 use Rattle.arc_block.specs.Window.{Window, PartsView}
-use Rattle.arc_slots.specs.Slots.{held}
+use Rattle.arc_block.specs.Writers.{sole_at}
+use Rattle.arc_slots.specs.Slots.{held, row_of, writer_slot}
 use Rattle.arc_slots.specs.declared.slot.Held.{Held}
 use Rattle.arc_slots.specs.declared.slot.Held.TheVariants.{Read, Write}
 use Rattle.arc_slots.specs.Calls.{Through, Along, Beside, RefusesAt, AddsNothing}
@@ -71,6 +73,42 @@ moved-fits (Some n) start nowhere = refl
 moved-fits (Some n) start static_data = refl
 moved-fits (Some n) start (on_block None offset facts) = refl
 moved-fits (Some n) start (on_block (Some owner) offset facts) = refl
+
+-- a part with no items has no block where it stands on nothing
+pub part-numbered : {M : Type 0} (nothing : Bool) (start : ℕ) (b : Option ℕ) (place : At M)
+    → numbered (if nothing then None else b) (part_at nothing start place)
+    ≡ (if nothing then nowhere else moved start (numbered b place))
+part-numbered true start b place = refl
+part-numbered false start b place = moved-numbered b start place
+
+-- what stands where a window does is on a block with the same number
+pub shares-numbered : {M H : Type 0} (p new : Pass H) (b : Option ℕ) (place there : At M)
+    → Shares place p new there → numbered b there ≡ numbered b place
+shares-numbered p new b nowhere there made = ap (numbered b) made.0
+shares-numbered p new b static_data there made = ap (numbered b) made.0
+shares-numbered p new b (on_block None offset facts) there made = ap (numbered b) made.0
+shares-numbered p new None (on_block (Some o) offset facts) there made = ap (numbered None) made.2
+shares-numbered p new (Some n) (on_block (Some o) offset facts) there made =
+    ap (numbered (Some n)) made.2
+
+-- a row that is read
+abbrev read_row : {T M : Type 0} → List T → Place ℕ M → Row T M
+read_row items place = record { items = items; place = place; role = reader }
+
+pub same-reader : {T M : Type 0} {items items' : List T} {place place' : Place ℕ M}
+    → items' ≡ items → place' ≡ place → read_row items' place' ≡ read_row items place
+same-reader {items = items} {place' = place'} same there =
+    ap (λ xs. read_row xs place') same ∙ ap (read_row items) there
+
+-- the only writer of what stands on a block with this number is one of that number's row
+pub sole-numbered : {T M : Type 0} (drops : Bool) (b : Option ℕ) (items : List T) (place : At M)
+    → is_numbered b place ≡ true
+    → row_of (writer_slot (sole_at drops items place) b) ≡ sole_at drops items (numbered b place)
+sole-numbered drops b items nowhere fits = refl
+sole-numbered drops b items static_data fits = refl
+sole-numbered drops None items (on_block owner offset facts) fits = absurd (false≢true fits)
+sole-numbered drops (Some n) items (on_block None offset facts) fits = absurd (false≢true fits)
+sole-numbered drops (Some n) items (on_block (Some o) offset facts) fits = refl
 
 -- a call through the one pass of a block
 module _ {H : Type 0} (passes left : List (Pass H)) (p new : Pass H) where

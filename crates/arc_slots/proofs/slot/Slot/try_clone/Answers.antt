@@ -1,9 +1,10 @@
 -- What the clone adds to the pass that was lent for it, it adds to the passes.
-use Rattle.std.proofs.Common.{Some, sym, subst, ◌∙◌}
+use Rattle.std.proofs.Common.{◌≡◌, Some, None, sym, subst, ◌∙◌}
 use Rattle.arc_slots.specs.Calls.{Beside, RefusesAt}
-use Rattle.arc_slots.specs.Slots.{SlotView, stand_of}
+use Rattle.arc_slots.specs.Slots.{SlotView, row_of, stand_of}
 use Rattle.arc_slots.specs.Stands.{HasPassFor, numbered, stand_at}
 use Rattle.arc_slots.proofs.Slots.{still-number, shares, refuses, reads-view, reads-fits}
+use Rattle.arc_slots.proofs.Slots.{shares-numbered, same-reader}
 use Rattle.arc_slots.proofs.slot.Slot.try_clone.Goals as goal
 
 pub give_back-requires : goal.give_back-requires
@@ -71,3 +72,17 @@ returns-in-Ok-clause-stand g c =
     subst P view
     (subst (λ ps. Beside (stand_at b place) passes ps (stand_at b there)) (sym c.give_back.ensures)
     at)
+
+pub returns-in-Ok-clause-row : goal.returns-in-Ok-clause-row
+returns-in-Ok-clause-row g c =
+    let b = c.self.inside.block in
+    let w = c.in-Read.window in
+    let made = c.in-Ok.window in
+    let view =
+    sym (reads-view c.self.inside.window w b c.in-Read.is) ∙ c.self.view_is in
+    let one : SlotView g.row.S-Item.Denot g.row.M.Denot =
+    record { window = made; capacity = None; block = b } in
+    subst (λ (s : SlotView g.row.S-Item.Denot g.row.M.Denot). row_of one ≡ row_of s) view
+    (same-reader c.in-Ok.ensures.items
+    (shares-numbered c.lend-pass.result c.try_clone_as-made.new.pass b w.place made.place
+    c.in-Ok.ensures.place))

@@ -4,10 +4,12 @@ use Rattle.std.proofs.Common.{refl, sym, ap, ◌∙◌, subst}
 use Rattle.arc_buffer.specs.Slice.{sub}
 use Rattle.arc_buffer.proofs.Sub.{length-sub}
 use Rattle.arc_block.specs.Place.{part_place}
+use Rattle.arc_block.specs.Table.{reader}
 use Rattle.arc_slots.specs.Calls.{Beside, RefusesAt}
-use Rattle.arc_slots.specs.Slots.{SlotView, stand_of}
+use Rattle.arc_slots.specs.Slots.{SlotView, row_of, stand_of}
 use Rattle.arc_slots.specs.Stands.{HasPassFor, is_numbered, numbered, stand_at, put_back}
 use Rattle.arc_slots.proofs.Slots.{still-number, shares-part, refuses-part, part-fits, reads-view, reads-fits}
+use Rattle.arc_slots.proofs.Slots.{part_at, part-numbered, shares-numbered, same-reader}
 use Rattle.arc_slots.proofs.slot.Slot.try_subslice.Goals as goal
 
 pub give_back-requires : goal.give_back-requires
@@ -123,3 +125,33 @@ returns-in-Ok-clause-stand g c =
     (sym c.give_back.ensures)
     (subst (λ o. Beside (stand_at b place) passes (put_back left b new) (stand_at o there))
     (sym block) at))
+
+pub returns-in-Ok-clause-row : goal.returns-in-Ok-clause-row
+returns-in-Ok-clause-row g c =
+    let b = c.self.inside.block in
+    let w = c.in-Read.window in
+    let made = c.in-Ok.window in
+    let view = sym (reads-view c.self.inside.window w b c.in-Read.is) ∙ c.self.view_is in
+    let start = c.args.start in
+    let end = c.args.end in
+    let nothing = g.L.Layout.STATIC && (length (sub w.items start end) == 0) in
+    let long =
+    ap (λ (s : SlotView g.row.S-Item.Denot g.row.M.Denot).
+    length (sub s.window.items start end)) view
+    ∙ length-sub c.args.self.now.window.items start end c.requires.range.ordered
+    c.requires.range.within in
+    let block : c.part_block.result ≡ (if nothing then None else b) =
+    c.part_block.ensures
+    ∙ ap (λ n. if g.L.Layout.STATIC && (n == 0) then None else b) (sym long) in
+    let one : SlotView g.row.S-Item.Denot g.row.M.Denot =
+    record { window = made; capacity = None; block = c.part_block.result } in
+    let there =
+    ap (λ o. numbered o made.place) block
+    ∙ shares-numbered c.lend-pass.result c.try_subslice_as-made.new.pass
+    (if nothing then None else b) (part_at nothing start w.place) made.place c.in-Ok.ensures.place
+    ∙ part-numbered nothing start b w.place in
+    subst (λ (s : SlotView g.row.S-Item.Denot g.row.M.Denot). row_of one ≡ record {
+      items = sub s.window.items start end;
+      place = part_place g.L.Layout.STATIC (sub s.window.items start end) start (row_of s).place;
+      role = reader;
+    }) view (same-reader c.in-Ok.ensures.items there)
