@@ -3,6 +3,7 @@
 use Rattle.std.proofs.Common.{◌≡◌, ℕ, Bool, true, false, if◌then◌else◌, List, [], ◌∷◌, ◌++◌, length}
 use Rattle.std.proofs.Common.{Option, Some, None, slice_get, slice_set, refl, sym, ap, ◌∙◌, ◌==◌}
 use Rattle.std.proofs.Common.{subst}
+use Rattle.std.proofs.lemmas.Option.{none-some}
 use Rattle.arc_owners.specs.declared.mark.Whole.{Whole}
 use Rattle.arc_owners.specs.declared.count.tokens.Pass.{Pass}
 use Rattle.arc_owners.specs.declared.error.OwnerError.{OwnerError}
@@ -54,6 +55,24 @@ pub same-fact : {T M : Type 0} {slots slots' : List (Option (SlotView T M))}
 same-fact {slots = slots} {slots' = slots'} {passes = passes} fact same_slots same_passes =
     subst (λ ps. Fact slots' ps) (sym same_passes)
     (subst (λ ss. Fact ss passes) (sym same_slots) fact)
+
+-- and holds where there are no windows and no blocks
+pub empty-fact : {T M : Type 0} {slots : List (Option (SlotView T M))} {passes : List (Pass Whole)}
+    → slots ≡ [] → passes ≡ [] → Fact slots passes
+empty-fact {T} {M} none_there none_made =
+    let none : Fact {T = T} {M = M} [] [] = (
+      record {
+        known = λ i n o is. absurd (none-some (Some (n, o)) is);
+        passes_fit = λ n p is. absurd (none-some p is);
+        live = λ n p is. absurd (none-some p is);
+      },
+      record {
+        same = λ block one other on beside. absurd (none-some on.1 on.3);
+        numbered = λ block info on. absurd (none-some on.1 on.3);
+        alone = λ i j block s sole beside. absurd (none-some s.row s.alive);
+      },
+    ) in
+    same-fact none none_there none_made
 
 -- the fact of the type follows of the owners, and of the step
 pub done : {T M : Type 0} {setting : Setting T} {old : State T M} {c : Cmd (List T) (List T) T}

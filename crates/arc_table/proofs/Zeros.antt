@@ -1,5 +1,5 @@
 -- What `Zero` is answered, by whether the kind has a zero.
-use Rattle.std.proofs.Common.{◌≡◌, ℕ, Bool, true, false, List, Option, Some, None, refl, sym, ap}
+use Rattle.std.proofs.Common.{◌≡◌, ℕ, true, List, Option, Some, None, refl, sym, ap}
 use Rattle.std.proofs.Common.{◌∙◌, subst}
 use Rattle.std.specs.Prelude.{is_some, replicate, IfSome}
 use Rattle.std.specs.Option.{option_map_or}

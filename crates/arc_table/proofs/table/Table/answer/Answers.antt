@@ -51,3 +51,14 @@ pub returns-in-Freeze-clause-rows : goal.returns-in-Freeze-clause-rows
 returns-in-Freeze-clause-rows g c =
     subst (λ (d : Asked g). Step (setting g) c.args.self.now.table (seen_command d)
     (seen_reply c.freeze.result) c.freeze.new.self.table) (sym c.in-Freeze.is) c.freeze.ensures.rows
+
+pub returns-in-Clone-clause-rows : goal.returns-in-Clone-clause-rows
+returns-in-Clone-clause-rows g c =
+    subst (λ (d : Asked g). Step (setting g) c.args.self.now.table (seen_command d)
+    (seen_reply c.clone_window.result) c.clone_window.new.self.table) (sym c.in-Clone.is)
+    c.clone_window.ensures.rows
+
+pub returns-in-Show-clause-rows : goal.returns-in-Show-clause-rows
+returns-in-Show-clause-rows g c =
+    subst (λ (d : Asked g). Step (setting g) c.args.self.now.table (seen_command d)
+    (seen_reply c.show.result) c.args.self.now.table) (sym c.in-Show.is) c.show.ensures.rows

@@ -1,6 +1,6 @@
 -- The row of the window is gone, and its owner has ended.
 use Rattle.std.specs.Mem.{type_size}
-use Rattle.std.proofs.lemmas.Option.{slice_get_within}
+use Rattle.std.proofs.lemmas.Option.{none-some, same_Some, slice_get_within}
 use Rattle.std.proofs.Common.{◌≡◌, Some, None, length, map, slice_get, slice_set, sym, ap, ◌∙◌}
 use Rattle.std.proofs.Common.{arith}
 use Rattle.std.proofs.Common.{subst}
@@ -65,6 +65,15 @@ release-requires-after_bounds g c κs within =
     read-there slots i c.index_mut.result.now _ got c.index_mut.ensures.value
     ∙ ap Some (sym c.replace.ensures.value ∙ c.in-Some-replace.is) in
     known-pass i c.self.invariant.0 (stand_of (Some s)) (stand-there slots passes i s there)
+
+pub unreachable-requires : goal.unreachable-requires
+unreachable-requires g c =
+    let slots = c.self.inside.slots.items in
+    let i = c.args.i in
+    let got = ap (λ ss. slice_get ss i) (sym c.deref.ensures.value) ∙ c.in-Some.ensures in
+    let at = read-there slots i c.index_mut.result.now _ got c.index_mut.ensures.value in
+    none-some _ (sym c.in_default-replace.is ∙ c.replace.ensures.value
+    ∙ same_Some c.index_mut.result.now _ (sym at ∙ got))
 
 pub invariant_of-self : goal.invariant_of-self
 invariant_of-self g c = (did g (goal.at.invariant_of-self g c).After-release).kept

@@ -1,7 +1,7 @@
 -- The writer stands on nothing, or as the first owner on a new block, whose pass is the one that was
 -- given.
 use Rattle.std.specs.Mem.{type_size}
-use Rattle.std.proofs.Common.{[], refl, sym, subst, arith}
+use Rattle.std.proofs.Common.{[], refl, sym, subst}
 use Rattle.arc_commands.specs.State.{State}
 use Rattle.arc_commands.specs.Step.{Setting, setting_of}
 use Rattle.arc_commands.specs.declared.command.Cmd.TheVariants as command

@@ -2,7 +2,7 @@
 -- that was given.
 use Rattle.std.specs.Mem.{type_size}
 use Rattle.std.specs.Prelude.{replicate, IfOk}
-use Rattle.std.proofs.Common.{[], true, refl, sym, subst, ap, length, arith}
+use Rattle.std.proofs.Common.{true, sym, subst, ap}
 use Rattle.arc_block.specs.Window.{PartsView}
 use Rattle.arc_block.specs.Writers.{MakesWriter}
 use Rattle.arc_commands.specs.State.{State}
