@@ -7,15 +7,17 @@ use Rattle.std.proofs.lemmas.Bool.{false≢true}
 use Rattle.arc_owners.specs.declared.count.tokens.Pass.{Pass}
 use Rattle.arc_owners.specs.count.Calls.{Owner, Asks}
 use Rattle.arc_buffer.specs.Slice.{sub}
-use Rattle.arc_buffer.proofs.Sub.{length-sub}
+use Rattle.arc_buffer.proofs.Sub.{length-sub, sub-whole}
 use Rattle.arc_block.specs.Block.{BlockInfo, BlockView, held_as, partly_full}
 use Rattle.arc_block.specs.Place.{on_block, IsOnBlock, at_owner}
 use Rattle.arc_block.specs.Table.{sole_writer, reader}
 use Rattle.arc_block.specs.declared.parts.storage.Storage.{Storage}
 use Rattle.arc_block.specs.declared.parts.storage.Storage.TheVariants.{Static, Block}
 use Rattle.arc_block.specs.Window.{PartsView, parts_of, window_of, window_seen, IsWithin}
+use Rattle.arc_block.specs.Window.{IsNativeOf}
 use Rattle.arc_block.specs.Writers.{writer_capacity, sole_part, sole_seen, as_sole}
-use Rattle.arc_block.specs.Writers.{idle_writer, as_reader, Freezes}
+use Rattle.arc_block.specs.Writers.{idle_writer, as_reader, Freezes, IsSoleWithin}
+use Rattle.arc_block.specs.Writers.{IsWholeWriter}
 use Rattle.arc_block.specs.Steps.{Makes, Begins}
 
 -- parts that stand on a block b
@@ -108,3 +110,26 @@ module _ {T M H : Type 0} (has_static drops one_pass : Bool) (w v : PartsView T 
     );
     role = role;
   }
+
+-- as many items as the block has places are all of the memory
+pub whole_memory : {T M A : Type 0} (drops one_pass : Bool) (owner : Option Owner) (v : Vec T A)
+    (start end : ℕ) (w : PartsView T M) → sole_seen {M = M} drops owner v start end ≡ w
+    → IsSoleWithin drops one_pass owner v start end → length v.items ≤ vec_capacity v → (n : ℕ)
+    → IsWholeWriter n w → (length v.items ≡ n) × (v.items ≡ w.items)
+whole_memory {T} {M} drops one_pass None v start end w view within inside n whole =
+    let same : v.items ≡ w.items = within.2 ∙ ap (λ (s : PartsView T M). s.items) view in
+    (ap (λ xs. length xs) same ∙ whole.items, same)
+whole_memory {T} {M} drops one_pass (Some o) v start end w view within inside n whole =
+    let places : vec_capacity v ≡ n =
+    (subst (λ (s : PartsView T M). IsOnBlock s.place → IsNativeOf n s.place) (sym view) whole.block
+    tt).1 in
+    let seen = ap (λ (s : PartsView T M). length s.items) view in
+    let long = length-sub v.items start end within.1 within.2 in
+    let many = whole.items in
+    let first : start ≡ 0 = omega (arith, places, seen, long, many, inside, within.1, within.2) in
+    let last : end ≡ length v.items =
+    omega (arith, places, seen, long, many, inside, within.1, within.2) in (
+      omega (arith, first, last, seen, long, many),
+      sym (sub-whole v.items) ∙ ap (λ k. sub v.items 0 k) (sym last)
+          ∙ ap (λ k. sub v.items k end) (sym first) ∙ ap (λ (s : PartsView T M). s.items) view,
+    )
