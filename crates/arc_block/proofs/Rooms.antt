@@ -12,11 +12,11 @@ use Rattle.arc_owners.specs.count.Calls.{Owner}
 use Rattle.arc_owners.specs.declared.error.TryReserveError.TheVariants.{Unsupported}
 use Rattle.arc_buffer.specs.Slice.{sub}
 use Rattle.arc_buffer.proofs.Sub.{length-sub}
-use Rattle.arc_block.specs.Block.{BlockInfo, native, partly_full}
+use Rattle.arc_block.specs.Block.{BlockInfo, partly_full}
 use Rattle.arc_block.specs.declared.parts.room.Room.{Room}
 use Rattle.arc_block.specs.declared.parts.room.Room.TheVariants.{Spare, Fresh, Behind, Front}
 use Rattle.arc_block.specs.declared.parts.room.Room.TheVariants.{Growth, Refused}
-use Rattle.arc_block.specs.Place.{on_block, IsOnBlock}
+use Rattle.arc_block.specs.Place.{on_block}
 use Rattle.arc_block.specs.Room.{room_in, ends_full, IfGrowth, IfBehind, IfFront}
 use Rattle.arc_block.specs.Table.{sole_writer}
 use Rattle.arc_block.specs.Window.{PartsView}

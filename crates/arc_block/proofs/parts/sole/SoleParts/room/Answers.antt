@@ -1,5 +1,5 @@
 -- Where the room for more items comes from.
-use Rattle.std.proofs.Common.{Some, ◌∙◌, ◌==◌, if◌then◌else◌}
+use Rattle.std.proofs.Common.{◌∙◌, ◌==◌, if◌then◌else◌}
 use Rattle.std.specs.Mem.{type_size}
 use Rattle.std.specs.Option.{option_map}
 use Rattle.arc_owners.specs.memory.SoleBoxes.{sole_in}
