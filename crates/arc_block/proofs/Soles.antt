@@ -1,6 +1,7 @@
 -- A reader that is alone becomes a writer: what is seen of it before and afterwards.
-use Rattle.std.proofs.Common.{◌≡◌, ℕ, ◌≤◌, ◌<◌, Bool, true, false, List, [], length, Option, Some, None}
+use Rattle.std.proofs.Common.{◌≡◌, ℕ, ◌-◌, ◌≤◌, ◌<◌, Bool, true, false, List, [], length, Option, Some, None}
 use Rattle.std.proofs.Common.{is_some, refl, sym, ap, ◌∙◌, subst, arith}
+use Rattle.std.specs.Option.{option_map}
 use Rattle.std.specs.declared.vec.Vec.{Vec}
 use Rattle.std.specs.Vec.{vec_capacity}
 use Rattle.std.proofs.lemmas.Bool.{false≢true}
@@ -17,7 +18,8 @@ use Rattle.arc_block.specs.Window.{PartsView, parts_of, window_of, window_seen, 
 use Rattle.arc_block.specs.Window.{IsNativeOf}
 use Rattle.arc_block.specs.Writers.{writer_capacity, sole_part, sole_seen, as_sole}
 use Rattle.arc_block.specs.Writers.{idle_writer, as_reader, Freezes, IsSoleWithin}
-use Rattle.arc_block.specs.Writers.{IsWholeWriter}
+use Rattle.arc_block.specs.Writers.{IsWholeWriter, IsNewWriter, MakesWriter, new_writer}
+use Rattle.arc_block.proofs.Writers.{full-capacity}
 use Rattle.arc_block.specs.Steps.{Makes, Begins}
 
 -- parts that stand on a block b
@@ -133,3 +135,72 @@ whole_memory {T} {M} drops one_pass (Some o) v start end w view within inside n 
       sym (sub-whole v.items) ∙ ap (λ k. sub v.items 0 k) (sym last)
           ∙ ap (λ k. sub v.items k end) (sym first) ∙ ap (λ (s : PartsView T M). s.items) view,
     )
+
+-- a writer is made: for no places on nothing, and else by the call that makes one
+module _ {T M H : Type 0} (drops one_pass : Bool) (items : List T) (places : ℕ)
+    (w : PartsView T M) (before after : Pass H) where
+  pub makes_idle : places ≡ 0 → w ≡ idle_writer → after ≡ before
+      → MakesWriter drops one_pass items places w before after
+  makes_idle none is same = record {
+    idle = λ zero. (is, same);
+    new = λ some. absurd (omega (arith, none, some));
+  }
+
+  pub makes_new : 1 ≤ places → (xs : List T) → xs ≡ items → (n : ℕ) → n ≡ places
+      → IsNewWriter drops one_pass xs n w after
+      → MakesWriter drops one_pass items places w before after
+  makes_new some xs same n many made = record {
+    idle = λ zero. absurd (omega (arith, zero, some));
+    new = λ more. subst (λ k. IsNewWriter drops one_pass items k w after) many
+        (subst (λ ys. IsNewWriter drops one_pass ys n w after) same made);
+  }
+
+-- all of a vector
+pub new_part : {T M A : Type 0} (drops : Bool) (o : Owner) (v : Vec T A) (end : ℕ)
+    → end ≡ length v.items
+    → sole_part {M = M} drops o v 0 end ≡ new_writer drops (Some o) v.items (vec_capacity v)
+new_part {T} {M} drops o v end is =
+    let info : BlockInfo M = partly_full drops (vec_capacity v) (length v.items) in
+    let make : List T → ℕ → PartsView T M =
+    λ xs free. record { items = xs; place = on_block (Some o) 0 info; role = sole_writer free } in
+    let all : vec_capacity v - 0 ≡ vec_capacity v = omega arith in
+    ap (λ xs. make xs (writer_capacity drops info 0 (end - 0)))
+    (ap (λ n. sub v.items 0 n) is ∙ sub-whole v.items)
+    ∙ ap (make v.items)
+    (full-capacity M drops (vec_capacity v) 0 end (length v.items) (omega arith) is ∙ all)
+
+pub none_still : {C : Type 0} (x : Option C) (f : C → Owner) → is_some x ≡ false
+    → is_some (option_map f x) ≡ false
+none_still None f none = refl
+none_still (Some c) f none = absurd (false≢true (sym none))
+
+-- whether a writer has as many items as a native block has places
+module _ {T M A : Type 0} where
+  pub whole_told : (drops : Bool) (owner : Option Owner) (v : Vec T A) (start end : ℕ)
+      (w : PartsView T M) → sole_seen {M = M} drops owner v start end ≡ w → (n : ℕ)
+      → length w.items ≡ n → vec_capacity v ≡ n → IsWholeWriter n w
+  whole_told drops None v start end w view n long places = record {
+    items = long;
+    block = λ on. absurd (subst (λ (s : PartsView T M). IsOnBlock s.place) (sym view) on);
+  }
+  whole_told drops (Some o) v start end w view n long places = record {
+    items = long;
+    block = λ on. subst (λ (s : PartsView T M). IsNativeOf n s.place) view (refl, places);
+  }
+
+  pub whole_places : (drops : Bool) (owner : Option Owner) → is_some owner ≡ true → (v : Vec T A)
+      (start end : ℕ) (w : PartsView T M) → sole_seen {M = M} drops owner v start end ≡ w → (n : ℕ)
+      → IsWholeWriter n w → vec_capacity v ≡ n
+  whole_places drops None some v start end w view n whole = absurd (false≢true some)
+  whole_places drops (Some o) some v start end w view n whole =
+      (subst (λ (s : PartsView T M). IsOnBlock s.place → IsNativeOf n s.place) (sym view)
+      whole.block tt).1
+
+  pub whole_idle : (drops : Bool) (owner : Option Owner) → is_some owner ≡ false → (v : Vec T A)
+      (start end : ℕ) (w : PartsView T M) → sole_seen {M = M} drops owner v start end ≡ w → (n : ℕ)
+      → length w.items ≡ n → IsWholeWriter n w
+  whole_idle drops None none v start end w view n long = record {
+    items = long;
+    block = λ on. absurd (subst (λ (s : PartsView T M). IsOnBlock s.place) (sym view) on);
+  }
+  whole_idle drops (Some o) none v start end w view n long = absurd (false≢true (sym none))
