@@ -7,3 +7,5 @@ pub mod Held
 pub mod StaticSlices
 pub mod Writers
 pub mod Lent
+pub mod Rooms
+pub mod Soles

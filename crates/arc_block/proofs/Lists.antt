@@ -1,7 +1,8 @@
 -- Lists by their places: one element more, one place set anew, and how many pass a test.
-use Rattle.std.proofs.Common.{inl, inr, ◌≡◌, ◌⊎◌, ℕ, zero, suc, ◌+◌, ◌<◌, ◌≤◌, Bool, true, false, cond, eqb, List, [], ◌∷◌, ◌++◌, length, Option, Some, None, is_some, filter, filter_map, slice_get, slice_set, refl, sym, ◌∙◌, ap, arith, not}
+use Rattle.std.proofs.Common.{inl, inr, ◌≡◌, ◌⊎◌, ℕ, zero, suc, ◌+◌, ◌<◌, ◌≤◌, Bool, true, false, cond, eqb, List, [], ◌∷◌, ◌++◌, length, Option, Some, None, is_some, filter, filter_map, slice_get, slice_set, take, get_or, refl, sym, ◌∙◌, append_assoc, ap, arith, not}
 use Rattle.std.specs.List.{cons_option}
 use Rattle.std.proofs.lemmas.Bool.{cases_Bool, eq-eqb, false_from_ne_true, or_right}
+use Rattle.std.proofs.lemmas.List.{append-nil, nil_from_length, take_more}
 use Rattle.std.proofs.lemmas.List.Folds.{list_any-append}
 use Rattle.arc_owners.specs.history.Histories.{is_in}
 use Rattle.std.proofs.lemmas.Option.{none-some, same_Some}
@@ -150,3 +151,23 @@ one-only p (z ∷ xs) (suc i) (suc j) x y one here holds there too = elim (cases
 pub counts-more : {X Y : Type 0} (b : Bool) (o : Option Y) (x : X) (xs : List X) (ys : List Y) → b ≡ is_some o → length xs ≡ length ys → length (cond b (x ∷ xs) xs) ≡ length (cons_option o ys)
 counts-more b None x xs ys is same = rw is same
 counts-more b (Some y) x xs ys is same = rw is (ap suc same)
+
+-- an item goes from the front of one list to the end of another
+pub handed_over : {T : Type 0} (xs ys rest left all : List T) (x : T) → ys ≡ xs ++ x ∷ []
+    → rest ≡ x ∷ left → xs ++ rest ≡ all → ys ++ left ≡ all
+handed_over xs ys rest left all x more is before =
+    ap (λ zs. zs ++ left) more ∙ append_assoc xs (x ∷ []) left ∙ ap (λ zs. xs ++ zs) (sym is)
+    ∙ before
+
+-- and all have gone where none is left
+pub all_over : {T : Type 0} (xs rest all : List T) → length rest ≡ 0 → xs ++ rest ≡ all → xs ≡ all
+all_over xs rest all none before =
+    sym (append-nil xs) ∙ ap (λ zs. xs ++ zs) (sym (nil_from_length rest none)) ∙ before
+
+-- an item more of a list follows those that are there
+pub one_more : {T : Type 0} (front xs ys zs : List T) (i : ℕ) (x : T) → x ≡ get_or xs i x
+    → i < length xs → ys ≡ front ++ take i xs → zs ≡ ys ++ x ∷ [] → zs ≡ front ++ take (i + 1) xs
+one_more front xs ys zs i x is inside before more =
+    more ∙ ap (λ l. l ++ x ∷ []) before ∙ append_assoc front (take i xs) (x ∷ [])
+    ∙ ap (λ l. front ++ l)
+    (ap (λ y. take i xs ++ y ∷ []) is ∙ sym (take_more xs i x inside))

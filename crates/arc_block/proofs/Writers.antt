@@ -28,7 +28,7 @@ sub_pushed xs ys start inside =
     ap (drop start) all ∙ drop-append-le start xs ys inside ∙ ap (λ zs. drop start zs ++ ys) (sym same)
 
 -- a writer's places go up to the end of the block where its items end where the full places do
-full-capacity : (M : Type 0) (drops : Bool) (places start end full : ℕ) → start ≤ end → end ≡ full → writer_capacity {M = M} drops (partly_full drops places full) start (end - start) ≡ places - start
+pub full-capacity : (M : Type 0) (drops : Bool) (places start end full : ℕ) → start ≤ end → end ≡ full → writer_capacity {M = M} drops (partly_full drops places full) start (end - start) ≡ places - start
 full-capacity M false places start end full ordered ends = refl
 full-capacity M true places start end full ordered ends =
     let last : start + (end - start) ≡ full = omega (arith, ordered, ends) in
@@ -91,7 +91,7 @@ module _ {T M A : Type 0} where
       ∙ ap (make (sub v.items start end ++ ys) (vec_capacity v) (option_map (λ n. n + length ys) (full_places drops (length v.items)))) room
 
   -- where the writer has room behind the items, they end where the vector does
-  ends_seen : (drops one_pass : Bool) (owner : Option Owner) (v : Vec T A) (start end more : ℕ) (seen : PartsView T M) → sole_seen {M = M} drops owner v start end ≡ seen → IsSoleWithin drops one_pass owner v start end
+  pub ends_seen : (drops one_pass : Bool) (owner : Option Owner) (v : Vec T A) (start end more : ℕ) (seen : PartsView T M) → sole_seen {M = M} drops owner v start end ≡ seen → IsSoleWithin drops one_pass owner v start end
       → length seen.items + more ≤ capacity_of seen.role → 1 ≤ more → end ≡ length v.items
   ends_seen drops one_pass None v start end more seen view within room some =
       absurd (omega (arith, subst (λ s. length s.items + more ≤ capacity_of s.role) (sym view) room, some))

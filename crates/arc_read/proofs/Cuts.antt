@@ -1,11 +1,15 @@
 -- What is known of each legal list, of a cut and of a split.
-use Rattle.std.proofs.Common.{◌≡◌, ℕ, ◌≤◌, Bool, true, List, length, sym, subst, arith}
+use Rattle.std.proofs.Common.{◌≡◌, ℕ, ◌+◌, ◌≤◌, ◌<◌, Bool, true, List, length, take, drop}
+use Rattle.std.proofs.Common.{refl, sym, ap, ◌∙◌, subst, arith}
+use Rattle.std.proofs.lemmas.List.{take_all}
+use Rattle.arc_owners.specs.declared.count.tokens.Pass.{Pass}
 use Rattle.std.proofs.Math.Logic.{∥∥₁_map, ∥∥₁_elim}
 use Rattle.std.proofs.Math.Bool.{Bool-set}
 use Rattle.arc_buffer.specs.Slice.{sub, IsEdge, IsRange}
-use Rattle.arc_block.specs.Place.{moved}
+use Rattle.arc_block.specs.Place.{Place, nowhere, static_data, on_block, moved}
 use Rattle.arc_block.specs.Table.{reader}
-use Rattle.arc_block.specs.Window.{PartsView, IsHeld}
+use Rattle.arc_block.specs.Window.{PartsView, Window, IsHeld}
+use Rattle.arc_read.specs.Cuts.{SharesPart, SplitsOff, SplitsTo}
 use Rattle.arc_block.proofs.Held.{moved_held}
 
 module _ {T : Type 0} (legal : List T → Type 0) (boundary : List T → ℕ → Bool) where
@@ -32,3 +36,59 @@ module _ {T : Type 0} (legal : List T → Type 0) (boundary : List T → ℕ →
       → IsRead has_static has_any p → (legal p.items → IsRange boundary p.items start end) → IsRead has_static has_any q
   keeps law has_static has_any p q start end is read range =
       subst (IsRead has_static has_any) (sym is) (read.0, moved_held has_static has_any start p.place read.1, part_legal law p.items start end read.2 range)
+
+unmoved : {N M : Type 0} (place : Place N M) → place ≡ moved 0 place
+unmoved nowhere = refl
+unmoved static_data = refl
+unmoved (on_block block offset info) =
+    let same : offset ≡ offset + 0 = omega arith in ap (λ n. on_block block n info) same
+
+-- a window was split in two
+module _ {T M H : Type 0} (has_static : Bool) (w : Window T M) (at : ℕ) (old new : Pass H)
+    (front back : Window T M) where
+  all : take (length w.items) w.items ≡ w.items
+  all = take_all (length w.items) w.items (omega arith)
+
+  -- at its end the back is new
+  pub split_at_end : at ≡ length w.items → front ≡ w → (made : Window T M) → back ≡ made
+      → SharesPart has_static w at at old new made → SplitsTo has_static w at old new front back
+  split_at_end is same made left shares =
+      let part = subst (λ v. SharesPart has_static w at at old new v) (sym left) shares in
+      let whole : take at w.items ≡ w.items = take_all at w.items (omega (arith, is)) in record {
+        lists = (
+          ap (λ (v : Window T M). v.items) same ∙ sym whole,
+          part.0 ∙ ap (λ xs. drop at xs) whole,
+        );
+        at_end = λ there. (same, part);
+        earlier = λ less. absurd (omega (arith, is, less));
+      }
+
+  -- before it the front is new
+  pub split_earlier : at < length w.items
+      → back ≡ record { items = drop at w.items; place = moved at w.place }
+      → SharesPart has_static w 0 at old new front → SplitsTo has_static w at old new front back
+  split_earlier less rest part = record {
+    lists = (part.0, ap (λ (v : Window T M). v.items) rest);
+    at_end = λ is. absurd (omega (arith, is, less));
+    earlier = λ there. (
+      rest ∙ ap (λ xs. record { items = drop at xs; place = moved at w.place }) (sym all),
+      part,
+    );
+  }
+
+  -- behind its start the back is new
+  pub split_later : 0 < at → front ≡ record { items = take at w.items; place = w.place }
+      → (len : ℕ) → len ≡ length w.items → SharesPart has_static w at len old new back
+      → SplitsOff has_static w at old new front back
+  split_later some kept len long shares =
+      let part = subst (λ n. SharesPart has_static w at n old new back) long shares in record {
+        lists = (
+          ap (λ (v : Window T M). v.items) kept,
+          part.0 ∙ ap (λ xs. drop at xs) all,
+        );
+        at_start = λ is. absurd (omega (arith, is, some));
+        later = λ there. (
+          kept ∙ ap (λ place. record { items = take at w.items; place = place }) (unmoved w.place),
+          part,
+        );
+      }

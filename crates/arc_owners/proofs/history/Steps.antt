@@ -1,5 +1,6 @@
 -- What holds of the word machine after every run, and that each event keeps it.
-use Rattle.std.proofs.Common.{inl, inr, ◌≡◌, ℕ, ◌+◌, ◌-◌, ◌≤◌, ◌<◌, true, false, eqb, ltb, List, [], ◌∷◌, ◌++◌, length, None, refl, sym, ◌∙◌, ap, arith, length-append, not, ◌&&◌, ◌||◌}
+use Rattle.std.proofs.Common.{inl, inr, ◌≡◌, ℕ, ◌+◌, ◌-◌, ◌≤◌, ◌<◌, true, false, eqb, ltb, List, [], ◌∷◌, ◌++◌, length, take, get_or, None, refl, sym, ◌∙◌, ap, arith, length-append, not, ◌&&◌, ◌||◌}
+use Rattle.std.proofs.lemmas.List.Sums.{fold_more}
 use Rattle.std.proofs.lemmas.Bool.{cases_Bool, eqb-true, eq-eqb, ltb-true, false≢true, not-true, and_parts, or_left, or_right}
 use Rattle.std.proofs.Math.Bool.{or-false}
 use Rattle.arc_owners.specs.declared.history.entry.Entry.{Entry}
@@ -218,3 +219,11 @@ run-stands most began m (event ∷ events) two s = run-stands most began (step m
 -- the word counts its live owners after every run
 pub run-count : (most : ℕ) (began : Beginning) (events : List Event) → 2 ≤ most → (after_events most began events).count ≡ length (after_events most began events).live
 run-count most began events two = (run-stands most began (opening began) events two (opening-stands most began two)).count
+
+-- one event more after a run
+pub next_run : (most : ℕ) (began : Beginning) (events : List Event) (i : ℕ) (d : Event)
+    (m new : Machine) → m ≡ after_events most began (take i events) → i < length events
+    → new ≡ step most m (get_or events i d) → new ≡ after_events most began (take (i + 1) events)
+next_run most began events i d m new before inside is =
+    is ∙ ap (λ k. step most k (get_or events i d)) before
+    ∙ sym (fold_more (step most) (opening began) events i d inside)
