@@ -166,10 +166,12 @@ module _ {T M A : Type 0} where
       let n = end - start in
       let xs = v.items in
       let part = sub xs start end in
-      let there : n ≤ length (drop start xs) = omega (arith, length-drop start xs, within.1, within.2) in
+      let there : n ≤ length (drop start xs) =
+      omega (arith, length-drop start xs, within.1, within.2) in
       let same : sub w.items 0 n ≡ part =
       ap (take n) items ∙ take-take n n (drop start xs ++ take start xs) (omega arith)
-      ∙ take-append-le n (drop start xs) (take start xs) there ∙ slice_is_sub xs start end within.1 in
+      ∙ take-append-le n (drop start xs) (take start xs) there ∙ slice_is_sub xs start end within.1
+      in
       let all : vec_capacity v - 0 ≡ vec_capacity v = omega arith in
       let Q : PartsView T M → Type 0 =
       λ s. sole_part {M = M} false o w 0 n ≡ with_room Front s in
@@ -261,7 +263,8 @@ module _ {T M A : Type 0} (drops one_pass : Bool) (o : Owner) (v : Vec T A) (sta
       λ n s. CanGrow s n × (length s.items + additional ≤ n - offset_at s.place) in
       grows-not (drops && not (ends_full info (start + (end - start)))) r _ P (λ n. R n w) is
       (λ passed n h.
-      let ends = λ (owned : drops ≡ true). ends-here drops size full (start + (end - start)) passed owned in
+      let ends =
+      λ (owned : drops ≡ true). ends-here drops size full (start + (end - start)) passed owned in
       let larger : vec_capacity v ≤ n = omega (arith, h.0, size_is) in
       subst (R n) view (
         record { stands = tt; larger = larger; behind = capacity-there ends },

@@ -37,7 +37,8 @@ module _ {T M : Type 0} (inner : Storage T (BlockView T M)) (from to : ℕ) (p :
       let seen : parts_of (window_seen (Block held) from to) ≡ p =
       ap (λ x. parts_of (window_seen (Block x) from to)) same ∙ sym block_seen in
       let here : IsWithin (Block held) from to =
-      subst (λ x. IsWithin (Block x) from to) (sym same) (subst (λ x. IsWithin x from to) is within) in
+      subst (λ x. IsWithin (Block x) from to) (sym same) (subst (λ x. IsWithin x from to) is within)
+      in
       let long = length-sub v.items from to here.0 here.1 in
       let info : BlockInfo M = partly_full drops (vec_capacity v) (length v.items) in
       let make : ℕ → PartsView T M = λ n. record {
@@ -107,7 +108,8 @@ module _ {T M H : Type 0} (has_static drops one_pass : Bool) (w v : PartsView T 
   freezes_idle idle old new made begins role = record {
     stays = λ on. absurd (subst (λ (s : PartsView T M). IsOnBlock s.place) (sym idle) on);
     made = λ off. (
-      subst (λ (s : PartsView T M). Makes has_static drops one_pass s.items (window_of v)) idle made,
+      subst (λ (s : PartsView T M). Makes has_static drops one_pass s.items (window_of v)) idle
+          made,
       begins,
     );
     role = role;

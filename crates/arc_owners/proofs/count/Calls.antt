@@ -189,7 +189,8 @@ not_raised t p m r by new false false k k' was looked raised e e' =
     same_pass t m r (looked.0.0, looked.0.1) raised.0 raised.1.0.0 e' ∙ same_pass t p m was looked.0 looked.1 e
 
 -- The same of an owner of this block, by what the call answers.
-module _ {H : Type 0} (o : Owner) (t : BlockId) (of : o.block ≡ t) (p r : Pass H) (found said : Bool)
+module _ {H : Type 0} (o : Owner) (t : BlockId) (of : o.block ≡ t) (p r : Pass H)
+    (found said : Bool)
     (answer : said ≡ found) (same : SamePass t p.trace r.trace) where
   same-here : SamePass o.block p.trace r.trace
   same-here = subst (λ b. SamePass b p.trace r.trace) (sym of) same

@@ -12,7 +12,8 @@ loop-item-preserved g c =
     let more = c.push_reserved.ensures in
     let is = c.in-Some.ensures.steps.0 in
     let fewer = ap (λ xs. length xs) is in (
-      handed_over c.loop-item.exact.items c.push_reserved.new.self.items rest left c.args.items.items
+      handed_over c.loop-item.exact.items c.push_reserved.new.self.items rest left
+          c.args.items.items
           c.in-Some.item more.items is before.0,
       omega (arith, more.len, more.capacity, fewer, before.1),
     )

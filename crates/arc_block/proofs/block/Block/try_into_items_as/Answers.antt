@@ -13,7 +13,8 @@ returns-in-Ok-clause-alone g c = (
       ∙ ap (λ (n : Native g.row.S-Item.Denot g.row.A.Denot). n.places.items) c.in-Ok.ensures.value
       ∙ ap (λ (b : BlockView g.row.S-Item.Denot g.row.M.Denot). b.items) c.self.view_is,
   ap (λ (e : Extent g.row.A.Denot). e.count) c.into_vec.ensures.allocation
-      ∙ ap (λ (n : Native g.row.S-Item.Denot g.row.A.Denot). n.allocation.count) c.in-Ok.ensures.value
+      ∙ ap (λ (n : Native g.row.S-Item.Denot g.row.A.Denot). n.allocation.count)
+      c.in-Ok.ensures.value
       ∙ ap (λ (b : BlockView g.row.S-Item.Denot g.row.M.Denot). b.facts.size) c.self.view_is,
   subst (λ (b : BlockView g.row.S-Item.Denot g.row.M.Denot).
       TakesBlock b.owner c.args.pass.now c.try_into_value_as.new.pass) c.self.view_is

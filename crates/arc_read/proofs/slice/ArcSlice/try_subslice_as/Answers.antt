@@ -9,24 +9,30 @@ pub loop-preserved : goal.loop-preserved
 loop-preserved g c =
     (tt, tt, refl, refl, refl, c.in_default-try_subslice_once_as.ensures.again ∙ c.loop.invariant.5)
 
-pub try_subslice_once_as-requires-in-loop-clause-pass : goal.try_subslice_once_as-requires-in-loop-clause-pass
+pub try_subslice_once_as-requires-in-loop-clause-pass :
+    goal.try_subslice_once_as-requires-in-loop-clause-pass
 try_subslice_once_as-requires-in-loop-clause-pass g c κs within =
     subst (λ p. IsPassAt c.args.self.now.place p) (sym c.loop.invariant.5) c.requires.pass
 
-pub returns-in-Some-try_subslice_once_as-clause-items : goal.returns-in-Some-try_subslice_once_as-clause-items
+pub returns-in-Some-try_subslice_once_as-clause-items :
+    goal.returns-in-Some-try_subslice_once_as-clause-items
 returns-in-Some-try_subslice_once_as-clause-items g c = c.in-Some-try_subslice_once_as.ensures.items
 
-pub returns-in-Some-try_subslice_once_as-clause-place : goal.returns-in-Some-try_subslice_once_as-clause-place
+pub returns-in-Some-try_subslice_once_as-clause-place :
+    goal.returns-in-Some-try_subslice_once_as-clause-place
 returns-in-Some-try_subslice_once_as-clause-place g c =
     let part = sub c.args.self.now.items c.args.start c.args.end in
     let place = part_place g.L.Layout.STATIC part c.args.start c.args.self.now.place in
     subst (λ p. IfOk c.in-Some-try_subslice_once_as.made (λ part.
-    Shares place p c.try_subslice_once_as-in-loop.new.pass part.place)) c.loop.invariant.5 c.in-Some-try_subslice_once_as.ensures.place
+    Shares place p c.try_subslice_once_as-in-loop.new.pass part.place)) c.loop.invariant.5
+    c.in-Some-try_subslice_once_as.ensures.place
 
-pub returns-in-Some-try_subslice_once_as-clause-refused : goal.returns-in-Some-try_subslice_once_as-clause-refused
+pub returns-in-Some-try_subslice_once_as-clause-refused :
+    goal.returns-in-Some-try_subslice_once_as-clause-refused
 returns-in-Some-try_subslice_once_as-clause-refused g c =
     let part = sub c.args.self.now.items c.args.start c.args.end in
     let place = part_place g.L.Layout.STATIC part c.args.start c.args.self.now.place in
     subst (λ p. IfErr c.in-Some-try_subslice_once_as.made (λ e.
-    Refuses g.L.Layout.clone_wants place p c.try_subslice_once_as-in-loop.new.pass e)) c.loop.invariant.5
+    Refuses g.L.Layout.clone_wants place p c.try_subslice_once_as-in-loop.new.pass e))
+    c.loop.invariant.5
     c.in-Some-try_subslice_once_as.ensures.refused

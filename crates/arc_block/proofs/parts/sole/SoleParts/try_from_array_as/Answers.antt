@@ -18,7 +18,8 @@ pub returns-in-Ok-clause-made : goal.returns-in-Ok-clause-made
 returns-in-Ok-clause-made g c =
     let n = length c.args.array in
     let moved = c.in_ok-items.ensures.moved in
-    makes_new g.S.Slice.DROPS g.H.Mark.whole c.args.array n c.in-Ok.parts c.args.pass.now c.try_over.new.pass
+    makes_new g.S.Slice.DROPS g.H.Mark.whole c.args.array n c.in-Ok.parts c.args.pass.now
+    c.try_over.new.pass
     (some_from_test n
     (ap (λ xs. length xs == 0) (sym c.as_slice.ensures) ∙ sym c.if-is_empty.ensures))
     c.in_ok-items.items.items moved.0 (vec_capacity c.in_ok-items.items)

@@ -15,6 +15,7 @@ returns-then-is_empty-clause-made g c =
 pub returns-in-Ok-try_over-clause-made : goal.returns-in-Ok-try_over-clause-made
 returns-in-Ok-try_over-clause-made g c =
     let n = length c.args.items.now in
-    makes_new g.S.Slice.DROPS g.H.Mark.whole c.args.items.now n c.in-Ok-try_over.parts c.args.pass.now
+    makes_new g.S.Slice.DROPS g.H.Mark.whole c.args.items.now n c.in-Ok-try_over.parts
+    c.args.pass.now
     c.try_over.new.pass (some_from_test n (sym c.if-is_empty.ensures)) c.in-Ok.items.items
     c.in-Ok.ensures.0 (vec_capacity c.in-Ok.items) c.in-Ok.ensures.1 c.in-Ok-try_over.ensures.made

@@ -12,6 +12,7 @@ returns-then-capacity-eq0-clause-made g c =
 pub returns-in-Ok-try_over-clause-made : goal.returns-in-Ok-try_over-clause-made
 returns-in-Ok-try_over-clause-made g c =
     let some = c.if-capacity-eq0.false in
-    makes_new g.S.Slice.DROPS g.H.Mark.whole [] c.args.capacity c.in-Ok-try_over.parts c.args.pass.now
+    makes_new g.S.Slice.DROPS g.H.Mark.whole [] c.args.capacity c.in-Ok-try_over.parts
+    c.args.pass.now
     c.try_over.new.pass (omega (arith, some)) c.in-Ok.items.items c.in-Ok.ensures.items
     (vec_capacity c.in-Ok.items) c.in-Ok.ensures.exact c.in-Ok-try_over.ensures.made

@@ -9,7 +9,8 @@ returns-clause-step g c = wrote_step c.args.self.now.word c.args.pass.now (recor
 
 pub returns-clause-entry : goal.returns-clause-entry
 returns-clause-entry g c =
-    let new : Pass g.row.H.Denot = record { trace = c.claim-found.new.pass; mark = c.args.pass.now.mark } in
+    let new : Pass g.row.H.Denot =
+    record { trace = c.claim-found.new.pass; mark = c.args.pass.now.mark } in
     let did = c.claim-found.ensures in
     asks_at (owner_of c.args.share) c.args.self.now.word c.requires.share c.args.pass.now new
     (c.claim-found.result == 1) _ c.claimed.ensures.found did.0 did.1

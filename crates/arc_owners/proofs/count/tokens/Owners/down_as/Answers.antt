@@ -9,7 +9,8 @@ returns-clause-step g c = ended_step c.args.self.now.word c.args.pass.now (recor
 
 pub returns-clause-entry : goal.returns-clause-entry
 returns-clause-entry g c =
-    let new : Pass g.row.H.Denot = record { trace = c.subtract-found.new.pass; mark = c.args.pass.now.mark } in
+    let new : Pass g.row.H.Denot =
+    record { trace = c.subtract-found.new.pass; mark = c.args.pass.now.mark } in
     let did = c.subtract-found.ensures in
     leaves_at (owner_of c.args.share) c.args.self.now.word c.requires.share c.args.pass.now new
     (c.subtract-found.result == 1) _ c.released.ensures.last did.0 did.1

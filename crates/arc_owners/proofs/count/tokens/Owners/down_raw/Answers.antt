@@ -7,7 +7,8 @@ use Rattle.arc_owners.proofs.count.tokens.Owners.down_raw.Goals as goal
 
 pub returns-clause-entry : goal.returns-clause-entry
 returns-clause-entry g c =
-    let new : Pass g.row.H.Denot = record { trace = c.subtract_raw-found.new.pass; mark = c.args.pass.now.mark } in
+    let new : Pass g.row.H.Denot =
+    record { trace = c.subtract_raw-found.new.pass; mark = c.args.pass.now.mark } in
     let did = c.subtract_raw-found.ensures in
     leaves_at (owner_of c.args.share) c.args.lodging.now.block c.requires.share c.args.pass.now new
     (c.subtract_raw-found.result == 1) _ c.released.ensures.last did.0 did.1
