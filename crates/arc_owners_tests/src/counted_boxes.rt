@@ -16,15 +16,18 @@ fn last_owner_gets_the_value(rt: HostRuntime) -> Result<(), Fail> {
     let Ok((first, mut pass)) = CountedBox::<u64, _, 3, Open>::new(rt.alloc(), 7) else {
         return Err(AllocError.into());
     };
-    assert!(rt; *first.get() == 7);
-    assert!(rt; first.is_unique_as(&mut pass));
+    let made = *first.get();
+    let at_first = first.is_unique_as(&mut pass);
     let second = first.try_clone_as(&rt, &mut pass)?;
-    assert!(rt; *second.get() == 7);
-    assert!(rt; !second.is_unique_as(&mut pass));
-    assert!(rt; first.release_as(&mut pass).is_none());
-    assert!(rt; second.is_unique_as(&mut pass));
-    assert!(rt; *second.get() == 7);
-    assert!(rt; second.release_as(&mut pass) == Some(7));
+    let cloned = *second.get();
+    let beside = second.is_unique_as(&mut pass);
+    let early = first.release_as(&mut pass);
+    let at_last = second.is_unique_as(&mut pass);
+    let kept = *second.get();
+    let late = second.release_as(&mut pass);
+    assert!(rt; [made, cloned, kept] == [7; 3]);
+    assert!(rt; [at_first, beside, at_last] == [true, false, true]);
+    assert!(rt; (early, late) == (None, Some(7)));
     Ok(())
 }
 
@@ -70,18 +73,19 @@ fn memory_given_back_once(rt: HostRuntime) -> Result<(), Fail> {
             return Err(AllocError.into());
         };
         let taken = heap.used();
-        assert!(rt; before < taken);
         let second = first.try_clone_as(&rt, &mut pass)?;
-        assert!(rt; heap.used() == taken);
+        let cloned = heap.used();
         let (early, late) = if order == 0 {
             (first, second)
         } else {
             (second, first)
         };
-        assert!(rt; early.release_as(&mut pass).is_none());
-        assert!(rt; heap.used() == taken);
-        assert!(rt; late.release_as(&mut pass) == Some(7));
-        assert!(rt; heap.used() == before);
+        let none = early.release_as(&mut pass);
+        let left = heap.used();
+        let value = late.release_as(&mut pass);
+        assert!(rt; (none, value) == (None, Some(7)));
+        assert!(rt; before < taken);
+        assert!(rt; [cloned, left, heap.used()] == [taken, taken, before]);
     }
     Ok(())
 }
@@ -96,9 +100,10 @@ fn value_handed_back_without_memory(rt: HostRuntime) -> Result<(), Fail> {
     let Err(back) = CountedBox::<[u64; 3], _, 3, Open>::new(&heap, [4, 5, 6]) else {
         return Err("two pieces in the room of one".into());
     };
-    assert!(rt; back == [4, 5, 6]);
-    assert!(rt; heap.used() == used);
-    assert!(rt; first.release_as(&mut pass) == Some([1, 2, 3]));
+    let left = heap.used();
+    let value = first.release_as(&mut pass);
+    assert!(rt; left == used);
+    assert!(rt; (value, back) == (Some([1, 2, 3]), [4, 5, 6]));
     Ok(())
 }
 
@@ -113,10 +118,11 @@ fn memory_given_back_by_drop(rt: HostRuntime) -> Result<(), Fail> {
     let taken = heap.used();
     let second = first.try_clone_as(&rt, &mut pass)?;
     drop(first);
-    assert!(rt; heap.used() == taken);
-    assert!(rt; *second.get() == 7);
+    let beside = heap.used();
+    let value = *second.get();
     drop(second);
-    assert!(rt; heap.used() == before);
+    assert!(rt; value == 7);
+    assert!(rt; [beside, heap.used()] == [taken, before]);
     Ok(())
 }
 
@@ -130,11 +136,12 @@ fn memory_kept_by_forgotten_owner(rt: HostRuntime) -> Result<(), Fail> {
         return Err(AllocError.into());
     };
     let taken = heap.used();
-    assert!(rt; before < taken);
     let second = first.try_clone_as(&rt, &mut pass)?;
     drop(first);
-    assert!(rt; !second.is_unique_as(&mut pass));
-    assert!(rt; second.release_as(&mut pass).is_none());
+    let alone = second.is_unique_as(&mut pass);
+    let value = second.release_as(&mut pass);
+    assert!(rt; (alone, value) == (false, None));
+    assert!(rt; before < taken);
     assert!(rt; heap.used() == taken);
     Ok(())
 }

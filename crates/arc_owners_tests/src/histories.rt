@@ -60,10 +60,8 @@ const PROMOTION: [Event; 5] = [
 #[test]
 fn counted_run(rt: HostRuntime) -> Result<(), Fail> {
     let world = replay::<3, _>(rt.alloc(), &COUNTED_RUN)?;
-    assert!(rt; world.counted);
-    assert!(rt; world.count == 2);
+    assert!(rt; (world.counted, world.count, world.ready.len()) == (true, 2, 0));
     assert!(rt; world.live.as_slice() == [0, 2].as_slice());
-    assert!(rt; world.ready.len() == 0);
     assert!(rt;
         world.entries.as_slice()
             == [
@@ -84,16 +82,21 @@ fn history_of_no_entries() {
 }
 
 #[test]
-fn lone_runs(rt: HostRuntime) -> Result<(), Fail> {
+fn promotion_run(rt: HostRuntime) -> Result<(), Fail> {
     keeps::<3>(&PROMOTION);
     let world = replay_lone::<3, _>(rt.alloc(), &PROMOTION)?;
-    assert!(rt; world.counted);
-    assert!(rt; world.count == 3);
+    assert!(rt; (world.counted, world.count) == (true, 3));
     assert!(rt; world.live.as_slice() == [0, 1, 2].as_slice());
     assert!(rt;
         world.entries.as_slice()
             == [Entry::Promote(0, 1), Entry::Joined(0), Entry::Up(0, 2)].as_slice()
     );
+    Ok(())
+}
+
+/// The owner of the promoted vector ends, and the other one stays.
+#[test]
+fn first_owner_ends(rt: HostRuntime) -> Result<(), Fail> {
     let events = [
         Event::Load { thread: 2, by: 0 },
         Event::Load { thread: 1, by: 0 },

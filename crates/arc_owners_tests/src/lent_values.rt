@@ -4,23 +4,20 @@ use arc_owners::lend::LentValue;
 use arc_owners::mark::Open;
 use arc_owners::owners::{Owners, Release};
 use linked_list_allocator::LocalHeap;
+use std::process::Abort;
+use std::sync::Wait;
 use std::test::Fail;
 use std::thread::join;
 
 /// One owner lends a box, another one reads it, and it comes back for the end of the last one.
-#[test]
-fn lent_read_and_had_back(rt: HostRuntime) -> Result<(), Fail> {
-    let heap = LocalHeap::new(rt.alloc(), 256)?;
-    let before = heap.used();
+fn lent_and_had_back<R: Wait + Abort>(rt: &R, heap: &LocalHeap) -> Result<u64, Fail> {
     let (owners, first, mut pass) = Owners::<3, Open>::new();
-    let Ok(memory) = Box::new(&heap, 7u64) else {
-        return Err(AllocError.into());
-    };
+    let memory = Box::new(heap, 7u64)?;
     let taken = heap.used();
     let (lent, alloc) = LentValue::lend(memory, &first);
-    let second = owners.up_as(&rt, &first, &mut pass)?;
-    assert!(rt; *lent.get(&first) == 7);
+    let second = owners.up_as(rt, &first, &mut pass)?;
     let other = lent.again();
+    assert!(rt; *lent.get(&first) == 7);
     let Release::NotLast = owners.down_as(first, &mut pass) else {
         return Err("beside another owner".into());
     };
@@ -29,9 +26,15 @@ fn lent_read_and_had_back(rt: HostRuntime) -> Result<(), Fail> {
     let Release::Last(end) = owners.down_as(second, &mut pass) else {
         return Err("the last owner".into());
     };
-    let memory = other.take_back(alloc, end);
-    assert!(rt; *memory == 7);
-    drop(memory);
+    Ok(*other.take_back(alloc, end))
+}
+
+/// Its memory is taken till then, and no longer.
+#[test]
+fn lent_read_and_had_back(rt: HostRuntime) -> Result<(), Fail> {
+    let heap = LocalHeap::new(rt.alloc(), 256)?;
+    let before = heap.used();
+    assert!(rt; lent_and_had_back(&rt, &heap)? == 7);
     assert!(rt; heap.used() == before);
     Ok(())
 }

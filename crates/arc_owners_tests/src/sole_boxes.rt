@@ -7,7 +7,8 @@ use arc_owners::error::AllocError;
 use arc_owners::mark::{Mark, Open, Whole};
 use arc_owners::owners::{CountedBox, SoleBox};
 use linked_list_allocator::LocalHeap;
-use std::alloc::Global;
+use std::alloc::Allocator;
+use std::sync::Wait;
 use std::test::Fail;
 use std::thread::join;
 
@@ -25,53 +26,62 @@ fn taken_back_and_lent_anew(rt: HostRuntime) -> Result<(), Fail> {
     let Err(first) = first.try_into_sole_as(&mut pass) else {
         return Err("beside another owner".into());
     };
-    assert!(rt; second.release_as(&mut pass).is_none());
+    let ended = second.release_as(&mut pass);
     let Ok(sole) = first.try_into_sole_as(&mut pass) else {
         return Err("alone".into());
     };
-    assert!(rt; *sole.get() == 7);
+    let back = *sole.get();
     sole.only(&mut pass);
     let first = sole.lend();
     let second = first.try_clone_as(&rt, &mut pass)?;
-    assert!(rt; heap.used() == taken);
-    assert!(rt; *second.get() == 7);
-    assert!(rt; first.release_as(&mut pass).is_none());
+    let cloned = heap.used();
+    let lent = *second.get();
+    let ended_again = first.release_as(&mut pass);
     let Ok(sole) = second.try_into_sole_as(&mut pass) else {
         return Err("alone again".into());
     };
-    assert!(rt; heap.used() == taken);
-    assert!(rt; sole.into_value_as(&mut pass) == 7);
-    assert!(rt; heap.used() == before);
+    let left = heap.used();
+    let value = sole.into_value_as(&mut pass);
+    assert!(rt; [ended, ended_again] == [None; 2]);
+    assert!(rt; [back, lent, value] == [7; 3]);
+    assert!(rt; [cloned, left, heap.used()] == [taken, taken, before]);
     Ok(())
 }
 
 /// What is written through `get_mut` is the value afterwards, of the same owner.
-fn set<H: Mark>(sole: &mut SoleBox<u64, Global, 3, H>, value: u64)
+fn set<A: Allocator + Copy, H: Mark>(sole: &mut SoleBox<u64, A, 3, H>, value: u64)
     ensures value { sole_value sole.new ≡ value }
     ensures owner { sole_in sole.new ≡ sole_in sole.old }
 {
     *sole.get_mut() = value;
 }
 
-/// Changed by its only owner, it is read so by the owners that it is lent to.
+/// Changed by its only owner, it is read so by the owners that it is lent to. It answers what they
+/// read, and what its only owner reads and ends with, after it had it back and changed it again.
+fn changed<R: Wait>(rt: &R, heap: &LocalHeap) -> Result<([u64; 2], Option<u64>), Fail> {
+    let Ok((mut sole, mut pass)) = SoleBox::<u64, _, 3, Whole>::new(heap, 7) else {
+        return Err(AllocError.into());
+    };
+    set(&mut sole, 8);
+    let first = sole.lend();
+    let second = first.try_clone_as(rt, &mut pass)?;
+    let lent = *second.get();
+    if first.release_as(&mut pass).is_some() {
+        return Err("beside another owner".into());
+    }
+    let Ok(mut sole) = second.try_into_sole_as(&mut pass) else {
+        return Err("alone".into());
+    };
+    set(&mut sole, 9);
+    let back = *sole.get();
+    Ok(([lent, back], sole.lend().release_as(&mut pass)))
+}
+
 #[test]
 fn changed_and_lent_anew(rt: HostRuntime) -> Result<(), Fail> {
     let heap = LocalHeap::new(rt.alloc(), 256)?;
     let before = heap.used();
-    let Ok((mut sole, mut pass)) = SoleBox::<u64, _, 3, Whole>::new(&heap, 7) else {
-        return Err(AllocError.into());
-    };
-    *sole.get_mut() = 8;
-    let first = sole.lend();
-    let second = first.try_clone_as(&rt, &mut pass)?;
-    assert!(rt; *second.get() == 8);
-    assert!(rt; first.release_as(&mut pass).is_none());
-    let Ok(mut sole) = second.try_into_sole_as(&mut pass) else {
-        return Err("alone".into());
-    };
-    *sole.get_mut() = 9;
-    assert!(rt; *sole.get() == 9);
-    assert!(rt; sole.lend().release_as(&mut pass) == Some(9));
+    assert!(rt; changed(&rt, &heap)? == ([8, 9], Some(9)));
     assert!(rt; heap.used() == before);
     Ok(())
 }

@@ -1,5 +1,5 @@
 //! Commands and their replies: the worked rows, each call once, and memory that runs out.
-use crate::tables::{ByteTable, has_items, table_of};
+use crate::tables::{ByteTable, Said, has_items, shows, table_of, told};
 use arc_block::layout::{ArcLayout, DefaultLayout};
 use arc_block::static_slice::StaticSlice;
 use arc_buffer::kinds::Plain;
@@ -22,18 +22,18 @@ fn is_slice<A: Allocator>(reply: &TableReply<u8, A>, items: &[u8]) -> bool {
 #[test]
 fn hello(rt: HostRuntime) {
     let mut table = table_of(&rt, rt.alloc(), b"Hello world");
-    let cut = table.step(
+    let cut = told(table.step(
         &rt,
         Cmd::Sub {
             window: 0,
             start: 0,
             end: 5,
         },
-    );
-    let shown = table.step(&rt, Cmd::Show { window: 1 });
+    ));
+    let shown = shows(&rt, &mut table, 1, b"Hello");
     let _ = table.end();
-    assert!(rt; matches!(cut, Reply::New(1)));
-    assert!(rt; has_items(&shown, b"Hello"));
+    assert!(rt; cut == Said::New(1));
+    assert!(rt; shown);
 }
 
 /// The commands of `hello`, in a list.
@@ -64,8 +64,7 @@ fn hello_as_list(rt: HostRuntime) -> Result<(), Fail> {
     let [first, second, third] = replies.as_slice() else {
         return Err("three replies".into());
     };
-    assert!(rt; matches!(first, Reply::New(0)));
-    assert!(rt; matches!(second, Reply::New(1)));
+    assert!(rt; matches!((first, second), (Reply::New(0), Reply::New(1))));
     assert!(rt; has_items(third, b"Hello"));
     assert!(rt; none.is_empty());
     Ok(())
@@ -140,60 +139,54 @@ fn list_refused(rt: HostRuntime) -> Result<(), Fail> {
 #[test]
 fn ranges(rt: HostRuntime) {
     let mut table = table_of(&rt, rt.alloc(), &[1, 2]);
-    let past = table.step(
+    let past = told(table.step(
         &rt,
         Cmd::Sub {
             window: 0,
             start: 0,
             end: 3,
         },
-    );
-    let turned = table.step(
+    ));
+    let turned = told(table.step(
         &rt,
         Cmd::Sub {
             window: 0,
             start: 2,
             end: 1,
         },
-    );
-    let empty = table.step(
+    ));
+    let empty = told(table.step(
         &rt,
         Cmd::Sub {
             window: 0,
             start: 1,
             end: 1,
         },
-    );
-    let shown = table.step(&rt, Cmd::Show { window: 1 });
-    let alone = table.step(&rt, Cmd::Uniq { window: 1 });
-    let dropped = table.step(&rt, Cmd::Drop { window: 0 });
-    let gone = table.step(&rt, Cmd::Show { window: 0 });
+    ));
+    let shown = shows(&rt, &mut table, 1, b"");
+    let alone = told(table.step(&rt, Cmd::Uniq { window: 1 }));
+    let dropped = told(table.step(&rt, Cmd::Drop { window: 0 }));
+    let gone = told(table.step(&rt, Cmd::Show { window: 0 }));
     let _ = table.end();
-    assert!(rt; matches!(past, Reply::Range(RangeError::OutOfRange)));
-    assert!(rt; matches!(turned, Reply::Range(RangeError::InvalidRange)));
-    assert!(rt; matches!(empty, Reply::New(1)));
-    assert!(rt; has_items(&shown, b""));
-    assert!(rt; matches!(alone, Reply::No));
-    assert!(rt; matches!(dropped, Reply::Ok));
-    assert!(rt; matches!(gone, Reply::NoWindow));
+    assert!(rt; past == Said::Range(RangeError::OutOfRange));
+    assert!(rt; [turned, empty] == [Said::Range(RangeError::InvalidRange), Said::New(1)]);
+    assert!(rt; shown);
+    assert!(rt; [alone, dropped, gone] == [Said::No, Said::Ok, Said::NoWindow]);
 }
 
 /// A window is alone on its block, has another owner beside it, and is alone again.
 #[test]
 fn unique_or_not(rt: HostRuntime) {
     let mut table = table_of(&rt, rt.alloc(), b"A");
-    let first = table.step(&rt, Cmd::Uniq { window: 0 });
-    let clone = table.step(&rt, Cmd::Clone { window: 0 });
-    let second = table.step(&rt, Cmd::Uniq { window: 0 });
+    let first = told(table.step(&rt, Cmd::Uniq { window: 0 }));
+    let clone = told(table.step(&rt, Cmd::Clone { window: 0 }));
+    let second = told(table.step(&rt, Cmd::Uniq { window: 0 }));
     let _ = table.step(&rt, Cmd::Drop { window: 1 });
-    let third = table.step(&rt, Cmd::Uniq { window: 0 });
-    let again = table.step(&rt, Cmd::Clone { window: 0 });
+    let third = told(table.step(&rt, Cmd::Uniq { window: 0 }));
+    let again = told(table.step(&rt, Cmd::Clone { window: 0 }));
     let _ = table.end();
-    assert!(rt; matches!(first, Reply::Yes));
-    assert!(rt; matches!(clone, Reply::New(1)));
-    assert!(rt; matches!(second, Reply::No));
-    assert!(rt; matches!(third, Reply::Yes));
-    assert!(rt; matches!(again, Reply::New(2)));
+    assert!(rt; [first, clone, second, third] == [Said::Yes, Said::New(1), Said::No, Said::Yes]);
+    assert!(rt; again == Said::New(2));
 }
 
 /// Under a layout without static data an empty cut is an owner; the items needn't be bytes.
@@ -201,20 +194,18 @@ fn unique_or_not(rt: HostRuntime) {
 fn numbers_without_static_data(rt: HostRuntime) -> Result<(), Fail> {
     let items = Vec::from_slice(rt.alloc(), &[7u32, 8, 9])?;
     let mut table: Table<Plain<u32>, ArcLayout<true, false>> = Table::new(rt.alloc());
-    let made = table.step(&rt, Cmd::Slice(items));
-    let cut = table.step(
+    let made = told(table.step(&rt, Cmd::Slice(items)));
+    let cut = told(table.step(
         &rt,
         Cmd::Sub {
             window: 0,
             start: 3,
             end: 3,
         },
-    );
-    let alone = table.step(&rt, Cmd::Uniq { window: 0 });
+    ));
+    let alone = told(table.step(&rt, Cmd::Uniq { window: 0 }));
     let _ = table.end();
-    assert!(rt; matches!(made, Reply::New(0)));
-    assert!(rt; matches!(cut, Reply::New(1)));
-    assert!(rt; matches!(alone, Reply::No));
+    assert!(rt; [made, cut, alone] == [Said::New(0), Said::New(1), Said::No]);
     Ok(())
 }
 
@@ -222,41 +213,38 @@ fn numbers_without_static_data(rt: HostRuntime) -> Result<(), Fail> {
 #[test]
 fn taken_or_refused(rt: HostRuntime) {
     let mut table = table_of(&rt, rt.alloc(), b"Hello");
-    let made = table.step(&rt, Cmd::Static(StaticSlice::new(b"abcd")));
-    let cut = table.step(
+    let made = told(table.step(&rt, Cmd::Static(StaticSlice::new(b"abcd"))));
+    let cut = told(table.step(
         &rt,
         Cmd::Sub {
             window: 1,
             start: 0,
             end: 2,
         },
-    );
-    let none = table.step(
+    ));
+    let none = told(table.step(
         &rt,
         Cmd::Sub {
             window: 1,
             start: 4,
             end: 4,
         },
-    );
+    ));
     let nothing = table.step(&rt, Cmd::TakeStatic { window: 3 });
     let part = table.step(&rt, Cmd::TakeStatic { window: 2 });
-    let alone = table.step(&rt, Cmd::Uniq { window: 1 });
+    let alone = told(table.step(&rt, Cmd::Uniq { window: 1 }));
     let whole = table.step(&rt, Cmd::TakeStatic { window: 1 });
-    let gone = table.step(&rt, Cmd::TakeStatic { window: 1 });
-    let refused = table.step(&rt, Cmd::TakeStatic { window: 0 });
-    let shown = table.step(&rt, Cmd::Show { window: 0 });
+    let gone = told(table.step(&rt, Cmd::TakeStatic { window: 1 }));
+    let refused = told(table.step(&rt, Cmd::TakeStatic { window: 0 }));
+    let shown = shows(&rt, &mut table, 0, b"Hello");
     let _ = table.end();
-    assert!(rt; matches!(made, Reply::New(1)));
-    assert!(rt; matches!(cut, Reply::New(2)));
-    assert!(rt; matches!(none, Reply::New(3)));
+    assert!(rt; [made, cut, none] == [Said::New(1), Said::New(2), Said::New(3)]);
     assert!(rt; is_slice(&nothing, b""));
     assert!(rt; is_slice(&part, b"ab"));
-    assert!(rt; matches!(alone, Reply::No));
+    assert!(rt; alone == Said::No);
     assert!(rt; is_slice(&whole, b"abcd"));
-    assert!(rt; matches!(gone, Reply::NoWindow));
-    assert!(rt; matches!(refused, Reply::Refused));
-    assert!(rt; has_items(&shown, b"Hello"));
+    assert!(rt; [gone, refused] == [Said::NoWindow, Said::Refused]);
+    assert!(rt; shown);
 }
 
 /// The items needn't be `'static`: a window on nothing comes back as a slice of none.
@@ -265,19 +253,18 @@ fn items_with_a_lifetime(rt: HostRuntime) -> Result<(), Fail> {
     let number = 7u32;
     let items = Vec::from_slice(rt.alloc(), &[&number])?;
     let mut table: Table<Plain<&u32>, DefaultLayout, Vec<&u32>, (), _> = Table::new(rt.alloc());
-    let made = table.step(&rt, Cmd::Slice(items));
-    let none = table.step(
+    let made = told(table.step(&rt, Cmd::Slice(items)));
+    let none = told(table.step(
         &rt,
         Cmd::Sub {
             window: 0,
             start: 1,
             end: 1,
         },
-    );
+    ));
     let slice = table.step(&rt, Cmd::TakeStatic { window: 1 });
     let _ = table.end();
-    assert!(rt; matches!(made, Reply::New(0)));
-    assert!(rt; matches!(none, Reply::New(1)));
+    assert!(rt; [made, none] == [Said::New(0), Said::New(1)]);
     let Reply::Static(slice) = slice else {
         return Err("a slice".into());
     };
@@ -291,11 +278,10 @@ fn no_static_data(rt: HostRuntime) {
     let mut table: Table<Plain<u8>, ArcLayout<true, false>, Vec<u8>, (), _> = Table::new(
         rt.alloc(),
     );
-    let made = table.step(&rt, Cmd::Static(StaticSlice::new(b"abcd")));
-    let taken = table.step(&rt, Cmd::TakeStatic { window: 0 });
+    let made = told(table.step(&rt, Cmd::Static(StaticSlice::new(b"abcd"))));
+    let taken = told(table.step(&rt, Cmd::TakeStatic { window: 0 }));
     let _ = table.end();
-    assert!(rt; matches!(made, Reply::Kind));
-    assert!(rt; matches!(taken, Reply::NoWindow));
+    assert!(rt; [made, taken] == [Said::Kind, Said::NoWindow]);
 }
 
 /// With more and more memory the window is refused, and then made; what was made is taken back
@@ -307,18 +293,16 @@ fn static_memory_refused(rt: HostRuntime) -> Result<(), Fail> {
     for units in 1..128usize {
         let heap = LocalHeap::new(rt.alloc(), units * 16)?;
         let mut table: ByteTable<_> = Table::new(&heap);
-        let made = table.step(&rt, Cmd::Static(StaticSlice::new(b"abcd")));
+        let made = told(table.step(&rt, Cmd::Static(StaticSlice::new(b"abcd"))));
         let used = heap.used();
         let slice = table.step(&rt, Cmd::TakeStatic { window: 0 });
         assert!(rt; heap.used() == used);
-        if matches!(made, Reply::Alloc) && matches!(slice, Reply::NoWindow) {
-            unmade = unmade.wrapping_add(1);
+        let is_taken = is_slice(&slice, b"abcd");
+        match (made, told(slice), is_taken) {
+            (Said::Alloc, Said::NoWindow, _) => unmade = unmade.wrapping_add(1),
+            (Said::New(0), _, true) => taken = taken.wrapping_add(1),
+            _ => {}
         }
-        if matches!(made, Reply::New(0)) && is_slice(&slice, b"abcd") {
-            taken = taken.wrapping_add(1);
-        }
-        drop(slice);
-        drop(made);
         let _ = table.end();
         assert!(rt; heap.used() == 0, "in {units} units");
     }
@@ -330,15 +314,11 @@ fn static_memory_refused(rt: HostRuntime) -> Result<(), Fail> {
 }
 
 /// Clones of the first window, and the reply to the last.
-fn cloned<A: Allocator + Copy>(
-    rt: &impl Wait,
-    table: &mut ByteTable<A>,
-    times: usize,
-) -> TableReply<u8, A> {
+fn cloned<A: Allocator + Copy>(rt: &impl Wait, table: &mut ByteTable<A>, times: usize) -> Said {
     for _ in 1..times {
         let _ = table.step(rt, Cmd::Clone { window: 0 });
     }
-    table.step(rt, Cmd::Clone { window: 0 })
+    told(table.step(rt, Cmd::Clone { window: 0 }))
 }
 
 /// With more and more memory each request is refused in turn. A refusal changes nothing, and at
@@ -351,15 +331,11 @@ fn memory_refused(rt: HostRuntime) -> Result<(), Fail> {
         let heap = LocalHeap::new(rt.alloc(), units * 16)?;
         let mut table = table_of(&rt, &heap, b"Hello");
         let last = cloned(&rt, &mut table, 4);
-        let shown = table.step(&rt, Cmd::Show { window: 0 });
-        if has_items(&shown, b"Hello") && matches!(last, Reply::New(4)) {
-            whole = whole.wrapping_add(1);
+        match (last, shows(&rt, &mut table, 0, b"Hello")) {
+            (Said::New(4), true) => whole = whole.wrapping_add(1),
+            (Said::Alloc, _) => refused = refused.wrapping_add(1),
+            _ => {}
         }
-        if matches!(last, Reply::Alloc) {
-            refused = refused.wrapping_add(1);
-        }
-        drop(shown);
-        drop(last);
         let _ = table.end();
         assert!(rt; heap.used() == 0, "in {units} units");
     }

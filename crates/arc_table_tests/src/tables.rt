@@ -1,6 +1,7 @@
 //! Tables of windows over bytes, and what they answer.
 use arc_block::layout::DefaultLayout;
 use arc_buffer::kinds::Plain;
+use arc_owners::error::{OwnerError, RangeError, TryReserveError};
 use arc_table::command::{Cmd, Reply, TableReply};
 use arc_table::table::Table;
 use std::alloc::Allocator;
@@ -9,12 +10,61 @@ use std::sync::Wait;
 /// A table of windows over bytes.
 pub type ByteTable<A> = Table<Plain<u8>, DefaultLayout, Vec<u8>, (), A>;
 
+/// What a reply says, without the items that it hands out.
+#[derive(Clone, Copy, Debug, PartialEq, Eq)]
+pub enum Said {
+    New(usize),
+    Ok,
+    Yes,
+    No,
+    Items,
+    Static,
+    Number(usize),
+    NoWindow,
+    Kind,
+    Refused,
+    Range(RangeError),
+    Owner(OwnerError),
+    Reserve(TryReserveError),
+    Alloc,
+}
+
+/// What a reply says. The items that it hands out are dropped.
+pub fn told<T: Drop, A: Allocator>(reply: TableReply<T, A>) -> Said {
+    match reply {
+        Reply::New(window) => Said::New(window),
+        Reply::Ok => Said::Ok,
+        Reply::Yes => Said::Yes,
+        Reply::No => Said::No,
+        Reply::Items(_) => Said::Items,
+        Reply::Static(_) => Said::Static,
+        Reply::Number(number) => Said::Number(number),
+        Reply::NoWindow => Said::NoWindow,
+        Reply::Kind => Said::Kind,
+        Reply::Refused => Said::Refused,
+        Reply::Range(error) => Said::Range(error),
+        Reply::Owner(error) => Said::Owner(error),
+        Reply::Reserve(error) => Said::Reserve(error),
+        Reply::Alloc => Said::Alloc,
+    }
+}
+
 /// Whether a reply has these bytes as its items.
 pub fn has_items<A: Allocator>(reply: &TableReply<u8, A>, items: &[u8]) -> bool {
     match reply {
         Reply::Items(shown) => shown.as_slice() == items,
         _ => false,
     }
+}
+
+/// Whether a window shows these bytes.
+pub fn shows<A: Allocator + Copy>(
+    rt: &impl Wait,
+    table: &mut ByteTable<A>,
+    window: usize,
+    items: &[u8],
+) -> bool {
+    has_items(&table.step(rt, Cmd::Show { window }), items)
 }
 
 /// A table with a window over the items, if there is memory.

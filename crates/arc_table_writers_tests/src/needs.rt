@@ -2,8 +2,9 @@
 use arc_block::layout::{ArcLayout, DefaultLayout};
 use arc_buffer::kinds::Plain;
 use arc_owners::error::TryReserveError;
-use arc_table::command::{Cmd, Reply};
+use arc_table::command::Cmd;
 use arc_table::table::Table;
+use arc_table_tests::tables::{Said, told};
 use linked_list_allocator::LocalHeap;
 use std::test::Fail;
 
@@ -17,12 +18,12 @@ fn frozen_in_need(rt: HostRuntime) -> Result<(), Fail> {
         let heap = LocalHeap::new(rt.alloc(), units * 16)?;
         let mut table: Table<Plain<u8>, ArcLayout<true, false>, Vec<u8>, (), _> = Table::new(&heap);
         let _ = table.step(&rt, Cmd::New);
-        let reply = table.step(&rt, Cmd::Freeze { window: 0 });
-        let room = table.step(&rt, Cmd::Room { window: 0 });
-        if matches!(reply, Reply::Refused) && matches!(room, Reply::Number(0)) {
+        let reply = told(table.step(&rt, Cmd::Freeze { window: 0 }));
+        let room = told(table.step(&rt, Cmd::Room { window: 0 }));
+        if reply == Said::Refused && room == Said::Number(0) {
             refused = refused.wrapping_add(1);
         }
-        if matches!(reply, Reply::Ok) && matches!(room, Reply::Kind) {
+        if reply == Said::Ok && room == Said::Kind {
             frozen = frozen.wrapping_add(1);
         }
         let _ = table.end();
@@ -45,20 +46,18 @@ fn room_in_need(rt: HostRuntime) -> Result<(), Fail> {
         let heap = LocalHeap::new(rt.alloc(), units * 16)?;
         let mut table: Table<Plain<u8>, DefaultLayout, Vec<u8>, (), _> = Table::new(&heap);
         let _ = table.step(&rt, Cmd::Cap { places: 2 });
-        let reply = table.step(
+        let reply = told(table.step(
             &rt,
             Cmd::Res {
                 window: 0,
                 additional: 40,
             },
-        );
-        let room = table.step(&rt, Cmd::Room { window: 0 });
-        if matches!(reply, Reply::Reserve(TryReserveError::AllocError))
-            && matches!(room, Reply::Number(2))
-        {
+        ));
+        let room = told(table.step(&rt, Cmd::Room { window: 0 }));
+        if reply == Said::Reserve(TryReserveError::AllocError) && room == Said::Number(2) {
             refused = refused.wrapping_add(1);
         }
-        if matches!(reply, Reply::Ok) && matches!(room, Reply::Number(40)) {
+        if reply == Said::Ok && room == Said::Number(40) {
             grown = grown.wrapping_add(1);
         }
         let _ = table.end();
@@ -82,14 +81,12 @@ fn extended_in_need(rt: HostRuntime) -> Result<(), Fail> {
         let mut table: Table<Plain<u8>, DefaultLayout, Vec<u8>, (), _> = Table::new(&heap);
         let _ = table.step(&rt, Cmd::Cap { places: 2 });
         if let Ok(items) = Vec::from_slice(&heap, &[7u8; 40]) {
-            let reply = table.step(&rt, Cmd::Ext { window: 0, items });
-            let many = table.step(&rt, Cmd::Len { window: 0 });
-            if matches!(reply, Reply::Reserve(TryReserveError::AllocError))
-                && matches!(many, Reply::Number(0))
-            {
+            let reply = told(table.step(&rt, Cmd::Ext { window: 0, items }));
+            let many = told(table.step(&rt, Cmd::Len { window: 0 }));
+            if reply == Said::Reserve(TryReserveError::AllocError) && many == Said::Number(0) {
                 refused = refused.wrapping_add(1);
             }
-            if matches!(reply, Reply::Ok) && matches!(many, Reply::Number(40)) {
+            if reply == Said::Ok && many == Said::Number(40) {
                 extended = extended.wrapping_add(1);
             }
         }

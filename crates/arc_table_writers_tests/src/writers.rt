@@ -3,9 +3,9 @@ use arc_block::layout::ArcLayout;
 use arc_block::static_slice::StaticSlice;
 use arc_buffer::kinds::Plain;
 use arc_owners::error::{RangeError, TryReserveError};
-use arc_table::command::{Cmd, Reply, TableReply};
+use arc_table::command::Cmd;
 use arc_table::table::Table;
-use arc_table_tests::tables::{ByteTable, has_items, table_of};
+use arc_table_tests::tables::{ByteTable, Said, shows, table_of, told};
 use linked_list_allocator::LocalHeap;
 use std::alloc::Allocator;
 use std::sync::Wait;
@@ -16,12 +16,12 @@ fn table_of_writer<A: Allocator + Copy>(
     rt: &impl Wait,
     alloc: A,
     items: &[u8],
-) -> (ByteTable<A>, TableReply<u8, A>) {
+) -> (ByteTable<A>, Said) {
     let mut table = Table::new(alloc);
     let Ok(items) = Vec::from_slice(alloc, items) else {
-        return (table, Reply::Alloc);
+        return (table, Said::Alloc);
     };
-    let made = table.step(rt, Cmd::MSlice(items));
+    let made = told(table.step(rt, Cmd::MSlice(items)));
     (table, made)
 }
 
@@ -29,22 +29,19 @@ fn table_of_writer<A: Allocator + Copy>(
 #[test]
 fn writer_cut(rt: HostRuntime) {
     let (mut table, made) = table_of_writer(&rt, rt.alloc(), b"ABCD");
-    let on = table.step(&rt, Cmd::Adv { window: 0, by: 1 });
-    let short = table.step(&rt, Cmd::Trunc { window: 0, len: 2 });
-    let past = table.step(&rt, Cmd::Adv { window: 0, by: 3 });
-    let many = table.step(&rt, Cmd::Len { window: 0 });
-    let shown = table.step(&rt, Cmd::Show { window: 0 });
-    let gone = table.step(&rt, Cmd::Drop { window: 0 });
-    let none = table.step(&rt, Cmd::Show { window: 0 });
+    let on = told(table.step(&rt, Cmd::Adv { window: 0, by: 1 }));
+    let short = told(table.step(&rt, Cmd::Trunc { window: 0, len: 2 }));
+    let past = told(table.step(&rt, Cmd::Adv { window: 0, by: 3 }));
+    let many = told(table.step(&rt, Cmd::Len { window: 0 }));
+    let shown = shows(&rt, &mut table, 0, b"BC");
+    let gone = told(table.step(&rt, Cmd::Drop { window: 0 }));
+    let none = told(table.step(&rt, Cmd::Show { window: 0 }));
     let _ = table.end();
-    assert!(rt; matches!(made, Reply::New(0)));
-    assert!(rt; matches!(on, Reply::Ok));
-    assert!(rt; matches!(short, Reply::Ok));
-    assert!(rt; matches!(past, Reply::Range(RangeError::OutOfRange)));
-    assert!(rt; matches!(many, Reply::Number(2)));
-    assert!(rt; has_items(&shown, b"BC"));
-    assert!(rt; matches!(gone, Reply::Ok));
-    assert!(rt; matches!(none, Reply::NoWindow));
+    assert!(rt; made == Said::New(0));
+    assert!(rt; [on, short, past] == [Said::Ok, Said::Ok, Said::Range(RangeError::OutOfRange)]);
+    assert!(rt; many == Said::Number(2));
+    assert!(rt; shown);
+    assert!(rt; [gone, none] == [Said::Ok, Said::NoWindow]);
 }
 
 /// A writer without items has the places that it was made with, less what was cut off in front, and
@@ -52,33 +49,28 @@ fn writer_cut(rt: HostRuntime) {
 #[test]
 fn writer_places(rt: HostRuntime) {
     let mut table: ByteTable<_> = Table::new(rt.alloc());
-    let empty = table.step(&rt, Cmd::New);
-    let none = table.step(&rt, Cmd::Room { window: 0 });
-    let made = table.step(&rt, Cmd::Cap { places: 8 });
-    let eight = table.step(&rt, Cmd::Room { window: 1 });
-    let many = table.step(&rt, Cmd::Len { window: 1 });
-    let idle = table.step(&rt, Cmd::Cap { places: 0 });
-    let also = table.step(&rt, Cmd::Room { window: 2 });
-    let absent = table.step(&rt, Cmd::Room { window: 3 });
+    let empty = told(table.step(&rt, Cmd::New));
+    let none = told(table.step(&rt, Cmd::Room { window: 0 }));
+    let made = told(table.step(&rt, Cmd::Cap { places: 8 }));
+    let eight = told(table.step(&rt, Cmd::Room { window: 1 }));
+    let many = told(table.step(&rt, Cmd::Len { window: 1 }));
+    let idle = told(table.step(&rt, Cmd::Cap { places: 0 }));
+    let also = told(table.step(&rt, Cmd::Room { window: 2 }));
+    let absent = told(table.step(&rt, Cmd::Room { window: 3 }));
     let _ = table.end();
-    assert!(rt; matches!(empty, Reply::New(0)));
-    assert!(rt; matches!(none, Reply::Number(0)));
-    assert!(rt; matches!(made, Reply::New(1)));
-    assert!(rt; matches!(eight, Reply::Number(8)));
-    assert!(rt; matches!(many, Reply::Number(0)));
-    assert!(rt; matches!(idle, Reply::New(2)));
-    assert!(rt; matches!(also, Reply::Number(0)));
-    assert!(rt; matches!(absent, Reply::NoWindow));
+    assert!(rt; [empty, none, made] == [Said::New(0), Said::Number(0), Said::New(1)]);
+    assert!(rt; [eight, many, idle] == [Said::Number(8), Said::Number(0), Said::New(2)]);
+    assert!(rt; [also, absent] == [Said::Number(0), Said::NoWindow]);
     let (mut cut, _) = table_of_writer(&rt, rt.alloc(), b"ABCD");
     let _ = cut.step(&rt, Cmd::Adv { window: 0, by: 1 });
     let _ = cut.step(&rt, Cmd::Trunc { window: 0, len: 1 });
-    let three = cut.step(&rt, Cmd::Room { window: 0 });
+    let three = told(cut.step(&rt, Cmd::Room { window: 0 }));
     let _ = cut.end();
-    assert!(rt; matches!(three, Reply::Number(3)));
+    assert!(rt; three == Said::Number(3));
     let mut read = table_of(&rt, rt.alloc(), b"ABCD");
-    let kind = read.step(&rt, Cmd::Room { window: 0 });
+    let kind = told(read.step(&rt, Cmd::Room { window: 0 }));
     let _ = read.end();
-    assert!(rt; matches!(kind, Reply::Kind));
+    assert!(rt; kind == Said::Kind);
 }
 
 /// A window becomes one that is written where it is alone on its block, and not beside another.
@@ -86,62 +78,52 @@ fn writer_places(rt: HostRuntime) {
 fn made_mut(rt: HostRuntime) {
     let mut table = table_of(&rt, rt.alloc(), b"ABCD");
     let _ = table.step(&rt, Cmd::Clone { window: 0 });
-    let beside = table.step(&rt, Cmd::Mut { window: 0 });
-    let read = table.step(&rt, Cmd::Room { window: 0 });
+    let beside = told(table.step(&rt, Cmd::Mut { window: 0 }));
+    let read = told(table.step(&rt, Cmd::Room { window: 0 }));
     let _ = table.step(&rt, Cmd::Drop { window: 1 });
     let _ = table.step(&rt, Cmd::Adv { window: 0, by: 1 });
-    let alone = table.step(&rt, Cmd::Mut { window: 0 });
-    let room = table.step(&rt, Cmd::Room { window: 0 });
-    let shown = table.step(&rt, Cmd::Show { window: 0 });
-    let again = table.step(&rt, Cmd::Mut { window: 0 });
-    let gone = table.step(&rt, Cmd::Mut { window: 1 });
+    let alone = told(table.step(&rt, Cmd::Mut { window: 0 }));
+    let room = told(table.step(&rt, Cmd::Room { window: 0 }));
+    let shown = shows(&rt, &mut table, 0, b"BCD");
+    let again = told(table.step(&rt, Cmd::Mut { window: 0 }));
+    let gone = told(table.step(&rt, Cmd::Mut { window: 1 }));
     let _ = table.end();
-    assert!(rt; matches!(beside, Reply::Refused));
-    assert!(rt; matches!(read, Reply::Kind));
-    assert!(rt; matches!(alone, Reply::Ok));
-    assert!(rt; matches!(room, Reply::Number(3)));
-    assert!(rt; has_items(&shown, b"BCD"));
-    assert!(rt; matches!(again, Reply::Kind));
-    assert!(rt; matches!(gone, Reply::NoWindow));
+    assert!(rt; [beside, read, alone] == [Said::Refused, Said::Kind, Said::Ok]);
+    assert!(rt; room == Said::Number(3));
+    assert!(rt; shown);
+    assert!(rt; [again, gone] == [Said::Kind, Said::NoWindow]);
 }
 
 /// On no block a window becomes one that is written where it has no items.
 #[test]
 fn made_mut_on_no_block(rt: HostRuntime) {
     let mut table = table_of(&rt, rt.alloc(), b"");
-    let empty = table.step(&rt, Cmd::Mut { window: 0 });
-    let none = table.step(&rt, Cmd::Room { window: 0 });
+    let empty = told(table.step(&rt, Cmd::Mut { window: 0 }));
+    let none = told(table.step(&rt, Cmd::Room { window: 0 }));
     let _ = table.step(&rt, Cmd::Static(StaticSlice::new(b"abcd")));
-    let slice = table.step(&rt, Cmd::Mut { window: 1 });
-    let asked = table.step(&rt, Cmd::Uniq { window: 1 });
+    let slice = told(table.step(&rt, Cmd::Mut { window: 1 }));
+    let asked = told(table.step(&rt, Cmd::Uniq { window: 1 }));
     let _ = table.end();
-    assert!(rt; matches!(empty, Reply::Ok));
-    assert!(rt; matches!(none, Reply::Number(0)));
-    assert!(rt; matches!(slice, Reply::Refused));
-    assert!(rt; matches!(asked, Reply::No));
+    assert!(rt; [empty, none, slice] == [Said::Ok, Said::Number(0), Said::Refused]);
+    assert!(rt; asked == Said::No);
 }
 
 /// Whether each of these is answered that it isn't for the window's role.
 fn are_of_other_role<A: Allocator + Copy>(rt: &impl Wait, table: &mut ByteTable<A>) -> bool {
-    let clone = table.step(rt, Cmd::Clone { window: 0 });
-    let sub = table.step(
+    let clone = told(table.step(rt, Cmd::Clone { window: 0 }));
+    let sub = told(table.step(
         rt,
         Cmd::Sub {
             window: 0,
             start: 9,
             end: 3,
         },
-    );
-    let off = table.step(rt, Cmd::Off { window: 0, at: 9 });
-    let to = table.step(rt, Cmd::To { window: 0, at: 9 });
-    let alone = table.step(rt, Cmd::Uniq { window: 0 });
-    let slice = table.step(rt, Cmd::TakeStatic { window: 0 });
-    matches!(clone, Reply::Kind)
-        && matches!(sub, Reply::Kind)
-        && matches!(off, Reply::Kind)
-        && matches!(to, Reply::Kind)
-        && matches!(alone, Reply::Kind)
-        && matches!(slice, Reply::Kind)
+    ));
+    let off = told(table.step(rt, Cmd::Off { window: 0, at: 9 }));
+    let to = told(table.step(rt, Cmd::To { window: 0, at: 9 }));
+    let alone = told(table.step(rt, Cmd::Uniq { window: 0 }));
+    let slice = told(table.step(rt, Cmd::TakeStatic { window: 0 }));
+    [clone, sub, off, to, alone, slice] == [Said::Kind; 6]
 }
 
 /// The role is tested before the range, and also where the window stands on nothing.
@@ -153,9 +135,9 @@ fn writer_of_other_role(rt: HostRuntime) {
     let (mut empty, idle) = table_of_writer(&rt, rt.alloc(), b"");
     let also = are_of_other_role(&rt, &mut empty);
     let _ = empty.end();
-    assert!(rt; matches!(made, Reply::New(0)));
+    assert!(rt; made == Said::New(0));
     assert!(rt; refused);
-    assert!(rt; matches!(idle, Reply::New(0)));
+    assert!(rt; idle == Said::New(0));
     assert!(rt; also);
 }
 
@@ -167,10 +149,10 @@ fn writer_refused(rt: HostRuntime) -> Result<(), Fail> {
     for units in 1..64usize {
         let heap = LocalHeap::new(rt.alloc(), units * 16)?;
         let (mut table, made) = table_of_writer(&rt, &heap, b"ABCD");
-        let many = table.step(&rt, Cmd::Len { window: 0 });
-        match made {
-            Reply::New(0) if matches!(many, Reply::Number(4)) => whole = whole.wrapping_add(1),
-            Reply::Alloc if matches!(many, Reply::NoWindow) => short = short.wrapping_add(1),
+        let many = told(table.step(&rt, Cmd::Len { window: 0 }));
+        match (made, many) {
+            (Said::New(0), Said::Number(4)) => whole = whole.wrapping_add(1),
+            (Said::Alloc, Said::NoWindow) => short = short.wrapping_add(1),
             _ => {}
         }
         let _ = table.end();
@@ -191,46 +173,40 @@ fn written_and_frozen(rt: HostRuntime) -> Result<(), Fail> {
     let items = Vec::from_slice(rt.alloc(), &[2u8, 3])?;
     let mut table: ByteTable<_> = Table::new(rt.alloc());
     let _ = table.step(&rt, Cmd::New);
-    let pushed = table.step(&rt, Cmd::Push { window: 0, item: 1 });
-    let eight = table.step(&rt, Cmd::Room { window: 0 });
-    let extended = table.step(&rt, Cmd::Ext { window: 0, items });
-    let reserved = table.step(
+    let pushed = told(table.step(&rt, Cmd::Push { window: 0, item: 1 }));
+    let eight = told(table.step(&rt, Cmd::Room { window: 0 }));
+    let extended = told(table.step(&rt, Cmd::Ext { window: 0, items }));
+    let reserved = told(table.step(
         &rt,
         Cmd::Res {
             window: 0,
             additional: 6,
         },
-    );
-    let grown = table.step(&rt, Cmd::Room { window: 0 });
+    ));
+    let grown = told(table.step(&rt, Cmd::Room { window: 0 }));
     let _ = table.step(&rt, Cmd::Adv { window: 0, by: 2 });
-    let found = table.step(
+    let found = told(table.step(
         &rt,
         Cmd::Rec {
             window: 0,
             additional: 15,
         },
-    );
-    let none = table.step(
+    ));
+    let none = told(table.step(
         &rt,
         Cmd::Rec {
             window: 0,
             additional: 16,
         },
-    );
-    let frozen = table.step(&rt, Cmd::Freeze { window: 0 });
-    let again = table.step(&rt, Cmd::Freeze { window: 0 });
-    let shown = table.step(&rt, Cmd::Show { window: 0 });
+    ));
+    let frozen = told(table.step(&rt, Cmd::Freeze { window: 0 }));
+    let again = told(table.step(&rt, Cmd::Freeze { window: 0 }));
+    let shown = shows(&rt, &mut table, 0, &[3]);
     let _ = table.end();
-    assert!(rt; matches!(pushed, Reply::Ok));
-    assert!(rt; matches!(eight, Reply::Number(8)));
-    assert!(rt; matches!(extended, Reply::Ok));
-    assert!(rt; matches!(reserved, Reply::Ok));
-    assert!(rt; matches!(grown, Reply::Number(16)));
-    assert!(rt; matches!(found, Reply::Yes));
-    assert!(rt; matches!(none, Reply::No));
-    assert!(rt; matches!(frozen, Reply::Ok));
-    assert!(rt; matches!(again, Reply::Kind));
-    assert!(rt; has_items(&shown, &[3]));
+    assert!(rt; [pushed, eight, extended] == [Said::Ok, Said::Number(8), Said::Ok]);
+    assert!(rt; [reserved, grown, found] == [Said::Ok, Said::Number(16), Said::Yes]);
+    assert!(rt; [none, frozen, again] == [Said::No, Said::Ok, Said::Kind]);
+    assert!(rt; shown);
     Ok(())
 }
 
@@ -242,21 +218,16 @@ fn frozen_without_static_data(rt: HostRuntime) {
         rt.alloc(),
     );
     let _ = table.step(&rt, Cmd::New);
-    let frozen = table.step(&rt, Cmd::Freeze { window: 0 });
-    let alone = table.step(&rt, Cmd::Uniq { window: 0 });
-    let many = table.step(&rt, Cmd::Len { window: 0 });
-    let written = table.step(&rt, Cmd::Mut { window: 0 });
-    let room = table.step(&rt, Cmd::Room { window: 0 });
-    let pushed = table.step(&rt, Cmd::Push { window: 0, item: 7 });
-    let one = table.step(&rt, Cmd::Room { window: 0 });
+    let frozen = told(table.step(&rt, Cmd::Freeze { window: 0 }));
+    let alone = told(table.step(&rt, Cmd::Uniq { window: 0 }));
+    let many = told(table.step(&rt, Cmd::Len { window: 0 }));
+    let written = told(table.step(&rt, Cmd::Mut { window: 0 }));
+    let room = told(table.step(&rt, Cmd::Room { window: 0 }));
+    let pushed = told(table.step(&rt, Cmd::Push { window: 0, item: 7 }));
+    let one = told(table.step(&rt, Cmd::Room { window: 0 }));
     let _ = table.end();
-    assert!(rt; matches!(frozen, Reply::Ok));
-    assert!(rt; matches!(alone, Reply::Yes));
-    assert!(rt; matches!(many, Reply::Number(0)));
-    assert!(rt; matches!(written, Reply::Ok));
-    assert!(rt; matches!(room, Reply::Number(0)));
-    assert!(rt; matches!(pushed, Reply::Ok));
-    assert!(rt; matches!(one, Reply::Number(1)));
+    assert!(rt; [frozen, alone, many, written] == [Said::Ok, Said::Yes, Said::Number(0), Said::Ok]);
+    assert!(rt; [room, pushed, one] == [Said::Number(0), Said::Ok, Said::Number(1)]);
 }
 
 /// More room than a block can have is refused, and nothing changes.
@@ -267,13 +238,13 @@ fn too_much_room(rt: HostRuntime) {
         additional: 18_446_744_073_709_551_615,
     };
     let (mut table, _) = table_of_writer(&rt, rt.alloc(), &[1]);
-    let refused = table.step(&rt, most);
-    let room = table.step(&rt, Cmd::Room { window: 0 });
-    let shown = table.step(&rt, Cmd::Show { window: 0 });
+    let refused = told(table.step(&rt, most));
+    let room = told(table.step(&rt, Cmd::Room { window: 0 }));
+    let shown = shows(&rt, &mut table, 0, &[1]);
     let _ = table.end();
-    assert!(rt; matches!(refused, Reply::Reserve(TryReserveError::CapacityOverflow)));
-    assert!(rt; matches!(room, Reply::Number(1)));
-    assert!(rt; has_items(&shown, &[1]));
+    assert!(rt; refused == Said::Reserve(TryReserveError::CapacityOverflow));
+    assert!(rt; room == Said::Number(1));
+    assert!(rt; shown);
 }
 
 /// What a writer on nothing is left as by a push, and then by one that has to grow the block: how
@@ -281,29 +252,18 @@ fn too_much_room(rt: HostRuntime) {
 fn pushes_refused<A: Allocator + Copy>(rt: &impl Wait, table: &mut ByteTable<A>) -> Option<usize> {
     let mut refused = 0usize;
     for item in 0u8..9 {
-        let before = table.step(rt, Cmd::Room { window: 0 });
-        let pushed = table.step(rt, Cmd::Push { window: 0, item });
-        let after = table.step(rt, Cmd::Room { window: 0 });
-        match pushed {
-            Reply::Ok => {}
-            Reply::Reserve(TryReserveError::AllocError) => {
-                if !is_same_number(&before, &after) {
-                    return None;
-                }
+        let before = told(table.step(rt, Cmd::Room { window: 0 }));
+        let pushed = told(table.step(rt, Cmd::Push { window: 0, item }));
+        let after = told(table.step(rt, Cmd::Room { window: 0 }));
+        match (pushed, before) {
+            (Said::Ok, _) => {}
+            (Said::Reserve(TryReserveError::AllocError), Said::Number(_)) if before == after => {
                 refused = refused.wrapping_add(1);
             }
             _ => return None,
         }
     }
     Some(refused)
-}
-
-/// Whether both replies are one number.
-fn is_same_number<A: Allocator>(one: &TableReply<u8, A>, other: &TableReply<u8, A>) -> bool {
-    match (one, other) {
-        (Reply::Number(one), Reply::Number(other)) => *one == *other,
-        _ => false,
-    }
 }
 
 /// With more and more memory a first block is refused, then a larger one, and then none.
@@ -315,7 +275,7 @@ fn pushes_in_need(rt: HostRuntime) -> Result<(), Fail> {
     for units in 1..64usize {
         let heap = LocalHeap::new(rt.alloc(), units * 16)?;
         let mut table: ByteTable<_> = Table::new(&heap);
-        if matches!(table.step(&rt, Cmd::New), Reply::New(0)) {
+        if told(table.step(&rt, Cmd::New)) == Said::New(0) {
             match pushes_refused(&rt, &mut table) {
                 Some(0) => none = none.wrapping_add(1),
                 Some(1) => growth = growth.wrapping_add(1),

@@ -4,6 +4,7 @@ use arc_buffer::kinds::{ByteText, Plain};
 use arc_table::command::{Cmd, Reply};
 use arc_table::kinds::{NoZero, TableItem};
 use arc_table::table::Table;
+use arc_table_tests::tables::{Said, told};
 use linked_list_allocator::LocalHeap;
 use std::test::Fail;
 
@@ -22,16 +23,14 @@ impl TableItem for Color {
 #[test]
 fn zeros(rt: HostRuntime) {
     let mut table: Table<Plain<u8>, DefaultLayout, Vec<u8>, (), _> = Table::new(rt.alloc());
-    let three = table.step(&rt, Cmd::Zero { count: 3 });
-    let none = table.step(&rt, Cmd::Zero { count: 0 });
-    let room = table.step(&rt, Cmd::Room { window: 0 });
+    let three = told(table.step(&rt, Cmd::Zero { count: 3 }));
+    let none = told(table.step(&rt, Cmd::Zero { count: 0 }));
+    let room = told(table.step(&rt, Cmd::Room { window: 0 }));
     let shown = table.step(&rt, Cmd::Show { window: 0 });
-    let idle = table.step(&rt, Cmd::Room { window: 1 });
+    let idle = told(table.step(&rt, Cmd::Room { window: 1 }));
     let _ = table.end();
-    assert!(rt; matches!(three, Reply::New(0)));
-    assert!(rt; matches!(none, Reply::New(1)));
-    assert!(rt; matches!(room, Reply::Number(3)));
-    assert!(rt; matches!(idle, Reply::Number(0)));
+    assert!(rt; [three, none, room] == [Said::New(0), Said::New(1), Said::Number(3)]);
+    assert!(rt; idle == Said::Number(0));
     let shows = match &shown {
         Reply::Items(items) => items.as_slice() == b"\x00\x00\x00".as_slice(),
         _ => false,
@@ -43,16 +42,15 @@ fn zeros(rt: HostRuntime) {
 #[test]
 fn zeros_of_kinds(rt: HostRuntime) {
     let mut text: Table<ByteText, DefaultLayout, Vec<u8>, (), _> = Table::new(rt.alloc());
-    let made = text.step(&rt, Cmd::Zero { count: 2 });
-    let many = text.step(&rt, Cmd::Len { window: 0 });
+    let made = told(text.step(&rt, Cmd::Zero { count: 2 }));
+    let many = told(text.step(&rt, Cmd::Len { window: 0 }));
     let _ = text.end();
-    assert!(rt; matches!(made, Reply::New(0)));
-    assert!(rt; matches!(many, Reply::Number(2)));
+    assert!(rt; [made, many] == [Said::New(0), Said::Number(2)]);
     let mut table: Table<Plain<i32>, DefaultLayout, Vec<i32>, (), _> = Table::new(rt.alloc());
-    let signed = table.step(&rt, Cmd::Zero { count: 1 });
+    let signed = told(table.step(&rt, Cmd::Zero { count: 1 }));
     let shown = table.step(&rt, Cmd::Show { window: 0 });
     let _ = table.end();
-    assert!(rt; matches!(signed, Reply::New(0)));
+    assert!(rt; signed == Said::New(0));
     let shows = match &shown {
         Reply::Items(items) => items.as_slice() == [0i32].as_slice(),
         _ => false,
@@ -65,13 +63,11 @@ fn zeros_of_kinds(rt: HostRuntime) {
 fn no_zero(rt: HostRuntime) -> Result<(), Fail> {
     let items = Vec::from_slice(rt.alloc(), &[Color::Red, Color::Blue])?;
     let mut table: Table<Plain<Color>, DefaultLayout, Vec<Color>, (), _> = Table::new(rt.alloc());
-    let zeros = table.step(&rt, Cmd::Zero { count: 2 });
-    let made = table.step(&rt, Cmd::MSlice(items));
-    let many = table.step(&rt, Cmd::Len { window: 0 });
+    let zeros = told(table.step(&rt, Cmd::Zero { count: 2 }));
+    let made = told(table.step(&rt, Cmd::MSlice(items)));
+    let many = told(table.step(&rt, Cmd::Len { window: 0 }));
     let _ = table.end();
-    assert!(rt; matches!(zeros, Reply::Kind));
-    assert!(rt; matches!(made, Reply::New(0)));
-    assert!(rt; matches!(many, Reply::Number(2)));
+    assert!(rt; [zeros, made, many] == [Said::Kind, Said::New(0), Said::Number(2)]);
     Ok(())
 }
 
@@ -83,12 +79,12 @@ fn zeros_in_need(rt: HostRuntime) -> Result<(), Fail> {
     for units in 1..64usize {
         let heap = LocalHeap::new(rt.alloc(), units * 16)?;
         let mut table: Table<Plain<u8>, DefaultLayout, Vec<u8>, (), _> = Table::new(&heap);
-        let zeros = table.step(&rt, Cmd::Zero { count: 4 });
-        let many = table.step(&rt, Cmd::Len { window: 0 });
-        if matches!(zeros, Reply::Alloc) && matches!(many, Reply::NoWindow) {
+        let zeros = told(table.step(&rt, Cmd::Zero { count: 4 }));
+        let many = told(table.step(&rt, Cmd::Len { window: 0 }));
+        if zeros == Said::Alloc && many == Said::NoWindow {
             refused = refused.wrapping_add(1);
         }
-        if matches!(zeros, Reply::New(0)) && matches!(many, Reply::Number(4)) {
+        if zeros == Said::New(0) && many == Said::Number(4) {
             made = made.wrapping_add(1);
         }
         let _ = table.end();

@@ -196,22 +196,15 @@ fn frozen_alone<K: Layout>(alloc: Global, items: &[u8]) -> Result<(usize, bool),
 
 #[test]
 fn nothing_is_frozen(rt: HostRuntime) -> Result<(), Fail> {
-    assert_eq!(rt;
-        frozen_alone::<ArcLayout<true, true>>(rt.alloc(), &[])?,
-        (0, false)
-    );
-    assert_eq!(rt;
-        frozen_alone::<ArcLayout<false, true>>(rt.alloc(), &[])?,
-        (0, false)
-    );
-    assert_eq!(rt;
-        frozen_alone::<ArcLayout<true, false>>(rt.alloc(), &[])?,
-        (0, true)
-    );
-    assert_eq!(rt;
-        frozen_alone::<ArcLayout<true, false>>(rt.alloc(), &[7])?,
-        (1, true)
-    );
+    assert!(rt; frozen_alone::<ArcLayout<true, true>>(rt.alloc(), &[])? == (0, false));
+    assert!(rt; frozen_alone::<ArcLayout<false, true>>(rt.alloc(), &[])? == (0, false));
+    assert!(rt; frozen_alone::<ArcLayout<true, false>>(rt.alloc(), &[])? == (0, true));
+    assert!(rt; frozen_alone::<ArcLayout<true, false>>(rt.alloc(), &[7])? == (1, true));
+    Ok(())
+}
+
+#[test]
+fn nothing_is_frozen_without_memory(rt: HostRuntime) -> Result<(), Fail> {
     let heap = LocalHeap::new(rt.alloc(), 16)?;
     let window: ArcBytesMut<DefaultLayoutMut, Vec<u8>, (), &LocalHeap> = ArcSliceMut::new(&heap);
     match window.try_freeze::<ArcLayout<true, false>>() {
@@ -234,6 +227,11 @@ fn arrays_taken_back(rt: HostRuntime) -> Result<(), Fail> {
     );
     let idle: ArcBytesMut = ArcSliceMut::new(rt.alloc());
     assert!(rt; idle.try_into_array::<0>().is_ok());
+    Ok(())
+}
+
+#[test]
+fn arrays_of_all_places(rt: HostRuntime) -> Result<(), Fail> {
     let mut spare: ArcBytesMut = ArcSliceMut::try_with_capacity(rt.alloc(), 4)?;
     spare.try_extend_from_slice(&[1, 2, 3])?;
     let Err(mut spare) = spare.try_into_array::<3>() else {
@@ -287,6 +285,12 @@ fn ended_by_hint(rt: HostRuntime) -> Result<(), Fail> {
     assert!(rt; !window.try_reclaim_as(1, &mut pass));
     window.drop_with_unique_hint_as(&mut pass);
     assert!(rt; heap.used() == 0);
+    Ok(())
+}
+
+#[test]
+fn ended_by_hint_without_a_pass(rt: HostRuntime) -> Result<(), Fail> {
+    let heap = LocalHeap::new(rt.alloc(), 512)?;
     let window: ArcBytesMut<DefaultLayoutMut, Vec<u8>, (), &LocalHeap> =
         ArcSliceMut::try_from_slice(&heap, &[1, 2])?;
     window.drop_with_unique_hint();

@@ -22,44 +22,100 @@ enum Call {
     Reserve,
 }
 
+/// Whether a window was made of a slice, and whether it has the items, if it was.
+fn from_slice(heap: &LocalHeap) -> (bool, bool) {
+    match Bytes::try_from_slice(heap, &[1, 2, 3]) {
+        Ok(window) => (true, window.as_slice() == [1, 2, 3].as_slice()),
+        Err(AllocError) => (false, true),
+    }
+}
+
+/// Whether a window was made of an array, and whether the items are there, or came back.
+fn from_array(heap: &LocalHeap) -> (bool, bool) {
+    match Bytes::try_from_array(heap, [1, 2, 3]) {
+        Ok(window) => (true, window.as_slice() == [1, 2, 3].as_slice()),
+        Err(back) => (false, back == [1, 2, 3]),
+    }
+}
+
+/// The same as `from_slice`, of text.
+fn from_text(heap: &LocalHeap) -> (bool, bool) {
+    match Text::try_from_str(heap, "é") {
+        Ok(window) => (true, window.as_str() == "é"),
+        Err(AllocError) => (false, true),
+    }
+}
+
+/// Whether a window was made with room, and whether it has that, if it was.
+fn with_capacity(heap: &LocalHeap) -> (bool, bool) {
+    match Bytes::try_with_capacity(heap, 3) {
+        Ok(window) => (true, window.capacity() == 3),
+        Err(AllocError) => (false, true),
+    }
+}
+
+/// Whether an item was pushed, and whether it is there, or came back and left no more than there
+/// was.
+fn push(heap: &LocalHeap) -> (bool, bool) {
+    let mut idle: Bytes = ArcSliceMut::new(heap);
+    match idle.try_push(9) {
+        Ok(()) => (true, idle.as_slice() == [9].as_slice()),
+        Err(back) => {
+            let wanted = ((TryReserveError::AllocError, 9), 0, 0);
+            (false, (back, idle.len(), idle.capacity()) == wanted)
+        }
+    }
+}
+
+/// Whether items were put behind none, and whether they are there, or no more than there was.
+fn extend(heap: &LocalHeap) -> (bool, bool) {
+    let mut idle: Bytes = ArcSliceMut::new(heap);
+    match idle.try_extend_from_slice(&[1, 2]) {
+        Ok(()) => (true, idle.as_slice() == [1, 2].as_slice()),
+        Err(e) => {
+            let wanted = (TryReserveError::AllocError, 0, 0);
+            (false, (e, idle.len(), idle.capacity()) == wanted)
+        }
+    }
+}
+
+/// The same as `push`, of an iterator's items, of which the first comes back.
+fn iterate(heap: &LocalHeap) -> (bool, bool) {
+    let mut idle: Bytes = ArcSliceMut::new(heap);
+    match idle.try_extend([8, 9]) {
+        Ok(()) => (true, idle.as_slice() == [8, 9].as_slice()),
+        Err(back) => {
+            let wanted = ((TryReserveError::AllocError, 8), 0, 0);
+            (false, (back, idle.len(), idle.capacity()) == wanted)
+        }
+    }
+}
+
+/// Whether there is room for items, and whether it is that of a first block, or none.
+fn reserve(heap: &LocalHeap) -> (bool, bool) {
+    let mut idle: Bytes = ArcSliceMut::new(heap);
+    match idle.try_reserve(3) {
+        Ok(()) => (true, idle.capacity() == 8),
+        Err(e) => {
+            let wanted = (TryReserveError::AllocError, 0, 0);
+            (false, (e, idle.len(), idle.capacity()) == wanted)
+        }
+    }
+}
+
 /// Whether the call did what it does, or was refused and left no more than there was.
 fn tried(call: Call, heap: &LocalHeap) -> Result<bool, Fail> {
-    let mut idle: Bytes = ArcSliceMut::new(heap);
     let (done, right) = match call {
-        Call::Slice => match Bytes::try_from_slice(heap, &[1, 2, 3]) {
-            Ok(window) => (true, window.as_slice() == [1, 2, 3].as_slice()),
-            Err(AllocError) => (false, true),
-        },
-        Call::Array => match Bytes::try_from_array(heap, [1, 2, 3]) {
-            Ok(window) => (true, window.as_slice() == [1, 2, 3].as_slice()),
-            Err(back) => (false, back == [1, 2, 3]),
-        },
-        Call::Text => match Text::try_from_str(heap, "é") {
-            Ok(window) => (true, window.as_str() == "é"),
-            Err(AllocError) => (false, true),
-        },
-        Call::Capacity => match Bytes::try_with_capacity(heap, 3) {
-            Ok(window) => (true, window.capacity() == 3),
-            Err(AllocError) => (false, true),
-        },
-        Call::Push => match idle.try_push(9) {
-            Ok(()) => (true, idle.as_slice() == [9].as_slice()),
-            Err(back) => (false, back == (TryReserveError::AllocError, 9)),
-        },
-        Call::Extend => match idle.try_extend_from_slice(&[1, 2]) {
-            Ok(()) => (true, idle.as_slice() == [1, 2].as_slice()),
-            Err(e) => (false, e == TryReserveError::AllocError),
-        },
-        Call::Iterate => match idle.try_extend([8, 9]) {
-            Ok(()) => (true, idle.as_slice() == [8, 9].as_slice()),
-            Err(back) => (false, back == (TryReserveError::AllocError, 8)),
-        },
-        Call::Reserve => match idle.try_reserve(3) {
-            Ok(()) => (true, idle.capacity() == 8),
-            Err(e) => (false, e == TryReserveError::AllocError),
-        },
+        Call::Slice => from_slice(heap),
+        Call::Array => from_array(heap),
+        Call::Text => from_text(heap),
+        Call::Capacity => with_capacity(heap),
+        Call::Push => push(heap),
+        Call::Extend => extend(heap),
+        Call::Iterate => iterate(heap),
+        Call::Reserve => reserve(heap),
     };
-    if right && (done || (idle.is_empty() && idle.capacity() == 0 && heap.used() == 0)) {
+    if right && heap.used() == 0 {
         Ok(done)
     } else {
         Err("another answer".into())
@@ -88,7 +144,7 @@ fn first_block_refused(rt: HostRuntime) -> Result<(), Fail> {
             } else {
                 refused = true;
             }
-            assert_eq!(rt; heap.used(), 0, "after {call:?}");
+            assert!(rt; heap.used() == 0);
         }
         assert!(rt; done && refused, "of {call:?}");
     }
