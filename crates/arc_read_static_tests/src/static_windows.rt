@@ -19,18 +19,32 @@ use std::thread;
 type Counted<'a> = ArcSlice<Plain<u8>, DefaultLayout, Vec<u8>, (), &'a LocalHeap>;
 
 #[test]
-fn cut_cloned_and_split(rt: HostRuntime) -> Result<(), Fail> {
-    let mut text: ArcSlice<Plain<u8>> = ArcSlice::from_static(rt.alloc(), b"abcd");
+fn refused_and_cloned(rt: HostRuntime) -> Result<(), Fail> {
+    let text: ArcSlice<Plain<u8>> = ArcSlice::from_static(rt.alloc(), b"abcd");
     assert!(rt; text.check_range(0, 5) == Err(RangeError::OutOfRange));
     assert!(rt; text.check_range(3, 2) == Err(RangeError::InvalidRange));
     assert!(rt; text.check_at(5) == Err(RangeError::OutOfRange));
     let clone = text.try_clone(&rt)?;
     assert!(rt; clone.as_slice() == b"abcd".as_slice());
-    assert!(rt; !clone.is_unique() && !text.is_unique());
+    assert!(rt; [clone.is_unique(), text.is_unique()] == [false; 2]);
+    Ok(())
+}
+
+#[test]
+fn split_beside_a_clone(rt: HostRuntime) -> Result<(), Fail> {
+    let mut text: ArcSlice<Plain<u8>> = ArcSlice::from_static(rt.alloc(), b"abcd");
+    let clone = text.try_clone(&rt)?;
     assert!(rt; text.check_at(1) == Ok(()));
-    let mut back = text.try_split_off(&rt, 1)?;
+    let back = text.try_split_off(&rt, 1)?;
     assert!(rt; text.as_slice() == b"a".as_slice());
     assert!(rt; back.as_slice() == b"bcd".as_slice());
+    assert!(rt; clone.as_slice() == b"abcd".as_slice());
+    Ok(())
+}
+
+#[test]
+fn cut_in_place(rt: HostRuntime) -> Result<(), Fail> {
+    let mut back: ArcSlice<Plain<u8>> = ArcSlice::from_static(rt.alloc(), b"bcd");
     assert!(rt; back.check_at(1) == Ok(()));
     back.advance(1);
     assert!(rt; back.as_slice() == b"cd".as_slice());
@@ -39,7 +53,6 @@ fn cut_cloned_and_split(rt: HostRuntime) -> Result<(), Fail> {
     assert!(rt; back.check_at(1) == Ok(()));
     back.truncate(1);
     assert!(rt; back.as_slice() == b"c".as_slice());
-    assert!(rt; clone.as_slice() == b"abcd".as_slice());
     assert!(rt; !back.is_unique());
     assert!(rt; back.try_into_array::<1>().is_err());
     Ok(())
@@ -76,7 +89,7 @@ fn empty_cuts_stand_on_nothing(rt: HostRuntime) -> Result<(), Fail> {
     let text: ArcSlice<Plain<u8>> = ArcSlice::from_static(rt.alloc(), b"abcd");
     assert!(rt; text.check_range(0, 0) == Ok(()));
     let none = empty_cut(&rt, &text)?;
-    assert!(rt; none.is_empty() && !none.is_unique());
+    assert!(rt; (none.is_empty(), none.is_unique()) == (true, false));
     let Ok(items) = none.try_into_static() else {
         return Err("no items".into());
     };
@@ -226,14 +239,24 @@ fn cut_and_split<L: StaticLayout>(rt: &impl Wait, alloc: Global) -> Result<bool,
     let rest = whole.try_split_off(rt, 0)?;
     let none = text.try_subslice(rt, 3, 3)?;
     let empty: ArcSlice<Plain<u8>, L> = ArcSlice::from_static(alloc, b"");
-    let parts = hello.as_slice() == b"Hello".as_slice()
-        && front.as_slice() == b"Hello ".as_slice()
-        && back.as_slice() == b"world".as_slice()
-        && rest.as_slice() == b"Hello ".as_slice();
-    let empties = whole.is_empty() && none.is_empty() && empty.is_empty();
-    let unique = hello.is_unique() || rest.is_unique() || none.is_unique() || empty.is_unique();
-    let taken = rest.try_into_static().is_ok() && whole.try_into_static().is_ok();
-    Ok(parts && empties && taken && !unique)
+    let parts = [
+        hello.as_slice() == b"Hello".as_slice(),
+        front.as_slice() == b"Hello ".as_slice(),
+        back.as_slice() == b"world".as_slice(),
+        rest.as_slice() == b"Hello ".as_slice(),
+    ];
+    let lengths = [whole.len(), none.len(), empty.len()];
+    let unique = [
+        hello.is_unique(),
+        rest.is_unique(),
+        none.is_unique(),
+        empty.is_unique(),
+    ];
+    let taken = [
+        rest.try_into_static().is_ok(),
+        whole.try_into_static().is_ok(),
+    ];
+    Ok(parts == [true; 4] && lengths == [0; 3] && unique == [false; 4] && taken == [true; 2])
 }
 
 #[test]
@@ -288,7 +311,7 @@ fn apart_without_a_block(rt: HostRuntime) -> Result<(), Fail> {
     let before = heap.used();
     let none: Counted<'_> = ArcSlice::new(&heap);
     let none: Counted<'_> = ArcSlice::from_parts(none.into_parts());
-    assert!(rt; none.is_empty() && !none.is_unique());
+    assert!(rt; (none.is_empty(), none.is_unique()) == (true, false));
     let text: Counted<'_> = ArcSlice::from_static(&heap, b"abcd");
     let text: Counted<'_> = ArcSlice::from_parts(text.into_parts());
     assert!(rt; text.as_slice() == b"abcd".as_slice());

@@ -136,6 +136,30 @@ fn calls_on_no_block(rt: HostRuntime) -> Result<(), Fail> {
     Ok(())
 }
 
+/// Three values in each of their six orders.
+fn in_order<T>(order: u32, a: T, b: T, c: T) -> (T, T, T) {
+    match order {
+        0 => (a, b, c),
+        1 => (a, c, b),
+        2 => (b, a, c),
+        3 => (b, c, a),
+        4 => (c, a, b),
+        _ => (c, b, a),
+    }
+}
+
+/// Ends a window in one of three ways.
+fn end(way: u32, window: InHeap<'_, u32>) {
+    match way {
+        0 => drop(window),
+        1 => window.drop_with_unique_hint(),
+        _ => {
+            let mut pass = window.pass();
+            window.release_as(&mut pass);
+        }
+    }
+}
+
 /// A window, a clone and a cut end in each order, and the block is given back with the last.
 #[test]
 fn memory_given_back_once(rt: HostRuntime) -> Result<(), Fail> {
@@ -149,26 +173,12 @@ fn memory_given_back_once(rt: HostRuntime) -> Result<(), Fail> {
         assert!(rt; window.check_range(1, 3) == Ok(()));
         let cut = window.try_subslice(&rt, 1, 3)?;
         assert!(rt; heap.used() == taken);
-        let (first, second, third) = match order {
-            0 => (window, clone, cut),
-            1 => (window, cut, clone),
-            2 => (clone, window, cut),
-            3 => (clone, cut, window),
-            4 => (cut, window, clone),
-            _ => (cut, clone, window),
-        };
+        let (first, second, third) = in_order(order, window, clone, cut);
         drop(first);
         assert!(rt; heap.used() == taken);
         second.drop_with_unique_hint();
         assert!(rt; heap.used() == taken);
-        match order % 3 {
-            0 => drop(third),
-            1 => third.drop_with_unique_hint(),
-            _ => {
-                let mut pass = third.pass();
-                third.release_as(&mut pass);
-            }
-        }
+        end(order % 3, third);
         assert!(rt; heap.used() == before);
     }
     Ok(())
@@ -295,18 +305,24 @@ fn split_at_the_ends(rt: HostRuntime) -> Result<(), Fail> {
     let mut text: ArcSlice<Plain<u8>> = ArcSlice::try_from_slice(rt.alloc(), b"Hello")?;
     assert!(rt; text.check_at(0) == Ok(()));
     let mut whole = text.try_split_off(&rt, 0)?;
-    assert!(rt; text.is_empty() && !text.is_unique());
+    assert!(rt; (text.is_empty(), text.is_unique()) == (true, false));
     assert!(rt; whole.as_slice() == b"Hello".as_slice());
     assert!(rt; whole.is_unique());
     assert!(rt; whole.check_at(5) == Ok(()));
     let all = whole.try_split_to(&rt, 5)?;
-    assert!(rt; whole.is_empty() && !whole.is_unique());
+    assert!(rt; (whole.is_empty(), whole.is_unique()) == (true, false));
     assert!(rt; all.as_slice() == b"Hello".as_slice());
     assert!(rt; all.is_unique());
+    Ok(())
+}
+
+/// Without static data both parts of an empty window stand on its block.
+#[test]
+fn nothing_split(rt: HostRuntime) -> Result<(), Fail> {
     let mut empty: ArcSlice<Plain<()>, WithoutStatic> = ArcSlice::try_from_slice(rt.alloc(), &[])?;
     assert!(rt; empty.check_at(0) == Ok(()));
     let other = empty.try_split_to(&rt, 0)?;
-    assert!(rt; !empty.is_unique() && !other.is_unique());
+    assert!(rt; [empty.is_unique(), other.is_unique()] == [false; 2]);
     Ok(())
 }
 
@@ -319,7 +335,7 @@ fn cut_in_place(rt: HostRuntime) -> Result<(), Fail> {
     text.truncate(7);
     assert!(rt; text.as_slice() == b"llo".as_slice());
     text.truncate(0);
-    assert!(rt; text.is_empty() && text.is_unique());
+    assert!(rt; (text.is_empty(), text.is_unique()) == (true, true));
     Ok(())
 }
 
@@ -427,16 +443,18 @@ fn made_cut_and_split<L: Layout>(rt: &impl Wait, alloc: Global) -> Result<bool, 
     let mut back = text.try_clone(rt)?;
     let front = back.try_split_to(rt, 6)?;
     let whole = front.try_clone(rt)?.try_split_off(rt, 0)?;
-    let parts = hello.as_slice() == b"Hello".as_slice()
-        && front.as_slice() == b"Hello ".as_slice()
-        && whole.as_slice() == b"Hello ".as_slice()
-        && back.as_slice() == b"world".as_slice();
+    let parts = [
+        hello.as_slice() == b"Hello".as_slice(),
+        front.as_slice() == b"Hello ".as_slice(),
+        whole.as_slice() == b"Hello ".as_slice(),
+        back.as_slice() == b"world".as_slice(),
+    ];
     drop(hello);
     drop(front);
     drop(whole);
     drop(back);
     let none = text.try_subslice(rt, 3, 3)?;
-    Ok(parts && none.is_empty() && text.is_unique() == L::STATIC)
+    Ok((parts, none.len(), text.is_unique()) == ([true; 4], 0, L::STATIC))
 }
 
 #[test]
