@@ -40,12 +40,20 @@ fn shared_up_to_three(rt: HostRuntime) -> Result<(), Fail> {
     assert!(rt; !first.is_unique_as(&mut pass));
     assert!(rt; !first.release_as(&mut pass));
     let fourth = shared(&third, &mut pass)?;
-    assert!(rt; !second.release_as(&mut pass));
-    assert!(rt; !third.release_as(&mut pass));
-    assert!(rt; fourth.is_unique_as(&mut pass));
-    assert!(rt; fourth.range(0, 5) == b"Hello".as_slice());
     assert!(rt; fourth.size() == 5);
-    assert!(rt; fourth.release_as(&mut pass));
+    Ok(())
+}
+
+#[test]
+fn last_of_three_releases(rt: HostRuntime) -> Result<(), Fail> {
+    let (first, mut pass) = Bytes::try_from_slice(rt.alloc(), b"Hello")?;
+    let second = shared(&first, &mut pass)?;
+    let third = shared(&second, &mut pass)?;
+    assert!(rt; !first.release_as(&mut pass));
+    assert!(rt; !second.release_as(&mut pass));
+    assert!(rt; third.is_unique_as(&mut pass));
+    assert!(rt; third.range(0, 5) == b"Hello".as_slice());
+    assert!(rt; third.release_as(&mut pass));
     Ok(())
 }
 
@@ -78,37 +86,41 @@ fn shared_by_two_threads(rt: HostRuntime) -> Result<(), Fail> {
     Ok(())
 }
 
+/// What a block of 40 bytes is made of.
+const SEVENS: [u8; 40] = [7; 40];
+
+/// A block whose first owner is dropped, and whose second one is released: whether it stays as it
+/// is till then. None is made where there is no memory.
+fn made_and_ended(heap: &LocalHeap) -> Result<Option<bool>, Fail> {
+    let (block, mut pass) = match Bytes::try_from_slice(heap, &SEVENS) {
+        Ok(made) => made,
+        Err(AllocError) => return Ok(None),
+    };
+    let other = shared(&block, &mut pass)?;
+    let taken = heap.used();
+    drop(block);
+    let left = heap.used();
+    let is_same = other.range(0, 40) == SEVENS.as_slice();
+    Ok(Some((left, is_same, other.release_as(&mut pass)) == (taken, true, true)))
+}
+
 /// A heap of its own, larger each time: at first it has no room for the items, then none for the
 /// count beside them, and then it has. All memory is given back each time.
 #[test]
 fn memory_refused(rt: HostRuntime) -> Result<(), Fail> {
-    let items = [7u8; 40];
     let mut refused_items = 0u64;
     let mut refused_count = 0u64;
     let mut made = 0u64;
     for blocks in 2..16usize {
         let heap = LocalHeap::new(rt.alloc(), blocks * 16)?;
-        let has_room = Vec::from_slice(&heap, &items).is_ok();
-        match Bytes::try_from_slice(&heap, &items) {
-            Ok((block, mut pass)) => {
-                let other = shared(&block, &mut pass)?;
-                let taken = heap.used();
-                drop(block);
-                let is_kept = heap.used() == taken && other.range(0, 40) == items.as_slice();
-                assert!(rt;
-                    is_kept && other.release_as(&mut pass),
-                    "in {blocks} blocks"
-                );
+        let has_room = Vec::from_slice(&heap, &SEVENS).is_ok();
+        match made_and_ended(&heap)? {
+            Some(is_kept) => {
+                assert!(rt; is_kept);
                 made = made.saturating_add(1);
             }
-            Err(error) => {
-                assert!(rt; error == AllocError);
-                if has_room {
-                    refused_count = refused_count.saturating_add(1);
-                } else {
-                    refused_items = refused_items.saturating_add(1);
-                }
-            }
+            None if has_room => refused_count = refused_count.saturating_add(1),
+            None => refused_items = refused_items.saturating_add(1),
         }
         assert!(rt; heap.used() == 0, "in {blocks} blocks");
     }

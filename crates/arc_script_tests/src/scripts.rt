@@ -22,19 +22,24 @@ fn run<A: Allocator + Copy>(
     run_script(rt, alloc, &mut source, &mut sink, ScriptLayout::Arc)
 }
 
+/// Whether a script has these replies, where so much is read and written a call.
+fn has_replies_at(
+    rt: &impl Wait,
+    alloc: Global,
+    script: &[u8],
+    replies: &[u8],
+    size: usize,
+) -> bool {
+    let mut reader = Pieces::new(script, size);
+    let mut writer = Taken::new(alloc, size);
+    let ran = run(rt, alloc, &mut reader, &mut writer);
+    (ran, reader.input.len(), writer.bytes.as_slice()) == (Ok(()), 0, replies)
+}
+
 /// Whether a script has these replies: read and written at once, and a byte a call.
 fn has_replies(rt: &impl Wait, alloc: Global, script: &[u8], replies: &[u8]) -> bool {
-    let mut right = true;
-    for size in [usize::MAX, 1] {
-        let mut reader = Pieces::new(script, size);
-        let mut writer = Taken::new(alloc, size);
-        let ran = run(rt, alloc, &mut reader, &mut writer);
-        right = right
-            && ran.is_ok()
-            && reader.input.is_empty()
-            && writer.bytes.as_slice() == replies;
-    }
-    right
+    has_replies_at(rt, alloc, script, replies, usize::MAX)
+        && has_replies_at(rt, alloc, script, replies, 1)
 }
 
 /// `slice` with so many digits, all 0, as a line.
@@ -122,9 +127,8 @@ fn failed_reads(rt: HostRuntime) {
         let mut writer = Taken::new(rt.alloc(), usize::MAX);
         let ran = run(&rt, rt.alloc(), &mut reader, &mut writer);
         assert!(rt;
-            ran == Err(ScriptError::Read)
-                && reader.calls == call
-                && HELLO_REPLIES.starts_with(&writer.bytes),
+            (ran, reader.calls, HELLO_REPLIES.starts_with(&writer.bytes))
+                == (Err(ScriptError::Read), call, true),
             "at call {call}"
         );
     }
@@ -143,18 +147,14 @@ fn failed_writes(rt: HostRuntime) {
         let ran = run(&rt, rt.alloc(), &mut reader, &mut writer);
         let begun = &HELLO_REPLIES[..3 * (call - 1)];
         assert!(rt;
-            ran == Err(ScriptError::Write)
-                && writer.calls == call
-                && writer.bytes.as_slice() == begun,
+            (ran, writer.calls, writer.bytes.as_slice()) == (Err(ScriptError::Write), call, begun),
             "at call {call}"
         );
     }
     let mut reader = Pieces::new(HELLO, usize::MAX);
     let mut writer = Taken::new(rt.alloc(), 0);
     let ran = run(&rt, rt.alloc(), &mut reader, &mut writer);
-    assert!(rt; ran == Err(ScriptError::Write));
-    assert!(rt; writer.bytes.len() == 0);
-    assert!(rt; writer.calls == 1);
+    assert!(rt; (ran, writer.bytes.len(), writer.calls) == (Err(ScriptError::Write), 0, 1));
 }
 
 /// One piece of input, in the midst of which memory is refused: for a line that isn't whole in it,
@@ -178,18 +178,15 @@ fn refused_in_a_piece(rt: HostRuntime) -> Result<(), Fail> {
         let mut writer = Taken::new(rt.alloc(), usize::MAX);
         let ran = run(&rt, &heap, &mut reader, &mut writer);
         assert!(rt;
-            ran == Err(ScriptError::Alloc)
-                && writer.bytes.as_slice() == replies
-                && heap.used() == 0,
+            (ran, writer.bytes.as_slice(), heap.used()) == (Err(ScriptError::Alloc), replies, 0),
             "in {size} bytes"
         );
         let mut reader = Pieces::new(&script, usize::MAX);
         let mut writer = Taken::failing(rt.alloc(), 2, 2);
         let ran = run(&rt, &heap, &mut reader, &mut writer);
         assert!(rt;
-            ran == Err(ScriptError::Write)
-                && writer.bytes.as_slice() == b"h0".as_slice()
-                && heap.used() == 0,
+            (ran, writer.bytes.as_slice(), heap.used())
+                == (Err(ScriptError::Write), b"h0".as_slice(), 0),
             "in {size} bytes, where a write fails"
         );
     }
@@ -213,9 +210,8 @@ fn given_back(rt: HostRuntime) -> Result<(), Fail> {
         let mut writer = Taken::new(rt.alloc(), 2);
         let ran = run(&rt, &heap, &mut reader, &mut writer);
         assert!(rt;
-            ran == Err(ScriptError::Read)
-                && LEFT_REPLIES.starts_with(&writer.bytes)
-                && heap.used() == 0,
+            (ran, LEFT_REPLIES.starts_with(&writer.bytes), heap.used())
+                == (Err(ScriptError::Read), true, 0),
             "at read {call}"
         );
     }
@@ -225,9 +221,8 @@ fn given_back(rt: HostRuntime) -> Result<(), Fail> {
         let mut writer = Taken::failing(rt.alloc(), 2, call);
         let ran = run(&rt, &heap, &mut reader, &mut writer);
         assert!(rt;
-            ran == Err(ScriptError::Write)
-                && LEFT_REPLIES.starts_with(&writer.bytes)
-                && heap.used() == 0,
+            (ran, LEFT_REPLIES.starts_with(&writer.bytes), heap.used())
+                == (Err(ScriptError::Write), true, 0),
             "at write {call}"
         );
     }
