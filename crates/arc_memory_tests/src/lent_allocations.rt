@@ -3,15 +3,17 @@
 ghost use Rattle.std.specs.Prelude.{◌≡◌, [], ◌∷◌, IfOk, IfSome, is_some, length};
 ghost use Rattle.arc_owners.specs.count.Calls.{IsPassFor, MakesAnother, Leaves};
 ghost use Rattle.arc_owners.specs.memory.Boxes.{owner_in, value_of};
+ghost use Rattle.arc_owners.specs.memory.SoleBoxes.{sole_in, sole_value};
 ghost use Rattle.arc_memory.specs.Allocations.{IsAllOf};
 ghost use Rattle.arc_memory.specs.LentMemory.{LentMemory-set};
 
 use arc_memory::{Allocation, Base, FrozenPlaces, LentAllocation, Lodging, Places, put_together};
 use arc_owners::error::{AllocError, CountFull};
 use arc_owners::mark::Open;
-use arc_owners::owners::{CountedBox, Pass};
+use arc_owners::owners::{CountedBox, Pass, SoleBox};
 use linked_list_allocator::LocalHeap;
 use std::alloc::Allocator;
+use std::mem;
 use std::sync::Wait;
 use std::test::Fail;
 
@@ -175,6 +177,22 @@ fn memory_given_back_by_drop(rt: HostRuntime) -> Result<(), Fail> {
     Ok(())
 }
 
+/// The same memory, lent for another lifetime, with the same items frozen there.
+fn lent_again<T, A: Allocator>(
+    lent: LentAllocation<T, A>,
+    range: &FrozenPlaces<T>,
+) -> (FrozenPlaces<T>, LentAllocation<T, A>)
+    requires memory { (range.now.memory ≡ lent.inheritance.memory) × (range.now.start ≡ 0) }
+    requires full { length range.now.items ≡ lent.allocation.count }
+    ensures lent { (result.0.memory ≡ result.1.inheritance.memory) × (result.0.start ≡ 0) }
+    ensures same { (result.0.items ≡ range.now.items)
+        × (result.0.memory.base ≡ range.now.memory.base) }
+{
+    let (places, allocation) = lent.regain_frozen_whole(range);
+    let (part, lent) = LentAllocation::lend(allocation, places);
+    (part.freeze(lent.lifetime()), lent)
+}
+
 /// Alone, an owner takes the numbers back and lends them anew, for another lifetime.
 #[test]
 fn lent_anew_where_alone(rt: HostRuntime) -> Result<(), Fail> {
@@ -192,12 +210,49 @@ fn lent_anew_where_alone(rt: HostRuntime) -> Result<(), Fail> {
     let Ok(lent) = first.try_into_value_as(&mut pass) else {
         return Err("alone".into());
     };
-    let (places, allocation) = lent.regain_frozen_whole(&range);
-    let (part, lent) = LentAllocation::lend(allocation, places);
-    let range = part.freeze(lent.lifetime());
+    let (range, lent) = lent_again(lent, &range);
     let seen = unsafe { range.as_slice(lent.lifetime(), base, 0, 2) };
     assert!(rt; seen == [7u64, 8].as_slice());
     drop(lent);
+    assert!(rt; heap.used() == 0);
+    Ok(())
+}
+
+/// The value of an only owner, which has another one from then on.
+fn replaced<T, A: Allocator + Copy>(
+    sole: &mut SoleBox<LentAllocation<T, A>, A, 3, Open>,
+    other: LentAllocation<T, A>,
+) -> LentAllocation<T, A>
+    ensures taken { result ≡ sole_value sole.old }
+    ensures left { sole_value sole.new ≡ other }
+    ensures owner { sole_in sole.new ≡ sole_in sole.old }
+{
+    mem::replace(sole.get_mut(), other)
+}
+
+/// The only owner has the numbers back and lends them anew, for the next lease: it is the same
+/// owner, and the history of the count goes on.
+#[test]
+fn lent_anew_under_the_same_history(rt: HostRuntime) -> Result<(), Fail> {
+    let heap = LocalHeap::new(rt.alloc(), 1024)?;
+    let (base, range, lent) = frozen(&heap, 7, 8)?;
+    let Ok((first, mut pass)) = CountedBox::<LentAllocation<u64, _>, _, 3, Open>::new(&heap, lent)
+    else {
+        return Err(AllocError.into());
+    };
+    let Ok(mut sole) = first.try_into_sole_as(&mut pass) else {
+        return Err("alone".into());
+    };
+    let (_base, none, idle) = LentAllocation::new(&heap, 0)?;
+    none.give_up();
+    let (range, lent) = lent_again(replaced(&mut sole, idle), &range);
+    drop(replaced(&mut sole, lent));
+    let first = sole.lend();
+    let second = first.try_clone_as(&rt, &mut pass)?;
+    drop(first);
+    let seen = unsafe { range.as_slice(second.get().lifetime(), base, 0, 2) };
+    assert!(rt; seen == [7u64, 8].as_slice());
+    drop(second);
     assert!(rt; heap.used() == 0);
     Ok(())
 }
