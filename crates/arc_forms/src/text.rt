@@ -111,25 +111,26 @@ fn push_reply<A: Allocator, X: AsSlice<u8>>(
         (out.new.items ≡ out.old.items ++ reply_text (map_reply X.items reply.now)) }
     ensures err { OnErr result (Extends out.old.items out.new.items) }
 {
-    match reply {
+    let words: &[u8] = match reply {
         Reply::New(number) => {
             out.push(b'h')?;
-            push_number(out, *number)?;
+            return push_number(out, *number);
         }
-        Reply::Ok => out.extend_from_slice(b"ok")?,
-        Reply::Yes => out.extend_from_slice(b"yes")?,
-        Reply::No => out.extend_from_slice(b"no")?,
-        Reply::Items(items) => push_items(out, items.as_slice())?,
-        Reply::Static(items) => push_items(out, items.as_slice())?,
-        Reply::Number(number) => push_number(out, *number)?,
-        Reply::NoWindow => out.extend_from_slice(b"no window")?,
-        Reply::Kind => out.extend_from_slice(b"kind")?,
-        Reply::Refused => out.extend_from_slice(b"refused")?,
-        Reply::Range(error) => out.extend_from_slice(range_words(*error))?,
-        Reply::Owner(error) => out.extend_from_slice(owner_words(*error))?,
-        Reply::Reserve(error) => out.extend_from_slice(reserve_words(*error))?,
-        Reply::Alloc => out.extend_from_slice(b"allocation error")?,
-    }
+        Reply::Items(items) => return push_items(out, items.as_slice()),
+        Reply::Static(items) => return push_items(out, items.as_slice()),
+        Reply::Number(number) => return push_number(out, *number),
+        Reply::Ok => b"ok",
+        Reply::Yes => b"yes",
+        Reply::No => b"no",
+        Reply::NoWindow => b"no window",
+        Reply::Kind => b"kind",
+        Reply::Refused => b"refused",
+        Reply::Range(error) => range_words(*error),
+        Reply::Owner(error) => owner_words(*error),
+        Reply::Reserve(error) => reserve_words(*error),
+        Reply::Alloc => b"allocation error",
+    };
+    out.extend_from_slice(words)?;
     Ok(())
 }
 

@@ -126,67 +126,61 @@ fn first_reader<T: Drop, A: Allocator + Copy>(
     ))
 }
 
-/// The last owner has the places back, with the numbers, and frees them.
-#[test]
-fn numbers_read_by_two_owners(rt: HostRuntime) -> Result<(), Fail> {
-    let heap = LocalHeap::new(rt.alloc(), 1024)?;
-    let (reader, mut pass) = first_reader(&heap, 7u64, 8)?;
-    let Reader {
-        owner: first,
-        range,
-        base: Base { at: base },
-        end: _,
-    } = reader;
-    let second = first.try_clone_as(&rt, &mut pass)?;
-    let seen = unsafe { range.as_slice(first.get().lifetime(), base, 0, 2) };
-    assert!(rt; seen == [7u64, 8].as_slice());
-    let seen = unsafe { range.as_slice(second.get().lifetime(), base, 1, 2) };
-    assert!(rt; seen == [8u64].as_slice());
-    assert!(rt; first.release_as(&mut pass).is_none());
-    let Some(lent) = second.release_as(&mut pass) else {
-        return Err("beside another owner".into());
-    };
-    let (places, allocation) = lent.regain_frozen_whole(&range);
-    let (mut lodger, under) = unsafe { Lodging::house(places, base, 0, 2, 2) };
-    assert!(rt; lodger.take_last() == 8);
-    assert!(rt; lodger.take_last() == 7);
-    allocation.free(under.vacate(lodger));
-    assert!(rt; heap.used() == 0);
-    Ok(())
-}
-
-/// Two readers, one after the other: what owns an item reads it, and the last one has both back.
-#[test]
-fn owned_items_read_by_two_readers(rt: HostRuntime) -> Result<(), Fail> {
-    let heap = LocalHeap::new(rt.alloc(), 1024)?;
-    let (first, second) = (Box::new(rt.alloc(), 7u8)?, Box::new(rt.alloc(), 8u8)?);
-    let (reader, mut pass) = first_reader(&heap, first, second)?;
-    let other = reader.try_clone(&rt, &mut pass)?;
-    assert!(rt; *reader.as_slice()[1] == 8);
+/// The items, as the last of two readers has them back, who then frees the memory.
+fn had_back<T: Drop, A: Allocator + Copy>(
+    rt: &impl Wait,
+    alloc: A,
+    first: T,
+    second: T,
+) -> Result<(T, T), Fail> {
+    let (reader, mut pass) = first_reader(alloc, first, second)?;
+    let other = reader.try_clone(rt, &mut pass)?;
     drop(reader);
-    assert!(rt; *other.as_slice()[0] == 7);
     let Some((base, places, allocation)) = other.release(&mut pass) else {
         return Err("the last one".into());
     };
     let (mut lodger, under) = unsafe { Lodging::house(places, base, 0, 2, allocation.count()) };
-    assert!(rt; *lodger.take_last() == 8);
-    assert!(rt; *lodger.take_last() == 7);
+    let second = lodger.take_last();
+    let first = lodger.take_last();
     allocation.free(under.vacate(lodger));
-    assert!(rt; heap.used() == 0);
-    Ok(())
+    Ok((first, second))
 }
 
 #[test]
+fn had_back_by_the_last_reader(rt: HostRuntime) -> Result<(), Fail> {
+    let heap = LocalHeap::new(rt.alloc(), 1024)?;
+    let numbers = had_back(&rt, &heap, 7u64, 8)?;
+    assert_eq!(rt; (numbers, heap.used()), ((7, 8), 0));
+    let (first, second) = (Box::new(rt.alloc(), 7u8)?, Box::new(rt.alloc(), 8u8)?);
+    let (first, second) = had_back(&rt, &heap, first, second)?;
+    assert_eq!(rt; (*first, *second, heap.used()), (7, 8, 0));
+    Ok(())
+}
+
+/// Whether two readers read the numbers, the second one also after the first is dropped.
+fn read_by_two<A: Allocator + Copy>(rt: &impl Wait, alloc: A) -> Result<[bool; 3], Fail> {
+    let (first, mut pass) = first_reader(alloc, 7u64, 8)?;
+    let second = first.try_clone(rt, &mut pass)?;
+    let both = (first.as_slice(), second.as_slice()) == ([7, 8].as_slice(), [7, 8].as_slice());
+    drop(first);
+    let part = unsafe {
+        second
+            .range
+            .as_slice(second.owner.get().lifetime(), second.base.at, 1, 2)
+    };
+    Ok([
+        both,
+        part == [8].as_slice(),
+        second.as_slice() == [7, 8].as_slice(),
+    ])
+}
+
+/// Both readers are dropped, so the memory is given back.
+#[test]
 fn memory_given_back_by_drop(rt: HostRuntime) -> Result<(), Fail> {
     let heap = LocalHeap::new(rt.alloc(), 1024)?;
-    let (first, mut pass) = first_reader(&heap, 7u64, 8)?;
-    let second = first.try_clone(&rt, &mut pass)?;
-    let taken = heap.used();
-    drop(first);
-    assert!(rt; heap.used() == taken);
-    assert!(rt; second.as_slice() == [7, 8].as_slice());
-    drop(second);
-    assert!(rt; heap.used() == 0);
+    let read = read_by_two(&rt, &heap)?;
+    assert_eq!(rt; (read, heap.used()), ([true; 3], 0));
     Ok(())
 }
 
@@ -206,30 +200,28 @@ fn lent_again<T, A: Allocator>(
     (part.freeze(lent.lifetime()), lent)
 }
 
-/// Alone, an owner takes the numbers back and lends them anew, for another lifetime.
-#[test]
-fn lent_anew_where_alone(rt: HostRuntime) -> Result<(), Fail> {
-    let heap = LocalHeap::new(rt.alloc(), 1024)?;
-    let (reader, mut pass) = first_reader(&heap, 7u64, 8)?;
+/// Whether the numbers are read that an owner, alone, took back and lent anew, for another lifetime.
+fn lent_anew_alone<A: Allocator + Copy>(alloc: A) -> Result<bool, Fail> {
+    let (reader, mut pass) = first_reader(alloc, 7u64, 8)?;
     let Reader {
-        owner: first,
+        owner,
         range,
         base: Base { at: base },
         end: _,
     } = reader;
-    let second = first.try_clone_as(&rt, &mut pass)?;
-    let Err(first) = first.try_into_value_as(&mut pass) else {
-        return Err("beside another owner".into());
-    };
-    drop(second);
-    let Ok(lent) = first.try_into_value_as(&mut pass) else {
+    let Ok(lent) = owner.try_into_value_as(&mut pass) else {
         return Err("alone".into());
     };
     let (range, lent) = lent_again(lent, &range);
     let seen = unsafe { range.as_slice(lent.lifetime(), base, 0, 2) };
-    assert!(rt; seen == [7u64, 8].as_slice());
-    drop(lent);
-    assert!(rt; heap.used() == 0);
+    Ok(seen == [7, 8].as_slice())
+}
+
+#[test]
+fn lent_anew_where_alone(rt: HostRuntime) -> Result<(), Fail> {
+    let heap = LocalHeap::new(rt.alloc(), 1024)?;
+    let read = lent_anew_alone(&heap)?;
+    assert_eq!(rt; (read, heap.used()), (true, 0));
     Ok(())
 }
 
@@ -245,44 +237,60 @@ fn replaced<T, A: Allocator + Copy>(
     mem::replace(sole.get_mut(), other)
 }
 
-/// The only owner has the numbers back and lends them anew, for the next lease: it is the same
-/// owner, and the history of the count goes on.
-#[test]
-fn lent_anew_under_the_same_history(rt: HostRuntime) -> Result<(), Fail> {
-    let heap = LocalHeap::new(rt.alloc(), 1024)?;
-    let (reader, mut pass) = first_reader(&heap, 7u64, 8)?;
+/// The first reader again, once its only owner has had the items back and lent them anew, for the
+/// next lease: it is the same owner, and the history of the count goes on.
+fn lent_for_next_lease<T: Drop, A: Allocator + Copy>(
+    alloc: A,
+    reader: Reader<T, A>,
+    pass: &mut Pass<Open>,
+) -> Result<Reader<T, A>, Fail>
+    requires pass { IsPassFor (owner_in reader.owner) pass.old }
+    requires full { (value_of reader.owner).allocation.count ≡ 2
+        × (reader.end ≡ 2) }
+    ensures items { IfOk result (λ r. r.range.items ≡ reader.range.items) }
+    ensures pass { IfOk result (λ r. IsPassFor (owner_in r.owner) pass.new) }
+{
     let Reader {
-        owner: first,
+        owner,
         range,
-        base: Base { at: base },
-        end: _,
+        base,
+        end,
     } = reader;
-    let Ok(mut sole) = first.try_into_sole_as(&mut pass) else {
+    let Ok(mut sole) = owner.try_into_sole_as(pass) else {
         return Err("alone".into());
     };
-    let (_base, none, idle) = LentAllocation::new(&heap, 0)?;
+    let (_base, none, idle) = LentAllocation::new(alloc, 0)?;
     none.give_up();
     let (range, lent) = lent_again(replaced(&mut sole, idle), &range);
     drop(replaced(&mut sole, lent));
-    let first = sole.lend();
-    let second = first.try_clone_as(&rt, &mut pass)?;
+    Ok(Reader {
+        owner: sole.lend(),
+        range,
+        base,
+        end,
+    })
+}
+
+#[test]
+fn lent_anew_under_the_same_history(rt: HostRuntime) -> Result<(), Fail> {
+    let heap = LocalHeap::new(rt.alloc(), 1024)?;
+    let (first, mut pass) = first_reader(&heap, 7u64, 8)?;
+    let first = lent_for_next_lease(&heap, first, &mut pass)?;
+    let second = first.try_clone(&rt, &mut pass)?;
     drop(first);
-    let seen = unsafe { range.as_slice(second.get().lifetime(), base, 0, 2) };
-    assert!(rt; seen == [7u64, 8].as_slice());
+    let read = second.as_slice() == [7, 8].as_slice();
     drop(second);
-    assert!(rt; heap.used() == 0);
+    assert_eq!(rt; (read, heap.used()), (true, 0));
     Ok(())
 }
 
-/// A part that was never written is frozen by what an owner shows, and a vector is made of the
-/// memory.
-#[test]
-fn vector_of_regained_memory(rt: HostRuntime) -> Result<(), Fail> {
-    let heap = LocalHeap::new(rt.alloc(), 1024)?;
-    let (_base, part, lent) = LentAllocation::<Box<u8>, _>::new(&heap, 2)?;
-    let Ok((owner, mut pass)) = CountedBox::<LentAllocation<Box<u8>, _>, _, 3, Open>::new(
-        &heap, lent,
-    ) else {
+/// A vector of the memory of a part that was never written, and was frozen by what an owner shows.
+fn vector_of_regained<T: Drop, A: Allocator + Copy>(alloc: A, item: T) -> Result<Vec<T, A>, Fail>
+    ensures { IfOk result (λ items. items.items ≡ item ∷ []) }
+{
+    let (_base, part, lent) = LentAllocation::new(alloc, 2)?;
+    let Ok((owner, mut pass)) = CountedBox::<LentAllocation<T, A>, _, 3, Open>::new(alloc, lent)
+    else {
         part.give_up();
         return Err(AllocError.into());
     };
@@ -293,11 +301,18 @@ fn vector_of_regained_memory(rt: HostRuntime) -> Result<(), Fail> {
         return Err("alone".into());
     };
     let (places, allocation) = lent.regain_empty();
-    let mut boxes = put_together(allocation, places);
-    boxes.push_reserved(Box::new(rt.alloc(), 7u8)?);
-    assert!(rt; (boxes.len(), boxes.capacity(), *boxes[0]) == (1, 2, 7));
+    let mut items = put_together(allocation, places);
+    items.push_reserved(item);
+    Ok(items)
+}
+
+#[test]
+fn vector_of_regained_memory(rt: HostRuntime) -> Result<(), Fail> {
+    let heap = LocalHeap::new(rt.alloc(), 1024)?;
+    let boxes = vector_of_regained(&heap, Box::new(rt.alloc(), 7u8)?)?;
+    assert_eq!(rt; (boxes.len(), boxes.capacity(), *boxes[0]), (1, 2, 7));
     drop(boxes);
-    assert!(rt; heap.used() == 0);
+    assert_eq!(rt; heap.used(), 0);
     Ok(())
 }
 

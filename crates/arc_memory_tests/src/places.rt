@@ -1,31 +1,63 @@
 //! Memory: taken apart and put together, cut and joined, edited by a lodging vector, lent, and
 //! frozen.
-ghost use Rattle.std.specs.Prelude.{◌≡◌};
+ghost use Rattle.std.specs.Prelude.{◌≡◌, ◌≤◌, [], ◌∷◌, IfOk, length};
+ghost use Rattle.std.specs.Vec.{vec_capacity};
 
 use arc_memory::{Allocation, LentPlaces, LifetimeToken, Lodging, put_together, take_apart};
+use arc_owners::error::AllocError;
 use linked_list_allocator::LocalHeap;
+use std::alloc::Allocator;
 use std::test::Fail;
 
 /// What has no size.
 #[derive(Clone, Copy, Debug, PartialEq)]
 struct Nothing;
 
+/// A vector of two items, with so many places.
+fn two_items<T: Drop, A: Allocator>(
+    alloc: A,
+    places: usize,
+    first: T,
+    second: T,
+) -> Result<Vec<T, A>, AllocError>
+    requires { 2 ≤ places }
+    ensures { IfOk result (λ v. (v.items ≡ first ∷ second ∷ []) × (vec_capacity v ≡ places)) }
+{
+    let mut items = Vec::with_capacity(alloc, places)?;
+    items.push_reserved(first);
+    items.push_reserved(second);
+    Ok(items)
+}
+
+/// A vector, taken apart and put together again: of how many places, and whether these are the
+/// items of this range.
+fn seen_apart<T: PartialEq, A: Allocator>(
+    items: Vec<T, A>,
+    start: usize,
+    end: usize,
+    wanted: &[T],
+) -> (usize, bool, Vec<T, A>)
+    requires { start ≤ end × end ≤ length items.items }
+    ensures { result.2.items ≡ items.items }
+{
+    let (base, allocation, places) = take_apart(items);
+    let seen = unsafe { places.as_slice(base, start, end) } == wanted;
+    let count = allocation.count();
+    (count, seen, put_together(allocation, places))
+}
+
 #[test]
 fn numbers_apart_and_together(rt: HostRuntime) -> Result<(), Fail> {
     let heap = LocalHeap::new(rt.alloc(), 1024)?;
     let numbers = Vec::from_slice(&heap, &[1u64, 2, 3])?;
-    let taken = heap.used();
-    let (base, allocation, places) = take_apart(numbers);
-    assert!(rt; allocation.count() == 3);
-    assert!(rt; unsafe { places.as_slice(base, 0, 3) } == [1u64, 2, 3].as_slice());
-    assert!(rt; unsafe { places.as_slice(base, 1, 2) } == [2u64].as_slice());
-    assert!(rt; unsafe { places.as_slice(base, 3, 3) }.len() == 0);
-    assert!(rt; heap.used() == taken);
-    let numbers = put_together(allocation, places);
-    assert!(rt; numbers.as_slice() == [1u64, 2, 3].as_slice());
-    assert!(rt; numbers.capacity() == 3);
+    let (count, all, numbers) = seen_apart(numbers, 0, 3, &[1, 2, 3]);
+    let (_, part, numbers) = seen_apart(numbers, 1, 2, &[2]);
+    let (_, none, numbers) = seen_apart(numbers, 3, 3, &[]);
+    let same = numbers.as_slice() == [1, 2, 3].as_slice();
+    assert_eq!(rt; ([all, part, none, same], count), ([true; 4], 3));
+    assert_eq!(rt; numbers.capacity(), 3);
     drop(numbers);
-    assert!(rt; heap.used() == 0);
+    assert_eq!(rt; heap.used(), 0);
     Ok(())
 }
 
@@ -33,18 +65,15 @@ fn numbers_apart_and_together(rt: HostRuntime) -> Result<(), Fail> {
 #[test]
 fn owned_items_apart_and_together(rt: HostRuntime) -> Result<(), Fail> {
     let heap = LocalHeap::new(rt.alloc(), 1024)?;
-    let mut boxes = Vec::with_capacity(&heap, 4)?;
-    boxes.push(Box::new(&heap, 7u8)?)?;
-    boxes.push(Box::new(&heap, 8u8)?)?;
-    let (base, allocation, places) = take_apart(boxes);
-    assert!(rt; allocation.count() == 4);
-    assert!(rt; *unsafe { places.as_slice(base, 1, 2) }[0] == 8);
-    let mut boxes = put_together(allocation, places);
+    let boxes = two_items(&heap, 4, Box::new(&heap, 7u8)?, Box::new(&heap, 8u8)?)?;
+    let (count, seen, mut boxes) = seen_apart(boxes, 1, 2, &[Box::new(&heap, 8u8)?]);
     boxes.push(Box::new(&heap, 9u8)?)?;
-    assert!(rt; (boxes.len(), boxes.capacity()) == (3, 4));
-    assert!(rt; *boxes[2] == 9);
+    assert_eq!(rt;
+        (count, seen, boxes.len(), boxes.capacity()),
+        (4, true, 3, 4)
+    );
     drop(boxes);
-    assert!(rt; heap.used() == 0);
+    assert_eq!(rt; heap.used(), 0);
     Ok(())
 }
 
@@ -52,40 +81,43 @@ fn owned_items_apart_and_together(rt: HostRuntime) -> Result<(), Fail> {
 fn items_of_no_size_apart_and_together(rt: HostRuntime) -> Result<(), Fail> {
     let heap = LocalHeap::new(rt.alloc(), 1024)?;
     let nothings = Vec::from_slice(&heap, &[Nothing; 3])?;
-    let (base, allocation, places) = take_apart(nothings);
-    assert!(rt; unsafe { places.as_slice(base, 1, 3) }.len() == 2);
-    drop(put_together(allocation, places));
-    assert!(rt; heap.used() == 0);
+    let (_, seen, nothings) = seen_apart(nothings, 1, 3, &[Nothing; 2]);
+    assert_eq!(rt; (seen, nothings.len()), (true, 3));
+    drop(nothings);
+    assert_eq!(rt; heap.used(), 0);
     Ok(())
 }
 
 #[test]
 fn no_places_apart_and_together(rt: HostRuntime) -> Result<(), Fail> {
-    let (base, allocation, places) = take_apart(Vec::<u64, _>::new(rt.alloc()));
-    assert!(rt; unsafe { places.as_slice(base, 0, 0) }.len() == 0);
-    let none = put_together(allocation, places);
-    assert!(rt; (none.len(), none.capacity()) == (0, 0));
+    let none = Vec::<u64, _>::new(rt.alloc());
+    let (count, seen, none) = seen_apart(none, 0, 0, &[]);
+    assert_eq!(rt; (count, seen, none.len(), none.capacity()), (0, true, 0, 0));
     Ok(())
 }
 
-/// Cut, edited by a vector that lodges in a part, and joined again.
+/// Cut, edited by a vector that lodges in a part, and joined again: the last item, and the vector
+/// with another one in its place.
+fn last_replaced<T, A: Allocator>(items: Vec<T, A>, item: T) -> (T, Vec<T, A>)
+    requires { length items.items ≡ 3 }
+{
+    let (base, allocation, places) = take_apart(items);
+    let (front, back) = places.split(1);
+    let room = allocation.count() - 1;
+    let (mut lodger, under) = unsafe { Lodging::house(back, base, 1, 2, room) };
+    let last = lodger.take_last();
+    lodger.push_reserved(item);
+    let places = front.join(under.vacate(lodger));
+    (last, put_together(allocation, places))
+}
+
 #[test]
 fn number_replaced_in_a_part(rt: HostRuntime) -> Result<(), Fail> {
     let heap = LocalHeap::new(rt.alloc(), 1024)?;
-    let mut numbers = Vec::with_capacity(&heap, 3)?;
-    numbers.push_reserved(1u64);
-    numbers.push_reserved(2);
-    numbers.push_reserved(3);
-    let (base, allocation, places) = take_apart(numbers);
-    let (front, back) = places.split(1);
-    let (mut lodger, under) = unsafe { Lodging::house(back, base, 1, 2, 2) };
-    assert!(rt; lodger.as_slice() == [2u64, 3].as_slice());
-    assert!(rt; lodger.take_last() == 3);
-    lodger.push_reserved(4);
-    let places = front.join(under.vacate(lodger));
-    assert!(rt; unsafe { places.as_slice(base, 0, 3) } == [1u64, 2, 4].as_slice());
-    drop(put_together(allocation, places));
-    assert!(rt; heap.used() == 0);
+    let (last, numbers) = last_replaced(Vec::from_slice(&heap, &[1u64, 2, 3])?, 4);
+    assert_eq!(rt; (last, numbers.as_slice()), (3, [1, 2, 4].as_slice()));
+    drop(numbers);
+    assert_eq!(rt; heap.used(), 0);
     Ok(())
 }
 
@@ -114,44 +146,45 @@ fn places_cross_threads(rt: HostRuntime) -> Result<(), Fail> {
     Ok(())
 }
 
-/// Two writers, of which one has room past the items only: it adds one there and takes it away.
-#[test]
-fn lent_in_parts_and_regained(rt: HostRuntime) -> Result<(), Fail> {
-    let heap = LocalHeap::new(rt.alloc(), 1024)?;
-    let mut numbers = Vec::with_capacity(&heap, 4)?;
-    numbers.push_reserved(1u64);
-    numbers.push_reserved(2);
-    let (base, allocation, places) = take_apart(numbers);
+/// Two writers of four places, of which one has room past the items only: it puts an item there and
+/// takes it away. Then one has all, and puts that item in the place of the last one.
+fn written_in_parts<T, A: Allocator>(items: Vec<T, A>, item: T) -> (T, Vec<T, A>)
+    requires { (length items.items ≡ 2) × (vec_capacity items ≡ 4) }
+{
+    let (base, allocation, places) = take_apart(items);
     let lifetime = LifetimeToken::new();
     let (part, inheritance) = LentPlaces::lend(places, &lifetime);
     let (front, back) = part.split(3);
     let (room, left) = back.open(lifetime);
     let (mut lodger, under) = unsafe { Lodging::house(room, base, 3, 0, 1) };
-    lodger.push_reserved(9);
-    assert!(rt; lodger.as_slice() == [9u64].as_slice());
-    assert!(rt; lodger.take_last() == 9);
+    lodger.push_reserved(item);
+    let item = lodger.take_last();
     let (back, lifetime) = left.close(under.vacate(lodger));
-    let part = front.unsplit(back);
-    let (room, left) = part.open(lifetime);
+    let (room, left) = front.unsplit(back).open(lifetime);
     let (mut lodger, under) = unsafe { Lodging::house(room, base, 0, 2, 4) };
-    assert!(rt; lodger.take_last() == 2);
-    lodger.push_reserved(7);
+    let last = lodger.take_last();
+    lodger.push_reserved(item);
     let (part, lifetime) = left.close(under.vacate(lodger));
     let places = inheritance.regain_whole(lifetime.end(), part);
-    assert!(rt; unsafe { places.as_slice(base, 0, 2) } == [1u64, 7].as_slice());
-    drop(put_together(allocation, places));
-    assert!(rt; heap.used() == 0);
+    (last, put_together(allocation, places))
+}
+
+#[test]
+fn lent_in_parts_and_regained(rt: HostRuntime) -> Result<(), Fail> {
+    let heap = LocalHeap::new(rt.alloc(), 1024)?;
+    let (last, numbers) = written_in_parts(two_items(&heap, 4, 1u64, 2)?, 7);
+    assert_eq!(rt; (last, numbers.as_slice()), (2, [1, 7].as_slice()));
+    drop(numbers);
+    assert_eq!(rt; heap.used(), 0);
     Ok(())
 }
 
-/// The part behind takes the memory back, after the one before it was given up.
-#[test]
-fn owned_items_lent_and_regained(rt: HostRuntime) -> Result<(), Fail> {
-    let heap = LocalHeap::new(rt.alloc(), 1024)?;
-    let mut boxes = Vec::with_capacity(&heap, 2)?;
-    boxes.push_reserved(Box::new(&heap, 7u8)?);
-    boxes.push_reserved(Box::new(&heap, 8u8)?);
-    let (base, allocation, places) = take_apart(boxes);
+/// Two items, of which the first is taken from a part that is then given up: the part behind takes
+/// the memory back, and the item is put in its place again.
+fn regained_behind<T, A: Allocator>(items: Vec<T, A>) -> Vec<T, A>
+    requires { (length items.items ≡ 2) × (vec_capacity items ≡ 2) }
+{
+    let (base, allocation, places) = take_apart(items);
     let lifetime = LifetimeToken::new();
     let (part, inheritance) = LentPlaces::lend(places, &lifetime);
     let (front, back) = part.split(1);
@@ -164,21 +197,30 @@ fn owned_items_lent_and_regained(rt: HostRuntime) -> Result<(), Fail> {
     let (mut lodger, under) = unsafe { Lodging::house(before, base, 0, 0, 1) };
     lodger.push_reserved(first);
     let places = under.vacate(lodger).join(own).join(behind);
-    let boxes = put_together(allocation, places);
-    assert!(rt; (*boxes[0], *boxes[1]) == (7, 8));
+    put_together(allocation, places)
+}
+
+#[test]
+fn owned_items_lent_and_regained(rt: HostRuntime) -> Result<(), Fail> {
+    let heap = LocalHeap::new(rt.alloc(), 1024)?;
+    let boxes = two_items(&heap, 2, Box::new(&heap, 7u8)?, Box::new(&heap, 8u8)?)?;
+    let boxes = regained_behind(boxes);
+    let held = match boxes.as_slice() {
+        [first, second] => (**first, **second),
+        _ => (0, 0),
+    };
     drop(boxes);
-    assert!(rt; heap.used() == 0);
+    assert_eq!(rt; (held, heap.used()), ((7, 8), 0));
     Ok(())
 }
 
-/// The room before the items is lent by itself, for the same lifetime as they are.
-#[test]
-fn two_rooms_lent_and_regained(rt: HostRuntime) -> Result<(), Fail> {
-    let heap = LocalHeap::new(rt.alloc(), 1024)?;
-    let (base, allocation, places) = Allocation::<u64, _>::new(&heap, 3)?;
+/// The room before an item is lent by itself, for the same lifetime as the item's: the item, from
+/// its place.
+fn two_rooms<T: Drop, A: Allocator>(alloc: A, item: T) -> Result<T, AllocError> {
+    let (base, allocation, places) = Allocation::new(alloc, 3)?;
     let (before, own) = places.split(1);
     let (mut lodger, under) = unsafe { Lodging::house(own, base, 1, 0, 2) };
-    lodger.push_reserved(5);
+    lodger.push_reserved(item);
     let lifetime = LifetimeToken::new();
     let (front, front_back) = LentPlaces::lend(before, &lifetime);
     let (part, part_back) = LentPlaces::lend(under.vacate(lodger), &lifetime);
@@ -186,20 +228,24 @@ fn two_rooms_lent_and_regained(rt: HostRuntime) -> Result<(), Fail> {
     let before = front_back.regain_whole(one, front);
     let own = part_back.regain_whole(other, part);
     let (mut lodger, under) = unsafe { Lodging::house(own, base, 1, 1, 2) };
-    assert!(rt; lodger.take_last() == 5);
+    let item = lodger.take_last();
     allocation.free(before.join(under.vacate(lodger)));
-    assert!(rt; heap.used() == 0);
+    Ok(item)
+}
+
+#[test]
+fn two_rooms_lent_and_regained(rt: HostRuntime) -> Result<(), Fail> {
+    let heap = LocalHeap::new(rt.alloc(), 1024)?;
+    let item = two_rooms(&heap, 5u64)?;
+    assert_eq!(rt; (item, heap.used()), (5, 0));
     Ok(())
 }
 
-/// Both parts are out at once.
-#[test]
-fn two_writers_at_once(rt: HostRuntime) -> Result<(), Fail> {
-    let heap = LocalHeap::new(rt.alloc(), 1024)?;
-    let mut numbers = Vec::with_capacity(&heap, 2)?;
-    numbers.push_reserved(1u64);
-    numbers.push_reserved(2);
-    let (base, allocation, places) = take_apart(numbers);
+/// Two items exchanged by two writers, whose parts are out at once.
+fn exchanged<T, A: Allocator>(items: Vec<T, A>) -> Vec<T, A>
+    requires { (length items.items ≡ 2) × (vec_capacity items ≡ 2) }
+{
+    let (base, allocation, places) = take_apart(items);
     let lifetime = LifetimeToken::new();
     let (part, inheritance) = LentPlaces::lend(places, &lifetime);
     let (front, back) = part.split(1);
@@ -215,25 +261,39 @@ fn two_writers_at_once(rt: HostRuntime) -> Result<(), Fail> {
     let (back, second) = back_left.close(under_back.vacate(back));
     let lifetime = first.join(second);
     let places = inheritance.regain_whole(lifetime.end(), front.unsplit(back));
-    let numbers = put_together(allocation, places);
-    assert!(rt; numbers.as_slice() == [2u64, 1].as_slice());
-    drop(numbers);
-    assert!(rt; heap.used() == 0);
-    Ok(())
+    put_together(allocation, places)
 }
 
 #[test]
-fn items_of_no_size_lent_and_regained(rt: HostRuntime) -> Result<(), Fail> {
+fn two_writers_at_once(rt: HostRuntime) -> Result<(), Fail> {
     let heap = LocalHeap::new(rt.alloc(), 1024)?;
-    let nothings = Vec::from_slice(&heap, &[Nothing; 3])?;
-    let (_base, allocation, places) = take_apart(nothings);
+    let numbers = exchanged(two_items(&heap, 2, 1u64, 2)?);
+    assert_eq!(rt; numbers.as_slice(), [2, 1].as_slice());
+    drop(numbers);
+    assert_eq!(rt; heap.used(), 0);
+    Ok(())
+}
+
+/// Three items, lent in two parts that are joined again, and regained.
+fn cut_and_regained<T, A: Allocator>(items: Vec<T, A>) -> Vec<T, A>
+    requires { length items.items ≡ 3 }
+{
+    let (_base, allocation, places) = take_apart(items);
     let lifetime = LifetimeToken::new();
     let (part, inheritance) = LentPlaces::lend(places, &lifetime);
     let (front, back) = part.split(2);
     let part = front.unsplit(back);
     let places = inheritance.regain_whole(lifetime.end(), part);
-    drop(put_together(allocation, places));
-    assert!(rt; heap.used() == 0);
+    put_together(allocation, places)
+}
+
+#[test]
+fn items_of_no_size_lent_and_regained(rt: HostRuntime) -> Result<(), Fail> {
+    let heap = LocalHeap::new(rt.alloc(), 1024)?;
+    let nothings = cut_and_regained(Vec::from_slice(&heap, &[Nothing; 3])?);
+    assert_eq!(rt; nothings.len(), 3);
+    drop(nothings);
+    assert_eq!(rt; heap.used(), 0);
     Ok(())
 }
 
@@ -255,36 +315,64 @@ fn parts_go_to_other_threads(rt: HostRuntime) -> Result<(), Fail> {
     Ok(())
 }
 
+/// A vector whose items are frozen, read in this range, also by a reader of that part alone, and
+/// regained: whether these are the items of the range.
+fn read_frozen<T: PartialEq, A: Allocator>(
+    items: Vec<T, A>,
+    start: usize,
+    end: usize,
+    wanted: &[T],
+) -> (bool, Vec<T, A>)
+    requires { start ≤ end × end ≤ length items.items }
+    ensures { result.1.items ≡ items.items }
+{
+    let len = items.len();
+    let (base, allocation, places) = take_apart(items);
+    let lifetime = LifetimeToken::new();
+    let (part, inheritance) = LentPlaces::lend(places, &lifetime);
+    let (full, room) = part.split(len);
+    room.give_up();
+    let range = full.freeze(&lifetime);
+    let part = range.part(start, end);
+    let seen = unsafe { range.as_slice(&lifetime, base, start, end) } == wanted
+        && unsafe { part.as_slice(&lifetime, base, start, end) } == wanted;
+    drop(part);
+    let places = inheritance.regain_frozen_whole(lifetime.end(), &range);
+    (seen, put_together(allocation, places))
+}
+
 /// Read from the first place on, in the middle, and behind the last item.
 #[test]
 fn numbers_frozen_and_read(rt: HostRuntime) -> Result<(), Fail> {
     let heap = LocalHeap::new(rt.alloc(), 1024)?;
     let numbers = Vec::from_slice(&heap, &[1u64, 2, 3])?;
-    let (base, allocation, places) = take_apart(numbers);
-    let lifetime = LifetimeToken::new();
-    let (part, inheritance) = LentPlaces::lend(places, &lifetime);
-    let (items, room) = part.split(3);
-    room.give_up();
-    let range = items.freeze(&lifetime);
-    assert!(rt; unsafe { range.as_slice(&lifetime, base, 0, 3) } == [1u64, 2, 3].as_slice());
-    assert!(rt; unsafe { range.as_slice(&lifetime, base, 1, 2) } == [2u64].as_slice());
-    assert!(rt; unsafe { range.as_slice(&lifetime, base, 3, 3) }.len() == 0);
-    let places = inheritance.regain_frozen_whole(lifetime.end(), &range);
-    let numbers = put_together(allocation, places);
-    assert!(rt; numbers.as_slice() == [1u64, 2, 3].as_slice());
+    let (all, numbers) = read_frozen(numbers, 0, 3, &[1, 2, 3]);
+    let (part, numbers) = read_frozen(numbers, 1, 2, &[2]);
+    let (none, numbers) = read_frozen(numbers, 3, 3, &[]);
+    assert_eq!(rt; (all, part, none, numbers.len()), (true, true, true, 3));
     drop(numbers);
-    assert!(rt; heap.used() == 0);
+    assert_eq!(rt; heap.used(), 0);
     Ok(())
 }
 
-/// The range comes back with its items, and the empty places on both sides of it.
 #[test]
-fn owned_items_frozen_and_regained(rt: HostRuntime) -> Result<(), Fail> {
+fn items_of_no_size_frozen_and_read(rt: HostRuntime) -> Result<(), Fail> {
     let heap = LocalHeap::new(rt.alloc(), 1024)?;
-    let mut boxes = Vec::with_capacity(&heap, 4)?;
-    boxes.push_reserved(Box::new(&heap, 7u8)?);
-    boxes.push_reserved(Box::new(&heap, 8u8)?);
-    let (base, allocation, places) = take_apart(boxes);
+    let nothings = Vec::from_slice(&heap, &[Nothing; 3])?;
+    let (seen, nothings) = read_frozen(nothings, 1, 3, &[Nothing; 2]);
+    assert_eq!(rt; (seen, nothings.len()), (true, 3));
+    drop(nothings);
+    assert_eq!(rt; heap.used(), 0);
+    Ok(())
+}
+
+/// Two items in four places, of which the first is taken from a part that is then given up, and the
+/// second is frozen: the range comes back with it, and the empty places on both sides of it. The
+/// first item is put in its place again.
+fn regained_around<T, A: Allocator>(items: Vec<T, A>) -> Vec<T, A>
+    requires { (length items.items ≡ 2) × (vec_capacity items ≡ 4) }
+{
+    let (base, allocation, places) = take_apart(items);
     let lifetime = LifetimeToken::new();
     let (part, inheritance) = LentPlaces::lend(places, &lifetime);
     let (front, back) = part.split(1);
@@ -293,71 +381,69 @@ fn owned_items_frozen_and_regained(rt: HostRuntime) -> Result<(), Fail> {
     let first = lodger.take_last();
     let (front, lifetime) = left.close(under.vacate(lodger));
     front.give_up();
-    let (items, room) = back.split(1);
+    let (second, room) = back.split(1);
     room.give_up();
-    let range = items.freeze(&lifetime);
-    assert!(rt; *unsafe { range.as_slice(&lifetime, base, 1, 2) }[0] == 8);
+    let range = second.freeze(&lifetime);
     let (before, own, behind) = inheritance.regain_frozen(lifetime.end(), &range);
     let (mut lodger, under) = unsafe { Lodging::house(before, base, 0, 0, 1) };
     lodger.push_reserved(first);
     let places = under.vacate(lodger).join(own).join(behind);
-    let mut boxes = put_together(allocation, places);
-    boxes.push(Box::new(&heap, 9u8)?)?;
-    assert!(rt; (*boxes[0], *boxes[1], *boxes[2]) == (7, 8, 9));
-    assert!(rt; (boxes.len(), boxes.capacity()) == (3, 4));
+    put_together(allocation, places)
+}
+
+#[test]
+fn owned_items_frozen_and_regained(rt: HostRuntime) -> Result<(), Fail> {
+    let heap = LocalHeap::new(rt.alloc(), 1024)?;
+    let boxes = two_items(&heap, 4, Box::new(&heap, 7u8)?, Box::new(&heap, 8u8)?)?;
+    let boxes = regained_around(boxes);
+    let held = match boxes.as_slice() {
+        [first, second] => (**first, **second, boxes.capacity()),
+        _ => (0, 0, 0),
+    };
     drop(boxes);
-    assert!(rt; heap.used() == 0);
+    assert_eq!(rt; (held, heap.used()), ((7, 8, 4), 0));
     Ok(())
 }
 
-/// Two readers have the same range, and one a part of it, while a writer's part behind is out.
-#[test]
-fn two_readers_beside_a_writer(rt: HostRuntime) -> Result<(), Fail> {
-    let heap = LocalHeap::new(rt.alloc(), 1024)?;
-    let mut numbers = Vec::with_capacity(&heap, 3)?;
-    numbers.push_reserved(1u64);
-    numbers.push_reserved(2);
-    let (base, allocation, places) = take_apart(numbers);
+/// Two readers have the range of two items, and one a part of it, while a writer's part behind,
+/// with this item in it, is out: whether the readers see these items.
+fn read_beside_a_writer<T: PartialEq, A: Allocator>(
+    items: Vec<T, A>,
+    item: T,
+    wanted: [&[T]; 2],
+) -> (bool, T, Vec<T, A>)
+    requires { (length items.items ≡ 2) × (vec_capacity items ≡ 3) }
+{
+    let (base, allocation, places) = take_apart(items);
     let lifetime = LifetimeToken::new();
     let (part, inheritance) = LentPlaces::lend(places, &lifetime);
     let (front, back) = part.split(2);
     let range = front.freeze(&lifetime);
-    let other = range.again();
-    let last = other.part(1, 2);
+    let (other, last) = (range.again(), range.part(1, 2));
     let (share, rest) = lifetime.split();
     let (room, left) = back.open(rest);
     let (mut lodger, under) = unsafe { Lodging::house(room, base, 2, 0, 1) };
-    lodger.push_reserved(9);
-    assert!(rt; unsafe { range.as_slice(&share, base, 0, 2) } == [1u64, 2].as_slice());
-    assert!(rt; unsafe { other.as_slice(&share, base, 0, 2) } == [1u64, 2].as_slice());
-    assert!(rt; unsafe { last.as_slice(&share, base, 1, 2) } == [2u64].as_slice());
-    assert!(rt; lodger.take_last() == 9);
+    lodger.push_reserved(item);
+    let seen = unsafe { range.as_slice(&share, base, 0, 2) } == wanted[0]
+        && unsafe { other.as_slice(&share, base, 0, 2) } == wanted[0]
+        && unsafe { last.as_slice(&share, base, 1, 2) } == wanted[1];
+    let item = lodger.take_last();
     let (back, rest) = left.close(under.vacate(lodger));
     back.give_up();
     let lifetime = share.join(rest);
-    drop(range);
     let places = inheritance.regain_frozen_whole(lifetime.end(), &other);
-    drop(put_together(allocation, places));
-    assert!(rt; heap.used() == 0);
-    Ok(())
+    (seen, item, put_together(allocation, places))
 }
 
 #[test]
-fn items_of_no_size_frozen_and_read(rt: HostRuntime) -> Result<(), Fail> {
+fn two_readers_beside_a_writer(rt: HostRuntime) -> Result<(), Fail> {
     let heap = LocalHeap::new(rt.alloc(), 1024)?;
-    let nothings = Vec::from_slice(&heap, &[Nothing; 3])?;
-    let (base, allocation, places) = take_apart(nothings);
-    let lifetime = LifetimeToken::new();
-    let (part, inheritance) = LentPlaces::lend(places, &lifetime);
-    let (items, room) = part.split(3);
-    room.give_up();
-    let range = items.freeze(&lifetime);
-    assert!(rt; unsafe { range.as_slice(&lifetime, base, 1, 3) }.len() == 2);
-    let middle = range.part(1, 2);
-    assert!(rt; unsafe { middle.as_slice(&lifetime, base, 1, 2) }.len() == 1);
-    let places = inheritance.regain_frozen_whole(lifetime.end(), &range);
-    drop(put_together(allocation, places));
-    assert!(rt; heap.used() == 0);
+    let numbers = two_items(&heap, 3, 1u64, 2)?;
+    let (seen, item, numbers) = read_beside_a_writer(numbers, 9, [&[1, 2], &[2]]);
+    let same = numbers.as_slice() == [1, 2].as_slice();
+    assert_eq!(rt; (seen, item, same), (true, 9, true));
+    drop(numbers);
+    assert_eq!(rt; heap.used(), 0);
     Ok(())
 }
 
