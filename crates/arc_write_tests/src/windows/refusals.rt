@@ -151,27 +151,65 @@ fn first_block_refused(rt: HostRuntime) -> Result<(), Fail> {
     Ok(())
 }
 
+/// How an item more is refused, how room is, whether there is some without memory, and whether the
+/// window is full as before.
+type Refusals = (
+    [Option<(TryReserveError, u8)>; 2],
+    [Option<TryReserveError>; 2],
+    bool,
+    bool,
+);
+
+/// What each call answers for a full window of 64 sevens.
+fn refusals(window: &mut Bytes<'_>) -> Refusals {
+    let items = [window.try_push(9).err(), window.try_extend([8, 9]).err()];
+    let room = [
+        window.try_extend_from_slice(&[8, 9]).err(),
+        window.try_reserve(1).err(),
+    ];
+    let found = window.try_reclaim(1);
+    let is_same = window.as_slice() == [7; 64].as_slice();
+    (items, room, found, is_same)
+}
+
 /// A full block of 64 bytes grows to 128, for which 160 in all are too few.
 #[test]
 fn growth_refused(rt: HostRuntime) -> Result<(), Fail> {
     let heap = LocalHeap::new(rt.alloc(), 160)?;
     let mut window: Bytes = ArcSliceMut::try_from_slice(&heap, &[7; 64])?;
-    let used = heap.used();
-    let refusal = TryReserveError::AllocError;
-    assert!(rt; window.try_push(9) == Err((refusal, 9)));
-    assert!(rt; window.try_extend([8, 9]) == Err((refusal, 8)));
-    assert!(rt; window.try_extend_from_slice(&[8, 9]) == Err(refusal));
-    assert!(rt; window.try_reserve(1) == Err(refusal));
-    assert!(rt; !window.try_reclaim(1));
-    assert!(rt; window.as_slice() == [7; 64].as_slice());
-    assert!(rt; window.capacity() == 64);
-    assert!(rt; heap.used() == used);
+    let before = heap.used();
+    let answers = refusals(&mut window);
+    let left = (window.capacity(), heap.used());
     drop(window);
-    let eights = "88888888888888888888888888888888";
-    let mut text: Text = ArcSliceMut::try_with_capacity(&heap, 64)?;
-    text.try_extend_from_str(eights)?;
-    text.try_extend_from_str(eights)?;
-    assert!(rt; text.try_extend_from_str("9") == Err(refusal));
-    assert!(rt; (text.len(), text.capacity()) == (64, 64));
+    let e = TryReserveError::AllocError;
+    assert!(rt;
+        answers
+            == (
+                [Some((e, 9)), Some((e, 8))],
+                [Some(e), Some(e)],
+                false,
+                true
+            )
+    );
+    assert!(rt; left == (64, before));
+    Ok(())
+}
+
+/// A text of 64 bytes.
+const EIGHTS: &str = "8888888888888888888888888888888888888888888888888888888888888888";
+
+/// How a text more is refused behind one that is full, and what there is then.
+fn full_text(heap: &LocalHeap) -> Option<(Option<TryReserveError>, [usize; 2])> {
+    let mut text: Text = ArcSliceMut::try_with_capacity(heap, 64).ok()?;
+    text.try_extend_from_str(EIGHTS).ok()?;
+    let refusal = text.try_extend_from_str("9").err();
+    Some((refusal, [text.len(), text.capacity()]))
+}
+
+#[test]
+fn growth_of_text_refused(rt: HostRuntime) -> Result<(), Fail> {
+    let heap = LocalHeap::new(rt.alloc(), 160)?;
+    let answers = full_text(&heap);
+    assert!(rt; answers == Some((Some(TryReserveError::AllocError), [64, 64])));
     Ok(())
 }
