@@ -150,10 +150,10 @@ fn had_back<T: Drop, A: Allocator + Copy>(
 fn had_back_by_the_last_reader(rt: HostRuntime) -> Result<(), Fail> {
     let heap = LocalHeap::new(rt.alloc(), 1024)?;
     let numbers = had_back(&rt, &heap, 7u64, 8)?;
-    assert_eq!(rt; (numbers, heap.used()), ((7, 8), 0));
+    assert!(rt; (numbers, heap.used()) == ((7, 8), 0));
     let (first, second) = (Box::new(rt.alloc(), 7u8)?, Box::new(rt.alloc(), 8u8)?);
     let (first, second) = had_back(&rt, &heap, first, second)?;
-    assert_eq!(rt; (*first, *second, heap.used()), (7, 8, 0));
+    assert!(rt; (*first, *second, heap.used()) == (7, 8, 0));
     Ok(())
 }
 
@@ -180,7 +180,7 @@ fn read_by_two<A: Allocator + Copy>(rt: &impl Wait, alloc: A) -> Result<[bool; 3
 fn memory_given_back_by_drop(rt: HostRuntime) -> Result<(), Fail> {
     let heap = LocalHeap::new(rt.alloc(), 1024)?;
     let read = read_by_two(&rt, &heap)?;
-    assert_eq!(rt; (read, heap.used()), ([true; 3], 0));
+    assert!(rt; (read, heap.used()) == ([true; 3], 0));
     Ok(())
 }
 
@@ -221,7 +221,7 @@ fn lent_anew_alone<A: Allocator + Copy>(alloc: A) -> Result<bool, Fail> {
 fn lent_anew_where_alone(rt: HostRuntime) -> Result<(), Fail> {
     let heap = LocalHeap::new(rt.alloc(), 1024)?;
     let read = lent_anew_alone(&heap)?;
-    assert_eq!(rt; (read, heap.used()), (true, 0));
+    assert!(rt; (read, heap.used()) == (true, 0));
     Ok(())
 }
 
@@ -280,7 +280,7 @@ fn lent_anew_under_the_same_history(rt: HostRuntime) -> Result<(), Fail> {
     drop(first);
     let read = second.as_slice() == [7, 8].as_slice();
     drop(second);
-    assert_eq!(rt; (read, heap.used()), (true, 0));
+    assert!(rt; (read, heap.used()) == (true, 0));
     Ok(())
 }
 
@@ -310,9 +310,9 @@ fn vector_of_regained<T: Drop, A: Allocator + Copy>(alloc: A, item: T) -> Result
 fn vector_of_regained_memory(rt: HostRuntime) -> Result<(), Fail> {
     let heap = LocalHeap::new(rt.alloc(), 1024)?;
     let boxes = vector_of_regained(&heap, Box::new(rt.alloc(), 7u8)?)?;
-    assert_eq!(rt; (boxes.len(), boxes.capacity(), *boxes[0]), (1, 2, 7));
+    let held = (boxes.len(), boxes.capacity(), *boxes[0]);
     drop(boxes);
-    assert_eq!(rt; heap.used(), 0);
+    assert!(rt; (held, heap.used()) == ((1, 2, 7), 0));
     Ok(())
 }
 

@@ -54,10 +54,9 @@ fn numbers_apart_and_together(rt: HostRuntime) -> Result<(), Fail> {
     let (_, part, numbers) = seen_apart(numbers, 1, 2, &[2]);
     let (_, none, numbers) = seen_apart(numbers, 3, 3, &[]);
     let same = numbers.as_slice() == [1, 2, 3].as_slice();
-    assert_eq!(rt; ([all, part, none, same], count), ([true; 4], 3));
-    assert_eq!(rt; numbers.capacity(), 3);
+    let sizes = [count, numbers.capacity()];
     drop(numbers);
-    assert_eq!(rt; heap.used(), 0);
+    assert!(rt; ([all, part, none, same], sizes, heap.used()) == ([true; 4], [3, 3], 0));
     Ok(())
 }
 
@@ -68,12 +67,9 @@ fn owned_items_apart_and_together(rt: HostRuntime) -> Result<(), Fail> {
     let boxes = two_items(&heap, 4, Box::new(&heap, 7u8)?, Box::new(&heap, 8u8)?)?;
     let (count, seen, mut boxes) = seen_apart(boxes, 1, 2, &[Box::new(&heap, 8u8)?]);
     boxes.push(Box::new(&heap, 9u8)?)?;
-    assert_eq!(rt;
-        (count, seen, boxes.len(), boxes.capacity()),
-        (4, true, 3, 4)
-    );
+    let sizes = [count, boxes.len(), boxes.capacity()];
     drop(boxes);
-    assert_eq!(rt; heap.used(), 0);
+    assert!(rt; (seen, sizes, heap.used()) == (true, [4, 3, 4], 0));
     Ok(())
 }
 
@@ -82,9 +78,9 @@ fn items_of_no_size_apart_and_together(rt: HostRuntime) -> Result<(), Fail> {
     let heap = LocalHeap::new(rt.alloc(), 1024)?;
     let nothings = Vec::from_slice(&heap, &[Nothing; 3])?;
     let (_, seen, nothings) = seen_apart(nothings, 1, 3, &[Nothing; 2]);
-    assert_eq!(rt; (seen, nothings.len()), (true, 3));
+    let len = nothings.len();
     drop(nothings);
-    assert_eq!(rt; heap.used(), 0);
+    assert!(rt; (seen, len, heap.used()) == (true, 3, 0));
     Ok(())
 }
 
@@ -92,7 +88,7 @@ fn items_of_no_size_apart_and_together(rt: HostRuntime) -> Result<(), Fail> {
 fn no_places_apart_and_together(rt: HostRuntime) -> Result<(), Fail> {
     let none = Vec::<u64, _>::new(rt.alloc());
     let (count, seen, none) = seen_apart(none, 0, 0, &[]);
-    assert_eq!(rt; (count, seen, none.len(), none.capacity()), (0, true, 0, 0));
+    assert!(rt; (count, seen, none.len(), none.capacity()) == (0, true, 0, 0));
     Ok(())
 }
 
@@ -115,9 +111,9 @@ fn last_replaced<T, A: Allocator>(items: Vec<T, A>, item: T) -> (T, Vec<T, A>)
 fn number_replaced_in_a_part(rt: HostRuntime) -> Result<(), Fail> {
     let heap = LocalHeap::new(rt.alloc(), 1024)?;
     let (last, numbers) = last_replaced(Vec::from_slice(&heap, &[1u64, 2, 3])?, 4);
-    assert_eq!(rt; (last, numbers.as_slice()), (3, [1, 2, 4].as_slice()));
+    let same = numbers.as_slice() == [1, 2, 4].as_slice();
     drop(numbers);
-    assert_eq!(rt; heap.used(), 0);
+    assert!(rt; (last, same, heap.used()) == (3, true, 0));
     Ok(())
 }
 
@@ -173,9 +169,9 @@ fn written_in_parts<T, A: Allocator>(items: Vec<T, A>, item: T) -> (T, Vec<T, A>
 fn lent_in_parts_and_regained(rt: HostRuntime) -> Result<(), Fail> {
     let heap = LocalHeap::new(rt.alloc(), 1024)?;
     let (last, numbers) = written_in_parts(two_items(&heap, 4, 1u64, 2)?, 7);
-    assert_eq!(rt; (last, numbers.as_slice()), (2, [1, 7].as_slice()));
+    let same = numbers.as_slice() == [1, 7].as_slice();
     drop(numbers);
-    assert_eq!(rt; heap.used(), 0);
+    assert!(rt; (last, same, heap.used()) == (2, true, 0));
     Ok(())
 }
 
@@ -210,7 +206,7 @@ fn owned_items_lent_and_regained(rt: HostRuntime) -> Result<(), Fail> {
         _ => (0, 0),
     };
     drop(boxes);
-    assert_eq!(rt; (held, heap.used()), ((7, 8), 0));
+    assert!(rt; (held, heap.used()) == ((7, 8), 0));
     Ok(())
 }
 
@@ -237,7 +233,7 @@ fn two_rooms<T: Drop, A: Allocator>(alloc: A, item: T) -> Result<T, AllocError> 
 fn two_rooms_lent_and_regained(rt: HostRuntime) -> Result<(), Fail> {
     let heap = LocalHeap::new(rt.alloc(), 1024)?;
     let item = two_rooms(&heap, 5u64)?;
-    assert_eq!(rt; (item, heap.used()), (5, 0));
+    assert!(rt; (item, heap.used()) == (5, 0));
     Ok(())
 }
 
@@ -268,9 +264,9 @@ fn exchanged<T, A: Allocator>(items: Vec<T, A>) -> Vec<T, A>
 fn two_writers_at_once(rt: HostRuntime) -> Result<(), Fail> {
     let heap = LocalHeap::new(rt.alloc(), 1024)?;
     let numbers = exchanged(two_items(&heap, 2, 1u64, 2)?);
-    assert_eq!(rt; numbers.as_slice(), [2, 1].as_slice());
+    let same = numbers.as_slice() == [2, 1].as_slice();
     drop(numbers);
-    assert_eq!(rt; heap.used(), 0);
+    assert!(rt; (same, heap.used()) == (true, 0));
     Ok(())
 }
 
@@ -291,9 +287,9 @@ fn cut_and_regained<T, A: Allocator>(items: Vec<T, A>) -> Vec<T, A>
 fn items_of_no_size_lent_and_regained(rt: HostRuntime) -> Result<(), Fail> {
     let heap = LocalHeap::new(rt.alloc(), 1024)?;
     let nothings = cut_and_regained(Vec::from_slice(&heap, &[Nothing; 3])?);
-    assert_eq!(rt; nothings.len(), 3);
+    let len = nothings.len();
     drop(nothings);
-    assert_eq!(rt; heap.used(), 0);
+    assert!(rt; (len, heap.used()) == (3, 0));
     Ok(())
 }
 
@@ -315,14 +311,14 @@ fn parts_go_to_other_threads(rt: HostRuntime) -> Result<(), Fail> {
     Ok(())
 }
 
-/// A vector whose items are frozen, read in this range, also by a reader of that part alone, and
-/// regained: whether these are the items of the range.
+/// A vector whose items are frozen, read in this range, then by a reader of that part alone, and
+/// regained: whether each sees these items.
 fn read_frozen<T: PartialEq, A: Allocator>(
     items: Vec<T, A>,
     start: usize,
     end: usize,
     wanted: &[T],
-) -> (bool, Vec<T, A>)
+) -> ([bool; 2], Vec<T, A>)
     requires { start ≤ end × end ≤ length items.items }
     ensures { result.1.items ≡ items.items }
 {
@@ -334,8 +330,10 @@ fn read_frozen<T: PartialEq, A: Allocator>(
     room.give_up();
     let range = full.freeze(&lifetime);
     let part = range.part(start, end);
-    let seen = unsafe { range.as_slice(&lifetime, base, start, end) } == wanted
-        && unsafe { part.as_slice(&lifetime, base, start, end) } == wanted;
+    let seen = [
+        unsafe { range.as_slice(&lifetime, base, start, end) } == wanted,
+        unsafe { part.as_slice(&lifetime, base, start, end) } == wanted,
+    ];
     drop(part);
     let places = inheritance.regain_frozen_whole(lifetime.end(), &range);
     (seen, put_together(allocation, places))
@@ -349,9 +347,9 @@ fn numbers_frozen_and_read(rt: HostRuntime) -> Result<(), Fail> {
     let (all, numbers) = read_frozen(numbers, 0, 3, &[1, 2, 3]);
     let (part, numbers) = read_frozen(numbers, 1, 2, &[2]);
     let (none, numbers) = read_frozen(numbers, 3, 3, &[]);
-    assert_eq!(rt; (all, part, none, numbers.len()), (true, true, true, 3));
+    let len = numbers.len();
     drop(numbers);
-    assert_eq!(rt; heap.used(), 0);
+    assert!(rt; ([all, part, none], len, heap.used()) == ([[true; 2]; 3], 3, 0));
     Ok(())
 }
 
@@ -360,9 +358,9 @@ fn items_of_no_size_frozen_and_read(rt: HostRuntime) -> Result<(), Fail> {
     let heap = LocalHeap::new(rt.alloc(), 1024)?;
     let nothings = Vec::from_slice(&heap, &[Nothing; 3])?;
     let (seen, nothings) = read_frozen(nothings, 1, 3, &[Nothing; 2]);
-    assert_eq!(rt; (seen, nothings.len()), (true, 3));
+    let len = nothings.len();
     drop(nothings);
-    assert_eq!(rt; heap.used(), 0);
+    assert!(rt; (seen, len, heap.used()) == ([true; 2], 3, 0));
     Ok(())
 }
 
@@ -401,17 +399,17 @@ fn owned_items_frozen_and_regained(rt: HostRuntime) -> Result<(), Fail> {
         _ => (0, 0, 0),
     };
     drop(boxes);
-    assert_eq!(rt; (held, heap.used()), ((7, 8, 4), 0));
+    assert!(rt; (held, heap.used()) == ((7, 8, 4), 0));
     Ok(())
 }
 
 /// Two readers have the range of two items, and one a part of it, while a writer's part behind,
-/// with this item in it, is out: whether the readers see these items.
+/// with this item in it, is out: whether each reader sees these items.
 fn read_beside_a_writer<T: PartialEq, A: Allocator>(
     items: Vec<T, A>,
     item: T,
     wanted: [&[T]; 2],
-) -> (bool, T, Vec<T, A>)
+) -> ([bool; 3], T, Vec<T, A>)
     requires { (length items.items ≡ 2) × (vec_capacity items ≡ 3) }
 {
     let (base, allocation, places) = take_apart(items);
@@ -424,9 +422,11 @@ fn read_beside_a_writer<T: PartialEq, A: Allocator>(
     let (room, left) = back.open(rest);
     let (mut lodger, under) = unsafe { Lodging::house(room, base, 2, 0, 1) };
     lodger.push_reserved(item);
-    let seen = unsafe { range.as_slice(&share, base, 0, 2) } == wanted[0]
-        && unsafe { other.as_slice(&share, base, 0, 2) } == wanted[0]
-        && unsafe { last.as_slice(&share, base, 1, 2) } == wanted[1];
+    let seen = [
+        unsafe { range.as_slice(&share, base, 0, 2) } == wanted[0],
+        unsafe { other.as_slice(&share, base, 0, 2) } == wanted[0],
+        unsafe { last.as_slice(&share, base, 1, 2) } == wanted[1],
+    ];
     let item = lodger.take_last();
     let (back, rest) = left.close(under.vacate(lodger));
     back.give_up();
@@ -441,9 +441,8 @@ fn two_readers_beside_a_writer(rt: HostRuntime) -> Result<(), Fail> {
     let numbers = two_items(&heap, 3, 1u64, 2)?;
     let (seen, item, numbers) = read_beside_a_writer(numbers, 9, [&[1, 2], &[2]]);
     let same = numbers.as_slice() == [1, 2].as_slice();
-    assert_eq!(rt; (seen, item, same), (true, 9, true));
     drop(numbers);
-    assert_eq!(rt; heap.used(), 0);
+    assert!(rt; (seen, item, same, heap.used()) == ([true; 3], 9, true, 0));
     Ok(())
 }
 
