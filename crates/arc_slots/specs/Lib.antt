@@ -1,5 +1,6 @@
 pub mod Stands
 pub mod Slots
 pub mod Calls
+pub mod Parts
 pub mod Splits
 pub mod Writing

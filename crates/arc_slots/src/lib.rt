@@ -2,5 +2,6 @@
 #![tactic(auto)]
 
 pub mod list;
+pub mod part;
 pub mod passes;
 pub mod slot;

@@ -165,16 +165,6 @@ module _ {T M : Type 0} (slots : List (Option (SlotView T M))) (passes : List (P
     enters-at entries adds =
         subst (λ st. AddsAt st entries passes passes') (sym stand-in) adds
 
-    pub joins-added : (made : SlotView T M) → slots' ≡ slots ++ Some made ∷ []
-        → Beside (stand_of (Some s)) passes passes' (stand_of (Some made))
-        → Joins before i false after
-    joins-added made more joins = (
-      stand_of (Some made),
-      subst (λ st. Raises st (stand_of (Some made)) passes passes') (sym stand-in)
-          (raises-beside passes passes' (stand_of (Some s)) (stand_of (Some made)) joins),
-      ap stands_of more ∙ map-append stand_of slots (Some made ∷ []),
-    )
-
     pub refused-added : (wants : Sort → Bool) (place : Place ℕ M) (e : OwnerError)
         → slots' ≡ slots → RefusesAt wants place (stand_of (Some s)) passes passes' e
         → Enters before i (refused e) after

@@ -15,7 +15,7 @@ use Rattle.arc_block.specs.Writers.{as_sole}
 use Rattle.arc_commands.specs.Additions.{Standing, Adds, Joins, Enters, refused}
 use Rattle.arc_commands.specs.Additions as History
 use Rattle.arc_commands.specs.Blocks.{RowsAgree}
-use Rattle.arc_slots.specs.Calls.{Along, Beside, RefusesAt}
+use Rattle.arc_slots.specs.Calls.{Along, RefusesAt}
 use Rattle.arc_slots.specs.Slots.{SlotView, row_of, stand_of, stands_of}
 use Rattle.arc_commands.specs.State.{State}
 use Rattle.arc_slots.specs.Slots.{state_of}
@@ -28,12 +28,12 @@ use Rattle.arc_commands.specs.declared.command.Reply.TheVariants as reply
 use Rattle.arc_commands.proofs.Blocks.{step_agrees}
 use Rattle.arc_table.proofs.Kept.{Ended, kept-asked-along}
 use Rattle.arc_table.proofs.Rows.{asks}
-use Rattle.arc_table.proofs.Tables.{rows-more, makes-step, refused-step, kept-made, kept-unmade}
+use Rattle.arc_table.proofs.Tables.{makes-step, refused-step, kept-unmade}
 use Rattle.arc_table.proofs.Tables.{split-rows-are, kept-stays, kept-goes, stand-there, asked-row}
 use Rattle.arc_table.proofs.Tables.{kept-dropped, dropped-row, kept-changed, changed-row}
 use Rattle.arc_table.proofs.Tables.{same-stands, written-row, unwritten-row}
 use Rattle.arc_table.proofs.Tables.{changed-added}
-use Rattle.arc_table.proofs.Added.{joins-added, refused-added, stays-added, goes-added}
+use Rattle.arc_table.proofs.Added.{refused-added, stays-added, goes-added}
 use Rattle.arc_table.proofs.Added.{asked-added, end-added}
 
 -- the fact of the type
@@ -98,25 +98,6 @@ module _ {T M : Type 0} (setting : Setting T) (slots : List (Option (SlotView T 
 
   abbrev new : State T M
   new = state_of slots' passes'
-
-  -- a window more, beside the one that the command names
-  pub joined : (r : Row T M)
-      → ((short : Shortage) → answer setting short old.table c
-      ≡ asks setting short old.table r (old.table.rows ++ Some r ∷ []))
-      → ((number : ℕ) → Joins old.standing i false new.standing
-      → Adds old.table old.standing c (reply.New number) new.standing)
-      → (made : SlotView T M) (number : ℕ) → row_of made ≡ r
-      → Beside (stand_of (Some s)) passes passes' (stand_of (Some made))
-      → slots' ≡ slots ++ Some made ∷ [] → number ≡ length slots
-      → Done setting old c (reply.New number) slots' passes'
-  joined r answers adds made number row joins more counted =
-      done fact.1
-      (kept-made slots passes i s there fact.0 passes' made slots' more joins)
-      (makes-step slots passes i s there fact.0 passes' setting c r.place
-      (old.table.rows ++ Some r ∷ []) answers made slots' number
-      (ap (λ (x : Row T M). x.place) (sym row)) joins
-      (rows-more slots passes i s there made r slots' row more) counted)
-      (adds number (joins-added slots passes i s there slots' passes' made more joins))
 
   -- the call refused it
   pub unmade : (r : Row T M) (rows : List (Option (Row T M)))

@@ -5,6 +5,7 @@ mod Added
 mod Founded
 mod States
 mod Rows
+mod Parts
 mod Done
 pub mod Statics
 pub mod Written

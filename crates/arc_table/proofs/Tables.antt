@@ -197,15 +197,6 @@ module _ {T M : Type 0} (slots : List (Option (SlotView T M))) (passes : List (P
     for-writer places some c is found =
         answered c (ap (λ k. is_for c (role_of k)) some ∙ is) found
 
-    -- a window more, behind the others
-    pub rows-more : (made : SlotView T M) (r : Row T M)
-        (slots' : List (Option (SlotView T M))) → row_of made ≡ r → slots' ≡ slots ++ Some made ∷ []
-        → t.rows ++ Some r ∷ [] ≡ map (option_map row_of) slots'
-    rows-more made r slots' same more =
-        ap (λ x. t.rows ++ Some x ∷ []) (sym same)
-        ∙ sym (ap (map (option_map row_of)) more
-        ∙ map-append (option_map row_of) slots (Some made ∷ []))
-
     -- the window has become another part, as the same owner
     module _ (s' : SlotView T M) (same : stand_of (Some s') ≡ stand_of (Some s)) where
       pub same-stands : stands_of (slice_set slots i (Some s')) ≡ stands_of slots
@@ -229,18 +220,7 @@ module _ {T M : Type 0} (slots : List (Option (SlotView T M))) (passes : List (P
       changed-added = ap (λ ss. record { stands = ss; passes = passes }) same-stands
 
     module _ (k : IsKept MAX_OWNERS (stands_of slots) passes) (passes' : List (Pass Whole)) where
-      -- the live owners of each block are its windows still: one more was made, or none
-      pub kept-made : (made : SlotView T M) (slots' : List (Option (SlotView T M)))
-          → slots' ≡ slots ++ Some made ∷ []
-          → Beside (stand_of (Some s)) passes passes' (stand_of (Some made))
-          → IsKept MAX_OWNERS (stands_of slots') passes'
-      kept-made made slots' more joins =
-          let st = stand_of (Some made) in
-          let stands : stands_of slots' ≡ stands_of slots ++ st ∷ [] =
-          ap stands_of more ∙ map-append stand_of slots (Some made ∷ []) in
-          subst (λ ss. IsKept MAX_OWNERS ss passes') (sym stands)
-          (kept-beside i k passes' (stand_of (Some s)) st stand-there joins)
-
+      -- none was made: the live owners of each block are its windows still
       pub kept-unmade : (slots' : List (Option (SlotView T M))) → slots' ≡ slots
           → (wants : Sort → Bool) (place : Place ℕ M) (e : OwnerError)
           → RefusesAt wants place (stand_of (Some s)) passes passes' e

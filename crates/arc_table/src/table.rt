@@ -10,6 +10,7 @@ use arc_owners::mark::Whole;
 use arc_owners::owners::Pass;
 use arc_read::slice::ArcSlice;
 use arc_slots::list::{end_slots, make_room, slot_at};
+use arc_slots::part::Part;
 use arc_slots::passes::Passes;
 use arc_slots::slot::{Held, Slot, Writing};
 use std::alloc::{Allocator, Global};
@@ -69,6 +70,7 @@ where
     ghost use Rattle.arc_commands.specs.Step.{Step, no_shortage, setting_of, shortage};
     ghost use Rattle.arc_commands.specs.Seen.{map_reply, seen_command, seen_reply};
     ghost use Rattle.arc_commands.specs.Additions.{Adds};
+    ghost use Rattle.arc_slots.specs.Parts.{part_command};
     ghost use Rattle.arc_slots.specs.Writing.{seen_writing, write_command};
     ghost use Rattle.arc_commands.specs.Blocks.{RowsAgree};
     ghost use Rattle.arc_commands.specs.State.{Agrees, CarriesOut, EndsAll, EndsWith, empty_state};
@@ -133,12 +135,14 @@ where
             Cmd::Cap { places } => self.with_capacity(places),
             Cmd::Zero { count } => self.zeroed(count),
             Cmd::MSlice(items) => self.slice_mut(items),
-            Cmd::Clone { window } => self.clone_window(rt, window),
-            Cmd::Sub { window, start, end } => self.sub(rt, window, start, end),
+            Cmd::Clone { window } => self.hand_out(rt, window, Part::Whole),
+            Cmd::Sub { window, start, end } => {
+                self.hand_out(rt, window, Part::Range { start, end })
+            }
             Cmd::Uniq { window } => self.uniq(window),
             Cmd::Show { window } => self.show(window),
-            Cmd::Off { window, at } => self.split_off(rt, window, at),
-            Cmd::To { window, at } => self.split_to(rt, window, at),
+            Cmd::Off { window, at } => self.hand_out(rt, window, Part::Back(at)),
+            Cmd::To { window, at } => self.hand_out(rt, window, Part::Front(at)),
             Cmd::Len { window } => self.len(window),
             Cmd::Room { window } => self.room(window),
             Cmd::Res { window, additional } => self.write(window, Writing::Nothing(additional)),
@@ -247,44 +251,14 @@ where
         Reply::New(number)
     }
 
-    /// Another window with the same items at the same place. `NoWindow` where the window isn't
-    /// there, `Kind` where it is written, `Owner` where its block has as many owners as it can
-    /// have. Takes memory for the new slot; refused, the answer is `Alloc`.
-    fn clone_window(&mut self, rt: &impl Wait, i: usize) -> TableReply<S::Item, A>
+    /// Hands out a part of a window under the next number. `NoWindow` where the window isn't there,
+    /// `Kind` where it is written, `Range` where it has no such part, `Owner` where the part can't
+    /// have an owner of its own. Takes memory for the new slot; refused, the answer is `Alloc`.
+    fn hand_out(&mut self, rt: &impl Wait, i: usize, part: Part) -> TableReply<S::Item, A>
         ensures rows { Step (setting_of L.STATIC L.clone_wants S.DROPS S.boundary
             (type_size S.Item.row) S.Zero.zero) self.old.table
-            (command.Clone i) (seen_reply result) self.new.table }
-        ensures passes { Adds self.old.table self.old.standing (command.Clone i) (seen_reply result)
-            self.new.standing }
-    {
-        let Some(slot) = slot_at(&self.slots, i) else {
-            return Reply::NoWindow;
-        };
-        if slot.is_written() {
-            return Reply::Kind;
-        }
-        if self.slots.reserve(1).is_err() {
-            return Reply::Alloc;
-        }
-        let Some(slot) = slot_at(&self.slots, i) else {
-            unreachable!()
-        };
-        match slot.try_clone(rt, &mut self.passes) {
-            Ok(slot) => {
-                let number = self.slots.len();
-                self.slots.push_reserved(Some(slot));
-                Reply::New(number)
-            }
-            Err(e) => Reply::Owner(e),
-        }
-    }
-
-    /// A window over the part from `start` to `end` of another.
-    fn sub(&mut self, rt: &impl Wait, i: usize, start: usize, end: usize) -> TableReply<S::Item, A>
-        ensures rows { Step (setting_of L.STATIC L.clone_wants S.DROPS S.boundary
-            (type_size S.Item.row) S.Zero.zero) self.old.table
-            (command.Sub i start end) (seen_reply result) self.new.table }
-        ensures passes { Adds self.old.table self.old.standing (command.Sub i start end)
+            (part_command i part) (seen_reply result) self.new.table }
+        ensures passes { Adds self.old.table self.old.standing (part_command i part)
             (seen_reply result) self.new.standing }
     {
         let Some(slot) = slot_at(&self.slots, i) else {
@@ -293,16 +267,16 @@ where
         if slot.is_written() {
             return Reply::Kind;
         }
-        if let Err(e) = slot.check_range(start, end) {
+        if let Err(e) = slot.check_part(part) {
             return Reply::Range(e);
         }
         if self.slots.reserve(1).is_err() {
             return Reply::Alloc;
         }
-        let Some(slot) = slot_at(&self.slots, i) else {
+        let Some(slot) = &mut self.slots[i] else {
             unreachable!()
         };
-        match slot.try_subslice(rt, start, end, &mut self.passes) {
+        match slot.try_part(rt, part, &mut self.passes) {
             Ok(slot) => {
                 let number = self.slots.len();
                 self.slots.push_reserved(Some(slot));
@@ -363,72 +337,6 @@ where
         match slot_at(&self.slots, i) {
             Some(slot) => Reply::Items(slot.as_slice()),
             None => Reply::NoWindow,
-        }
-    }
-
-    /// Splits a window, and hands out the back under the next number.
-    fn split_off(&mut self, rt: &impl Wait, i: usize, at: usize) -> TableReply<S::Item, A>
-        ensures rows { Step (setting_of L.STATIC L.clone_wants S.DROPS S.boundary
-            (type_size S.Item.row) S.Zero.zero) self.old.table
-            (command.Off i at) (seen_reply result) self.new.table }
-        ensures passes { Adds self.old.table self.old.standing (command.Off i at)
-            (seen_reply result) self.new.standing }
-    {
-        let Some(slot) = slot_at(&self.slots, i) else {
-            return Reply::NoWindow;
-        };
-        if slot.is_written() {
-            return Reply::Kind;
-        }
-        if let Err(e) = slot.check_at(at) {
-            return Reply::Range(e);
-        }
-        if self.slots.reserve(1).is_err() {
-            return Reply::Alloc;
-        }
-        let Some(slot) = &mut self.slots[i] else {
-            unreachable!()
-        };
-        match slot.try_split_off(rt, at, &mut self.passes) {
-            Ok(slot) => {
-                let number = self.slots.len();
-                self.slots.push_reserved(Some(slot));
-                Reply::New(number)
-            }
-            Err(e) => Reply::Owner(e),
-        }
-    }
-
-    /// Splits a window, and hands out the front under the next number.
-    fn split_to(&mut self, rt: &impl Wait, i: usize, at: usize) -> TableReply<S::Item, A>
-        ensures rows { Step (setting_of L.STATIC L.clone_wants S.DROPS S.boundary
-            (type_size S.Item.row) S.Zero.zero) self.old.table
-            (command.To i at) (seen_reply result) self.new.table }
-        ensures passes { Adds self.old.table self.old.standing (command.To i at) (seen_reply result)
-            self.new.standing }
-    {
-        let Some(slot) = slot_at(&self.slots, i) else {
-            return Reply::NoWindow;
-        };
-        if slot.is_written() {
-            return Reply::Kind;
-        }
-        if let Err(e) = slot.check_at(at) {
-            return Reply::Range(e);
-        }
-        if self.slots.reserve(1).is_err() {
-            return Reply::Alloc;
-        }
-        let Some(slot) = &mut self.slots[i] else {
-            unreachable!()
-        };
-        match slot.try_split_to(rt, at, &mut self.passes) {
-            Ok(slot) => {
-                let number = self.slots.len();
-                self.slots.push_reserved(Some(slot));
-                Reply::New(number)
-            }
-            Err(e) => Reply::Owner(e),
         }
     }
 

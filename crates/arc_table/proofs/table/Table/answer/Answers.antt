@@ -20,17 +20,17 @@ Asked g = Cmd (Vec g.row.S-Item.Denot g.row.A.Denot) (List g.row.S-Item.Denot) g
 pub returns-in-Sub-clause-rows : goal.returns-in-Sub-clause-rows
 returns-in-Sub-clause-rows g c =
     subst (λ (d : Asked g). Step (setting g) c.args.self.now.table (seen_command d)
-    (seen_reply c.sub.result) c.sub.new.self.table) (sym c.in-Sub.is) c.sub.ensures.rows
+    (seen_reply c.hand_out-in-Sub.result) c.hand_out-in-Sub.new.self.table) (sym c.in-Sub.is) c.hand_out-in-Sub.ensures.rows
 
 pub returns-in-Off-clause-rows : goal.returns-in-Off-clause-rows
 returns-in-Off-clause-rows g c =
     subst (λ (d : Asked g). Step (setting g) c.args.self.now.table (seen_command d)
-    (seen_reply c.split_off.result) c.split_off.new.self.table) (sym c.in-Off.is) c.split_off.ensures.rows
+    (seen_reply c.hand_out-in-Off.result) c.hand_out-in-Off.new.self.table) (sym c.in-Off.is) c.hand_out-in-Off.ensures.rows
 
 pub returns-in-To-clause-rows : goal.returns-in-To-clause-rows
 returns-in-To-clause-rows g c =
     subst (λ (d : Asked g). Step (setting g) c.args.self.now.table (seen_command d)
-    (seen_reply c.split_to.result) c.split_to.new.self.table) (sym c.in-To.is) c.split_to.ensures.rows
+    (seen_reply c.hand_out-in-To.result) c.hand_out-in-To.new.self.table) (sym c.in-To.is) c.hand_out-in-To.ensures.rows
 
 pub returns-in-Res-clause-rows : goal.returns-in-Res-clause-rows
 returns-in-Res-clause-rows g c =
@@ -55,8 +55,8 @@ returns-in-Freeze-clause-rows g c =
 pub returns-in-Clone-clause-rows : goal.returns-in-Clone-clause-rows
 returns-in-Clone-clause-rows g c =
     subst (λ (d : Asked g). Step (setting g) c.args.self.now.table (seen_command d)
-    (seen_reply c.clone_window.result) c.clone_window.new.self.table) (sym c.in-Clone.is)
-    c.clone_window.ensures.rows
+    (seen_reply c.hand_out.result) c.hand_out.new.self.table) (sym c.in-Clone.is)
+    c.hand_out.ensures.rows
 
 pub returns-in-Show-clause-rows : goal.returns-in-Show-clause-rows
 returns-in-Show-clause-rows g c =
