@@ -180,6 +180,15 @@ made_raised {H = H} t p m r by new false true k k' at was looked raised e =
     (subst (λ (u : BlockId). SamePass u m.trace r.trace × RaisedIf u m.trace r.trace by new true → MakesAnother o m r other) at
     (λ (x : SamePass by.block m.trace r.trace × RaisedIf by.block m.trace r.trace by new true). made_of o m r by new refl x.0 x.1) raised)
 
+-- the count was found at its greatest through an owner of this block
+pub full_at : {H : Type 0} (t : BlockId) (p r : Pass H) (by : OwnerToken H) (b : Bool) → b ≡ true → by.block ≡ t → SamePass t p.trace r.trace × FullIf t p.trace r.trace by b
+    → FindsFull (record { block = by.block; number = by.owner; born = by.born }) p r
+full_at t p r by false k at looked = absurd (false≢true k)
+full_at t p r by true k at looked =
+    let o : Owner = record { block = by.block; number = by.owner; born = by.born } in
+    subst (λ (u : BlockId). SamePass u p.trace r.trace × FullIf u p.trace r.trace by true → FindsFull o p r) at
+    (λ (x : SamePass by.block p.trace r.trace × FullIf by.block p.trace r.trace by true). full_of o p r x.0 x.1) looked
+
 -- a raise whose exchange was lost leaves the pass as it was
 pub not_raised : {H : Type 0} (t : BlockId) (p m r : Pass H) (by new : OwnerToken H) (b c : Bool) → b ≡ false → c ≡ false → IsOf t p.trace → SamePass t p.trace m.trace × FullIf t p.trace m.trace by b
     → SamePass t m.trace r.trace × RaisedIf t m.trace r.trace by new c → m.mark ≡ p.mark → r.mark ≡ m.mark → r ≡ p
