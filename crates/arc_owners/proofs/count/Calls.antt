@@ -161,6 +161,14 @@ ended_by_itself own r last so = let o : Owner = record { block = own.block; numb
   left = leaves_of o new r last so.same so.ended;
 }
 
+-- the same of an owner by another name, and of an answer that is known
+pub ended_at : {H : Type 0} (o : Owner) (own : OwnerToken H) (r : Pass H) (found said : Bool)
+    → record { block = own.block; number = own.owner; born = own.born } ≡ o → found ≡ said
+    → EndsWithNew own r.trace found → EndsByItself o r said
+ended_at o own r found said is answer so =
+    subst (λ b. EndsByItself o r b) answer
+    (subst (λ k. EndsByItself k r found) is (ended_by_itself own r found so))
+
 -- the same pass of a block, which has seen no more, is the pass as it was
 same_trace : (t : BlockId) (p r : PassState) → IsOf t p → SamePass t p r → r.lines ≡ p.lines → r ≡ p
 same_trace t p r was same lines = λ i. record { marker = r.marker; bound = (same.0 ∙ sym was.0) i; block = (same.1 ∙ sym was.1) i; number = same.2 i; ready = same.3 i; lines = lines i }

@@ -59,13 +59,9 @@ impl<V: Drop, A: Allocator + Copy, const MAX: u64, H: Mark> SoleBox<V, A, MAX, H
     {
         let (owners, sole, pass) = Owners::<MAX, H>::new_sole();
         let Owners { word, mark: _ } = owners;
-        let value = Housed { value, alloc };
-        match Box::new(alloc, Inner { word, value }) {
-            Ok(memory) => Ok((SoleBox::settled(BoxParts::of(memory), sole), pass)),
-            Err(refused) => {
-                let Inner { word: _, value } = refused.value;
-                Err(value.value)
-            }
+        match Inner::housing(alloc, word, value) {
+            Ok(memory) => Ok((SoleBox::settled(memory, sole), pass)),
+            Err(value) => Err(value),
         }
     }
 
@@ -134,7 +130,6 @@ impl<V: Drop, A: Allocator + Copy, const MAX: u64, H: Mark> SoleBox<V, A, MAX, H
     /// What a drop does: under `Open` this owner ends with a new pass, and the value comes out;
     /// under `Whole` it is forgotten, with the value and the memory. Takes no memory. The pass is
     /// the one that the owner ended with; under `Whole` it is of no block.
-    #[tactic(auto, using(crate::proofs::count::Calls::ended_by_itself))]
     pub fn let_go(self) -> (Option<V>, Pass<H>)
         ensures value { IfSome result.0 (λ value. value ≡ sole_value self) }
         ensures forgotten { H.whole ≡ true → (result.0 ≡ None) × IsPassOfNone result.1 }
