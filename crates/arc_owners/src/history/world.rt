@@ -93,14 +93,15 @@ impl<A: Allocator> World<A> {
         requires owned { self.old.count ≡ length self.old.live.items }
         ensures { OnOk result (machine_of self.new ≡ changed (machine_of self.old) event) }
     {
+        let by = event.by();
         let entry = match event {
             Event::Load { thread, .. } => return add_number(&mut self.ready, thread),
-            Event::ExchangeWon { by, new, .. } => Entry::Promote(by, new),
-            Event::ExchangeLost { by, .. } => Entry::Joined(by),
-            Event::CountUp { by, new, .. } => Entry::Up(by, new),
-            Event::FullFound { by, .. } => Entry::Full(by),
-            Event::CountDown { by, .. } => Entry::Down(by),
-            Event::UniquenessLoad { by, .. } => Entry::Alone(by, self.count == 1),
+            Event::ExchangeWon { new, .. } => Entry::Promote(by, new),
+            Event::ExchangeLost { .. } => Entry::Joined(by),
+            Event::CountUp { new, .. } => Entry::Up(by, new),
+            Event::FullFound { .. } => Entry::Full(by),
+            Event::CountDown { .. } => Entry::Down(by),
+            Event::UniquenessLoad { .. } => Entry::Alone(by, self.count == 1),
         };
         self.entries.push(entry)?;
         match event {
@@ -113,7 +114,7 @@ impl<A: Allocator> World<A> {
                 self.live.push(new)?;
                 self.count += 1;
             }
-            Event::CountDown { by, .. } => {
+            Event::CountDown { .. } => {
                 remove_number(&mut self.live, by);
                 self.count -= 1;
             }

@@ -152,15 +152,7 @@ impl<V: Drop, A: Allocator + Copy, const MAX: u64, H: Mark> CountedBox<V, A, MAX
     pub fn get(&self) -> &V
         ensures { result.now ≡ value_of self.now }
     {
-        &self.housed().value
-    }
-
-    /// The value, with the allocator that its memory came from.
-    #[inline(always)]
-    fn housed(&self) -> &Housed<V, A>
-        ensures { result.now ≡ self.now.memory.borrow.value.value }
-    {
-        &self.memory.get(&self.share).value
+        &self.memory.get(&self.share).value.value
     }
 
     /// Whether no other owner lives, by one load. Adds Alone with the answer. Takes no memory.
@@ -222,7 +214,7 @@ impl<V: Drop, A: Allocator + Copy, const MAX: u64, H: Mark> CountedBox<V, A, MAX
             × (result.1.memory ≡ self.memory) }
         ensures owner { owner_of result.0 ≡ owner_in self }
     {
-        let alloc = self.housed().alloc;
+        let alloc = self.memory.get(&self.share).value.alloc;
         let CountedBox {
             memory,
             lodging,
@@ -373,7 +365,9 @@ impl<V: Drop, A: Allocator + Copy, const MAX: u64, H: Stepping> CountedBox<V, A,
 
 impl<V: Drop, A: Allocator + Copy, const MAX: u64, H: Mark> Drop for CountedBox<V, A, MAX, H> {
     fn drop(self) {
-        drop(self.let_go());
+        let (value, pass) = self.let_go();
+        drop(value);
+        drop(pass);
     }
 }
 

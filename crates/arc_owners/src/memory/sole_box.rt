@@ -177,6 +177,8 @@ impl<V: Drop, A: Allocator + Copy, const MAX: u64, H: Stepping> SoleBox<V, A, MA
 
 impl<V: Drop, A: Allocator + Copy, const MAX: u64, H: Mark> Drop for SoleBox<V, A, MAX, H> {
     fn drop(self) {
-        drop(self.let_go());
+        let (value, pass) = self.let_go();
+        drop(value);
+        drop(pass);
     }
 }
