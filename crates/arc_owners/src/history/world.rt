@@ -128,10 +128,10 @@ impl<A: Allocator> World<A> {
 fn add_number<A: Allocator>(numbers: &mut Vec<u64, A>, number: u64) -> Result<(), AllocError>
     ensures { OnOk result (numbers.new.items ≡ with_number number numbers.old.items) }
 {
-    if !numbers.contains(&number) {
-        numbers.push(number)?;
+    if numbers.contains(&number) {
+        return Ok(());
     }
-    Ok(())
+    numbers.push(number).or(Err(AllocError))
 }
 
 /// Takes a number from these.

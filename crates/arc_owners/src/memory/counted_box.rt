@@ -7,7 +7,7 @@ use super::lent_box::LentBox;
 use super::lent_value::LentValue;
 use super::sole_box::SoleBox;
 use crate::count::tokens::{LifetimeEnd, Owners, Pass, Release, Share};
-use crate::count::word::{Word, WordBorrow};
+use crate::count::word::WordBorrow;
 use crate::error::CountFull;
 use crate::mark::{Mark, Open, Stepping};
 use std::alloc::{Allocator, Global};
@@ -31,26 +31,6 @@ impl<V: Drop, A: Allocator + Copy> Housed<V, A> {
         ensures value { result.now ≡ self.old.value }
     {
         &mut self.value
-    }
-}
-
-impl<V: Drop, A: Allocator + Copy> Inner<Housed<V, A>> {
-    ghost use Rattle.std.specs.Prelude.{◌≡◌, IfOk, IfErr};
-
-    /// Memory for a word and a value, with both in it; refused, the value comes back.
-    pub(crate) fn housing(alloc: A, word: Word, value: V) -> Result<BoxParts<Self, A>, V>
-        ensures made { IfOk result (λ m. (m.alloc ≡ alloc) × (m.value.word ≡ word)
-            × (m.value.value.value ≡ value) × (m.value.value.alloc ≡ alloc)) }
-        ensures refused { IfErr result (λ back. back ≡ value) }
-    {
-        let value = Housed { value, alloc };
-        match Box::new(alloc, Inner { word, value }) {
-            Ok(memory) => Ok(BoxParts::of(memory)),
-            Err(refused) => {
-                let Inner { word: _, value } = refused.value;
-                Err(value.value)
-            }
-        }
     }
 }
 
@@ -118,10 +98,8 @@ impl<V: Drop, A: Allocator + Copy, const MAX: u64, H: Mark> CountedBox<V, A, MAX
         ensures pass { IfOk result (λ r. IsFreshPass (owner_in r.0) r.1) }
         ensures refused { IfErr result (λ back. back ≡ value) }
     {
-        let (owners, share, pass) = Owners::<MAX, H>::new();
-        let Owners { word, mark: _ } = owners;
-        match Inner::housing(alloc, word, value) {
-            Ok(memory) => Ok((CountedBox::settled(memory, share), pass)),
+        match SoleBox::new(alloc, value) {
+            Ok((sole, pass)) => Ok((sole.lend(), pass)),
             Err(value) => Err(value),
         }
     }

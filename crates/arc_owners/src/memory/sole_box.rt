@@ -59,9 +59,13 @@ impl<V: Drop, A: Allocator + Copy, const MAX: u64, H: Mark> SoleBox<V, A, MAX, H
     {
         let (owners, sole, pass) = Owners::<MAX, H>::new_sole();
         let Owners { word, mark: _ } = owners;
-        match Inner::housing(alloc, word, value) {
-            Ok(memory) => Ok((SoleBox::settled(memory, sole), pass)),
-            Err(value) => Err(value),
+        let value = Housed { value, alloc };
+        match Box::new(alloc, Inner { word, value }) {
+            Ok(memory) => Ok((SoleBox::settled(BoxParts::of(memory), sole), pass)),
+            Err(refused) => {
+                let Inner { word: _, value } = refused.value;
+                Err(value.value)
+            }
         }
     }
 
