@@ -161,6 +161,14 @@ ended_by_itself own r last so = let o : Owner = record { block = own.block; numb
   left = leaves_of o new r last so.same so.ended;
 }
 
+-- the same of an owner by another name, and of an answer that is known
+pub ended_at : {H : Type 0} (o : Owner) (own : OwnerToken H) (r : Pass H) (found said : Bool)
+    → record { block = own.block; number = own.owner; born = own.born } ≡ o → found ≡ said
+    → EndsWithNew own r.trace found → EndsByItself o r said
+ended_at o own r found said is answer so =
+    subst (λ b. EndsByItself o r b) answer
+    (subst (λ k. EndsByItself k r found) is (ended_by_itself own r found so))
+
 -- the same pass of a block, which has seen no more, is the pass as it was
 same_trace : (t : BlockId) (p r : PassState) → IsOf t p → SamePass t p r → r.lines ≡ p.lines → r ≡ p
 same_trace t p r was same lines = λ i. record { marker = r.marker; bound = (same.0 ∙ sym was.0) i; block = (same.1 ∙ sym was.1) i; number = same.2 i; ready = same.3 i; lines = lines i }
@@ -179,6 +187,15 @@ made_raised {H = H} t p m r by new false true k k' at was looked raised e =
     subst (λ (q : Pass H). MakesAnother o q r other) (same_pass t p m was looked.0 looked.1 e)
     (subst (λ (u : BlockId). SamePass u m.trace r.trace × RaisedIf u m.trace r.trace by new true → MakesAnother o m r other) at
     (λ (x : SamePass by.block m.trace r.trace × RaisedIf by.block m.trace r.trace by new true). made_of o m r by new refl x.0 x.1) raised)
+
+-- the count was found at its greatest through an owner of this block
+pub full_at : {H : Type 0} (t : BlockId) (p r : Pass H) (by : OwnerToken H) (b : Bool) → b ≡ true → by.block ≡ t → SamePass t p.trace r.trace × FullIf t p.trace r.trace by b
+    → FindsFull (record { block = by.block; number = by.owner; born = by.born }) p r
+full_at t p r by false k at looked = absurd (false≢true k)
+full_at t p r by true k at looked =
+    let o : Owner = record { block = by.block; number = by.owner; born = by.born } in
+    subst (λ (u : BlockId). SamePass u p.trace r.trace × FullIf u p.trace r.trace by true → FindsFull o p r) at
+    (λ (x : SamePass by.block p.trace r.trace × FullIf by.block p.trace r.trace by true). full_of o p r x.0 x.1) looked
 
 -- a raise whose exchange was lost leaves the pass as it was
 pub not_raised : {H : Type 0} (t : BlockId) (p m r : Pass H) (by new : OwnerToken H) (b c : Bool) → b ≡ false → c ≡ false → IsOf t p.trace → SamePass t p.trace m.trace × FullIf t p.trace m.trace by b

@@ -7,7 +7,8 @@ use Rattle.std.proofs.lemmas.List.Folds.{list_any-append}
 use Rattle.std.proofs.lemmas.List.Elements.{filter-append, filter_map-append, filter_agree}
 use Rattle.arc_owners.specs.declared.history.entry.Entry.{Entry}
 use Rattle.arc_owners.specs.declared.history.entry.Entry.TheVariants.{Up, Full, Down, Alone, Promote, Joined}
-use Rattle.arc_owners.specs.history.Histories.{is_in, owner_made, owner_ended, is_end_of, is_promotion, owners_ever, owners_ended, live_owners, is_promoted}
+use Rattle.arc_owners.specs.contracts.history.entry.EntryPartialEq.TheImpl.{ghosts}
+use Rattle.arc_owners.specs.history.Histories.{is_in, owner_made, owner_ended, is_promotion, owners_ever, owners_ended, live_owners, is_promoted}
 use Rattle.arc_owners.specs.history.Machine.{without_number}
 use Rattle.arc_owners.proofs.history.Numbers.{eqb_sym, filter-filter, in-filter}
 
@@ -66,13 +67,13 @@ never_lived h new live ended =
       | inr never ↦ never
     ]
 
--- an owner ended where one of the entries ends it
-pub any_ends : (h : List Entry) (owner : ℕ) → list_any (is_end_of owner) h ≡ is_in owner (owners_ended h)
+-- an owner ended where its release stands among the entries
+pub any_down : (h : List Entry) (owner : ℕ) → list_any (λ e. ghosts.eq e (Down owner)) h ≡ is_in owner (owners_ended h)
 unfolding owners_ended
-any_ends [] owner = refl
-any_ends (Up by new ∷ h) owner = any_ends h owner
-any_ends (Full by ∷ h) owner = any_ends h owner
-any_ends (Down ended ∷ h) owner = ap (λ b. eqb ended owner || b) (any_ends h owner)
-any_ends (Alone by found ∷ h) owner = any_ends h owner
-any_ends (Promote by new ∷ h) owner = any_ends h owner
-any_ends (Joined by ∷ h) owner = any_ends h owner
+any_down [] owner = refl
+any_down (Up by new ∷ h) owner = any_down h owner
+any_down (Full by ∷ h) owner = any_down h owner
+any_down (Down ended ∷ h) owner = ap (λ b. eqb ended owner || b) (any_down h owner)
+any_down (Alone by found ∷ h) owner = any_down h owner
+any_down (Promote by new ∷ h) owner = any_down h owner
+any_down (Joined by ∷ h) owner = any_down h owner

@@ -33,15 +33,6 @@ owner_ended (Alone by found) = None
 owner_ended (Promote by new) = None
 owner_ended (Joined by) = None
 
--- whether an entry ends this owner
-abbrev pub is_end_of : ℕ → Entry → Bool
-is_end_of owner (Up by new) = false
-is_end_of owner (Full by) = false
-is_end_of owner (Down ended) = ended == owner
-is_end_of owner (Alone by found) = false
-is_end_of owner (Promote by new) = false
-is_end_of owner (Joined by) = false
-
 -- whether an entry is a promotion
 abbrev pub is_promotion : Entry → Bool
 is_promotion (Up by new) = false

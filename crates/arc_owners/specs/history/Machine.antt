@@ -44,6 +44,16 @@ opening began = record {
 unfoldable pub is_fresh : ℕ → Machine → Bool
 is_fresh owner m = not (is_in owner m.live) && not (is_in owner (owners_ended m.entries))
 
+-- the owner through which an event's thread acts
+abbrev pub actor : Event → ℕ
+actor (Load thread by) = by
+actor (ExchangeWon thread by new) = by
+actor (ExchangeLost thread by) = by
+actor (CountUp thread by seen new) = by
+actor (FullFound thread by) = by
+actor (CountDown thread by seen) = by
+actor (UniquenessLoad thread by seen) = by
+
 -- whether the event may happen: its actor lives, and the word is as the event found it
 abbrev pub may_happen : ℕ → Machine → Event → Bool
 may_happen most m (Load thread by) = is_in by m.live && not m.counted

@@ -18,7 +18,6 @@ use std::sync::Wait;
 
 /// One attempt to raise a count: nothing where the number changed between its two steps, and then
 /// no entry is added.
-#[tactic(auto, using(crate::proofs::count::Calls::made_of, crate::proofs::count::Calls::full_of, crate::proofs::count::Calls::same_pass))]
 #[inline(always)]
 pub(crate) fn try_up<H: Mark>(
     word: &Word,
@@ -51,33 +50,6 @@ pub(crate) fn try_up<H: Mark>(
         right: new,
         mark: PhantomData,
     }))
-}
-
-/// Makes a new owner, tried again until the exchange wins or finds the count at its greatest, which
-/// is refused.
-#[inline(always)]
-pub(crate) fn up<H: Mark>(
-    word: &Word,
-    rt: &impl Wait,
-    most: u64,
-    by: &Share<H>,
-    pass: &mut Pass<H>,
-) -> Result<Share<H>, CountFull>
-    requires most { word.now.most ≡ most }
-    requires share { IsOwnerOf word.now by.now }
-    requires pass { IsPassOf word.now pass.old }
-    ensures made { IfOk result (λ s.
-        MakesAnother (owner_of by.now) pass.old pass.new (owner_of s)) }
-    ensures lent { IfOk result (λ s. lease_of s ≡ lease_of by.now) }
-    ensures full { IfErr result (λ _. FindsFull (owner_of by.now) pass.old pass.new) }
-    ensures step { EndsInOneStep word.now (history_of pass.new) }
-{
-    for _ in rt.forever() {
-        if let Some(made) = try_up(word, most, by, pass) {
-            return made;
-        }
-    }
-    unreachable!()
 }
 
 /// What an owner's end leaves that found this number.
@@ -130,7 +102,6 @@ impl<const MAX: u64, H: Mark> Owners<MAX, H> {
     /// # History
     ///
     /// Alone with the answer; none on a lone word, where the answer is yes.
-    #[tactic(auto, using(crate::proofs::count::Calls::asks_of))]
     pub fn alone_as(&self, by: &Share<H>, pass: &mut Pass<H>) -> bool
         requires share { IsOwnerOf (block_of self.now) by.now }
         requires pass { IsPassOf (block_of self.now) pass.old }
@@ -167,7 +138,12 @@ impl<const MAX: u64, H: Mark> Owners<MAX, H> {
         ensures full { IfErr result (λ _. FindsFull (owner_of by.now) pass.old pass.new) }
         ensures step { EndsInOneStep (block_of self.now) (history_of pass.new) }
     {
-        up(&self.word, rt, MAX, by, pass)
+        for _ in rt.forever() {
+            if let Some(made) = try_up(&self.word, MAX, by, pass) {
+                return made;
+            }
+        }
+        unreachable!()
     }
 
     /// Ends an owner by one subtraction, which is not tried again, and says whether that was the

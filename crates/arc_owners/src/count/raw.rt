@@ -48,7 +48,6 @@ impl<const MAX: u64, H: Mark> Owners<MAX, H> {
     /// # Safety
     ///
     /// The word lies at this place for as long as the block is lent: the borrow says so.
-    #[tactic(auto, using(crate::proofs::count::Calls::asks_of))]
     #[inline(always)]
     pub unsafe fn alone_raw(
         place: *const u64,

@@ -18,17 +18,3 @@ pub enum Entry {
     /// The promoting exchange lost through this owner.
     Joined(u64),
 }
-
-impl Entry {
-    ghost use Rattle.arc_owners.specs.history.Histories.{is_end_of};
-
-    /// Whether the entry ends this owner.
-    pub(crate) fn ends(&self, owner: u64) -> bool
-        ensures { result ≡ is_end_of owner self.now }
-    {
-        match *self {
-            Entry::Down(ended) => ended == owner,
-            _ => false,
-        }
-    }
-}

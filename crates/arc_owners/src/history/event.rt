@@ -48,3 +48,23 @@ pub enum Event {
         seen: u64,
     },
 }
+
+impl Event {
+    ghost use Rattle.std.specs.Prelude.{◌≡◌};
+    ghost use Rattle.arc_owners.specs.history.Machine.{actor};
+
+    /// The number of the owner through which the thread acts.
+    pub(crate) fn by(&self) -> u64
+        ensures { result ≡ actor self.now }
+    {
+        match *self {
+            Event::Load { by, .. }
+            | Event::ExchangeWon { by, .. }
+            | Event::ExchangeLost { by, .. }
+            | Event::CountUp { by, .. }
+            | Event::FullFound { by, .. }
+            | Event::CountDown { by, .. }
+            | Event::UniquenessLoad { by, .. } => by,
+        }
+    }
+}

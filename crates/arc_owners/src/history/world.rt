@@ -1,7 +1,5 @@
 //! What a run of the word machine leaves, and its one step.
 ghost use Rattle.std.specs.Prelude.{◌≡◌, IsTrue, OnOk, IfOk, length};
-ghost use Rattle.std.specs.List.{list_any};
-ghost use Rattle.arc_owners.specs.history.Histories.{is_end_of};
 ghost use Rattle.arc_owners.specs.history.Worlds.{machine_of};
 ghost use Rattle.arc_owners.specs.history.Machine.{may_happen, changed, is_fresh, with_number};
 ghost use Rattle.arc_owners.specs.history.Machine.{without_number, opening, beginning, step};
@@ -46,48 +44,33 @@ impl<A: Allocator + Copy> World<A> {
 }
 
 impl<A: Allocator> World<A> {
-    /// Whether an owner ended.
-    fn has_ended(&self, owner: u64) -> bool
-        ensures { result ≡ list_any (is_end_of owner) self.now.entries.items }
-    {
-        self.entries.iter().any(|entry| entry.ends(owner))
-    }
-
     /// Whether an owner's number is one that never was live.
-    #[tactic(auto, using(crate::proofs::history::Owned::any_ends), unfolding(crate::specs::history::Machine::is_fresh))]
+    #[tactic(auto, unfolding(crate::specs::history::Machine::is_fresh))]
     fn is_fresh(&self, owner: u64) -> bool
         ensures { result ≡ is_fresh owner (machine_of self.now) }
     {
-        !self.live.contains(&owner) && !self.has_ended(owner)
+        !self.live.contains(&owner) && !self.entries.contains(&Entry::Down(owner))
     }
 
     /// Whether an event may happen here.
     fn may_happen(&self, most: u64, event: Event) -> bool
         ensures { result ≡ may_happen most (machine_of self.now) event }
     {
+        let lives = self.live.contains(&event.by());
+        // Plain values are joined by `&`, which takes no branch to prove.
+        let (lone, counted, count) = (lives & !self.counted, lives & self.counted, self.count);
         match event {
-            Event::Load { by, .. } => self.live.contains(&by) && !self.counted,
-            Event::ExchangeWon { thread, by, new } => {
-                self.live.contains(&by)
-                    && !self.counted
-                    && self.ready.contains(&thread)
-                    && self.is_fresh(new)
+            Event::Load { .. } => lone,
+            Event::ExchangeWon { thread, new, .. } => {
+                lone && self.ready.contains(&thread) && self.is_fresh(new)
             }
-            Event::ExchangeLost { thread, by } => {
-                self.live.contains(&by) && self.counted && self.ready.contains(&thread)
+            Event::ExchangeLost { thread, .. } => counted && self.ready.contains(&thread),
+            Event::CountUp { seen, new, .. } => {
+                counted & (count == seen) & (seen < most) && self.is_fresh(new)
             }
-            Event::CountUp { by, seen, new, .. } => {
-                self.live.contains(&by)
-                    && self.counted
-                    && self.count == seen
-                    && seen < most
-                    && self.is_fresh(new)
-            }
-            Event::FullFound { by, .. } => {
-                self.live.contains(&by) && self.counted && self.count == most
-            }
-            Event::CountDown { by, seen, .. } | Event::UniquenessLoad { by, seen, .. } => {
-                self.live.contains(&by) && self.counted && self.count == seen
+            Event::FullFound { .. } => counted & (count == most),
+            Event::CountDown { seen, .. } | Event::UniquenessLoad { seen, .. } => {
+                counted & (count == seen)
             }
         }
     }
@@ -99,7 +82,7 @@ impl<A: Allocator> World<A> {
         ensures { OnOk result (machine_of self.new ≡ step most (machine_of self.old) event) }
     {
         if self.may_happen(most, event) {
-            self.change(most, event)?;
+            return self.change(most, event);
         }
         Ok(())
     }
@@ -110,29 +93,32 @@ impl<A: Allocator> World<A> {
         requires owned { self.old.count ≡ length self.old.live.items }
         ensures { OnOk result (machine_of self.new ≡ changed (machine_of self.old) event) }
     {
+        let by = event.by();
+        let entry = match event {
+            Event::Load { thread, .. } => return add_number(&mut self.ready, thread),
+            Event::ExchangeWon { new, .. } => Entry::Promote(by, new),
+            Event::ExchangeLost { .. } => Entry::Joined(by),
+            Event::CountUp { new, .. } => Entry::Up(by, new),
+            Event::FullFound { .. } => Entry::Full(by),
+            Event::CountDown { .. } => Entry::Down(by),
+            Event::UniquenessLoad { .. } => Entry::Alone(by, self.count == 1),
+        };
+        self.entries.push(entry)?;
         match event {
-            Event::Load { thread, .. } => add_number(&mut self.ready, thread)?,
-            Event::ExchangeWon { by, new, .. } => {
-                self.entries.push(Entry::Promote(by, new))?;
+            Event::ExchangeWon { new, .. } => {
                 self.live.push(new)?;
                 self.counted = true;
                 self.count = 2;
             }
-            Event::ExchangeLost { by, .. } => self.entries.push(Entry::Joined(by))?,
-            Event::CountUp { by, new, .. } => {
-                self.entries.push(Entry::Up(by, new))?;
+            Event::CountUp { new, .. } => {
                 self.live.push(new)?;
                 self.count += 1;
             }
-            Event::FullFound { by, .. } => self.entries.push(Entry::Full(by))?,
-            Event::CountDown { by, .. } => {
-                self.entries.push(Entry::Down(by))?;
+            Event::CountDown { .. } => {
                 remove_number(&mut self.live, by);
                 self.count -= 1;
             }
-            Event::UniquenessLoad { by, .. } => {
-                self.entries.push(Entry::Alone(by, self.count == 1))?;
-            }
+            _ => {}
         }
         Ok(())
     }
@@ -142,10 +128,10 @@ impl<A: Allocator> World<A> {
 fn add_number<A: Allocator>(numbers: &mut Vec<u64, A>, number: u64) -> Result<(), AllocError>
     ensures { OnOk result (numbers.new.items ≡ with_number number numbers.old.items) }
 {
-    if !numbers.contains(&number) {
-        numbers.push(number)?;
+    if numbers.contains(&number) {
+        return Ok(());
     }
-    Ok(())
+    numbers.push(number).or(Err(AllocError))
 }
 
 /// Takes a number from these.

@@ -34,12 +34,13 @@ impl<V: Drop, A: Allocator + Copy> Housed<V, A> {
     }
 }
 
-/// The memory that comes back to the last owner, with its allocator.
+/// The memory that comes back to the last owner, with its allocator, and that the word lies in it.
 #[derive(Drop)]
 struct KeptMemory<V: Drop, A: Allocator + Copy> {
     memory: LentValue<Inner<Housed<V, A>>, A>,
+    lodging: WordBorrow,
     alloc: A,
-    ghost home: { memory.kept.alloc ≡ alloc },
+    ghost home: { alloc ≡ memory.kept.alloc },
 }
 
 impl<V: Drop, A: Allocator + Copy> KeptMemory<V, A> {
@@ -48,7 +49,11 @@ impl<V: Drop, A: Allocator + Copy> KeptMemory<V, A> {
         requires { term.spoils.lease ≡ self.memory.kept.lease }
         ensures { result ≡ self.memory.kept.value.value.value }
     {
-        let KeptMemory { memory, alloc } = self;
+        let KeptMemory {
+            memory,
+            lodging: _,
+            alloc,
+        } = self;
         let Inner { word: _, value } = Box::into_inner(memory.take_back(alloc, term));
         value.value
     }
@@ -93,17 +98,10 @@ impl<V: Drop, A: Allocator + Copy, const MAX: u64, H: Mark> CountedBox<V, A, MAX
         ensures pass { IfOk result (λ r. IsFreshPass (owner_in r.0) r.1) }
         ensures refused { IfErr result (λ back. back ≡ value) }
     {
-        let (owners, share, pass) = Owners::<MAX, H>::new();
-        let Owners { word, mark: _ } = owners;
-        let value = Housed { value, alloc };
-        let memory = match Box::new(alloc, Inner { word, value }) {
-            Ok(memory) => memory,
-            Err(refused) => {
-                let Inner { word: _, value } = refused.value;
-                return Err(value.value);
-            }
-        };
-        Ok((CountedBox::settled(BoxParts::of(memory), share), pass))
+        match SoleBox::new(alloc, value) {
+            Ok((sole, pass)) => Ok((sole.lend(), pass)),
+            Err(value) => Err(value),
+        }
     }
 
     /// The owner of the value that lies in this memory, which is lent to it.
@@ -132,15 +130,7 @@ impl<V: Drop, A: Allocator + Copy, const MAX: u64, H: Mark> CountedBox<V, A, MAX
     pub fn get(&self) -> &V
         ensures { result.now ≡ value_of self.now }
     {
-        &self.housed().value
-    }
-
-    /// The value, with the allocator that its memory came from.
-    #[inline(always)]
-    fn housed(&self) -> &Housed<V, A>
-        ensures { result.now ≡ self.now.memory.borrow.value.value }
-    {
-        &self.memory.get(&self.share).value
+        &self.memory.get(&self.share).value.value
     }
 
     /// Whether no other owner lives, by one load. Adds Alone with the answer. Takes no memory.
@@ -163,17 +153,16 @@ impl<V: Drop, A: Allocator + Copy, const MAX: u64, H: Mark> CountedBox<V, A, MAX
         ensures back { IfErr result (λ piece. (owner_in piece ≡ owner_in self)
             × (value_of piece ≡ value_of self)) }
     {
-        let (share, lodging, kept) = self.parted();
+        let (share, kept) = self.parted();
         let word = Inner::word_place(kept.memory.at);
-        match unsafe { Owners::<MAX, H>::claim_raw(word, &lodging, share, pass) } {
+        match unsafe { Owners::<MAX, H>::claim_raw(word, &kept.lodging, share, pass) } {
             Ok((sole, term)) => {
-                let KeptMemory { memory, alloc } = kept;
-                let memory = memory.take_back(alloc, term);
+                let memory = kept.memory.take_back(kept.alloc, term);
                 Ok(SoleBox::settled(BoxParts::of(memory), sole))
             }
             Err(share) => Err(CountedBox {
                 memory: kept.memory,
-                lodging,
+                lodging: kept.lodging,
                 share,
             }),
         }
@@ -190,23 +179,31 @@ impl<V: Drop, A: Allocator + Copy, const MAX: u64, H: Mark> CountedBox<V, A, MAX
         ensures back { IfErr result (λ piece. (owner_in piece ≡ owner_in self)
             × (value_of piece ≡ value_of self)) }
     {
-        let sole = self.try_into_sole_as(pass)?;
-        Ok(sole.into_value_as(pass))
+        match self.try_into_sole_as(pass) {
+            Ok(sole) => Ok(sole.into_value_as(pass)),
+            Err(piece) => Err(piece),
+        }
     }
 
-    /// This owner's share, what says where the word lies, and what the last owner gets.
+    /// This owner's share, and what the last owner gets.
     #[inline(always)]
-    fn parted(self) -> (Share<H>, WordBorrow, KeptMemory<V, A>)
-        ensures { (result.0 ≡ self.share) × (result.1 ≡ self.lodging)
-            × (result.2.memory ≡ self.memory) }
+    fn parted(self) -> (Share<H>, KeptMemory<V, A>)
+        ensures parts { (result.0 ≡ self.share) × (result.1.lodging ≡ self.lodging)
+            × (result.1.memory ≡ self.memory) }
+        ensures owner { owner_of result.0 ≡ owner_in self }
     {
-        let alloc = self.housed().alloc;
+        let alloc = self.memory.get(&self.share).value.alloc;
         let CountedBox {
             memory,
             lodging,
             share,
         } = self;
-        (share, lodging, KeptMemory { memory, alloc })
+        let kept = KeptMemory {
+            memory,
+            lodging,
+            alloc,
+        };
+        (share, kept)
     }
 
     /// Ends this owner by one subtraction. Adds its Down. The last one gives the memory back, and
@@ -217,9 +214,9 @@ impl<V: Drop, A: Allocator + Copy, const MAX: u64, H: Mark> CountedBox<V, A, MAX
         ensures entry { Leaves (owner_in self) pass.old pass.new (is_some result) }
         ensures value { IfSome result (λ value. value ≡ value_of self) }
     {
-        let (share, lodging, kept) = self.parted();
+        let (share, kept) = self.parted();
         let word = Inner::word_place(kept.memory.at);
-        match unsafe { Owners::<MAX, H>::down_raw(word, &lodging, share, pass) } {
+        match unsafe { Owners::<MAX, H>::down_raw(word, &kept.lodging, share, pass) } {
             Release::Last(term) => Some(kept.take(term)),
             Release::NotLast => None,
         }
@@ -228,16 +225,15 @@ impl<V: Drop, A: Allocator + Copy, const MAX: u64, H: Mark> CountedBox<V, A, MAX
     /// What a drop does: under `Open` this owner ends with a new pass, and the last one gets the
     /// value; under `Whole` it is forgotten, without a step. Takes no memory. The pass is the one
     /// that the owner ended with; under `Whole` it is of no block.
-    #[tactic(auto, using(crate::proofs::count::Calls::ended_by_itself))]
     #[inline(always)]
     pub fn let_go(self) -> (Option<V>, Pass<H>)
         ensures value { IfSome result.0 (λ value. value ≡ value_of self) }
         ensures forgotten { H.whole ≡ true → (result.0 ≡ None) × IsPassOfNone result.1 }
         ensures ended { H.whole ≡ false → EndsByItself (owner_in self) result.1 (is_some result.0) }
     {
-        let (share, lodging, kept) = self.parted();
+        let (share, kept) = self.parted();
         let word = Inner::word_place(kept.memory.at);
-        let (last, spoils, trace) = unsafe { H::let_go(word, &lodging, share.right) };
+        let (last, spoils, trace) = unsafe { H::let_go(word, &kept.lodging, share.right) };
         let pass = Pass {
             trace,
             mark: PhantomData,
@@ -288,13 +284,14 @@ impl<V: Drop, A: Allocator + Copy, const MAX: u64, H: Mark> CountedBox<V, A, MAX
         ensures again { IfNone result (pass.new ≡ pass.old) }
     {
         let word = Inner::word_place(self.memory.at);
-        match unsafe { Owners::<MAX, H>::try_up_raw(word, &self.lodging, &self.share, pass)? } {
-            Ok(share) => Some(Ok(CountedBox {
+        match unsafe { Owners::<MAX, H>::try_up_raw(word, &self.lodging, &self.share, pass) } {
+            Some(Ok(share)) => Some(Ok(CountedBox {
                 memory: self.memory.again(),
                 lodging: self.lodging.again(),
                 share,
             })),
-            Err(e) => Some(Err(e)),
+            Some(Err(e)) => Some(Err(e)),
+            None => None,
         }
     }
 
@@ -346,7 +343,9 @@ impl<V: Drop, A: Allocator + Copy, const MAX: u64, H: Stepping> CountedBox<V, A,
 
 impl<V: Drop, A: Allocator + Copy, const MAX: u64, H: Mark> Drop for CountedBox<V, A, MAX, H> {
     fn drop(self) {
-        drop(self.let_go());
+        let (value, pass) = self.let_go();
+        drop(value);
+        drop(pass);
     }
 }
 

@@ -6,7 +6,6 @@ ghost use Rattle.std_alloc.specs.Box.Ownership.{box_owns};
 ghost use Rattle.arc_owners.specs.count.Invariant.{Lease, lease_coded, kept_for};
 
 use super::box_parts::BoxParts;
-use crate::count::tokens::LifetimeEnd;
 use crate::count::word::EndTokens;
 use std::alloc::Allocator;
 use std::marker::{Model, PhantomData};
@@ -40,21 +39,17 @@ impl<T, A: Allocator> Inheritance<T, A> {
         }
     }
 
-    /// What was kept, for the term of the lease.
+    /// What was kept, for what the term of the lease is made of, which is used up.
     ///
     /// # Safety
     ///
     /// It is kept at this place, with this allocator.
-    pub(crate) unsafe fn take(self, at: *mut T, alloc: A, term: LifetimeEnd) -> BoxParts<T, A>
-        requires { (at ≡ self.at) × (alloc ≡ self.alloc) × (term.spoils.lease ≡ self.lease) }
-        ensures { (result.value ≡ self.value) × (result.at ≡ at) × (result.alloc ≡ alloc) }
-    {
-        let mut spoils = term.spoils;
-        unsafe { self.take_by(at, alloc, &mut spoils) }
-    }
-
-    /// The same for what a term is made of, which is used up.
-    unsafe fn take_by(&self, at: *mut T, alloc: A, spoils: &mut EndTokens) -> BoxParts<T, A>
+    pub(crate) unsafe fn take_by(
+        &self,
+        at: *mut T,
+        alloc: A,
+        spoils: &mut EndTokens,
+    ) -> BoxParts<T, A>
         requires { (at ≡ self.now.at) × (alloc ≡ self.now.alloc) × (spoils.old.last ≡ true)
             × (spoils.old.lease ≡ self.now.lease) }
         ensures { (result.value ≡ self.now.value) × (result.at ≡ at) × (result.alloc ≡ alloc) }

@@ -70,7 +70,8 @@ impl<T: Drop, A: Allocator> LentValue<T, A> {
             borrow: _,
             kept,
         } = self;
-        unsafe { kept.take(at, alloc, end) }.into_box()
+        let mut spoils = end.spoils;
+        unsafe { kept.take_by(at, alloc, &mut spoils) }.into_box()
     }
 }
 

@@ -134,7 +134,6 @@ impl<V: Drop, A: Allocator + Copy, const MAX: u64, H: Mark> SoleBox<V, A, MAX, H
     /// What a drop does: under `Open` this owner ends with a new pass, and the value comes out;
     /// under `Whole` it is forgotten, with the value and the memory. Takes no memory. The pass is
     /// the one that the owner ended with; under `Whole` it is of no block.
-    #[tactic(auto, using(crate::proofs::count::Calls::ended_by_itself))]
     pub fn let_go(self) -> (Option<V>, Pass<H>)
         ensures value { IfSome result.0 (λ value. value ≡ sole_value self) }
         ensures forgotten { H.whole ≡ true → (result.0 ≡ None) × IsPassOfNone result.1 }
@@ -182,6 +181,8 @@ impl<V: Drop, A: Allocator + Copy, const MAX: u64, H: Stepping> SoleBox<V, A, MA
 
 impl<V: Drop, A: Allocator + Copy, const MAX: u64, H: Mark> Drop for SoleBox<V, A, MAX, H> {
     fn drop(self) {
-        drop(self.let_go());
+        let (value, pass) = self.let_go();
+        drop(value);
+        drop(pass);
     }
 }

@@ -1,12 +1,16 @@
 use Rattle.std.proofs.Common.{sym, ◌∙◌, refl}
 use Rattle.std.proofs.lemmas.Bool.{eq-eqb, ne_eqb}
 use Rattle.arc_owners.specs.declared.count.tokens.Pass.{Pass}
-use Rattle.arc_owners.proofs.count.Calls.{filled_step, raised_step, made_raised, not_raised}
+use Rattle.arc_owners.proofs.count.Calls.{filled_step, full_at, raised_step, made_raised, not_raised}
 use Rattle.arc_owners.proofs.count.counted.try_up.Goals as goal
 
 pub returns-then-old-most-clause-step : goal.returns-then-old-most-clause-step
 returns-then-old-most-clause-step g c = let e = c.if-old-most.true ∙ sym c.requires.most in let k = eq-eqb c.load_for_raise-old.result c.args.word.now.most e in
     filled_step c.args.word.now c.args.pass.now (record { trace = c.load_for_raise-old.new.pass; mark = c.args.pass.now.mark }) c.args.by.now.right _ k c.load_for_raise-old.ensures
+
+pub returns-then-old-most-clause-full : goal.returns-then-old-most-clause-full
+returns-then-old-most-clause-full g c = let e = c.if-old-most.true ∙ sym c.requires.most in let k = eq-eqb c.load_for_raise-old.result c.args.word.now.most e in
+    full_at c.args.word.now c.args.pass.now (record { trace = c.load_for_raise-old.new.pass; mark = c.args.pass.now.mark }) c.args.by.now.right _ k c.requires.share c.load_for_raise-old.ensures
 
 pub returns-then-found-old-clause-again : goal.returns-then-found-old-clause-again
 returns-then-found-old-clause-again g c =

@@ -16,3 +16,14 @@ returns g c =
       ),
       record { writes_back = tt; value = c.value_mut-2.ensures.value ∙ ap (λ x. x.value) housed },
     )
+
+pub invariant_of-self-lent : goal.invariant_of-self-lent
+invariant_of-self-lent g c w =
+    let box = c.args.self.now in let inner = c.get_mut-inner.ensures.value in
+    let housed = c.value_mut.ensures.value ∙ ap (λ i. i.value) inner in (
+      ap (λ i. i.word.most) inner ∙ box.greatest,
+      (
+        box.counted ∙ sym (ap (λ i. i.word) inner),
+        (box.homed ∙ sym (ap (λ h. h.alloc) housed), tt),
+      ),
+    )
