@@ -86,7 +86,7 @@ operands_are (sort ∷ sorts) (word ∷ words) os e =
     let others = then_some (operands_of sorts words) (λ others. Some (first.0 ∷ others)) os behind in
     let front = operand_is sort word first.0 first.1 in
     let rest = operands_are sorts words others.0 others.1 in
-    subst (AllStand (sort ∷ sorts) (word ∷ words)) (same_Some _ _ others.2) (record { fit = cc (front.fits, rest.fit); are = cc (front.are, rest.are); writable = (front.writable, rest.writable) })
+    subst (AllStand (sort ∷ sorts) (word ∷ words)) (same_Some _ _ others.2) (record { fit = ap (λ (x : Sort). x ∷ sorts) front.fits ∙ ap (λ (xs : List Sort). sort_of first.0 ∷ xs) rest.fit; are = ap (λ (x : List ℕ). x ∷ words) front.are ∙ ap (λ (xs : List (List ℕ)). operand_word first.0 ∷ xs) rest.are; writable = (front.writable, rest.writable) })
 
 operands_again : (os : List Operand) → AllByRecursion IsWritable os → operands_of (map sort_of os) (map operand_word os) ≡ Some os
 unfolding operands_of

@@ -11,6 +11,7 @@ ghost use Rattle.arc_commands.specs.declared.command.Cmd.{Cmd};
 ghost use Rattle.arc_forms.specs.Reading.{ANumber, SomeItems, BringsItems, command_of, first_by};
 ghost use Rattle.arc_forms.specs.Reading.{is_hex_digit, is_space, items_of, number_of, operand_of};
 ghost use Rattle.arc_forms.specs.Reading.{operands_of, pairs, words_in, lines, named, read_behind};
+ghost use Rattle.arc_forms.specs.Reading.{number_form, numbers_form};
 ghost use Rattle.arc_forms.specs.Reading.{AByte, byte_of, read_as};
 ghost use Rattle.arc_forms.specs.Reading.{words_of_line};
 
@@ -176,8 +177,13 @@ fn number(rest: Rest) -> Option<(usize, Rest)>
     ensures { option_map (λ x. (Number x.0, words_in x.1)) result
         ≡ first_by (operand_of ANumber) (words_in rest.entry) }
 {
-    let (word, rest) = word(rest?);
-    let number = number_in(word)?;
+    let Some(line) = rest else {
+        return None;
+    };
+    let (word, rest) = word(line);
+    let Some(number) = number_in(word) else {
+        return None;
+    };
     Some((number, rest))
 }
 
@@ -199,7 +205,10 @@ fn one_number(rest: Rest) -> Option<usize>
         ≡ operands_of (ANumber ∷ []) (words_in rest.entry) }
 {
     // What is left is read as it is: a number has no space, so another word behind it is refused.
-    number_in(rest?)
+    match rest {
+        Some(line) => number_in(line),
+        None => None,
+    }
 }
 
 /// The two numbers that are left.
@@ -208,8 +217,12 @@ fn two_numbers(rest: Rest) -> Option<(usize, usize)>
     ensures { option_map (λ x. Number x.0 ∷ Number x.1 ∷ []) result
         ≡ operands_of (ANumber ∷ ANumber ∷ []) (words_in rest.entry) }
 {
-    let (first, rest) = number(rest)?;
-    let second = one_number(rest)?;
+    let Some((first, rest)) = number(rest) else {
+        return None;
+    };
+    let Some(second) = one_number(rest) else {
+        return None;
+    };
     Some((first, second))
 }
 
@@ -263,7 +276,10 @@ fn one_byte(rest: Rest) -> Option<u8>
     ensures { option_map (λ x. Byte x ∷ []) result
         ≡ operands_of (AByte ∷ []) (words_in rest.entry) }
 {
-    byte_in(rest?)
+    match rest {
+        Some(line) => byte_in(line),
+        None => None,
+    }
 }
 
 /// The digits of the items that a word says.
@@ -298,7 +314,10 @@ fn one_hex(rest: Rest) -> Option<Hex>
     ensures { option_map (λ hex. Items (pairs hex.digits.now) ∷ []) result
         ≡ operands_of (SomeItems ∷ []) (words_in rest.entry) }
 {
-    digits_in(rest?)
+    match rest {
+        Some(line) => digits_in(line),
+        None => None,
+    }
 }
 
 /// The form whose first word this is, in such a table.
@@ -318,7 +337,9 @@ fn verb_of(line: &[u8]) -> Option<(Verb, Rest)>
     ensures { read_behind result ≡ command_of (words_of_line line.now) }
 {
     let (word, rest) = word(line);
-    let verb = verb_in(VERBS, word)?;
+    let Some(verb) = verb_in(VERBS, word) else {
+        return None;
+    };
     Some((verb, rest))
 }
 
@@ -328,10 +349,32 @@ fn with_nothing<A: Allocator>(verb: Bare, rest: Rest) -> Option<Command<A>>
     ensures { option_map seen_command result
         ≡ read_as (words_in rest.entry) (Verb.Bare verb) }
 {
-    nothing(rest)?;
+    let Some(()) = nothing(rest) else {
+        return None;
+    };
     match verb {
         Bare::New => Some(Cmd::New),
         Bare::Static => Some(Cmd::Static(StaticSlice::new(STATIC_BYTES))),
+    }
+}
+
+/// The command that a form of one number makes of it.
+fn number_command<A: Allocator>(verb: OneNumber, number: usize) -> Command<A>
+    ensures { seen_command result ≡ (number_form verb).1 number }
+{
+    let window = number;
+    match verb {
+        OneNumber::Cap => Cmd::Cap { places: number },
+        OneNumber::Zero => Cmd::Zero { count: number },
+        OneNumber::Clone => Cmd::Clone { window },
+        OneNumber::Uniq => Cmd::Uniq { window },
+        OneNumber::Show => Cmd::Show { window },
+        OneNumber::Len => Cmd::Len { window },
+        OneNumber::Room => Cmd::Room { window },
+        OneNumber::Freeze => Cmd::Freeze { window },
+        OneNumber::Mut => Cmd::Mut { window },
+        OneNumber::Drop => Cmd::Drop { window },
+        OneNumber::TakeStatic => Cmd::TakeStatic { window },
     }
 }
 
@@ -341,19 +384,32 @@ fn with_number<A: Allocator>(verb: OneNumber, rest: Rest) -> Option<Command<A>>
     ensures { option_map seen_command result
         ≡ read_as (words_in rest.entry) (Verb.Number verb) }
 {
-    let window = one_number(rest)?;
+    match one_number(rest) {
+        Some(number) => Some(number_command(verb, number)),
+        None => None,
+    }
+}
+
+/// The command that a form of two numbers makes of them.
+fn numbers_command<A: Allocator>(verb: TwoNumbers, window: usize, number: usize) -> Command<A>
+    ensures { seen_command result ≡ (numbers_form verb).1 window number }
+{
     match verb {
-        OneNumber::Cap => Some(Cmd::Cap { places: window }),
-        OneNumber::Zero => Some(Cmd::Zero { count: window }),
-        OneNumber::Clone => Some(Cmd::Clone { window }),
-        OneNumber::Uniq => Some(Cmd::Uniq { window }),
-        OneNumber::Show => Some(Cmd::Show { window }),
-        OneNumber::Len => Some(Cmd::Len { window }),
-        OneNumber::Room => Some(Cmd::Room { window }),
-        OneNumber::Freeze => Some(Cmd::Freeze { window }),
-        OneNumber::Mut => Some(Cmd::Mut { window }),
-        OneNumber::Drop => Some(Cmd::Drop { window }),
-        OneNumber::TakeStatic => Some(Cmd::TakeStatic { window }),
+        TwoNumbers::Off => Cmd::Off { window, at: number },
+        TwoNumbers::To => Cmd::To { window, at: number },
+        TwoNumbers::Res => Cmd::Res {
+            window,
+            additional: number,
+        },
+        TwoNumbers::Rec => Cmd::Rec {
+            window,
+            additional: number,
+        },
+        TwoNumbers::Adv => Cmd::Adv { window, by: number },
+        TwoNumbers::Trunc => Cmd::Trunc {
+            window,
+            len: number,
+        },
     }
 }
 
@@ -363,23 +419,9 @@ fn with_numbers<A: Allocator>(verb: TwoNumbers, rest: Rest) -> Option<Command<A>
     ensures { option_map seen_command result
         ≡ read_as (words_in rest.entry) (Verb.Numbers verb) }
 {
-    let (window, number) = two_numbers(rest)?;
-    match verb {
-        TwoNumbers::Off => Some(Cmd::Off { window, at: number }),
-        TwoNumbers::To => Some(Cmd::To { window, at: number }),
-        TwoNumbers::Res => Some(Cmd::Res {
-            window,
-            additional: number,
-        }),
-        TwoNumbers::Rec => Some(Cmd::Rec {
-            window,
-            additional: number,
-        }),
-        TwoNumbers::Adv => Some(Cmd::Adv { window, by: number }),
-        TwoNumbers::Trunc => Some(Cmd::Trunc {
-            window,
-            len: number,
-        }),
+    match two_numbers(rest) {
+        Some((window, number)) => Some(numbers_command(verb, window, number)),
+        None => None,
     }
 }
 
@@ -388,8 +430,12 @@ fn with_numbers<A: Allocator>(verb: TwoNumbers, rest: Rest) -> Option<Command<A>
 fn sub<A: Allocator>(rest: Rest) -> Option<Command<A>>
     ensures { option_map seen_command result ≡ read_as (words_in rest.entry) Verb.Sub }
 {
-    let (window, rest) = number(rest)?;
-    let (start, end) = two_numbers(rest)?;
+    let Some((window, rest)) = number(rest) else {
+        return None;
+    };
+    let Some((start, end)) = two_numbers(rest) else {
+        return None;
+    };
     Some(Cmd::Sub { window, start, end })
 }
 
@@ -398,8 +444,12 @@ fn sub<A: Allocator>(rest: Rest) -> Option<Command<A>>
 fn push<A: Allocator>(rest: Rest) -> Option<Command<A>>
     ensures { option_map seen_command result ≡ read_as (words_in rest.entry) Verb.Push }
 {
-    let (window, rest) = number(rest)?;
-    let item = one_byte(rest)?;
+    let Some((window, rest)) = number(rest) else {
+        return None;
+    };
+    let Some(item) = one_byte(rest) else {
+        return None;
+    };
     Some(Cmd::Push { window, item })
 }
 

@@ -63,8 +63,10 @@ fn push_words<A: Allocator>(out: &mut Vec<u8, A>, words: &[u8]) -> Result<(), Al
     ensures ok { OnOk result (out.new.items ≡ out.old.items ++ words.now) }
     ensures err { OnErr result (Extends out.old.items out.new.items) }
 {
-    out.extend_from_slice(words)?;
-    Ok(())
+    match out.extend_from_slice(words) {
+        Ok(()) => Ok(()),
+        Err(error) => Err(error.into()),
+    }
 }
 
 /// Appends a number in decimal.
@@ -80,8 +82,10 @@ fn push_window<A: Allocator>(out: &mut Vec<u8, A>, number: usize) -> Result<(), 
     ensures ok { OnOk result (out.new.items ≡ out.old.items ++ codes "h" ++ decimal number) }
     ensures err { OnErr result (Extends out.old.items out.new.items) }
 {
-    push_words(out, b"h")?;
-    push_number(out, number)
+    match push_words(out, b"h") {
+        Ok(()) => push_number(out, number),
+        Err(error) => Err(error),
+    }
 }
 
 /// Writes two hex digits an item.
@@ -170,8 +174,10 @@ fn push_line<A: Allocator, X: AsSlice<u8>>(
     ensures ok { OnOk result (out.new.items ≡ out.old.items ++ answer_line X.items answer.now) }
     ensures err { OnErr result (Extends out.old.items out.new.items) }
 {
-    push_text(out, answer)?;
-    push_words(out, b"\n")
+    match push_text(out, answer) {
+        Ok(()) => push_words(out, b"\n"),
+        Err(error) => Err(error),
+    }
 }
 
 /// Appends what a line is answered, with its line feed: the text of the reply, or `bad line` for
