@@ -11,7 +11,10 @@ use Rattle.std.proofs.lemmas.Option.{none-some, same_Some}
 use Rattle.arc_commands.specs.declared.command.Cmd.{Cmd}
 use Rattle.arc_commands.specs.declared.command.Cmd.TheVariants as command
 use Rattle.arc_forms.specs.Text.{space, longest_line, words_of, form, Operand, Number, Byte, Items, operand_word, IsWritable, IsSayable, Says, IsBad}
-use Rattle.arc_forms.specs.Reading.{◌>>=◌, is_space, words_of_line, Sort, ANumber, AByte, SomeItems, number_of, byte_of, items_of, operand_of, operands_of, Value, Makes, made, spells_from, spells, Form, forms, read_by, command_of, BringsItems}
+use Rattle.arc_forms.specs.Reading.{◌>>=◌, is_space, words_of_line, Sort, ANumber, AByte, SomeItems, number_of, byte_of, items_of, operand_of, operands_of, Value, Makes, made, reads, verbs, named, read_form, read_as, command_of, BringsItems}
+use Rattle.arc_forms.specs.declared.parse.Verb.{Verb}
+use Rattle.std.specs.Str.{bytes_eq}
+use Rattle.std.proofs.lemmas.Slice.Eq.{bytes_eq-Decides}
 use Rattle.arc_forms.proofs.Words.{number_is, number_again, byte_is, byte_again, items_is, items_again, items_fit, items_are_bytes, NoSpace, no_space_text, no_space_number, no_space_byte, no_space_items, words-join}
 
 -- what holds whatever is answered
@@ -83,7 +86,7 @@ operands_are (sort ∷ sorts) (word ∷ words) os e =
     let others = then_some (operands_of sorts words) (λ others. Some (first.0 ∷ others)) os behind in
     let front = operand_is sort word first.0 first.1 in
     let rest = operands_are sorts words others.0 others.1 in
-    subst (AllStand (sort ∷ sorts) (word ∷ words)) (same_Some _ _ others.2) (record { fit = cc (front.fits, rest.fit); are = cc (front.are, rest.are); writable = (front.writable, rest.writable) })
+    subst (AllStand (sort ∷ sorts) (word ∷ words)) (same_Some _ _ others.2) (record { fit = ap (λ (x : Sort). x ∷ sorts) front.fits ∙ ap (λ (xs : List Sort). sort_of first.0 ∷ xs) rest.fit; are = ap (λ (x : List ℕ). x ∷ words) front.are ∙ ap (λ (xs : List (List ℕ)). operand_word first.0 ∷ xs) rest.are; writable = (front.writable, rest.writable) })
 
 operands_again : (os : List Operand) → AllByRecursion IsWritable os → operands_of (map sort_of os) (map operand_word os) ≡ Some os
 unfolding operands_of
@@ -135,9 +138,6 @@ word_is_left line = at (words_of_line line) _ (length-slice_split is_space line)
 
 -- ---- the forms by their first words
 
-pub last_items : (line xs : List ℕ) → items_of line ≡ Some xs → operands_of (SomeItems ∷ []) (words_of_line line) ≡ Some (Items xs ∷ [])
-last_items line xs e = last_operand SomeItems line ∙ ap (λ (read : Option (List ℕ)). option_map (λ o. o ∷ []) (option_map Items read)) e
-
 abbrev pub operand : (sort : Sort) → Value sort → Operand
 operand ANumber n = Number n
 operand AByte x = Byte x
@@ -148,20 +148,19 @@ abbrev pub IsWritten : List ℕ → List Operand → (sorts : List Sort) → Mak
 IsWritten word before [] make = (form make ≡ (word, before)) × IsSayable make
 IsWritten word before (sort ∷ sorts) make = (x : Value sort) → IsWritten word (before ++ operand sort x ∷ []) sorts (make x)
 
-abbrev pub found : List ℕ → List Form → Option Form
-found verb [] = None
-found verb (f ∷ fs) = cond (spells verb f.word) (Some f) (found verb fs)
+-- a line of the table is written as it is read
+abbrev pub LineWritten : List ℕ × Verb → Type 0
+LineWritten line = IsWritten line.0 [] (reads line.1).sorts (reads line.1).make
 
--- each form of the table is written as it is read
-all_written : AllByRecursion (λ f. IsWritten f.word [] f.sorts f.make) forms
+all_written : AllByRecursion LineWritten verbs
 all_written = search depth 200
 
-written_found : (verb : List ℕ) (fs : List Form) (f : Form) → AllByRecursion (λ g. IsWritten g.word [] g.sorts g.make) fs → found verb fs ≡ Some f → IsWritten f.word [] f.sorts f.make
-written_found verb [] f all e = absurd (none-some f e)
-written_found verb (g ∷ fs) f all e =
-    elim (cases_Bool (spells verb g.word)) [
-      | inl is ↦ subst (λ (h : Form). IsWritten h.word [] h.sorts h.make) (same_Some g f (sym (cond-true _ (Some g) (found verb fs) is) ∙ e)) all.0
-      | inr other ↦ written_found verb fs f all.1 (sym (cond-false _ (Some g) (found verb fs) other) ∙ e)
+named_written : (word : List ℕ) (table : List (List ℕ × Verb)) (v : Verb) → AllByRecursion LineWritten table → named word table ≡ Some v → LineWritten (word, v)
+named_written word [] v all e = absurd (none-some v e)
+named_written word (line ∷ table) v all e =
+    elim (cases_Bool (bytes_eq line.0 word)) [
+      | inl is ↦ subst (λ (l : List ℕ × Verb). LineWritten l) (cc ((bytes_eq-Decides line.0 word).0 is, same_Some line.1 v (sym (cond-true _ (Some line.1) (named word table) is) ∙ e))) all.0
+      | inr other ↦ named_written word table v all.1 (sym (cond-false _ (Some line.1) (named word table) other) ∙ e)
     ]
 
 made_written : (word : List ℕ) (before : List Operand) (sorts : List Sort) (make : Makes sorts) (os : List Operand) (c : Cmd (List ℕ) (List ℕ) ℕ)
@@ -174,30 +173,8 @@ made_written word before (AByte ∷ sorts) make (Byte x ∷ os) c written e = le
 made_written word before (SomeItems ∷ sorts) make (Items xs ∷ os) c written e = let is = made_written word (before ++ Items xs ∷ []) sorts (make xs) os c (written xs) e in (is.0 ∙ ap (λ (all : List Operand). (word, all)) (append_assoc before (Items xs ∷ []) os), is.1)
 made_written word before (sort ∷ sorts) make (other ∷ os) c written e = absurd (none-some c e)
 
-spelled_from : (word : List ℕ) (k : ℕ) (name : List ℕ) → length word ≡ k + length name → spells_from word k name ≡ true → drop k word ≡ name
-spelled_from word k [] len all = drop_all k word (omega arith)
-spelled_from word k (byte ∷ bytes) len all =
-    let both = and_parts (eqb (get_or word k 0) byte) (spells_from word (k + 1) bytes) all in
-    let below : k < length word = omega arith in
-    let more : length word ≡ k + 1 + length bytes = omega arith in
-    drop-cons word k 0 below ∙ rw (← add-one) (rw (spelled_from word (k + 1) bytes more both.1, eqb-true (get_or word k 0) byte both.0) refl)
-
-spelled : (word name : List ℕ) → spells word name ≡ true → word ≡ name
-spelled word name e =
-    let both = and_parts (eqb (length word) (length name)) (spells_from word 0 name) e in
-    let same : length word ≡ length name = eqb-true (length word) (length name) both.0 in
-    spelled_from word 0 name (omega arith) both.1
-
-found_word : (verb : List ℕ) (fs : List Form) (f : Form) → found verb fs ≡ Some f → verb ≡ f.word
-found_word verb [] f e = absurd (none-some f e)
-found_word verb (g ∷ fs) f e =
-    elim (cases_Bool (spells verb g.word)) [
-      | inl is ↦ spelled verb g.word is ∙ ap (λ (h : Form). h.word) (same_Some g f (sym (cond-true _ (Some g) (found verb fs) is) ∙ e))
-      | inr is ↦ found_word verb fs f (sym (cond-false _ (Some g) (found verb fs) is) ∙ e)
-    ]
-
 abbrev pub sorts_of : List ℕ → Option (List Sort)
-sorts_of verb = option_map (λ (f : Form). f.sorts) (found verb forms)
+sorts_of word = option_map (λ v. (reads v).sorts) (named word verbs)
 
 -- each command's form is in the table
 sorts_again : (c : Cmd (List ℕ) (List ℕ) ℕ) → sorts_of (form c).0 ≡ Some (map sort_of (form c).1)
@@ -206,7 +183,7 @@ sorts_again (command.MSlice xs) = refl
 sorts_again (command.Ext i xs) = refl
 sorts_again other = refl
 
-made_again : (c : Cmd (List ℕ) (List ℕ) ℕ) → IsSayable c → (found (form c).0 forms >>= λ f. made f.sorts f.make (form c).1) ≡ Some c
+made_again : (c : Cmd (List ℕ) (List ℕ) ℕ) → IsSayable c → (named (form c).0 verbs >>= λ v. made (reads v).sorts (reads v).make (form c).1) ≡ Some c
 made_again (command.Slice xs) sayable = refl
 made_again (command.MSlice xs) sayable = refl
 made_again (command.Ext i xs) sayable = refl
@@ -218,14 +195,6 @@ no_space_form (command.Slice xs) = refl
 no_space_form (command.MSlice xs) = refl
 no_space_form (command.Ext i xs) = refl
 no_space_form other = refl
-
-read_found : (verb : List ℕ) (words : List (List ℕ)) (fs : List Form) → read_by verb words fs ≡ (found verb fs >>= λ f. operands_of f.sorts words >>= λ os. made f.sorts f.make os)
-read_found verb words [] = refl
-read_found verb words (f ∷ fs) =
-    elim (cases_Bool (spells verb f.word)) [
-      | inl is ↦ rw is refl
-      | inr other ↦ rw other (read_found verb words fs)
-    ]
 
 -- ---- the command that words say
 
@@ -239,45 +208,35 @@ pub record SaidBy (words : List (List ℕ)) (c : Cmd (List ℕ) (List ℕ) ℕ) 
 pub command_said : (words : List (List ℕ)) (c : Cmd (List ℕ) (List ℕ) ℕ) → command_of words ≡ Some c → SaidBy words c
 unfolding command_of
 command_said [] c e = absurd (none-some c e)
-command_said (verb ∷ words) c e =
-    let one = then_some (found verb forms) (λ f. operands_of f.sorts words >>= λ os. made f.sorts f.make os) c (sym (read_found verb words forms) ∙ e) in
-    let f : Form = one.0 in
-    let read = then_some (operands_of f.sorts words) (λ os. made f.sorts f.make os) c one.2 in
-    let stand = operands_are f.sorts words read.0 read.1 in
-    let written = made_written f.word [] f.sorts f.make read.0 c (written_found verb forms f all_written one.1) read.2 in
-    let is : form c ≡ (f.word, read.0) = written.0 in
-    let word : verb ≡ f.word = found_word verb forms f one.1 in
-    record { sayable = written.1; writable = subst (λ (all : List ℕ × List Operand). AllByRecursion IsWritable all.1) (sym is) stand.writable; are = cc (is, word, stand.are) }
+command_said (word ∷ words) c e =
+    let one = then_some (named word verbs) (λ v. read_form words (reads v)) c e in
+    let v : Verb = one.0 in
+    let read = then_some (operands_of (reads v).sorts words) (λ os. made (reads v).sorts (reads v).make os) c one.2 in
+    let stand = operands_are (reads v).sorts words read.0 read.1 in
+    let written = made_written word [] (reads v).sorts (reads v).make read.0 c (named_written word verbs v all_written one.1) read.2 in
+    let is : form c ≡ (word, read.0) = written.0 in
+    record { sayable = written.1; writable = subst (λ (all : List ℕ × List Operand). AllByRecursion IsWritable all.1) (sym is) stand.writable; are = rw is (ap (λ (ws : List (List ℕ)). word ∷ ws) stand.are) }
 
 -- a command that can be written is read from its words again
 pub command_again : (c : Cmd (List ℕ) (List ℕ) ℕ) → IsSayable c → AllByRecursion IsWritable (form c).1 → command_of (words_of c) ≡ Some c
 unfolding command_of
-command_again c sayable writable = read_found (form c).0 (map operand_word (form c).1) forms ∙ at (found (form c).0 forms) (sorts_again c) (made_again c sayable)
+command_again c sayable writable = at (named (form c).0 verbs) (sorts_again c) (made_again c sayable)
   where
-    at : (o : Option Form) → option_map (λ (f : Form). f.sorts) o ≡ Some (map sort_of (form c).1) → (o >>= λ f. made f.sorts f.make (form c).1) ≡ Some c
-        → (o >>= λ f. operands_of f.sorts (map operand_word (form c).1) >>= λ os. made f.sorts f.make os) ≡ Some c
+    at : (o : Option Verb) → option_map (λ v. (reads v).sorts) o ≡ Some (map sort_of (form c).1) → (o >>= λ v. made (reads v).sorts (reads v).make (form c).1) ≡ Some c
+        → (o >>= λ v. read_form (map operand_word (form c).1) (reads v)) ≡ Some c
     at None sorts make = absurd (none-some _ sorts)
-    at (Some f) sorts make =
-        let read : operands_of f.sorts (map operand_word (form c).1) ≡ Some (form c).1 = rw (same_Some _ _ sorts) (operands_again (form c).1 writable) in
+    at (Some v) sorts make =
+        let read : operands_of (reads v).sorts (map operand_word (form c).1) ≡ Some (form c).1 = rw (same_Some _ _ sorts) (operands_again (form c).1 writable) in
         rw read make
 
--- a first word that is the word of none of these forms
-pub no_form : (verb : List ℕ) (rest : List (List ℕ)) (fs : List Form) → AllByRecursion (λ f. verb ≢ f.word) fs → read_by verb rest fs ≡ None
-no_form verb rest [] others = refl
-no_form verb rest (f ∷ fs) others = elim (cases_Bool (spells verb f.word)) [
-  | inl is ↦ absurd (others.0 (spelled verb f.word is))
-  | inr other ↦ rw other (no_form verb rest fs others.1)
-]
+-- what a first word and the words behind it say, by the form whose first word it is
+pub verb_read : (words : List (List ℕ)) (word : List ℕ) (behind : List (List ℕ)) (v : Verb) → words ≡ word ∷ behind → named word verbs ≡ Some v → read_as behind v ≡ command_of words
+unfolding command_of read_as
+verb_read words word behind v are is = rw (are, is) refl
 
--- such a word is read by the forms behind them
-pub none_of : (verb : List ℕ) (rest : List (List ℕ)) (fs gs : List Form)
-    → AllByRecursion (λ f. verb ≢ f.word) fs
-    → read_by verb rest (fs ++ gs) ≡ read_by verb rest gs
-none_of verb rest [] gs others = refl
-none_of verb rest (f ∷ fs) gs others = elim (cases_Bool (spells verb f.word)) [
-  | inl is ↦ absurd (others.0 (spelled verb f.word is))
-  | inr other ↦ rw other (none_of verb rest fs gs others.1)
-]
+pub no_verb : (words : List (List ℕ)) (word : List ℕ) (behind : List (List ℕ)) → words ≡ word ∷ behind → named word verbs ≡ None → None ≡ command_of words
+unfolding command_of
+no_verb words word behind are is = rw (are, is) refl
 
 -- ---- lines
 

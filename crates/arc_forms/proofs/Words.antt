@@ -1,5 +1,5 @@
 -- Words: what they say, and how they stand in a line.
-use Rattle.std.proofs.Common.{◌≡◌, ◌≢◌, ℕ, zero, suc, ◌+◌, ◌*◌, ◌/◌, ◌%◌, ◌^◌, ◌<◌, ◌≤◌, ◌&&◌, Bool, true, false, not, List, [], ◌∷◌, length, get_or, take, drop, cond, ltb, ◌-◌, Option, Some, None, ◌⊎◌, inl, inr, refl, sym, ap, subst, ◌∙◌, arith}
+use Rattle.std.proofs.Common.{append_assoc, ◌++◌, IsTrue, ◌≡◌, ◌≢◌, ℕ, zero, suc, ◌+◌, ◌*◌, ◌/◌, ◌%◌, ◌^◌, ◌<◌, ◌≤◌, ◌&&◌, Bool, true, false, not, List, [], ◌∷◌, length, get_or, take, drop, cond, ltb, ◌-◌, Option, Some, None, ◌⊎◌, inl, inr, refl, sym, ap, subst, ◌∙◌, arith}
 use Rattle.std.specs.Prelude.{decimal, codes, unwrap_or}
 use Rattle.std.specs.Int.{IsInRange}
 use Rattle.std.specs.Bool.{Decides}
@@ -10,7 +10,7 @@ use Rattle.std.specs.Str.Parse.{digits_value, AllDigits}
 use Rattle.std.proofs.lemmas.Bool.{and_parts, and_from, lt-ltb, ltb-true, cases_Bool, cases_lt, le-ltb, cond-false, ne_eqb, not-true}
 use Rattle.std.proofs.lemmas.Bool.Decides.{nat_tests}
 use Rattle.std.proofs.lemmas.Fmt.{decimal_is_IsNumeral, digits_decimal, decimal-digits_value, length-decimal-le, first_decimal, decimal_nonempty, decimal_digit}
-use Rattle.std.proofs.lemmas.List.{length-take}
+use Rattle.std.proofs.lemmas.List.{length-take, take_rest}
 use Rattle.std.proofs.lemmas.List.Elements.{All-nil, All-cons, All-from_get_or}
 use Rattle.std.proofs.lemmas.List.Splits.{slice_split_none, slice_split_at, slice_split_first}
 use Rattle.std.proofs.lemmas.List.Sums.{fails_before_first, prefix_len-le-length}
@@ -284,3 +284,31 @@ first_within line = prefix_len-le-length (λ byte. not (is_space byte)) line
 
 pub digit_tested : (byte : ℕ) (b : Bool) → b ≡ is_ascii_digit byte → Decides b (IsInRange 48 57 byte)
 digit_tested byte b is = (λ e. grind (arith, nat_tests), λ range. grind (arith, nat_tests))
+
+-- ---- two digits of several
+
+-- what stands behind two digits
+abbrev pub behind_two : List ℕ → List ℕ
+behind_two rest = take (length rest - 2) (drop 2 rest)
+
+-- digits, of which two stand in front
+pub record TwoDigits (rest : List ℕ) : Type 0 where
+  pub high : IsTrue (is_hex_digit (get_or rest 0 0))
+  pub low : IsTrue (is_hex_digit (get_or rest 1 0))
+  pub behind : IsTrue (list_all is_hex_digit (behind_two rest))
+  pub short : length (behind_two rest) + 2 ≡ length rest
+  pub item : pairs rest ≡ (16 * digit_value (get_or rest 0 0) + digit_value (get_or rest 1 0)) ∷ pairs (behind_two rest)
+
+pub two_digits : (rest : List ℕ) → 2 ≤ length rest → IsTrue (list_all is_hex_digit rest) → TwoDigits rest
+two_digits [] two all = absurd (omega (arith, two))
+two_digits (x ∷ []) two all = absurd (omega (arith, two))
+two_digits (x ∷ y ∷ zs) two all =
+    let first = and_parts (is_hex_digit x) (is_hex_digit y && list_all is_hex_digit zs) all in
+    let second = and_parts (is_hex_digit y) (list_all is_hex_digit zs) first.1 in
+    let same : behind_two (x ∷ y ∷ zs) ≡ zs = take_rest (x ∷ y ∷ zs) 2 in
+    record { high = first.0; low = second.0; behind = rw same second.1; short = rw same (omega arith); item = rw same refl }
+
+-- an item more, of these two digits
+pub one_item_more : (items new rest whole : List ℕ) (high low : ℕ) → TwoDigits rest → items ++ pairs rest ≡ whole
+    → high ≡ digit_value (get_or rest 0 0) → low ≡ digit_value (get_or rest 1 0) → new ≡ items ++ (16 * high + low) ∷ [] → new ++ pairs (behind_two rest) ≡ whole
+one_item_more items new rest whole high low two made of_high of_low is = rw (is, append_assoc, of_high, of_low, ← two.item) made

@@ -1,7 +1,7 @@
 -- Reading a line: its words, and the command that they say.
 use Rattle.std.specs.Prelude.{ℕ, ◌+◌, ◌*◌, ◌^◌, Bool, ◌==◌, ◌&&◌, ◌||◌, nat_lt, if◌then◌else◌}
 use Rattle.std.specs.Prelude.{◌++◌, List, [], ◌∷◌, Option, Some, None}
-use Rattle.std.specs.Prelude.{decimal, codes, nat_eq, length, get_or, true, false, IsTrue}
+use Rattle.std.specs.Prelude.{decimal, codes, map, true, false, IsTrue}
 use Rattle.std.specs.Borrow.{Bor}
 use Rattle.std.specs.Char.{digit_value}
 use Rattle.std.specs.Int.{is_in_range}
@@ -13,6 +13,16 @@ use Rattle.arc_forms.specs.Text.{space, items_word, static_bytes, form}
 use Rattle.arc_forms.specs.Text.{Operand, Number, Byte, Items}
 use Rattle.arc_commands.specs.declared.command.Cmd.{Cmd}
 use Rattle.arc_commands.specs.declared.command.Cmd.TheVariants as command
+use Rattle.arc_forms.specs.declared.parse.Verb.{Verb}
+use Rattle.arc_forms.specs.declared.parse.Verb.TheVariants as verb
+use Rattle.arc_forms.specs.declared.parse.Bare.{Bare}
+use Rattle.arc_forms.specs.declared.parse.Bare.TheVariants as bare
+use Rattle.arc_forms.specs.declared.parse.OneNumber.{OneNumber}
+use Rattle.arc_forms.specs.declared.parse.OneNumber.TheVariants as one
+use Rattle.arc_forms.specs.declared.parse.TwoNumbers.{TwoNumbers}
+use Rattle.arc_forms.specs.declared.parse.TwoNumbers.TheVariants as two
+use Rattle.arc_forms.specs.declared.parse.JustItems.{JustItems}
+use Rattle.arc_forms.specs.declared.parse.JustItems.TheVariants as items
 
 infixl 10 ◌>>=◌
 abbrev pub ◌>>=◌ : {A B : Type 0} → Option A → (A → Option B) → Option B
@@ -111,85 +121,111 @@ pub record Form : Type 0 where
   pub sorts : List Sort
   pub make : Makes sorts
 
-abbrev pub entry : (word : List ℕ) (sorts : List Sort) → Makes sorts → Form
-entry word sorts make = record { word = word; sorts = sorts; make = make }
+-- The table of forms from the reader's side, a line each, by what they want behind their first
+-- word: that word, and the command that they make. What is read by it is what `form` says: that is
+-- proved of the whole table.
+abbrev pub Line : List Sort → Type 0
+Line sorts = List ℕ × Makes sorts
 
--- The table of forms from the reader's side, a line each: those that bring no items, by what they
--- do, those that do, and all. What is read by it is what `form` says: that is proved of the whole
--- table.
-abbrev pub making_forms : List Form
-making_forms =
-    entry (codes "static") [] (command.Static static_bytes) ∷
-    entry (codes "clone") (ANumber ∷ []) command.Clone ∷
-    entry (codes "sub") (ANumber ∷ ANumber ∷ ANumber ∷ []) command.Sub ∷
-    entry (codes "off") (ANumber ∷ ANumber ∷ []) command.Off ∷
-    entry (codes "to") (ANumber ∷ ANumber ∷ []) command.To ∷
-    []
+-- nothing
+abbrev pub bare_form : Bare → Line []
+bare_form bare.New = (codes "new", command.New)
+bare_form bare.Static = (codes "static", command.Static static_bytes)
 
-abbrev pub writer_forms : List Form
-writer_forms =
-    entry (codes "new") [] command.New ∷
-    entry (codes "cap") (ANumber ∷ []) command.Cap ∷
-    entry (codes "zero") (ANumber ∷ []) command.Zero ∷
-    []
+-- a number
+abbrev pub number_form : OneNumber → Line (ANumber ∷ [])
+number_form one.Cap = (codes "cap", command.Cap)
+number_form one.Zero = (codes "zero", command.Zero)
+number_form one.Clone = (codes "clone", command.Clone)
+number_form one.Uniq = (codes "uniq", command.Uniq)
+number_form one.Show = (codes "show", command.Show)
+number_form one.Len = (codes "len", command.Len)
+number_form one.Room = (codes "room", command.Room)
+number_form one.Freeze = (codes "freeze", command.Freeze)
+number_form one.Mut = (codes "mut", command.Mut)
+number_form one.Drop = (codes "drop", command.Drop)
+number_form one.TakeStatic = (codes "takestatic", command.TakeStatic)
 
-abbrev pub asking_forms : List Form
-asking_forms =
-    entry (codes "uniq") (ANumber ∷ []) command.Uniq ∷
-    entry (codes "show") (ANumber ∷ []) command.Show ∷
-    entry (codes "len") (ANumber ∷ []) command.Len ∷
-    entry (codes "room") (ANumber ∷ []) command.Room ∷
-    []
+-- two numbers
+abbrev pub numbers_form : TwoNumbers → Line (ANumber ∷ ANumber ∷ [])
+numbers_form two.Off = (codes "off", command.Off)
+numbers_form two.To = (codes "to", command.To)
+numbers_form two.Res = (codes "res", command.Res)
+numbers_form two.Rec = (codes "rec", command.Rec)
+numbers_form two.Adv = (codes "adv", command.Adv)
+numbers_form two.Trunc = (codes "trunc", command.Trunc)
 
-abbrev pub writing_forms : List Form
-writing_forms =
-    entry (codes "res") (ANumber ∷ ANumber ∷ []) command.Res ∷
-    entry (codes "push") (ANumber ∷ AByte ∷ []) command.Push ∷
-    entry (codes "rec") (ANumber ∷ ANumber ∷ []) command.Rec ∷
-    entry (codes "freeze") (ANumber ∷ []) command.Freeze ∷
-    []
+-- items
+abbrev pub items_form : JustItems → Line (SomeItems ∷ [])
+items_form items.Slice = (codes "slice", command.Slice)
+items_form items.MSlice = (codes "mslice", command.MSlice)
 
-abbrev pub changing_forms : List Form
-changing_forms =
-    entry (codes "mut") (ANumber ∷ []) command.Mut ∷
-    entry (codes "adv") (ANumber ∷ ANumber ∷ []) command.Adv ∷
-    entry (codes "trunc") (ANumber ∷ ANumber ∷ []) command.Trunc ∷
-    entry (codes "drop") (ANumber ∷ []) command.Drop ∷
-    entry (codes "takestatic") (ANumber ∷ []) command.TakeStatic ∷
-    []
+abbrev pub entry : (sorts : List Sort) → Line sorts → Form
+entry sorts line = record { word = line.0; sorts = sorts; make = line.1 }
 
-abbrev pub plain_forms : List Form
-plain_forms = making_forms ++ writer_forms ++ asking_forms ++ writing_forms ++ changing_forms
+abbrev pub reads : Verb → Form
+reads (verb.Bare v) = entry [] (bare_form v)
+reads (verb.Number v) = entry (ANumber ∷ []) (number_form v)
+reads (verb.Numbers v) = entry (ANumber ∷ ANumber ∷ []) (numbers_form v)
+reads verb.Sub = entry (ANumber ∷ ANumber ∷ ANumber ∷ []) (codes "sub", command.Sub)
+reads verb.Push = entry (ANumber ∷ AByte ∷ []) (codes "push", command.Push)
+reads (verb.Items v) = entry (SomeItems ∷ []) (items_form v)
+reads verb.Ext = entry (ANumber ∷ SomeItems ∷ []) (codes "ext", command.Ext)
 
-abbrev pub items_forms : List Form
-items_forms =
-    entry (codes "slice") (SomeItems ∷ []) command.Slice ∷
-    entry (codes "mslice") (SomeItems ∷ []) command.MSlice ∷
-    entry (codes "ext") (ANumber ∷ SomeItems ∷ []) command.Ext ∷
-    []
+-- a table of first words, as code has it
+abbrev pub lines : List (Bor (List ℕ) × Verb) → List (List ℕ × Verb)
+lines table = map (λ line. (line.0.now, line.1)) table
 
-abbrev pub forms : List Form
-forms = items_forms ++ plain_forms
+-- the first words of all forms
+abbrev pub verbs : List (List ℕ × Verb)
+verbs = map (λ v. ((reads v).word, v)) (
+    verb.Number one.Show ∷
+    verb.Number one.Drop ∷
+    verb.Items items.Slice ∷
+    verb.Number one.Clone ∷
+    verb.Sub ∷
+    verb.Bare bare.Static ∷
+    verb.Number one.TakeStatic ∷
+    verb.Numbers two.Off ∷
+    verb.Numbers two.To ∷
+    verb.Number one.Uniq ∷
+    verb.Number one.Len ∷
+    verb.Numbers two.Adv ∷
+    verb.Numbers two.Trunc ∷
+    verb.Bare bare.New ∷
+    verb.Items items.MSlice ∷
+    verb.Number one.Cap ∷
+    verb.Number one.Zero ∷
+    verb.Push ∷
+    verb.Ext ∷
+    verb.Numbers two.Res ∷
+    verb.Numbers two.Rec ∷
+    verb.Number one.Room ∷
+    verb.Number one.Freeze ∷
+    verb.Number one.Mut ∷
+    [])
 
--- the word has the name's bytes, and no more: a match tests them one by one
-abbrev pub spells_from : List ℕ → ℕ → List ℕ → Bool
-spells_from word k [] = true
-spells_from word k (byte ∷ bytes) = nat_eq (get_or word k 0) byte && spells_from word (k + 1) bytes
+-- the form whose first word this is
+abbrev pub named : List ℕ → List (List ℕ × Verb) → Option Verb
+named word [] = None
+named word (line ∷ table) = if bytes_eq line.0 word then Some line.1 else named word table
 
-abbrev pub spells : List ℕ → List ℕ → Bool
-spells word name = nat_eq (length word) (length name) && spells_from word 0 name
+-- the command that words say behind the first word of a form
+abbrev pub read_form : List (List ℕ) → Form → Option (Cmd (List ℕ) (List ℕ) ℕ)
+read_form words f = operands_of f.sorts words >>= λ os. made f.sorts f.make os
 
--- what the words behind a first word say, by the first form whose word it is
-abbrev pub read_by : List ℕ → List (List ℕ) → List Form → Option (Cmd (List ℕ) (List ℕ) ℕ)
-read_by verb words [] = None
-read_by verb words (f ∷ fs) =
-    if spells verb f.word then (operands_of f.sorts words >>= λ os. made f.sorts f.make os) else
-    read_by verb words fs
+-- the same of a form by its name, and of what is left of a line behind a form's first word
+unfoldable pub read_as : List (List ℕ) → Verb → Option (Cmd (List ℕ) (List ℕ) ℕ)
+read_as words v = read_form words (reads v)
+
+abbrev pub read_behind : Option (Verb × Option (Bor (List ℕ))) → Option (Cmd (List ℕ) (List ℕ) ℕ)
+read_behind None = None
+read_behind (Some x) = read_as (words_in x.1) x.0
 
 -- the command that words say
 unfoldable pub command_of : List (List ℕ) → Option (Cmd (List ℕ) (List ℕ) ℕ)
 command_of [] = None
-command_of (verb ∷ words) = read_by verb words forms
+command_of (word ∷ words) = named word verbs >>= λ v. read_form words (reads v)
 
 -- the commands that bring items, which need memory
 abbrev pub is_items : Operand → Bool

@@ -10,10 +10,9 @@ ghost use Rattle.arc_commands.specs.Seen.{seen_command};
 ghost use Rattle.arc_commands.specs.declared.command.Cmd.{Cmd};
 ghost use Rattle.arc_forms.specs.Reading.{ANumber, SomeItems, BringsItems, command_of, first_by};
 ghost use Rattle.arc_forms.specs.Reading.{is_hex_digit, is_space, items_of, number_of, operand_of};
-ghost use Rattle.arc_forms.specs.Reading.{operands_of, pairs, plain_forms, read_by, words_in};
-ghost use Rattle.arc_forms.specs.Reading.{asking_forms, changing_forms, writer_forms};
-ghost use Rattle.arc_forms.specs.Reading.{AByte, byte_of, writing_forms};
-ghost use Rattle.std.specs.Prelude.{◌++◌};
+ghost use Rattle.arc_forms.specs.Reading.{operands_of, pairs, words_in, lines, named, read_behind};
+ghost use Rattle.arc_forms.specs.Reading.{number_form, numbers_form};
+ghost use Rattle.arc_forms.specs.Reading.{AByte, byte_of, read_as};
 ghost use Rattle.arc_forms.specs.Reading.{words_of_line};
 
 use arc_block::static_slice::StaticSlice;
@@ -32,6 +31,94 @@ pub const LONGEST_LINE: usize = 65536;
 
 /// The most digits of a number.
 const MOST_DIGITS: usize = 18;
+
+/// A form, by what stands behind its first word.
+#[derive(Clone, Copy)]
+enum Verb {
+    /// Nothing.
+    Bare(Bare),
+    /// A number.
+    Number(OneNumber),
+    /// Two numbers.
+    Numbers(TwoNumbers),
+    /// Three numbers.
+    Sub,
+    /// A number and a byte.
+    Push,
+    /// Items.
+    Items(JustItems),
+    /// A number and items.
+    Ext,
+}
+
+/// The forms with nothing behind their first word.
+#[derive(Clone, Copy)]
+enum Bare {
+    New,
+    Static,
+}
+
+/// The forms of a number.
+#[derive(Clone, Copy)]
+enum OneNumber {
+    Cap,
+    Zero,
+    Clone,
+    Uniq,
+    Show,
+    Len,
+    Room,
+    Freeze,
+    Mut,
+    Drop,
+    TakeStatic,
+}
+
+/// The forms of two numbers.
+#[derive(Clone, Copy)]
+enum TwoNumbers {
+    Off,
+    To,
+    Res,
+    Rec,
+    Adv,
+    Trunc,
+}
+
+/// The forms of items.
+#[derive(Clone, Copy)]
+enum JustItems {
+    Slice,
+    MSlice,
+}
+
+/// The forms by their first words, those that most lines have first.
+const VERBS: &[(&[u8], Verb)] = &[
+    (b"show", Verb::Number(OneNumber::Show)),
+    (b"drop", Verb::Number(OneNumber::Drop)),
+    (b"slice", Verb::Items(JustItems::Slice)),
+    (b"clone", Verb::Number(OneNumber::Clone)),
+    (b"sub", Verb::Sub),
+    (b"static", Verb::Bare(Bare::Static)),
+    (b"takestatic", Verb::Number(OneNumber::TakeStatic)),
+    (b"off", Verb::Numbers(TwoNumbers::Off)),
+    (b"to", Verb::Numbers(TwoNumbers::To)),
+    (b"uniq", Verb::Number(OneNumber::Uniq)),
+    (b"len", Verb::Number(OneNumber::Len)),
+    (b"adv", Verb::Numbers(TwoNumbers::Adv)),
+    (b"trunc", Verb::Numbers(TwoNumbers::Trunc)),
+    (b"new", Verb::Bare(Bare::New)),
+    (b"mslice", Verb::Items(JustItems::MSlice)),
+    (b"cap", Verb::Number(OneNumber::Cap)),
+    (b"zero", Verb::Number(OneNumber::Zero)),
+    (b"push", Verb::Push),
+    (b"ext", Verb::Ext),
+    (b"res", Verb::Numbers(TwoNumbers::Res)),
+    (b"rec", Verb::Numbers(TwoNumbers::Rec)),
+    (b"room", Verb::Number(OneNumber::Room)),
+    (b"freeze", Verb::Number(OneNumber::Freeze)),
+    (b"mut", Verb::Number(OneNumber::Mut)),
+];
 
 /// What is left of a line behind a word: `None` behind the last.
 type Rest<'a> = Option<&'a [u8]>;
@@ -90,8 +177,13 @@ fn number(rest: Rest) -> Option<(usize, Rest)>
     ensures { option_map (λ x. (Number x.0, words_in x.1)) result
         ≡ first_by (operand_of ANumber) (words_in rest.entry) }
 {
-    let (word, rest) = word(rest?);
-    let number = number_in(word)?;
+    let Some(line) = rest else {
+        return None;
+    };
+    let (word, rest) = word(line);
+    let Some(number) = number_in(word) else {
+        return None;
+    };
     Some((number, rest))
 }
 
@@ -113,7 +205,10 @@ fn one_number(rest: Rest) -> Option<usize>
         ≡ operands_of (ANumber ∷ []) (words_in rest.entry) }
 {
     // What is left is read as it is: a number has no space, so another word behind it is refused.
-    number_in(rest?)
+    match rest {
+        Some(line) => number_in(line),
+        None => None,
+    }
 }
 
 /// The two numbers that are left.
@@ -122,20 +217,13 @@ fn two_numbers(rest: Rest) -> Option<(usize, usize)>
     ensures { option_map (λ x. Number x.0 ∷ Number x.1 ∷ []) result
         ≡ operands_of (ANumber ∷ ANumber ∷ []) (words_in rest.entry) }
 {
-    let (first, rest) = number(rest)?;
-    let second = one_number(rest)?;
+    let Some((first, rest)) = number(rest) else {
+        return None;
+    };
+    let Some(second) = one_number(rest) else {
+        return None;
+    };
     Some((first, second))
-}
-
-/// The three numbers that are left.
-#[tactic(auto, unfolding(crate::specs::Reading::operands_of))]
-fn three_numbers(rest: Rest) -> Option<(usize, usize, usize)>
-    ensures { option_map (λ x. Number x.0 ∷ Number x.1 ∷ Number x.2 ∷ []) result
-        ≡ operands_of (ANumber ∷ ANumber ∷ ANumber ∷ []) (words_in rest.entry) }
-{
-    let (first, rest) = number(rest)?;
-    let (second, third) = two_numbers(rest)?;
-    Some((first, second, third))
 }
 
 /// Whether a byte is a hex digit. Only lower case is.
@@ -188,18 +276,10 @@ fn one_byte(rest: Rest) -> Option<u8>
     ensures { option_map (λ x. Byte x ∷ []) result
         ≡ operands_of (AByte ∷ []) (words_in rest.entry) }
 {
-    byte_in(rest?)
-}
-
-/// The number and the byte that are left.
-#[tactic(auto, unfolding(crate::specs::Reading::operands_of))]
-fn number_and_byte(rest: Rest) -> Option<(usize, u8)>
-    ensures { option_map (λ x. Number x.0 ∷ Byte x.1 ∷ []) result
-        ≡ operands_of (ANumber ∷ AByte ∷ []) (words_in rest.entry) }
-{
-    let (first, rest) = number(rest)?;
-    let second = one_byte(rest)?;
-    Some((first, second))
+    match rest {
+        Some(line) => byte_in(line),
+        None => None,
+    }
 }
 
 /// The digits of the items that a word says.
@@ -228,199 +308,212 @@ fn decoded<A: Allocator>(alloc: A, hex: Hex) -> Result<Vec<u8, A>, AllocError>
     Ok(items)
 }
 
-/// The items that are left, in one word. `Err` where memory is refused for them.
+/// The digits of the items that are left, in one word.
 #[tactic(auto, using(crate::proofs::Forms::last_operand, crate::proofs::Forms::none_left))]
-fn one_items<A: Allocator>(alloc: A, rest: Rest) -> Result<Option<Vec<u8, A>>, AllocError>
-    ensures ok { IfOk result (λ read. option_map (λ v. Items v.items ∷ []) read
-        ≡ operands_of (SomeItems ∷ []) (words_in rest.entry)) }
-    ensures err { OnErr result ((xs : List ℕ)
-        × (operands_of (SomeItems ∷ []) (words_in rest.entry) ≡ Some (Items xs ∷ []))) }
+fn one_hex(rest: Rest) -> Option<Hex>
+    ensures { option_map (λ hex. Items (pairs hex.digits.now) ∷ []) result
+        ≡ operands_of (SomeItems ∷ []) (words_in rest.entry) }
 {
-    let Some(line) = rest else {
-        return Ok(None);
-    };
-    let Some(hex) = digits_in(line) else {
-        return Ok(None);
-    };
-    Ok(Some(decoded(alloc, hex)?))
+    match rest {
+        Some(line) => digits_in(line),
+        None => None,
+    }
 }
 
-/// The number that is left, and the items, in one word. `Err` where memory is refused for them.
-#[tactic(auto, unfolding(crate::specs::Reading::operands_of))]
-fn number_and_items<A: Allocator>(
+/// The form whose first word this is, in such a table.
+fn verb_in(table: &[(&[u8], Verb)], word: &[u8]) -> Option<Verb>
+    ensures { result ≡ named word.now (lines table.now) }
+{
+    for (name, verb) in table {
+        if *name == word {
+            return Some(*verb);
+        }
+    }
+    None
+}
+
+/// The form that a line begins with, and what is left of the line behind its first word.
+fn verb_of(line: &[u8]) -> Option<(Verb, Rest)>
+    ensures { read_behind result ≡ command_of (words_of_line line.now) }
+{
+    let (word, rest) = word(line);
+    let Some(verb) = verb_in(VERBS, word) else {
+        return None;
+    };
+    Some((verb, rest))
+}
+
+/// The command of a form with nothing behind its first word.
+#[tactic(auto, unfolding(crate::specs::Reading::read_as))]
+fn with_nothing<A: Allocator>(verb: Bare, rest: Rest) -> Option<Command<A>>
+    ensures { option_map seen_command result
+        ≡ read_as (words_in rest.entry) (Verb.Bare verb) }
+{
+    let Some(()) = nothing(rest) else {
+        return None;
+    };
+    match verb {
+        Bare::New => Some(Cmd::New),
+        Bare::Static => Some(Cmd::Static(StaticSlice::new(STATIC_BYTES))),
+    }
+}
+
+/// The command that a form of one number makes of it.
+fn number_command<A: Allocator>(verb: OneNumber, number: usize) -> Command<A>
+    ensures { seen_command result ≡ (number_form verb).1 number }
+{
+    let window = number;
+    match verb {
+        OneNumber::Cap => Cmd::Cap { places: number },
+        OneNumber::Zero => Cmd::Zero { count: number },
+        OneNumber::Clone => Cmd::Clone { window },
+        OneNumber::Uniq => Cmd::Uniq { window },
+        OneNumber::Show => Cmd::Show { window },
+        OneNumber::Len => Cmd::Len { window },
+        OneNumber::Room => Cmd::Room { window },
+        OneNumber::Freeze => Cmd::Freeze { window },
+        OneNumber::Mut => Cmd::Mut { window },
+        OneNumber::Drop => Cmd::Drop { window },
+        OneNumber::TakeStatic => Cmd::TakeStatic { window },
+    }
+}
+
+/// The command of a form of one number.
+#[tactic(auto, unfolding(crate::specs::Reading::read_as))]
+fn with_number<A: Allocator>(verb: OneNumber, rest: Rest) -> Option<Command<A>>
+    ensures { option_map seen_command result
+        ≡ read_as (words_in rest.entry) (Verb.Number verb) }
+{
+    match one_number(rest) {
+        Some(number) => Some(number_command(verb, number)),
+        None => None,
+    }
+}
+
+/// The command that a form of two numbers makes of them.
+fn numbers_command<A: Allocator>(verb: TwoNumbers, window: usize, number: usize) -> Command<A>
+    ensures { seen_command result ≡ (numbers_form verb).1 window number }
+{
+    match verb {
+        TwoNumbers::Off => Cmd::Off { window, at: number },
+        TwoNumbers::To => Cmd::To { window, at: number },
+        TwoNumbers::Res => Cmd::Res {
+            window,
+            additional: number,
+        },
+        TwoNumbers::Rec => Cmd::Rec {
+            window,
+            additional: number,
+        },
+        TwoNumbers::Adv => Cmd::Adv { window, by: number },
+        TwoNumbers::Trunc => Cmd::Trunc {
+            window,
+            len: number,
+        },
+    }
+}
+
+/// The command of a form of two numbers.
+#[tactic(auto, unfolding(crate::specs::Reading::read_as))]
+fn with_numbers<A: Allocator>(verb: TwoNumbers, rest: Rest) -> Option<Command<A>>
+    ensures { option_map seen_command result
+        ≡ read_as (words_in rest.entry) (Verb.Numbers verb) }
+{
+    match two_numbers(rest) {
+        Some((window, number)) => Some(numbers_command(verb, window, number)),
+        None => None,
+    }
+}
+
+/// The command `Sub`.
+#[tactic(auto, unfolding(crate::specs::Reading::operands_of, crate::specs::Reading::read_as))]
+fn sub<A: Allocator>(rest: Rest) -> Option<Command<A>>
+    ensures { option_map seen_command result ≡ read_as (words_in rest.entry) Verb.Sub }
+{
+    let Some((window, rest)) = number(rest) else {
+        return None;
+    };
+    let Some((start, end)) = two_numbers(rest) else {
+        return None;
+    };
+    Some(Cmd::Sub { window, start, end })
+}
+
+/// The command `Push`.
+#[tactic(auto, unfolding(crate::specs::Reading::operands_of, crate::specs::Reading::read_as))]
+fn push<A: Allocator>(rest: Rest) -> Option<Command<A>>
+    ensures { option_map seen_command result ≡ read_as (words_in rest.entry) Verb.Push }
+{
+    let Some((window, rest)) = number(rest) else {
+        return None;
+    };
+    let Some(item) = one_byte(rest) else {
+        return None;
+    };
+    Some(Cmd::Push { window, item })
+}
+
+/// The command of a form of items. `Err` where memory is refused for them.
+#[tactic(auto, unfolding(crate::specs::Reading::read_as))]
+fn with_items<A: Allocator>(
     alloc: A,
+    verb: JustItems,
     rest: Rest,
-) -> Result<Option<(usize, Vec<u8, A>)>, AllocError>
-    ensures ok { IfOk result (λ read. option_map (λ x. Number x.0 ∷ Items x.1.items ∷ []) read
-        ≡ operands_of (ANumber ∷ SomeItems ∷ []) (words_in rest.entry)) }
-    ensures err { OnErr result ((n : ℕ) × (xs : List ℕ)
-        × (operands_of (ANumber ∷ SomeItems ∷ []) (words_in rest.entry)
-        ≡ Some (Number n ∷ Items xs ∷ []))) }
+) -> Result<Option<Command<A>>, AllocError>
+    ensures ok { IfOk result (λ said. option_map seen_command said
+        ≡ read_as (words_in rest.entry) (Verb.Items verb)) }
+    ensures err { OnErr result (IsSomeAnd (read_as (words_in rest.entry) (Verb.Items verb))
+        BringsItems) }
 {
-    let Some((first, rest)) = number(rest) else {
+    let Some(hex) = one_hex(rest) else {
         return Ok(None);
     };
-    let Some(items) = one_items(alloc, rest)? else {
+    match decoded(alloc, hex) {
+        Ok(items) => Ok(Some(match verb {
+            JustItems::Slice => Cmd::Slice(items),
+            JustItems::MSlice => Cmd::MSlice(items),
+        })),
+        Err(error) => Err(error),
+    }
+}
+
+/// The command `Ext`. `Err` where memory is refused for its items.
+#[tactic(auto, unfolding(crate::specs::Reading::operands_of, crate::specs::Reading::read_as))]
+fn ext<A: Allocator>(alloc: A, rest: Rest) -> Result<Option<Command<A>>, AllocError>
+    ensures ok { IfOk result (λ said. option_map seen_command said
+        ≡ read_as (words_in rest.entry) Verb.Ext) }
+    ensures err { OnErr result (IsSomeAnd (read_as (words_in rest.entry) Verb.Ext) BringsItems) }
+{
+    let Some((window, rest)) = number(rest) else {
         return Ok(None);
     };
-    Ok(Some((first, items)))
-}
-
-/// The command that a first word and what is left behind it say, of those that change a window: an
-/// arm for each line of their table (`changing_forms` in `specs/`).
-fn changing<A: Allocator>(verb: &[u8], rest: Rest) -> Option<Command<A>>
-    ensures { option_map seen_command result
-        ≡ read_by verb.now (words_in rest.entry) changing_forms }
-{
-    match verb {
-        b"mut" => Some(Cmd::Mut {
-            window: one_number(rest)?,
-        }),
-        b"adv" => {
-            let (window, by) = two_numbers(rest)?;
-            Some(Cmd::Adv { window, by })
-        }
-        b"trunc" => {
-            let (window, len) = two_numbers(rest)?;
-            Some(Cmd::Trunc { window, len })
-        }
-        b"drop" => Some(Cmd::Drop {
-            window: one_number(rest)?,
-        }),
-        b"takestatic" => Some(Cmd::TakeStatic {
-            window: one_number(rest)?,
-        }),
-        _ => None,
-    }
-}
-
-/// The same, of those too that are for a window that is written (`writing_forms`).
-fn writing<A: Allocator>(verb: &[u8], rest: Rest) -> Option<Command<A>>
-    ensures { option_map seen_command result
-        ≡ read_by verb.now (words_in rest.entry) (writing_forms ++ changing_forms) }
-{
-    match verb {
-        b"res" => {
-            let (window, additional) = two_numbers(rest)?;
-            Some(Cmd::Res { window, additional })
-        }
-        b"push" => {
-            let (window, item) = number_and_byte(rest)?;
-            Some(Cmd::Push { window, item })
-        }
-        b"rec" => {
-            let (window, additional) = two_numbers(rest)?;
-            Some(Cmd::Rec { window, additional })
-        }
-        b"freeze" => Some(Cmd::Freeze {
-            window: one_number(rest)?,
-        }),
-        _ => changing(verb, rest),
-    }
-}
-
-/// The same, of those too that ask a window (`asking_forms`).
-fn asking<A: Allocator>(verb: &[u8], rest: Rest) -> Option<Command<A>>
-    ensures { option_map seen_command result
-        ≡ read_by verb.now (words_in rest.entry)
-        (asking_forms ++ writing_forms ++ changing_forms) }
-{
-    match verb {
-        b"uniq" => Some(Cmd::Uniq {
-            window: one_number(rest)?,
-        }),
-        b"show" => Some(Cmd::Show {
-            window: one_number(rest)?,
-        }),
-        b"len" => Some(Cmd::Len {
-            window: one_number(rest)?,
-        }),
-        b"room" => Some(Cmd::Room {
-            window: one_number(rest)?,
-        }),
-        _ => writing(verb, rest),
-    }
-}
-
-/// The same, of those too that make a window that is written (`writer_forms`).
-fn making_writers<A: Allocator>(verb: &[u8], rest: Rest) -> Option<Command<A>>
-    ensures { option_map seen_command result
-        ≡ read_by verb.now (words_in rest.entry)
-        (writer_forms ++ asking_forms ++ writing_forms ++ changing_forms) }
-{
-    match verb {
-        b"new" => {
-            nothing(rest)?;
-            Some(Cmd::New)
-        }
-        b"cap" => Some(Cmd::Cap {
-            places: one_number(rest)?,
-        }),
-        b"zero" => Some(Cmd::Zero {
-            count: one_number(rest)?,
-        }),
-        _ => asking(verb, rest),
-    }
-}
-
-/// The same, of all that bring no items (`plain_forms`).
-fn plain_command<A: Allocator>(verb: &[u8], rest: Rest) -> Option<Command<A>>
-    ensures { option_map seen_command result
-        ≡ read_by verb.now (words_in rest.entry) plain_forms }
-{
-    match verb {
-        b"static" => {
-            nothing(rest)?;
-            Some(Cmd::Static(StaticSlice::new(STATIC_BYTES)))
-        }
-        b"clone" => Some(Cmd::Clone {
-            window: one_number(rest)?,
-        }),
-        b"sub" => {
-            let (window, start, end) = three_numbers(rest)?;
-            Some(Cmd::Sub { window, start, end })
-        }
-        b"off" => {
-            let (window, at) = two_numbers(rest)?;
-            Some(Cmd::Off { window, at })
-        }
-        b"to" => {
-            let (window, at) = two_numbers(rest)?;
-            Some(Cmd::To { window, at })
-        }
-        _ => making_writers(verb, rest),
+    let Some(hex) = one_hex(rest) else {
+        return Ok(None);
+    };
+    match decoded(alloc, hex) {
+        Ok(items) => Ok(Some(Cmd::Ext { window, items })),
+        Err(error) => Err(error),
     }
 }
 
 /// The command that the words of a line say, or `None` where they say none. `Err` where memory is
 /// refused for items.
-#[tactic(auto, unfolding(crate::specs::Reading::command_of))]
 fn command<A: Allocator>(alloc: A, line: &[u8]) -> Result<Option<Command<A>>, AllocError>
     ensures ok { IfOk result (λ said.
         option_map seen_command said ≡ command_of (words_of_line line.now)) }
     ensures err { OnErr result (IsSomeAnd (command_of (words_of_line line.now)) BringsItems) }
 {
-    let (verb, rest) = word(line);
+    let Some((verb, rest)) = verb_of(line) else {
+        return Ok(None);
+    };
     match verb {
-        b"slice" => {
-            let Some(items) = one_items(alloc, rest)? else {
-                return Ok(None);
-            };
-            Ok(Some(Cmd::Slice(items)))
-        }
-        b"mslice" => {
-            let Some(items) = one_items(alloc, rest)? else {
-                return Ok(None);
-            };
-            Ok(Some(Cmd::MSlice(items)))
-        }
-        b"ext" => {
-            let Some((window, items)) = number_and_items(alloc, rest)? else {
-                return Ok(None);
-            };
-            Ok(Some(Cmd::Ext { window, items }))
-        }
-        _ => Ok(plain_command(verb, rest)),
+        Verb::Bare(verb) => Ok(with_nothing(verb, rest)),
+        Verb::Number(verb) => Ok(with_number(verb, rest)),
+        Verb::Numbers(verb) => Ok(with_numbers(verb, rest)),
+        Verb::Sub => Ok(sub(rest)),
+        Verb::Push => Ok(push(rest)),
+        Verb::Items(verb) => with_items(alloc, verb, rest),
+        Verb::Ext => ext(alloc, rest),
     }
 }
 

@@ -1,7 +1,8 @@
 //! Writing what lines are answered.
-ghost use Rattle.std.specs.Prelude.{◌≡◌, ◌++◌, ◌<◌, ◌*◌, decimal, length, OnErr, OnOk};
+ghost use Rattle.std.specs.Prelude.{◌≡◌, ◌++◌, ◌<◌, ◌*◌, codes, decimal, length, OnErr, OnOk};
 ghost use Rattle.arc_forms.specs.Text.{hex, hex_digit, items_word, owner_text, range_text};
-ghost use Rattle.arc_forms.specs.Text.{reply_text, reserve_text};
+ghost use Rattle.arc_forms.specs.Text.{answer_text, reply_text, reserve_text};
+ghost use Rattle.std.specs.Option.{option_map};
 ghost use Rattle.arc_commands.specs.Seen.{map_reply};
 ghost use Rattle.arc_forms.specs.Writing.{Extends, answer_line};
 
@@ -57,13 +58,34 @@ fn reserve_words(error: TryReserveError) -> &'static [u8]
     }
 }
 
+/// Appends words as they are.
+fn push_words<A: Allocator>(out: &mut Vec<u8, A>, words: &[u8]) -> Result<(), AllocError>
+    ensures ok { OnOk result (out.new.items ≡ out.old.items ++ words.now) }
+    ensures err { OnErr result (Extends out.old.items out.new.items) }
+{
+    match out.extend_from_slice(words) {
+        Ok(()) => Ok(()),
+        Err(error) => Err(error.into()),
+    }
+}
+
 /// Appends a number in decimal.
 fn push_number<A: Allocator>(out: &mut Vec<u8, A>, number: usize) -> Result<(), AllocError>
     ensures ok { OnOk result (out.new.items ≡ out.old.items ++ decimal number) }
     ensures err { OnErr result (Extends out.old.items out.new.items) }
 {
-    out.extend_from_slice(Buffer::new().format(number).as_bytes())?;
-    Ok(())
+    push_words(out, Buffer::new().format(number).as_bytes())
+}
+
+/// Appends the number of a window.
+fn push_window<A: Allocator>(out: &mut Vec<u8, A>, number: usize) -> Result<(), AllocError>
+    ensures ok { OnOk result (out.new.items ≡ out.old.items ++ codes "h" ++ decimal number) }
+    ensures err { OnErr result (Extends out.old.items out.new.items) }
+{
+    match push_words(out, b"h") {
+        Ok(()) => push_number(out, number),
+        Err(error) => Err(error),
+    }
 }
 
 /// Writes two hex digits an item.
@@ -96,8 +118,7 @@ fn push_items<A: Allocator>(out: &mut Vec<u8, A>, items: &[u8]) -> Result<(), Al
     ensures err { OnErr result (Extends out.old.items out.new.items) }
 {
     if items.is_empty() {
-        out.push(b'-')?;
-        return Ok(());
+        return push_words(out, b"-");
     }
     push_hex(out, items)
 }
@@ -112,10 +133,7 @@ fn push_reply<A: Allocator, X: AsSlice<u8>>(
     ensures err { OnErr result (Extends out.old.items out.new.items) }
 {
     let words: &[u8] = match reply {
-        Reply::New(number) => {
-            out.push(b'h')?;
-            return push_number(out, *number);
-        }
+        Reply::New(number) => return push_window(out, *number),
         Reply::Items(items) => return push_items(out, items.as_slice()),
         Reply::Static(items) => return push_items(out, items.as_slice()),
         Reply::Number(number) => return push_number(out, *number),
@@ -130,11 +148,25 @@ fn push_reply<A: Allocator, X: AsSlice<u8>>(
         Reply::Reserve(error) => reserve_words(*error),
         Reply::Alloc => b"allocation error",
     };
-    out.extend_from_slice(words)?;
-    Ok(())
+    push_words(out, words)
 }
 
 /// Appends what a line is answered. An `Err` may leave a part of it.
+fn push_text<A: Allocator, X: AsSlice<u8>>(
+    out: &mut Vec<u8, A>,
+    answer: &Option<Reply<X, StaticSlice<u8>>>,
+) -> Result<(), AllocError>
+    ensures ok { OnOk result (out.new.items
+        ≡ out.old.items ++ answer_text (option_map (map_reply X.items) answer.now)) }
+    ensures err { OnErr result (Extends out.old.items out.new.items) }
+{
+    match answer {
+        Some(reply) => push_reply(out, reply),
+        None => push_words(out, b"bad line"),
+    }
+}
+
+/// The same, and a line feed.
 fn push_line<A: Allocator, X: AsSlice<u8>>(
     out: &mut Vec<u8, A>,
     answer: &Option<Reply<X, StaticSlice<u8>>>,
@@ -142,12 +174,10 @@ fn push_line<A: Allocator, X: AsSlice<u8>>(
     ensures ok { OnOk result (out.new.items ≡ out.old.items ++ answer_line X.items answer.now) }
     ensures err { OnErr result (Extends out.old.items out.new.items) }
 {
-    match answer {
-        Some(reply) => push_reply(out, reply)?,
-        None => out.extend_from_slice(b"bad line")?,
+    match push_text(out, answer) {
+        Ok(()) => push_words(out, b"\n"),
+        Err(error) => Err(error),
     }
-    out.push(b'\n')?;
-    Ok(())
 }
 
 /// Appends what a line is answered, with its line feed: the text of the reply, or `bad line` for
