@@ -30,8 +30,8 @@ fn program<A: Allocator + Copy>(
     Ok(run_args(rt, alloc, &owned, &mut source, &mut sink, &mut told))
 }
 
-/// Other words are told the usage, at once, a byte a call, or where no byte is taken. `tests/program`
-/// has more of them.
+/// Other words are told the usage: at once, a byte a call, and where no byte is taken. More of them
+/// stand in `tests/program`.
 #[test]
 fn other_words(rt: HostRuntime) -> Result<(), Fail> {
     for (size, told) in [(usize::MAX, USAGE), (1, USAGE), (0, b"".as_slice())] {
