@@ -3,8 +3,7 @@ use arc_script::io::Counted;
 use arc_script::program::{Arguments, run_args, start, words};
 use arc_script_tests::devices::{Pieces, Taken, push_digits};
 use arc_script_tests::rows::{
-    CLONES, CLONES_IN_NEED, CLONES_REPLIES, HELLO, HELLO_REPLIES, OTHER_WORDS, REPLIES_IN_NEED,
-    USAGE,
+    CLONES, CLONES_IN_NEED, CLONES_REPLIES, HELLO, HELLO_REPLIES, REPLIES_IN_NEED, USAGE,
 };
 use linked_list_allocator::LocalHeap;
 use std::alloc::{AllocError, Allocator};
@@ -31,27 +30,26 @@ fn program<A: Allocator + Copy>(
     Ok(run_args(rt, alloc, &owned, &mut source, &mut sink, &mut told))
 }
 
+/// Other words are told the usage: at once, a byte a call, and where no byte is taken. More of them
+/// stand in `tests/program`.
 #[test]
 fn other_words(rt: HostRuntime) -> Result<(), Fail> {
-    for words in OTHER_WORDS {
-        for size in [usize::MAX, 1, 0] {
-            let mut reader = Pieces::new(HELLO, usize::MAX);
-            let mut writer = Taken::new(rt.alloc(), usize::MAX);
-            let mut faults = Taken::new(rt.alloc(), size);
-            let status = program(
-                &rt,
-                rt.alloc(),
-                words,
-                &mut reader,
-                &mut writer,
-                &mut faults,
-            )?;
-            let told = if size == 0 { b"".as_slice() } else { USAGE };
-            assert!(rt;
-                (status, reader.calls, writer.calls, faults.bytes.as_slice()) == (2, 0, 0, told),
-                "at {words:?}"
-            );
-        }
+    for (size, told) in [(usize::MAX, USAGE), (1, USAGE), (0, b"".as_slice())] {
+        let mut reader = Pieces::new(HELLO, usize::MAX);
+        let mut writer = Taken::new(rt.alloc(), usize::MAX);
+        let mut faults = Taken::new(rt.alloc(), size);
+        let words = &["arc", "x"];
+        let status = program(
+            &rt,
+            rt.alloc(),
+            words,
+            &mut reader,
+            &mut writer,
+            &mut faults,
+        )?;
+        assert!(rt;
+            (status, reader.calls, writer.calls, faults.bytes.as_slice()) == (2, 0, 0, told)
+        );
     }
     Ok(())
 }

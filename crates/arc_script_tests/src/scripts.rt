@@ -1,8 +1,6 @@
 //! Scripts and their replies, and readers and writers that give or take little or fail.
 use crate::devices::{Pieces, Taken, push_digits};
-use crate::rows::{
-    HELLO, HELLO_REPLIES, LEFT, LEFT_REPLIES, SCRIPTS, UNIQUE, UNIQUE_REPLIES, WRITERS,
-};
+use crate::rows::{HELLO, HELLO_REPLIES, LEFT, LEFT_REPLIES};
 use arc_script::io::Counted;
 use arc_script::script::{ScriptError, ScriptLayout, run_script};
 use linked_list_allocator::LocalHeap;
@@ -50,69 +48,22 @@ fn slice_line(alloc: Global, digits: usize) -> Result<Vec<u8>, AllocError> {
     Ok(line)
 }
 
+/// Windows on two blocks and on none, a line of no form, and a last line without its line feed.
 #[test]
 fn scripts(rt: HostRuntime) {
-    for (script, replies) in SCRIPTS {
-        assert!(rt;
-            has_replies(&rt, rt.alloc(), script, replies),
-            "at {script:?}"
-        );
-    }
-}
-
-#[test]
-fn writers(rt: HostRuntime) {
-    for (script, replies) in WRITERS {
-        assert!(rt;
-            has_replies(&rt, rt.alloc(), script, replies),
-            "at {script:?}"
-        );
-    }
-}
-
-#[test]
-fn unique_or_not(rt: HostRuntime) {
-    assert!(rt; has_replies(&rt, rt.alloc(), UNIQUE, UNIQUE_REPLIES));
-}
-
-/// The longest line that is one, and the shortest lines that are too long.
-#[test]
-fn longest_line(rt: HostRuntime) -> Result<(), Fail> {
-    let mut script = slice_line(rt.alloc(), 65_530)?;
-    assert!(rt; script.len() == 65_537);
-    script.extend_from_slice(b"show 0\n")?;
-    let mut replies = Vec::from_slice(rt.alloc(), b"h0\n")?;
-    push_digits(&mut replies, 65_530)?;
-    replies.push(b'\n')?;
-    assert!(rt; has_replies(&rt, rt.alloc(), &script, &replies));
-    for digits in [65_531, 65_532] {
-        let mut script = slice_line(rt.alloc(), digits)?;
-        script.extend_from_slice(b"show 0\n")?;
-        assert!(rt;
-            has_replies(&rt, rt.alloc(), &script, b"bad line\nno window\n"),
-            "at {digits} digits"
-        );
-    }
-    Ok(())
-}
-
-/// A piece of the input with replies of some 480,000 bytes.
-#[test]
-fn many_replies(rt: HostRuntime) -> Result<(), Fail> {
-    let mut script = slice_line(rt.alloc(), 40_000)?;
-    let mut replies = Vec::from_slice(rt.alloc(), b"h0\n")?;
-    for new in [
-        "h1\n", "h2\n", "h3\n", "h4\n", "h5\n", "h6\n", "h7\n", "h8\n", "h9\n", "h10\n", "h11\n",
-        "h12\n",
+    for (script, replies) in [
+        (LEFT, LEFT_REPLIES),
+        (
+            b"\nslice 41\nsho".as_slice(),
+            b"bad line\nh0\nbad line\n".as_slice(),
+        ),
+        (b"".as_slice(), b"".as_slice()),
     ] {
-        script.extend_from_slice(b"show 0\nsub 0 0 1\n")?;
-        push_digits(&mut replies, 40_000)?;
-        replies.push(b'\n')?;
-        replies.extend_from_slice(new.as_bytes())?;
+        assert!(rt;
+            has_replies(&rt, rt.alloc(), script, replies),
+            "at {script:?}"
+        );
     }
-    assert!(rt; script.len() < 65_536);
-    assert!(rt; has_replies(&rt, rt.alloc(), &script, &replies));
-    Ok(())
 }
 
 #[test]

@@ -1,9 +1,10 @@
-//! Commands and their replies: the worked rows, each call once, and memory that runs out.
+//! Commands and their replies: each call once, kinds and layouts that the program doesn't have, and
+//! memory that runs out. The worked rows over bytes stand in `tests/rows` of the repository, which
+//! `tests/program` gives to the built program.
 use crate::tables::{ByteTable, Said, has_items, shows, table_of, told};
 use arc_block::layout::{ArcLayout, DefaultLayout};
 use arc_block::static_slice::StaticSlice;
 use arc_buffer::kinds::Plain;
-use arc_owners::error::RangeError;
 use arc_table::command::{Cmd, Reply, TableCmd, TableReply};
 use arc_table::table::Table;
 use linked_list_allocator::LocalHeap;
@@ -135,60 +136,6 @@ fn list_refused(rt: HostRuntime) -> Result<(), Fail> {
     Ok(())
 }
 
-/// Ranges are answered in the order of their tests, and an empty cut stands on nothing.
-#[test]
-fn ranges(rt: HostRuntime) {
-    let mut table = table_of(&rt, rt.alloc(), &[1, 2]);
-    let past = told(table.step(
-        &rt,
-        Cmd::Sub {
-            window: 0,
-            start: 0,
-            end: 3,
-        },
-    ));
-    let turned = told(table.step(
-        &rt,
-        Cmd::Sub {
-            window: 0,
-            start: 2,
-            end: 1,
-        },
-    ));
-    let empty = told(table.step(
-        &rt,
-        Cmd::Sub {
-            window: 0,
-            start: 1,
-            end: 1,
-        },
-    ));
-    let shown = shows(&rt, &mut table, 1, b"");
-    let alone = told(table.step(&rt, Cmd::Uniq { window: 1 }));
-    let dropped = told(table.step(&rt, Cmd::Drop { window: 0 }));
-    let gone = told(table.step(&rt, Cmd::Show { window: 0 }));
-    let _ = table.end();
-    assert!(rt; past == Said::Range(RangeError::OutOfRange));
-    assert!(rt; [turned, empty] == [Said::Range(RangeError::InvalidRange), Said::New(1)]);
-    assert!(rt; shown);
-    assert!(rt; [alone, dropped, gone] == [Said::No, Said::Ok, Said::NoWindow]);
-}
-
-/// A window is alone on its block, has another owner beside it, and is alone again.
-#[test]
-fn unique_or_not(rt: HostRuntime) {
-    let mut table = table_of(&rt, rt.alloc(), b"A");
-    let first = told(table.step(&rt, Cmd::Uniq { window: 0 }));
-    let clone = told(table.step(&rt, Cmd::Clone { window: 0 }));
-    let second = told(table.step(&rt, Cmd::Uniq { window: 0 }));
-    let _ = table.step(&rt, Cmd::Drop { window: 1 });
-    let third = told(table.step(&rt, Cmd::Uniq { window: 0 }));
-    let again = told(table.step(&rt, Cmd::Clone { window: 0 }));
-    let _ = table.end();
-    assert!(rt; [first, clone, second, third] == [Said::Yes, Said::New(1), Said::No, Said::Yes]);
-    assert!(rt; again == Said::New(2));
-}
-
 /// Under a layout without static data an empty cut is an owner; the items needn't be bytes.
 #[test]
 fn numbers_without_static_data(rt: HostRuntime) -> Result<(), Fail> {
@@ -207,44 +154,6 @@ fn numbers_without_static_data(rt: HostRuntime) -> Result<(), Fail> {
     let _ = table.end();
     assert!(rt; [made, cut, alone] == [Said::New(0), Said::New(1), Said::No]);
     Ok(())
-}
-
-/// Windows over a static slice come back as slices, and one on a block stays.
-#[test]
-fn taken_or_refused(rt: HostRuntime) {
-    let mut table = table_of(&rt, rt.alloc(), b"Hello");
-    let made = told(table.step(&rt, Cmd::Static(StaticSlice::new(b"abcd"))));
-    let cut = told(table.step(
-        &rt,
-        Cmd::Sub {
-            window: 1,
-            start: 0,
-            end: 2,
-        },
-    ));
-    let none = told(table.step(
-        &rt,
-        Cmd::Sub {
-            window: 1,
-            start: 4,
-            end: 4,
-        },
-    ));
-    let nothing = table.step(&rt, Cmd::TakeStatic { window: 3 });
-    let part = table.step(&rt, Cmd::TakeStatic { window: 2 });
-    let alone = told(table.step(&rt, Cmd::Uniq { window: 1 }));
-    let whole = table.step(&rt, Cmd::TakeStatic { window: 1 });
-    let gone = told(table.step(&rt, Cmd::TakeStatic { window: 1 }));
-    let refused = told(table.step(&rt, Cmd::TakeStatic { window: 0 }));
-    let shown = shows(&rt, &mut table, 0, b"Hello");
-    let _ = table.end();
-    assert!(rt; [made, cut, none] == [Said::New(1), Said::New(2), Said::New(3)]);
-    assert!(rt; is_slice(&nothing, b""));
-    assert!(rt; is_slice(&part, b"ab"));
-    assert!(rt; alone == Said::No);
-    assert!(rt; is_slice(&whole, b"abcd"));
-    assert!(rt; [gone, refused] == [Said::NoWindow, Said::Refused]);
-    assert!(rt; shown);
 }
 
 /// The items needn't be `'static`: a window on nothing comes back as a slice of none.

@@ -11,7 +11,7 @@ use std::sync::Wait;
 pub type ByteTable<A> = Table<Plain<u8>, DefaultLayout, Vec<u8>, (), A>;
 
 /// What a reply says, without the items that it hands out.
-#[derive(Clone, Copy, Debug, PartialEq, Eq)]
+#[derive(Clone, Copy, PartialEq, Eq)]
 pub enum Said {
     New(usize),
     Ok,

@@ -19,25 +19,6 @@ impl TableItem for Color {
     type Zero = NoZero;
 }
 
-/// So many zeros are all that the block has places for, and none stand on nothing.
-#[test]
-fn zeros(rt: HostRuntime) {
-    let mut table: Table<Plain<u8>, DefaultLayout, Vec<u8>, (), _> = Table::new(rt.alloc());
-    let three = told(table.step(&rt, Cmd::Zero { count: 3 }));
-    let none = told(table.step(&rt, Cmd::Zero { count: 0 }));
-    let room = told(table.step(&rt, Cmd::Room { window: 0 }));
-    let shown = table.step(&rt, Cmd::Show { window: 0 });
-    let idle = told(table.step(&rt, Cmd::Room { window: 1 }));
-    let _ = table.end();
-    assert!(rt; [three, none, room] == [Said::New(0), Said::New(1), Said::Number(3)]);
-    assert!(rt; idle == Said::Number(0));
-    let shows = match &shown {
-        Reply::Items(items) => items.as_slice() == b"\x00\x00\x00".as_slice(),
-        _ => false,
-    };
-    assert!(rt; shows);
-}
-
 /// Byte text has a zero, and so have numbers with a sign.
 #[test]
 fn zeros_of_kinds(rt: HostRuntime) {
