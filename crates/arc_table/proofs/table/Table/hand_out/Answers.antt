@@ -2,12 +2,13 @@
 -- as many owners as it may have, or the layout wanted memory.
 use Rattle.std.specs.Mem.{type_size}
 use Rattle.std.specs.Option.{option_flatten}
-use Rattle.std.proofs.Common.{inl, inr, ◌≡◌, [], ◌∷◌, ◌++◌, length, Some, Ok}
+use Rattle.std.proofs.Common.{inl, inr, ◌≡◌, ℕ, List, [], ◌∷◌, ◌++◌, length, Option, Some, None, Ok}
 use Rattle.std.proofs.Common.{slice_get, slice_set, refl, sym, ap, ◌∙◌, subst, arith}
 use Rattle.std.proofs.lemmas.Bool.{cases_Bool}
 use Rattle.std.proofs.lemmas.Option.{none-some, same_Some, slice_get_within}
 use Rattle.arc_slots.specs.Parts.{IsPart, is_itself, part_answer, part_command, rest_of, row_made}
 use Rattle.arc_slots.specs.Slots.{SlotView, row_of, stand_of}
+use Rattle.arc_slots.specs.declared.part.Part.{Part}
 use Rattle.arc_commands.specs.Additions.{Adds}
 use Rattle.arc_commands.specs.State.{State}
 use Rattle.arc_slots.specs.Slots.{state_of}
@@ -23,35 +24,64 @@ use Rattle.arc_table.proofs.Parts.{part-joins, part-enters}
 use Rattle.arc_table.proofs.Done.{Done, handed-out, part-out, unmade, same-fact}
 use Rattle.arc_table.proofs.table.Table.hand_out.Given.{Over}
 use Rattle.arc_table.proofs.table.Table.hand_out.Goals.{After-push_reserved, In-Err-try_part}
+use Rattle.arc_table.proofs.table.Table.hand_out.Goals.{In-Some-index_mut}
 use Rattle.arc_table.proofs.table.Table.hand_out.Goals as goal
 
 abbrev setting : (g : Over) → Setting g.row.S-Item.Denot
 setting g =
     setting_of g.L.Layout.STATIC g.L.Layout.clone_wants g.S.Slice.DROPS g.S.Subsliceable.boundary (type_size g.row.S-Item) g.S.Zero.ZeroOf.zero
 
-made : (g : Over) (c : After-push_reserved g)
-    → Done (setting g) c.args.self.now (part_command c.args.i c.args.part)
-    (reply.New c.len-number.result) c.push_reserved.new.self.items
-    c.try_part.new.passes.of_blocks.items
-made g c =
+abbrev Seen : Over → Type 0
+Seen g = SlotView g.row.S-Item.Denot g.row.M.Denot
+
+abbrev Slots : Over → Type 0
+Slots g = List (Option (Seen g))
+
+-- what is known of the window once its slot was found again: it is there, it is one that is read,
+-- and it has such a part
+record Known (g : Over) (slots again : Slots g) (i : ℕ) (s : Seen g) (p : Part) : Type 0 where
+  pub there : slice_get slots i ≡ Some (Some s)
+  pub there_again : slice_get again i ≡ Some (Some s)
+  pub reads : s.capacity ≡ None
+  pub may : part_answer (setting g).boundary s.window.items p ≡ Ok tt
+  pub has : IsPart (setting g).boundary s.window.items p
+
+known : (g : Over) (c : In-Some-index_mut g)
+    → Known g c.self.inside.slots.items c.reserve.new.self.items c.args.i c.in-Some-index_mut.slot
+    c.args.part
+known g c =
     let slots = c.self.inside.slots.items in
-    let passes = c.self.inside.passes.of_blocks.items in
     let i = c.args.i in
     let first = ap (λ ss. slice_get ss i) (sym c.deref.ensures.value) ∙ c.in-Some.ensures in
     let read = c.reserve.new.self.items in
     let again = ap (λ ss. slice_get ss i) c.reserve.ensures.items ∙ first in
     let at = read-there read i c.index_mut.result.now _ again c.index_mut.ensures.value in
     let s = c.in-Some-index_mut.slot in
-    let there_read = at ∙ ap Some c.in-Some-index_mut.is in
-    let there = ap (λ ss. slice_get ss i) (sym c.reserve.ensures.items) ∙ there_read in
+    let there_again = at ∙ ap Some c.in-Some-index_mut.is in
+    let there = ap (λ ss. slice_get ss i) (sym c.reserve.ensures.items) ∙ there_again in
     let one = same_entry slots i c.in-Some.slot.now s first there in
-    let reads =
-    ap (λ (v : SlotView g.row.S-Item.Denot g.row.M.Denot). v.capacity) (sym one)
-    ∙ c.is_written.ensures.reads c.if-is_written.false in
-    let may : part_answer (setting g).boundary s.window.items c.args.part ≡ Ok tt =
-    ap (λ (v : SlotView g.row.S-Item.Denot g.row.M.Denot).
-    part_answer (setting g).boundary v.window.items c.args.part) (sym one)
-    ∙ sym c.in_default-check_part.ensures.answer in
+    record {
+      there = there;
+      there_again = there_again;
+      reads = ap (λ (v : Seen g). v.capacity) (sym one)
+          ∙ c.is_written.ensures.reads c.if-is_written.false;
+      may = ap (λ (v : Seen g). part_answer (setting g).boundary v.window.items c.args.part)
+          (sym one) ∙ sym c.in_default-check_part.ensures.answer;
+      has = subst (λ (v : Seen g). IsPart (setting g).boundary v.window.items c.args.part) one
+          (c.in_default-check_part.ensures.ok refl);
+    }
+
+made : (g : Over) (c : After-push_reserved g)
+    → Known g c.self.inside.slots.items c.reserve.new.self.items c.args.i c.in-Some-index_mut.slot
+    c.args.part
+    → Done (setting g) c.args.self.now (part_command c.args.i c.args.part)
+    (reply.New c.len-number.result) c.push_reserved.new.self.items
+    c.try_part.new.passes.of_blocks.items
+made g c k =
+    let slots = c.self.inside.slots.items in
+    let passes = c.self.inside.passes.of_blocks.items in
+    let i = c.args.i in
+    let s = c.in-Some-index_mut.slot in
     let slots' = c.push_reserved.new.self.items in
     let after = c.try_part.new.passes.of_blocks.items in
     let kept = c.try_part.new.self in
@@ -62,63 +92,52 @@ made g c =
     ∙ ap (λ ss. slice_set ss i (Some kept) ++ Some handed ∷ []) c.reserve.ensures.items in
     let counted : number ≡ length slots =
     c.len-number.ensures ∙ c.reserve.new.self.ok.0 ∙ ap length c.reserve.ensures.items in
-    let answers = part-answers (setting g) slots passes i s there reads c.args.part may in
+    let answers = part-answers (setting g) slots passes i s k.there k.reads c.args.part k.may in
     let row = row_of s in
     let cut = rest_of row c.args.part in
     let part = row_made (setting g).has_static row c.args.part in
-    let adds = part-joins (setting g) slots passes i s there slots' after c.args.part in
+    let adds = part-joins (setting g) slots passes i s k.there slots' after c.args.part in
     subst (λ (o : State g.row.S-Item.Denot g.row.M.Denot).
     Done (setting g) o (part_command i c.args.part) (reply.New number) slots' after) c.self.view_is
     (elim (cases_Bool (is_itself row c.args.part)) [
       | inl itself ↦
-          handed-out (setting g) slots passes i s there c.self.invariant
+          handed-out (setting g) slots passes i s k.there c.self.invariant
           (part_command i c.args.part) slots' after (is_itself row c.args.part) cut part answers adds
           kept handed number more counted itself (c.in-Ok.ensures.itself itself)
       | inr beside ↦
-          part-out (setting g) slots passes i s there c.self.invariant
+          part-out (setting g) slots passes i s k.there c.self.invariant
           (part_command i c.args.part) slots' after (is_itself row c.args.part) cut part answers adds
           kept handed number more counted beside (c.in-Ok.ensures.beside beside)
     ])
 
 refused : (g : Over) (c : In-Err-try_part g)
+    → Known g c.self.inside.slots.items c.reserve.new.self.items c.args.i c.in-Some-index_mut.slot
+    c.args.part
     → Done (setting g) c.args.self.now (part_command c.args.i c.args.part)
     (reply.Owner c.in-Err-try_part.e)
     (slice_set c.reserve.new.self.items c.args.i (Some c.try_part.new.self))
     c.try_part.new.passes.of_blocks.items
-refused g c =
+refused g c k =
     let slots = c.self.inside.slots.items in
     let passes = c.self.inside.passes.of_blocks.items in
     let i = c.args.i in
-    let first = ap (λ ss. slice_get ss i) (sym c.deref.ensures.value) ∙ c.in-Some.ensures in
     let read = c.reserve.new.self.items in
-    let again = ap (λ ss. slice_get ss i) c.reserve.ensures.items ∙ first in
-    let at = read-there read i c.index_mut.result.now _ again c.index_mut.ensures.value in
     let s = c.in-Some-index_mut.slot in
-    let there_read = at ∙ ap Some c.in-Some-index_mut.is in
-    let there = ap (λ ss. slice_get ss i) (sym c.reserve.ensures.items) ∙ there_read in
-    let one = same_entry slots i c.in-Some.slot.now s first there in
-    let reads =
-    ap (λ (v : SlotView g.row.S-Item.Denot g.row.M.Denot). v.capacity) (sym one)
-    ∙ c.is_written.ensures.reads c.if-is_written.false in
-    let may : part_answer (setting g).boundary s.window.items c.args.part ≡ Ok tt =
-    ap (λ (v : SlotView g.row.S-Item.Denot g.row.M.Denot).
-    part_answer (setting g).boundary v.window.items c.args.part) (sym one)
-    ∙ sym c.in_default-check_part.ensures.answer in
     let after = c.try_part.new.passes.of_blocks.items in
     let e = c.in-Err-try_part.e in
     let slots' = slice_set read i (Some c.try_part.new.self) in
     let same : slots' ≡ slots =
     ap (λ v. slice_set read i (Some v)) c.in-Err-try_part.ensures.kept
-    ∙ set-back read i (Some s) there_read ∙ c.reserve.ensures.items in
+    ∙ set-back read i (Some s) k.there_again ∙ c.reserve.ensures.items in
     let row = row_of s in
     let part = row_made (setting g).has_static row c.args.part in
     subst (λ (o : State g.row.S-Item.Denot g.row.M.Denot).
     Done (setting g) o (part_command i c.args.part) (reply.Owner e) slots' after) c.self.view_is
-    (unmade (setting g) slots passes i s there c.self.invariant (part_command i c.args.part) slots'
-    after part (split_rows (state_of slots passes).table i (is_itself row c.args.part) row
+    (unmade (setting g) slots passes i s k.there c.self.invariant (part_command i c.args.part)
+    slots' after part (split_rows (state_of slots passes).table i (is_itself row c.args.part) row
     (rest_of row c.args.part) part)
-    (part-answers (setting g) slots passes i s there reads c.args.part may)
-    (part-enters (setting g) slots passes i s there slots' after c.args.part) e
+    (part-answers (setting g) slots passes i s k.there k.reads c.args.part k.may)
+    (part-enters (setting g) slots passes i s k.there slots' after c.args.part) e
     c.in-Err-try_part.ensures.refused same)
 
 pub returns-then-is_err-clause-rows : goal.returns-then-is_err-clause-rows
@@ -162,59 +181,44 @@ unreachable-requires g c =
 
 pub try_part-requires-clause-within : goal.try_part-requires-clause-within
 try_part-requires-clause-within g c κs within =
-    let slots = c.self.inside.slots.items in
-    let passes = c.self.inside.passes.of_blocks.items in
-    let i = c.args.i in
-    let first = ap (λ ss. slice_get ss i) (sym c.deref.ensures.value) ∙ c.in-Some.ensures in
-    let read = c.reserve.new.self.items in
-    let again = ap (λ ss. slice_get ss i) c.reserve.ensures.items ∙ first in
-    let at = read-there read i c.index_mut.result.now _ again c.index_mut.ensures.value in
-    let s = c.in-Some-index_mut.slot in
-    let there_read = at ∙ ap Some c.in-Some-index_mut.is in
-    let there = ap (λ ss. slice_get ss i) (sym c.reserve.ensures.items) ∙ there_read in
-    let one = same_entry slots i c.in-Some.slot.now s first there in
-    subst (λ (v : SlotView g.row.S-Item.Denot g.row.M.Denot).
-    IsPart g.S.Subsliceable.boundary v.window.items c.args.part) one
-    (c.in_default-check_part.ensures.ok refl)
+    (known g (goal.at.try_part-requires-clause-within g c).In-Some-index_mut).has
 
 pub try_part-requires-clause-pass : goal.try_part-requires-clause-pass
 try_part-requires-clause-pass g c κs within =
-    let slots = c.self.inside.slots.items in
-    let passes = c.self.inside.passes.of_blocks.items in
-    let i = c.args.i in
-    let first = ap (λ ss. slice_get ss i) (sym c.deref.ensures.value) ∙ c.in-Some.ensures in
-    let read = c.reserve.new.self.items in
-    let again = ap (λ ss. slice_get ss i) c.reserve.ensures.items ∙ first in
-    let at = read-there read i c.index_mut.result.now _ again c.index_mut.ensures.value in
     let s = c.in-Some-index_mut.slot in
-    let there_read = at ∙ ap Some c.in-Some-index_mut.is in
-    let there = ap (λ ss. slice_get ss i) (sym c.reserve.ensures.items) ∙ there_read in
-    known-pass i c.self.invariant.0 (stand_of (Some s)) (stand-there slots passes i s there)
+    known-pass c.args.i c.self.invariant.0 (stand_of (Some s))
+    (stand-there c.self.inside.slots.items c.self.inside.passes.of_blocks.items c.args.i s
+    (known g (goal.at.try_part-requires-clause-pass g c).In-Some-index_mut).there)
 
 pub invariant_of-self-in-Ok : goal.invariant_of-self-in-Ok
 invariant_of-self-in-Ok g c =
-    (made g (goal.at.invariant_of-self-in-Ok g c).After-push_reserved).kept
+    let at = goal.at.invariant_of-self-in-Ok g c in
+    (made g at.After-push_reserved (known g at.In-Some-index_mut)).kept
 
 pub invariant_of-self-in-Err-try_part : goal.invariant_of-self-in-Err-try_part
 invariant_of-self-in-Err-try_part g c =
-    (refused g (goal.at.invariant_of-self-in-Err-try_part g c).In-Err-try_part).kept
+    let at = goal.at.invariant_of-self-in-Err-try_part g c in
+    (refused g at.In-Err-try_part (known g at.In-Some-index_mut)).kept
 
 pub returns-in-Ok-clause-rows : goal.returns-in-Ok-clause-rows
 returns-in-Ok-clause-rows g c =
-    (made g (goal.at.returns-in-Ok-clause-rows g c).After-push_reserved).rows
+    let at = goal.at.returns-in-Ok-clause-rows g c in
+    (made g at.After-push_reserved (known g at.In-Some-index_mut)).rows
 
 pub returns-in-Ok-clause-passes : goal.returns-in-Ok-clause-passes
 returns-in-Ok-clause-passes g c =
-    (made g (goal.at.returns-in-Ok-clause-passes g c).After-push_reserved).passes_are
+    let at = goal.at.returns-in-Ok-clause-passes g c in
+    (made g at.After-push_reserved (known g at.In-Some-index_mut)).passes_are
 
 pub returns-in-Err-try_part-clause-rows : goal.returns-in-Err-try_part-clause-rows
 returns-in-Err-try_part-clause-rows g c =
-    (refused g (goal.at.returns-in-Err-try_part-clause-rows g c).In-Err-try_part).rows
+    let at = goal.at.returns-in-Err-try_part-clause-rows g c in
+    (refused g at.In-Err-try_part (known g at.In-Some-index_mut)).rows
 
 pub returns-in-Err-try_part-clause-passes : goal.returns-in-Err-try_part-clause-passes
 returns-in-Err-try_part-clause-passes g c =
-    (refused g
-    (goal.at.returns-in-Err-try_part-clause-passes g c).In-Err-try_part).passes_are
+    let at = goal.at.returns-in-Err-try_part-clause-passes g c in
+    (refused g at.In-Err-try_part (known g at.In-Some-index_mut)).passes_are
 
 pub push_reserved-requires : goal.push_reserved-requires
 push_reserved-requires g c =
@@ -258,18 +262,7 @@ returns-in-Err-clause-rows g c =
 
 pub try_part-requires-clause-reads : goal.try_part-requires-clause-reads
 try_part-requires-clause-reads g c κs within =
-    let slots = c.self.inside.slots.items in
-    let i = c.args.i in
-    let first = ap (λ ss. slice_get ss i) (sym c.deref.ensures.value) ∙ c.in-Some.ensures in
-    let read = c.reserve.new.self.items in
-    let again = ap (λ ss. slice_get ss i) c.reserve.ensures.items ∙ first in
-    let at = read-there read i c.index_mut.result.now _ again c.index_mut.ensures.value in
-    let s = c.in-Some-index_mut.slot in
-    let there_read = at ∙ ap Some c.in-Some-index_mut.is in
-    let there = ap (λ ss. slice_get ss i) (sym c.reserve.ensures.items) ∙ there_read in
-    ap (λ (v : SlotView g.row.S-Item.Denot g.row.M.Denot). v.capacity)
-    (sym (same_entry slots i c.in-Some.slot.now s first there))
-    ∙ c.is_written.ensures.reads c.if-is_written.false
+    (known g (goal.at.try_part-requires-clause-reads g c).In-Some-index_mut).reads
 
 pub invariant_of-self : goal.invariant_of-self
 invariant_of-self g c = same-fact c.self.invariant c.reserve.ensures.items refl
