@@ -88,11 +88,13 @@ write-adds-none t old new i (writing.Nothing additional) e same = same
 write-adds-none t old new i (writing.Item item) e same = same
 write-adds-none t old new i (writing.Items items) e same = same
 
+-- a command that isn't carried out adds nothing
 pub write-adds-other : {T M : Type 0} (t : Table T M) (old : Standing Whole) (i : ℕ)
     (what : Writing (List T) T) → Adds t old (write_command i what) reply.NoWindow old
-write-adds-other t old i (writing.Nothing additional) = refl
-write-adds-other t old i (writing.Item item) = refl
-write-adds-other t old i (writing.Items items) = refl
+    × Adds t old (write_command i what) reply.Kind old
+write-adds-other t old i (writing.Nothing additional) = (refl, refl)
+write-adds-other t old i (writing.Item item) = (refl, refl)
+write-adds-other t old i (writing.Items items) = (refl, refl)
 
 module _ {T M : Type 0} (setting : Setting T) (slots : List (Option (SlotView T M)))
     (passes : List (Pass Whole)) (i : ℕ) (what : Writing (List T) T) where

@@ -46,8 +46,13 @@ returns-in_default-clause-rows g c =
 
 pub returns-in_default-clause-passes : goal.returns-in_default-clause-passes
 returns-in_default-clause-passes g c =
-    write-adds-other c.args.self.now.table c.args.self.now.standing c.args.i
-    (seen_writing c.args.what)
+    (write-adds-other c.args.self.now.table c.args.self.now.standing c.args.i
+    (seen_writing c.args.what)).0
+
+pub returns-then-not-is_written-clause-passes : goal.returns-then-not-is_written-clause-passes
+returns-then-not-is_written-clause-passes g c =
+    (write-adds-other c.args.self.now.table c.args.self.now.standing c.args.i
+    (seen_writing c.args.what)).1
 
 pub returns-then-not-is_written-clause-rows : goal.returns-then-not-is_written-clause-rows
 returns-then-not-is_written-clause-rows g c =
