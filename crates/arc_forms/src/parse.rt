@@ -1,4 +1,6 @@
-//! Reading a line as a command.
+//! Reading a line as a command: its form is found by its first word, its operands are read as plain
+//! values, and the command is made of these. What isn't there leaves by `let .. else`, since a `?`
+//! makes the proof of its function longer by a third.
 ghost use Rattle.std.specs.Prelude.{◌≡◌, ◌+◌, ◌*◌, ◌<◌, ◌≤◌, ℕ, List, [], ◌∷◌, length, IfOk};
 ghost use Rattle.std.specs.Prelude.{MatchOption, IsSomeAnd, OnErr, IsTrue};
 ghost use Rattle.std.specs.Option.{option_map};
@@ -32,7 +34,7 @@ pub const LONGEST_LINE: usize = 65536;
 /// The most digits of a number.
 const MOST_DIGITS: usize = 18;
 
-/// A form, by what stands behind its first word.
+/// A form of a line, by what stands behind its first word.
 #[derive(Clone, Copy)]
 enum Verb {
     /// Nothing.
@@ -92,32 +94,33 @@ enum JustItems {
     MSlice,
 }
 
-/// The forms by their first words, those that most lines have first.
+/// The forms by their first words, in the order in which they are looked for: those that most lines
+/// have stand first.
 const VERBS: &[(&[u8], Verb)] = &[
     (b"show", Verb::Number(OneNumber::Show)),
     (b"drop", Verb::Number(OneNumber::Drop)),
     (b"slice", Verb::Items(JustItems::Slice)),
     (b"clone", Verb::Number(OneNumber::Clone)),
     (b"sub", Verb::Sub),
-    (b"static", Verb::Bare(Bare::Static)),
-    (b"takestatic", Verb::Number(OneNumber::TakeStatic)),
+    (b"push", Verb::Push),
+    (b"ext", Verb::Ext),
     (b"off", Verb::Numbers(TwoNumbers::Off)),
     (b"to", Verb::Numbers(TwoNumbers::To)),
-    (b"uniq", Verb::Number(OneNumber::Uniq)),
     (b"len", Verb::Number(OneNumber::Len)),
     (b"adv", Verb::Numbers(TwoNumbers::Adv)),
     (b"trunc", Verb::Numbers(TwoNumbers::Trunc)),
-    (b"new", Verb::Bare(Bare::New)),
+    (b"uniq", Verb::Number(OneNumber::Uniq)),
     (b"mslice", Verb::Items(JustItems::MSlice)),
+    (b"new", Verb::Bare(Bare::New)),
     (b"cap", Verb::Number(OneNumber::Cap)),
     (b"zero", Verb::Number(OneNumber::Zero)),
-    (b"push", Verb::Push),
-    (b"ext", Verb::Ext),
     (b"res", Verb::Numbers(TwoNumbers::Res)),
     (b"rec", Verb::Numbers(TwoNumbers::Rec)),
     (b"room", Verb::Number(OneNumber::Room)),
     (b"freeze", Verb::Number(OneNumber::Freeze)),
     (b"mut", Verb::Number(OneNumber::Mut)),
+    (b"static", Verb::Bare(Bare::Static)),
+    (b"takestatic", Verb::Number(OneNumber::TakeStatic)),
 ];
 
 /// What is left of a line behind a word: `None` behind the last.
@@ -320,7 +323,7 @@ fn one_hex(rest: Rest) -> Option<Hex>
     }
 }
 
-/// The form whose first word this is, in such a table.
+/// The form whose first word this is, in a table of first words.
 fn verb_in(table: &[(&[u8], Verb)], word: &[u8]) -> Option<Verb>
     ensures { result ≡ named word.now (lines table.now) }
 {
