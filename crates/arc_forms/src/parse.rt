@@ -190,17 +190,6 @@ fn number(rest: Rest) -> Option<(usize, Rest)>
     Some((number, rest))
 }
 
-/// Nothing is left.
-#[tactic(auto, using(crate::proofs::Forms::nothing_is_left, crate::proofs::Forms::word_is_left))]
-fn nothing(rest: Rest) -> Option<()>
-    ensures { option_map (λ _. []) result ≡ operands_of [] (words_in rest.entry) }
-{
-    match rest {
-        None => Some(()),
-        Some(_) => None,
-    }
-}
-
 /// The one number that is left.
 #[tactic(auto, using(crate::proofs::Forms::last_operand, crate::proofs::Forms::none_left))]
 fn one_number(rest: Rest) -> Option<usize>
@@ -273,18 +262,6 @@ fn byte_in(word: &[u8]) -> Option<u8>
     Some(16 * value_of(*high) + value_of(*low))
 }
 
-/// The one byte that is left.
-#[tactic(auto, using(crate::proofs::Forms::last_operand, crate::proofs::Forms::none_left))]
-fn one_byte(rest: Rest) -> Option<u8>
-    ensures { option_map (λ x. Byte x ∷ []) result
-        ≡ operands_of (AByte ∷ []) (words_in rest.entry) }
-{
-    match rest {
-        Some(line) => byte_in(line),
-        None => None,
-    }
-}
-
 /// The digits of the items that a word says.
 fn digits_in(word: &[u8]) -> Option<Hex<'_>>
     ensures { option_map (λ hex. pairs hex.digits.now) result ≡ items_of word.now }
@@ -347,14 +324,14 @@ fn verb_of(line: &[u8]) -> Option<(Verb, Rest)>
 }
 
 /// The command of a form with nothing behind its first word.
-#[tactic(auto, unfolding(crate::specs::Reading::read_as))]
+#[tactic(auto, using(crate::proofs::Forms::nothing_is_left, crate::proofs::Forms::word_is_left), unfolding(crate::specs::Reading::read_as))]
 fn with_nothing<A: Allocator>(verb: Bare, rest: Rest) -> Option<Command<A>>
     ensures { option_map seen_command result
         ≡ read_as (words_in rest.entry) (Verb.Bare verb) }
 {
-    let Some(()) = nothing(rest) else {
+    if rest.is_some() {
         return None;
-    };
+    }
     match verb {
         Bare::New => Some(Cmd::New),
         Bare::Static => Some(Cmd::Static(StaticSlice::new(STATIC_BYTES))),
@@ -443,17 +420,17 @@ fn sub<A: Allocator>(rest: Rest) -> Option<Command<A>>
 }
 
 /// The command `Push`.
-#[tactic(auto, unfolding(crate::specs::Reading::operands_of, crate::specs::Reading::read_as))]
+#[tactic(auto, using(crate::proofs::Forms::last_operand, crate::proofs::Forms::none_left), unfolding(crate::specs::Reading::operands_of, crate::specs::Reading::read_as))]
 fn push<A: Allocator>(rest: Rest) -> Option<Command<A>>
     ensures { option_map seen_command result ≡ read_as (words_in rest.entry) Verb.Push }
 {
-    let Some((window, rest)) = number(rest) else {
+    let Some((window, Some(last))) = number(rest) else {
         return None;
     };
-    let Some(item) = one_byte(rest) else {
-        return None;
-    };
-    Some(Cmd::Push { window, item })
+    match byte_in(last) {
+        Some(item) => Some(Cmd::Push { window, item }),
+        None => None,
+    }
 }
 
 /// The command of a form of items. `Err` where memory is refused for them.
