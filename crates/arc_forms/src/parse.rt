@@ -1,17 +1,17 @@
 //! Reading a line as a command: its form is found by its first word, its operands are read as plain
 //! values, and the command is made of these. What isn't there leaves by `let .. else`, since a `?`
 //! makes the proof of its function longer by a third.
-ghost use Rattle.std.specs.Prelude.{◌≡◌, ◌+◌, ◌*◌, ◌<◌, ◌≤◌, ℕ, List, [], ◌∷◌, length, IfOk};
+ghost use Rattle.std.specs.Prelude.{◌≡◌, ◌+◌, ◌*◌, ◌<◌, ℕ, List, [], ◌∷◌, length, IfOk};
 ghost use Rattle.std.specs.Prelude.{MatchOption, IsSomeAnd, OnErr, IsTrue};
 ghost use Rattle.std.specs.Option.{option_map};
 ghost use Rattle.std.specs.Char.{digit_value};
-ghost use Rattle.std.specs.List.{list_all, position_or_len};
+ghost use Rattle.std.specs.List.{list_all};
 ghost use Rattle.std.specs.Vec.{vec_items};
 ghost use Rattle.arc_forms.specs.Text.{Number, Byte, Items, Says, IsBad};
 ghost use Rattle.arc_commands.specs.Seen.{seen_command};
 ghost use Rattle.arc_commands.specs.declared.command.Cmd.{Cmd};
 ghost use Rattle.arc_forms.specs.Reading.{ANumber, SomeItems, BringsItems, command_of, first_by};
-ghost use Rattle.arc_forms.specs.Reading.{is_hex_digit, is_space, items_of, number_of, operand_of};
+ghost use Rattle.arc_forms.specs.Reading.{is_hex_digit, items_of, number_of, operand_of};
 ghost use Rattle.arc_forms.specs.Reading.{operands_of, pairs, words_in, lines, named, read_behind};
 ghost use Rattle.arc_forms.specs.Reading.{number_form, numbers_form};
 ghost use Rattle.arc_forms.specs.Reading.{AByte, byte_of, read_as};
@@ -133,25 +133,16 @@ struct Hex<'a> {
     ghost are_digits: { IsTrue (list_all is_hex_digit digits.now) },
 }
 
-/// How many bytes stand before the first space.
-fn word_len(line: &[u8]) -> usize
-    ensures first { result ≡ position_or_len is_space line.now }
-    ensures bound { result ≤ length line.now }
-{
-    line.iter()
-        .position(|byte| *byte == b' ')
-        .unwrap_or(line.len())
-}
-
 /// The first word of a line, and what is left behind it.
 fn word(line: &[u8]) -> (&[u8], Rest)
     ensures { words_of_line line.now ≡ result.0.now ∷ words_in result.1 }
 {
-    let len = word_len(line);
-    if len == line.len() {
-        return (line, None);
+    for i in 0..line.len() {
+        if line[i] == b' ' {
+            return (&line[..i], Some(&line[i + 1..]));
+        }
     }
-    (&line[..len], Some(&line[len + 1..]))
+    (line, None)
 }
 
 /// The number that a word says.
