@@ -1,19 +1,19 @@
 -- Words: what they say, and how they stand in a line.
-use Rattle.std.proofs.Common.{append_assoc, ◌++◌, IsTrue, ◌≡◌, ◌≢◌, ℕ, zero, suc, ◌+◌, ◌*◌, ◌/◌, ◌%◌, ◌^◌, ◌<◌, ◌≤◌, ◌&&◌, Bool, true, false, not, List, [], ◌∷◌, length, get_or, take, drop, cond, ltb, ◌-◌, Option, Some, None, ◌⊎◌, inl, inr, refl, sym, ap, subst, ◌∙◌, arith}
-use Rattle.std.specs.Prelude.{decimal, codes, unwrap_or}
+use Rattle.std.proofs.Common.{append_assoc, ◌++◌, IsTrue, ◌≡◌, ◌≢◌, ℕ, zero, suc, ◌+◌, ◌*◌, ◌/◌, ◌%◌, ◌^◌, ◌<◌, ◌≤◌, ◌&&◌, Bool, true, false, not, List, [], ◌∷◌, length, get_or, take, drop, ltb, ◌-◌, Option, Some, None, ◌⊎◌, inl, inr, refl, sym, ap, subst, ◌∙◌, arith}
+use Rattle.std.specs.Prelude.{decimal, codes}
 use Rattle.std.specs.Int.{IsInRange}
 use Rattle.std.specs.Bool.{Decides}
 use Rattle.std.specs.Char.{digit_value, is_ascii_digit}
 use Rattle.std.specs.List.{list_all, join_with_byte, position_or_len, All, AllByRecursion}
 use Rattle.std.specs.Str.{bytes_eq}
 use Rattle.std.specs.Str.Parse.{digits_value, AllDigits}
-use Rattle.std.proofs.lemmas.Bool.{and_parts, and_from, lt-ltb, ltb-true, cases_Bool, cases_lt, le-ltb, cond-false, ne_eqb, not-true}
+use Rattle.std.proofs.lemmas.Bool.{and_parts, and_from, lt-ltb, ltb-true, cases_Bool, cond-false, ne_eqb, not-true}
 use Rattle.std.proofs.lemmas.Bool.Decides.{nat_tests}
 use Rattle.std.proofs.lemmas.Fmt.{decimal_is_IsNumeral, digits_decimal, decimal-digits_value, length-decimal-le, first_decimal, decimal_nonempty, decimal_digit}
 use Rattle.std.proofs.lemmas.List.{length-take, take_rest}
 use Rattle.std.proofs.lemmas.List.Elements.{All-nil, All-cons, All-from_get_or}
 use Rattle.std.proofs.lemmas.List.Splits.{slice_split_none, slice_split_at, slice_split_first}
-use Rattle.std.proofs.lemmas.List.Sums.{fails_before_first, prefix_len-le-length}
+use Rattle.std.proofs.lemmas.List.Sums.{position_or_len_is}
 use Rattle.std.proofs.lemmas.Option.{cond_some, none-some, same_Some}
 use Rattle.std.proofs.lemmas.Slice.Eq.{bytes_eq-Decides}
 use Rattle.std.proofs.lemmas.Str.Parse.{IsNumeralModel, numerals_by_value, tells_digits, digits_value_short, digit_from_value, digit_at}
@@ -254,18 +254,14 @@ byte_refused word two other =
     ap (λ (read : Option (List ℕ)). read >>= only) (items_refused word (λ dash. let one = ap length dash in absurd (omega arith)) (λ is. other is.digits))
 
 -- what stands before the first space is the first word, and the others stand behind it
-pub words_at_end : (line : List ℕ) → position_or_len is_space line ≡ length line → words_of_line line ≡ line ∷ []
-words_at_end line end = slice_split_none is_space line (All-from_get_or (λ byte. is_space byte ≡ false) line 0 (λ k below. fails_before_first is_space line k 0 (omega arith)))
+pub words_at_end : (line : List ℕ) → ((k : ℕ) → k < length line → is_space (get_or line k 0) ≡ false) → words_of_line line ≡ line ∷ []
+words_at_end line none = slice_split_none is_space line (All-from_get_or (λ byte. is_space byte ≡ false) line 0 none)
 
-pub words_at_space : (line : List ℕ) (n : ℕ) → n ≡ position_or_len is_space line → n < length line → words_of_line line ≡ take n line ∷ words_of_line (drop (n + 1) line)
-words_at_space line n is below = rw is (slice_split_first is_space line 0 (omega arith))
-
-pub first_or_end : (p n : ℕ) → p ≤ n → unwrap_or (cond (ltb p n) (Some p) None) n ≡ p
-first_or_end p n bound =
-    elim (cases_lt p n) [
-      | inl below ↦ rw (lt-ltb p n below) refl
-      | inr above ↦ rw (le-ltb p n above) (omega arith)
-    ]
+pub words_at_space : (line : List ℕ) (n : ℕ) → n < length line → ((k : ℕ) → k < n → is_space (get_or line k 0) ≡ false) → get_or line n 0 ≡ space
+    → words_of_line line ≡ take n line ∷ words_of_line (take (length line - (n + 1)) (drop (n + 1) line))
+words_at_space line n below before here =
+    let first : position_or_len is_space line ≡ n = position_or_len_is is_space line n 0 (omega arith) before (λ _. rw here refl) in
+    rw take_rest (rw (sym first) (slice_split_first is_space line 0 (omega arith)))
 
 -- ---- digits one by one
 
@@ -278,9 +274,6 @@ number_so_far word i digits within most = digits_value_short own_digits (take i 
 
 pub number_refused_at : (word : List ℕ) (i : ℕ) → i < length word → ¬ IsInRange 48 57 (get_or word i 0) → number_of word ≡ None
 number_refused_at word i within other = number_refused word (λ is. other (digit_at word i is.digits within))
-
-pub first_within : (line : List ℕ) → position_or_len is_space line ≤ length line
-first_within line = prefix_len-le-length (λ byte. not (is_space byte)) line
 
 pub digit_tested : (byte : ℕ) (b : Bool) → b ≡ is_ascii_digit byte → Decides b (IsInRange 48 57 byte)
 digit_tested byte b is = (λ e. grind (arith, nat_tests), λ range. grind (arith, nat_tests))

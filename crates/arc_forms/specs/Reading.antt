@@ -1,6 +1,6 @@
 -- Reading a line: its words, and the command that they say.
 use Rattle.std.specs.Prelude.{ℕ, ◌+◌, ◌*◌, ◌^◌, Bool, ◌==◌, ◌&&◌, ◌||◌, nat_lt, if◌then◌else◌}
-use Rattle.std.specs.Prelude.{◌++◌, List, [], ◌∷◌, Option, Some, None}
+use Rattle.std.specs.Prelude.{List, [], ◌∷◌, Option, Some, None}
 use Rattle.std.specs.Prelude.{decimal, codes, map, true, false, IsTrue}
 use Rattle.std.specs.Borrow.{Bor}
 use Rattle.std.specs.Char.{digit_value}
@@ -160,6 +160,7 @@ abbrev pub items_form : JustItems → Line (SomeItems ∷ [])
 items_form items.Slice = (codes "slice", command.Slice)
 items_form items.MSlice = (codes "mslice", command.MSlice)
 
+-- the forms of each group, and those that stand alone
 abbrev pub entry : (sorts : List Sort) → Line sorts → Form
 entry sorts line = record { word = line.0; sorts = sorts; make = line.1 }
 
@@ -172,40 +173,21 @@ reads verb.Push = entry (ANumber ∷ AByte ∷ []) (codes "push", command.Push)
 reads (verb.Items v) = entry (SomeItems ∷ []) (items_form v)
 reads verb.Ext = entry (ANumber ∷ SomeItems ∷ []) (codes "ext", command.Ext)
 
--- a table of first words, as code has it
+-- all forms, by their first words
+abbrev pub verbs : List (List ℕ × Verb)
+verbs = map (λ v. ((reads v).word, v)) (
+    verb.Number one.Show ∷ verb.Number one.Drop ∷ verb.Items items.Slice ∷ verb.Number one.Clone ∷
+    verb.Sub ∷ verb.Push ∷ verb.Ext ∷ verb.Numbers two.Off ∷ verb.Numbers two.To ∷
+    verb.Number one.Len ∷ verb.Numbers two.Adv ∷ verb.Numbers two.Trunc ∷ verb.Number one.Uniq ∷
+    verb.Items items.MSlice ∷ verb.Bare bare.New ∷ verb.Number one.Cap ∷ verb.Number one.Zero ∷
+    verb.Numbers two.Res ∷ verb.Numbers two.Rec ∷ verb.Number one.Room ∷ verb.Number one.Freeze ∷
+    verb.Number one.Mut ∷ verb.Bare bare.Static ∷ verb.Number one.TakeStatic ∷ [])
+
+-- a table of first words, where these are references
 abbrev pub lines : List (Bor (List ℕ) × Verb) → List (List ℕ × Verb)
 lines table = map (λ line. (line.0.now, line.1)) table
 
--- the first words of all forms
-abbrev pub verbs : List (List ℕ × Verb)
-verbs = map (λ v. ((reads v).word, v)) (
-    verb.Number one.Show ∷
-    verb.Number one.Drop ∷
-    verb.Items items.Slice ∷
-    verb.Number one.Clone ∷
-    verb.Sub ∷
-    verb.Bare bare.Static ∷
-    verb.Number one.TakeStatic ∷
-    verb.Numbers two.Off ∷
-    verb.Numbers two.To ∷
-    verb.Number one.Uniq ∷
-    verb.Number one.Len ∷
-    verb.Numbers two.Adv ∷
-    verb.Numbers two.Trunc ∷
-    verb.Bare bare.New ∷
-    verb.Items items.MSlice ∷
-    verb.Number one.Cap ∷
-    verb.Number one.Zero ∷
-    verb.Push ∷
-    verb.Ext ∷
-    verb.Numbers two.Res ∷
-    verb.Numbers two.Rec ∷
-    verb.Number one.Room ∷
-    verb.Number one.Freeze ∷
-    verb.Number one.Mut ∷
-    [])
-
--- the form whose first word this is
+-- the form whose first word this is, in such a table
 abbrev pub named : List ℕ → List (List ℕ × Verb) → Option Verb
 named word [] = None
 named word (line ∷ table) = if bytes_eq line.0 word then Some line.1 else named word table
@@ -214,7 +196,8 @@ named word (line ∷ table) = if bytes_eq line.0 word then Some line.1 else name
 abbrev pub read_form : List (List ℕ) → Form → Option (Cmd (List ℕ) (List ℕ) ℕ)
 read_form words f = operands_of f.sorts words >>= λ os. made f.sorts f.make os
 
--- the same of a form by its name, and of what is left of a line behind a form's first word
+-- the same of a form as the parser names it, and of a form and what is left of a line behind its
+-- first word
 unfoldable pub read_as : List (List ℕ) → Verb → Option (Cmd (List ℕ) (List ℕ) ℕ)
 read_as words v = read_form words (reads v)
 

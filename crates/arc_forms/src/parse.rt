@@ -1,15 +1,17 @@
-//! Reading a line as a command.
-ghost use Rattle.std.specs.Prelude.{◌≡◌, ◌+◌, ◌*◌, ◌<◌, ◌≤◌, ℕ, List, [], ◌∷◌, length, IfOk};
+//! Reading a line as a command: its form is found by its first word, its operands are read as plain
+//! values, and the command is made of these. What isn't there leaves by `let .. else`, since a `?`
+//! makes the proof of its function longer by a third.
+ghost use Rattle.std.specs.Prelude.{◌≡◌, ◌+◌, ◌*◌, ◌<◌, ℕ, List, [], ◌∷◌, length, IfOk};
 ghost use Rattle.std.specs.Prelude.{MatchOption, IsSomeAnd, OnErr, IsTrue};
 ghost use Rattle.std.specs.Option.{option_map};
 ghost use Rattle.std.specs.Char.{digit_value};
-ghost use Rattle.std.specs.List.{list_all, position_or_len};
+ghost use Rattle.std.specs.List.{list_all};
 ghost use Rattle.std.specs.Vec.{vec_items};
 ghost use Rattle.arc_forms.specs.Text.{Number, Byte, Items, Says, IsBad};
 ghost use Rattle.arc_commands.specs.Seen.{seen_command};
 ghost use Rattle.arc_commands.specs.declared.command.Cmd.{Cmd};
 ghost use Rattle.arc_forms.specs.Reading.{ANumber, SomeItems, BringsItems, command_of, first_by};
-ghost use Rattle.arc_forms.specs.Reading.{is_hex_digit, is_space, items_of, number_of, operand_of};
+ghost use Rattle.arc_forms.specs.Reading.{is_hex_digit, items_of, number_of, operand_of};
 ghost use Rattle.arc_forms.specs.Reading.{operands_of, pairs, words_in, lines, named, read_behind};
 ghost use Rattle.arc_forms.specs.Reading.{number_form, numbers_form};
 ghost use Rattle.arc_forms.specs.Reading.{AByte, byte_of, read_as};
@@ -32,7 +34,7 @@ pub const LONGEST_LINE: usize = 65536;
 /// The most digits of a number.
 const MOST_DIGITS: usize = 18;
 
-/// A form, by what stands behind its first word.
+/// A form of a line, by what stands behind its first word.
 #[derive(Clone, Copy)]
 enum Verb {
     /// Nothing.
@@ -92,32 +94,33 @@ enum JustItems {
     MSlice,
 }
 
-/// The forms by their first words, those that most lines have first.
+/// The forms by their first words, in the order in which they are looked for: those that most lines
+/// have stand first.
 const VERBS: &[(&[u8], Verb)] = &[
     (b"show", Verb::Number(OneNumber::Show)),
     (b"drop", Verb::Number(OneNumber::Drop)),
     (b"slice", Verb::Items(JustItems::Slice)),
     (b"clone", Verb::Number(OneNumber::Clone)),
     (b"sub", Verb::Sub),
-    (b"static", Verb::Bare(Bare::Static)),
-    (b"takestatic", Verb::Number(OneNumber::TakeStatic)),
+    (b"push", Verb::Push),
+    (b"ext", Verb::Ext),
     (b"off", Verb::Numbers(TwoNumbers::Off)),
     (b"to", Verb::Numbers(TwoNumbers::To)),
-    (b"uniq", Verb::Number(OneNumber::Uniq)),
     (b"len", Verb::Number(OneNumber::Len)),
     (b"adv", Verb::Numbers(TwoNumbers::Adv)),
     (b"trunc", Verb::Numbers(TwoNumbers::Trunc)),
-    (b"new", Verb::Bare(Bare::New)),
+    (b"uniq", Verb::Number(OneNumber::Uniq)),
     (b"mslice", Verb::Items(JustItems::MSlice)),
+    (b"new", Verb::Bare(Bare::New)),
     (b"cap", Verb::Number(OneNumber::Cap)),
     (b"zero", Verb::Number(OneNumber::Zero)),
-    (b"push", Verb::Push),
-    (b"ext", Verb::Ext),
     (b"res", Verb::Numbers(TwoNumbers::Res)),
     (b"rec", Verb::Numbers(TwoNumbers::Rec)),
     (b"room", Verb::Number(OneNumber::Room)),
     (b"freeze", Verb::Number(OneNumber::Freeze)),
     (b"mut", Verb::Number(OneNumber::Mut)),
+    (b"static", Verb::Bare(Bare::Static)),
+    (b"takestatic", Verb::Number(OneNumber::TakeStatic)),
 ];
 
 /// What is left of a line behind a word: `None` behind the last.
@@ -130,25 +133,16 @@ struct Hex<'a> {
     ghost are_digits: { IsTrue (list_all is_hex_digit digits.now) },
 }
 
-/// How many bytes stand before the first space.
-fn word_len(line: &[u8]) -> usize
-    ensures first { result ≡ position_or_len is_space line.now }
-    ensures bound { result ≤ length line.now }
-{
-    line.iter()
-        .position(|byte| *byte == b' ')
-        .unwrap_or(line.len())
-}
-
 /// The first word of a line, and what is left behind it.
 fn word(line: &[u8]) -> (&[u8], Rest)
     ensures { words_of_line line.now ≡ result.0.now ∷ words_in result.1 }
 {
-    let len = word_len(line);
-    if len == line.len() {
-        return (line, None);
+    for i in 0..line.len() {
+        if line[i] == b' ' {
+            return (&line[..i], Some(&line[i + 1..]));
+        }
     }
-    (&line[..len], Some(&line[len + 1..]))
+    (line, None)
 }
 
 /// The number that a word says.
@@ -185,17 +179,6 @@ fn number(rest: Rest) -> Option<(usize, Rest)>
         return None;
     };
     Some((number, rest))
-}
-
-/// Nothing is left.
-#[tactic(auto, using(crate::proofs::Forms::nothing_is_left, crate::proofs::Forms::word_is_left))]
-fn nothing(rest: Rest) -> Option<()>
-    ensures { option_map (λ _. []) result ≡ operands_of [] (words_in rest.entry) }
-{
-    match rest {
-        None => Some(()),
-        Some(_) => None,
-    }
 }
 
 /// The one number that is left.
@@ -270,18 +253,6 @@ fn byte_in(word: &[u8]) -> Option<u8>
     Some(16 * value_of(*high) + value_of(*low))
 }
 
-/// The one byte that is left.
-#[tactic(auto, using(crate::proofs::Forms::last_operand, crate::proofs::Forms::none_left))]
-fn one_byte(rest: Rest) -> Option<u8>
-    ensures { option_map (λ x. Byte x ∷ []) result
-        ≡ operands_of (AByte ∷ []) (words_in rest.entry) }
-{
-    match rest {
-        Some(line) => byte_in(line),
-        None => None,
-    }
-}
-
 /// The digits of the items that a word says.
 fn digits_in(word: &[u8]) -> Option<Hex<'_>>
     ensures { option_map (λ hex. pairs hex.digits.now) result ≡ items_of word.now }
@@ -320,7 +291,7 @@ fn one_hex(rest: Rest) -> Option<Hex>
     }
 }
 
-/// The form whose first word this is, in such a table.
+/// The form whose first word this is, in a table of first words.
 fn verb_in(table: &[(&[u8], Verb)], word: &[u8]) -> Option<Verb>
     ensures { result ≡ named word.now (lines table.now) }
 {
@@ -344,14 +315,14 @@ fn verb_of(line: &[u8]) -> Option<(Verb, Rest)>
 }
 
 /// The command of a form with nothing behind its first word.
-#[tactic(auto, unfolding(crate::specs::Reading::read_as))]
+#[tactic(auto, using(crate::proofs::Forms::nothing_is_left, crate::proofs::Forms::word_is_left), unfolding(crate::specs::Reading::read_as))]
 fn with_nothing<A: Allocator>(verb: Bare, rest: Rest) -> Option<Command<A>>
     ensures { option_map seen_command result
         ≡ read_as (words_in rest.entry) (Verb.Bare verb) }
 {
-    let Some(()) = nothing(rest) else {
+    if rest.is_some() {
         return None;
-    };
+    }
     match verb {
         Bare::New => Some(Cmd::New),
         Bare::Static => Some(Cmd::Static(StaticSlice::new(STATIC_BYTES))),
@@ -440,17 +411,17 @@ fn sub<A: Allocator>(rest: Rest) -> Option<Command<A>>
 }
 
 /// The command `Push`.
-#[tactic(auto, unfolding(crate::specs::Reading::operands_of, crate::specs::Reading::read_as))]
+#[tactic(auto, using(crate::proofs::Forms::last_operand, crate::proofs::Forms::none_left), unfolding(crate::specs::Reading::operands_of, crate::specs::Reading::read_as))]
 fn push<A: Allocator>(rest: Rest) -> Option<Command<A>>
     ensures { option_map seen_command result ≡ read_as (words_in rest.entry) Verb.Push }
 {
-    let Some((window, rest)) = number(rest) else {
+    let Some((window, Some(last))) = number(rest) else {
         return None;
     };
-    let Some(item) = one_byte(rest) else {
-        return None;
-    };
-    Some(Cmd::Push { window, item })
+    match byte_in(last) {
+        Some(item) => Some(Cmd::Push { window, item }),
+        None => None,
+    }
 }
 
 /// The command of a form of items. `Err` where memory is refused for them.
