@@ -253,6 +253,18 @@ fn byte_in(word: &[u8]) -> Option<u8>
     Some(16 * value_of(*high) + value_of(*low))
 }
 
+/// The one byte that is left.
+#[tactic(auto, using(crate::proofs::Forms::last_operand, crate::proofs::Forms::none_left))]
+fn one_byte(rest: Rest) -> Option<u8>
+    ensures { option_map (λ x. Byte x ∷ []) result
+        ≡ operands_of (AByte ∷ []) (words_in rest.entry) }
+{
+    match rest {
+        Some(line) => byte_in(line),
+        None => None,
+    }
+}
+
 /// The digits of the items that a word says.
 fn digits_in(word: &[u8]) -> Option<Hex<'_>>
     ensures { option_map (λ hex. pairs hex.digits.now) result ≡ items_of word.now }
@@ -411,17 +423,17 @@ fn sub<A: Allocator>(rest: Rest) -> Option<Command<A>>
 }
 
 /// The command `Push`.
-#[tactic(auto, using(crate::proofs::Forms::last_operand, crate::proofs::Forms::none_left), unfolding(crate::specs::Reading::operands_of, crate::specs::Reading::read_as))]
+#[tactic(auto, unfolding(crate::specs::Reading::operands_of, crate::specs::Reading::read_as))]
 fn push<A: Allocator>(rest: Rest) -> Option<Command<A>>
     ensures { option_map seen_command result ≡ read_as (words_in rest.entry) Verb.Push }
 {
-    let Some((window, Some(last))) = number(rest) else {
+    let Some((window, rest)) = number(rest) else {
         return None;
     };
-    match byte_in(last) {
-        Some(item) => Some(Cmd::Push { window, item }),
-        None => None,
-    }
+    let Some(item) = one_byte(rest) else {
+        return None;
+    };
+    Some(Cmd::Push { window, item })
 }
 
 /// The command of a form of items. `Err` where memory is refused for them.
