@@ -6,7 +6,7 @@ use arc_script_tests::rows::{
     CLONES, CLONES_IN_NEED, CLONES_REPLIES, HELLO, HELLO_REPLIES, REPLIES_IN_NEED, USAGE,
 };
 use linked_list_allocator::LocalHeap;
-use std::alloc::{AllocError, Allocator};
+use std::alloc::{AllocError, Allocator, Global};
 use std::env::FillError;
 use std::sync::Wait;
 use std::test::Fail;
@@ -184,16 +184,46 @@ fn statuses(rt: HostRuntime) -> Result<(), Fail> {
     Ok(())
 }
 
+/// What a run over a script comes to: its status, what was written and told, and how much of the
+/// script is left.
+#[derive(Drop)]
+struct Ended {
+    status: u8,
+    text: Vec<u8>,
+    told: Vec<u8>,
+    left: usize,
+}
+
+/// The script in an allocator of its own, of which so much is read a call.
+fn run_of<A: Allocator + Copy>(
+    rt: &(impl Wait + AllocGlobal),
+    alloc: A,
+    script: &[u8],
+    size: usize,
+) -> Result<Ended, AllocError> {
+    let mut reader = Pieces::new(script, size);
+    let mut writer = Taken::new(rt.alloc(), usize::MAX);
+    let mut faults = Taken::new(rt.alloc(), usize::MAX);
+    let status = program(rt, alloc, &["arc"], &mut reader, &mut writer, &mut faults)?;
+    Ok(Ended {
+        status,
+        text: writer.bytes,
+        told: faults.bytes,
+        left: reader.input.len(),
+    })
+}
+
 /// Whether a run may end so: with all replies, or with some of them and why it ended.
-fn is_right(status: u8, text: &[u8], faults: &[u8], left: &[u8]) -> bool {
-    match status {
+fn is_right(ended: &Ended) -> bool {
+    let text = ended.text.as_slice();
+    match ended.status {
         0 => {
-            faults.is_empty()
-                && left.is_empty()
+            ended.told.is_empty()
+                && ended.left == 0
                 && REPLIES_IN_NEED.iter().any(|replies| *replies == text)
         }
         1 => {
-            faults == b"allocation error\n".as_slice()
+            ended.told.as_slice() == b"allocation error\n".as_slice()
                 && text != HELLO_REPLIES
                 && REPLIES_IN_NEED
                     .iter()
@@ -211,17 +241,15 @@ fn memory_refused(rt: HostRuntime) -> Result<(), Fail> {
     let mut whole = 0u64;
     for blocks in 4064..4352usize {
         let heap = LocalHeap::new(rt.alloc(), blocks * 16)?;
-        let mut reader = Pieces::new(HELLO, 1);
-        let mut writer = Taken::new(rt.alloc(), usize::MAX);
-        let mut faults = Taken::new(rt.alloc(), usize::MAX);
-        let status = program(&rt, &heap, &["arc"], &mut reader, &mut writer, &mut faults)?;
-        let text = writer.bytes.as_slice();
-        let right = is_right(status, text, &faults.bytes, reader.input);
-        assert!(rt; (right, heap.used()) == (true, 0), "in {blocks} blocks");
-        if status != 0 {
+        let ended = run_of(&rt, &heap, HELLO, 1)?;
+        assert!(rt;
+            (is_right(&ended), heap.used()) == (true, 0),
+            "in {blocks} blocks"
+        );
+        if ended.status != 0 {
             cut = cut.saturating_add(1);
         }
-        if text == HELLO_REPLIES {
+        if ended.text.as_slice() == HELLO_REPLIES {
             whole = whole.saturating_add(1);
         }
     }
@@ -237,16 +265,12 @@ fn clone_refused(rt: HostRuntime) -> Result<(), Fail> {
     let mut whole = 0u64;
     for blocks in 4096..4352usize {
         let heap = LocalHeap::new(rt.alloc(), blocks * 16)?;
-        let mut reader = Pieces::new(CLONES, usize::MAX);
-        let mut writer = Taken::new(rt.alloc(), usize::MAX);
-        let mut faults = Taken::new(rt.alloc(), usize::MAX);
-        program(&rt, &heap, &["arc"], &mut reader, &mut writer, &mut faults)?;
-        let text = writer.bytes.as_slice();
+        let ended = run_of(&rt, &heap, CLONES, usize::MAX)?;
         assert!(rt; heap.used() == 0, "in {blocks} blocks");
-        if text == CLONES_IN_NEED {
+        if ended.text.as_slice() == CLONES_IN_NEED {
             refused = refused.saturating_add(1);
         }
-        if text == CLONES_REPLIES {
+        if ended.text.as_slice() == CLONES_REPLIES {
             whole = whole.saturating_add(1);
         }
     }
@@ -257,39 +281,38 @@ fn clone_refused(rt: HostRuntime) -> Result<(), Fail> {
     Ok(())
 }
 
+/// `HELLO`, and a line of 20,005 bytes behind it.
+fn with_long_line(alloc: Global) -> Result<Vec<u8>, AllocError> {
+    let mut script = Vec::from_slice(alloc, HELLO)?;
+    script.extend_from_slice(b"show ")?;
+    push_digits(&mut script, 20_000)?;
+    Ok(script)
+}
+
 /// The replies to earlier lines stand where a later line has no room: only the line is refused
 /// here.
 #[test]
 fn line_refused(rt: HostRuntime) -> Result<(), Fail> {
-    let mut script = Vec::from_slice(rt.alloc(), HELLO)?;
-    script.extend_from_slice(b"show ")?;
-    push_digits(&mut script, 20_000)?;
-    let mut replies = Vec::from_slice(rt.alloc(), HELLO_REPLIES)?;
-    replies.extend_from_slice(b"bad line\n")?;
-    for (size, wanted, told) in [
-        (72_000, 1, b"allocation error\n".as_slice()),
-        (80_000, 1, b"allocation error\n".as_slice()),
-        (200_000, 0, b"".as_slice()),
+    let script = with_long_line(rt.alloc())?;
+    for (size, wanted, text, told) in [
+        (72_000, 1, HELLO_REPLIES, b"allocation error\n".as_slice()),
+        (80_000, 1, HELLO_REPLIES, b"allocation error\n".as_slice()),
+        (
+            200_000,
+            0,
+            b"h0\nh1\n48656c6c6f\nbad line\n".as_slice(),
+            b"".as_slice(),
+        ),
     ] {
         let heap = LocalHeap::new(rt.alloc(), size)?;
-        let mut reader = Pieces::new(&script, 46);
-        let mut writer = Taken::new(rt.alloc(), usize::MAX);
-        let mut faults = Taken::new(rt.alloc(), usize::MAX);
-        let status = program(&rt, &heap, &["arc"], &mut reader, &mut writer, &mut faults)?;
-        let text = if wanted == 0 {
-            replies.as_slice()
-        } else {
-            HELLO_REPLIES
-        };
-        assert!(rt;
-            (
-                status,
-                writer.bytes.as_slice(),
-                faults.bytes.as_slice(),
-                heap.used()
-            ) == (wanted, text, told, 0),
-            "in {size} bytes"
+        let ended = run_of(&rt, &heap, &script, 46)?;
+        let found = (
+            ended.status,
+            ended.text.as_slice(),
+            ended.told.as_slice(),
+            heap.used(),
         );
+        assert!(rt; found == (wanted, text, told, 0), "in {size} bytes");
     }
     Ok(())
 }

@@ -40,14 +40,6 @@ fn has_replies(rt: &impl Wait, alloc: Global, script: &[u8], replies: &[u8]) -> 
         && has_replies_at(rt, alloc, script, replies, 1)
 }
 
-/// `slice` with so many digits, all 0, as a line.
-fn slice_line(alloc: Global, digits: usize) -> Result<Vec<u8>, AllocError> {
-    let mut line = Vec::from_slice(alloc, b"slice ")?;
-    push_digits(&mut line, digits)?;
-    line.push(b'\n')?;
-    Ok(line)
-}
-
 /// Windows on two blocks and on none, a line of no form, and a last line without its line feed.
 #[test]
 fn scripts(rt: HostRuntime) {
@@ -66,20 +58,30 @@ fn scripts(rt: HostRuntime) {
     }
 }
 
+/// How a run of `HELLO` ends, how often it read and wrote, and what was written.
+fn hello_by(
+    rt: &impl Wait,
+    alloc: Global,
+    mut reader: Pieces,
+    mut writer: Taken,
+) -> (Result<(), ScriptError>, [usize; 2], Vec<u8>) {
+    let ran = run(rt, alloc, &mut reader, &mut writer);
+    (ran, [reader.calls, writer.calls], writer.bytes)
+}
+
 #[test]
 fn failed_reads(rt: HostRuntime) {
-    let mut reader = Pieces::new(HELLO, 7);
-    let mut writer = Taken::new(rt.alloc(), usize::MAX);
-    assert!(rt; run(&rt, rt.alloc(), &mut reader, &mut writer) == Ok(()));
+    let all = Taken::new(rt.alloc(), usize::MAX);
+    let (ran, [calls, _], _) = hello_by(&rt, rt.alloc(), Pieces::new(HELLO, 7), all);
     // 46 bytes and the end.
-    assert!(rt; reader.calls == 8);
+    assert!(rt; (ran, calls) == (Ok(()), 8));
     for call in 1..=8 {
-        let mut reader = Pieces::failing(HELLO, 7, call);
-        let mut writer = Taken::new(rt.alloc(), usize::MAX);
-        let ran = run(&rt, rt.alloc(), &mut reader, &mut writer);
+        let failing = Pieces::failing(HELLO, 7, call);
+        let all = Taken::new(rt.alloc(), usize::MAX);
+        let (ran, [calls, _], bytes) = hello_by(&rt, rt.alloc(), failing, all);
+        let found = (ran, calls, HELLO_REPLIES.starts_with(&bytes));
         assert!(rt;
-            (ran, reader.calls, HELLO_REPLIES.starts_with(&writer.bytes))
-                == (Err(ScriptError::Read), call, true),
+            found == (Err(ScriptError::Read), call, true),
             "at call {call}"
         );
     }
@@ -87,61 +89,112 @@ fn failed_reads(rt: HostRuntime) {
 
 #[test]
 fn failed_writes(rt: HostRuntime) {
-    let mut reader = Pieces::new(HELLO, usize::MAX);
-    let mut writer = Taken::new(rt.alloc(), 3);
-    assert!(rt; run(&rt, rt.alloc(), &mut reader, &mut writer) == Ok(()));
+    let whole = Taken::new(rt.alloc(), 3);
+    let (ran, [_, calls], _) = hello_by(&rt, rt.alloc(), Pieces::new(HELLO, usize::MAX), whole);
     // 17 bytes.
-    assert!(rt; writer.calls == 6);
+    assert!(rt; (ran, calls) == (Ok(()), 6));
     for call in 1..=6 {
-        let mut reader = Pieces::new(HELLO, usize::MAX);
-        let mut writer = Taken::failing(rt.alloc(), 3, call);
-        let ran = run(&rt, rt.alloc(), &mut reader, &mut writer);
+        let failing = Taken::failing(rt.alloc(), 3, call);
+        let all = Pieces::new(HELLO, usize::MAX);
+        let (ran, [_, calls], bytes) = hello_by(&rt, rt.alloc(), all, failing);
         let begun = &HELLO_REPLIES[..3 * (call - 1)];
+        let found = (ran, calls, bytes.as_slice());
         assert!(rt;
-            (ran, writer.calls, writer.bytes.as_slice()) == (Err(ScriptError::Write), call, begun),
+            found == (Err(ScriptError::Write), call, begun),
             "at call {call}"
         );
     }
-    let mut reader = Pieces::new(HELLO, usize::MAX);
-    let mut writer = Taken::new(rt.alloc(), 0);
-    let ran = run(&rt, rt.alloc(), &mut reader, &mut writer);
-    assert!(rt; (ran, writer.bytes.len(), writer.calls) == (Err(ScriptError::Write), 0, 1));
+    let full = Taken::new(rt.alloc(), 0);
+    let (ran, [_, calls], bytes) = hello_by(&rt, rt.alloc(), Pieces::new(HELLO, usize::MAX), full);
+    assert!(rt; (ran, bytes.len(), calls) == (Err(ScriptError::Write), 0, 1));
+}
+
+/// A script that ends with a long word: so begun, and with 20,000 digits 0.
+fn long_script(
+    alloc: Global,
+    before: &[u8],
+    word: &[u8],
+    behind: &[u8],
+) -> Result<Vec<u8>, AllocError> {
+    let mut script = Vec::from_slice(alloc, before)?;
+    script.extend_from_slice(word)?;
+    push_digits(&mut script, 20_000)?;
+    script.extend_from_slice(behind)?;
+    Ok(script)
+}
+
+/// How a run over one piece of input ends, and what was written.
+fn written_by(
+    rt: &impl Wait,
+    heap: &LocalHeap,
+    script: &[u8],
+    mut writer: Taken,
+) -> (Result<(), ScriptError>, Vec<u8>) {
+    let mut reader = Pieces::new(script, usize::MAX);
+    let ran = run(rt, heap, &mut reader, &mut writer);
+    (ran, writer.bytes)
+}
+
+/// Whether a run in so much memory is refused some, with these replies, or has a failed write first
+/// where one fails; and then gives all back.
+fn is_refused(
+    rt: &(impl Wait + AllocGlobal),
+    script: &[u8],
+    size: usize,
+    replies: &[u8],
+) -> Result<bool, Fail> {
+    let heap = LocalHeap::new(rt.alloc(), size)?;
+    let (ran, bytes) = written_by(rt, &heap, script, Taken::new(rt.alloc(), usize::MAX));
+    let (cut, begun) = written_by(rt, &heap, script, Taken::failing(rt.alloc(), 2, 2));
+    let found = (ran, bytes.as_slice(), cut, begun.as_slice(), heap.used());
+    let (refused, failed) = (Err(ScriptError::Alloc), Err(ScriptError::Write));
+    Ok(found == (refused, replies, failed, b"h0".as_slice(), 0))
 }
 
 /// One piece of input, in the midst of which memory is refused: for a line that isn't whole in it,
 /// for the items of one that is, and for the reply to one. The replies to the lines before come out.
 #[test]
 fn refused_in_a_piece(rt: HostRuntime) -> Result<(), Fail> {
-    let mut line = Vec::from_slice(rt.alloc(), HELLO)?;
-    line.extend_from_slice(b"show ")?;
-    push_digits(&mut line, 20_000)?;
-    let mut items = Vec::from_slice(rt.alloc(), HELLO)?;
-    items.extend_from_slice(&slice_line(rt.alloc(), 20_000)?)?;
-    let mut reply = slice_line(rt.alloc(), 20_000)?;
-    reply.extend_from_slice(b"show 0\n")?;
-    for (script, size, replies) in [
-        (line, 80_000, HELLO_REPLIES),
-        (items, 72_000, HELLO_REPLIES),
-        (reply, 90_000, b"h0\n".as_slice()),
+    for (before, word, behind, size, replies) in [
+        (
+            HELLO,
+            b"show ".as_slice(),
+            b"".as_slice(),
+            80_000,
+            HELLO_REPLIES,
+        ),
+        (
+            HELLO,
+            b"slice ".as_slice(),
+            b"\n".as_slice(),
+            72_000,
+            HELLO_REPLIES,
+        ),
+        (
+            b"".as_slice(),
+            b"slice ".as_slice(),
+            b"\nshow 0\n".as_slice(),
+            90_000,
+            b"h0\n".as_slice(),
+        ),
     ] {
-        let heap = LocalHeap::new(rt.alloc(), size)?;
-        let mut reader = Pieces::new(&script, usize::MAX);
-        let mut writer = Taken::new(rt.alloc(), usize::MAX);
-        let ran = run(&rt, &heap, &mut reader, &mut writer);
-        assert!(rt;
-            (ran, writer.bytes.as_slice(), heap.used()) == (Err(ScriptError::Alloc), replies, 0),
-            "in {size} bytes"
-        );
-        let mut reader = Pieces::new(&script, usize::MAX);
-        let mut writer = Taken::failing(rt.alloc(), 2, 2);
-        let ran = run(&rt, &heap, &mut reader, &mut writer);
-        assert!(rt;
-            (ran, writer.bytes.as_slice(), heap.used())
-                == (Err(ScriptError::Write), b"h0".as_slice(), 0),
-            "in {size} bytes, where a write fails"
-        );
+        let script = long_script(rt.alloc(), before, word, behind)?;
+        let refused = is_refused(&rt, &script, size, replies)?;
+        assert!(rt; refused, "in {size} bytes");
     }
     Ok(())
+}
+
+/// How a run ends, whether what was written begins its replies, and how much memory is left in use.
+fn left_by(
+    rt: &impl Wait,
+    heap: &LocalHeap,
+    mut reader: Pieces,
+    mut writer: Taken,
+) -> (Result<(), ScriptError>, bool, usize) {
+    let ran = run(rt, heap, &mut reader, &mut writer);
+    let begins = LEFT_REPLIES.starts_with(&writer.bytes);
+    (ran, begins, heap.used())
 }
 
 /// Every piece of memory is given back at the end of a run, whatever windows are left: after the
@@ -149,31 +202,23 @@ fn refused_in_a_piece(rt: HostRuntime) -> Result<(), Fail> {
 #[test]
 fn given_back(rt: HostRuntime) -> Result<(), Fail> {
     let heap = LocalHeap::new(rt.alloc(), 200_000)?;
-    assert!(rt; heap.used() == 0);
     let mut reader = Pieces::new(LEFT, 5);
     let mut writer = Taken::new(rt.alloc(), 2);
-    assert!(rt; run(&rt, &heap, &mut reader, &mut writer) == Ok(()));
-    assert!(rt; writer.bytes.as_slice() == LEFT_REPLIES);
-    assert!(rt; heap.used() == 0);
+    let ran = run(&rt, &heap, &mut reader, &mut writer);
+    let found = (ran, writer.bytes.as_slice(), heap.used());
+    assert!(rt; found == (Ok(()), LEFT_REPLIES, 0));
     for before in 0..reader.calls {
         let call = before + 1;
-        let mut reader = Pieces::failing(LEFT, 5, call);
-        let mut writer = Taken::new(rt.alloc(), 2);
-        let ran = run(&rt, &heap, &mut reader, &mut writer);
-        assert!(rt;
-            (ran, LEFT_REPLIES.starts_with(&writer.bytes), heap.used())
-                == (Err(ScriptError::Read), true, 0),
-            "at read {call}"
-        );
+        let failing = Pieces::failing(LEFT, 5, call);
+        let left = left_by(&rt, &heap, failing, Taken::new(rt.alloc(), 2));
+        assert!(rt; left == (Err(ScriptError::Read), true, 0), "at read {call}");
     }
     for before in 0..writer.calls {
         let call = before + 1;
-        let mut reader = Pieces::new(LEFT, 5);
-        let mut writer = Taken::failing(rt.alloc(), 2, call);
-        let ran = run(&rt, &heap, &mut reader, &mut writer);
+        let failing = Taken::failing(rt.alloc(), 2, call);
+        let left = left_by(&rt, &heap, Pieces::new(LEFT, 5), failing);
         assert!(rt;
-            (ran, LEFT_REPLIES.starts_with(&writer.bytes), heap.used())
-                == (Err(ScriptError::Write), true, 0),
+            left == (Err(ScriptError::Write), true, 0),
             "at write {call}"
         );
     }

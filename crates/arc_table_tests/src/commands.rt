@@ -5,6 +5,7 @@ use crate::tables::{ByteTable, Said, has_items, shows, table_of, told};
 use arc_block::layout::{ArcLayout, DefaultLayout};
 use arc_block::static_slice::StaticSlice;
 use arc_buffer::kinds::Plain;
+use arc_owners::error;
 use arc_table::command::{Cmd, Reply, TableCmd, TableReply};
 use arc_table::table::Table;
 use linked_list_allocator::LocalHeap;
@@ -51,26 +52,6 @@ fn hello_commands<A: Allocator + Copy>(alloc: A) -> Result<Vec<TableCmd<u8, A>, 
     Ok(commands)
 }
 
-/// A list is answered in its order, and an empty one by an empty one.
-#[test]
-fn hello_as_list(rt: HostRuntime) -> Result<(), Fail> {
-    let commands = hello_commands(rt.alloc())?;
-    let mut table: ByteTable<_> = Table::new(rt.alloc());
-    let replies = table.run(&rt, commands);
-    let none = table.run(&rt, Vec::new(rt.alloc()));
-    let _ = table.end();
-    let (Ok(replies), Ok(none)) = (replies, none) else {
-        return Err("memory".into());
-    };
-    let [first, second, third] = replies.as_slice() else {
-        return Err("three replies".into());
-    };
-    assert!(rt; matches!((first, second), (Reply::New(0), Reply::New(1))));
-    assert!(rt; has_items(third, b"Hello"));
-    assert!(rt; none.is_empty());
-    Ok(())
-}
-
 /// Whether these are the commands of `hello`.
 fn are_hello<A: Allocator>(commands: &[TableCmd<u8, A>]) -> bool {
     match commands {
@@ -87,53 +68,60 @@ fn are_hello<A: Allocator>(commands: &[TableCmd<u8, A>]) -> bool {
     }
 }
 
+/// What comes of commands that may be refused memory.
+#[derive(Clone, Copy, PartialEq, Eq)]
+enum Ran {
+    /// The list of commands comes back, since the replies have no room.
+    Back,
+    /// A command is refused memory, and nothing changes.
+    Short,
+    /// All is done.
+    Whole,
+    /// Another command is refused, or there was no memory for what is needed before.
+    Other,
+    /// What mustn't be.
+    Wrong,
+}
+
+/// What comes of the commands of `hello`: of a table's first ones, or beside a window that is too
+/// short to be cut so.
+fn which<A: Allocator>(
+    answered: Result<Vec<TableReply<u8, A>, A>, (Vec<TableCmd<u8, A>, A>, error::AllocError)>,
+) -> Ran {
+    match answered {
+        Err((commands, _)) => {
+            if are_hello(&commands) {
+                Ran::Back
+            } else {
+                Ran::Wrong
+            }
+        }
+        Ok(replies) => match replies.as_slice() {
+            [Reply::Alloc, ..] => Ran::Short,
+            [Reply::New(0), Reply::New(1), last] if has_items(last, b"Hello") => Ran::Whole,
+            [Reply::New(1), _, last] if has_items(last, b"Hello world") => Ran::Whole,
+            _ => Ran::Other,
+        },
+    }
+}
+
+/// A list is answered in its order.
+#[test]
+fn hello_as_list(rt: HostRuntime) -> Result<(), Fail> {
+    let commands = hello_commands(rt.alloc())?;
+    let mut table: ByteTable<_> = Table::new(rt.alloc());
+    let ran = which(table.run(&rt, commands));
+    let _ = table.end();
+    assert!(rt; ran == Ran::Whole);
+    Ok(())
+}
+
 /// Whether the first window shows `A` where it stands.
 fn shows_a<A: Allocator + Copy>(table: &ByteTable<A>) -> bool {
     match table.show_in_place(0) {
         Reply::Items(items) => items == b"A".as_slice(),
         _ => false,
     }
-}
-
-/// With more and more memory that for the replies is refused, so that the commands come back and
-/// the table is as it was, and then each command's own.
-#[test]
-fn list_refused(rt: HostRuntime) -> Result<(), Fail> {
-    let mut back = 0u32;
-    let mut short = 0u32;
-    let mut whole = 0u32;
-    for units in 1..128usize {
-        let heap = LocalHeap::new(rt.alloc(), units * 16)?;
-        let Ok(commands) = hello_commands(&heap) else {
-            continue;
-        };
-        let mut table = table_of(&rt, &heap, b"A");
-        let had = shows_a(&table);
-        let used = heap.used();
-        let answered = table.run(&rt, commands);
-        let has = shows_a(&table);
-        match answered {
-            Err((commands, _)) => {
-                assert!(rt; are_hello(&commands) && had == has, "in {units} units");
-                assert!(rt; heap.used() == used, "in {units} units");
-                back = back.wrapping_add(1);
-            }
-            Ok(replies) => match replies.as_slice() {
-                [Reply::Alloc, ..] => short = short.wrapping_add(1),
-                [Reply::New(1), _, last] if has_items(last, b"Hello world") => {
-                    whole = whole.wrapping_add(1);
-                }
-                _ => {}
-            },
-        }
-        let _ = table.end();
-        assert!(rt; heap.used() == 0, "in {units} units");
-    }
-    assert!(rt;
-        0 < back && 0 < short && 0 < whole,
-        "{back} came back, {short} were short, and {whole} whole"
-    );
-    Ok(())
 }
 
 /// Under a layout without static data an empty cut is an owner; the items needn't be bytes.
@@ -193,64 +181,102 @@ fn no_static_data(rt: HostRuntime) {
     assert!(rt; [made, taken] == [Said::Kind, Said::NoWindow]);
 }
 
-/// With more and more memory the window is refused, and then made; what was made is taken back
-/// without memory, also where there is none left.
-#[test]
-fn static_memory_refused(rt: HostRuntime) -> Result<(), Fail> {
-    let mut unmade = 0u32;
-    let mut taken = 0u32;
-    for units in 1..128usize {
-        let heap = LocalHeap::new(rt.alloc(), units * 16)?;
-        let mut table: ByteTable<_> = Table::new(&heap);
-        let made = told(table.step(&rt, Cmd::Static(StaticSlice::new(b"abcd"))));
-        let used = heap.used();
-        let slice = table.step(&rt, Cmd::TakeStatic { window: 0 });
-        assert!(rt; heap.used() == used);
-        let is_taken = is_slice(&slice, b"abcd");
-        match (made, told(slice), is_taken) {
-            (Said::Alloc, Said::NoWindow, _) => unmade = unmade.wrapping_add(1),
-            (Said::New(0), _, true) => taken = taken.wrapping_add(1),
-            _ => {}
-        }
-        let _ = table.end();
-        assert!(rt; heap.used() == 0, "in {units} units");
+/// The commands of `hello`, over a table with a window.
+fn listed(rt: &impl Wait, heap: &LocalHeap) -> Ran {
+    let Ok(commands) = hello_commands(heap) else {
+        return Ran::Other;
+    };
+    let mut table = table_of(rt, heap, b"A");
+    let before = (shows_a(&table), heap.used());
+    let answered = table.run(rt, commands);
+    let after = (shows_a(&table), heap.used());
+    let _ = table.end();
+    match which(answered) {
+        Ran::Back if before != after => Ran::Wrong,
+        Ran::Whole if !before.0 => Ran::Other,
+        ran => ran,
     }
-    assert!(rt;
-        0 < unmade && 0 < taken && unmade.wrapping_add(taken) == 127,
-        "{unmade} weren't made, and {taken} taken"
-    );
-    Ok(())
 }
 
-/// Clones of the first window, and the reply to the last.
-fn cloned<A: Allocator + Copy>(rt: &impl Wait, table: &mut ByteTable<A>, times: usize) -> Said {
-    for _ in 1..times {
-        let _ = table.step(rt, Cmd::Clone { window: 0 });
+/// A window over a static slice that is taken back, without memory, also where there is none left.
+fn taken_back(rt: &impl Wait, heap: &LocalHeap) -> Ran {
+    let mut table: ByteTable<_> = Table::new(heap);
+    let made = told(table.step(rt, Cmd::Static(StaticSlice::new(b"abcd"))));
+    let before = heap.used();
+    let slice = table.step(rt, Cmd::TakeStatic { window: 0 });
+    let after = heap.used();
+    let _ = table.end();
+    let is_whole = is_slice(&slice, b"abcd");
+    match (made, told(slice), is_whole, before == after) {
+        (Said::Alloc, Said::NoWindow, _, true) => Ran::Short,
+        (Said::New(0), Said::Static, true, true) => Ran::Whole,
+        _ => Ran::Wrong,
     }
-    told(table.step(rt, Cmd::Clone { window: 0 }))
 }
 
-/// With more and more memory each request is refused in turn. A refusal changes nothing, and at
-/// the end all memory is given back.
+/// Four clones of a window.
+fn cloned<A: Allocator + Copy>(rt: &impl Wait, alloc: A) -> Ran {
+    let mut table = table_of(rt, alloc, b"Hello");
+    let mut last = Said::NoWindow;
+    for _ in 0..4 {
+        last = told(table.step(rt, Cmd::Clone { window: 0 }));
+    }
+    let shown = shows(rt, &mut table, 0, b"Hello");
+    let _ = table.end();
+    match (last, shown) {
+        (Said::Alloc, _) => Ran::Short,
+        (Said::New(4), true) => Ran::Whole,
+        _ => Ran::Other,
+    }
+}
+
+/// What is asked for in little memory.
+#[derive(Clone, Copy)]
+enum Need {
+    List,
+    Static,
+    Clones,
+}
+
+fn in_little(rt: &impl Wait, heap: &LocalHeap, need: Need) -> Ran {
+    match need {
+        Need::List => listed(rt, heap),
+        Need::Static => taken_back(rt, heap),
+        Need::Clones => cloned(rt, heap),
+    }
+}
+
+/// With more and more memory that for the replies to a list is refused, so that the commands come
+/// back and the table is as it was, and then each request in turn. A refusal changes nothing, and
+/// at the end all memory is given back.
 #[test]
 fn memory_refused(rt: HostRuntime) -> Result<(), Fail> {
-    let mut refused = 0u32;
-    let mut whole = 0u32;
-    for units in 1..128usize {
-        let heap = LocalHeap::new(rt.alloc(), units * 16)?;
-        let mut table = table_of(&rt, &heap, b"Hello");
-        let last = cloned(&rt, &mut table, 4);
-        match (last, shows(&rt, &mut table, 0, b"Hello")) {
-            (Said::New(4), true) => whole = whole.wrapping_add(1),
-            (Said::Alloc, _) => refused = refused.wrapping_add(1),
-            _ => {}
+    for (need, comes_back) in [
+        (Need::List, true),
+        (Need::Static, false),
+        (Need::Clones, false),
+    ] {
+        let mut back = 0u32;
+        let mut short = 0u32;
+        let mut whole = 0u32;
+        for units in 1..128usize {
+            let heap = LocalHeap::new(rt.alloc(), units * 16)?;
+            let ran = in_little(&rt, &heap, need);
+            assert!(rt;
+                (ran == Ran::Wrong, heap.used()) == (false, 0),
+                "in {units} units"
+            );
+            match ran {
+                Ran::Back => back = back.wrapping_add(1),
+                Ran::Short => short = short.wrapping_add(1),
+                Ran::Whole => whole = whole.wrapping_add(1),
+                _ => {}
+            }
         }
-        let _ = table.end();
-        assert!(rt; heap.used() == 0, "in {units} units");
+        assert!(rt;
+            (0 < back) == comes_back && 0 < short && 0 < whole,
+            "{back} came back, {short} were short, and {whole} whole"
+        );
     }
-    assert!(rt;
-        0 < refused && 0 < whole,
-        "{refused} were refused, and {whole} whole"
-    );
     Ok(())
 }

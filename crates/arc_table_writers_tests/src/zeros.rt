@@ -5,7 +5,6 @@ use arc_table::command::{Cmd, Reply};
 use arc_table::kinds::{NoZero, TableItem};
 use arc_table::table::Table;
 use arc_table_tests::tables::{Said, told};
-use linked_list_allocator::LocalHeap;
 use std::test::Fail;
 
 /// A type of a user's own, whose items have no zero.
@@ -49,31 +48,5 @@ fn no_zero(rt: HostRuntime) -> Result<(), Fail> {
     let many = told(table.step(&rt, Cmd::Len { window: 0 }));
     let _ = table.end();
     assert!(rt; [zeros, made, many] == [Said::Kind, Said::New(0), Said::Number(2)]);
-    Ok(())
-}
-
-/// With more and more memory the zeros are refused, and then made; a refusal leaves no window.
-#[test]
-fn zeros_in_need(rt: HostRuntime) -> Result<(), Fail> {
-    let mut refused = 0u32;
-    let mut made = 0u32;
-    for units in 1..64usize {
-        let heap = LocalHeap::new(rt.alloc(), units * 16)?;
-        let mut table: Table<Plain<u8>, DefaultLayout, Vec<u8>, (), _> = Table::new(&heap);
-        let zeros = told(table.step(&rt, Cmd::Zero { count: 4 }));
-        let many = told(table.step(&rt, Cmd::Len { window: 0 }));
-        if zeros == Said::Alloc && many == Said::NoWindow {
-            refused = refused.wrapping_add(1);
-        }
-        if zeros == Said::New(0) && many == Said::Number(4) {
-            made = made.wrapping_add(1);
-        }
-        let _ = table.end();
-        assert!(rt; heap.used() == 0, "in {units} units");
-    }
-    assert!(rt;
-        0 < refused && 0 < made && refused.wrapping_add(made) == 63,
-        "{refused} weren't made, and {made} were"
-    );
     Ok(())
 }
