@@ -1,8 +1,9 @@
 -- Cuts and splits of a read window.
-use Rattle.std.specs.Prelude.{◌≡◌, ℕ, ◌<◌, Bool, if◌then◌else◌, ◌==◌, length, take, drop}
+use Rattle.std.specs.Prelude.{◌≡◌, ℕ, ◌<◌, Bool, if◌then◌else◌, ◌==◌, Option, length, take, drop}
 use Rattle.arc_owners.specs.declared.count.tokens.Pass.{Pass}
+use Rattle.arc_owners.specs.count.Calls.{Owner}
 use Rattle.arc_buffer.specs.Slice.{sub}
-use Rattle.arc_block.specs.Place.{moved, part_place}
+use Rattle.arc_block.specs.Place.{Place, moved, part_place}
 use Rattle.arc_block.specs.Window.{Window}
 use Rattle.arc_block.specs.Steps.{Shares}
 
@@ -10,13 +11,17 @@ use Rattle.arc_block.specs.Steps.{Shares}
 abbrev pub cut_window : {T M : Type 0} → Window T M → ℕ → ℕ → Window T M
 cut_window w start end = record { items = sub w.items start end; place = moved start w.place }
 
+-- where another owner of the part from start to end stands: with no items on nothing, where the
+-- layout has static data
+abbrev pub sub_place : {T M : Type 0} → Bool → Window T M → ℕ → ℕ → Place (Option Owner) M
+sub_place has_static w start end = part_place has_static (sub w.items start end) start w.place
+
 module _ {T M H : Type 0} where
   -- beside a window its part from start to end was made, as another owner, or with no items on
   -- nothing
   abbrev pub SharesPart : Bool → Window T M → ℕ → ℕ → Pass H → Pass H → Window T M → Type 0
-  SharesPart has_static w start end old new part =
-      (part.items ≡ sub w.items start end)
-      × Shares (part_place has_static (sub w.items start end) start w.place) old new part.place
+  SharesPart has_static w start end old new part = (part.items ≡ sub w.items start end)
+      × Shares (sub_place has_static w start end) old new part.place
 
   -- a window was split in two, and the back was handed out. At the front end that is the window
   -- itself, and the front is new; else the front is the window itself, and the back is new
@@ -36,10 +41,12 @@ module _ {T M H : Type 0} where
     pub earlier : at < length w.items → (back ≡ cut_window w at (length w.items))
         × SharesPart has_static w 0 at old new front
 
--- where the part ends that a split at this place makes anew and hands out, or leaves
-abbrev pub off_end : {T M : Type 0} → Window T M → ℕ → ℕ
-off_end w at = if at == 0 then 0 else length w.items
+-- where the part stands that a split which hands out the back makes anew: the back, or at the front
+-- end the front, which then has no items
+abbrev pub off_place : {T M : Type 0} → Bool → Window T M → ℕ → Place (Option Owner) M
+off_place has_static w at = sub_place has_static w at (if at == 0 then 0 else length w.items)
 
--- where the part begins that a split at this place makes anew and hands out, or leaves
-abbrev pub to_start : {T M : Type 0} → Window T M → ℕ → ℕ
-to_start w at = if at == length w.items then at else 0
+-- where the part stands that a split which hands out the front makes anew: the front, or at the
+-- back end the back, which then has no items
+abbrev pub to_place : {T M : Type 0} → Bool → Window T M → ℕ → Place (Option Owner) M
+to_place has_static w at = sub_place has_static w (if at == length w.items then at else 0) at

@@ -1,8 +1,9 @@
 //! Clones and cuts of a read window.
 ghost use Rattle.std.specs.Prelude.{◌≡◌, ◌<◌, length, drop, take, IfOk, IfErr, IfSome, IfNone};
 ghost use Rattle.arc_buffer.specs.Slice.{IsEdge, IsRange, sub};
-ghost use Rattle.arc_block.specs.Place.{at_owner, moved, part_place};
+ghost use Rattle.arc_block.specs.Place.{at_owner, moved};
 ghost use Rattle.arc_block.specs.Steps.{IsPassAt, Shares, Refuses};
+ghost use Rattle.arc_read.specs.Cuts.{sub_place};
 
 use super::ArcSlice;
 use arc_block::layout::Layout;
@@ -87,15 +88,11 @@ impl<S: Slice, L: Layout, B, M, A: Allocator + Copy, H: Mark> ArcSlice<S, L, B, 
         ensures items { IfSome result (λ r.
             IfOk r (λ part. part.items ≡ sub self.now.items start end)) }
         ensures place { IfSome result (λ r. IfOk r (λ part.
-            Shares (part_place L.STATIC (sub self.now.items start end) start self.now.place)
-            pass.old pass.new part.place)) }
+            Shares (sub_place L.STATIC self.now start end) pass.old pass.new part.place)) }
         ensures refused { IfSome result (λ r. IfErr r (λ e.
-            Refuses L.clone_wants
-            (part_place L.STATIC (sub self.now.items start end) start self.now.place)
-            pass.old pass.new e)) }
-        ensures owned { IfNone result (at_owner
-            (part_place L.STATIC (sub self.now.items start end) start self.now.place)
-            ⊥ (λ _. Unit {0})) }
+            Refuses L.clone_wants (sub_place L.STATIC self.now start end) pass.old pass.new e)) }
+        ensures owned { IfNone result
+            (at_owner (sub_place L.STATIC self.now start end) ⊥ (λ _. Unit {0})) }
         ensures again { IfNone result (pass.new ≡ pass.old) }
     {
         match self.parts.try_part_once_as::<L>(start, end, pass)? {
@@ -134,12 +131,9 @@ impl<S: Slice, L: Layout, B, M, A: Allocator + Copy, H: Mark> ArcSlice<S, L, B, 
         requires pass { IsPassAt self.now.place pass.old }
         ensures items { IfOk result (λ part. part.items ≡ sub self.now.items start end) }
         ensures place { IfOk result (λ part.
-            Shares (part_place L.STATIC (sub self.now.items start end) start self.now.place)
-            pass.old pass.new part.place) }
+            Shares (sub_place L.STATIC self.now start end) pass.old pass.new part.place) }
         ensures refused { IfErr result (λ e.
-            Refuses L.clone_wants
-            (part_place L.STATIC (sub self.now.items start end) start self.now.place)
-            pass.old pass.new e) }
+            Refuses L.clone_wants (sub_place L.STATIC self.now start end) pass.old pass.new e) }
     {
         if let Some(made) = self.try_subslice_once_as(start, end, pass) {
             return made;
@@ -158,10 +152,8 @@ impl<S: Subsliceable, L: Layout, B, M, A: Allocator + Copy, H: Mark> ArcSlice<S,
     /// adds nothing.
     pub fn advance(&mut self, n: usize)
         requires { IsEdge S.boundary self.old.items n }
-        ensures { self.new ≡ record {
-          items = drop n self.old.items;
-          place = moved n self.old.place;
-        } }
+        ensures { self.new
+            ≡ record { items = drop n self.old.items; place = moved n self.old.place } }
     {
         let end = self.len();
         self.parts.keep(n, end);

@@ -1,11 +1,12 @@
 //! The plain forms: calls with a new pass.
 ghost use Rattle.std.specs.Prelude.{◌≡◌, false, IfOk, IfErr};
 ghost use Rattle.arc_buffer.specs.Slice.{IsRange, sub};
-ghost use Rattle.arc_block.specs.Place.{at_owner, part_place};
+ghost use Rattle.arc_block.specs.Place.{at_owner};
 ghost use Rattle.arc_block.specs.Window.{IsWholeOf};
 ghost use Rattle.arc_block.specs.Steps.{Shares, Refuses, RefusesArray};
 ghost use Rattle.arc_owners.specs.count.Calls.{Asks, TakesBlock, AsksAndLeaves};
 ghost use Rattle.arc_read.specs.Steps.{WithNewPass};
+ghost use Rattle.arc_read.specs.Cuts.{sub_place};
 
 use super::ArcSlice;
 use arc_block::layout::Layout;
@@ -27,9 +28,8 @@ impl<S: Slice, L: Layout, B, M, A: Allocator + Copy, H: Stepping> ArcSlice<S, L,
     /// That of `is_unique_as`.
     #[inline(always)]
     pub fn is_unique(&self) -> bool
-        ensures entry { WithNewPass {H = H} H.real self.now.place (λ first last.
-            at_owner self.now.place ((result ≡ false)
-            × (last ≡ first)) (λ o. Asks o first last result)) }
+        ensures entry { WithNewPass {H = H} H.real self.now.place (λ first last. at_owner
+            self.now.place ((result ≡ false) × (last ≡ first)) (λ o. Asks o first last result)) }
     {
         let mut pass = self.pass();
         let found = self.is_unique_as(&mut pass);
@@ -86,12 +86,10 @@ impl<S: Slice, L: Layout, B, M, A: Allocator + Copy, H: Stepping> ArcSlice<S, L,
     #[inline(always)]
     pub fn try_clone(&self, rt: &impl Wait) -> Result<Self, OwnerError>
         ensures items { IfOk result (λ window. window.items ≡ self.now.items) }
-        ensures place { IfOk result (λ window.
-            WithNewPass {H = H} H.real self.now.place (λ first last.
-            Shares self.now.place first last window.place)) }
-        ensures refused { IfErr result (λ e.
-            WithNewPass {H = H} H.real self.now.place (λ first last.
-            Refuses L.clone_wants self.now.place first last e)) }
+        ensures place { IfOk result (λ window. WithNewPass {H = H} H.real self.now.place
+            (λ first last. Shares self.now.place first last window.place)) }
+        ensures refused { IfErr result (λ e. WithNewPass {H = H} H.real self.now.place
+            (λ first last. Refuses L.clone_wants self.now.place first last e)) }
     {
         let mut pass = self.pass();
         let made = self.try_clone_as(rt, &mut pass);
@@ -115,15 +113,10 @@ impl<S: Slice, L: Layout, B, M, A: Allocator + Copy, H: Stepping> ArcSlice<S, L,
         S: Subsliceable,
         requires { IsRange S.boundary self.now.items start end }
         ensures items { IfOk result (λ part. part.items ≡ sub self.now.items start end) }
-        ensures place { IfOk result (λ part.
-            WithNewPass {H = H} H.real self.now.place (λ first last.
-            Shares (part_place L.STATIC (sub self.now.items start end) start self.now.place)
-            first last part.place)) }
-        ensures refused { IfErr result (λ e.
-            WithNewPass {H = H} H.real self.now.place (λ first last.
-            Refuses L.clone_wants
-            (part_place L.STATIC (sub self.now.items start end) start self.now.place)
-            first last e)) }
+        ensures place { IfOk result (λ part. WithNewPass {H = H} H.real self.now.place
+            (λ first last. Shares (sub_place L.STATIC self.now start end) first last part.place)) }
+        ensures refused { IfErr result (λ e. WithNewPass {H = H} H.real self.now.place (λ old new.
+            Refuses L.clone_wants (sub_place L.STATIC self.now start end) old new e)) }
     {
         let mut pass = self.pass();
         let made = self.try_subslice_as(rt, start, end, &mut pass);

@@ -1,10 +1,9 @@
 //! Splits of a read window.
 ghost use Rattle.std.specs.Prelude.{◌≡◌, length, IfOk, IfErr};
-ghost use Rattle.arc_buffer.specs.Slice.{IsEdge, sub};
-ghost use Rattle.arc_block.specs.Place.{part_place};
+ghost use Rattle.arc_buffer.specs.Slice.{IsEdge};
 ghost use Rattle.arc_block.specs.Steps.{IsPassAt, Refuses};
 ghost use Rattle.arc_read.specs.Steps.{WithNewPass};
-ghost use Rattle.arc_read.specs.Cuts.{SplitsOff, SplitsTo, off_end, to_start};
+ghost use Rattle.arc_read.specs.Cuts.{SplitsOff, SplitsTo, off_place, to_place};
 
 use super::ArcSlice;
 use arc_block::layout::Layout;
@@ -51,9 +50,7 @@ impl<S: Subsliceable, L: Layout, B, M, A: Allocator + Copy, H: Mark> ArcSlice<S,
             SplitsOff L.STATIC self.old at pass.old pass.new self.new back) }
         ensures kept { IfErr result (λ _. self.new ≡ self.old) }
         ensures refused { IfErr result (λ e.
-            Refuses L.clone_wants
-            (part_place L.STATIC (sub self.old.items at (off_end self.old at)) at self.old.place)
-            pass.old pass.new e) }
+            Refuses L.clone_wants (off_place L.STATIC self.old at) pass.old pass.new e) }
     {
         self.has_edges();
         if at == 0 {
@@ -92,10 +89,7 @@ impl<S: Subsliceable, L: Layout, B, M, A: Allocator + Copy, H: Mark> ArcSlice<S,
             SplitsTo L.STATIC self.old at pass.old pass.new front self.new) }
         ensures kept { IfErr result (λ _. self.new ≡ self.old) }
         ensures refused { IfErr result (λ e.
-            Refuses L.clone_wants
-            (part_place L.STATIC (sub self.old.items (to_start self.old at) at)
-            (to_start self.old at) self.old.place)
-            pass.old pass.new e) }
+            Refuses L.clone_wants (to_place L.STATIC self.old at) pass.old pass.new e) }
     {
         self.has_edges();
         if at == self.len() {
@@ -133,11 +127,8 @@ impl<S: Subsliceable, L: Layout, B, M, A: Allocator + Copy, H: Stepping> ArcSlic
         ensures ok { IfOk result (λ back. WithNewPass {H = H} H.real self.old.place (λ first last.
             SplitsOff L.STATIC self.old at first last self.new back)) }
         ensures kept { IfErr result (λ _. self.new ≡ self.old) }
-        ensures refused { IfErr result (λ e.
-            WithNewPass {H = H} H.real self.old.place (λ first last.
-            Refuses L.clone_wants
-            (part_place L.STATIC (sub self.old.items at (off_end self.old at)) at self.old.place)
-            first last e)) }
+        ensures refused { IfErr result (λ e. WithNewPass {H = H} H.real self.old.place
+            (λ first last. Refuses L.clone_wants (off_place L.STATIC self.old at) first last e)) }
     {
         let mut pass = self.pass();
         let made = self.try_split_off_as(rt, at, &mut pass);
@@ -162,12 +153,8 @@ impl<S: Subsliceable, L: Layout, B, M, A: Allocator + Copy, H: Stepping> ArcSlic
         ensures ok { IfOk result (λ front. WithNewPass {H = H} H.real self.old.place (λ first last.
             SplitsTo L.STATIC self.old at first last front self.new)) }
         ensures kept { IfErr result (λ _. self.new ≡ self.old) }
-        ensures refused { IfErr result (λ e.
-            WithNewPass {H = H} H.real self.old.place (λ first last.
-            Refuses L.clone_wants
-            (part_place L.STATIC (sub self.old.items (to_start self.old at) at)
-            (to_start self.old at) self.old.place)
-            first last e)) }
+        ensures refused { IfErr result (λ e. WithNewPass {H = H} H.real self.old.place
+            (λ first last. Refuses L.clone_wants (to_place L.STATIC self.old at) first last e)) }
     {
         let mut pass = self.pass();
         let made = self.try_split_to_as(rt, at, &mut pass);
