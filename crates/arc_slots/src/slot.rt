@@ -49,14 +49,14 @@ where
 {
     ghost use Rattle.std.specs.Prelude.{◌≡◌, true};
     ghost use Rattle.arc_slots.specs.Stands.{is_numbered};
-    ghost use Rattle.arc_slots.specs.Slots.{SlotView, held, is_writer};
+    ghost use Rattle.arc_slots.specs.Slots.{SlotView, held, role_fits};
 
     ghost Value = { SlotView S.Item M };
 
     ghost view = { λ s. held s.window s.block };
 
     ghost invariant = { λ s. (is_numbered s.block (held s.window s.block).window.place ≡ true)
-        × (is_writer s.window ≡ true) };
+        × (role_fits s.window ≡ true) };
 }
 
 /// What is written into a window, where X holds items and T is one.
