@@ -1,5 +1,5 @@
 -- Writers: what is seen of a sole writer's parts, and what making room does to them.
-use Rattle.std.specs.Prelude.{◌≡◌, ℕ, ◌+◌, ◌-◌, ◌≤◌, nat_lt, Bool, true, false, ◌&&◌, not}
+use Rattle.std.specs.Prelude.{◌≡◌, ℕ, ◌+◌, ◌-◌, ◌≤◌, ◌==◌, nat_lt, Bool, true, false, ◌&&◌, not}
 use Rattle.std.specs.Prelude.{if◌then◌else◌, max, List, [], ◌++◌, length, Option, Some, None}
 use Rattle.std.specs.Prelude.{Result, Ok, Err, take, drop}
 use Rattle.std.specs.List.{refill}
@@ -118,6 +118,11 @@ module _ {N T M : Type 0} where
   room drops first item_size row additional =
       if not (nat_lt (capacity_of row.role - length row.items) additional) then Spare else
       room_at drops first item_size row.place (length row.items) additional
+
+  -- the same for items of so many bytes: a first block has 8 places of one byte at least, else 4
+  abbrev pub room_for : (drops : Bool) → (item_size : ℕ) → RowOf N T M → ℕ → Room
+  room_for drops item_size row additional =
+      room drops (if item_size == 1 then 8 else 4) item_size row additional
 
   -- the row with this room, on the block on which it stands
   abbrev pub with_room : Room → RowOf N T M → RowOf N T M

@@ -14,7 +14,7 @@ use Rattle.arc_block.specs.Table.{Row, RowOf, Table, row_at, block_of, owners, i
 use Rattle.arc_block.specs.Table.{Role, reader, sole_writer, one_writer_of_several, inline}
 use Rattle.arc_block.specs.Table.{forgotten}
 use Rattle.arc_block.specs.Writers.{capacity_of, with_capacity, as_sole, after_advance}
-use Rattle.arc_block.specs.Writers.{room, with_room, new_writer, with_more, as_reader}
+use Rattle.arc_block.specs.Writers.{room_for, with_room, new_writer, with_more, as_reader}
 use Rattle.arc_block.specs.declared.parts.room.Room.{Room as RoomFrom}
 use Rattle.arc_block.specs.declared.parts.room.Room.TheVariants as from
 use Rattle.arc_owners.specs.declared.error.TryReserveError.TheVariants as reserve
@@ -253,7 +253,7 @@ begun t i row = (
 -- where a writer has room for so many items more; a first block has places for so many
 abbrev pub room_of : {N T M : Type 0} → Setting T → RowOf N T M → ℕ → RoomFrom
 room_of setting row additional =
-    room setting.drops (if setting.item_size == 1 then 8 else 4) setting.item_size row additional
+    room_for setting.drops setting.item_size row additional
 
 -- The row with this number has this room, and these items behind its others. Memory is asked for a
 -- first block, and for a larger one.

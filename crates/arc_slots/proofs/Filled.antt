@@ -28,7 +28,7 @@ use Rattle.arc_block.specs.declared.parts.room.Room.TheVariants.{Spare, Fresh, B
 use Rattle.arc_block.specs.declared.parts.room.Room.TheVariants.{Growth, Refused}
 use Rattle.arc_commands.specs.Additions.{Founds}
 use Rattle.arc_commands.specs.Blocks.{is_sole}
-use Rattle.arc_slots.specs.Slots.{SlotView, held, is_writer, row_of, stand_of, writer_slot}
+use Rattle.arc_slots.specs.Slots.{SlotView, held, role_fits, row_of, stand_of, writer_slot}
 use Rattle.arc_slots.specs.Stands.{numbered, is_numbered, stand_at, TakenOut, put_back}
 use Rattle.arc_commands.specs.Step.{made_row}
 use Rattle.arc_slots.specs.Writing.{is_fresh, Fills}
@@ -73,8 +73,8 @@ module _ {T M : Type 0} (h : Held (Window T M) (PartsView T M)) (w : PartsView T
   pub writes-fits : is_numbered b (held h b).window.place ≡ true → is_numbered b w.place ≡ true
   writes-fits fits = ap (λ x. is_numbered b (held x b).window.place) (sym is) ∙ fits
 
-  pub writes-sole : is_writer h ≡ true → is_sole w.role ≡ true
-  writes-sole sole = ap is_writer (sym is) ∙ sole
+  pub writes-sole : role_fits h ≡ true → is_sole w.role ≡ true
+  writes-sole sole = ap role_fits (sym is) ∙ sole
 
 -- a first block is made only where there is none
 fresh-in : {M : Type 0} (drops : Bool) (size : ℕ) (info : BlockInfo M) (offset len k : ℕ)
@@ -367,7 +367,7 @@ module _ {T M : Type 0} (b : Option ℕ) (w : PartsView T M) (fits : is_numbered
 -- the same of a slot, whose window is written
 module _ {T M : Type 0} (h : Held (Window T M) (PartsView T M)) (w : PartsView T M)
     (b : Option ℕ) (is : h ≡ Write w) (s : SlotView T M) (view : held h b ≡ s)
-    (fact : (is_numbered b (held h b).window.place ≡ true) × (is_writer h ≡ true)) where
+    (fact : (is_numbered b (held h b).window.place ≡ true) × (role_fits h ≡ true)) where
   seen : writer_slot w b ≡ s
   seen = sym (writes-view h w b is) ∙ view
 

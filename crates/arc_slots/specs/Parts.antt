@@ -49,8 +49,8 @@ module _ {T M : Type 0} where
   rest_of row (Front at) = cut_row row at (length row.items)
 
   -- the row that is made
-  abbrev pub row_made : (has_static : Bool) → Row T M → Part → Row T M
-  row_made has_static row Whole = row
-  row_made has_static row (Range start end) = part_of has_static row start end
-  row_made has_static row (Back at) = off_part has_static row at
-  row_made has_static row (Front at) = to_part has_static row at
+  abbrev pub part_row : (has_static : Bool) → Row T M → Part → Row T M
+  part_row has_static row Whole = row
+  part_row has_static row (Range start end) = part_of has_static row start end
+  part_row has_static row (Back at) = off_part has_static row at
+  part_row has_static row (Front at) = to_part has_static row at

@@ -39,9 +39,9 @@ module _ {T M : Type 0} where
   writer_slot window block = held (Write window) block
 
   -- a window that is written is a sole writer
-  abbrev pub is_writer : Held (Window T M) (PartsView T M) → Bool
-  is_writer (Read window) = true
-  is_writer (Write window) = is_sole window.role
+  abbrev pub role_fits : Held (Window T M) (PartsView T M) → Bool
+  role_fits (Read window) = true
+  role_fits (Write window) = is_sole window.role
 
   -- a slot as a row
   abbrev pub row_of : SlotView T M → Row T M

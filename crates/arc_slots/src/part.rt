@@ -28,7 +28,7 @@ where
 {
     ghost use Rattle.std.specs.Prelude.{false, true, None, Some, IfErr, IfOk};
     ghost use Rattle.arc_slots.specs.Calls.{RefusesAt};
-    ghost use Rattle.arc_slots.specs.Parts.{IsPart, is_itself, part_answer, rest_of, row_made};
+    ghost use Rattle.arc_slots.specs.Parts.{IsPart, is_itself, part_answer, rest_of, part_row};
     ghost use Rattle.arc_slots.specs.Slots.{row_of, stand_of};
     ghost use Rattle.arc_slots.specs.Splits.{IsSplit};
     ghost use Rattle.arc_slots.specs.Stands.{HasPassFor};
@@ -75,15 +75,15 @@ where
         requires pass { HasPassFor passes.old.of_blocks.items (stand_of (Some self.old)) }
         ensures itself { IfOk result (λ handed. is_itself (row_of self.old) part ≡ true
             → IsSplit self.old handed self.new (row_of self.old)
-            (row_made L.STATIC (row_of self.old) part)
+            (part_row L.STATIC (row_of self.old) part)
             passes.old.of_blocks.items passes.new.of_blocks.items) }
         ensures beside { IfOk result (λ handed. is_itself (row_of self.old) part ≡ false
             → IsSplit self.old self.new handed (rest_of (row_of self.old) part)
-            (row_made L.STATIC (row_of self.old) part)
+            (part_row L.STATIC (row_of self.old) part)
             passes.old.of_blocks.items passes.new.of_blocks.items) }
         ensures kept { IfErr result (λ _. self.new ≡ self.old) }
         ensures refused { IfErr result (RefusesAt L.clone_wants
-            (row_made L.STATIC (row_of self.old) part).place (stand_of (Some self.old))
+            (part_row L.STATIC (row_of self.old) part).place (stand_of (Some self.old))
             passes.old.of_blocks.items passes.new.of_blocks.items) }
     {
         match part {

@@ -5,7 +5,7 @@ ghost use Rattle.std.specs.Mem.{FitsInMemory, type_size};
 ghost use Rattle.arc_owners.specs.count.Calls.{Leaves};
 ghost use Rattle.arc_block.specs.Place.{at_owner};
 ghost use Rattle.arc_block.specs.Steps.{IsPassAt};
-ghost use Rattle.arc_block.specs.Writers.{room, MakesRoom, Pushes};
+ghost use Rattle.arc_block.specs.Writers.{room_for, MakesRoom, Pushes};
 ghost use Rattle.arc_slots.specs.Slots.{held};
 ghost use Rattle.arc_slots.specs.Writing.{seen_writing, items_of, additional_of};
 
@@ -49,14 +49,14 @@ where
 {
     ghost use Rattle.std.specs.Prelude.{◌≡◌, true};
     ghost use Rattle.arc_slots.specs.Stands.{is_numbered};
-    ghost use Rattle.arc_slots.specs.Slots.{SlotView, held, is_writer};
+    ghost use Rattle.arc_slots.specs.Slots.{SlotView, held, role_fits};
 
     ghost Value = { SlotView S.Item M };
 
     ghost view = { λ s. held s.window s.block };
 
     ghost invariant = { λ s. (is_numbered s.block (held s.window s.block).window.place ≡ true)
-        × (is_writer s.window ≡ true) };
+        × (role_fits s.window ≡ true) };
 }
 
 /// What is written into a window, where X holds items and T is one.
@@ -96,13 +96,12 @@ where
     S::Item: Copy,
     requires item { FitsInMemory S.Item.row }
     requires pass { IsPassAt window.old.place pass.old }
-    ensures written { OnOk result (Pushes S.DROPS true (room S.DROPS
-        (if type_size S.Item.row == 1 then 8 else 4) (type_size S.Item.row) window.old
-        (additional_of (seen_writing what))) (items_of (seen_writing what)) window.old window.new
-        pass.old pass.new) }
-    ensures refused { IfErr result (λ e. MakesRoom S.DROPS true (room S.DROPS
-        (if type_size S.Item.row == 1 then 8 else 4) (type_size S.Item.row) window.old
-        (additional_of (seen_writing what))) window.old window.new pass.old pass.new (Err e)) }
+    ensures written { OnOk result (Pushes S.DROPS true
+        (room_for S.DROPS (type_size S.Item.row) window.old (additional_of (seen_writing what)))
+        (items_of (seen_writing what)) window.old window.new pass.old pass.new) }
+    ensures refused { IfErr result (λ e. MakesRoom S.DROPS true
+        (room_for S.DROPS (type_size S.Item.row) window.old (additional_of (seen_writing what)))
+        window.old window.new pass.old pass.new (Err e)) }
 {
     match what {
         Writing::Nothing(additional) => window.try_reserve_as(additional, pass),
@@ -579,8 +578,8 @@ where
     /// Whether a first block has to be made for so many items more in the window, which is written.
     pub fn wants_block(&self, additional: usize) -> bool
         requires { is_some self.now.capacity ≡ true }
-        ensures { result ≡ is_fresh (room S.DROPS (if type_size S.Item.row == 1 then 8 else 4)
-            (type_size S.Item.row) (row_of self.now) additional) }
+        ensures { result ≡ is_fresh
+            (room_for S.DROPS (type_size S.Item.row) (row_of self.now) additional) }
     {
         let Held::Write(window) = &self.window else {
             unreachable!()
@@ -612,14 +611,13 @@ where
         S::Item: Copy,
         requires item { FitsInMemory S.Item.row }
         requires writes { is_some self.old.capacity ≡ true }
-        requires room { is_fresh (room S.DROPS (if type_size S.Item.row == 1 then 8 else 4)
-            (type_size S.Item.row) (row_of self.old) (additional_of (seen_writing what))) ≡ true
+        requires room { is_fresh (room_for S.DROPS (type_size S.Item.row) (row_of self.old)
+            (additional_of (seen_writing what))) ≡ true
             → length passes.old.of_blocks.items < vec_capacity passes.old.of_blocks }
         requires pass { HasPassFor passes.old.of_blocks.items (stand_of (Some self.old)) }
-        ensures { Fills S.DROPS (room S.DROPS (if type_size S.Item.row == 1 then 8 else 4)
-            (type_size S.Item.row) (row_of self.old) (additional_of (seen_writing what)))
-            (items_of (seen_writing what)) self.old self.new passes.old.of_blocks.items
-            passes.new.of_blocks.items result }
+        ensures { Fills S.DROPS (room_for S.DROPS (type_size S.Item.row) (row_of self.old)
+            (additional_of (seen_writing what))) (items_of (seen_writing what))
+            self.old self.new passes.old.of_blocks.items passes.new.of_blocks.items result }
     {
         let begins = self.wants_block(what.additional());
         let block = self.block;
@@ -644,9 +642,9 @@ where
     pub fn try_reclaim(&mut self, additional: usize) -> bool
         requires item { FitsInMemory S.Item.row }
         requires writes { is_some self.old.capacity ≡ true }
-        ensures row { Reclaims (room S.DROPS (if type_size S.Item.row == 1 then 8 else 4)
-            (type_size S.Item.row) (row_of self.old) additional) (row_of self.old)
-            (row_of self.new) result }
+        ensures row { Reclaims
+            (room_for S.DROPS (type_size S.Item.row) (row_of self.old) additional)
+            (row_of self.old) (row_of self.new) result }
         ensures kept { result ≡ false → self.new ≡ self.old }
         ensures stand { stand_of (Some self.new) ≡ stand_of (Some self.old) }
     {

@@ -17,7 +17,7 @@ use Rattle.arc_commands.specs.Step.{Setting, Shortage, Step, answer, split_rows}
 use Rattle.arc_commands.specs.declared.command.Cmd.{Cmd}
 use Rattle.arc_commands.specs.declared.command.Cmd.TheVariants as command
 use Rattle.arc_commands.specs.declared.command.Reply.TheVariants as reply
-use Rattle.arc_slots.specs.Parts.{is_itself, part_answer, part_command, rest_of, row_made}
+use Rattle.arc_slots.specs.Parts.{is_itself, part_answer, part_command, rest_of, part_row}
 use Rattle.arc_slots.specs.Slots.{SlotView, row_of, state_of}
 use Rattle.arc_slots.specs.declared.part.Part.{Part}
 use Rattle.arc_slots.specs.declared.part.Part.TheVariants as part
@@ -93,14 +93,14 @@ module _ {T M : Type 0} (setting : Setting T) (slots : List (Option (SlotView T 
           (slice_get-map (option_map row_of) slots i ∙ ap (option_map (option_map row_of)) there)))
 
       pub part-answers : (p : Part) → part_answer setting.boundary s.window.items p ≡ Ok tt
-          → (short : Shortage) → let made = row_made setting.has_static r p in
+          → (short : Shortage) → let made = part_row setting.has_static r p in
           answer setting short t (part_command i p)
           ≡ asks setting short t made (split_rows t i (is_itself r p) r (rest_of r p) made)
       part-answers part.Whole may short =
           clone-answers setting slots passes i s there reads short ∙ stays r short
       part-answers (part.Range start end) may short =
           sub-answers setting slots passes i s there reads start end may short
-          ∙ stays (row_made setting.has_static r (part.Range start end)) short
+          ∙ stays (part_row setting.has_static r (part.Range start end)) short
       part-answers (part.Back at) may short =
           off-answers setting slots passes i s there at may reads short
       part-answers (part.Front at) may short =

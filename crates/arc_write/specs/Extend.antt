@@ -1,15 +1,15 @@
 -- Extending a write window by items that come one by one.
-use Rattle.std.specs.Prelude.{◌≡◌, ℕ, ◌==◌, if◌then◌else◌, Bool, List, [], ◌∷◌, Err}
+use Rattle.std.specs.Prelude.{◌≡◌, ℕ, Bool, List, [], ◌∷◌, Err}
 use Rattle.arc_owners.specs.declared.error.TryReserveError.{TryReserveError}
 use Rattle.arc_owners.specs.count.Invariant.{BlockId, Line}
 use Rattle.arc_block.specs.declared.parts.room.Room.{Room}
 use Rattle.arc_block.specs.Window.{PartsView}
-use Rattle.arc_block.specs.Writers.{room, MakesRoom, Pushes}
+use Rattle.arc_block.specs.Writers.{room_for, MakesRoom, Pushes}
 use Rattle.arc_read.specs.Steps.{WithNewPass}
 
 -- where a window has room for one item more
 abbrev pub room_for_one : {T M : Type 0} → (drops : Bool) → (item_size : ℕ) → PartsView T M → Room
-room_for_one drops item_size w = room drops (if item_size == 1 then 8 else 4) item_size w 1
+room_for_one drops item_size w = room_for drops item_size w 1
 
 -- of windows under the mark H
 module _ {T M : Type 0} (H : Type 0) (real : BlockId → ℕ → List Line → Type 0)

@@ -1,6 +1,5 @@
 //! Parts of a window that writes as the only owner of its block.
-ghost use Rattle.std.specs.Prelude.{◌≡◌, ◌≤◌, ◌<◌, ◌+◌, ◌-◌, ◌^◌, ◌++◌, ◌∷◌, ◌==◌};
-ghost use Rattle.std.specs.Prelude.{if◌then◌else◌};
+ghost use Rattle.std.specs.Prelude.{◌≡◌, ◌≤◌, ◌<◌, ◌+◌, ◌-◌, ◌^◌, ◌++◌, ◌∷◌};
 ghost use Rattle.std.specs.Prelude.{[], length, replicate, false, IfOk, IfErr, OnOk, OnErr};
 ghost use Rattle.std.specs.Mem.{FitsInMemory, type_size};
 ghost use Rattle.std.specs.Vec.{vec_capacity, vec_len};
@@ -13,7 +12,7 @@ ghost use Rattle.arc_block.specs.Place.{nowhere};
 ghost use Rattle.arc_block.specs.Room.{IfSpare, IfFresh, IfBehind, IfGrowth, IfFront};
 ghost use Rattle.arc_block.specs.Steps.{IsPassAt};
 ghost use Rattle.arc_block.specs.Table.{sole_writer};
-ghost use Rattle.arc_block.specs.Writers.{capacity_of, room as room_of, sole_part, with_room};
+ghost use Rattle.arc_block.specs.Writers.{capacity_of, room_for, sole_part, with_room};
 ghost use Rattle.arc_block.specs.Writers.{IsNewWriter, MakesWriter, MakesRoom, CanGrow};
 ghost use Rattle.arc_block.specs.Writers.{size_at, offset_at};
 
@@ -135,8 +134,7 @@ impl<S: Slice, B, M, A: Allocator + Copy, H: Mark> SoleParts<S, B, M, A, H> {
     /// Where there is room for so many items more.
     pub fn room(&self, additional: usize) -> Room
         requires item { FitsInMemory S.Item.row }
-        ensures room { result ≡ room_of S.DROPS (if type_size S.Item.row == 1 then 8 else 4)
-            (type_size S.Item.row) self.now additional }
+        ensures room { result ≡ room_for S.DROPS (type_size S.Item.row) self.now additional }
         ensures fresh { IfFresh result (λ places. (self.now.place ≡ nowhere)
             × (length self.now.items ≡ 0) × (1 ≤ places) × (additional ≤ places)) }
         ensures behind { IfBehind result ⊥ }
@@ -375,8 +373,8 @@ impl<S: Slice, B, M, A: Allocator + Copy, H: Mark> SoleParts<S, B, M, A, H> {
         requires item { FitsInMemory S.Item.row }
         requires pass { IsPassAt self.old.place pass.old }
         ensures room { MakesRoom S.DROPS H.whole
-            (room_of S.DROPS (if type_size S.Item.row == 1 then 8 else 4) (type_size S.Item.row)
-            self.old additional) self.old self.new pass.old pass.new result }
+            (room_for S.DROPS (type_size S.Item.row) self.old additional)
+            self.old self.new pass.old pass.new result }
         ensures items { self.new.items ≡ self.old.items }
         ensures enough { OnOk result
             (length self.new.items + additional ≤ capacity_of self.new.role) }
@@ -398,8 +396,8 @@ impl<S: Slice, B, M, A: Allocator + Copy, H: Mark> SoleParts<S, B, M, A, H> {
         requires item { FitsInMemory S.Item.row }
         requires pass { IsPassAt self.old.place pass.old }
         ensures room { MakesRoom S.DROPS H.whole
-            (room_of S.DROPS (if type_size S.Item.row == 1 then 8 else 4) (type_size S.Item.row)
-            self.old additional) self.old self.new pass.old pass.new result }
+            (room_for S.DROPS (type_size S.Item.row) self.old additional)
+            self.old self.new pass.old pass.new result }
         ensures items { self.new.items ≡ self.old.items }
         ensures enough { OnOk result
             (length self.new.items + additional ≤ capacity_of self.new.role) }

@@ -1,11 +1,11 @@
 //! The plain forms: calls with a new pass.
-ghost use Rattle.std.specs.Prelude.{◌≡◌, ◌≤◌, ◌+◌, ◌++◌, ◌∷◌, ◌==◌, if◌then◌else◌, true, false, []};
+ghost use Rattle.std.specs.Prelude.{◌≡◌, ◌≤◌, ◌+◌, ◌++◌, ◌∷◌, true, false, []};
 ghost use Rattle.std.specs.Prelude.{length, replicate, IfOk, IfErr, OnOk, OnErr, Err};
 ghost use Rattle.std.specs.Mem.{FitsInMemory, type_size};
 ghost use Rattle.arc_owners.specs.count.Calls.{Asks, Leaves};
 ghost use Rattle.arc_block.specs.Place.{nowhere, at_owner, IsOnBlock};
 ghost use Rattle.arc_block.specs.Window.{parts_of};
-ghost use Rattle.arc_block.specs.Writers.{capacity_of, room, as_sole, MakesWriter, MakesRoom};
+ghost use Rattle.arc_block.specs.Writers.{capacity_of, room_for, as_sole, MakesWriter, MakesRoom};
 ghost use Rattle.arc_block.specs.Writers.{Pushes};
 ghost use Rattle.arc_block.specs.Writers.{Freezes, IsWholeWriter};
 ghost use Rattle.arc_read.specs.Steps.{WithNewPass};
@@ -203,9 +203,8 @@ impl<S: Slice, L: LayoutMut, B, M, A: Allocator + Copy, H: Stepping> ArcSliceMut
     pub fn try_reserve(&mut self, additional: usize) -> Result<(), TryReserveError>
         requires item { FitsInMemory S.Item.row }
         ensures room { WithNewPass {H = H} H.real self.old.place (λ first last.
-            MakesRoom S.DROPS H.whole
-            (room S.DROPS (if type_size S.Item.row == 1 then 8 else 4) (type_size S.Item.row)
-            self.old additional) self.old self.new first last result) }
+            MakesRoom S.DROPS H.whole (room_for S.DROPS (type_size S.Item.row) self.old additional)
+            self.old self.new first last result) }
         ensures items { self.new.items ≡ self.old.items }
         ensures enough { OnOk result
             (length self.new.items + additional ≤ capacity_of self.new.role) }
@@ -235,15 +234,13 @@ impl<S: Slice, L: LayoutMut, B, M, A: Allocator + Copy, H: Stepping> ArcSliceMut
         S: Extendable,
         requires item { FitsInMemory S.Item.row }
         ensures pushed { OnOk result (WithNewPass {H = H} H.real self.old.place (λ first last.
-            Pushes S.DROPS H.whole
-            (room S.DROPS (if type_size S.Item.row == 1 then 8 else 4) (type_size S.Item.row)
-            self.old 1) (item ∷ []) self.old self.new first last)) }
+            Pushes S.DROPS H.whole (room_for S.DROPS (type_size S.Item.row) self.old 1) (item ∷ [])
+            self.old self.new first last)) }
         ensures items { OnOk result (self.new.items ≡ self.old.items ++ item ∷ []) }
         ensures refused { IfErr result (λ r. (r.1 ≡ item)
-            × WithNewPass {H = H} H.real self.old.place (λ first last.
-            MakesRoom S.DROPS H.whole
-            (room S.DROPS (if type_size S.Item.row == 1 then 8 else 4) (type_size S.Item.row)
-            self.old 1) self.old self.new first last (Err r.0))) }
+            × WithNewPass {H = H} H.real self.old.place (λ first last. MakesRoom S.DROPS H.whole
+            (room_for S.DROPS (type_size S.Item.row) self.old 1)
+            self.old self.new first last (Err r.0))) }
     {
         let mut pass = self.pass();
         let pushed = self.try_push_as(item, &mut pass);
@@ -271,14 +268,13 @@ impl<S: Slice, L: LayoutMut, B, M, A: Allocator + Copy, H: Stepping> ArcSliceMut
         requires item { FitsInMemory S.Item.row }
         ensures extended { OnOk result (WithNewPass {H = H} H.real self.old.place (λ first last.
             Pushes S.DROPS H.whole
-            (room S.DROPS (if type_size S.Item.row == 1 then 8 else 4) (type_size S.Item.row)
-            self.old (length items.now)) items.now self.old self.new first last)) }
+            (room_for S.DROPS (type_size S.Item.row) self.old (length items.now)) items.now
+            self.old self.new first last)) }
         ensures items { OnOk result (self.new.items ≡ self.old.items ++ items.now) }
         ensures refused { IfErr result (λ e.
-            WithNewPass {H = H} H.real self.old.place (λ first last.
-            MakesRoom S.DROPS H.whole
-            (room S.DROPS (if type_size S.Item.row == 1 then 8 else 4) (type_size S.Item.row)
-            self.old (length items.now)) self.old self.new first last (Err e))) }
+            WithNewPass {H = H} H.real self.old.place (λ first last. MakesRoom S.DROPS H.whole
+            (room_for S.DROPS (type_size S.Item.row) self.old (length items.now))
+            self.old self.new first last (Err e))) }
     {
         let mut pass = self.pass();
         let extended = self.try_extend_from_slice_as(items, &mut pass);
@@ -324,13 +320,12 @@ impl<L: LayoutMut, B, M, A: Allocator + Copy, H: Stepping> ArcSliceMut<Text, L, 
     /// That of `try_reserve_as`.
     pub fn try_extend_from_str(&mut self, text: &str) -> Result<(), TryReserveError>
         ensures extended { OnOk result (WithNewPass {H = H} H.real self.old.place (λ first last.
-            Pushes false H.whole (room false 8 1 self.old (length text.now)) text.now
+            Pushes false H.whole (room_for false 1 self.old (length text.now)) text.now
             self.old self.new first last)) }
         ensures items { OnOk result (self.new.items ≡ self.old.items ++ text.now) }
         ensures refused { IfErr result (λ e.
-            WithNewPass {H = H} H.real self.old.place (λ first last.
-            MakesRoom false H.whole (room false 8 1 self.old (length text.now))
-            self.old self.new first last (Err e))) }
+            WithNewPass {H = H} H.real self.old.place (λ first last. MakesRoom false H.whole
+            (room_for false 1 self.old (length text.now)) self.old self.new first last (Err e))) }
     {
         let mut pass = self.pass();
         let extended = self.try_extend_from_str_as(text, &mut pass);

@@ -3,7 +3,7 @@ ghost use Rattle.std.specs.Prelude.{◌≡◌, ◌≤◌, ◌++◌, ◌==◌, if
 ghost use Rattle.std.specs.Prelude.{IfOk, IfErr, OnOk, OnErr, Err};
 ghost use Rattle.arc_owners.specs.count.Calls.{IsPassOfNone};
 ghost use Rattle.arc_block.specs.Steps.{IsPassAt};
-ghost use Rattle.arc_block.specs.Writers.{MakesWriter, MakesRoom, Pushes, room};
+ghost use Rattle.arc_block.specs.Writers.{MakesWriter, MakesRoom, Pushes, room_for};
 
 use super::ArcSliceMut;
 use arc_block::layout::LayoutMut;
@@ -67,11 +67,11 @@ impl<L: LayoutMut, B, M, A: Allocator + Copy, H: Mark> ArcSliceMut<Text, L, 1, B
     ) -> Result<(), TryReserveError>
         requires pass { IsPassAt self.old.place pass.old }
         ensures extended { OnOk result (Pushes false H.whole
-            (room false 8 1 self.old (length text.now)) text.now
+            (room_for false 1 self.old (length text.now)) text.now
             self.old self.new pass.old pass.new) }
         ensures items { OnOk result (self.new.items ≡ self.old.items ++ text.now) }
         ensures refused { IfErr result (λ e. MakesRoom false H.whole
-            (room false 8 1 self.old (length text.now))
+            (room_for false 1 self.old (length text.now))
             self.old self.new pass.old pass.new (Err e)) }
     {
         self.parts.try_extend_from_slice_as(text.as_bytes(), pass)

@@ -1,10 +1,10 @@
 //! Room in a write window, and what is written behind its items.
-ghost use Rattle.std.specs.Prelude.{◌≡◌, ◌≤◌, ◌+◌, ◌++◌, ◌∷◌, ◌==◌, if◌then◌else◌, [], length};
+ghost use Rattle.std.specs.Prelude.{◌≡◌, ◌≤◌, ◌+◌, ◌++◌, ◌∷◌, [], length};
 ghost use Rattle.std.specs.Prelude.{IfOk, IfErr, OnOk, OnErr, Ok, Err};
 ghost use Rattle.std.specs.Borrow.{sem};
 ghost use Rattle.std.specs.Mem.{FitsInMemory, type_size};
 ghost use Rattle.arc_block.specs.Steps.{IsPassAt};
-ghost use Rattle.arc_block.specs.Writers.{capacity_of, room, MakesRoom, Pushes, Reclaims};
+ghost use Rattle.arc_block.specs.Writers.{capacity_of, room_for, MakesRoom, Pushes, Reclaims};
 
 use super::ArcSliceMut;
 use arc_block::layout::LayoutMut;
@@ -61,8 +61,8 @@ impl<S: Slice, L: LayoutMut, B, M, A: Allocator + Copy, H: Mark> ArcSliceMut<S, 
         requires item { FitsInMemory S.Item.row }
         requires pass { IsPassAt self.old.place pass.old }
         ensures room { MakesRoom S.DROPS H.whole
-            (room S.DROPS (if type_size S.Item.row == 1 then 8 else 4) (type_size S.Item.row)
-            self.old additional) self.old self.new pass.old pass.new result }
+            (room_for S.DROPS (type_size S.Item.row) self.old additional)
+            self.old self.new pass.old pass.new result }
         ensures items { self.new.items ≡ self.old.items }
         ensures enough { OnOk result
             (length self.new.items + additional ≤ capacity_of self.new.role) }
@@ -75,8 +75,8 @@ impl<S: Slice, L: LayoutMut, B, M, A: Allocator + Copy, H: Mark> ArcSliceMut<S, 
     #[tactic(auto, using(crate::proofs::Legal::reclaimed_legal))]
     pub fn try_reclaim(&mut self, additional: usize) -> bool
         requires item { FitsInMemory S.Item.row }
-        ensures { Reclaims (room S.DROPS (if type_size S.Item.row == 1 then 8 else 4)
-            (type_size S.Item.row) self.old additional) self.old self.new result }
+        ensures { Reclaims (room_for S.DROPS (type_size S.Item.row) self.old additional)
+            self.old self.new result }
     {
         self.parts.try_reclaim(additional)
     }
@@ -86,8 +86,8 @@ impl<S: Slice, L: LayoutMut, B, M, A: Allocator + Copy, H: Mark> ArcSliceMut<S, 
     pub fn try_reclaim_as(&mut self, additional: usize, pass: &mut Pass<H>) -> bool
         requires item { FitsInMemory S.Item.row }
         requires pass { IsPassAt self.old.place pass.old }
-        ensures room { Reclaims (room S.DROPS (if type_size S.Item.row == 1 then 8 else 4)
-            (type_size S.Item.row) self.old additional) self.old self.new result }
+        ensures room { Reclaims (room_for S.DROPS (type_size S.Item.row) self.old additional)
+            self.old self.new result }
         ensures pass { pass.new ≡ pass.old }
     {
         let _ = pass;
@@ -118,12 +118,12 @@ impl<S: Slice, L: LayoutMut, B, M, A: Allocator + Copy, H: Mark> ArcSliceMut<S, 
         requires item { FitsInMemory S.Item.row }
         requires pass { IsPassAt self.old.place pass.old }
         ensures pushed { OnOk result (Pushes S.DROPS H.whole
-            (room S.DROPS (if type_size S.Item.row == 1 then 8 else 4) (type_size S.Item.row)
-            self.old 1) (item ∷ []) self.old self.new pass.old pass.new) }
+            (room_for S.DROPS (type_size S.Item.row) self.old 1) (item ∷ [])
+            self.old self.new pass.old pass.new) }
         ensures items { OnOk result (self.new.items ≡ self.old.items ++ item ∷ []) }
         ensures refused { IfErr result (λ r. (r.1 ≡ item) × MakesRoom S.DROPS H.whole
-            (room S.DROPS (if type_size S.Item.row == 1 then 8 else 4) (type_size S.Item.row)
-            self.old 1) self.old self.new pass.old pass.new (Err r.0)) }
+            (room_for S.DROPS (type_size S.Item.row) self.old 1)
+            self.old self.new pass.old pass.new (Err r.0)) }
     {
         self.parts.try_push_as(item, pass)
     }
@@ -152,12 +152,12 @@ impl<S: Slice, L: LayoutMut, B, M, A: Allocator + Copy, H: Mark> ArcSliceMut<S, 
         requires item { FitsInMemory S.Item.row }
         requires pass { IsPassAt self.old.place pass.old }
         ensures extended { OnOk result (Pushes S.DROPS H.whole
-            (room S.DROPS (if type_size S.Item.row == 1 then 8 else 4) (type_size S.Item.row)
-            self.old (length items.now)) items.now self.old self.new pass.old pass.new) }
+            (room_for S.DROPS (type_size S.Item.row) self.old (length items.now)) items.now
+            self.old self.new pass.old pass.new) }
         ensures items { OnOk result (self.new.items ≡ self.old.items ++ items.now) }
         ensures refused { IfErr result (λ e. MakesRoom S.DROPS H.whole
-            (room S.DROPS (if type_size S.Item.row == 1 then 8 else 4) (type_size S.Item.row)
-            self.old (length items.now)) self.old self.new pass.old pass.new (Err e)) }
+            (room_for S.DROPS (type_size S.Item.row) self.old (length items.now))
+            self.old self.new pass.old pass.new (Err e)) }
     {
         self.parts.try_extend_from_slice_as(items, pass)
     }

@@ -1,11 +1,11 @@
 //! What a sole writer does to its items.
-ghost use Rattle.std.specs.Prelude.{◌≡◌, ◌≤◌, ◌+◌, ◌++◌, ◌∷◌, ◌==◌, if◌then◌else◌, [], length};
+ghost use Rattle.std.specs.Prelude.{◌≡◌, ◌≤◌, ◌+◌, ◌++◌, ◌∷◌, [], length};
 ghost use Rattle.std.specs.Prelude.{IfOk, IfErr, OnOk, OnErr, Ok, Err};
 ghost use Rattle.std.specs.Borrow.{sem};
 ghost use Rattle.std.specs.Mem.{FitsInMemory, type_size};
 ghost use Rattle.std.specs.Vec.{vec_len, vec_capacity};
 ghost use Rattle.arc_block.specs.Steps.{IsPassAt};
-ghost use Rattle.arc_block.specs.Writers.{capacity_of, room, MakesRoom, Pushes, Reclaims};
+ghost use Rattle.arc_block.specs.Writers.{capacity_of, room_for, MakesRoom, Pushes, Reclaims};
 ghost use Rattle.arc_block.specs.Writers.{with_more, after_advance, after_truncate};
 
 use super::SoleParts;
@@ -33,8 +33,8 @@ impl<S: Slice, B, M, A: Allocator + Copy, H: Mark> SoleParts<S, B, M, A, H> {
     /// Whether there is room for so many items more without memory; then it is made.
     pub fn try_reclaim(&mut self, additional: usize) -> bool
         requires item { FitsInMemory S.Item.row }
-        ensures { Reclaims (room S.DROPS (if type_size S.Item.row == 1 then 8 else 4)
-            (type_size S.Item.row) self.old additional) self.old self.new result }
+        ensures { Reclaims (room_for S.DROPS (type_size S.Item.row) self.old additional)
+            self.old self.new result }
     {
         match self.room(additional) {
             Room::Spare => true,
@@ -69,12 +69,12 @@ impl<S: Slice, B, M, A: Allocator + Copy, H: Mark> SoleParts<S, B, M, A, H> {
         requires item { FitsInMemory S.Item.row }
         requires pass { IsPassAt self.old.place pass.old }
         ensures pushed { OnOk result (Pushes S.DROPS H.whole
-            (room S.DROPS (if type_size S.Item.row == 1 then 8 else 4) (type_size S.Item.row)
-            self.old 1) (item ∷ []) self.old self.new pass.old pass.new) }
+            (room_for S.DROPS (type_size S.Item.row) self.old 1) (item ∷ [])
+            self.old self.new pass.old pass.new) }
         ensures items { OnOk result (self.new.items ≡ self.old.items ++ item ∷ []) }
         ensures refused { IfErr result (λ r. (r.1 ≡ item) × MakesRoom S.DROPS H.whole
-            (room S.DROPS (if type_size S.Item.row == 1 then 8 else 4) (type_size S.Item.row)
-            self.old 1) self.old self.new pass.old pass.new (Err r.0)) }
+            (room_for S.DROPS (type_size S.Item.row) self.old 1)
+            self.old self.new pass.old pass.new (Err r.0)) }
     {
         match self.try_reserve_as(1, pass) {
             Ok(()) => {
@@ -144,12 +144,12 @@ where
         requires item { FitsInMemory S.Item.row }
         requires pass { IsPassAt self.old.place pass.old }
         ensures extended { OnOk result (Pushes S.DROPS H.whole
-            (room S.DROPS (if type_size S.Item.row == 1 then 8 else 4) (type_size S.Item.row)
-            self.old (length items.now)) items.now self.old self.new pass.old pass.new) }
+            (room_for S.DROPS (type_size S.Item.row) self.old (length items.now)) items.now
+            self.old self.new pass.old pass.new) }
         ensures items { OnOk result (self.new.items ≡ self.old.items ++ items.now) }
         ensures refused { IfErr result (λ e. MakesRoom S.DROPS H.whole
-            (room S.DROPS (if type_size S.Item.row == 1 then 8 else 4) (type_size S.Item.row)
-            self.old (length items.now)) self.old self.new pass.old pass.new (Err e)) }
+            (room_for S.DROPS (type_size S.Item.row) self.old (length items.now))
+            self.old self.new pass.old pass.new (Err e)) }
     {
         match self.try_reserve_as(items.len(), pass) {
             Ok(()) => {

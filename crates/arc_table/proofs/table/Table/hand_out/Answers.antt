@@ -6,7 +6,7 @@ use Rattle.std.proofs.Common.{inl, inr, ◌≡◌, ℕ, List, [], ◌∷◌, ◌
 use Rattle.std.proofs.Common.{slice_get, slice_set, refl, sym, ap, ◌∙◌, subst, arith}
 use Rattle.std.proofs.lemmas.Bool.{cases_Bool}
 use Rattle.std.proofs.lemmas.Option.{none-some, same_Some, slice_get_within}
-use Rattle.arc_slots.specs.Parts.{IsPart, is_itself, part_answer, part_command, rest_of, row_made}
+use Rattle.arc_slots.specs.Parts.{IsPart, is_itself, part_answer, part_command, rest_of, part_row}
 use Rattle.arc_slots.specs.Slots.{SlotView, row_of, stand_of}
 use Rattle.arc_slots.specs.declared.part.Part.{Part}
 use Rattle.arc_commands.specs.Additions.{Adds}
@@ -95,7 +95,7 @@ made g c k =
     let answers = part-answers (setting g) slots passes i s k.there k.reads c.args.part k.may in
     let row = row_of s in
     let cut = rest_of row c.args.part in
-    let part = row_made (setting g).has_static row c.args.part in
+    let part = part_row (setting g).has_static row c.args.part in
     let adds = part-joins (setting g) slots passes i s k.there slots' after c.args.part in
     subst (λ (o : State g.row.S-Item.Denot g.row.M.Denot).
     Done (setting g) o (part_command i c.args.part) (reply.New number) slots' after) c.self.view_is
@@ -130,7 +130,7 @@ refused g c k =
     ap (λ v. slice_set read i (Some v)) c.in-Err-try_part.ensures.kept
     ∙ set-back read i (Some s) k.there_again ∙ c.reserve.ensures.items in
     let row = row_of s in
-    let part = row_made (setting g).has_static row c.args.part in
+    let part = part_row (setting g).has_static row c.args.part in
     subst (λ (o : State g.row.S-Item.Denot g.row.M.Denot).
     Done (setting g) o (part_command i c.args.part) (reply.Owner e) slots' after) c.self.view_is
     (unmade (setting g) slots passes i s k.there c.self.invariant (part_command i c.args.part)
