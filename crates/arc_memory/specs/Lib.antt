@@ -1,3 +1,4 @@
 pub mod Memory
 pub mod LentMemory
 pub mod Allocations
+pub mod Headers

@@ -10,6 +10,7 @@
 pub use allocation::{Allocation, put_together, take_apart};
 pub use base::Base;
 pub use frozen_places::FrozenPlaces;
+pub use headed::Headed;
 pub use lent_allocation::LentAllocation;
 pub use lent_places::{LentPlaces, OpenPlaces, PlacesInheritance};
 pub use lifetime::{EndedLifetime, LifetimeToken};
@@ -21,6 +22,8 @@ mod allocation;
 mod base;
 mod emptied;
 mod frozen_places;
+mod headed;
+mod headed_block;
 mod lent_allocation;
 mod lent_places;
 mod lifetime;
