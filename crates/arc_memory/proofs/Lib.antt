@@ -3,6 +3,7 @@ pub mod Contents
 pub mod Cuts
 pub mod Frozen
 pub mod HeadedBlocks
+pub mod HeaderRooms
 pub mod Held
 pub mod Keyless
 pub mod LentHeld
