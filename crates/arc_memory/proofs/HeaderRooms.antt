@@ -10,7 +10,7 @@ use base.Logic.{ent, sep, wand, apply∗, never, fst∗, id⊢}
 use base.Fml.{Fml, fsep, fex, fwand, froom}
 use prog.Memory.{size}
 use types.Logic.{Logic, sem}
-use types.Kit.{Item, Goal, Seq, ‵, raw, ◌⊛◌, ◌$◌, ◌∵◌, !, qed, move, drop, frame, assume, use1, use2, split, rewrite, fsplit, fpick, fpack, feq_l, done}
+use types.Kit.{Item, Goal, Seq, ‵, raw, ◌⊛◌, ◌$◌, ◌∵◌, !, qed, move, drop, frame, assume, use1, use2, split, rewrite, fsplit, fjoin, fpick, fpack, feq_l, done}
 use types.Match.{live}
 use denote.Memory.{lone}
 use denote.RattleType.{RattleType}
@@ -77,7 +77,7 @@ module _ {M : Type 1} {𝓤 : Ura M} (𝓛 : Logic 𝓤) (R : RattleType) (τ : 
     pub hands_out : with_header R (size τ) < 2 ^ 63 → ent 𝓤 (sep 𝓤 (sem 𝓛 One) (sem 𝓛 Right)) (sep 𝓤 (H.room τ b o) (sem 𝓛 (headed_token R holds τ p)))
     hands_out small =
         qed 𝓛 (‵ One ∷ ‵ Right ∷ []) ∵ use1 𝓛 (‵ (froom τ b o) ⊛ ‵ (room_at R (header_at τ p)) ⊛ ‵ (makes_whole R τ p)) splits $ split ! $ frame ! $ split ! $
-        fpack ! (with_header R (size τ) < 2 ^ 63) (λ _. fsep (room_at R (header_at τ p)) (frees_both R holds τ p)) small $ frame ! $ frame ! $ done !
+        move ! (1 ∷ 2 ∷ []) $ fjoin ! $ move ! (1 ∷ 0 ∷ []) $ fjoin ! $ fpack ! (with_header R (size τ) < 2 ^ 63) (λ _. fsep (room_at R (header_at τ p)) (frees_both R holds τ p)) small $ done !
 
     pub makes_one : ent 𝓤 (sep 𝓤 (H.room τ b o) (sep 𝓤 (sem 𝓛 (room_at R (header_at τ p))) (sem 𝓛 (frees_both R holds τ p)))) (sem 𝓛 (owned_block holds (units_of (with_header R (size τ))) p))
     makes_one =
@@ -98,9 +98,9 @@ module _ (Z : RattleType) (g : Ghosts Z.Denot) where
         → Seq K 𝓛 (‵ (froom (units_of (with_header R n)) b o) ∷ ‵ (g.dealloc_token h (units_of (with_header R n)) (block_ptr b o)) ∷ Γ) G) → (v ≡ live 0 vnil → Seq K 𝓛 Γ G) → Seq K 𝓛 (‵ (Taken.own_val x (v ∷ [])) ∷ Γ) G
     taken t h R n None v told some none =
         fpick t (λ us. fsplit t $ feq_l t (λ is. fpick t (λ vss. fsplit t $ feq_l t (λ is'. drop t $ none (ap only is ∙ ap (λ (ws : List Val). live 0 (of_list ws)) is')))))
-    taken {𝓤 = 𝓤} {𝓛} t h R n (Some w) v told some none =
-        fpick t (λ us. fsplit t $ feq_l t (λ is. fpick t (λ vss. fsplit t $ feq_l t (λ is'. fsplit t $ move t (1 ∷ []) $ drop t $ fsplit t $ pure_l t (block_own Z w.ptr vss.0) (λ s. move t (1 ∷ []) $
+    taken t h R n (Some w) v told some none =
+        fpick t (λ us. fsplit t $ feq_l t (λ is. fpick t (λ vss. fsplit t $ feq_l t (λ is'. fsplit t $ move t (1 ∷ []) $ drop t $ fsplit t $ pure_l t (block_own Z w.ptr vss.0) (λ s. use1 𝓛 (‵ (owned_block (g.dealloc_token w.alloc) (units_of w.bytes) w.ptr)) (id⊢ 𝓤 _) $
         in_a_block t w.ptr (λ q. owned_block (g.dealloc_token w.alloc) (units_of w.bytes) q) (fst∗ 𝓤 (never 𝓤) (sem 𝓛 (g.dealloc_token w.alloc (units_of w.bytes) null_ptr))) (λ b o at_b.
-        rewrite t 0 (λ (k : Z.Denot × ℕ). ‵ (owned_block (g.dealloc_token k.0) (units_of k.1) (block_ptr b o))) (λ i. (told.0 i, told.1 i)) refl $ fsplit t $ move t (2 ∷ []) $ drop t $
+        rewrite t 0 (λ (k : Z.Denot × ℕ). ‵ (owned_block (g.dealloc_token k.0) (units_of k.1) (block_ptr b o))) (λ i. (told.0 i, told.1 i)) refl $ fsplit t $
         some b o (omega (arith, told.1, w.fits.1)) told.2
-        (ap only is ∙ ap (λ (xs : List Val). live 1 (of_list xs)) (is' ∙ ap (λ (xs : List Val). xs ++ []) (block_told Z w.ptr vss.0 s)) ∙ ap (λ (q : Ptr). live 1 (vcons (block_val q) vnil)) at_b)))))))))
+        (ap only is ∙ ap (λ (xs : List Val). live 1 (of_list xs)) (is' ∙ ap (λ (xs : List Val). xs ++ []) (block_told Z w.ptr vss.0 s)) ∙ ap (λ (q : Ptr). live 1 (vcons (block_val q) vnil)) at_b)))))))
