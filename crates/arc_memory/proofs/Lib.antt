@@ -11,6 +11,7 @@ pub mod Names
 pub mod Parted
 pub mod Ranges
 pub mod Regained
+pub mod Rights
 pub mod Runs
 pub mod SameVecs
 pub mod Spots

@@ -2,11 +2,12 @@
 use Rattle.std.specs.Prelude.{◌≡◌, ℕ, ◌+◌, ◌*◌, ◌/◌, ◌%◌, ◌^◌, ◌<◌}
 use mir.Syntax.{Ty, w128, ty_int, ty_array}
 use prog.Memory.{size}
-use base.Fml.{Fml, ftrue, fsep, fex, fwand}
+use base.Fml.{Fml, fsep, fex, fwand}
 use denote.RattleType.{RattleType}
 use denote.RawPtr.{Ptr, room_at, room_for, ◌+ₚ◌}
 use Rattle.core.specs.Mem.{type_size}
-use Rattle.core.specs.Allocator.{owned_block}
+use Rattle.core.specs.Allocator.{array_of}
+use Rattle.std.specs.declared.vec.Vec.{Vec}
 
 -- so many bytes, rounded up to whole units of 16
 abbrev pub in_units : ℕ → ℕ
@@ -37,7 +38,16 @@ makes_whole R τ p = fwand (fsep (room_at R (header_at τ p)) (room_for τ p))
 abbrev pub frees_both : RattleType → (Ty → Ptr → Fml) → Ty → Ptr → Fml
 frees_both R holds τ p = fsep (makes_whole R τ p) (holds (units_of (with_header R (size τ))) p)
 
+-- the same, of a block that is small enough
+abbrev pub headless_right : RattleType → (Ty → Ptr → Fml) → Ty → Ptr → Fml
+headless_right R holds τ p = fex (with_header R (size τ) < 2 ^ 63) (λ _. frees_both R holds τ p)
+
 -- the right to free a block for a τ at p: its header's room, and the right to free both
 abbrev pub headed_token : RattleType → (Ty → Ptr → Fml) → Ty → Ptr → Fml
 headed_token R holds τ p = fex (with_header R (size τ) < 2 ^ 63) (λ _.
     fsep (room_at R (header_at τ p)) (frees_both R holds τ p))
+
+module _ {T A : Type 0} where
+  -- the right to free the block of a vector
+  abbrev pub right_of : RattleType → (A → Ty → Ptr → Fml) → Vec T A → Fml
+  right_of R holds v = holds v.alloc (array_of R v.cap) v.ptr
