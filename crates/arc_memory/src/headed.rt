@@ -11,7 +11,7 @@ use std::mem::size_of;
 
 /// An allocator which asks `inner` at once for what it hands out and for the room of a header of
 /// type X. The header lies behind, at the next multiple of 16 bytes.
-#[derive(Drop)]
+#[derive(Clone, Copy, Drop)]
 pub struct Headed<X, A: Allocator> {
     pub inner: A,
     marker: PhantomData<X>,

@@ -19,6 +19,7 @@ pub use lodging::Lodging;
 pub use native::Native;
 pub use places::Places;
 pub use unfreeable::{RightToFree, Unfreeable};
+pub use unheaded::Unheaded;
 
 mod allocation;
 mod base;
@@ -34,3 +35,4 @@ mod lodging;
 mod native;
 mod places;
 mod unfreeable;
+mod unheaded;
