@@ -7,7 +7,7 @@ use seplogic.Ra.Ura.{Ura}
 use mir.Syntax.{Ty, w128, ty_int, ty_array}
 use mir.Val.{Val, vcons, vnil, of_list}
 use base.Logic.{ent, sep, wand, apply∗, never, fst∗, id⊢}
-use base.Fml.{Fml, fsep, fex, fwand, froom}
+use base.Fml.{Fml, fsep, froom}
 use prog.Memory.{size}
 use types.Logic.{Logic, sem}
 use types.Kit.{Item, Goal, Seq, ‵, raw, ◌⊛◌, ◌$◌, ◌∵◌, !, qed, move, drop, frame, assume, use1, use2, split, rewrite, fsplit, fjoin, fpick, fpack, feq_l, done}

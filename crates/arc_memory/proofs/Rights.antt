@@ -1,10 +1,10 @@
 -- A vector waits for the right to free its block. Assumes `Logic`.
 --     apart        its words and its places are what `Unfreeable` owns, beside the right
 --     returned     with the right that it waits for, it is the vector again
-use Rattle.std.proofs.Common.{◌≡◌, ℕ, ◌*◌, ◌^◌, ◌<◌, Bool, List, [], ◌∷◌, refl, sym, ap}
+use Rattle.std.proofs.Common.{◌≡◌, ℕ, ◌*◌, ◌^◌, ◌<◌, Bool, List, [], ◌∷◌, refl, sym}
 use seplogic.Ra.Ura.{Ura}
-use mir.Val.{Val, vstruct, vcons, vnil}
-use base.Logic.{ent, sep, apply∗}
+use mir.Val.{Val}
+use base.Logic.{ent, sep}
 use base.Fml.{Fml, fwand}
 use types.Logic.{Logic, sem}
 use types.Kit.{‵, ◌⊛◌, ◌$◌, ◌∵◌, !, qed, by, move, frame, assume, split, use1, use2, fjoin, fpack, feq_i, rewrite, done}

@@ -4,13 +4,11 @@ use mir.Syntax.{a_type}
 use mir.Val.{Val, vint}
 use mir.MapTy.{inst_fn}
 use base.Logic.{SProp, emp}
-use base.Fml.{ftrue, flft}
 use prog.Memory.{size, capped}
 use prog.Capped.{capped_fits}
-use prog.Wp.{WpFn}
 use contract.Monad.{fact, fact_i}
 use contract.Running.{tables}
-use types.Kit.{‵, raw, ◌⊛◌, ◌$◌, ◌∵◌, !, qed, by, move, keep, drop, use0, split, fjoin, feq_i, flt_i}
+use types.Kit.{‵, raw, ◌⊛◌, ◌$◌, ◌∵◌, !, qed, by, move, keep, use0, split, fjoin, feq_i, flt_i}
 use types.Run.{size_word, of_opd, returns, enter}
 use types.ByLocal.{alloc_all, pass_all, free_all, look_at, sets}
 use denote.Param.{layout, layouts}

@@ -4,7 +4,7 @@ use mir.Syntax.{Ty, a_type, dcons, dnil}
 use mir.Val.{Val, vint, vptr}
 use mir.MapTy.{inst_fn}
 use base.Logic.{SProp, ent, emp, id⊢}
-use base.Fml.{Fml, froom}
+use base.Fml.{froom}
 use prog.Memory.{size, align, capped}
 use prog.Capped.{capped_is, capped_small}
 use prog.Wp.{Env, Wp, WpFn, after_seq, at_return}

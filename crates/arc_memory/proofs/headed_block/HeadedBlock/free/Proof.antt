@@ -4,7 +4,7 @@ use mir.Syntax.{Ty, a_type, dcons, dnil, ty_unit}
 use mir.Val.{Val, vint, vptr, vunit, has_ty, WT}
 use mir.MapTy.{inst_fn}
 use base.Logic.{SProp, never, id⊢, fst∗}
-use base.Fml.{Lft, Share, ftrue, fsep, flft}
+use base.Fml.{Lft, Share, ftrue, flft}
 use lib.Dec.{T}
 use prog.Capped.{capped_is}
 use prog.Wp.{Env, WpFn}

@@ -1,10 +1,10 @@
 -- `new` asks for units of 16 bytes. Assumes `Logic`.
-use Rattle.std.proofs.Common.{◌≡◌, ℕ, ◌*◌, ◌/◌, List, [], ◌∷◌, ◌++◌, refl, ◌∙◌, arith, lit<, w64, Some, None}
+use Rattle.std.proofs.Common.{◌≡◌, ◌*◌, ◌/◌, List, [], ◌∷◌, ◌++◌, refl, ◌∙◌, arith, lit<, w64, Some, None}
 use mir.Syntax.{Ty, a_type, dcons, dnil}
 use mir.Val.{Val, vint, vptr, vcons, vnil}
 use mir.MapTy.{inst_fn}
 use base.Logic.{SProp, emp, id⊢}
-use base.Fml.{Lft, Share, Fml, ftrue, flft}
+use base.Fml.{Lft, Share, ftrue, flft}
 use prog.Capped.{capped_is}
 use prog.Wp.{Env, Wp, WpFn, after_seq, at_return}
 use contract.BorrowLft.{◌⊑◌, ⊑_trans}
@@ -25,11 +25,10 @@ use denote.Steps.{nothing, heard}
 use denote.Triple.Entry.{alive}
 use denote.Triple.Call.{calls_at}
 use denote.Triple.Walked.{Stays, stay_dropped, walk_of, Goes-dropped}
-use Rattle.core.proofs.alloc.Calls.{Al, token, seen, Takes, at_takes, Answered, Takes-goes, Takes-gives, answers}
+use Rattle.core.proofs.alloc.Calls.{Al, seen, Takes, at_takes, Answered, Takes-goes, Takes-gives, answers}
 use Rattle.core.proofs.alloc.Shapes.{after, head, arm_body}
 use Rattle.core.proofs.atomic.Steps.{fm}
 use Rattle.core.proofs.option.Made.{Some-of, none_of}
-use Rattle.core.specs.Allocator.{owned_block}
 use Rattle.std.proofs.raw_atomic.Walks.{proved_at, leaves}
 use Rattle.arc_memory.specs.Headers.{IsWhole, units_of}
 use Rattle.arc_memory.specs.contracts.headed_block.HeadedBlock as block

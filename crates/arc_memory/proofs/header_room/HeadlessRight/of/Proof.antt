@@ -1,25 +1,24 @@
 -- `of` takes the room of the header out of the right. Assumes `Logic`.
-use Rattle.std.proofs.Common.{◌≡◌, ℕ, ◌^◌, ◌<◌, List, [], ◌∷◌, ◌++◌, refl, sym, subst}
+use Rattle.std.proofs.Common.{◌≡◌, ◌^◌, ◌<◌, List, [], ◌∷◌, ◌++◌, refl, sym, subst}
 use mir.Syntax.{Ty, a_type, dcons, dnil}
 use mir.Val.{Val, vstruct, vcons, vnil, of_list}
 use mir.MapTy.{inst_fn}
 use base.Logic.{SProp, ent, emp, id⊢}
-use base.Fml.{Fml, fsep, feq, fex}
+use base.Fml.{Fml, fsep, feq}
 use prog.Memory.{size}
 use prog.Wp.{WpFn}
-use contract.BorrowLft.{◌⊑◌}
-use contract.Monad.{fact, fact_i}
+use contract.Monad.{fact_i}
 use contract.Running.{tables}
-use types.Kit.{‵, raw, ◌⊛◌, ◌$◌, ◌∵◌, !, qed, by, move, keep, drop, split, fsplit, fjoin, fpick, fpack, feq_i, suffices, use0, use1, rewrite}
+use types.Kit.{‵, raw, ◌⊛◌, ◌$◌, ◌∵◌, !, qed, by, move, keep, drop, split, fsplit, fjoin, fpick, fpack, feq_i, suffices, use0, use1}
 use types.Run.{no_more, and_then, returns, enter}
 use types.ByLocal.{alloc_all, pass_all, free_all, look_at, get, sets}
 use types.Part.{agg}
 use denote.Exit.{no}
 use denote.Param.{param, bounded}
 use denote.RattleType.{RattleType, Valss, owns}
-use denote.RawPtr.{Ptr, room_at}
-use denote.Signature.{Slot, types_at, plain}
-use denote.Steps.{nothing, heard}
+use denote.RawPtr.{Ptr}
+use denote.Signature.{types_at, plain}
+use denote.Steps.{nothing}
 use denote.Struct.Tuple.{Tuple}
 use denote.Triple.Entry.{alive}
 use denote.Triple.Walked.{Stays, stay_dropped, walk_of}
@@ -27,7 +26,7 @@ use Rattle.core.specs.Allocator.{array_of}
 use Rattle.core.proofs.alloc.Calls.{Goes-blank}
 use Rattle.std.proofs.raw_atomic.Walks.{proved_at}
 use Rattle.logbook.proofs.Fields.{token, Token, token_told, token_made, ends}
-use Rattle.arc_memory.specs.Headers.{with_header, header_at, frees_both, headless_right, headed_token}
+use Rattle.arc_memory.specs.Headers.{with_header, header_at, frees_both, headed_token}
 use Rattle.arc_memory.specs.contracts.headed.Headed as Headed
 use Rattle.arc_memory.specs.contracts.headed.HeadedAllocator.TheImpl as impl
 use Rattle.arc_memory.specs.contracts.unfreeable.RightToFree as Right

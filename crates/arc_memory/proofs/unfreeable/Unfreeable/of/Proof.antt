@@ -1,12 +1,12 @@
 -- `of` parts a vector from the right to free its block, for which it waits.
-use Rattle.std.proofs.Common.{◌≡◌, ◌*◌, ◌^◌, ◌<◌, List, [], ◌∷◌, ◌++◌, length, refl, sym, ap, ◌∙◌, subst, arith}
+use Rattle.std.proofs.Common.{◌<◌, List, [], ◌∷◌, ◌++◌, refl, sym, subst}
 use mir.Syntax.{a_type, dcons, dnil}
 use mir.Val.{Val, vstruct, vcons, vnil, of_list}
 use mir.MapTy.{inst_fn}
 use base.Logic.{SProp, ent, emp, id⊢}
 use base.Fml.{ftrue, fsep, feq, flft}
 use prog.Wp.{WpFn}
-use types.Kit.{‵, raw, ◌⊛◌, drop, ◌$◌, ◌∵◌, !, qed, by, move, keep, split, fsplit, fjoin, fpack, suffices, use0, use1, use2, rewrite, feq_i, flt_i}
+use types.Kit.{‵, raw, ◌⊛◌, drop, ◌$◌, ◌∵◌, !, qed, by, move, keep, split, fsplit, fjoin, fpack, suffices, use0, use2, feq_i}
 use types.Run.{of_opd, no_more, and_then, returns, enter}
 use types.ByLocal.{alloc_all, pass_all, free_all, look_at, get, sets}
 use types.Part.{agg}
@@ -16,14 +16,12 @@ use contract.Running.{tables}
 use denote.Exit.{no}
 use denote.Laws.{Typed}
 use denote.RattleType.{RattleType, Valss, owns}
-use denote.RawPtr.{Ptr, block_ptr}
 use denote.Signature.{types_at, plain}
 use denote.Steps.{nothing, heard}
 use denote.Param.{layout, bounded}
 use denote.Struct.Struct.{as_fields}
 use denote.Triple.Walked.{Stays, stay_dropped, walk_of}
-use Rattle.core.proofs.alloc.Calls.{Goes-blank, token}
-use Rattle.core.specs.Mem.{type_size}
+use Rattle.core.proofs.alloc.Calls.{Goes-blank}
 use Rattle.std.proofs.raw_atomic.Walks.{proved_at}
 use Rattle.std_alloc.proofs.VecSteps.El.{El, R, P, Vr, el_d, vec_val, vec_typed}
 use Rattle.std_alloc.proofs.VecSteps.Opens.{vec_had}
@@ -31,7 +29,6 @@ use Rattle.logbook.proofs.Fields.{token as marker, Token, token_made, ends}
 use Rattle.arc_memory.specs.contracts.unfreeable.Unfreeable as Unfreeable
 use Rattle.arc_memory.specs.contracts.unfreeable.RightToFree as Right
 use Rattle.arc_memory.specs.Headers.{right_of}
-use Rattle.arc_memory.specs.Rights.{IsRightOf}
 use denote.Struct.Tuple.{Tuple}
 use Rattle.arc_memory.proofs.Runs.{told}
 use Rattle.arc_memory.proofs.Parted.{one}

@@ -1,5 +1,5 @@
 -- `whole` gives the vector back the right that it waits for.
-use Rattle.std.proofs.Common.{◌≡◌, ℕ, List, [], ◌∷◌, ◌++◌, length, refl, sym, ap, ◌∙◌, subst}
+use Rattle.std.proofs.Common.{◌≡◌, ℕ, List, [], ◌∷◌, ◌++◌, refl, sym, ap, ◌∙◌, subst}
 use mir.Syntax.{a_type, dcons, dnil}
 use mir.Val.{Val, vstruct, of_list}
 use mir.MapTy.{inst_fn}
@@ -7,7 +7,7 @@ use base.Logic.{SProp, ent, emp, id⊢, apply∗}
 use base.Fml.{Fml, ftrue, fsep, flft}
 use prog.Wp.{WpFn}
 use types.Logic.{sem}
-use types.Kit.{‵, raw, ◌⊛◌, ◌$◌, ◌∵◌, !, qed, by, move, keep, drop, split, fsplit, fjoin, fpick, feq_l, feq_i, suffices, use1, use2, rewrite}
+use types.Kit.{‵, raw, ◌⊛◌, ◌$◌, ◌∵◌, !, qed, by, move, keep, drop, split, fsplit, fjoin, fpick, feq_l, suffices, use1, use2, rewrite}
 use types.Run.{stop, fld, of_opd, returns, enter}
 use types.ByLocal.{alloc_all, pass_all, free_all, look_at, get, get_in, sets}
 use types.Part.{sub, whole as all_of}
@@ -32,7 +32,6 @@ use Rattle.arc_memory.specs.Rights.{IsRightOf}
 use Rattle.arc_memory.specs.Headers.{right_of}
 use Rattle.core.specs.Allocator.{array_of}
 use denote.Struct.Tuple.{Tuple}
-use Rattle.arc_memory.proofs.Runs.{told}
 use Rattle.arc_memory.proofs.Parted.{one}
 use Rattle.arc_memory.proofs.Rights.{Row, Fields}
 use Rattle.arc_memory.specs.contracts.unfreeable.Unfreeable.whole as f
