@@ -23,9 +23,9 @@ use Rattle.core.specs.Mem.{type_size}
 use Rattle.core.specs.contracts.option.Option as option
 use Rattle.core.specs.declared.alloc.Allocator.{Ghosts}
 use Rattle.core.proofs.slots.Carves.{carve}
-use Rattle.arc_memory.specs.Headers.{in_units, units_of, with_header, header_at, makes_whole, frees_both, headed_token}
-use Rattle.arc_memory.specs.contracts.headed_block.HeadedBlock as block
-use Rattle.arc_memory.proofs.HeadedBlocks.{block_val, block_own, block_told}
+use Rattle.arc_memory.specs.Headers.{in_units, units_of, with_header, header_at, makes_whole, frees_both, header_token}
+use Rattle.arc_memory.specs.contracts.header_block.HeaderBlock as block
+use Rattle.arc_memory.proofs.HeaderBlocks.{block_val, block_own, block_told}
 
 abbrev row : ℕ → Ty
 row k = ty_array (ty_int w128) k
@@ -74,7 +74,7 @@ module _ {M : Type 1} {𝓤 : Ura M} (𝓛 : Logic 𝓤) (R : RattleType) (τ : 
     abbrev Right : Fml
     Right = holds (units_of (with_header R (size τ))) p
 
-    pub hands_out : with_header R (size τ) < 2 ^ 63 → ent 𝓤 (sep 𝓤 (sem 𝓛 One) (sem 𝓛 Right)) (sep 𝓤 (H.room τ b o) (sem 𝓛 (headed_token R holds τ p)))
+    pub hands_out : with_header R (size τ) < 2 ^ 63 → ent 𝓤 (sep 𝓤 (sem 𝓛 One) (sem 𝓛 Right)) (sep 𝓤 (H.room τ b o) (sem 𝓛 (header_token R holds τ p)))
     hands_out small =
         qed 𝓛 (‵ One ∷ ‵ Right ∷ []) ∵ use1 𝓛 (‵ (froom τ b o) ⊛ ‵ (room_at R (header_at τ p)) ⊛ ‵ (makes_whole R τ p)) splits $ split ! $ frame ! $ split ! $
         move ! (1 ∷ 2 ∷ []) $ fjoin ! $ move ! (1 ∷ 0 ∷ []) $ fjoin ! $ fpack ! (with_header R (size τ) < 2 ^ 63) (λ _. fsep (room_at R (header_at τ p)) (frees_both R holds τ p)) small $ done !

@@ -2,7 +2,7 @@ pub mod Borrowed
 pub mod Contents
 pub mod Cuts
 pub mod Frozen
-pub mod HeadedBlocks
+pub mod HeaderBlocks
 pub mod HeaderRooms
 pub mod Held
 pub mod Keyless

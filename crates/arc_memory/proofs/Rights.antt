@@ -1,5 +1,5 @@
 -- A vector waits for the right to free its block. Assumes `Logic`.
---     apart        its words and its places are what `Unfreeable` owns, beside the right
+--     apart        its words and its places are what `VecWithoutRight` owns, beside the right
 --     returned     with the right that it waits for, it is the vector again
 use Rattle.std.proofs.Common.{◌≡◌, ℕ, ◌*◌, ◌^◌, ◌<◌, Bool, List, [], ◌∷◌, refl, sym}
 use seplogic.Ra.Ura.{Ura}
@@ -20,14 +20,14 @@ use Rattle.std_alloc.proofs.VecSteps.El.{El, R, P, Vr, el_d, sz, handle, vec_val
 use Rattle.std_alloc.proofs.VecSteps.Opens.{Blk, vec_made, is_live}
 use Rattle.arc_memory.specs.Headers.{right_of}
 use Rattle.arc_memory.specs.Memory.{side_by_side}
-use Rattle.arc_memory.specs.contracts.unfreeable.Unfreeable as Unfreeable
-use Rattle.arc_memory.specs.contracts.unfreeable.Unfreeable.TheInside as Inside
+use Rattle.arc_memory.specs.contracts.vec_without_right.VecWithoutRight as VecWithoutRight
+use Rattle.arc_memory.specs.contracts.vec_without_right.VecWithoutRight.TheInside as Inside
 use Rattle.arc_memory.proofs.Parted.{one}
 use Rattle.arc_memory.proofs.Runs.{block_apart, block_whole}
 
 module _ (E : El) where
   abbrev pub Row : RattleType
-  Row = Unfreeable.the_row (R E) (P E) E.al.g
+  Row = VecWithoutRight.the_row (R E) (P E) E.al.g
 
   abbrev pub Fields : RattleType
   Fields = Inside.the_row (R E) (P E) E.al.g

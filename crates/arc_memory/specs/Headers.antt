@@ -39,12 +39,13 @@ abbrev pub frees_both : RattleType → (Ty → Ptr → Fml) → Ty → Ptr → F
 frees_both R holds τ p = fsep (makes_whole R τ p) (holds (units_of (with_header R (size τ))) p)
 
 -- the same, of a block that is small enough
-abbrev pub headless_right : RattleType → (Ty → Ptr → Fml) → Ty → Ptr → Fml
-headless_right R holds τ p = fex (with_header R (size τ) < 2 ^ 63) (λ _. frees_both R holds τ p)
+abbrev pub right_without_header : RattleType → (Ty → Ptr → Fml) → Ty → Ptr → Fml
+right_without_header R holds τ p =
+    fex (with_header R (size τ) < 2 ^ 63) (λ _. frees_both R holds τ p)
 
 -- the right to free a block for a τ at p: its header's room, and the right to free both
-abbrev pub headed_token : RattleType → (Ty → Ptr → Fml) → Ty → Ptr → Fml
-headed_token R holds τ p = fex (with_header R (size τ) < 2 ^ 63) (λ _.
+abbrev pub header_token : RattleType → (Ty → Ptr → Fml) → Ty → Ptr → Fml
+header_token R holds τ p = fex (with_header R (size τ) < 2 ^ 63) (λ _.
     fsep (room_at R (header_at τ p)) (frees_both R holds τ p))
 
 module _ {T A : Type 0} where

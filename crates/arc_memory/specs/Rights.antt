@@ -1,7 +1,7 @@
 -- The right to free the block of a vector.
 use Rattle.std.specs.Prelude.{◌≡◌}
 use Rattle.std.specs.declared.vec.Vec.{Vec}
-use Rattle.arc_memory.specs.declared.unfreeable.RightToFree.{RightToFree}
+use Rattle.arc_memory.specs.declared.vec_without_right.RightToFree.{RightToFree}
 
 module _ {T A : Type 0} where
   -- it is the right to free the block of this vector

@@ -2,11 +2,11 @@
 ghost use Rattle.std.specs.Prelude.{◌≡◌, ℕ};
 ghost use denote.RawPtr.{Ptr, coded_ptr, room_at};
 ghost use Rattle.core.specs.Allocator.{array_of};
-ghost use Rattle.arc_memory.specs.Headers.{headless_right, header_at};
-ghost use Rattle.arc_memory.specs.declared.headed.Headed.{Headed};
+ghost use Rattle.arc_memory.specs.Headers.{right_without_header, header_at};
+ghost use Rattle.arc_memory.specs.declared.header_allocator.HeaderAllocator.{HeaderAllocator};
 
-use crate::headed::Headed;
-use crate::unfreeable::RightToFree;
+use crate::header_allocator::HeaderAllocator;
+use crate::vec_without_right::RightToFree;
 use std::alloc::Allocator;
 use std::marker::{Model, PhantomData};
 
@@ -20,32 +20,34 @@ impl<X> Model for HeaderRoom<X> {
     ghost also_owns = { λ r. room_at X.row r.at };
 }
 
-/// The right to free the block of a vector and its header, which waits for the header's room. No
-/// bytes, and neither copied nor dropped.
-pub struct HeadlessRight<T, X, A: Allocator> {
-    marker: PhantomData<(T, Headed<X, A>)>,
-    pub ghost alloc: { Headed X A },
+/// The right to free the block of a vector with its header, for whoever has the header's room
+/// besides. No bytes, and neither copied nor dropped.
+pub struct RightWithoutHeader<T, X, A: Allocator> {
+    marker: PhantomData<(T, HeaderAllocator<X, A>)>,
+    pub ghost alloc: { HeaderAllocator X A },
     pub ghost base: { Ptr } by { coded_ptr },
     pub ghost count: { ℕ },
 }
 
-impl<T, X, A: Allocator> Model for HeadlessRight<T, X, A> {
-    ghost also_owns = { λ r. headless_right X.row (A.dealloc_token r.alloc.inner)
+impl<T, X, A: Allocator> Model for RightWithoutHeader<T, X, A> {
+    ghost also_owns = { λ r. right_without_header X.row (A.dealloc_token r.alloc.inner)
         (array_of T.row r.count) r.base };
 }
 
-impl<T, X, A: Allocator> HeadlessRight<T, X, A> {
-    ghost use Rattle.arc_memory.specs.HeaderPlaces.{IsHeadless, IsHeaderOf};
+impl<T, X, A: Allocator> RightWithoutHeader<T, X, A> {
+    ghost use Rattle.arc_memory.specs.HeaderPlaces.{IsWithoutHeader, IsHeaderOf};
 
     /// The right without the header's room, and that.
-    pub fn of(right: RightToFree<T, Headed<X, A>>) -> (HeadlessRight<T, X, A>, HeaderRoom<X>)
-        ensures right { IsHeadless result.0 right }
+    pub fn of(
+        right: RightToFree<T, HeaderAllocator<X, A>>,
+    ) -> (RightWithoutHeader<T, X, A>, HeaderRoom<X>)
+        ensures right { IsWithoutHeader result.0 right }
         ensures room { IsHeaderOf T.row result.1 right }
     {
         let RightToFree { marker: _ } = right;
         let marker = PhantomData;
         (
-            HeadlessRight { marker },
+            RightWithoutHeader { marker },
             HeaderRoom {
                 marker: PhantomData,
             },
@@ -53,11 +55,11 @@ impl<T, X, A: Allocator> HeadlessRight<T, X, A> {
     }
 
     /// The right again.
-    pub fn whole(self, room: HeaderRoom<X>) -> RightToFree<T, Headed<X, A>>
+    pub fn whole(self, room: HeaderRoom<X>) -> RightToFree<T, HeaderAllocator<X, A>>
         requires room { room.at ≡ header_at (array_of T.row self.count) self.base }
-        ensures { IsHeadless self result }
+        ensures { IsWithoutHeader self result }
     {
-        let HeadlessRight { marker: _ } = self;
+        let RightWithoutHeader { marker: _ } = self;
         let HeaderRoom { marker: _ } = room;
         let marker = PhantomData;
         RightToFree { marker }

@@ -2,17 +2,19 @@
 ghost use Rattle.std.specs.Prelude.{◌≡◌, ◌<◌};
 ghost use Rattle.std.specs.Vec.{vec_capacity};
 
-use arc_memory::{Headed, Unheaded};
+use arc_memory::{HeaderAllocator, VecWithoutHeader};
 use linked_list_allocator::LocalHeap;
 use std::alloc::Allocator;
 use std::test::Fail;
 
 /// A vector, the room for its header taken out and put in again.
-fn header_out_and_in<T, X, A: Allocator>(items: Vec<T, Headed<X, A>>) -> Vec<T, Headed<X, A>>
+fn header_out_and_in<T, X, A: Allocator>(
+    items: Vec<T, HeaderAllocator<X, A>>,
+) -> Vec<T, HeaderAllocator<X, A>>
     requires { 0 < vec_capacity items }
     ensures { result ≡ items }
 {
-    let (items, room) = Unheaded::of(items);
+    let (items, room) = VecWithoutHeader::of(items);
     items.whole(room)
 }
 
@@ -21,7 +23,7 @@ fn header_out_and_in<T, X, A: Allocator>(items: Vec<T, Headed<X, A>>) -> Vec<T, 
 #[test]
 fn grown_with_header(rt: HostRuntime) -> Result<(), Fail> {
     let heap = LocalHeap::new(rt.alloc(), 1024)?;
-    let mut items = Vec::with_capacity(Headed::<[u64; 3], _>::new(&heap), 4)?;
+    let mut items = Vec::with_capacity(HeaderAllocator::<[u64; 3], _>::new(&heap), 4)?;
     let at_first = heap.used();
     for number in 0..5u64 {
         items.push(number)?;
@@ -37,7 +39,7 @@ fn grown_with_header(rt: HostRuntime) -> Result<(), Fail> {
 #[test]
 fn header_taken_out_of_a_vector(rt: HostRuntime) -> Result<(), Fail> {
     let heap = LocalHeap::new(rt.alloc(), 1024)?;
-    let empty = Vec::with_capacity(Headed::<u64, _>::new(&heap), 3)?;
+    let empty = Vec::with_capacity(HeaderAllocator::<u64, _>::new(&heap), 3)?;
     let mut items = header_out_and_in(empty);
     items.push(7u8)?;
     let mut items = header_out_and_in(items);
@@ -53,8 +55,14 @@ fn header_taken_out_of_a_vector(rt: HostRuntime) -> Result<(), Fail> {
 fn more_than_there_is(rt: HostRuntime) -> Result<(), Fail> {
     let heap = LocalHeap::new(rt.alloc(), 1024)?;
     let most = isize::MAX as usize;
-    let refused = Vec::<u8, _>::with_capacity(Headed::<[u64; 3], _>::new(&heap), most).is_err();
-    let large = Vec::<u8, _>::with_capacity(Headed::<[u64; 128], _>::new(&heap), 1).is_err();
+    let refused = Vec::<u8, _>::with_capacity(
+        HeaderAllocator::<[u64; 3], _>::new(&heap),
+        most,
+    ).is_err();
+    let large = Vec::<u8, _>::with_capacity(
+        HeaderAllocator::<[u64; 128], _>::new(&heap),
+        1,
+    ).is_err();
     assert!(rt; (refused, large, heap.used()) == (true, true, 0));
     Ok(())
 }
