@@ -66,3 +66,13 @@ fn more_than_there_is(rt: HostRuntime) -> Result<(), Fail> {
     assert!(rt; (refused, large, heap.used()) == (true, true, 0));
     Ok(())
 }
+
+fn crosses<T: Send + Sync>(_value: &T) {}
+
+#[test]
+fn vector_with_header_crosses_threads(rt: HostRuntime) -> Result<(), Fail> {
+    let items = Vec::<u64, _>::new(HeaderAllocator::<u64, _>::new(rt.alloc()));
+    crosses(&items);
+    drop(items);
+    Ok(())
+}
