@@ -2,6 +2,8 @@ pub mod Borrowed
 pub mod Contents
 pub mod Cuts
 pub mod Frozen
+pub mod HeaderBlocks
+pub mod HeaderRooms
 pub mod Held
 pub mod Keyless
 pub mod LentHeld
@@ -9,6 +11,7 @@ pub mod Names
 pub mod Parted
 pub mod Ranges
 pub mod Regained
+pub mod Rights
 pub mod Runs
 pub mod SameVecs
 pub mod Spots

@@ -4,26 +4,37 @@
 //! `take_apart` makes both of a vector, and `put_together` the vector again. Places can be cut and
 //! joined, edited by a vector that lodges in them (`Lodging`), and lent for a lifetime to several
 //! writers (`LentPlaces`), who may freeze their items for readers (`FrozenPlaces`). Memory that is
-//! lent whole can be the value of a counted box (`LentAllocation`).
+//! lent whole can be the value of a counted box (`LentAllocation`). `HeaderAllocator` leaves room
+//! for a header behind what it hands out, so that a vector's memory has room for a count; no block
+//! uses it yet.
 #![tactic(auto)]
 
 pub use allocation::{Allocation, put_together, take_apart};
 pub use base::Base;
 pub use frozen_places::FrozenPlaces;
+pub use header_allocator::HeaderAllocator;
+pub use header_room::{HeaderRoom, RightWithoutHeader};
 pub use lent_allocation::LentAllocation;
 pub use lent_places::{LentPlaces, OpenPlaces, PlacesInheritance};
 pub use lifetime::{EndedLifetime, LifetimeToken};
 pub use lodging::Lodging;
 pub use native::Native;
 pub use places::Places;
+pub use vec_without_header::VecWithoutHeader;
+pub use vec_without_right::{RightToFree, VecWithoutRight};
 
 mod allocation;
 mod base;
 mod emptied;
 mod frozen_places;
+mod header_allocator;
+mod header_block;
+mod header_room;
 mod lent_allocation;
 mod lent_places;
 mod lifetime;
 mod lodging;
 mod native;
 mod places;
+mod vec_without_header;
+mod vec_without_right;
