@@ -1,5 +1,5 @@
 //! An allocator that leaves room for a header behind what it hands out.
-ghost use Rattle.std.specs.Prelude.{◌≡◌, ℕ, ◌^◌, ◌<◌, IfSome};
+ghost use Rattle.std.specs.Prelude.{◌≡◌, ℕ, ◌^◌, ◌<◌, ◌≤◌, IfSome, IfNone};
 ghost use prog.Memory.{capped};
 ghost use Rattle.core.specs.Mem.{type_size};
 ghost use Rattle.arc_memory.specs.Headers.{with_header, in_units, header_token};
@@ -52,7 +52,8 @@ impl<X, A: Allocator> HeaderAllocator<X, A> {
 
 /// So many bytes rounded up to units of 16, where that is at most `isize::MAX`.
 fn rounded(size: usize) -> Option<usize>
-    ensures { IfSome result (λ n. (n ≡ in_units size) × (n < 2 ^ 63) × (size < 2 ^ 63)) }
+    ensures some { IfSome result (λ n. (n ≡ in_units size) × (n < 2 ^ 63) × (size < 2 ^ 63)) }
+    ensures none { IfNone result (2 ^ 63 ≤ in_units size) }
 {
     if size > isize::MAX as usize - 15 {
         return None;
