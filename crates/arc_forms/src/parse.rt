@@ -2,7 +2,7 @@
 //! values, and the command is made of these. What isn't there leaves by `let .. else`, since a `?`
 //! makes the proof of its function longer by a third.
 ghost use Rattle.std.specs.Prelude.{◌≡◌, ◌+◌, ◌*◌, ◌<◌, ℕ, List, [], ◌∷◌, length, IfOk};
-ghost use Rattle.std.specs.Prelude.{MatchOption, IsSomeAnd, OnErr, IsTrue};
+ghost use Rattle.std.specs.Prelude.{MatchOption, IfSome, IsSomeAnd, OnErr, IsTrue};
 ghost use Rattle.std.specs.Option.{option_map};
 ghost use Rattle.std.specs.Char.{digit_value};
 ghost use Rattle.std.specs.List.{list_all};
@@ -315,10 +315,34 @@ fn verb_in(table: &[(&[u8], Verb)], word: &[u8]) -> Option<Verb>
     None
 }
 
+/// The form that a line begins with, and what is left of the line behind its first word, where that
+/// is a form which most lines have, and something is left.
+#[tactic(auto, unfolding(crate::specs::Reading::command_of, crate::specs::Reading::read_as))]
+fn usual_verb(line: &[u8]) -> Option<(Verb, &[u8])>
+    ensures { IfSome result (λ found.
+        read_as (words_of_line found.1.now) found.0 ≡ command_of (words_of_line line.now)) }
+{
+    match line {
+        [b'd', b'r', b'o', b'p', b' ', rest @ ..] => Some((Verb::Number(OneNumber::Drop), rest)),
+        [b's', b'h', b'o', b'w', b' ', rest @ ..] => Some((Verb::Number(OneNumber::Show), rest)),
+        [b's', b'l', b'i', b'c', b'e', b' ', rest @ ..] => {
+            Some((Verb::Items(JustItems::Slice), rest))
+        }
+        [b's', b'u', b'b', b' ', rest @ ..] => Some((Verb::Sub, rest)),
+        [b'c', b'l', b'o', b'n', b'e', b' ', rest @ ..] => {
+            Some((Verb::Number(OneNumber::Clone), rest))
+        }
+        _ => None,
+    }
+}
+
 /// The form that a line begins with, and what is left of the line behind its first word.
 fn verb_of(line: &[u8]) -> Option<(Verb, Rest)>
     ensures { read_behind result ≡ command_of (words_of_line line.now) }
 {
+    if let Some((verb, rest)) = usual_verb(line) {
+        return Some((verb, Some(rest)));
+    }
     let (word, rest) = word(line);
     let Some(verb) = verb_in(VERBS, word) else {
         return None;
