@@ -1,8 +1,8 @@
 //! Writing what lines are answered.
-ghost use Rattle.std.specs.Prelude.{◌≡◌, ◌++◌, ◌<◌, ◌*◌, codes, decimal, length, OnErr, OnOk};
+ghost use Rattle.std.specs.Prelude.{◌≡◌, ◌++◌, ◌<◌, ◌*◌, ℕ, List, Some, None};
+ghost use Rattle.std.specs.Prelude.{codes, decimal, length, OnErr, OnOk};
 ghost use Rattle.arc_forms.specs.Text.{hex, hex_digit, items_word, owner_text, range_text};
-ghost use Rattle.arc_forms.specs.Text.{answer_text, reply_text, reserve_text};
-ghost use Rattle.std.specs.Option.{option_map};
+ghost use Rattle.arc_forms.specs.Text.{reply_text, reserve_text};
 ghost use Rattle.arc_commands.specs.Seen.{map_reply};
 ghost use Rattle.arc_forms.specs.Writing.{Extends, answer_line};
 
@@ -137,7 +137,7 @@ fn push_reply<A: Allocator, X: AsSlice<u8>>(
         Reply::Items(items) => return push_items(out, items.as_slice()),
         Reply::Static(items) => return push_items(out, items.as_slice()),
         Reply::Number(number) => return push_number(out, *number),
-        Reply::Ok => b"ok",
+        Reply::Ok => return push_words(out, b"ok"),
         Reply::Yes => b"yes",
         Reply::No => b"no",
         Reply::NoWindow => b"no window",
@@ -151,47 +151,49 @@ fn push_reply<A: Allocator, X: AsSlice<u8>>(
     push_words(out, words)
 }
 
-/// Appends what a line is answered. An `Err` may leave a part of it.
-fn push_text<A: Allocator, X: AsSlice<u8>>(
-    out: &mut Vec<u8, A>,
-    answer: &Option<Reply<X, StaticSlice<u8>>>,
-) -> Result<(), AllocError>
-    ensures ok { OnOk result (out.new.items
-        ≡ out.old.items ++ answer_text (option_map (map_reply X.items) answer.now)) }
-    ensures err { OnErr result (Extends out.old.items out.new.items) }
-{
-    match answer {
-        Some(reply) => push_reply(out, reply),
-        None => push_words(out, b"bad line"),
-    }
-}
-
-/// The same, and a line feed.
+/// Appends the text of a reply, and a line feed. An `Err` may leave a part of it.
 fn push_line<A: Allocator, X: AsSlice<u8>>(
     out: &mut Vec<u8, A>,
-    answer: &Option<Reply<X, StaticSlice<u8>>>,
+    reply: &Reply<X, StaticSlice<u8>>,
 ) -> Result<(), AllocError>
-    ensures ok { OnOk result (out.new.items ≡ out.old.items ++ answer_line X.items answer.now) }
+    ensures ok { OnOk result
+        (out.new.items ≡ out.old.items ++ answer_line X.items (Some reply.now)) }
     ensures err { OnErr result (Extends out.old.items out.new.items) }
 {
-    match push_text(out, answer) {
+    match push_reply(out, reply) {
         Ok(()) => push_words(out, b"\n"),
         Err(error) => Err(error),
     }
 }
 
-/// Appends what a line is answered, with its line feed: the text of the reply, or `bad line` for
-/// `None` (`answer_text` in `specs/`). Items take two bytes each. Takes memory where `out` has no
-/// room: `Err` where that is refused, and `out` then has the bytes that it had.
+/// Appends what a line is answered that says a command: the text of the reply (`answer_text` in
+/// `specs/`), and a line feed. Items take two bytes each. Takes memory where `out` has no room:
+/// `Err` where that is refused, and `out` then has the bytes that it had.
 pub fn push_answer<A: Allocator, X: AsSlice<u8>>(
     out: &mut Vec<u8, A>,
-    answer: &Option<Reply<X, StaticSlice<u8>>>,
+    reply: &Reply<X, StaticSlice<u8>>,
 ) -> Result<(), AllocError>
-    ensures ok { OnOk result (out.new.items ≡ out.old.items ++ answer_line X.items answer.now) }
+    ensures ok { OnOk result
+        (out.new.items ≡ out.old.items ++ answer_line X.items (Some reply.now)) }
     ensures err { OnErr result (out.new.items ≡ out.old.items) }
 {
     let len = out.len();
-    let pushed = push_line(out, answer);
+    let pushed = push_line(out, reply);
+    if pushed.is_err() {
+        out.truncate(len);
+    }
+    pushed
+}
+
+/// Appends what a line is answered that says no command: `bad line`, and a line feed. Takes memory
+/// where `out` has no room: `Err` where that is refused, and `out` then has the bytes that it had.
+pub fn push_bad_line<A: Allocator>(out: &mut Vec<u8, A>) -> Result<(), AllocError>
+    ensures ok { OnOk result
+        (out.new.items ≡ out.old.items ++ answer_line (λ (xs : List ℕ). xs) None) }
+    ensures err { OnErr result (out.new.items ≡ out.old.items) }
+{
+    let len = out.len();
+    let pushed = push_words(out, b"bad line\n");
     if pushed.is_err() {
         out.truncate(len);
     }

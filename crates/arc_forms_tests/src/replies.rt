@@ -10,7 +10,7 @@ fn writes(rt: &HostRuntime, reply: Reply<Vec<u8>, StaticSlice<u8>>, text: &[u8])
     let Ok(mut out) = Vec::from_slice(rt.alloc(), b">") else {
         return false;
     };
-    let pushed = push_answer(&mut out, &Some(reply));
+    let pushed = push_answer(&mut out, &reply);
     pushed.is_ok() && &out[1..] == text
 }
 

@@ -21,11 +21,10 @@ ghost use Rattle.arc_script.specs.declared.script.ScriptError.TheVariants as scr
 
 use crate::io::{Sink, Source};
 use arc_block::layout::DefaultLayout;
-use arc_block::static_slice::StaticSlice;
 use arc_buffer::kinds::Plain;
-use arc_commands::command::{Cmd, Reply};
+use arc_commands::command::Cmd;
 use arc_forms::parse::{Command, LONGEST_LINE, parse};
-use arc_forms::text::push_answer;
+use arc_forms::text::{push_answer, push_bad_line};
 use arc_owners::error::AllocError;
 use arc_table::passes::Passes;
 use arc_table::table::Table;
@@ -108,12 +107,12 @@ fn answer<A: Allocator + Copy>(
         × CarriesOutSaid table.old (option_map seen_command said) reply table.new) }
 {
     match said {
-        Some(Cmd::Show { window }) => push_answer(out, &Some(table.show_in_place(window))),
+        Some(Cmd::Show { window }) => push_answer(out, &table.show_in_place(window)),
         Some(command) => {
             let reply = table.step(rt, command);
-            push_answer(out, &Some(reply))
+            push_answer(out, &reply)
         }
-        None => push_answer(out, &None::<Reply<&[u8], StaticSlice<u8>>>),
+        None => push_bad_line(out),
     }
 }
 

@@ -400,6 +400,7 @@ where
     }
 
     /// The end of a window.
+    #[inline(always)]
     fn release(&mut self, i: usize) -> TableReply<S::Item, A>
         ensures rows { Step (setting_of L.STATIC L.clone_wants S.DROPS S.boundary
             (type_size S.Item.row) S.Zero.zero) self.old.table
