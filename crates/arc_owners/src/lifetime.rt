@@ -9,7 +9,7 @@ use std::marker::{Model, PhantomData};
 /// A share of a lifetime, which lasts as long as the share isn't given up. It has no bytes, and is
 /// neither copied nor dropped.
 pub struct LifetimeToken {
-    pub(crate) marker: PhantomData<()>,
+    pub marker: PhantomData<()>,
     pub ghost lifetime: { ℕ },
     pub ghost share: { Share } by { coded_share },
 }
@@ -22,7 +22,7 @@ impl Model for LifetimeToken {
 
 /// That a lifetime has ended, for which what was lent comes back. It has no bytes.
 pub struct EndedLifetime {
-    pub(crate) marker: PhantomData<()>,
+    pub marker: PhantomData<()>,
     pub ghost lifetime: { ℕ },
 }
 
