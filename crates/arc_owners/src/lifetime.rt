@@ -81,6 +81,11 @@ impl LifetimeToken {
 }
 
 impl EndedLifetime {
+    /// Lets it go: who has nothing lent for the lifetime needs no end of it.
+    pub fn forget(self) {
+        let EndedLifetime { marker: _ } = self;
+    }
+
     /// The same twice, for two who have something back.
     pub fn again(self) -> (EndedLifetime, EndedLifetime)
         ensures { (result.0.lifetime ≡ self.lifetime) × (result.1.lifetime ≡ self.lifetime) }
