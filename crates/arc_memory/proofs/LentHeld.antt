@@ -1,18 +1,15 @@
 -- What lent places own, at the place where they begin. Assumes `Logic`.
 --     there_out, there_in      it is taken out, and put back
---     marked      a struct with no bytes that owns it
 --     padded      names for all places before a number, which name nothing
-use Rattle.std.proofs.Common.{◌≡◌, ℕ, zero, suc, ◌+◌, ◌*◌, ◌^◌, ◌<◌, List, [], ◌∷◌, length, drop, refl, sym, arith}
+use Rattle.std.proofs.Common.{◌≡◌, ℕ, zero, suc, ◌+◌, ◌*◌, ◌^◌, ◌<◌, List, ◌∷◌, length, drop, refl, sym, arith}
 use seplogic.Ra.Ura.{Ura}
 use base.Logic.{never, id⊢}
-use base.Fml.{GName, Fml, fsep}
+use base.Fml.{GName, Fml}
 use types.Logic.{Logic}
-use types.Kit.{Goal, Step, step, Seq, Item, ‵, ◌$◌, use0, rewrite, fsplit, fjoin, flt_l, flt_i}
-use denote.RattleType.{RattleType}
+use types.Kit.{Goal, Step, step, Seq, Item, ‵, ◌$◌, rewrite, fsplit, fjoin, flt_l, flt_i}
 use denote.RawPtr.{Ptr, block_ptr, in_a_block}
 use Rattle.core.specs.Mem.{type_size}
 use Rattle.std_alloc.proofs.VecSteps.El.{El, R, sz}
-use Rattle.logbook.proofs.Fields.{token, Token, token_made}
 use Rattle.arc_memory.specs.Memory.{place_at}
 use Rattle.arc_memory.specs.LentMemory.{LentMemory, in_memory, there}
 
@@ -36,7 +33,3 @@ module _ (E : El) {M : Type 1} {𝓤 : Ura M} {𝓛 : Logic 𝓤} {K : Type 0} {
   pub there_in : K → (m : LentMemory) (start : ℕ) (F : ℕ → ℕ → Fml) (b o : ℕ) → m.base ≡ block_ptr b o → m.whole * sz E < 2 ^ 63
       → Step K 𝓛 (‵ (there (R E) m start F) ∷ Γ) G (‵ (F b (o + start * sz E)) ∷ Γ) G
   there_in t m start F b o at_b small = step (λ s. rewrite t 0 (λ (p : Ptr). ‵ (in_memory (place_at (R E) p start) F)) (sym at_b) refl $ flt_i t (m.whole * type_size (R E)) (2 ^ 63) small $ fjoin t $ s)
-
-module _ (X : RattleType) {M : Type 1} {𝓤 : Ura M} {𝓛 : Logic 𝓤} {K : Type 0} {Γ : List (Item 𝓤)} {G : Goal 𝓤 𝓛.H} where
-  pub marked : K → {P : Fml} → Step K 𝓛 (‵ (fsep ((Token X).own_val (record {}, tt) (token ∷ [])) P) ∷ Γ) G (‵ P ∷ Γ) G
-  marked t {P} = step (λ s. use0 𝓛 (‵ ((Token X).own_val (record {}, tt) (token ∷ []))) (token_made X 𝓛) $ fjoin t $ s)

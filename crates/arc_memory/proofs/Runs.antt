@@ -1,15 +1,13 @@
 -- A vector's block is its places, side by side, and the right to free them. Assumes `Logic`.
 --     block_apart, block_whole      the block of a vector is taken apart, and made of its parts
---     told                          facts that a walk tells at its end
 use Rattle.std.proofs.Common.{◌≡◌, ℕ, ◌+◌, ◌-◌, ◌*◌, ◌≤◌, Bool, true, false, not, T, List, [], ◌∷◌, length, refl, sym, ap, ◌∙◌, arith, zero-mul, add-zero}
 use seplogic.Ra.Ura.{Ura}
 use mir.Syntax.{Ty, ty_array}
 use base.Fraction.{full_share}
-use base.Logic.{SProp, ent, sep, emp, id⊢}
+use base.Logic.{ent, sep, emp, id⊢}
 use base.Fml.{Fml, ftrue, froom}
 use types.Logic.{Logic, sem}
-use types.Kit.{‵, raw, ◌$◌, ◌∵◌, !, qed, keep, use0, fsplit, fsplit3, fjoin, fjoin3, rewrite, done}
-use contract.Monad.{fact, fact_i}
+use types.Kit.{‵, ◌$◌, ◌∵◌, !, qed, keep, use0, fsplit, fsplit3, fjoin, fjoin3, rewrite, done}
 use denote.Memory.{part_at}
 use denote.RawPtr.{Ptr, block_ptr, lies_at, room_for}
 use denote.Array.{Array}
@@ -20,9 +18,6 @@ use Rattle.std_alloc.proofs.VecSteps.El.{El, R, el_x, elτ, sz}
 use Rattle.std_alloc.proofs.VecSteps.Opens.{not_live}
 use Rattle.std_alloc.proofs.VecSteps.Rows.{empty}
 use Rattle.arc_memory.specs.Memory.{place_at, side_by_side}
-
-pub told : {M : Type 1} (𝓤 : Ura M) {F : Type 0} {P : SProp 𝓤} → F → ent 𝓤 (emp 𝓤) P → (𝓛 : Logic 𝓤) → ent 𝓤 (emp 𝓤) (sep 𝓤 (fact 𝓤 F) P)
-told 𝓤 {F} {P} known more 𝓛 = qed 𝓛 [] ∵ use0 𝓛 (raw P) more $ use0 𝓛 (raw (fact 𝓤 F)) (fact_i 𝓤 F (emp 𝓤) known) $ done !
 
 -- a vector that frees nothing needs no right to
 pub no_right : {M : Type 1} {𝓤 : Ura M} (𝓛 : Logic 𝓤) (y : Bool) → ent 𝓤 (emp 𝓤) (sem 𝓛 (owns_if y ftrue))

@@ -3,7 +3,7 @@ ghost use Rattle.std.specs.Prelude.{◌≡◌, ℕ, ◌+◌, ◌-◌, ◌^◌, �
 ghost use Rattle.std.specs.Prelude.{length, take, drop};
 ghost use Rattle.arc_memory.specs.LentMemory.{LentMemory, lent_memory_code, frozen_owns};
 
-use crate::lifetime::LifetimeToken;
+use arc_owners::lifetime::LifetimeToken;
 use std::marker::{Model, PhantomData};
 use std::slice;
 

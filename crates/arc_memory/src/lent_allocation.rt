@@ -8,9 +8,9 @@ ghost use Rattle.arc_memory.specs.Allocations.{IsAllOf, IsInheritanceOf, IsAllLe
 use crate::allocation::Allocation;
 use crate::frozen_places::FrozenPlaces;
 use crate::lent_places::{LentPlaces, PlacesInheritance};
-use crate::lifetime::LifetimeToken;
 use crate::places::Places;
 use arc_owners::error::AllocError;
+use arc_owners::lifetime::LifetimeToken;
 use std::alloc::Allocator;
 
 /// Memory whose places are lent for a lifetime of its own: all of that lifetime, that the places

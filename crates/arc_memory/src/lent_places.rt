@@ -7,8 +7,8 @@ ghost use base.Fml.{Share};
 ghost use base.SetCodes.{coded_share};
 
 use crate::frozen_places::FrozenPlaces;
-use crate::lifetime::{EndedLifetime, LifetimeToken};
 use crate::places::Places;
+use arc_owners::lifetime::{EndedLifetime, LifetimeToken};
 use std::marker::{Model, PhantomData};
 
 /// A writer's part of memory that is lent for a lifetime: places side by side, which no other part

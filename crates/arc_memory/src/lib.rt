@@ -10,13 +10,13 @@
 #![tactic(auto)]
 
 pub use allocation::{Allocation, put_together, take_apart};
+pub use arc_owners::lifetime::{EndedLifetime, LifetimeToken};
 pub use base::Base;
 pub use frozen_places::FrozenPlaces;
 pub use header_allocator::HeaderAllocator;
 pub use header_room::{HeaderRoom, RightWithoutHeader};
 pub use lent_allocation::LentAllocation;
 pub use lent_places::{LentPlaces, OpenPlaces, PlacesInheritance};
-pub use lifetime::{EndedLifetime, LifetimeToken};
 pub use lodging::Lodging;
 pub use native::Native;
 pub use places::Places;
@@ -32,7 +32,6 @@ mod header_block;
 mod header_room;
 mod lent_allocation;
 mod lent_places;
-mod lifetime;
 mod lodging;
 mod native;
 mod places;

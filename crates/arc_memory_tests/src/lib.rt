@@ -5,6 +5,8 @@
 #[cfg(test)]
 mod headers;
 #[cfg(test)]
+mod lease_writers;
+#[cfg(test)]
 mod lent_allocations;
 #[cfg(test)]
 mod places;

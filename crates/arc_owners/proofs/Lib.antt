@@ -5,3 +5,4 @@ pub use Rattle.arc_owners.proofs.history.Numbers
 pub use Rattle.arc_owners.proofs.history.Steps
 pub use Rattle.arc_owners.proofs.history.Told
 pub use Rattle.arc_owners.proofs.count.Wholes
+pub use Rattle.arc_owners.proofs.count.Markers

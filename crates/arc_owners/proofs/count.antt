@@ -3,6 +3,7 @@ pub mod Calls
 pub mod Cells
 pub mod Ends
 pub mod Fields
+pub mod Markers
 pub mod Moves
 pub mod Opened
 pub mod Operations

@@ -2,11 +2,14 @@
 //! of it.
 
 mod counted;
+mod owner_without_lifetime;
 mod passes;
 mod raw;
+pub(crate) mod share_without_lifetime;
 mod sole;
 pub(crate) mod tokens;
 pub(crate) mod word;
 
+pub use share_without_lifetime::ShareWithoutLifetime;
 pub use tokens::{LifetimeEnd, Owners, Pass, Release, Share, Sole};
 pub use word::{OwnerToken, WordBorrow};

@@ -5,6 +5,7 @@ mod count;
 pub mod error;
 mod history;
 pub mod lend;
+pub mod lifetime;
 pub mod mark;
 mod memory;
 pub mod owners;

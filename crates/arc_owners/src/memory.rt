@@ -3,6 +3,7 @@
 mod box_parts;
 mod box_place;
 mod counted_box;
+mod counted_box_without_lifetime;
 mod inheritance;
 mod inner;
 mod lent_box;
@@ -11,5 +12,6 @@ mod shared_borrow;
 mod sole_box;
 
 pub use counted_box::CountedBox;
+pub use counted_box_without_lifetime::CountedBoxWithoutLifetime;
 pub use lent_value::LentValue;
 pub use sole_box::SoleBox;

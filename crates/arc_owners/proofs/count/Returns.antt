@@ -3,12 +3,12 @@
 use Rattle.std.proofs.Common.{Bool, true, false, [], ◌∷◌}
 use seplogic.Ra.Ura.{Ura}
 use base.Logic.{SProp, ent, sep, upd, via, never_e, upd_i, id⊢}
-use base.Fml.{Fml, flent, finv}
+use base.Fml.{Fml, fdead, flent, finv}
 use types.Logic.{Logic, sem}
 use types.Keyed.{ticket, ticket_once}
 use types.Tokens.{lft_end, lent_back}
-use types.Kit.{‵, later, ◌$◌, ◌∵◌, !, qed, by, move, fsplit, fpick, fpack, frame, assume, suffices}
-use types.Kit.{updating, await, now, done, use2}
+use types.Kit.{‵, ◌⊛◌, later, ◌$◌, ◌∵◌, !, qed, by, move, split, fsplit, fpick, fpack, frame}
+use types.Kit.{assume, suffices, updating, await, now, done, use1, use2}
 use Rattle.arc_owners.specs.count.Invariant.{Lease, kept_if, kept_for, end_tokens}
 
 module _ {M : Type 1} {𝓤 : Ura M} (𝓛 : Logic 𝓤) (P : Fml) (l : Lease) where
@@ -50,10 +50,12 @@ module _ {M : Type 1} {𝓤 : Ura M} (𝓛 : Logic 𝓤) (P : Fml) (l : Lease) w
       suffices ! _ (𝓛.invs.inv_acc K ⟦ LentBox ⟧) $ frame ! $ assume ! (‵ K) $
       fpick ! (λ y. by ! (swaps y))
 
-  -- whoever ends the lifetime has it back
-  pub returns : ⟦ finv K ⟧ ∗ ⟦ end_tokens l true ⟧ ⊢ H.⇛ ⟦ P ⟧
+  -- whoever ends the lifetime has it back, and that the lifetime has ended
+  pub returns : ⟦ finv K ⟧ ∗ ⟦ end_tokens l true ⟧ ⊢ H.⇛ (⟦ P ⟧ ∗ ⟦ fdead (l.lifetime ∷ []) ⟧)
   returns = qed 𝓛 (‵ (finv K) ∷ ‵ (end_tokens l true) ∷ []) ∵ updating ! $ move ! (1 ∷ []) $
       fsplit ! $ lft_end ! tt $
-      -- [the end; the ticket; what is kept]
-      move ! (2 ∷ 1 ∷ []) $ use2 𝓛 (later (‵ LentBox)) redeems $ await ! tt $ move ! (1 ∷ 0 ∷ []) $
+      use1 𝓛 (‵ (fdead (l.lifetime ∷ [])) ⊛ ‵ (fdead (l.lifetime ∷ [])))
+      (𝓛.lfts.dead_dup (l.lifetime ∷ [])) $ split ! $
+      -- [the end, twice; the ticket; what is kept]
+      move ! (3 ∷ 2 ∷ []) $ use2 𝓛 (later (‵ LentBox)) redeems $ await ! tt $ move ! (1 ∷ 0 ∷ []) $
       lent_back ! tt $ now ! $ done !

@@ -31,6 +31,7 @@ use Rattle.arc_owners.specs.count.Invariant.{BlockId, Line, Lease, lease_coded, 
 use Rattle.arc_owners.specs.count.Invariant.{seat_coded, fresh_seat, halved, lines_order}
 use Rattle.arc_owners.specs.count.Invariant.{history_at_least, withheld, pooled, pool, staked}
 use Rattle.arc_owners.specs.count.Invariant.{tokens, right, contents, known, behind, right_owns}
+use Rattle.arc_owners.specs.count.Invariant.{right_without}
 use Rattle.arc_owners.specs.count.Invariant.{right_shares, trace_owns, trace_shares, end_tokens}
 use Rattle.arc_owners.specs.count.Invariant.{stake, counting, word_borrow_as, word_borrow}
 use Rattle.arc_owners.proofs.count.Cells.{row_keyless, cell_cut, cell_joins}
@@ -88,6 +89,13 @@ right_keyless true t o l born = (
   (entry_keyless (halved lease_coded) t.rights o _, staked_keyless l.is_lent l),
 )
 right_keyless false t o l born = tt
+
+pub right_without_keyless : (t : BlockId) (o : ℕ) (l : Lease) (born : List Line) (e : Share)
+    → Keyless (right_without t o l born e)
+right_without_keyless t o l born e = (
+  known_keyless t born,
+  (entry_keyless (halved lease_coded) t.rights o _, λ c. tt),
+)
 
 withheld_keyless : (t : BlockId) (w : Bool) (ls : List Line) → Keyless (withheld t w ls)
 unfolding latest

@@ -6,6 +6,7 @@ use Rattle.std.specs.Prelude.{◌∷◌, ◌++◌, length, slice_index_or, if◌
 use mathlib.Core.List.{IsPrefix}
 use mathlib.Core.Option.{Option, none, some}
 use base.Fraction.{full_share}
+use base.FractionLaws.{Counts}
 use base.Share.{quarter, three_quarters}
 use base.Stored.{Coded, coded×, coded_ℕ, coded_bool, coded_list, coded_via}
 use base.Algebra.{Algebra}
@@ -278,6 +279,12 @@ known t ls = fsep (fnamed t.number (contents t)) (history_at_least t ls)
 -- what an owner has: the invariant, the history in which it was made, its right, and its stake
 abbrev pub share_owns : BlockId → ℕ → Lease → List Line → Fml
 share_owns t o l born = fsep (known t born) (fsep (right t o l quarter) (stake l))
+
+-- what an owner has whose part of the lifetime is elsewhere: the invariant, its right, and which
+-- share of the lifetime that part is
+abbrev pub right_without : BlockId → ℕ → Lease → List Line → Share → Fml
+right_without t o l born e = fsep (known t born)
+    (fsep (right t o l quarter) (told (Counts 64 e 1)))
 
 -- what a pass of a block has: the invariant, what it has seen, and its seat, with what it has made
 -- of that

@@ -7,6 +7,7 @@ use Rattle.arc_owners.specs.history.Histories.{Counted, LivesAlone}
 use Rattle.arc_owners.specs.declared.count.word.OwnerToken.{OwnerToken}
 use Rattle.arc_owners.specs.declared.count.word.PassState.{PassState}
 use Rattle.arc_owners.specs.declared.count.word.WordBorrow.{WordBorrow}
+use Rattle.arc_owners.specs.declared.count.owner_without_lifetime.OwnerWithoutLifetime as declared
 use denote.RawPtr.{Ptr}
 use Rattle.arc_owners.specs.count.Invariant.{BlockId, Line, Written, Filled, MadeOne, AddedTo}
 use Rattle.arc_owners.specs.count.Invariant.{entries_of, made_by, Lease, lease_after}
@@ -18,6 +19,12 @@ IsHeld t r = (r.held ≡ true) × (r.block ≡ t) × (r.lease.is_lent ≡ true)
 -- the right is held, by an owner of this block who has it to itself
 abbrev pub IsSole : {H : Type 0} → BlockId → OwnerToken H → Type 0
 IsSole t r = (r.held ≡ true) × (r.block ≡ t) × (r.lease.is_lent ≡ false)
+
+-- the same owner, whose share of the lifetime is elsewhere
+abbrev pub IsWithoutLifetime : {H : Type 0} → OwnerToken H → declared.OwnerWithoutLifetime H
+    → Type 0
+IsWithoutLifetime r w = (w.block ≡ r.block) × (w.owner ≡ r.owner) × (w.lease ≡ r.lease)
+    × (w.born ≡ r.born)
 
 -- the pass is of this block
 abbrev pub IsOf : BlockId → PassState → Type 0

@@ -11,6 +11,8 @@ ghost use Rattle.arc_owners.specs.count.Invariant.{Lease, lease_coded, behind, w
 ghost use Rattle.arc_owners.specs.count.Invariant.{right_owns, right_shares, trace_owns};
 ghost use Rattle.arc_owners.specs.count.Invariant.{trace_shares, end_tokens, word_borrow};
 
+use super::owner_without_lifetime::OwnerWithoutLifetime;
+use crate::lifetime::LifetimeToken;
 use crate::mark::Open;
 use atomic_table::exchange;
 use std::marker::{Brand, Model, Move, Owns, PhantomData};
@@ -40,7 +42,7 @@ impl Move for Word {
 /// The mark is in its type, so that a body which is generic in the mark can't ask for what one mark
 /// alone allows: whatever such a body finds out at run time, it is no bound on a type.
 pub struct OwnerToken<H> {
-    marker: PhantomData<H>,
+    pub(crate) marker: PhantomData<H>,
     pub(crate) ghost held: { Bool },
     pub(crate) ghost block: { BlockId } by { block_id_coded },
     pub(crate) ghost owner: { ℕ },
@@ -230,6 +232,7 @@ impl<H> OwnerToken<H> {
     ghost use Rattle.std.specs.Prelude.{[]};
     ghost use Rattle.arc_owners.specs.count.Invariant.{made_by};
     ghost use Rattle.arc_owners.specs.count.Steps.{IsSole, IsOf, SamePass, Ends, SeesSole};
+    ghost use Rattle.arc_owners.specs.count.Steps.{IsWithoutLifetime};
 
     /// No right.
     pub(crate) fn none() -> OwnerToken<H>
@@ -261,6 +264,24 @@ impl<H> OwnerToken<H> {
             × (self.new.owner ≡ self.old.owner) × (self.new.born ≡ self.old.born)
             × (self.new.lease.is_lent ≡ true) }
     {}
+
+    /// The right without its share of the lifetime, and that share.
+    pub(crate) fn take_lifetime(self) -> (OwnerWithoutLifetime<H>, LifetimeToken)
+        requires { (self.held ≡ true) × (self.lease.is_lent ≡ true) }
+        ensures owner { IsWithoutLifetime self result.0 }
+        ensures lifetime { (result.1.lifetime ≡ self.lease.lifetime)
+            × (result.1.share ≡ result.0.share) }
+    {
+        let OwnerToken { marker: _ } = self;
+        (
+            OwnerWithoutLifetime {
+                marker: PhantomData,
+            },
+            LifetimeToken {
+                marker: PhantomData,
+            },
+        )
+    }
 }
 
 impl OwnerToken<Open> {

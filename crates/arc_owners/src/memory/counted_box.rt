@@ -2,6 +2,7 @@
 ghost use Rattle.std.specs.Prelude.{◌≡◌};
 
 use super::box_parts::BoxParts;
+use super::counted_box_without_lifetime::CountedBoxWithoutLifetime;
 use super::inner::Inner;
 use super::lent_box::LentBox;
 use super::lent_value::LentValue;
@@ -9,6 +10,7 @@ use super::sole_box::SoleBox;
 use crate::count::tokens::{LifetimeEnd, Owners, Pass, Release, Share};
 use crate::count::word::WordBorrow;
 use crate::error::CountFull;
+use crate::lifetime::{EndedLifetime, LifetimeToken};
 use crate::mark::{Mark, Open, Stepping};
 use std::alloc::{Allocator, Global};
 use std::marker::PhantomData;
@@ -44,18 +46,21 @@ struct KeptMemory<V: Drop, A: Allocator + Copy> {
 }
 
 impl<V: Drop, A: Allocator + Copy> KeptMemory<V, A> {
-    /// The value, for the end of the lease; the memory goes to its allocator.
-    fn take(self, term: LifetimeEnd) -> V
+    /// The value, for the end of the lease, and that its lifetime has ended; the memory goes to
+    /// its allocator.
+    fn take(self, term: LifetimeEnd) -> (V, EndedLifetime)
         requires { term.spoils.lease ≡ self.memory.kept.lease }
-        ensures { result ≡ self.memory.kept.value.value.value }
+        ensures value { result.0 ≡ self.memory.kept.value.value.value }
+        ensures ended { result.1.lifetime ≡ self.memory.kept.lease.lifetime }
     {
         let KeptMemory {
             memory,
             lodging: _,
             alloc,
         } = self;
-        let Inner { word: _, value } = Box::into_inner(memory.take_back(alloc, term));
-        value.value
+        let (memory, ended) = memory.take_back_with_end(alloc, term);
+        let Inner { word: _, value } = Box::into_inner(memory);
+        (value.value, ended)
     }
 }
 
@@ -84,7 +89,9 @@ impl<V: Drop, A: Allocator + Copy, const MAX: u64, H: Mark> CountedBox<V, A, MAX
     ghost use Rattle.arc_owners.specs.count.Calls.{IsPassFor, IsPassOfNone, IsFirst, IsFreshPass};
     ghost use Rattle.arc_owners.specs.count.Calls.{IsNewPass, Learns, Asks, FindsFull};
     ghost use Rattle.arc_owners.specs.count.Calls.{MakesAnother, Leaves, TakesBlock, EndsByItself};
-    ghost use Rattle.arc_owners.specs.memory.Boxes.{owner_in, value_of};
+    ghost use Rattle.arc_owners.specs.memory.Boxes.{owner_in, value_of, lifetime_in};
+    ghost use Rattle.arc_owners.specs.memory.Boxes.{owner_in_rest, value_of_rest};
+    ghost use Rattle.arc_owners.specs.memory.Boxes.{lifetime_in_rest, share_taken_from};
     ghost use Rattle.arc_owners.specs.memory.SoleBoxes.{sole_in, sole_value};
     ghost use Rattle.arc_owners.specs.count.Calls.{owner_of};
 
@@ -133,6 +140,29 @@ impl<V: Drop, A: Allocator + Copy, const MAX: u64, H: Mark> CountedBox<V, A, MAX
         &self.memory.get(&self.share).value.value
     }
 
+    /// The owner without its share of the lifetime for which the value is lent, and that share. It
+    /// adds no entry and takes no memory.
+    pub fn take_lifetime(self) -> (CountedBoxWithoutLifetime<V, A, MAX, H>, LifetimeToken)
+        ensures same { (owner_in_rest result.0 ≡ owner_in self)
+            × (value_of_rest result.0 ≡ value_of self) }
+        ensures lent { lifetime_in_rest result.0 ≡ lifetime_in self }
+        ensures lifetime { (result.1.lifetime ≡ lifetime_in self)
+            × (result.1.share ≡ share_taken_from result.0) }
+    {
+        let CountedBox {
+            memory,
+            lodging,
+            share,
+        } = self;
+        let (share, lifetime) = share.take_lifetime();
+        let rest = CountedBoxWithoutLifetime {
+            memory,
+            lodging,
+            share,
+        };
+        (rest, lifetime)
+    }
+
     /// Whether no other owner lives, by one load. Adds Alone with the answer. Takes no memory.
     #[inline(always)]
     pub fn is_unique_as(&self, pass: &mut Pass<H>) -> bool
@@ -152,13 +182,38 @@ impl<V: Drop, A: Allocator + Copy, const MAX: u64, H: Mark> CountedBox<V, A, MAX
             × (sole_value b ≡ value_of self)) }
         ensures back { IfErr result (λ piece. (owner_in piece ≡ owner_in self)
             × (value_of piece ≡ value_of self)) }
+        ensures lent { IfErr result (λ piece. lifetime_in piece ≡ lifetime_in self) }
+    {
+        match self.try_into_sole_with_end_as(pass) {
+            Ok((sole, ended)) => {
+                ended.forget();
+                Ok(sole)
+            }
+            Err(piece) => Err(piece),
+        }
+    }
+
+    /// The same; with the memory comes that the lifetime has ended for which it was lent, for what
+    /// else was lent for it.
+    pub fn try_into_sole_with_end_as(
+        self,
+        pass: &mut Pass<H>,
+    ) -> Result<(SoleBox<V, A, MAX, H>, EndedLifetime), Self>
+        requires pass { IsPassFor (owner_in self) pass.old }
+        ensures entry { Asks (owner_in self) pass.old pass.new (is_ok result) }
+        ensures sole { IfOk result (λ r. (sole_in r.0 ≡ owner_in self)
+            × (sole_value r.0 ≡ value_of self)) }
+        ensures ended { IfOk result (λ r. r.1.lifetime ≡ lifetime_in self) }
+        ensures back { IfErr result (λ piece. (owner_in piece ≡ owner_in self)
+            × (value_of piece ≡ value_of self)) }
+        ensures lent { IfErr result (λ piece. lifetime_in piece ≡ lifetime_in self) }
     {
         let (share, kept) = self.parted();
         let word = Inner::word_place(kept.memory.at);
         match unsafe { Owners::<MAX, H>::claim_raw(word, &kept.lodging, share, pass) } {
             Ok((sole, term)) => {
-                let memory = kept.memory.take_back(kept.alloc, term);
-                Ok(SoleBox::settled(BoxParts::of(memory), sole))
+                let (memory, ended) = kept.memory.take_back_with_end(kept.alloc, term);
+                Ok((SoleBox::settled(BoxParts::of(memory), sole), ended))
             }
             Err(share) => Err(CountedBox {
                 memory: kept.memory,
@@ -178,6 +233,7 @@ impl<V: Drop, A: Allocator + Copy, const MAX: u64, H: Mark> CountedBox<V, A, MAX
         ensures others { IfErr result (λ _. Asks (owner_in self) pass.old pass.new false) }
         ensures back { IfErr result (λ piece. (owner_in piece ≡ owner_in self)
             × (value_of piece ≡ value_of self)) }
+        ensures lent { IfErr result (λ piece. lifetime_in piece ≡ lifetime_in self) }
     {
         match self.try_into_sole_as(pass) {
             Ok(sole) => Ok(sole.into_value_as(pass)),
@@ -214,6 +270,24 @@ impl<V: Drop, A: Allocator + Copy, const MAX: u64, H: Mark> CountedBox<V, A, MAX
         ensures entry { Leaves (owner_in self) pass.old pass.new (is_some result) }
         ensures value { IfSome result (λ value. value ≡ value_of self) }
     {
+        match self.release_with_end_as(pass) {
+            Some((value, ended)) => {
+                ended.forget();
+                Some(value)
+            }
+            None => None,
+        }
+    }
+
+    /// The same; the last one also gets that the lifetime has ended for which the value was lent,
+    /// for what else was lent for it.
+    #[inline(always)]
+    pub fn release_with_end_as(self, pass: &mut Pass<H>) -> Option<(V, EndedLifetime)>
+        requires pass { IsPassFor (owner_in self) pass.old }
+        ensures entry { Leaves (owner_in self) pass.old pass.new (is_some result) }
+        ensures value { IfSome result (λ r. r.0 ≡ value_of self) }
+        ensures ended { IfSome result (λ r. r.1.lifetime ≡ lifetime_in self) }
+    {
         let (share, kept) = self.parted();
         let word = Inner::word_place(kept.memory.at);
         match unsafe { Owners::<MAX, H>::down_raw(word, &kept.lodging, share, pass) } {
@@ -239,7 +313,9 @@ impl<V: Drop, A: Allocator + Copy, const MAX: u64, H: Mark> CountedBox<V, A, MAX
             mark: PhantomData,
         };
         if last {
-            (Some(kept.take(LifetimeEnd { spoils })), pass)
+            let (value, ended) = kept.take(LifetimeEnd { spoils });
+            ended.forget();
+            (Some(value), pass)
         } else {
             (None, pass)
         }
@@ -259,7 +335,7 @@ impl<V: Drop, A: Allocator + Copy, const MAX: u64, H: Mark> CountedBox<V, A, MAX
 impl<V: Drop, A: Allocator + Copy, const MAX: u64, H: Mark> CountedBox<V, A, MAX, H> {
     ghost use Rattle.std.specs.Prelude.{◌≡◌, IfOk, IfErr, IfSome, IfNone};
     ghost use Rattle.arc_owners.specs.count.Calls.{IsPassFor, FindsFull, MakesAnother};
-    ghost use Rattle.arc_owners.specs.memory.Boxes.{owner_in, value_of};
+    ghost use Rattle.arc_owners.specs.memory.Boxes.{owner_in, value_of, lifetime_in};
 
     /// One attempt to make one owner more of the same value, through this one: nothing where
     /// another thread's step came between, and then no entry is added. Who calls it tries again.
@@ -279,6 +355,8 @@ impl<V: Drop, A: Allocator + Copy, const MAX: u64, H: Mark> CountedBox<V, A, MAX
         ensures made { IfSome result (λ r. IfOk r (λ piece.
             MakesAnother (owner_in self.now) pass.old pass.new (owner_in piece)
             × (value_of piece ≡ value_of self.now))) }
+        ensures lent { IfSome result (λ r. IfOk r (λ piece.
+            lifetime_in piece ≡ lifetime_in self.now)) }
         ensures full { IfSome result (λ r.
             IfErr r (λ _. FindsFull (owner_in self.now) pass.old pass.new)) }
         ensures again { IfNone result (pass.new ≡ pass.old) }
@@ -313,6 +391,7 @@ impl<V: Drop, A: Allocator + Copy, const MAX: u64, H: Mark> CountedBox<V, A, MAX
         ensures made { IfOk result (λ piece.
             MakesAnother (owner_in self.now) pass.old pass.new (owner_in piece)
             × (value_of piece ≡ value_of self.now)) }
+        ensures lent { IfOk result (λ piece. lifetime_in piece ≡ lifetime_in self.now) }
         ensures full { IfErr result (λ _. FindsFull (owner_in self.now) pass.old pass.new) }
     {
         for _ in rt.forever() {

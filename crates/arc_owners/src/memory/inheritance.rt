@@ -7,6 +7,7 @@ ghost use Rattle.arc_owners.specs.count.Invariant.{Lease, lease_coded, kept_for}
 
 use super::box_parts::BoxParts;
 use crate::count::word::EndTokens;
+use crate::lifetime::EndedLifetime;
 use std::alloc::Allocator;
 use std::marker::{Model, PhantomData};
 
@@ -39,7 +40,8 @@ impl<T, A: Allocator> Inheritance<T, A> {
         }
     }
 
-    /// What was kept, for what the term of the lease is made of, which is used up.
+    /// What was kept, for what the term of the lease is made of, which is used up, and that the
+    /// lifetime of the lease has ended.
     ///
     /// # Safety
     ///
@@ -49,12 +51,18 @@ impl<T, A: Allocator> Inheritance<T, A> {
         at: *mut T,
         alloc: A,
         spoils: &mut EndTokens,
-    ) -> BoxParts<T, A>
+    ) -> (BoxParts<T, A>, EndedLifetime)
         requires { (at ≡ self.now.at) × (alloc ≡ self.now.alloc) × (spoils.old.last ≡ true)
             × (spoils.old.lease ≡ self.now.lease) }
-        ensures { (result.value ≡ self.now.value) × (result.at ≡ at) × (result.alloc ≡ alloc) }
+        ensures { (result.0.value ≡ self.now.value) × (result.0.at ≡ at)
+            × (result.0.alloc ≡ alloc) × (result.1.lifetime ≡ self.now.lease.lifetime) }
     {
-        BoxParts { at, alloc }
+        (
+            BoxParts { at, alloc },
+            EndedLifetime {
+                marker: PhantomData,
+            },
+        )
     }
 }
 

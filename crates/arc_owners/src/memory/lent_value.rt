@@ -6,6 +6,7 @@ use super::inheritance::Inheritance;
 use super::lent_box::LentBox;
 use super::shared_borrow::SharedBorrow;
 use crate::count::tokens::{LifetimeEnd, Share};
+use crate::lifetime::EndedLifetime;
 use crate::mark::Mark;
 use std::alloc::Allocator;
 
@@ -24,7 +25,7 @@ pub struct LentValue<T, A: Allocator> {
 impl<T: Drop, A: Allocator> LentValue<T, A> {
     ghost use Rattle.std_alloc.specs.Box.{box_allocator};
     ghost use Rattle.arc_owners.specs.memory.LentValues.{lent_value, lent_allocator, IsSameLent};
-    ghost use Rattle.arc_owners.specs.memory.LentValues.{IsLentTo, IsEndOf};
+    ghost use Rattle.arc_owners.specs.memory.LentValues.{IsLentTo, IsEndOf, lease_in};
 
     /// Lends what lies in a box for the lease of this owner, to all owners that have that lease.
     /// The box's allocator comes out. An end serves one box: a second one for the same lease is
@@ -65,13 +66,26 @@ impl<T: Drop, A: Allocator> LentValue<T, A> {
         requires allocator { alloc ≡ lent_allocator self }
         ensures { (result.value ≡ lent_value self) × (box_allocator result ≡ alloc) }
     {
+        let (memory, ended) = self.take_back_with_end(alloc, end);
+        ended.forget();
+        memory
+    }
+
+    /// The same, and that the lifetime of the lease has ended, for what else was lent for it.
+    pub fn take_back_with_end(self, alloc: A, end: LifetimeEnd) -> (Box<T, A>, EndedLifetime)
+        requires end { IsEndOf self end }
+        requires allocator { alloc ≡ lent_allocator self }
+        ensures memory { (result.0.value ≡ lent_value self) × (box_allocator result.0 ≡ alloc) }
+        ensures ended { result.1.lifetime ≡ (lease_in self).lifetime }
+    {
         let LentValue {
             at,
             borrow: _,
             kept,
         } = self;
         let mut spoils = end.spoils;
-        unsafe { kept.take_by(at, alloc, &mut spoils) }.into_box()
+        let (memory, ended) = unsafe { kept.take_by(at, alloc, &mut spoils) };
+        (memory.into_box(), ended)
     }
 }
 

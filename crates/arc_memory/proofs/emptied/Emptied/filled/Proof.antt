@@ -28,9 +28,9 @@ use Rattle.std.specs.Vec.{with_items}
 use Rattle.std_alloc.proofs.VecSteps.El.{El, R, Vr, el_d, el_x, vec_val, vec_typed}
 use Rattle.std_alloc.proofs.VecSteps.Opens.{vec_had, vec_made}
 use Rattle.logbook.proofs.Fields.{token as marker, token_told, ends}
+use Rattle.arc_owners.proofs.Markers.{told}
 use Rattle.arc_memory.specs.Memory.{places_own}
 use Rattle.arc_memory.specs.contracts.places.Places as Places
-use Rattle.arc_memory.proofs.Runs.{told}
 use Rattle.arc_memory.proofs.Parted.{Row, one, refills, refilled}
 use Rattle.arc_memory.specs.contracts.emptied.Emptied.filled as f
 use Rattle.arc_memory.proofs.emptied.Emptied.filled.Statement.{statement}

@@ -27,10 +27,11 @@ use Rattle.std.proofs.raw_atomic.Walks.{proved_at}
 use Rattle.std_alloc.proofs.VecSteps.El.{El, R, P, Vr, el_d, vec_val, vec_typed}
 use Rattle.std_alloc.proofs.VecSteps.Opens.{vec_had}
 use Rattle.logbook.proofs.Fields.{token as marker, Token, token_made, ends}
+use Rattle.arc_owners.proofs.Markers.{told}
 use Rattle.arc_memory.specs.Memory.{extent_of, place_at, side_by_side}
 use Rattle.arc_memory.specs.contracts.emptied.Emptied as Emptied
 use Rattle.arc_memory.specs.contracts.places.Places as Places
-use Rattle.arc_memory.proofs.Runs.{told, first_place, block_apart}
+use Rattle.arc_memory.proofs.Runs.{first_place, block_apart}
 use Rattle.arc_memory.proofs.Parted.{Row, one, right, parted}
 use Rattle.arc_memory.specs.contracts.emptied.Emptied.of as f
 use Rattle.arc_memory.proofs.emptied.Emptied.of.Statement.{statement}

@@ -25,8 +25,8 @@ use denote.Triple.Walked.{Stays, stay_dropped, walk_of, Goes-dropped}
 use Rattle.core.specs.contracts.marker.PhantomData as marker
 use Rattle.std.proofs.raw_atomic.Walks.{proved}
 use Rattle.logbook.proofs.Fields.{token, Token, ends}
+use Rattle.arc_owners.proofs.Markers.{marked}
 use Rattle.arc_memory.specs.LentMemory.{frozen_owns}
-use Rattle.arc_memory.proofs.LentHeld.{marked}
 use Rattle.arc_memory.specs.contracts.frozen_places.FrozenPlaces as FrozenPlaces
 use Rattle.arc_memory.specs.contracts.frozen_places.FrozenPlaces.again as f
 use Rattle.arc_memory.proofs.frozen_places.FrozenPlaces.again.Statement.{statement}

@@ -43,7 +43,7 @@ use Rattle.arc_memory.proofs.Cuts.{further}
 use Rattle.arc_memory.proofs.Frozen.{frozen_read}
 use Rattle.arc_memory.proofs.LentHeld.{there_out}
 use Rattle.arc_memory.proofs.Ranges.{sub, sub_length, sub_shared}
-use Rattle.arc_memory.specs.contracts.lifetime.LifetimeToken as LifetimeToken
+use Rattle.arc_owners.specs.contracts.lifetime.LifetimeToken as LifetimeToken
 use Rattle.arc_memory.specs.contracts.frozen_places.FrozenPlaces as FrozenPlaces
 use Rattle.arc_memory.specs.contracts.frozen_places.FrozenPlaces.as_slice as f
 use Rattle.arc_memory.proofs.frozen_places.FrozenPlaces.as_slice.Statement.{statement}

@@ -31,12 +31,12 @@ use Rattle.core.specs.contracts.marker.PhantomData as marker
 use Rattle.std.proofs.raw_atomic.Walks.{proved}
 use Rattle.std_alloc.proofs.VecSteps.El.{El, R, no_al}
 use Rattle.logbook.proofs.Fields.{token, Token, ends}
+use Rattle.arc_owners.proofs.Markers.{marked, told}
 use Rattle.arc_memory.specs.LentMemory.{LentMemory, frozen, names_from, frozen_owns}
 use Rattle.arc_memory.proofs.Cuts.{further}
 use Rattle.arc_memory.proofs.Frozen.{frozen_part}
-use Rattle.arc_memory.proofs.LentHeld.{there_out, there_in, marked}
+use Rattle.arc_memory.proofs.LentHeld.{there_out, there_in}
 use Rattle.arc_memory.proofs.Ranges.{sub, sub_length}
-use Rattle.arc_memory.proofs.Runs.{told}
 use Rattle.arc_memory.specs.contracts.frozen_places.FrozenPlaces as FrozenPlaces
 use Rattle.arc_memory.specs.contracts.frozen_places.FrozenPlaces.part as f
 use Rattle.arc_memory.proofs.frozen_places.FrozenPlaces.part.Statement.{statement}

@@ -26,13 +26,13 @@ use Rattle.core.specs.Allocator.{array_of}
 use Rattle.core.proofs.alloc.Calls.{Goes-blank}
 use Rattle.std.proofs.raw_atomic.Walks.{proved_at}
 use Rattle.logbook.proofs.Fields.{token, Token, token_told, token_made, ends}
+use Rattle.arc_owners.proofs.Markers.{told}
 use Rattle.arc_memory.specs.Headers.{with_header, header_at, frees_both, header_token}
 use Rattle.arc_memory.specs.contracts.header_allocator.HeaderAllocator as HeaderAllocator
 use Rattle.arc_memory.specs.contracts.header_allocator.HeaderAllocatorAllocator.TheImpl as impl
 use Rattle.arc_memory.specs.contracts.vec_without_right.RightToFree as Right
 use Rattle.arc_memory.specs.contracts.header_room.RightWithoutHeader as Headless
 use Rattle.arc_memory.specs.contracts.header_room.HeaderRoom as Room
-use Rattle.arc_memory.proofs.Runs.{told}
 use Rattle.arc_memory.specs.contracts.header_room.RightWithoutHeader.of as f
 use Rattle.arc_memory.proofs.header_room.RightWithoutHeader.of.Statement.{statement}
 use Rattle.arc_memory.proofs.header_room.RightWithoutHeader.of.Code as code

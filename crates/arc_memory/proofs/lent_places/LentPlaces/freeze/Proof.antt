@@ -32,12 +32,13 @@ use Rattle.core.proofs.alloc.Calls.{Goes-blank}
 use Rattle.std.proofs.raw_atomic.Walks.{proved_at}
 use Rattle.std_alloc.proofs.VecSteps.El.{El, R, el_x, sz, no_al}
 use Rattle.logbook.proofs.Fields.{token, Token, token_told, ends}
+use Rattle.arc_owners.proofs.Markers.{marked}
 use Rattle.arc_memory.specs.LentMemory.{LentMemory, contents, borrowed, frozen, names_from}
 use Rattle.arc_memory.proofs.Borrowed.{Borrows}
 use Rattle.arc_memory.proofs.Frozen.{freezes}
-use Rattle.arc_memory.proofs.LentHeld.{there_out, there_in, marked}
+use Rattle.arc_memory.proofs.LentHeld.{there_out, there_in}
 use Rattle.arc_memory.specs.contracts.frozen_places.FrozenPlaces as FrozenPlaces
-use Rattle.arc_memory.specs.contracts.lifetime.LifetimeToken as LifetimeToken
+use Rattle.arc_owners.specs.contracts.lifetime.LifetimeToken as LifetimeToken
 use Rattle.arc_memory.specs.contracts.lent_places.LentPlaces as LentPlaces
 use Rattle.arc_memory.specs.contracts.lent_places.LentPlaces.freeze as f
 use Rattle.arc_memory.proofs.lent_places.LentPlaces.freeze.Statement.{statement}

@@ -24,14 +24,14 @@ use Rattle.core.proofs.alloc.Calls.{Goes-blank}
 use Rattle.std.proofs.raw_atomic.Walks.{proved_at}
 use Rattle.std_alloc.proofs.VecSteps.El.{El, R, el_x, sz, no_al}
 use Rattle.logbook.proofs.Fields.{token, token_told, ends}
+use Rattle.arc_owners.proofs.Markers.{marked, told}
 use Rattle.arc_memory.specs.LentMemory.{LentMemory, contents, borrowed, returning}
 use Rattle.arc_memory.proofs.Borrowed.{Borrows, Returns, Lent, lends}
 use Rattle.arc_memory.proofs.Contents.{length-contents}
 use Rattle.arc_memory.proofs.Held.{Row, places_out}
-use Rattle.arc_memory.proofs.LentHeld.{there_in, marked, padded, padded_long, padded_off}
-use Rattle.arc_memory.proofs.Runs.{told}
+use Rattle.arc_memory.proofs.LentHeld.{there_in, padded, padded_long, padded_off}
 use Rattle.arc_memory.proofs.Spots.{spots, spots_of}
-use Rattle.arc_memory.specs.contracts.lifetime.LifetimeToken as LifetimeToken
+use Rattle.arc_owners.specs.contracts.lifetime.LifetimeToken as LifetimeToken
 use Rattle.arc_memory.specs.contracts.lent_places.LentPlaces as LentPlaces
 use Rattle.arc_memory.specs.contracts.lent_places.PlacesInheritance as PlacesInheritance
 use Rattle.arc_memory.specs.contracts.lent_places.LentPlaces.lend as f

@@ -27,12 +27,12 @@ use Rattle.core.proofs.alloc.Calls.{Goes-blank}
 use Rattle.std.proofs.raw_atomic.Walks.{proved_at}
 use Rattle.std_alloc.proofs.VecSteps.El.{El, R, sz, no_al}
 use Rattle.logbook.proofs.Fields.{token, token_told, ends}
+use Rattle.arc_owners.proofs.Markers.{marked, told}
 use Rattle.arc_memory.specs.LentMemory.{LentMemory, Held, contents, borrowed, names_from}
 use Rattle.arc_memory.proofs.Borrowed.{Borrows, borrowed_glue}
 use Rattle.arc_memory.proofs.Contents.{length-contents, contents-append}
 use Rattle.arc_memory.proofs.Cuts.{further}
-use Rattle.arc_memory.proofs.LentHeld.{there_out, there_in, marked}
-use Rattle.arc_memory.proofs.Runs.{told}
+use Rattle.arc_memory.proofs.LentHeld.{there_out, there_in}
 use Rattle.arc_memory.specs.contracts.lent_places.LentPlaces as LentPlaces
 use Rattle.arc_memory.specs.contracts.lent_places.LentPlaces.unsplit as f
 use Rattle.arc_memory.proofs.lent_places.LentPlaces.unsplit.Statement.{statement}

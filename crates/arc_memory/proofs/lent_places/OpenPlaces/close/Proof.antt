@@ -27,15 +27,15 @@ use Rattle.core.proofs.alloc.Calls.{Goes-blank}
 use Rattle.std.proofs.raw_atomic.Walks.{proved_at}
 use Rattle.std_alloc.proofs.VecSteps.El.{El, R, el_x, sz, no_al}
 use Rattle.logbook.proofs.Fields.{token, token_told, ends}
+use Rattle.arc_owners.proofs.Markers.{marked, told}
 use Rattle.arc_memory.specs.LentMemory.{LentMemory, contents, borrowed, opened, names_from}
 use Rattle.arc_memory.proofs.Borrowed.{Borrows, Opened, closes_all}
 use Rattle.arc_memory.proofs.Contents.{length-contents}
 use Rattle.arc_memory.proofs.Cuts.{Side}
 use Rattle.arc_memory.proofs.Held.{Row, places_out}
-use Rattle.arc_memory.proofs.LentHeld.{there_out, there_in, marked}
-use Rattle.arc_memory.proofs.Runs.{told}
+use Rattle.arc_memory.proofs.LentHeld.{there_out, there_in}
 use Rattle.arc_memory.proofs.Spots.{spots, spots_of}
-use Rattle.arc_memory.specs.contracts.lifetime.LifetimeToken as LifetimeToken
+use Rattle.arc_owners.specs.contracts.lifetime.LifetimeToken as LifetimeToken
 use Rattle.arc_memory.specs.contracts.lent_places.LentPlaces as LentPlaces
 use Rattle.arc_memory.specs.contracts.lent_places.OpenPlaces as OpenPlaces
 use Rattle.arc_memory.specs.contracts.lent_places.OpenPlaces.close as f

@@ -25,14 +25,14 @@ use Rattle.core.proofs.alloc.Calls.{Goes-blank}
 use Rattle.std.proofs.raw_atomic.Walks.{proved_at}
 use Rattle.std_alloc.proofs.VecSteps.El.{El, R, el_x, sz, no_al}
 use Rattle.logbook.proofs.Fields.{token, token_told, ends}
+use Rattle.arc_owners.proofs.Markers.{told}
 use Rattle.arc_memory.specs.LentMemory.{LentMemory, contents, says, borrowed, returning, names_from}
 use Rattle.arc_memory.proofs.Borrowed.{said, kept}
 use Rattle.arc_memory.proofs.Held.{Row}
 use Rattle.arc_memory.proofs.LentHeld.{there_out}
 use Rattle.arc_memory.proofs.Names.{says_agrees}
 use Rattle.arc_memory.proofs.Regained.{Before, Own, Behind, comes_back, runs, w, runs_in}
-use Rattle.arc_memory.proofs.Runs.{told}
-use Rattle.arc_memory.specs.contracts.lifetime.EndedLifetime as EndedLifetime
+use Rattle.arc_owners.specs.contracts.lifetime.EndedLifetime as EndedLifetime
 use Rattle.arc_memory.specs.contracts.lent_places.LentPlaces as LentPlaces
 use Rattle.arc_memory.specs.contracts.lent_places.PlacesInheritance as PlacesInheritance
 use Rattle.arc_memory.specs.contracts.lent_places.PlacesInheritance.regain as f

@@ -27,13 +27,13 @@ use Rattle.core.proofs.alloc.Calls.{Goes-blank}
 use Rattle.std.proofs.raw_atomic.Walks.{proved_at}
 use Rattle.std_alloc.proofs.VecSteps.El.{El, R, sz, no_al}
 use Rattle.logbook.proofs.Fields.{token, token_told, ends}
+use Rattle.arc_owners.proofs.Markers.{told}
 use Rattle.arc_memory.specs.LentMemory.{LentMemory, returning, names_from}
 use Rattle.arc_memory.proofs.Cuts.{Side}
 use Rattle.arc_memory.proofs.Held.{Row, places_in}
 use Rattle.arc_memory.proofs.LentHeld.{there_out}
 use Rattle.arc_memory.proofs.Regained.{comes_back_empty}
-use Rattle.arc_memory.proofs.Runs.{told}
-use Rattle.arc_memory.specs.contracts.lifetime.EndedLifetime as EndedLifetime
+use Rattle.arc_owners.specs.contracts.lifetime.EndedLifetime as EndedLifetime
 use Rattle.arc_memory.specs.contracts.lent_places.PlacesInheritance as PlacesInheritance
 use Rattle.arc_memory.specs.contracts.lent_places.PlacesInheritance.regain_empty as f
 use Rattle.arc_memory.proofs.lent_places.PlacesInheritance.regain_empty.Statement.{statement}

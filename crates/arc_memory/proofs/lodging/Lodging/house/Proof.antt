@@ -41,11 +41,12 @@ use Rattle.std_alloc.proofs.OfLodged.{lodging}
 use Rattle.std_alloc.proofs.VecSteps.El.{El, R, Vr, el_d, el_x, sz, vec_typed}
 use Rattle.std_alloc.proofs.VecSteps.Opens.{vec_had, vec_made}
 use Rattle.logbook.proofs.Fields.{token, Token, token_told, token_made, ends}
+use Rattle.arc_owners.proofs.Markers.{told}
 use Rattle.arc_memory.specs.Memory.{place_at}
 use Rattle.arc_memory.specs.contracts.lodging.Lodging as Lodging
 use Rattle.arc_memory.proofs.Cuts.{Side}
 use Rattle.arc_memory.proofs.Held.{Row, places_out}
-use Rattle.arc_memory.proofs.Runs.{told, block_whole, no_right}
+use Rattle.arc_memory.proofs.Runs.{block_whole, no_right}
 use Rattle.arc_memory.specs.contracts.lodging.Lodging.house as f
 use Rattle.arc_memory.proofs.lodging.Lodging.house.Statement.{statement}
 use Rattle.arc_memory.proofs.lodging.Lodging.house.Code as code

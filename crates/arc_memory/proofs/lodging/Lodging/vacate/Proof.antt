@@ -39,10 +39,11 @@ use Rattle.std_alloc.proofs.OfLodged.{lodging}
 use Rattle.std_alloc.proofs.VecSteps.El.{El, R, el_d, el_x, vec_val, vec_typed}
 use Rattle.std_alloc.proofs.VecSteps.Opens.{vec_had, vec_made}
 use Rattle.logbook.proofs.Fields.{token, Token, token_told, token_made, ends}
+use Rattle.arc_owners.proofs.Markers.{told}
 use Rattle.arc_memory.specs.Memory.{place_at, side_by_side}
 use Rattle.arc_memory.specs.contracts.lodging.Lodging as Lodging
 use Rattle.arc_memory.proofs.Held.{Row}
-use Rattle.arc_memory.proofs.Runs.{told, block_apart}
+use Rattle.arc_memory.proofs.Runs.{block_apart}
 use Rattle.arc_memory.specs.contracts.lodging.Lodging.vacate as f
 use Rattle.arc_memory.proofs.lodging.Lodging.vacate.Statement.{statement}
 use Rattle.arc_memory.proofs.lodging.Lodging.vacate.Code as code

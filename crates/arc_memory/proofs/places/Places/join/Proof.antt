@@ -24,10 +24,10 @@ use Rattle.core.proofs.alloc.Calls.{Goes-blank}
 use Rattle.std.proofs.raw_atomic.Walks.{proved_at}
 use Rattle.std_alloc.proofs.VecSteps.El.{El, R, sz, no_al}
 use Rattle.logbook.proofs.Fields.{token, token_told, ends}
+use Rattle.arc_owners.proofs.Markers.{told}
 use Rattle.arc_memory.specs.Allocations.{IsPart}
 use Rattle.arc_memory.proofs.Cuts.{Side, glued_on, further}
 use Rattle.arc_memory.proofs.Held.{Row, places_out, places_in}
-use Rattle.arc_memory.proofs.Runs.{told}
 use Rattle.arc_memory.specs.contracts.places.Places.join as f
 use Rattle.arc_memory.proofs.places.Places.join.Statement.{statement}
 use Rattle.arc_memory.proofs.places.Places.join.Code as code

@@ -25,9 +25,9 @@ use Rattle.core.proofs.alloc.Calls.{Goes-blank}
 use Rattle.std.proofs.raw_atomic.Walks.{proved_at}
 use Rattle.std_alloc.proofs.VecSteps.El.{El, R, el_x, sz, no_al}
 use Rattle.logbook.proofs.Fields.{token, token_told, ends}
+use Rattle.arc_owners.proofs.Markers.{told}
 use Rattle.arc_memory.proofs.Cuts.{Side, cut, further}
 use Rattle.arc_memory.proofs.Held.{Row, places_out, places_in}
-use Rattle.arc_memory.proofs.Runs.{told}
 use Rattle.arc_memory.specs.contracts.places.Places.split as f
 use Rattle.arc_memory.proofs.places.Places.split.Statement.{statement}
 use Rattle.arc_memory.proofs.places.Places.split.Code as code

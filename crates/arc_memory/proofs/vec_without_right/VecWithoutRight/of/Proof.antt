@@ -26,11 +26,11 @@ use Rattle.std.proofs.raw_atomic.Walks.{proved_at}
 use Rattle.std_alloc.proofs.VecSteps.El.{El, R, P, Vr, el_d, vec_val, vec_typed}
 use Rattle.std_alloc.proofs.VecSteps.Opens.{vec_had}
 use Rattle.logbook.proofs.Fields.{token as marker, Token, token_made, ends}
+use Rattle.arc_owners.proofs.Markers.{told}
 use Rattle.arc_memory.specs.contracts.vec_without_right.VecWithoutRight as VecWithoutRight
 use Rattle.arc_memory.specs.contracts.vec_without_right.RightToFree as Right
 use Rattle.arc_memory.specs.Headers.{right_of}
 use denote.Struct.Tuple.{Tuple}
-use Rattle.arc_memory.proofs.Runs.{told}
 use Rattle.arc_memory.proofs.Parted.{one}
 use Rattle.arc_memory.proofs.Rights.{Row, apart}
 use Rattle.arc_memory.specs.contracts.vec_without_right.VecWithoutRight.of as f

@@ -17,7 +17,7 @@ returns-else-last-clause-ended g c many =
 
 pub returns-then-last-clause-value : goal.returns-then-last-clause-value
 returns-then-last-clause-value g c =
-    c.take.ensures ∙ (ap (λ m. m.kept.value.value.value) c.parted-share.ensures.parts.2
+    c.take-value.ensures.value ∙ (ap (λ m. m.kept.value.value.value) c.parted-share.ensures.parts.2
     ∙ ap (λ i. i.value.value) c.args.self.memory.same)
 
 pub returns-then-last-clause-forgotten : goal.returns-then-last-clause-forgotten

@@ -9,7 +9,7 @@ use std::marker::{Model, PhantomData};
 /// A share of a lifetime, which lasts as long as the share isn't given up. It has no bytes, and is
 /// neither copied nor dropped.
 pub struct LifetimeToken {
-    pub(crate) marker: PhantomData<()>,
+    pub marker: PhantomData<()>,
     pub ghost lifetime: { ℕ },
     pub ghost share: { Share } by { coded_share },
 }
@@ -22,7 +22,7 @@ impl Model for LifetimeToken {
 
 /// That a lifetime has ended, for which what was lent comes back. It has no bytes.
 pub struct EndedLifetime {
-    pub(crate) marker: PhantomData<()>,
+    pub marker: PhantomData<()>,
     pub ghost lifetime: { ℕ },
 }
 
@@ -81,6 +81,11 @@ impl LifetimeToken {
 }
 
 impl EndedLifetime {
+    /// Lets it go: who has nothing lent for the lifetime needs no end of it.
+    pub fn forget(self) {
+        let EndedLifetime { marker: _ } = self;
+    }
+
     /// The same twice, for two who have something back.
     pub fn again(self) -> (EndedLifetime, EndedLifetime)
         ensures { (result.0.lifetime ≡ self.lifetime) × (result.1.lifetime ≡ self.lifetime) }

@@ -1,5 +1,5 @@
 use denote.Param.Send.{IsSend}
-use Rattle.arc_memory.specs.contracts.lifetime.EndedLifetime.{the_row}
+use Rattle.arc_owners.specs.contracts.lifetime.LifetimeToken.{the_row}
 
 pub send : IsSend the_row
 send = record { owned = λ d vs. ((λ vss. (tt, ((λ uss. (tt, tt)), tt))), tt); leaving = λ k e vs. tt }

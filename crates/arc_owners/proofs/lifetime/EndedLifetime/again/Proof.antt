@@ -19,11 +19,11 @@ use denote.Triple.Walked.{Stays, stay_dropped, walk_of}
 use Rattle.core.proofs.alloc.Calls.{Goes-blank}
 use Rattle.std.proofs.raw_atomic.Walks.{proved_at}
 use Rattle.logbook.proofs.Fields.{token, token_told, ends}
-use Rattle.arc_memory.proofs.LentHeld.{marked}
-use Rattle.arc_memory.specs.contracts.lifetime.EndedLifetime as EndedLifetime
-use Rattle.arc_memory.specs.contracts.lifetime.EndedLifetime.again as f
-use Rattle.arc_memory.proofs.lifetime.EndedLifetime.again.Statement.{statement}
-use Rattle.arc_memory.proofs.lifetime.EndedLifetime.again.Code as code
+use Rattle.arc_owners.proofs.count.Markers.{marked}
+use Rattle.arc_owners.specs.contracts.lifetime.EndedLifetime as EndedLifetime
+use Rattle.arc_owners.specs.contracts.lifetime.EndedLifetime.again as f
+use Rattle.arc_owners.proofs.lifetime.EndedLifetime.again.Statement.{statement}
+use Rattle.arc_owners.proofs.lifetime.EndedLifetime.again.Code as code
 
 pub again_spec : {M : Type 1} → statement M
 again_spec 𝓤 𝓛 𝓜 𝓡 wired =

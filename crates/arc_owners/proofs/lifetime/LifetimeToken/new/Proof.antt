@@ -18,10 +18,10 @@ use denote.Steps.{nothing}
 use denote.Triple.Walked.{Stays, walk_of}
 use Rattle.std.proofs.raw_atomic.Walks.{proved}
 use Rattle.logbook.proofs.Fields.{token, ends}
-use Rattle.arc_memory.proofs.LentHeld.{marked}
-use Rattle.arc_memory.specs.contracts.lifetime.LifetimeToken.new as f
-use Rattle.arc_memory.proofs.lifetime.LifetimeToken.new.Statement.{statement}
-use Rattle.arc_memory.proofs.lifetime.LifetimeToken.new.Code as code
+use Rattle.arc_owners.proofs.count.Markers.{marked}
+use Rattle.arc_owners.specs.contracts.lifetime.LifetimeToken.new as f
+use Rattle.arc_owners.proofs.lifetime.LifetimeToken.new.Statement.{statement}
+use Rattle.arc_owners.proofs.lifetime.LifetimeToken.new.Code as code
 
 pub new_spec : {M : Type 1} → statement M
 new_spec 𝓤 𝓛 𝓜 𝓡 wired =

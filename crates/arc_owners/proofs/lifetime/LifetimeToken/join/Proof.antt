@@ -20,11 +20,11 @@ use denote.Triple.Walked.{Stays, stay_dropped, walk_of}
 use Rattle.core.proofs.alloc.Calls.{Goes-blank}
 use Rattle.std.proofs.raw_atomic.Walks.{proved_at}
 use Rattle.logbook.proofs.Fields.{token, token_told, ends}
-use Rattle.arc_memory.proofs.LentHeld.{marked}
-use Rattle.arc_memory.specs.contracts.lifetime.LifetimeToken as LifetimeToken
-use Rattle.arc_memory.specs.contracts.lifetime.LifetimeToken.join as f
-use Rattle.arc_memory.proofs.lifetime.LifetimeToken.join.Statement.{statement}
-use Rattle.arc_memory.proofs.lifetime.LifetimeToken.join.Code as code
+use Rattle.arc_owners.proofs.count.Markers.{marked}
+use Rattle.arc_owners.specs.contracts.lifetime.LifetimeToken as LifetimeToken
+use Rattle.arc_owners.specs.contracts.lifetime.LifetimeToken.join as f
+use Rattle.arc_owners.proofs.lifetime.LifetimeToken.join.Statement.{statement}
+use Rattle.arc_owners.proofs.lifetime.LifetimeToken.join.Code as code
 
 pub join_spec : {M : Type 1} → statement M
 join_spec 𝓤 𝓛 𝓜 𝓡 wired =

@@ -10,8 +10,8 @@ use denote.Param.Shared.{copy_shared}
 use denote.Struct.Laws.{field_copy}
 use denote.Struct.Lending.{of_Lends}
 use Rattle.core.specs.contracts.marker.PhantomData as marker
-use Rattle.arc_memory.specs.contracts.lifetime.LifetimeToken as C
-use Rattle.arc_memory.proofs.lifetime.LifetimeToken.TheLaw.Statement.{statement}
+use Rattle.arc_owners.specs.contracts.lifetime.LifetimeToken as C
+use Rattle.arc_owners.proofs.lifetime.LifetimeToken.TheLaw.Statement.{statement}
 
 pub shares : statement
 shares = of_Lends C.struct (C.the_codes (marker.the_row unit).coded) C.the_heap C.the_lent (λ d p. one_shr_laws (λ q. flft (d.lifetime ∷ []) q)) (copy_shared (marker.the_field unit) (field_copy (marker.the_type unit) tt), tt)

@@ -1,7 +1,7 @@
 use denote.Param.Send.{IsSync, sendable}
 use denote.Struct.Struct.{Struct}
 use denote.Struct.Owning.{shape}
-use Rattle.arc_memory.specs.contracts.lifetime.LifetimeToken.{the_row, the_type}
+use Rattle.arc_owners.specs.contracts.lifetime.LifetimeToken.{the_row, the_type}
 
 pub sync : IsSync the_row
 sync = let fields : IsSync (Struct (shape the_type)) = search sendable depth 20 in

@@ -1,0 +1,46 @@
+//! An owner's right whose share of the lifetime is elsewhere, for as long as that is used.
+ghost use Rattle.std.specs.Prelude.{◌≡◌, ℕ, true, List};
+ghost use base.Fml.{Share};
+ghost use base.SetCodes.{coded_share};
+ghost use base.Stored.{coded_list};
+ghost use Rattle.arc_owners.specs.count.Invariant.{BlockId, block_id_coded, Line, line_coded};
+ghost use Rattle.arc_owners.specs.count.Invariant.{Lease, lease_coded, right_without};
+
+use super::word::OwnerToken;
+use crate::lifetime::LifetimeToken;
+use std::marker::{Model, PhantomData};
+
+/// The right of an owner to whom a block is lent, without its share of the lifetime for which it
+/// is. No step can be made with it. It has no bytes, and is neither copied nor dropped.
+pub struct OwnerWithoutLifetime<H> {
+    pub(crate) marker: PhantomData<H>,
+    pub(crate) ghost block: { BlockId } by { block_id_coded },
+    pub(crate) ghost owner: { ℕ },
+    pub(crate) ghost lease: { Lease } by { lease_coded },
+    pub(crate) ghost born: { List Line } by { coded_list line_coded },
+    pub(crate) ghost share: { Share } by { coded_share },
+}
+
+impl<H> Model for OwnerWithoutLifetime<H> {
+    ghost also_owns = { λ r. right_without r.block r.owner r.lease r.born r.share };
+}
+
+impl<H> OwnerWithoutLifetime<H> {
+    ghost use Rattle.arc_owners.specs.count.Steps.{IsWithoutLifetime};
+
+    /// The right again, with its share of the lifetime.
+    pub(crate) fn with_lifetime(self, lifetime: LifetimeToken) -> OwnerToken<H>
+        requires lent { self.lease.is_lent ≡ true }
+        requires lifetime { (lifetime.lifetime ≡ self.lease.lifetime)
+            × (lifetime.share ≡ self.share) }
+        ensures { (result.held ≡ true) × IsWithoutLifetime result self }
+    {
+        let OwnerWithoutLifetime { marker: _ } = self;
+        let LifetimeToken { marker: _ } = lifetime;
+        OwnerToken {
+            marker: PhantomData,
+        }
+    }
+}
+
+unsafe impl<H> Send for OwnerWithoutLifetime<H> {}

@@ -1,0 +1,57 @@
+//! An owner whose share of the lifetime is elsewhere: it takes the share out to use it by value, as
+//! a writer does who opens a part of memory that is lent for the lease, and puts it in again.
+ghost use Rattle.std.specs.Prelude.{◌≡◌, true};
+
+use super::owner_without_lifetime::OwnerWithoutLifetime;
+use super::tokens::Share;
+use crate::lifetime::LifetimeToken;
+use crate::mark::{Mark, Open};
+use std::marker::PhantomData;
+
+/// One owner of a block, without its share of the lifetime for which the block is lent. It makes no
+/// step: it doesn't make another owner, nor ask, nor end, until the share is back. It has no bytes,
+/// and is neither copied nor dropped, so no owner is lost on the way.
+pub struct ShareWithoutLifetime<H: Mark = Open> {
+    pub(crate) right: OwnerWithoutLifetime<H>,
+    pub(crate) mark: PhantomData<H>,
+    ghost lent: { right.lease.is_lent ≡ true },
+    ghost marked: { right.block.whole ≡ H.whole },
+}
+
+impl<H: Mark> Share<H> {
+    ghost use Rattle.arc_owners.specs.count.Calls.{owner_of, lease_of};
+    ghost use Rattle.arc_owners.specs.count.Lifetimes.{owner_of_rest, lease_of_rest, share_taken};
+
+    /// The owner without its share of the lifetime, and that share. Takes no memory.
+    pub fn take_lifetime(self) -> (ShareWithoutLifetime<H>, LifetimeToken)
+        ensures owner { (owner_of_rest result.0 ≡ owner_of self)
+            × (lease_of_rest result.0 ≡ lease_of self) }
+        ensures lifetime { (result.1.lifetime ≡ (lease_of self).lifetime)
+            × (result.1.share ≡ share_taken result.0) }
+    {
+        let (right, lifetime) = self.right.take_lifetime();
+        let share = ShareWithoutLifetime {
+            right,
+            mark: PhantomData,
+        };
+        (share, lifetime)
+    }
+}
+
+impl<H: Mark> ShareWithoutLifetime<H> {
+    ghost use Rattle.arc_owners.specs.count.Calls.{owner_of, lease_of};
+    ghost use Rattle.arc_owners.specs.count.Lifetimes.{owner_of_rest, lease_of_rest, share_taken};
+
+    /// The owner again, with its share of the lifetime. Takes no memory.
+    pub fn with_lifetime(self, lifetime: LifetimeToken) -> Share<H>
+        requires { (lifetime.lifetime ≡ (lease_of_rest self).lifetime)
+            × (lifetime.share ≡ share_taken self) }
+        ensures { (owner_of result ≡ owner_of_rest self) × (lease_of result ≡ lease_of_rest self) }
+    {
+        let ShareWithoutLifetime { right, mark } = self;
+        Share {
+            right: right.with_lifetime(lifetime),
+            mark,
+        }
+    }
+}
