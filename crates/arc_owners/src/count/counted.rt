@@ -102,6 +102,7 @@ impl<const MAX: u64, H: Mark> Owners<MAX, H> {
     /// # History
     ///
     /// Alone with the answer; none on a lone word, where the answer is yes.
+    #[tactic(auto, using(crate::proofs::count::Calls::asks_at))]
     pub fn alone_as(&self, by: &Share<H>, pass: &mut Pass<H>) -> bool
         requires share { IsOwnerOf (block_of self.now) by.now }
         requires pass { IsPassOf (block_of self.now) pass.old }
