@@ -10,7 +10,7 @@ use arc_owners::error::TryReserveError;
 mod vec;
 
 /// A caller's buffer of items: its list stays the same while nobody writes.
-pub trait Buffer<T>: Send + Sync {
+pub trait Buffer<T> {
     /// Its items.
     ghost list: { Self → List T };
 

@@ -24,7 +24,7 @@ mod zero_item;
 /// A kind of slice: the type of the items, and which lists of them a window of the kind may have.
 pub trait Slice {
     /// The items.
-    type Item: Send + Sync + Drop;
+    type Item: Drop;
 
     /// Why a list isn't legal.
     type TryFromSliceError: Drop;

@@ -20,7 +20,7 @@ pub trait Commands: CopySlice + Emptyable + Extendable + Subsliceable {
 
 /// Items of plain data that a table may have. A type whose items have no zero is one by
 /// `impl TableItem for Type { type Zero = NoZero; }`.
-pub trait TableItem: Copy + Send + Sync + Drop {
+pub trait TableItem: Copy + Drop {
     /// `HasZero` where the type has a zero, else `NoZero`.
     type Zero: ZeroOf<Plain<Self>>;
 }
@@ -123,7 +123,7 @@ impl TableItem for char {
     type Zero = NoZero;
 }
 
-impl<'a, T: Sync> TableItem for &'a T {
+impl<'a, T> TableItem for &'a T {
     type Zero = NoZero;
 }
 

@@ -10,7 +10,7 @@ use super::{Buffer, BufferMut};
 use arc_owners::error::TryReserveError;
 use std::alloc::Allocator;
 
-impl<T: Send + Sync, A: Allocator + Send + Sync> Buffer<T> for Vec<T, A> {
+impl<T, A: Allocator> Buffer<T> for Vec<T, A> {
     ghost list = { vec_items };
 
     fn as_slice(&self) -> &[T] {
@@ -18,7 +18,7 @@ impl<T: Send + Sync, A: Allocator + Send + Sync> Buffer<T> for Vec<T, A> {
     }
 }
 
-impl<T: Send + Sync, A: Allocator + Send + Sync> BufferMut<T> for Vec<T, A> {
+impl<T, A: Allocator> BufferMut<T> for Vec<T, A> {
     ghost places = { vec_capacity };
 
     ghost with_list = { with_items };

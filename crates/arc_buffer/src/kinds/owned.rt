@@ -14,7 +14,7 @@ pub struct Owned<T> {
     of: PhantomData<T>,
 }
 
-impl<T: Send + Sync + Drop> Slice for Owned<T> {
+impl<T: Drop> Slice for Owned<T> {
     type Item = T;
 
     type TryFromSliceError = Infallible;
@@ -33,11 +33,11 @@ impl<T: Send + Sync + Drop> Slice for Owned<T> {
     }
 }
 
-impl<T: Send + Sync + Drop> Emptyable for Owned<T> {
+impl<T: Drop> Emptyable for Owned<T> {
     ghost empty_is_legal = { tt };
 }
 
-impl<T: Send + Sync + Drop> Subsliceable for Owned<T> {
+impl<T: Drop> Subsliceable for Owned<T> {
     ghost boundary = { anywhere };
 
     fn is_boundary(items: &[T], at: usize) -> bool {
@@ -53,14 +53,14 @@ impl<T: Send + Sync + Drop> Subsliceable for Owned<T> {
     ghost range_is_legal = { λ _ _ _ _ _. tt };
 }
 
-impl<T: Send + Sync + Drop> Concatenable for Owned<T> {
+impl<T: Drop> Concatenable for Owned<T> {
     ghost both_are_legal = { λ _ _ _ _. tt };
 }
 
-impl<T: Send + Sync + Drop> Extendable for Owned<T> {
+impl<T: Drop> Extendable for Owned<T> {
     ghost more_is_legal = { λ _ _ _. tt };
 }
 
-impl<T: Send + Sync + Drop> AnyItems for Owned<T> {
+impl<T: Drop> AnyItems for Owned<T> {
     ghost all_are_legal = { λ _. tt };
 }

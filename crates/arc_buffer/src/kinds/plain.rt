@@ -16,7 +16,7 @@ pub struct Plain<T> {
     of: PhantomData<T>,
 }
 
-impl<T: Copy + Send + Sync + Drop> Slice for Plain<T> {
+impl<T: Copy + Drop> Slice for Plain<T> {
     type Item = T;
 
     type TryFromSliceError = Infallible;
@@ -35,11 +35,11 @@ impl<T: Copy + Send + Sync + Drop> Slice for Plain<T> {
     }
 }
 
-impl<T: Copy + Send + Sync + Drop> Emptyable for Plain<T> {
+impl<T: Copy + Drop> Emptyable for Plain<T> {
     ghost empty_is_legal = { tt };
 }
 
-impl<T: Copy + Send + Sync + Drop> Subsliceable for Plain<T> {
+impl<T: Copy + Drop> Subsliceable for Plain<T> {
     ghost boundary = { anywhere };
 
     fn is_boundary(items: &[T], at: usize) -> bool {
@@ -55,21 +55,21 @@ impl<T: Copy + Send + Sync + Drop> Subsliceable for Plain<T> {
     ghost range_is_legal = { λ _ _ _ _ _. tt };
 }
 
-impl<T: Copy + Send + Sync + Drop> Concatenable for Plain<T> {
+impl<T: Copy + Drop> Concatenable for Plain<T> {
     ghost both_are_legal = { λ _ _ _ _. tt };
 }
 
-impl<T: Copy + Send + Sync + Drop> Extendable for Plain<T> {
+impl<T: Copy + Drop> Extendable for Plain<T> {
     ghost more_is_legal = { λ _ _ _. tt };
 }
 
-impl<T: Copy + Send + Sync + Drop> AnyItems for Plain<T> {
+impl<T: Copy + Drop> AnyItems for Plain<T> {
     ghost all_are_legal = { λ _. tt };
 }
 
-impl<T: Copy + Send + Sync + Drop> CopySlice for Plain<T> {}
+impl<T: Copy + Drop> CopySlice for Plain<T> {}
 
-impl<T: ZeroItem + Send + Sync + Drop> Zeroable for Plain<T> {
+impl<T: ZeroItem + Drop> Zeroable for Plain<T> {
     ghost zero_item = { T.zero_item };
 
     fn zero() -> T {

@@ -45,7 +45,7 @@ pub trait VecIn<A: Allocator>: Slice {
         → Self.Boxed.may_wrap inner ↔ Self.is_legal (boxed_slice_items inner) };
 }
 
-impl<T: Copy + Send + Sync + Drop, A: Allocator> VecIn<A> for Plain<T> {
+impl<T: Copy + Drop, A: Allocator> VecIn<A> for Plain<T> {
     type Vec = Vec<T, A>;
 
     type Boxed = BoxedSlice<T, A>;
@@ -63,7 +63,7 @@ impl<T: Copy + Send + Sync + Drop, A: Allocator> VecIn<A> for Plain<T> {
     ghost boxed_legal = { λ _. (λ legal. legal, λ legal. legal) };
 }
 
-impl<T: Send + Sync + Drop, A: Allocator> VecIn<A> for Owned<T> {
+impl<T: Drop, A: Allocator> VecIn<A> for Owned<T> {
     type Vec = Vec<T, A>;
 
     type Boxed = BoxedSlice<T, A>;
