@@ -7,10 +7,10 @@ pub loop-preserved : goal.loop-preserved
 loop-preserved g c =
     (tt, tt, refl, c.in_default-try_clone_once_as.ensures.again ∙ c.loop.invariant.3)
 
-pub try_clone_once_as-requires-in-loop-clause-pass :
-    goal.try_clone_once_as-requires-in-loop-clause-pass
-try_clone_once_as-requires-in-loop-clause-pass g c κs within =
-    subst (λ p. IsPassAt c.args.self.now.place p) (sym c.loop.invariant.3) c.requires.pass
+pub try_clone_once_as-requires-in-loop : goal.try_clone_once_as-requires-in-loop
+try_clone_once_as-requires-in-loop g c = record {
+  pass = subst (λ p. IsPassAt c.args.self.now.place p) (sym c.loop.invariant.3) c.requires.pass;
+}
 
 pub returns-in-Some-try_clone_once_as-clause-items :
     goal.returns-in-Some-try_clone_once_as-clause-items

@@ -11,7 +11,7 @@ loop-preserved g c =
 
 pub try_subslice_once_as-requires-in-loop-clause-pass :
     goal.try_subslice_once_as-requires-in-loop-clause-pass
-try_subslice_once_as-requires-in-loop-clause-pass g c κs within =
+try_subslice_once_as-requires-in-loop-clause-pass g c =
     subst (λ p. IsPassAt c.args.self.now.place p) (sym c.loop.invariant.5) c.requires.pass
 
 pub returns-in-Some-try_subslice_once_as-clause-items :

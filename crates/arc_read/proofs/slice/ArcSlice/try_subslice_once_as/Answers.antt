@@ -9,7 +9,7 @@ use Rattle.arc_read.proofs.Cuts.{part_legal}
 use Rattle.arc_read.proofs.slice.ArcSlice.try_subslice_once_as.Goals as goal
 
 pub from_parts-requires-clause-legal : goal.from_parts-requires-clause-legal
-from_parts-requires-clause-legal g c κs within =
+from_parts-requires-clause-legal g c =
     let p = c.self.inside.parts in
     let boundary = g.S.Subsliceable.boundary in
     let items = subst (λ r. IfOk r (λ part. part.items ≡ sub p.items c.args.start c.args.end)) c.in-Ok.is c.in_ok-parts.ensures.items in
@@ -18,7 +18,7 @@ from_parts-requires-clause-legal g c κs within =
     (part_legal g.S.Slice.is_legal boundary g.met.S.Subsliceable.range_is_legal p.items c.args.start c.args.end c.self.invariant.2 (λ _. range))
 
 pub from_parts-requires-clause-held : goal.from_parts-requires-clause-held
-from_parts-requires-clause-held g c κs within =
+from_parts-requires-clause-held g c =
     let p = c.self.inside.parts in
     let static = g.L.Layout.STATIC in
     let place = part_place static (sub p.items c.args.start c.args.end) c.args.start p.place in
