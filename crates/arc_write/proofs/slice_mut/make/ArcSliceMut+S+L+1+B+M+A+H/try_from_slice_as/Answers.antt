@@ -1,4 +1,4 @@
 use Rattle.arc_write.proofs.slice_mut.make.ArcSliceMut+S+L+1+B+M+A+H.try_from_slice_as.Goals as goal
 
-pub from_parts-requires-clause-legal : goal.from_parts-requires-clause-legal
-from_parts-requires-clause-legal g c κs within = ∣ g.met.S.AnyItems.all_are_legal _ ∣₁
+pub from_parts-requires : goal.from_parts-requires
+from_parts-requires g c = record { legal = ∣ g.met.S.AnyItems.all_are_legal _ ∣₁ }
