@@ -1,6 +1,6 @@
 //! Splits of a read window.
-ghost use Rattle.std.specs.Prelude.{◌≡◌, length, IfOk, IfErr};
-ghost use Rattle.arc_buffer.specs.Slice.{IsEdge};
+ghost use Rattle.std.specs.Prelude.{◌≡◌, ◌≤◌, ◌+◌, ℕ, length, IfOk, IfErr};
+ghost use Rattle.arc_buffer.specs.Slice.{IsEdge, IsRange, sub};
 ghost use Rattle.arc_block.specs.Steps.{IsPassAt, Refuses};
 ghost use Rattle.arc_read.specs.Steps.{WithNewPass};
 ghost use Rattle.arc_read.specs.Cuts.{SplitsOff, SplitsTo, off_place, to_place};
@@ -22,6 +22,16 @@ impl<S: Subsliceable, L: Layout, B, M, A: Allocator + Copy, H: Mark> ArcSlice<S,
         ensures end { IsEdge S.boundary self.now.items (length self.now.items) }
     {
         let _ = &self.parts;
+    }
+
+    /// A part of a window has a legal list, and may be cut where the window may.
+    pub(crate) fn has_part(&self, start: usize, end: usize)
+        requires { IsRange S.boundary self.now.items start end }
+        ensures legal { ∥ S.is_legal (sub self.now.items start end) ∥₁ }
+        ensures cuts { (at : ℕ) → start + at ≤ end
+            → S.boundary (sub self.now.items start end) at ≡ S.boundary self.now.items (start + at) }
+    {
+        let _ = (&self.parts, start, end);
     }
 
     /// Splits the window at `at`: it keeps the front, and the back is handed out. An owner more of
