@@ -47,6 +47,14 @@ impl From<AllocError> for OwnerError {
     }
 }
 
+impl From<alloc::AllocError> for OwnerError {
+    ghost from_gives = { λ _ e. e ≡ owner.AllocError };
+
+    fn from(_: alloc::AllocError) -> Self {
+        OwnerError::AllocError
+    }
+}
+
 impl From<CountFull> for OwnerError {
     ghost from_gives = { λ _ e. e ≡ owner.CountFull };
 
@@ -76,6 +84,14 @@ impl From<AllocError> for TryReserveError {
     ghost from_gives = { λ _ e. e ≡ reserve.AllocError };
 
     fn from(_: AllocError) -> Self {
+        TryReserveError::AllocError
+    }
+}
+
+impl From<alloc::AllocError> for TryReserveError {
+    ghost from_gives = { λ _ e. e ≡ reserve.AllocError };
+
+    fn from(_: alloc::AllocError) -> Self {
         TryReserveError::AllocError
     }
 }

@@ -1,4 +1,6 @@
 //! Where results go that nothing else reads.
+use arc_slice::{ArcBytes, ArcBytesMut};
+use bytes::{Bytes, BytesMut};
 use std::sync::atomic::AtomicU64;
 use std::sync::atomic::Ordering::Relaxed;
 
@@ -9,6 +11,21 @@ pub trait Keep {
 
     /// Takes bytes.
     fn bytes(&self, bytes: &[u8]);
+
+    /// Takes a window, which has to lie in memory for it.
+    fn window(&self, window: &ArcBytes);
+
+    /// Takes a window that is written.
+    fn writer(&self, writer: &ArcBytesMut);
+
+    /// Takes the kit's bytes.
+    fn kit(&self, bytes: &Bytes);
+
+    /// Takes the kit's bytes that are written.
+    fn kit_writer(&self, bytes: &BytesMut);
+
+    /// Takes a vector.
+    fn vector(&self, vec: &Vec<u8>);
 }
 
 /// Takes all and does nothing.
@@ -21,6 +38,26 @@ impl Keep for Silent {
 
     fn bytes(&self, bytes: &[u8]) {
         let _ = bytes;
+    }
+
+    fn window(&self, window: &ArcBytes) {
+        let _ = window;
+    }
+
+    fn writer(&self, writer: &ArcBytesMut) {
+        let _ = writer;
+    }
+
+    fn kit(&self, bytes: &Bytes) {
+        let _ = bytes;
+    }
+
+    fn kit_writer(&self, bytes: &BytesMut) {
+        let _ = bytes;
+    }
+
+    fn vector(&self, vec: &Vec<u8>) {
+        let _ = vec;
     }
 }
 
@@ -37,5 +74,25 @@ impl Keep for Counting {
 
     fn bytes(&self, bytes: &[u8]) {
         self.given.fetch_add(bytes.len() as u64, Relaxed);
+    }
+
+    fn window(&self, window: &ArcBytes) {
+        self.given.fetch_add(window.len() as u64, Relaxed);
+    }
+
+    fn writer(&self, writer: &ArcBytesMut) {
+        self.given.fetch_add(writer.len() as u64, Relaxed);
+    }
+
+    fn kit(&self, bytes: &Bytes) {
+        self.given.fetch_add(bytes.len() as u64, Relaxed);
+    }
+
+    fn kit_writer(&self, bytes: &BytesMut) {
+        self.given.fetch_add(bytes.len() as u64, Relaxed);
+    }
+
+    fn vector(&self, vec: &Vec<u8>) {
+        self.given.fetch_add(vec.len() as u64, Relaxed);
     }
 }

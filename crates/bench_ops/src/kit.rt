@@ -17,6 +17,7 @@ pub fn run(alloc: Global, operation: Operation, count: usize, keep: &dyn Keep) -
     };
     match operation {
         Operation::Loop => Ok(empty_loop(count, keep)),
+        Operation::WindowLoop => Ok(window_loop(&window, count, keep)),
         Operation::Clone => clone_local(window, count, keep),
         Operation::CloneShared => clone_shared(&window, count, keep),
         Operation::Read => Ok(read(&window, count, keep)),
@@ -41,12 +42,20 @@ fn empty_loop(count: usize, keep: &dyn Keep) {
     }
 }
 
+/// Nothing but the loop, which hands a window on.
+#[inline(never)]
+fn window_loop(window: &Bytes, count: usize, keep: &dyn Keep) {
+    for _ in 0..count {
+        keep.kit(window);
+    }
+}
+
 /// A clone of a local window, and its release.
 #[inline(never)]
 fn clone_local(window: Bytes, count: usize, keep: &dyn Keep) -> Result<(), AllocError> {
     for _ in 0..count {
         let clone = window.clone()?;
-        keep.number(clone.len());
+        keep.kit(&clone);
     }
     Ok(())
 }
@@ -56,7 +65,7 @@ fn clone_local(window: Bytes, count: usize, keep: &dyn Keep) -> Result<(), Alloc
 fn clone_shared(window: &Bytes, count: usize, keep: &dyn Keep) -> Result<(), AllocError> {
     for _ in 0..count {
         let clone = window.clone()?;
-        keep.number(clone.len());
+        keep.kit(&clone);
     }
     Ok(())
 }
@@ -75,7 +84,7 @@ fn make(alloc: Global, count: usize, keep: &dyn Keep) -> Result<(), AllocError> 
     let bytes = [42; LEN];
     for _ in 0..count {
         let window = Bytes::copy_from_slice(alloc, &bytes)?;
-        keep.number(window.len());
+        keep.kit(&window);
     }
     Ok(())
 }
@@ -93,7 +102,7 @@ fn cut_local(
 {
     for _ in 0..count {
         let cut = window.slice(start..end)?;
-        keep.number(cut.len());
+        keep.kit(&cut);
     }
     Ok(())
 }
@@ -111,7 +120,7 @@ fn cut_shared(
 {
     for _ in 0..count {
         let cut = window.slice(start..end)?;
-        keep.number(cut.len());
+        keep.kit(&cut);
     }
     Ok(())
 }
@@ -124,7 +133,7 @@ fn split_off(window: &Bytes, count: usize, keep: &dyn Keep) -> Result<(), AllocE
     for _ in 0..count {
         let mut front = window.clone()?;
         let back = front.split_off(7)?;
-        keep.number(back.len());
+        keep.kit(&back);
     }
     Ok(())
 }

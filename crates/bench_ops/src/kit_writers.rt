@@ -1,6 +1,6 @@
 //! The loops over the kit's `BytesMut`.
 use crate::keep::Keep;
-use crate::rounds::{PIECE, PLACES, ROUND, empty_rounds};
+use crate::rounds::{LONG, PIECE, PLACES, ROUND, empty_rounds};
 use crate::words::Writing;
 use bytes::{BufMut, BytesMut};
 use std::alloc::Global;
@@ -8,8 +8,8 @@ use std::alloc::Global;
 /// Runs an operation so often, and answers whether all was done.
 pub fn run(alloc: Global, writing: Writing, count: usize, keep: &dyn Keep) -> bool {
     // How long the piece is isn't known before the program runs.
-    let len = if count == 0 { 1 } else { PIECE };
-    let all = [42; PIECE];
+    let (len, long) = if count == 0 { (1, 2) } else { (PIECE, LONG) };
+    let all = [42; LONG];
     let piece = &all[..len];
     let Ok(mut window) = BytesMut::with_capacity(alloc, PLACES) else {
         return false;
@@ -24,6 +24,9 @@ pub fn run(alloc: Global, writing: Writing, count: usize, keep: &dyn Keep) -> bo
         Writing::Grow => grow(alloc, count, keep),
         Writing::Extend => extend(&mut window, piece, count, keep),
         Writing::ExtendOdd => extend(&mut window, &all[1..len], count, keep),
+        Writing::ExtendLong => extend(&mut window, &all[..long], count, keep),
+        Writing::Truncate => truncate(&mut window, piece, count, keep),
+        Writing::Make => make(alloc, count, keep),
         Writing::Freeze => window.put_u8(42).is_ok() && freeze(window, count, keep),
         Writing::Write => window.put_u8(42).is_ok() && write(&mut window, count, keep),
         Writing::ReadBack => read_back(&window, count, keep),
@@ -75,6 +78,31 @@ fn grow(alloc: Global, count: usize, keep: &dyn Keep) -> bool {
     true
 }
 
+/// Bytes with 64 places, and their release.
+#[inline(never)]
+fn make(alloc: Global, count: usize, keep: &dyn Keep) -> bool {
+    for _ in 0..count {
+        let Ok(window) = BytesMut::with_capacity(alloc, PIECE) else {
+            return false;
+        };
+        keep.kit_writer(&window);
+    }
+    true
+}
+
+/// Cut to a length that it has.
+#[inline(never)]
+fn truncate(window: &mut BytesMut, piece: &[u8], count: usize, keep: &dyn Keep) -> bool {
+    if window.extend_from_slice(piece).is_err() {
+        return false;
+    }
+    for _ in 0..count {
+        window.truncate(piece.len());
+        keep.kit_writer(window);
+    }
+    true
+}
+
 /// Pieces copied into places that are there.
 #[inline(never)]
 fn extend(window: &mut BytesMut, piece: &[u8], count: usize, keep: &dyn Keep) -> bool {
@@ -98,7 +126,7 @@ fn freeze(window: BytesMut, count: usize, keep: &dyn Keep) -> bool {
         let Ok(frozen) = window.freeze() else {
             return false;
         };
-        keep.number(frozen.len());
+        keep.kit(&frozen);
         let Ok(back) = frozen.try_into_mut() else {
             return false;
         };

@@ -25,6 +25,7 @@ pub fn run(
     };
     match operation {
         Operation::Loop => Ok(empty_loop(count, keep)),
+        Operation::WindowLoop => Ok(window_loop(&window, count, keep)),
         Operation::Clone => clone_local(rt, window, count, keep),
         Operation::CloneShared => clone_shared(rt, &window, count, keep),
         Operation::Read => Ok(read(&window, count, keep)),
@@ -49,6 +50,14 @@ fn empty_loop(count: usize, keep: &dyn Keep) {
     }
 }
 
+/// Nothing but the loop, which hands a window on.
+#[inline(never)]
+fn window_loop(window: &ArcBytes, count: usize, keep: &dyn Keep) {
+    for _ in 0..count {
+        keep.window(window);
+    }
+}
+
 /// A clone of a local window, and its release.
 #[inline(never)]
 fn clone_local(
@@ -59,7 +68,7 @@ fn clone_local(
 ) -> Result<(), OwnerError> {
     for _ in 0..count {
         let clone = window.try_clone(rt)?;
-        keep.number(clone.len());
+        keep.window(&clone);
     }
     Ok(())
 }
@@ -74,7 +83,7 @@ fn clone_shared(
 ) -> Result<(), OwnerError> {
     for _ in 0..count {
         let clone = window.try_clone(rt)?;
-        keep.number(clone.len());
+        keep.window(&clone);
     }
     Ok(())
 }
@@ -93,7 +102,7 @@ fn make(alloc: Global, count: usize, keep: &dyn Keep) -> Result<(), OwnerError> 
     let bytes = [42; LEN];
     for _ in 0..count {
         let window: ArcBytes = ArcBytes::try_from_slice(alloc, &bytes)?;
-        keep.number(window.len());
+        keep.window(&window);
     }
     Ok(())
 }
@@ -112,7 +121,7 @@ fn cut_local(
 {
     for _ in 0..count {
         let cut = window.try_subslice(rt, start, end)?;
-        keep.number(cut.len());
+        keep.window(&cut);
     }
     Ok(())
 }
@@ -131,7 +140,7 @@ fn cut_shared(
 {
     for _ in 0..count {
         let cut = window.try_subslice(rt, start, end)?;
-        keep.number(cut.len());
+        keep.window(&cut);
     }
     Ok(())
 }
@@ -149,7 +158,7 @@ fn split_off(
     for _ in 0..count {
         let mut front = window.try_clone(rt)?;
         let back = front.try_split_off(rt, 7)?;
-        keep.number(back.len());
+        keep.window(&back);
     }
     Ok(())
 }

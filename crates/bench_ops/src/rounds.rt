@@ -4,11 +4,14 @@ use crate::keep::Keep;
 /// How many bytes are pushed in a round, or pieces copied.
 pub const ROUND: usize = 1024;
 
-/// How many bytes a piece has.
+/// How many bytes a short piece has.
 pub const PIECE: usize = 64;
 
-/// How many places hold all pieces of a round.
-pub const PLACES: usize = 65536;
+/// How many bytes a long piece has.
+pub const LONG: usize = 1000;
+
+/// How many places hold all long pieces of a round.
+pub const PLACES: usize = 1_048_576;
 
 /// Nothing but the rounds and their steps.
 #[inline(never)]

@@ -1,14 +1,14 @@
 //! The loops over std's vectors of bytes.
 use crate::keep::Keep;
-use crate::rounds::{PIECE, PLACES, ROUND, empty_rounds};
+use crate::rounds::{LONG, PIECE, PLACES, ROUND, empty_rounds};
 use crate::words::Writing;
 use std::alloc::Global;
 
 /// Runs an operation so often, and answers whether all was done.
 pub fn run(alloc: Global, writing: Writing, count: usize, keep: &dyn Keep) -> bool {
     // How long the piece is isn't known before the program runs.
-    let len = if count == 0 { 1 } else { PIECE };
-    let all = [42; PIECE];
+    let (len, long) = if count == 0 { (1, 2) } else { (PIECE, LONG) };
+    let all = [42; LONG];
     let piece = &all[..len];
     let Ok(mut vec) = Vec::with_capacity(alloc, PLACES) else {
         return false;
@@ -23,6 +23,9 @@ pub fn run(alloc: Global, writing: Writing, count: usize, keep: &dyn Keep) -> bo
         Writing::Grow => grow(alloc, count, keep),
         Writing::Extend => extend(&mut vec, piece, count, keep),
         Writing::ExtendOdd => extend(&mut vec, &all[1..len], count, keep),
+        Writing::ExtendLong => extend(&mut vec, &all[..long], count, keep),
+        Writing::Truncate => truncate(&mut vec, piece, count, keep),
+        Writing::Make => make(alloc, count, keep),
         // A vector can't be frozen.
         Writing::Freeze => false,
         Writing::Write => vec.push(42).is_ok() && write(&mut vec, count, keep),
@@ -71,6 +74,31 @@ fn grow(alloc: Global, count: usize, keep: &dyn Keep) -> bool {
             }
         }
         keep.number(vec.len());
+    }
+    true
+}
+
+/// A vector with 64 places, and its release.
+#[inline(never)]
+fn make(alloc: Global, count: usize, keep: &dyn Keep) -> bool {
+    for _ in 0..count {
+        let Ok(vec) = Vec::with_capacity(alloc, PIECE) else {
+            return false;
+        };
+        keep.vector(&vec);
+    }
+    true
+}
+
+/// Cut to a length that it has.
+#[inline(never)]
+fn truncate(vec: &mut Vec<u8>, piece: &[u8], count: usize, keep: &dyn Keep) -> bool {
+    if vec.extend_from_slice(piece).is_err() {
+        return false;
+    }
+    for _ in 0..count {
+        vec.truncate(piece.len());
+        keep.vector(vec);
     }
     true
 }

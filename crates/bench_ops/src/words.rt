@@ -11,6 +11,8 @@ const WORD: usize = 32;
 pub enum Operation {
     /// Nothing but the loop.
     Loop,
+    /// Nothing but the loop, which hands a window on.
+    WindowLoop,
     /// A clone of a local window, and its release.
     Clone,
     /// A clone of a window behind a reference, and its release.
@@ -52,6 +54,12 @@ pub enum Writing {
     Extend,
     /// Rounds of 63 bytes copied into places that are there.
     ExtendOdd,
+    /// Rounds of 1,000 bytes copied into places that are there.
+    ExtendLong,
+    /// A window cut to a length that it has.
+    Truncate,
+    /// A window with 64 places, and its release.
+    Make,
     /// A window that is read from then on, and back.
     Freeze,
     /// All items to be written, of which the first is.
@@ -84,6 +92,7 @@ pub struct Words {
 fn operation_named(name: &str) -> Option<Operation> {
     Some(match name {
         "loop" => Operation::Loop,
+        "window_loop" => Operation::WindowLoop,
         "clone" => Operation::Clone,
         "clone_shared" => Operation::CloneShared,
         "read" => Operation::Read,
@@ -108,6 +117,9 @@ fn writing_named(name: &str) -> Option<Writing> {
         "grow" => Writing::Grow,
         "extend" => Writing::Extend,
         "extend_odd" => Writing::ExtendOdd,
+        "extend_long" => Writing::ExtendLong,
+        "truncate" => Writing::Truncate,
+        "make_writer" => Writing::Make,
         "freeze" => Writing::Freeze,
         "write" => Writing::Write,
         "read_back" => Writing::ReadBack,

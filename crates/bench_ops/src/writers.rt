@@ -1,16 +1,17 @@
 //! The loops over windows of this repository that are written.
 use crate::keep::Keep;
-use crate::rounds::{PIECE, PLACES, ROUND, empty_rounds};
+use crate::rounds::{LONG, PIECE, PLACES, ROUND, empty_rounds};
 use crate::words::Writing;
 use arc_slice::layout::DefaultLayout;
 use arc_slice::{ArcBytes, ArcBytesMut, try_into_mut};
+use arc_slice::error::AllocError;
 use std::alloc::Global;
 
 /// Runs an operation so often, and answers whether all was done.
 pub fn run(alloc: Global, writing: Writing, count: usize, keep: &dyn Keep) -> bool {
     // How long the piece is isn't known before the program runs.
-    let len = if count == 0 { 1 } else { PIECE };
-    let all = [42; PIECE];
+    let (len, long) = if count == 0 { (1, 2) } else { (PIECE, LONG) };
+    let all = [42; LONG];
     let piece = &all[..len];
     let Ok(mut window) = ArcBytesMut::try_with_capacity(alloc, PLACES) else {
         return false;
@@ -25,6 +26,9 @@ pub fn run(alloc: Global, writing: Writing, count: usize, keep: &dyn Keep) -> bo
         Writing::Grow => grow(alloc, count, keep),
         Writing::Extend => extend(&mut window, piece, count, keep),
         Writing::ExtendOdd => extend(&mut window, &all[1..len], count, keep),
+        Writing::ExtendLong => extend(&mut window, &all[..long], count, keep),
+        Writing::Truncate => truncate(&mut window, piece, count, keep),
+        Writing::Make => make(alloc, count, keep),
         Writing::Freeze => window.try_push(42).is_ok() && freeze(window, count, keep),
         Writing::Write => window.try_push(42).is_ok() && write(&mut window, count, keep),
         Writing::ReadBack => read_back(&window, count, keep),
@@ -76,6 +80,32 @@ fn grow(alloc: Global, count: usize, keep: &dyn Keep) -> bool {
     true
 }
 
+/// A window with 64 places, and its release.
+#[inline(never)]
+fn make(alloc: Global, count: usize, keep: &dyn Keep) -> bool {
+    for _ in 0..count {
+        let made: Result<ArcBytesMut, AllocError> = ArcBytesMut::try_with_capacity(alloc, PIECE);
+        let Ok(window) = made else {
+            return false;
+        };
+        keep.writer(&window);
+    }
+    true
+}
+
+/// Cut to a length that it has.
+#[inline(never)]
+fn truncate(window: &mut ArcBytesMut, piece: &[u8], count: usize, keep: &dyn Keep) -> bool {
+    if window.try_extend_from_slice(piece).is_err() {
+        return false;
+    }
+    for _ in 0..count {
+        window.truncate(piece.len());
+        keep.writer(window);
+    }
+    true
+}
+
 /// Pieces copied into places that are there.
 #[inline(never)]
 fn extend(window: &mut ArcBytesMut, piece: &[u8], count: usize, keep: &dyn Keep) -> bool {
@@ -100,7 +130,7 @@ fn freeze(window: ArcBytesMut, count: usize, keep: &dyn Keep) -> bool {
             return false;
         };
         let frozen: ArcBytes = frozen;
-        keep.number(frozen.len());
+        keep.window(&frozen);
         let Ok(back) = try_into_mut(frozen) else {
             return false;
         };
