@@ -6,10 +6,11 @@ use Rattle.arc_owners.specs.declared.count.tokens.Pass.{Pass}
 use Rattle.std.proofs.Math.Logic.{∥∥₁_map, ∥∥₁_elim}
 use Rattle.std.proofs.Math.Bool.{Bool-set}
 use Rattle.arc_buffer.specs.Slice.{sub, IsEdge, IsRange}
+use Rattle.arc_buffer.proofs.Sub.{sub-sub}
 use Rattle.arc_block.specs.Place.{Place, nowhere, static_data, on_block, moved}
 use Rattle.arc_block.specs.Table.{reader}
 use Rattle.arc_block.specs.Window.{PartsView, Window, IsHeld}
-use Rattle.arc_read.specs.Cuts.{SharesPart, SplitsOff, SplitsTo}
+use Rattle.arc_read.specs.Cuts.{SharesPart, SplitsOff, SplitsTo, cut_window}
 use Rattle.arc_block.proofs.Held.{moved_held}
 
 module _ {T : Type 0} (legal : List T → Type 0) (boundary : List T → ℕ → Bool) where
@@ -17,6 +18,12 @@ module _ {T : Type 0} (legal : List T → Type 0) (boundary : List T → ℕ →
   pub part_legal : ((xs : List T) (s e : ℕ) → legal xs → IsRange boundary xs s e → legal (sub xs s e))
       → (xs : List T) (start end : ℕ) → ∥ legal xs ∥₁ → (legal xs → IsRange boundary xs start end) → ∥ legal (sub xs start end) ∥₁
   part_legal law xs start end good range = ∥∥₁_map good (λ h. law xs start end h (range h))
+
+  -- a part of it may be cut where it may
+  pub part_cuts : ((xs : List T) (s e at : ℕ) → legal xs → IsRange boundary xs s e → s + at ≤ e → boundary (sub xs s e) at ≡ boundary xs (s + at))
+      → (xs : List T) (start end : ℕ) → ∥ legal xs ∥₁ → IsRange boundary xs start end → (at : ℕ) → start + at ≤ end → boundary (sub xs start end) at ≡ boundary xs (start + at)
+  part_cuts law xs start end good range at upto =
+      ∥∥₁_elim {P = boundary (sub xs start end) at ≡ boundary xs (start + at)} good (Bool-set (boundary (sub xs start end) at) (boundary xs (start + at))) (λ h. law xs start end at h range upto)
 
   -- what holds of each legal list, and is a test
   edge_of_legal : (xs : List T) (at : ℕ) → at ≤ length xs → (legal xs → IsEdge boundary xs at) → ∥ legal xs ∥₁ → IsEdge boundary xs at
@@ -36,6 +43,18 @@ module _ {T : Type 0} (legal : List T → Type 0) (boundary : List T → ℕ →
       → IsRead has_static has_any p → (legal p.items → IsRange boundary p.items start end) → IsRead has_static has_any q
   keeps law has_static has_any p q start end is read range =
       subst (IsRead has_static has_any) (sym is) (read.0, moved_held has_static has_any start p.place read.1, part_legal law p.items start end read.2 range)
+
+moved-moved : {N M : Type 0} (by more : ℕ) (place : Place N M) → moved more (moved by place) ≡ moved (by + more) place
+moved-moved by more nowhere = refl
+moved-moved by more static_data = refl
+moved-moved by more (on_block block offset info) =
+    let same : (offset + by) + more ≡ offset + (by + more) = omega arith in ap (λ n. on_block block n info) same
+
+-- a part of a part is a part
+pub cut-cut : {T M : Type 0} (w : Window T M) (from to start end : ℕ) → from + end ≤ to → cut_window w (from + start) (from + end) ≡ cut_window (cut_window w from to) start end
+cut-cut w from to start end upto =
+    ap (λ xs. record { items = xs; place = moved (from + start) w.place }) (sym (sub-sub w.items from to start end upto))
+    ∙ ap (λ place. record { items = sub (sub w.items from to) start end; place = place }) (sym (moved-moved from start w.place))
 
 unmoved : {N M : Type 0} (place : Place N M) → place ≡ moved 0 place
 unmoved nowhere = refl

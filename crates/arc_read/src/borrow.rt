@@ -1,20 +1,13 @@
 //! `ArcSliceBorrow`, a part of a read window that is borrowed.
-ghost use Rattle.std.specs.Prelude.{◌≡◌, ◌≤◌, ◌↔◌, IsTrue, length, IsOk, IfOk, IfErr};
-ghost use Rattle.arc_buffer.specs.Slice.{IsRange, range_answer};
-ghost use Rattle.arc_block.specs.Steps.{IsPassAt, Shares, Refuses};
-ghost use Rattle.arc_read.specs.Borrow.{borrowed_part, clone_place};
-ghost use Rattle.arc_read.specs.Cuts.{cut_window};
-ghost use Rattle.arc_read.specs.Steps.{WithNewPass};
+ghost use Rattle.std.specs.Prelude.{◌≡◌, ◌≤◌, IsTrue, length};
 
 use crate::slice::ArcSlice;
 use arc_block::layout::{DefaultLayout, Layout};
-use arc_buffer::kinds::{Slice, Subsliceable, Text};
-use arc_owners::error::{OwnerError, RangeError};
-use arc_owners::mark::{Mark, Open, Stepping};
-use arc_owners::owners::Pass;
-use std::alloc::{Allocator, Global};
-use std::str;
-use std::sync::Wait;
+use arc_buffer::kinds::{Slice, Subsliceable};
+use arc_owners::mark::{Mark, Open};
+use std::alloc::{AllocError, Allocator, Global};
+
+mod part;
 
 /// A part of a read window, borrowed: it is no owner of the window's block, and is copied freely.
 /// `try_clone_arc` makes a window of it.
@@ -37,151 +30,16 @@ pub struct ArcSliceBorrow<
 }
 
 impl<'a, S: Subsliceable, L: Layout, B, M, A: Allocator + Copy, H: Mark> Clone
-    for ArcSliceBorrow<'a, S, L, B, M, A, H>
-{
+    for ArcSliceBorrow<'a, S, L, B, M, A, H> {
+    ghost is_clone = { λ x y. y ≡ x };
+
+    ghost is_infallible = { λ _. Unit {0} };
+
     #[inline(always)]
-    fn clone(&self) -> Self {
-        *self
+    fn clone(&self) -> Result<Self, AllocError> {
+        Ok(*self)
     }
 }
 
 impl<'a, S: Subsliceable, L: Layout, B, M, A: Allocator + Copy, H: Mark> Copy
-    for ArcSliceBorrow<'a, S, L, B, M, A, H>
-{
-}
-
-impl<S: Subsliceable, L: Layout, B, M, A: Allocator + Copy, H: Mark> ArcSlice<S, L, B, M, A, H> {
-    /// The items from `start` to `end`, borrowed. No owner is made, and nothing is added.
-    #[inline(always)]
-    pub fn borrow(&self, start: usize, end: usize) -> ArcSliceBorrow<'_, S, L, B, M, A, H>
-        requires { IsRange S.boundary self.now.items start end }
-        ensures { borrowed_part result ≡ cut_window self.now start end }
-    {
-        ArcSliceBorrow {
-            window: self,
-            start,
-            end,
-        }
-    }
-}
-
-impl<'a, S: Subsliceable, L: Layout, B, M, A: Allocator + Copy, H: Mark>
-    ArcSliceBorrow<'a, S, L, B, M, A, H>
-{
-    /// The items.
-    #[inline(always)]
-    pub fn as_slice(&self) -> &'a [S::Item]
-        ensures { result.now ≡ (borrowed_part self.now).items }
-    {
-        &self.window.as_slice()[..self.end][self.start..]
-    }
-
-    /// Whether `start` to `end` is a range of the part.
-    ///
-    /// # Errors
-    ///
-    /// `OutOfRange` where the end is past the length, else `InvalidRange` where the start is past
-    /// the end, else `NotBoundary` where the kind may not be cut at one of them.
-    pub fn check_range(&self, start: usize, end: usize) -> Result<(), RangeError>
-        ensures answer { result
-            ≡ range_answer S.boundary (borrowed_part self.now).items start end }
-        ensures ok { IsOk result ↔ IsRange S.boundary (borrowed_part self.now).items start end }
-    {
-        let items = self.as_slice();
-        if end > items.len() {
-            return Err(RangeError::OutOfRange);
-        }
-        if start > end {
-            return Err(RangeError::InvalidRange);
-        }
-        if S::is_boundary(items, start) && S::is_boundary(items, end) {
-            Ok(())
-        } else {
-            Err(RangeError::NotBoundary)
-        }
-    }
-
-    /// The items from `start` to `end` of the part, borrowed from the same window.
-    pub fn reborrow(&self, start: usize, end: usize) -> ArcSliceBorrow<'a, S, L, B, M, A, H>
-        requires { IsRange S.boundary (borrowed_part self.now).items start end }
-        ensures { borrowed_part result ≡ cut_window (borrowed_part self.now) start end }
-    {
-        self.window.has_part(self.start, self.end);
-        ArcSliceBorrow {
-            window: self.window,
-            start: self.start + start,
-            end: self.start + end,
-        }
-    }
-
-    /// A window over the part, an owner more of the block. With no items it stands on nothing where
-    /// the layout has static data, and nothing is added.
-    ///
-    /// Copies no item. It takes `rt` since an attempt that another thread disturbs is tried again.
-    ///
-    /// # Errors
-    ///
-    /// Those of `ArcSlice::try_clone_as`, where the window made stands on a block.
-    ///
-    /// # Allocates
-    ///
-    /// Only where `ArcSlice::try_clone_as` does.
-    ///
-    /// # History
-    ///
-    /// Where the window made stands on a block Up, or Full where refused.
-    #[inline(always)]
-    pub fn try_clone_arc_as(
-        self,
-        rt: &impl Wait,
-        pass: &mut Pass<H>,
-    ) -> Result<ArcSlice<S, L, B, M, A, H>, OwnerError>
-        requires pass { IsPassAt (borrowed_part self).place pass.old }
-        ensures items { IfOk result (λ window. window.items ≡ (borrowed_part self).items) }
-        ensures place { IfOk result (λ window.
-            Shares (clone_place L.STATIC (borrowed_part self)) pass.old pass.new window.place) }
-        ensures refused { IfErr result (λ e.
-            Refuses L.clone_wants (clone_place L.STATIC (borrowed_part self)) pass.old pass.new e) }
-    {
-        self.window.try_subslice_as(rt, self.start, self.end, pass)
-    }
-}
-
-impl<'a, S: Subsliceable, L: Layout, B, M, A: Allocator + Copy, H: Stepping>
-    ArcSliceBorrow<'a, S, L, B, M, A, H>
-{
-    /// A window over the part: `try_clone_arc_as` with a new pass of the window's block.
-    ///
-    /// # Errors
-    ///
-    /// Those of `try_clone_arc_as`.
-    ///
-    /// # History
-    ///
-    /// That of `try_clone_arc_as`.
-    #[inline(always)]
-    pub fn try_clone_arc(
-        self,
-        rt: &impl Wait,
-    ) -> Result<ArcSlice<S, L, B, M, A, H>, OwnerError>
-        ensures items { IfOk result (λ window. window.items ≡ (borrowed_part self).items) }
-        ensures place { IfOk result (λ window.
-            WithNewPass {H = H} H.real (borrowed_part self).place (λ first last.
-            Shares (clone_place L.STATIC (borrowed_part self)) first last window.place)) }
-        ensures refused { IfErr result (λ e.
-            WithNewPass {H = H} H.real (borrowed_part self).place (λ first last.
-            Refuses L.clone_wants (clone_place L.STATIC (borrowed_part self)) first last e)) }
-    {
-        self.window.try_subslice(rt, self.start, self.end)
-    }
-}
-
-impl<'a, L: Layout, B, M, A: Allocator + Copy, H: Mark> ArcSliceBorrow<'a, Text, L, B, M, A, H> {
-    /// The text.
-    pub fn as_str(&self) -> &'a str
-        ensures { result.now ≡ (borrowed_part self.now).items }
-    {
-        self.window.has_part(self.start, self.end);
-        unsafe { str::from_utf8_unchecked(self.as_slice()) }
-    }
-}
+    for ArcSliceBorrow<'a, S, L, B, M, A, H> {}

@@ -31,7 +31,8 @@ impl<S: Subsliceable, L: Layout, B, M, A: Allocator + Copy, H: Mark> ArcSlice<S,
         ensures cuts { (at : ℕ) → start + at ≤ end
             → S.boundary (sub self.now.items start end) at ≡ S.boundary self.now.items (start + at) }
     {
-        let _ = (&self.parts, start, end);
+        let _ = &self.parts;
+        let _ = (start, end);
     }
 
     /// Splits the window at `at`: it keeps the front, and the back is handed out. An owner more of

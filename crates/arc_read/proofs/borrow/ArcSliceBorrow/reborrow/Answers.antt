@@ -1,0 +1,12 @@
+-- A part of a part is a part of the window.
+use Rattle.std.proofs.Common.{arith}
+use Rattle.arc_buffer.proofs.Sub.{length-sub}
+use Rattle.arc_read.proofs.Cuts.{cut-cut}
+use Rattle.arc_read.proofs.borrow.ArcSliceBorrow.reborrow.Goals as goal
+
+pub returns : goal.returns
+returns g c =
+    let b = c.args.self.now in
+    let long = length-sub b.window.now.items b.start b.end b.ordered b.within in
+    cut-cut b.window.now b.start b.end c.args.start c.args.end
+    (omega (arith, c.requires.within, long, b.ordered))
