@@ -1,7 +1,7 @@
 -- Laws of the kinds: that their lists may be cut as the traits promise.
 use Rattle.std.proofs.Common.{◌≡◌, ℕ, ◌+◌, ◌-◌, ◌<◌, ◌≤◌, not, ◌||◌, ◌==◌, IsTrue, List, length}
 use Rattle.std.proofs.Common.{take, drop, replicate, slice_index, sym, ap, ◌∙◌, subst, refl}
-use Rattle.std.proofs.Common.{length-drop, suc, inl, inr, arith}
+use Rattle.std.proofs.Common.{length-drop, zero, suc, inl, inr, arith}
 use Rattle.std.proofs.lemmas.Bool.{eq-eqb}
 use Rattle.std.proofs.lemmas.Bool.Decides.{nat_tests, eqb_tells, leb_tells}
 use Rattle.std.specs.Str.{IsUtf8, IsCharBoundary}
@@ -33,18 +33,21 @@ pub between_from_boundary : (text : List ℕ) (at : ℕ) → IsCharBoundary text
     → IsTrue (is_between_characters text at)
 between_from_boundary text at b = grind (arith, nat_tests)
 
-pub boundary_from_between : (text : List ℕ) (at : ℕ) → at ≤ length text
+pub boundary_from_between : (text : List ℕ) (at : ℕ) → IsUtf8 text → at ≤ length text
     → IsTrue (is_between_characters text at) → IsCharBoundary text at
-boundary_from_between text at within cuts = (within, λ before wide. grind (arith, nat_tests))
+boundary_from_between text zero u within cuts = IsCharBoundary-start text u
+boundary_from_between text (suc n) u within cuts = (within, λ before wide. grind (arith, nat_tests))
+
+cuts_at_end : (xs : List ℕ) (at : ℕ) → at ≡ length xs → IsTrue (is_between_characters xs at)
+cuts_at_end xs at last =
+    subst (λ n. IsTrue (is_between_characters xs n)) (sym last)
+    (between_from_boundary xs (length xs) (IsCharBoundary-end xs))
 
 pub text_ends : (xs : List ℕ) → IsUtf8 xs
     → IsEdge is_between_characters xs 0 × IsEdge is_between_characters xs (length xs)
 text_ends xs u = (
-  record { within = omega arith; cuts = between_from_boundary xs 0 (IsCharBoundary-start xs u) },
-  record {
-    within = omega arith;
-    cuts = between_from_boundary xs (length xs) (IsCharBoundary-end xs);
-  },
+  record { within = omega arith; cuts = refl },
+  record { within = omega arith; cuts = cuts_at_end xs (length xs) refl },
 )
 
 pub text_parts : (xs : List ℕ) (start end : ℕ) → IsUtf8 xs
@@ -52,27 +55,27 @@ pub text_parts : (xs : List ℕ) (start end : ℕ) → IsUtf8 xs
 text_parts xs start end u r =
     subst IsUtf8 (sym (sub-slice_range xs start end r.ordered))
     (IsUtf8-between xs start end u r.ordered
-    (boundary_from_between xs start (omega (arith, r.ordered, r.within)) r.from)
-    (boundary_from_between xs end r.within r.to))
+    (boundary_from_between xs start u (omega (arith, r.ordered, r.within)) r.from)
+    (boundary_from_between xs end u r.within r.to))
 
--- at the end of one text, where another may be cut
-both_cut : (xs ys : List ℕ) (i j : ℕ) → i ≡ length xs → IsTrue (is_between_characters ys j)
-    → is_between_characters xs i ≡ is_between_characters ys j
-both_cut xs ys i j last cuts =
-    ap (λ b. b || not (continues (slice_index xs i))) (eq-eqb i (length xs) last) ∙ sym cuts
-
--- at a byte of two texts that is the same one
-same_byte : (xs ys : List ℕ) (i j : ℕ) → i < length xs → j < length ys
+-- inside two texts, at a byte that is the same one
+same_byte : (xs ys : List ℕ) (i j : ℕ) → 0 < i → i < length xs → 0 < j → j < length ys
     → slice_index xs i ≡ slice_index ys j → is_between_characters xs i ≡ is_between_characters ys j
-same_byte xs ys i j inside inside' same =
-    let fst : (i == length xs) ≡ (j == length ys) = grind (arith, nat_tests) in
-    ap (λ b. b || not (continues (slice_index xs i))) fst
-    ∙ ap (λ x. (j == length ys) || not (continues x)) same
+same_byte xs ys i j behind inside behind' inside' same =
+    let start : (i == 0) ≡ (j == 0) = grind (arith, nat_tests) in
+    let last : (i == length xs) ≡ (j == length ys) = grind (arith, nat_tests) in
+    ap (λ b. b || (i == length xs) || not (continues (slice_index xs i))) start
+    ∙ ap (λ b. (j == 0) || b || not (continues (slice_index xs i))) last
+    ∙ ap (λ x. (j == 0) || (j == length ys) || not (continues x)) same
 
 pub text_ranges : (xs : List ℕ) (start end at : ℕ) → IsUtf8 xs
     → IsRange is_between_characters xs start end → start + at ≤ end
     → is_between_characters (sub xs start end) at ≡ is_between_characters xs (start + at)
-text_ranges xs start end at u r within =
+text_ranges xs start end zero u r within =
+    let here : start + 0 ≡ start = omega arith in
+    sym (subst (λ n. IsTrue (is_between_characters xs n)) (sym here) r.from)
+text_ranges xs start end (suc more) u r within =
+    let at : ℕ = suc more in
     let long : length (sub xs start end) ≡ end - start =
     omega (
       arith,
@@ -81,13 +84,13 @@ text_ranges xs start end at u r within =
       length-take-le end xs r.within,
     ) in
     elim (eqb_tells (start + at) end) [
-      | inl last ↦ both_cut (sub xs start end) xs at (start + at)
-          (omega (arith, long, last.1, r.ordered))
-          (subst (λ n. IsTrue (is_between_characters xs n)) (sym last.1) r.to)
-      | inr more ↦
-          let inside : start + at < end = omega (arith, within, more.1) in
-          same_byte (sub xs start end) xs at (start + at) (omega (arith, long, inside))
-          (omega (arith, inside, r.within))
+      | inl last ↦
+          let there = subst (λ n. IsTrue (is_between_characters xs n)) (sym last.1) r.to in
+          cuts_at_end (sub xs start end) at (omega (arith, long, last.1, r.ordered)) ∙ sym there
+      | inr before ↦
+          let inside : start + at < end = omega (arith, within, before.1) in
+          same_byte (sub xs start end) xs at (start + at) (omega arith)
+          (omega (arith, long, inside)) (omega arith) (omega (arith, inside, r.within))
           (get_or-drop start (take end xs) at 0 ∙ get_or-take end xs (start + at) 0 inside)
     ]
 
@@ -103,7 +106,7 @@ zeros_are_text n = IsUtf8-from_ascii (replicate n 0) (λ i. omega (arith, zeros_
 
 pub cut_into_texts : CutsIntoTexts
 cut_into_texts text at u within = (
-  (λ cuts. let b = boundary_from_between text at within cuts in
+  (λ cuts. let b = boundary_from_between text at u within cuts in
       (IsUtf8-take text at u b, IsUtf8-drop text at u b)),
   λ parts. between_from_boundary text at (IsCharBoundary-from_drop text at within parts.1),
 )

@@ -7,9 +7,10 @@ use Rattle.std.specs.Str.{IsUtf8}
 abbrev pub continues : ℕ → Bool
 continues b = nat_lt 127 b && nat_lt b 192
 
--- no character is cut in two at this place
+-- no character is cut in two at this place: the text begins or ends there, or a character begins
 abbrev pub is_between_characters : List ℕ → ℕ → Bool
-is_between_characters text at = (at == length text) || not (continues (slice_index text at))
+is_between_characters text at =
+    (at == 0) || (at == length text) || not (continues (slice_index text at))
 
 -- text is cut at a place exactly where both parts are text
 abbrev pub CutsIntoTexts : Type 0

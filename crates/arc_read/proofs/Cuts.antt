@@ -1,11 +1,12 @@
 -- What is known of each legal list, of a cut and of a split.
 use Rattle.std.proofs.Common.{◌≡◌, ℕ, ◌+◌, ◌≤◌, ◌<◌, Bool, true, List, length, take, drop}
-use Rattle.std.proofs.Common.{refl, sym, ap, ◌∙◌, subst, arith}
+use Rattle.std.proofs.Common.{refl, sym, ap, ◌∙◌, subst, arith, slice_range, Result, Ok, Err, IfOk}
 use Rattle.std.proofs.lemmas.List.{take_all}
 use Rattle.arc_owners.specs.declared.count.tokens.Pass.{Pass}
 use Rattle.std.proofs.Math.Logic.{∥∥₁_map, ∥∥₁_elim}
 use Rattle.std.proofs.Math.Bool.{Bool-set}
 use Rattle.arc_buffer.specs.Slice.{sub, IsEdge, IsRange}
+use Rattle.arc_buffer.specs.Laws.{sub-slice_range}
 use Rattle.arc_buffer.proofs.Sub.{sub-sub}
 use Rattle.arc_block.specs.Place.{Place, nowhere, static_data, on_block, moved}
 use Rattle.arc_block.specs.Table.{reader}
@@ -49,6 +50,11 @@ moved-moved by more nowhere = refl
 moved-moved by more static_data = refl
 moved-moved by more (on_block block offset info) =
     let same : (offset + by) + more ≡ offset + (by + more) = omega arith in ap (λ n. on_block block n info) same
+
+-- the items of a window that was made, in the words of std's slices
+pub slice_of : {T M E : Type 0} (made : Result (Window T M) E) (xs : List T) (start end : ℕ) → start ≤ end → IfOk made (λ part. part.items ≡ sub xs start end) → IfOk made (λ part. part.items ≡ slice_range xs start end)
+slice_of (Ok part) xs start end ordered items = items ∙ sub-slice_range xs start end ordered
+slice_of (Err e) xs start end ordered items = tt
 
 -- a part of a part is a part
 pub cut-cut : {T M : Type 0} (w : Window T M) (from to start end : ℕ) → from + end ≤ to → cut_window w (from + start) (from + end) ≡ cut_window (cut_window w from to) start end

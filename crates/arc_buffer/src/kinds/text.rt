@@ -44,7 +44,7 @@ impl Subsliceable for Text {
     ghost boundary = { is_between_characters };
 
     fn is_boundary(items: &[u8], at: usize) -> bool {
-        at == items.len() || !matches!(items[at], 0x80..=0xbf)
+        at == 0 || at == items.len() || !matches!(items[at], 0x80..=0xbf)
     }
 
     ghost ends_are_edges = { text_ends };

@@ -1,5 +1,6 @@
 //! Clones and cuts of a read window.
-ghost use Rattle.std.specs.Prelude.{◌≡◌, ◌<◌, length, drop, take, IfOk, IfErr, IfSome, IfNone};
+ghost use Rattle.std.specs.Prelude.{◌≡◌, ◌<◌, length, drop, take, slice_range};
+ghost use Rattle.std.specs.Prelude.{IfOk, IfErr, IfSome, IfNone};
 ghost use Rattle.arc_buffer.specs.Slice.{IsEdge, IsRange, sub};
 ghost use Rattle.arc_block.specs.Place.{at_owner, moved};
 ghost use Rattle.arc_block.specs.Steps.{IsPassAt, Shares, Refuses};
@@ -130,6 +131,7 @@ impl<S: Slice, L: Layout, B, M, A: Allocator + Copy, H: Mark> ArcSlice<S, L, B, 
         requires range { IsRange S.boundary self.now.items start end }
         requires pass { IsPassAt self.now.place pass.old }
         ensures items { IfOk result (λ part. part.items ≡ sub self.now.items start end) }
+        ensures slice { IfOk result (λ part. part.items ≡ slice_range self.now.items start end) }
         ensures place { IfOk result (λ part.
             Shares (sub_place L.STATIC self.now start end) pass.old pass.new part.place) }
         ensures refused { IfErr result (λ e.

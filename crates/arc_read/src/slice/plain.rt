@@ -1,5 +1,5 @@
 //! The plain forms: calls with a new pass.
-ghost use Rattle.std.specs.Prelude.{◌≡◌, false, IfOk, IfErr};
+ghost use Rattle.std.specs.Prelude.{◌≡◌, false, slice_range, IfOk, IfErr};
 ghost use Rattle.arc_buffer.specs.Slice.{IsRange, sub};
 ghost use Rattle.arc_block.specs.Place.{at_owner};
 ghost use Rattle.arc_block.specs.Window.{IsWholeOf};
@@ -113,6 +113,7 @@ impl<S: Slice, L: Layout, B, M, A: Allocator + Copy, H: Stepping> ArcSlice<S, L,
         S: Subsliceable,
         requires { IsRange S.boundary self.now.items start end }
         ensures items { IfOk result (λ part. part.items ≡ sub self.now.items start end) }
+        ensures slice { IfOk result (λ part. part.items ≡ slice_range self.now.items start end) }
         ensures place { IfOk result (λ part. WithNewPass {H = H} H.real self.now.place
             (λ first last. Shares (sub_place L.STATIC self.now start end) first last part.place)) }
         ensures refused { IfErr result (λ e. WithNewPass {H = H} H.real self.now.place (λ old new.

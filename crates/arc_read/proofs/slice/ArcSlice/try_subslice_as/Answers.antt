@@ -3,6 +3,7 @@ use Rattle.std.proofs.Common.{IfOk, IfErr, refl, sym, ◌∙◌, subst}
 use Rattle.arc_buffer.specs.Slice.{sub}
 use Rattle.arc_block.specs.Place.{part_place}
 use Rattle.arc_block.specs.Steps.{IsPassAt, Shares, Refuses}
+use Rattle.arc_read.proofs.Cuts.{slice_of}
 use Rattle.arc_read.proofs.slice.ArcSlice.try_subslice_as.Goals as goal
 
 pub loop-preserved : goal.loop-preserved
@@ -36,3 +37,14 @@ returns-in-Some-try_subslice_once_as-clause-refused g c =
     Refuses g.L.Layout.clone_wants place p c.try_subslice_once_as-in-loop.new.pass e))
     c.loop.invariant.5
     c.in-Some-try_subslice_once_as.ensures.refused
+
+pub returns-in-Some-try_subslice_once_as-clause-slice :
+    goal.returns-in-Some-try_subslice_once_as-clause-slice
+returns-in-Some-try_subslice_once_as-clause-slice g c =
+    slice_of _ c.args.self.now.items c.args.start c.args.end c.requires.range.ordered
+    c.in-Some-try_subslice_once_as.ensures.items
+
+pub returns-in-Some-clause-slice : goal.returns-in-Some-clause-slice
+returns-in-Some-clause-slice g c =
+    slice_of _ c.args.self.now.items c.args.start c.args.end c.requires.range.ordered
+    c.in-Some.ensures.items
