@@ -3,4 +3,6 @@
 #![tactic(auto)]
 
 #[cfg(test)]
+mod borrows;
+#[cfg(test)]
 mod windows;

@@ -4,12 +4,15 @@
 
 pub use arc_owners::mark::{Mark, Open, Whole};
 pub use arc_owners::owners::Pass;
+pub use arc_read::borrow::ArcSliceBorrow;
 pub use arc_read::slice::ArcSlice;
 pub use arc_write::slice_mut::{
     ArcBytesMut, ArcSliceMut, ArcStrMut, try_into_mut, try_into_mut_as,
 };
+pub use borrow::{ArcByteTextBorrow, ArcBytesBorrow, ArcStrBorrow};
 pub use slice::{ArcByteText, ArcBytes, ArcStr};
 
+mod borrow;
 pub mod buffer;
 #[cfg(test)]
 mod encoder;
@@ -20,3 +23,5 @@ pub mod layout;
 #[cfg(test)]
 mod readme;
 mod slice;
+#[cfg(test)]
+mod words;

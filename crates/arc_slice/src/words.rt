@@ -1,0 +1,37 @@
+//! An example: a line is cut at a separator into two windows on the line's block. Its contract is
+//! found by search, as are those of the functions below it.
+ghost use Rattle.std.specs.Prelude.{◌≡◌, ◌<◌, ◌++◌, ◌∷◌, [], length, IfOk, slice_index_or};
+
+use crate::error::OwnerError;
+use crate::{ArcBytes, ArcStr};
+use std::sync::Wait;
+use std::test::Fail;
+
+/// What is in front of the byte at `at`, and what is behind it.
+fn cut_at(rt: &impl Wait, line: &ArcBytes, at: usize) -> Result<(ArcBytes, ArcBytes), OwnerError>
+    requires { at < length line.now.items }
+    ensures { IfOk result (λ words. line.now.items
+        ≡ words.0.items ++ slice_index_or line.now.items at 0 ∷ words.1.items) }
+{
+    let front = line.try_subslice(rt, 0, at)?;
+    let back = line.try_subslice(rt, at + 1, line.len())?;
+    Ok((front, back))
+}
+
+/// All of the text, which is left empty.
+fn take_all(rt: &impl Wait, text: &mut ArcStr) -> Result<ArcStr, OwnerError>
+    ensures { IfOk result (λ all. (all.items ≡ text.old.items) × (text.new.items ≡ [])) }
+{
+    text.try_split_off(rt, 0)
+}
+
+#[test]
+fn line_cut(rt: HostRuntime) -> Result<(), Fail> {
+    let line = ArcBytes::try_from_slice(rt.alloc(), b"Hello world")?;
+    let (front, back) = cut_at(&rt, &line, 5)?;
+    assert!(rt; front.as_slice() == b"Hello".as_slice() && back.as_slice() == b"world".as_slice());
+    let mut text = ArcStr::try_from_str(rt.alloc(), "Hello")?;
+    let all = take_all(&rt, &mut text)?;
+    assert!(rt; all.as_str() == "Hello" && text.is_empty());
+    Ok(())
+}
