@@ -4,10 +4,10 @@ use Rattle.std.specs.Prelude.{◌≡◌, ℕ, Bool, true, false, Option, Some, N
 use Rattle.arc_owners.specs.declared.error.OwnerError.{OwnerError}
 use Rattle.arc_owners.specs.declared.error.OwnerError.TheVariants.{AllocError, CountFull}
 use Rattle.arc_owners.specs.declared.count.tokens.Pass.{Pass}
-use Rattle.arc_owners.specs.count.Invariant.{Line}
+use Rattle.arc_owners.specs.count.Invariant.{BlockId, Line}
 use Rattle.arc_owners.specs.count.Calls.{Owner, Appends, IsPassOf, IsPassOfNone}
 use Rattle.arc_owners.specs.count.Calls.{IsFirst, IsFreshPass}
-use Rattle.arc_owners.specs.count.Calls.{FindsFull, MakesAnother, Asks}
+use Rattle.arc_owners.specs.count.Calls.{FindsFull, MakesAnother, Asks, EndsByItself, EndsShown}
 use Rattle.arc_block.specs.Block.{Sort}
 use Rattle.arc_block.specs.Place.{Place, nowhere, static_data, on_block, at_owner}
 use Rattle.arc_block.specs.declared.block.TheConstants.{MAX_OWNERS}
@@ -17,6 +17,12 @@ module _ {M H : Type 0} where
   -- a pass of the window's block, or of none
   abbrev pub IsPassAt : Place (Option Owner) M → Pass H → Type 0
   IsPassAt place p = at_owner place (IsPassOfNone p) (λ o. IsPassOf o.block p)
+
+  -- the window's owner ended with a new pass, which this one is afterwards; on no block it is of
+  -- none
+  abbrev pub EndsAt : Place (Option Owner) M → Pass H → Type 0
+  EndsAt place after =
+      at_owner place (IsPassOfNone after) (λ o. (last : Bool) × EndsByItself o after last)
 
   -- a window was made that stands where this one does, as another owner of the same block
   abbrev pub Shares : Place (Option Owner) M → Pass H → Pass H → Place (Option Owner) M → Type 0
@@ -39,6 +45,11 @@ module _ {M H : Type 0} where
   Refuses wants (on_block (Some o) offset facts) old new CountFull = FindsFull o old new
   Refuses wants (on_block (Some o) offset facts) old new AllocError =
       (wants facts.sort ≡ true) × (before : List Line) × Appends o.block old new before []
+
+-- what a drop leaves of the owner that stands at a place, where a block has many passes
+abbrev pub EndsShownAt : {M : Type 0} → (H : Type 0) → (BlockId → ℕ → List Line → Type 0)
+    → Place (Option Owner) M → Type 0
+EndsShownAt H real place = at_owner place (Unit {0}) (λ o. EndsShown H real o)
 
 module _ {T M : Type 0} where
   -- a window was made of a list: on a block it is its first owner

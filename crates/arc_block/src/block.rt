@@ -1,9 +1,10 @@
 //! Blocks: memory that stays where it is while a window stands on it.
-ghost use Rattle.std.specs.Prelude.{◌≡◌, ◌≤◌, ◌↔◌, length, false, IsTrue, IfOk, IfErr};
-ghost use Rattle.std.specs.Prelude.{IfSome, IfNone, replicate};
+ghost use Rattle.std.specs.Prelude.{◌≡◌, ◌≤◌, ◌↔◌, length, true, false, Bool, IsTrue};
+ghost use Rattle.std.specs.Prelude.{IfOk, IfErr, IfSome, IfNone, replicate};
 ghost use Rattle.std.specs.Vec.{vec_capacity, vec_len};
 ghost use Rattle.arc_owners.specs.count.Calls.{IsFirst, IsPassFor, IsFreshPass, IsNewPass, Learns};
 ghost use Rattle.arc_owners.specs.count.Calls.{Asks, FindsFull, MakesAnother, Leaves, TakesBlock};
+ghost use Rattle.arc_owners.specs.count.Calls.{IsPassOfNone, EndsByItself, EndsShown};
 ghost use Rattle.arc_buffer.specs.Slice.{sub};
 ghost use Rattle.arc_block.specs.Block.{native, native_block, IsLimited};
 
@@ -12,6 +13,7 @@ mod sole;
 use arc_buffer::kinds::Slice;
 use arc_memory::{Base, Native};
 use arc_owners::error::{AllocError, CountFull};
+use arc_owners::leave::RaiseLeave;
 use arc_owners::mark::{Mark, Open, Stepping};
 use arc_owners::owners::{CountedBox, Pass};
 pub(crate) use sole::{SoleCount, end_sole, new_count};
@@ -59,7 +61,9 @@ impl<S: Slice, B, M, A: Allocator + Copy, const MAX: u64, H: Mark> Model
 impl<S: Slice, B, M, A: Allocator + Copy, const MAX: u64, H: Mark> Drop
     for Block<S, B, M, A, MAX, H> {
     #[inline(always)]
-    fn drop(self) {
+    fn drop(self)
+        ensures ended { H.whole ≡ false → EndsShown H H.real self.owner }
+    {
         let Block {
             piece,
             base: _,
@@ -237,7 +241,11 @@ impl<S: Slice, B, M, A: Allocator + Copy, const MAX: u64, H: Mark> Block<S, B, M
     ///
     /// Up, or Full where refused.
     #[inline(always)]
-    pub fn try_share_once_as(&self, pass: &mut Pass<H>) -> Option<Result<Self, CountFull>>
+    pub fn try_share_once_as(
+        &self,
+        leave: RaiseLeave,
+        pass: &mut Pass<H>,
+    ) -> Option<Result<Self, CountFull>>
         requires pass { IsPassFor self.now.owner pass.old }
         ensures made { IfSome result (λ r. IfOk r (λ other.
             MakesAnother self.now.owner pass.old pass.new other.owner)) }
@@ -249,7 +257,7 @@ impl<S: Slice, B, M, A: Allocator + Copy, const MAX: u64, H: Mark> Block<S, B, M
     {
         let base = Base { at: self.base.at };
         let of = PhantomData;
-        match self.piece.try_clone_once_as(pass)? {
+        match self.piece.try_clone_once_as(leave, pass)? {
             Ok(piece) => Some(Ok(Block { piece, base, of })),
             Err(e) => Some(Err(e)),
         }
@@ -335,6 +343,24 @@ impl<S: Slice, B, M, A: Allocator + Copy, const MAX: u64, H: Mark> Block<S, B, M
             }
             None => false,
         }
+    }
+
+    /// What a drop does: under `Open` this owner ends with a new pass, and the last one gives the
+    /// block back; under `Whole` it is forgotten, without a step. Takes no memory. The pass is the
+    /// one that the owner ended with; under `Whole` it is of no block.
+    #[inline(always)]
+    pub fn let_go(self) -> Pass<H>
+        ensures forgotten { H.whole ≡ true → IsPassOfNone result }
+        ensures ended { H.whole ≡ false → (last : Bool) × EndsByItself self.owner result last }
+    {
+        let Block {
+            piece,
+            base: _,
+            of: _,
+        } = self;
+        let (native, pass) = piece.let_go();
+        drop(native);
+        pass
     }
 
     /// Afterwards the first pass has seen at least what the other had. It adds no entry and takes

@@ -10,7 +10,7 @@ ghost use Rattle.arc_block.specs.Block.{native_block};
 ghost use Rattle.arc_block.specs.Place.{nowhere, static_data, moved};
 ghost use Rattle.arc_block.specs.Table.{reader};
 ghost use Rattle.arc_block.specs.Window.{window_of, NeedsBlock};
-ghost use Rattle.arc_block.specs.Steps.{Makes, Begins};
+ghost use Rattle.arc_block.specs.Steps.{Makes, Begins, EndsShownAt};
 
 use crate::block::{Block, MAX_OWNERS};
 use crate::layout::{Layout, stands_on_nothing};
@@ -56,7 +56,9 @@ impl<S: Slice, B, M, A: Allocator + Copy, H: Mark> Model for Parts<S, B, M, A, H
 
 impl<S: Slice, B, M, A: Allocator + Copy, H: Mark> Drop for Parts<S, B, M, A, H> {
     #[inline(always)]
-    fn drop(self) {
+    fn drop(self)
+        ensures ended { H.whole ≡ false → EndsShownAt H H.real self.place }
+    {
         let Parts {
             on,
             start: _,

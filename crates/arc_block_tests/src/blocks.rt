@@ -5,6 +5,7 @@ ghost use Rattle.arc_owners.specs.count.Calls.{IsPassFor, MakesAnother};
 use arc_block::block::Block;
 use arc_buffer::kinds::Plain;
 use arc_owners::error::{AllocError, CountFull};
+use arc_owners::leave::RaiseLeave;
 use arc_owners::mark::Open;
 use arc_owners::owners::Pass;
 use linked_list_allocator::LocalHeap;
@@ -16,13 +17,17 @@ use std::thread;
 type Bytes<A> = Block<Plain<u8>, Vec<u8>, (), A, 3, Open>;
 
 /// Another owner of a block on which no other thread steps, so that one attempt is enough.
-fn shared<A: Allocator + Copy>(block: &Bytes<A>, pass: &mut Pass<Open>) -> Result<Bytes<A>, Fail>
+fn shared<A: Allocator + Copy>(
+    leave: RaiseLeave,
+    block: &Bytes<A>,
+    pass: &mut Pass<Open>,
+) -> Result<Bytes<A>, Fail>
     requires { IsPassFor block.now.owner pass.old }
     ensures made { IfOk result (λ other.
         MakesAnother block.now.owner pass.old pass.new other.owner) }
     ensures items { IfOk result (λ other. other.items ≡ block.now.items) }
 {
-    match block.try_share_once_as(pass) {
+    match block.try_share_once_as(leave, pass) {
         Some(made) => Ok(made?),
         None => Err("another thread came between".into()),
     }
@@ -30,25 +35,27 @@ fn shared<A: Allocator + Copy>(block: &Bytes<A>, pass: &mut Pass<Open>) -> Resul
 
 #[test]
 fn shared_up_to_three(rt: HostRuntime) -> Result<(), Fail> {
+    let leave = RaiseLeave::of(&rt);
     let (first, mut pass) = Bytes::try_from_slice(rt.alloc(), b"Hello")?;
     assert!(rt; first.range(0, 5) == b"Hello".as_slice());
     assert!(rt; first.size() == 5);
     assert!(rt; first.is_unique_as(&mut pass));
-    let second = shared(&first, &mut pass)?;
-    let third = shared(&second, &mut pass)?;
-    assert!(rt; matches!(third.try_share_once_as(&mut pass), Some(Err(CountFull))));
+    let second = shared(leave, &first, &mut pass)?;
+    let third = shared(leave, &second, &mut pass)?;
+    assert!(rt; matches!(third.try_share_once_as(leave, &mut pass), Some(Err(CountFull))));
     assert!(rt; !first.is_unique_as(&mut pass));
     assert!(rt; !first.release_as(&mut pass));
-    let fourth = shared(&third, &mut pass)?;
+    let fourth = shared(leave, &third, &mut pass)?;
     assert!(rt; fourth.size() == 5);
     Ok(())
 }
 
 #[test]
 fn last_of_three_releases(rt: HostRuntime) -> Result<(), Fail> {
+    let leave = RaiseLeave::of(&rt);
     let (first, mut pass) = Bytes::try_from_slice(rt.alloc(), b"Hello")?;
-    let second = shared(&first, &mut pass)?;
-    let third = shared(&second, &mut pass)?;
+    let second = shared(leave, &first, &mut pass)?;
+    let third = shared(leave, &second, &mut pass)?;
     assert!(rt; !first.release_as(&mut pass));
     assert!(rt; !second.release_as(&mut pass));
     assert!(rt; third.is_unique_as(&mut pass));
@@ -59,8 +66,9 @@ fn last_of_three_releases(rt: HostRuntime) -> Result<(), Fail> {
 
 #[test]
 fn items_taken_back_where_alone(rt: HostRuntime) -> Result<(), Fail> {
+    let leave = RaiseLeave::of(&rt);
     let (first, mut pass) = Bytes::try_from_slice(rt.alloc(), b"Hello")?;
-    let second = shared(&first, &mut pass)?;
+    let second = shared(leave, &first, &mut pass)?;
     let Err(first) = first.try_into_items_as(&mut pass) else {
         return Err("beside another owner".into());
     };
@@ -78,8 +86,9 @@ fn items_taken_back_where_alone(rt: HostRuntime) -> Result<(), Fail> {
 /// An owner that another thread ends is asked by both threads before.
 #[test]
 fn shared_by_two_threads(rt: HostRuntime) -> Result<(), Fail> {
+    let leave = RaiseLeave::of(&rt);
     let (first, mut pass) = Bytes::try_from_slice(rt.alloc(), b"Hello")?;
-    let second = shared(&first, &mut pass)?;
+    let second = shared(leave, &first, &mut pass)?;
     let (one, two) = thread::join(&rt, || first.size(), move || second.size());
     assert!(rt; (one, two) == (5, 5));
     assert!(rt; first.is_unique_as(&mut pass));
@@ -91,12 +100,12 @@ const SEVENS: [u8; 40] = [7; 40];
 
 /// A block whose first owner is dropped, and whose second one is released: whether it stays as it
 /// is till then. None is made where there is no memory.
-fn made_and_ended(heap: &LocalHeap) -> Result<Option<bool>, Fail> {
+fn made_and_ended(leave: RaiseLeave, heap: &LocalHeap) -> Result<Option<bool>, Fail> {
     let (block, mut pass) = match Bytes::try_from_slice(heap, &SEVENS) {
         Ok(made) => made,
         Err(AllocError) => return Ok(None),
     };
-    let other = shared(&block, &mut pass)?;
+    let other = shared(leave, &block, &mut pass)?;
     let taken = heap.used();
     drop(block);
     let left = heap.used();
@@ -108,13 +117,14 @@ fn made_and_ended(heap: &LocalHeap) -> Result<Option<bool>, Fail> {
 /// count beside them, and then it has. All memory is given back each time.
 #[test]
 fn memory_refused(rt: HostRuntime) -> Result<(), Fail> {
+    let leave = RaiseLeave::of(&rt);
     let mut refused_items = 0u64;
     let mut refused_count = 0u64;
     let mut made = 0u64;
     for blocks in 2..16usize {
         let heap = LocalHeap::new(rt.alloc(), blocks * 16)?;
         let has_room = Vec::from_slice(&heap, &SEVENS).is_ok();
-        match made_and_ended(&heap)? {
+        match made_and_ended(leave, &heap)? {
             Some(is_kept) => {
                 assert!(rt; is_kept);
                 made = made.saturating_add(1);

@@ -6,9 +6,11 @@ use arc_block::layout::DefaultLayout;
 use arc_block::parts::{Parts, SoleParts};
 use arc_buffer::kinds::{Owned, Plain};
 use arc_owners::error::TryReserveError;
+use arc_owners::leave::RaiseLeave;
 use arc_owners::owners::Pass;
 use linked_list_allocator::LocalHeap;
 use std::alloc::Allocator;
+use std::sync::Wait;
 use std::test::Fail;
 
 type Writer<A> = SoleParts<Plain<u8>, Vec<u8>, (), A>;
@@ -45,12 +47,12 @@ fn reserve<A: Allocator + Copy>(
 }
 
 /// Another reader of parts on which no other thread steps, so that one attempt is enough.
-fn shared<A: Allocator + Copy>(reader: &Reader<A>) -> Result<Reader<A>, Fail>
+fn shared<A: Allocator + Copy>(rt: &impl Wait, reader: &Reader<A>) -> Result<Reader<A>, Fail>
     requires { reader.now.role ≡ reader_only }
     ensures { IfOk result (λ other. other.role ≡ reader_only) }
 {
     let mut pass = reader.pass();
-    match reader.try_clone_once_as::<DefaultLayout>(&mut pass) {
+    match reader.try_clone_once_as::<DefaultLayout>(RaiseLeave::of(rt), &mut pass) {
         Some(made) => Ok(made?),
         None => Err("another thread came between".into()),
     }
@@ -122,7 +124,7 @@ fn too_much_room_is_refused(rt: HostRuntime) -> Result<(), Fail> {
 #[test]
 fn written_again_after_freezing(rt: HostRuntime) -> Result<(), Fail> {
     let reader = bytes(rt.alloc(), &[1, 2])?.freeze();
-    let other = shared(&reader)?;
+    let other = shared(&rt, &reader)?;
     let Err(reader) = alone(reader) else {
         return Err("another owner lives".into());
     };

@@ -4,6 +4,7 @@
 mod count;
 pub mod error;
 mod history;
+pub mod leave;
 pub mod lend;
 pub mod lifetime;
 pub mod mark;

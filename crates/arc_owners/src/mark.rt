@@ -12,7 +12,12 @@ use crate::count::word::{EndTokens, OwnerToken, PassState, Word, WordBorrow};
 mod sealed {
     /// What no other crate can give a type.
     pub trait Sealed {}
+
+    /// What no other crate can name or make, so that a call which takes one is this crate's alone.
+    pub struct Internal;
 }
+
+pub(crate) use sealed::Internal;
 
 /// A mark of windows and of what they stand on: `Open` or `Whole`.
 pub trait Mark: sealed::Sealed {
@@ -25,8 +30,8 @@ pub trait Mark: sealed::Sealed {
     ghost real: { BlockId → ℕ → List Line → Type 0 };
 
     /// The word of a new block, its first owner's right and the first pass. The block is lent to
-    /// that owner, or not.
-    fn open(most: u64, lent: bool) -> (Word, OwnerToken<Self>, PassState)
+    /// that owner, or not. Only this crate can call it, so only its counts have tokens of a mark.
+    fn open(by: Internal, most: u64, lent: bool) -> (Word, OwnerToken<Self>, PassState)
         requires { 1 ≤ most }
         ensures { IsOpened most Self.whole lent result.0 result.1 result.2 };
 
@@ -84,7 +89,8 @@ impl Mark for Open {
 
     ghost real = { λ _ _ _. Unit {0} };
 
-    fn open(most: u64, lent: bool) -> (Word, OwnerToken<Self>, PassState) {
+    fn open(by: Internal, most: u64, lent: bool) -> (Word, OwnerToken<Self>, PassState) {
+        let Internal = by;
         Word::open(most, false, lent)
     }
 
@@ -148,7 +154,8 @@ impl Mark for Whole {
 
     ghost real = { λ _ _ _. Unit {0} };
 
-    fn open(most: u64, lent: bool) -> (Word, OwnerToken<Self>, PassState) {
+    fn open(by: Internal, most: u64, lent: bool) -> (Word, OwnerToken<Self>, PassState) {
+        let Internal = by;
         Word::open(most, true, lent)
     }
 

@@ -1,6 +1,7 @@
 //! `ArcSlice`, a window that is read.
-ghost use Rattle.std.specs.Prelude.{◌≡◌, []};
+ghost use Rattle.std.specs.Prelude.{◌≡◌, [], false};
 ghost use Rattle.arc_block.specs.Place.{nowhere};
+ghost use Rattle.arc_block.specs.Steps.{EndsShownAt};
 ghost use Rattle.arc_block.specs.Table.{reader};
 ghost use Rattle.arc_block.specs.Window.{IsHeld, parts_of, window_of};
 
@@ -49,7 +50,9 @@ impl<S: Slice, L: Layout, B, M, A: Allocator + Copy, H: Mark> Model for ArcSlice
 
 impl<S: Slice, L: Layout, B, M, A: Allocator + Copy, H: Mark> Drop for ArcSlice<S, L, B, M, A, H> {
     #[inline(always)]
-    fn drop(self) {
+    fn drop(self)
+        ensures ended { H.whole ≡ false → EndsShownAt H H.real self.place }
+    {
         let ArcSlice { parts, of: _ } = self;
         drop(parts);
     }

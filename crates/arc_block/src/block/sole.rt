@@ -4,6 +4,7 @@
 //! Meanwhile the memory of the count holds none of them.
 ghost use Rattle.std.specs.Prelude.{◌≡◌, ◌≤◌, true, false, is_ok, IfOk, IfErr};
 ghost use Rattle.arc_owners.specs.count.Calls.{IsFirst, IsPassFor, IsFreshPass, Asks};
+ghost use Rattle.arc_owners.specs.count.Calls.{IsPassOfNone, EndsByItself};
 ghost use Rattle.arc_owners.specs.memory.SoleBoxes.{sole_in};
 ghost use Rattle.arc_block.specs.Block.{held_as, IsLimited};
 
@@ -46,30 +47,23 @@ pub(crate) fn new_count<T: Drop, A: Allocator + Copy, const MAX: u64, H: Mark>(
     }
 }
 
-/// Lets an owner go whose value is elsewhere, and answers whether it ended: under `Open` it does,
-/// with a new pass, and under `Whole` it is forgotten.
-fn let_go<V: Drop, A: Allocator + Copy, const MAX: u64, H: Mark>(
-    count: SoleBox<V, A, MAX, H>,
-) -> bool
-    ensures open { H.whole ≡ false → result ≡ true }
-    ensures forgotten { H.whole ≡ true → result ≡ false }
-{
-    let (value, pass) = count.let_go();
-    drop(pass);
-    value.is_some()
-}
-
 /// What a drop does: under `Open` the owner ends with a new pass, and its items are dropped; under
-/// `Whole` both are forgotten.
+/// `Whole` it is forgotten, and so are its items, which stay where they are. The pass is the one
+/// that the owner ended with; under `Whole` it is of no block.
 pub(crate) fn end_sole<T: Drop, A: Allocator + Copy, const MAX: u64, H: Mark>(
     count: SoleCount<T, A, MAX, H>,
     items: Vec<T, A>,
-) {
-    if let_go(count) {
+) -> Pass<H>
+    ensures forgotten { H.whole ≡ true → IsPassOfNone result }
+    ensures ended { H.whole ≡ false → EndsByItself (sole_in count) result true }
+{
+    let (value, pass) = count.let_go();
+    if value.is_some() {
         drop(items);
     } else {
         mem::forget(items);
     }
+    pass
 }
 
 impl<S: Slice, B, M, A: Allocator + Copy, const MAX: u64, H: Mark> Block<S, B, M, A, MAX, H> {

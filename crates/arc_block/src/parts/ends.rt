@@ -1,10 +1,10 @@
 //! Ends of parts: what is taken back, and what is let go.
-ghost use Rattle.std.specs.Prelude.{◌≡◌, ◌↔◌, Bool, IfOk, IfErr, IsTrue};
-ghost use Rattle.arc_owners.specs.count.Calls.{AsksAndLeaves, Leaves, TakesBlock};
+ghost use Rattle.std.specs.Prelude.{◌≡◌, ◌↔◌, Bool, true, false, IfOk, IfErr, IsTrue};
+ghost use Rattle.arc_owners.specs.count.Calls.{AsksAndLeaves, Leaves, TakesBlock, IsPassOfNone};
 ghost use Rattle.arc_block.specs.Place.{IsOnBlock, at_owner};
 ghost use Rattle.arc_block.specs.Table.{reader};
 ghost use Rattle.arc_block.specs.Window.{IsWholeOf, window_of};
-ghost use Rattle.arc_block.specs.Steps.{IsPassAt, RefusesArray};
+ghost use Rattle.arc_block.specs.Steps.{IsPassAt, RefusesArray, EndsAt};
 
 use super::Parts;
 use super::storage::Storage;
@@ -91,6 +91,30 @@ impl<S: Slice, B, M, A: Allocator + Copy, H: Mark> Parts<S, B, M, A, H> {
         } = self;
         if let Storage::Block(block) = on {
             let _ = block.release_as(pass);
+        }
+    }
+
+    /// What a drop does: under `Open` the owner ends with a new pass, and the last one gives the
+    /// block back; under `Whole` it is forgotten, without a step. The pass is the one that the
+    /// owner ended with; on no block, and under `Whole`, it is of none.
+    ///
+    /// # History
+    ///
+    /// On a block Down under `Open`, and nothing under `Whole`.
+    #[inline(always)]
+    pub fn let_go(self) -> Pass<H>
+        ensures forgotten { H.whole ≡ true → IsPassOfNone result }
+        ensures ended { H.whole ≡ false → EndsAt self.place result }
+    {
+        let Parts {
+            on,
+            start: _,
+            end: _,
+            alloc: _,
+        } = self;
+        match on {
+            Storage::Block(block) => block.let_go(),
+            _ => Pass::none(),
         }
     }
 

@@ -13,6 +13,7 @@ use crate::block::max_owners;
 use crate::layout::{Layout, stands_on_nothing};
 use arc_buffer::kinds::Slice;
 use arc_owners::error::OwnerError;
+use arc_owners::leave::RaiseLeave;
 use arc_owners::mark::{Mark, Stepping};
 use arc_owners::owners::Pass;
 use std::alloc::Allocator;
@@ -32,6 +33,7 @@ impl<S: Slice, B, M, A: Allocator + Copy, H: Mark> Parts<S, B, M, A, H> {
     #[inline(always)]
     pub fn try_clone_once_as<L: Layout>(
         &self,
+        leave: RaiseLeave,
         pass: &mut Pass<H>,
     ) -> Option<Result<Self, OwnerError>>
         requires role { self.now.role ≡ reader }
@@ -46,7 +48,7 @@ impl<S: Slice, B, M, A: Allocator + Copy, H: Mark> Parts<S, B, M, A, H> {
         ensures again { IfNone result (pass.new ≡ pass.old) }
     {
         let on = match &self.on {
-            Storage::Block(block) => match block.try_share_once_as(pass)? {
+            Storage::Block(block) => match block.try_share_once_as(leave, pass)? {
                 Ok(block) => Storage::Block(block),
                 Err(e) => return Some(Err(e.into())),
             },
@@ -75,6 +77,7 @@ impl<S: Slice, B, M, A: Allocator + Copy, H: Mark> Parts<S, B, M, A, H> {
     #[inline(always)]
     pub fn try_part_once_as<L: Layout>(
         &self,
+        leave: RaiseLeave,
         start: usize,
         end: usize,
         pass: &mut Pass<H>,
@@ -101,7 +104,7 @@ impl<S: Slice, B, M, A: Allocator + Copy, H: Mark> Parts<S, B, M, A, H> {
             return Some(Ok(Self::on_nothing(self.alloc)));
         }
         match &self.on {
-            Storage::Block(block) => match block.try_share_once_as(pass)? {
+            Storage::Block(block) => match block.try_share_once_as(leave, pass)? {
                 Ok(block) => Some(Ok(Parts {
                     on: Storage::Block(block),
                     start: self.start + start,

@@ -10,7 +10,7 @@ ghost use Rattle.arc_block.specs.declared.parts.room.Room.TheVariants.{Front, Gr
 ghost use Rattle.arc_block.specs.Block.{IsLimited};
 ghost use Rattle.arc_block.specs.Place.{nowhere};
 ghost use Rattle.arc_block.specs.Room.{IfSpare, IfFresh, IfBehind, IfGrowth, IfFront};
-ghost use Rattle.arc_block.specs.Steps.{IsPassAt};
+ghost use Rattle.arc_block.specs.Steps.{IsPassAt, EndsShownAt};
 ghost use Rattle.arc_block.specs.Table.{sole_writer};
 ghost use Rattle.arc_block.specs.Writers.{capacity_of, room_for, sole_part, with_room};
 ghost use Rattle.arc_block.specs.Writers.{IsNewWriter, MakesWriter, MakesRoom, CanGrow};
@@ -61,7 +61,9 @@ impl<S: Slice, B, M, A: Allocator + Copy, H: Mark> Model for SoleParts<S, B, M, 
 }
 
 impl<S: Slice, B, M, A: Allocator + Copy, H: Mark> Drop for SoleParts<S, B, M, A, H> {
-    fn drop(self) {
+    fn drop(self)
+        ensures ended { H.whole ≡ false → EndsShownAt H H.real self.place }
+    {
         let SoleParts {
             count,
             items,
@@ -71,7 +73,7 @@ impl<S: Slice, B, M, A: Allocator + Copy, H: Mark> Drop for SoleParts<S, B, M, A
             of: _,
         } = self;
         match count {
-            Some(count) => end_sole(count, items),
+            Some(count) => end_sole(count, items).show(),
             None => drop(items),
         }
         drop(alloc);

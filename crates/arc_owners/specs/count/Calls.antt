@@ -185,6 +185,15 @@ module _ {H : Type 0} where
     pub made : IsNewPass o new
     pub left : Leaves o new after last
 
+-- What a drop leaves of an owner where a block has many passes: it ended with a new pass, and the
+-- pass is one that is there, which has seen that.
+pub record EndsShown (H : Type 0) (real : BlockId → ℕ → List Line → Type 0) (o : Owner)
+    : Type 0 where
+  pub after : Pass H
+  pub last : Bool
+  pub ended : EndsByItself o after last
+  pub there : IsOfBlock after → real (pass_block after) (pass_number after) (history_of after)
+
 -- the first owner of a block that so many owners may have at most, under a mark. Its word has a
 -- count
 pub record IsFirst (greatest : ℕ) (one_pass : Bool) (o : Owner) : Type 0 where

@@ -12,7 +12,8 @@ ghost use Rattle.arc_owners.specs.count.Releases.{is_last, IfLast};
 use super::tokens::{LifetimeEnd, Owners, Pass, Release, Share, Sole};
 use super::word::{EndTokens, OwnerToken, Word};
 use crate::error::CountFull;
-use crate::mark::Mark;
+use crate::leave::RaiseLeave;
+use crate::mark::{Internal, Mark};
 use std::marker::PhantomData;
 use std::sync::Wait;
 
@@ -21,6 +22,7 @@ use std::sync::Wait;
 #[inline(always)]
 pub(crate) fn try_up<H: Mark>(
     word: &Word,
+    leave: RaiseLeave,
     most: u64,
     by: &Share<H>,
     pass: &mut Pass<H>,
@@ -42,7 +44,7 @@ pub(crate) fn try_up<H: Mark>(
     }
     let mut new = OwnerToken::none();
     let next = old.wrapping_add(1);
-    let found = word.compare_exchange(&by.right, &mut pass.trace, &mut new, old, next);
+    let found = word.raise(leave, &by.right, &mut pass.trace, &mut new, old, next);
     if found != old {
         return None;
     }
@@ -77,7 +79,7 @@ impl<const MAX: u64, H: Mark> Owners<MAX, H> {
         ensures first { IsFirst MAX H.whole (owner_of result.1) }
         ensures pass { IsFreshPass (owner_of result.1) result.2 }
     {
-        let (word, right, trace) = H::open(MAX, true);
+        let (word, right, trace) = H::open(Internal, MAX, true);
         (
             Owners {
                 word,
@@ -139,8 +141,9 @@ impl<const MAX: u64, H: Mark> Owners<MAX, H> {
         ensures full { IfErr result (λ _. FindsFull (owner_of by.now) pass.old pass.new) }
         ensures step { EndsInOneStep (block_of self.now) (history_of pass.new) }
     {
+        let leave = RaiseLeave::of(rt);
         for _ in rt.forever() {
-            if let Some(made) = try_up(&self.word, MAX, by, pass) {
+            if let Some(made) = try_up(&self.word, leave, MAX, by, pass) {
                 return made;
             }
         }

@@ -12,6 +12,7 @@ use super::sole::claimed;
 use super::tokens::{LifetimeEnd, Owners, Pass, Release, Share, Sole};
 use super::word::{EndTokens, Word, WordBorrow};
 use crate::error::CountFull;
+use crate::leave::RaiseLeave;
 use crate::mark::Mark;
 
 impl<const MAX: u64, H: Mark> Owners<MAX, H> {
@@ -23,6 +24,7 @@ impl<const MAX: u64, H: Mark> Owners<MAX, H> {
     /// The word lies at this place for as long as the block is lent: the borrow says so.
     #[inline(always)]
     pub unsafe fn try_up_raw(
+        leave: RaiseLeave,
         place: *const u64,
         lodging: &WordBorrow,
         by: &Share<H>,
@@ -40,7 +42,7 @@ impl<const MAX: u64, H: Mark> Owners<MAX, H> {
         ensures again { IfNone result (pass.new ≡ pass.old) }
     {
         let word = unsafe { lodging.word(place, &by.right) };
-        try_up(word, MAX, by, pass)
+        try_up(word, leave, MAX, by, pass)
     }
 
     /// `alone_as` on the place of the word.

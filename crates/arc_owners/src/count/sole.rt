@@ -8,7 +8,7 @@ ghost use Rattle.arc_owners.specs.count.Calls.{EndsWithoutStep, history_of};
 
 use super::tokens::{LifetimeEnd, Owners, Pass, Share, Sole};
 use super::word::{EndTokens, OwnerToken};
-use crate::mark::Mark;
+use crate::mark::{Internal, Mark};
 use std::marker::PhantomData;
 
 /// What an owner has that asked for the block back, and found this number.
@@ -52,7 +52,7 @@ impl<const MAX: u64, H: Mark> Owners<MAX, H> {
         ensures pass { IsFreshPass (sole_owner result.1) result.2 }
         ensures alone { LivesAlone (sole_owner result.1).number (seen result.2) }
     {
-        let (word, right, trace) = H::open(MAX, false);
+        let (word, right, trace) = H::open(Internal, MAX, false);
         (
             Owners {
                 word,

@@ -12,6 +12,7 @@ ghost use Rattle.arc_owners.specs.count.Invariant.{right_owns, right_shares, tra
 ghost use Rattle.arc_owners.specs.count.Invariant.{trace_shares, end_tokens, word_borrow};
 
 use super::owner_without_lifetime::OwnerWithoutLifetime;
+use crate::leave::RaiseLeave;
 use crate::lifetime::LifetimeToken;
 use crate::mark::Open;
 use atomic_table::exchange;
@@ -141,8 +142,29 @@ impl Word {
         unsafe { raw::load::<Brand>(self as *const Self as *const u64, SeqCst) }
     }
 
-    /// The number found, which has become `next` if it was `old`, and then there is a new owner.
-    pub(crate) fn compare_exchange<H>(
+    /// The number found, which has become `next` if it was `old`, and then there is a new owner. It
+    /// is for who has leave to raise a count.
+    #[inline(always)]
+    pub(crate) fn raise<H>(
+        &self,
+        leave: RaiseLeave,
+        by: &OwnerToken<H>,
+        pass: &mut PassState,
+        new: &mut OwnerToken<H>,
+        old: u64,
+        next: u64,
+    ) -> u64
+        requires { IsHeld self.now by.now × IsOf self.now pass.old × (old ≢ self.now.most)
+            × IsNext old next }
+        ensures { SamePass self.now pass.old pass.new
+            × RaisedIf self.now pass.old pass.new by.now new.new (result == old) }
+    {
+        let _ = leave;
+        self.compare_exchange(by, pass, new, old, next)
+    }
+
+    /// The same, asking for no leave: `raise` alone calls it.
+    fn compare_exchange<H>(
         &self,
         by: &OwnerToken<H>,
         pass: &mut PassState,

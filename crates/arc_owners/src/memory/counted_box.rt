@@ -10,6 +10,7 @@ use super::sole_box::SoleBox;
 use crate::count::tokens::{LifetimeEnd, Owners, Pass, Release, Share};
 use crate::count::word::WordBorrow;
 use crate::error::CountFull;
+use crate::leave::RaiseLeave;
 use crate::lifetime::{EndedLifetime, LifetimeToken};
 use crate::mark::{Mark, Open, Stepping};
 use std::alloc::{Allocator, Global};
@@ -350,7 +351,11 @@ impl<V: Drop, A: Allocator + Copy, const MAX: u64, H: Mark> CountedBox<V, A, MAX
     ///
     /// Up, or Full where refused.
     #[inline(always)]
-    pub fn try_clone_once_as(&self, pass: &mut Pass<H>) -> Option<Result<Self, CountFull>>
+    pub fn try_clone_once_as(
+        &self,
+        leave: RaiseLeave,
+        pass: &mut Pass<H>,
+    ) -> Option<Result<Self, CountFull>>
         requires pass { IsPassFor (owner_in self.now) pass.old }
         ensures made { IfSome result (λ r. IfOk r (λ piece.
             MakesAnother (owner_in self.now) pass.old pass.new (owner_in piece)
@@ -362,7 +367,8 @@ impl<V: Drop, A: Allocator + Copy, const MAX: u64, H: Mark> CountedBox<V, A, MAX
         ensures again { IfNone result (pass.new ≡ pass.old) }
     {
         let word = Inner::word_place(self.memory.at);
-        match unsafe { Owners::<MAX, H>::try_up_raw(word, &self.lodging, &self.share, pass) } {
+        let (lodging, share) = (&self.lodging, &self.share);
+        match unsafe { Owners::<MAX, H>::try_up_raw(leave, word, lodging, share, pass) } {
             Some(Ok(share)) => Some(Ok(CountedBox {
                 memory: self.memory.again(),
                 lodging: self.lodging.again(),
@@ -394,8 +400,9 @@ impl<V: Drop, A: Allocator + Copy, const MAX: u64, H: Mark> CountedBox<V, A, MAX
         ensures lent { IfOk result (λ piece. lifetime_in piece ≡ lifetime_in self.now) }
         ensures full { IfErr result (λ _. FindsFull (owner_in self.now) pass.old pass.new) }
     {
+        let leave = RaiseLeave::of(rt);
         for _ in rt.forever() {
-            if let Some(made) = self.try_clone_once_as(pass) {
+            if let Some(made) = self.try_clone_once_as(leave, pass) {
                 return made;
             }
         }
@@ -421,10 +428,16 @@ impl<V: Drop, A: Allocator + Copy, const MAX: u64, H: Stepping> CountedBox<V, A,
 }
 
 impl<V: Drop, A: Allocator + Copy, const MAX: u64, H: Mark> Drop for CountedBox<V, A, MAX, H> {
-    fn drop(self) {
+    ghost use Rattle.std.specs.Prelude.{◌≡◌, false};
+    ghost use Rattle.arc_owners.specs.count.Calls.{EndsShown};
+    ghost use Rattle.arc_owners.specs.memory.Boxes.{owner_in};
+
+    fn drop(self)
+        ensures ended { H.whole ≡ false → EndsShown H H.real (owner_in self) }
+    {
         let (value, pass) = self.let_go();
         drop(value);
-        drop(pass);
+        pass.show();
     }
 }
 

@@ -180,9 +180,15 @@ impl<V: Drop, A: Allocator + Copy, const MAX: u64, H: Stepping> SoleBox<V, A, MA
 }
 
 impl<V: Drop, A: Allocator + Copy, const MAX: u64, H: Mark> Drop for SoleBox<V, A, MAX, H> {
-    fn drop(self) {
+    ghost use Rattle.std.specs.Prelude.{◌≡◌, false};
+    ghost use Rattle.arc_owners.specs.count.Calls.{EndsShown};
+    ghost use Rattle.arc_owners.specs.memory.SoleBoxes.{sole_in};
+
+    fn drop(self)
+        ensures ended { H.whole ≡ false → EndsShown H H.real (sole_in self) }
+    {
         let (value, pass) = self.let_go();
         drop(value);
-        drop(pass);
+        pass.show();
     }
 }

@@ -10,6 +10,7 @@ use super::ArcSlice;
 use arc_block::layout::Layout;
 use arc_buffer::kinds::{Slice, Subsliceable};
 use arc_owners::error::OwnerError;
+use arc_owners::leave::RaiseLeave;
 use arc_owners::mark::Mark;
 use arc_owners::owners::Pass;
 use std::alloc::Allocator;
@@ -20,7 +21,11 @@ impl<S: Slice, L: Layout, B, M, A: Allocator + Copy, H: Mark> ArcSlice<S, L, B, 
     /// a block's owner can meet, and then no entry is added.
     #[tactic(auto, using(arc_block::proofs::Held::shared_held))]
     #[inline(always)]
-    fn try_clone_once_as(&self, pass: &mut Pass<H>) -> Option<Result<Self, OwnerError>>
+    fn try_clone_once_as(
+        &self,
+        leave: RaiseLeave,
+        pass: &mut Pass<H>,
+    ) -> Option<Result<Self, OwnerError>>
         requires pass { IsPassAt self.now.place pass.old }
         ensures items { IfSome result (λ r. IfOk r (λ window. window.items ≡ self.now.items)) }
         ensures place { IfSome result (λ r. IfOk r (λ window.
@@ -30,7 +35,7 @@ impl<S: Slice, L: Layout, B, M, A: Allocator + Copy, H: Mark> ArcSlice<S, L, B, 
         ensures owned { IfNone result (at_owner self.now.place ⊥ (λ _. Unit {0})) }
         ensures again { IfNone result (pass.new ≡ pass.old) }
     {
-        match self.parts.try_clone_once_as::<L>(pass)? {
+        match self.parts.try_clone_once_as::<L>(leave, pass)? {
             Ok(parts) => Some(Ok(Self::from_parts(parts))),
             Err(e) => Some(Err(e)),
         }
@@ -61,12 +66,13 @@ impl<S: Slice, L: Layout, B, M, A: Allocator + Copy, H: Mark> ArcSlice<S, L, B, 
         ensures refused { IfErr result (λ e.
             Refuses L.clone_wants self.now.place pass.old pass.new e) }
     {
+        let leave = RaiseLeave::of(rt);
         // The first attempt stands apart, so that where it succeeds nothing of the loop is run.
-        if let Some(made) = self.try_clone_once_as(pass) {
+        if let Some(made) = self.try_clone_once_as(leave, pass) {
             return made;
         }
         for _ in rt.forever() {
-            if let Some(made) = self.try_clone_once_as(pass) {
+            if let Some(made) = self.try_clone_once_as(leave, pass) {
                 return made;
             }
         }
@@ -78,6 +84,7 @@ impl<S: Slice, L: Layout, B, M, A: Allocator + Copy, H: Mark> ArcSlice<S, L, B, 
     #[inline(always)]
     fn try_subslice_once_as(
         &self,
+        leave: RaiseLeave,
         start: usize,
         end: usize,
         pass: &mut Pass<H>,
@@ -96,7 +103,7 @@ impl<S: Slice, L: Layout, B, M, A: Allocator + Copy, H: Mark> ArcSlice<S, L, B, 
             (at_owner (sub_place L.STATIC self.now start end) ⊥ (λ _. Unit {0})) }
         ensures again { IfNone result (pass.new ≡ pass.old) }
     {
-        match self.parts.try_part_once_as::<L>(start, end, pass)? {
+        match self.parts.try_part_once_as::<L>(leave, start, end, pass)? {
             Ok(parts) => Some(Ok(Self::from_parts(parts))),
             Err(e) => Some(Err(e)),
         }
@@ -137,11 +144,12 @@ impl<S: Slice, L: Layout, B, M, A: Allocator + Copy, H: Mark> ArcSlice<S, L, B, 
         ensures refused { IfErr result (λ e.
             Refuses L.clone_wants (sub_place L.STATIC self.now start end) pass.old pass.new e) }
     {
-        if let Some(made) = self.try_subslice_once_as(start, end, pass) {
+        let leave = RaiseLeave::of(rt);
+        if let Some(made) = self.try_subslice_once_as(leave, start, end, pass) {
             return made;
         }
         for _ in rt.forever() {
-            if let Some(made) = self.try_subslice_once_as(start, end, pass) {
+            if let Some(made) = self.try_subslice_once_as(leave, start, end, pass) {
                 return made;
             }
         }

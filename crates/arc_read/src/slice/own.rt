@@ -1,9 +1,9 @@
 //! Owners of a read window's block, and ends of the window.
-ghost use Rattle.std.specs.Prelude.{◌≡◌, Bool, false, IfOk, IfErr};
+ghost use Rattle.std.specs.Prelude.{◌≡◌, Bool, true, false, IfOk, IfErr};
 ghost use Rattle.arc_block.specs.Block.{IsLimited};
 ghost use Rattle.arc_block.specs.Place.{IsOnBlock, at_owner};
 ghost use Rattle.arc_block.specs.Window.{IsWholeOf};
-ghost use Rattle.arc_block.specs.Steps.{IsPassAt, RefusesArray};
+ghost use Rattle.arc_block.specs.Steps.{IsPassAt, RefusesArray, EndsAt};
 ghost use Rattle.arc_owners.specs.count.Calls.{IsPassOfNone, IsNewPass, Learns, Asks, Leaves};
 ghost use Rattle.arc_owners.specs.count.Calls.{TakesBlock, AsksAndLeaves};
 
@@ -84,6 +84,21 @@ impl<S: Slice, L: Layout, B, M, A: Allocator + Copy, H: Mark> ArcSlice<S, L, B, 
             × Leaves o pass.old pass.new last) }
     {
         self.into_parts().release_as(pass);
+    }
+
+    /// What a drop does: under `Open` the window ends with a new pass, and the last owner gives the
+    /// block back; under `Whole` it is a forgotten owner, without a step. The pass is the one that
+    /// it ended with; on no block, and under `Whole`, it is of none.
+    ///
+    /// # History
+    ///
+    /// On a block Down under `Open`, and nothing under `Whole`.
+    #[inline(always)]
+    pub fn let_go(self) -> Pass<H>
+        ensures forgotten { H.whole ≡ true → IsPassOfNone result }
+        ensures ended { H.whole ≡ false → EndsAt self.place result }
+    {
+        self.into_parts().let_go()
     }
 
     /// Ends the window: it reads the count first, and gives the block back without a further step

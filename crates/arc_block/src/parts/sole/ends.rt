@@ -4,11 +4,11 @@ ghost use Rattle.arc_owners.specs.count.Calls.{Asks, Leaves, Learns, IsNewPass, 
 ghost use Rattle.arc_owners.specs.count.Calls.{SeesAlone};
 ghost use Rattle.arc_block.specs.Place.{at_owner, IsOnBlock};
 ghost use Rattle.arc_block.specs.Table.{reader};
-ghost use Rattle.arc_block.specs.Steps.{IsPassAt};
+ghost use Rattle.arc_block.specs.Steps.{IsPassAt, EndsAt};
 ghost use Rattle.arc_block.specs.Writers.{as_reader, as_sole, Freezes, IsWholeWriter};
 
 use super::SoleParts;
-use crate::block::{Block, array_of};
+use crate::block::{Block, array_of, end_sole};
 use crate::layout::Layout;
 use crate::parts::Parts;
 use crate::parts::storage::Storage;
@@ -161,6 +161,34 @@ impl<S: Slice, B, M, A: Allocator + Copy, H: Mark> SoleParts<S, B, M, A, H> {
             drop(count.into_value_as(pass));
         }
         drop(items);
+    }
+
+    /// What a drop does: under `Open` the owner ends with a new pass, and the block is given back
+    /// with its items; under `Whole` it is forgotten, without a step, and its items stay. The pass
+    /// is the one that the owner ended with; on no block, and under `Whole`, it is of none.
+    ///
+    /// # History
+    ///
+    /// On a block Down under `Open`, without a step, and nothing under `Whole`.
+    pub fn let_go(self) -> Pass<H>
+        ensures forgotten { H.whole ≡ true → IsPassOfNone result }
+        ensures ended { H.whole ≡ false → EndsAt self.place result }
+    {
+        let SoleParts {
+            count,
+            items,
+            start: _,
+            end: _,
+            alloc: _,
+            of: _,
+        } = self;
+        match count {
+            Some(count) => end_sole(count, items),
+            None => {
+                drop(items);
+                Pass::none()
+            }
+        }
     }
 
     /// Shows a pass the block's whole history so far, in which no other owner lives. It adds
