@@ -1,5 +1,6 @@
 //! `ArcSliceMut`, a window that is written.
-ghost use Rattle.std.specs.Prelude.{◌≡◌};
+ghost use Rattle.std.specs.Prelude.{◌≡◌, false};
+ghost use Rattle.arc_block.specs.Steps.{EndsShownAt};
 ghost use Rattle.arc_block.specs.Writers.{idle_writer};
 
 use arc_block::layout::{DefaultLayoutMut, LayoutMut};
@@ -72,7 +73,9 @@ impl<S: Slice, L: LayoutMut, const UNIQUE: u8, B, M, A: Allocator + Copy, H: Mar
 impl<S: Slice, L: LayoutMut, const UNIQUE: u8, B, M, A: Allocator + Copy, H: Mark> Drop
     for ArcSliceMut<S, L, UNIQUE, B, M, A, H> {
     #[inline(always)]
-    fn drop(self) {
+    fn drop(self)
+        ensures ended { H.whole ≡ false → EndsShownAt H H.real self.place }
+    {
         let ArcSliceMut { parts, of: _ } = self;
         drop(parts);
     }
