@@ -7,8 +7,7 @@ use arc_block::layout::{DefaultLayoutMut, LayoutMut};
 use arc_block::parts::SoleParts;
 use arc_buffer::kinds::{Emptyable, Plain, Slice, Text};
 use arc_owners::mark::{Mark, Open};
-pub use change::try_into_mut_as;
-pub use plain::try_into_mut;
+pub use into_mut::IntoMut;
 use std::alloc::{Allocator, Global};
 use std::marker::{Model, PhantomData};
 
@@ -116,6 +115,7 @@ impl<S: Slice, L: LayoutMut, B, M, A: Allocator + Copy, H: Mark> ArcSliceMut<S, 
 
 mod change;
 mod cuts;
+mod into_mut;
 mod iterate;
 mod make;
 mod own;
