@@ -3,3 +3,4 @@
 
 pub mod buffer;
 pub mod kinds;
+pub mod print;
