@@ -1,4 +1,5 @@
 //! Read windows: shared, cut and cloned without a copy.
 #![tactic(auto)]
 
+mod adapters;
 pub mod slice;
