@@ -7,6 +7,7 @@ ghost use Rattle.std.specs.Cmp.Lexicographic.{lists_ties, lists_total};
 
 use crate::slice::ArcSlice;
 use arc_block::layout::Layout;
+use arc_buffer::compare::{equal, order, partial_order};
 use arc_buffer::kinds::{Slice, Text};
 use arc_owners::mark::Mark;
 use std::alloc::Allocator;
@@ -82,23 +83,4 @@ impl<L: Layout, B, M, A: Allocator + Copy, H: Mark> ArcSlice<Text, L, B, M, A, H
     {
         equal(self.as_slice(), other.as_bytes())
     }
-}
-
-// Each takes both slices for one lifetime, as the comparisons of references do.
-fn equal<'a, T: PartialEq>(a: &'a [T], b: &'a [T]) -> bool
-    ensures { result ≡ pointwise T.eq a.now b.now }
-{
-    PartialEq::eq(&a, &b)
-}
-
-fn partial_order<'a, T: PartialOrd>(a: &'a [T], b: &'a [T]) -> Option<Ordering>
-    ensures { result ≡ slice_partial_cmp T.partial_cmp a.now b.now }
-{
-    a.partial_cmp(&b)
-}
-
-fn order<'a, T: Ord>(a: &'a [T], b: &'a [T]) -> Ordering
-    ensures { result ≡ slice_cmp T.cmp a.now b.now }
-{
-    a.cmp(&b)
 }

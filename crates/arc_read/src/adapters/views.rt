@@ -41,21 +41,24 @@ impl<S: Slice, L: Layout, B, M, A: Allocator + Copy, H: Mark> DerefSlice
     }
 }
 
-impl<'a, S: Slice, L: Layout, B, M, A: Allocator + Copy, H: Mark> IntoIterator
-    for &'a ArcSlice<S, L, B, M, A, H> {
-    type Item = &'a S::Item;
+impl<
+    'a,
+    T: Drop + 'a,
+    S: Slice<Item = T>,
+    L: Layout,
+    B,
+    M,
+    A: Allocator + Copy,
+    H: Mark,
+> IntoIterator for &'a ArcSlice<S, L, B, M, A, H> {
+    type Item = &'a T;
 
-    type IntoIter = Iter<'a, S::Item>;
+    type IntoIter = Iter<'a, T>;
 
     ghost into_iter_gives = { λ w r. (iter_rest r ≡ w.now.items) × (length (iter_rest r) < 2 ^ 64)
-        × EveryRun (iter_steps {A = S.Item}) (λ p. ItemsMapTo p (λ y. y.now) (iter_rest p.from)) };
+        × EveryRun (iter_steps {A = T}) (λ p. ItemsMapTo p (λ y. y.now) (iter_rest p.from)) };
 
-    fn into_iter(self) -> Iter<'a, S::Item>
-        ensures into_iter_gives { (iter_rest result ≡ self.now.items)
-            × (length (iter_rest result) < 2 ^ 64)
-            × EveryRun (iter_steps {A = S.Item})
-            (λ p. ItemsMapTo p (λ y. y.now) (iter_rest p.from)) }
-    {
+    fn into_iter(self) -> Iter<'a, T> {
         ArcSlice::as_slice(self).iter()
     }
 }
