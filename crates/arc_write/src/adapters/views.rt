@@ -1,16 +1,17 @@
 //! What lends a write window's items: as a slice, as text, and one by one.
 ghost use Rattle.std.specs.Prelude.{◌≡◌, ◌<◌, ◌^◌, length};
+ghost use Rattle.std.specs.Borrow.{sem};
 ghost use Rattle.std.specs.Iterator.Runs.{EveryRun, ItemsMapTo};
 ghost use Rattle.std.specs.Slice.Iter.{iter_rest, iter_steps};
 
 use crate::slice_mut::ArcSliceMut;
 use arc_block::layout::LayoutMut;
-use arc_buffer::kinds::{Slice, Text};
+use arc_buffer::kinds::{AnyItems, Slice, Text};
 use arc_owners::mark::Mark;
 use std::alloc::Allocator;
 use std::convert::{AsSlice, AsStr};
 use std::iter::IntoIterator;
-use std::ops::DerefSlice;
+use std::ops::{DerefSlice, DerefSliceMut};
 use std::slice::Iter;
 
 impl<S: Slice, L: LayoutMut, B, M, A: Allocator + Copy, H: Mark> AsSlice<S::Item>
@@ -42,21 +43,38 @@ impl<S: Slice, L: LayoutMut, B, M, A: Allocator + Copy, H: Mark> DerefSlice
     }
 }
 
-impl<'a, S: Slice, L: LayoutMut, B, M, A: Allocator + Copy, H: Mark> IntoIterator
-    for &'a ArcSliceMut<S, L, 1, B, M, A, H> {
-    type Item = &'a S::Item;
+impl<S: AnyItems, L: LayoutMut, B, M, A: Allocator + Copy, H: Mark> DerefSliceMut
+    for ArcSliceMut<S, L, 1, B, M, A, H> {
+    ghost use Rattle.arc_write.specs.Lends.{lends_items};
 
-    type IntoIter = Iter<'a, S::Item>;
+    fn deref_mut(&mut self) -> &mut [S::Item]
+        ensures* writes_back { sem 𝓛 (lends_items S.row L.row B.row M.row A.row H.row S.Item.row
+            S.TryFromSliceError.row L.Writable.row S.Slice L.Layout A.Allocator H.Mark
+            self.entry result) }
+        ensures value { result.now ≡ self.old.items }
+    {
+        self.as_mut_slice()
+    }
+}
+
+impl<
+    'a,
+    T: Drop + 'a,
+    S: Slice<Item = T>,
+    L: LayoutMut,
+    B,
+    M,
+    A: Allocator + Copy,
+    H: Mark,
+> IntoIterator for &'a ArcSliceMut<S, L, 1, B, M, A, H> {
+    type Item = &'a T;
+
+    type IntoIter = Iter<'a, T>;
 
     ghost into_iter_gives = { λ w r. (iter_rest r ≡ w.now.items) × (length (iter_rest r) < 2 ^ 64)
-        × EveryRun (iter_steps {A = S.Item}) (λ p. ItemsMapTo p (λ y. y.now) (iter_rest p.from)) };
+        × EveryRun (iter_steps {A = T}) (λ p. ItemsMapTo p (λ y. y.now) (iter_rest p.from)) };
 
-    fn into_iter(self) -> Iter<'a, S::Item>
-        ensures into_iter_gives { (iter_rest result ≡ self.now.items)
-            × (length (iter_rest result) < 2 ^ 64)
-            × EveryRun (iter_steps {A = S.Item})
-            (λ p. ItemsMapTo p (λ y. y.now) (iter_rest p.from)) }
-    {
+    fn into_iter(self) -> Iter<'a, T> {
         ArcSliceMut::as_slice(self).iter()
     }
 }
