@@ -1,1 +1,2 @@
 pub mod Sub
+pub mod Printed

@@ -2,3 +2,4 @@ pub mod Slice
 pub mod Text
 pub mod Laws
 pub mod Buffers
+pub mod Printed

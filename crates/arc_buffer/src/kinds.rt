@@ -5,6 +5,7 @@ ghost use Rattle.std.specs.Mem.{FitsInMemory, type_size};
 ghost use Rattle.arc_buffer.specs.Slice.{IsEdge, IsRange, sub};
 
 pub use byte_text::ByteText;
+pub use debug::{DebugItem, DebugSlice};
 pub use owned::Owned;
 pub use plain::Plain;
 use std::alloc::Layout;
@@ -14,6 +15,7 @@ pub use wraps::Wraps;
 pub use zero_item::ZeroItem;
 
 mod byte_text;
+mod debug;
 mod owned;
 mod plain;
 mod text;

@@ -2,4 +2,6 @@
 #![tactic(auto)]
 
 pub mod buffer;
+pub mod compare;
 pub mod kinds;
+pub mod print;

@@ -5,7 +5,9 @@ ghost use Rattle.arc_owners.specs.count.Calls.{IsPassOfNone};
 ghost use Rattle.arc_block.specs.Writers.{MakesWriter};
 
 use arc_block::layout::LayoutMut;
-use arc_buffer::kinds::{ByteText, CopySlice, Emptyable, Extendable, Plain, Slice, Subsliceable};
+use arc_buffer::kinds::{
+    ByteText, CopySlice, Emptyable, Extendable, Plain, Slice, Subsliceable, Zeroable,
+};
 use arc_owners::error::AllocError;
 use arc_owners::mark::Whole;
 use arc_owners::owners::Pass;
@@ -87,16 +89,11 @@ impl<S: Slice> ZeroOf<S> for NoZero {
     }
 }
 
-impl<T: TableItem> Commands for Plain<T> {
-    type Zero = T::Zero;
-}
-
-impl Commands for ByteText {
-    type Zero = HasZero;
-}
-
-impl ZeroOf<ByteText> for HasZero {
-    ghost zero = { Some 0 };
+impl<S: Zeroable> ZeroOf<S> for HasZero
+where
+    S::Item: Copy,
+{
+    ghost zero = { Some S.zero_item };
 
     fn has_zero() -> bool {
         true
@@ -106,9 +103,17 @@ impl ZeroOf<ByteText> for HasZero {
         alloc: A,
         count: usize,
         pass: &mut Pass<Whole>,
-    ) -> Option<Result<ArcSliceMut<ByteText, L, 1, B, M, A, Whole>, AllocError>> {
+    ) -> Option<Result<ArcSliceMut<S, L, 1, B, M, A, Whole>, AllocError>> {
         Some(ArcSliceMut::try_zeroed_as(alloc, count, pass))
     }
+}
+
+impl<T: TableItem> Commands for Plain<T> {
+    type Zero = T::Zero;
+}
+
+impl Commands for ByteText {
+    type Zero = HasZero;
 }
 
 impl TableItem for () {

@@ -1,5 +1,6 @@
 //! Read windows: shared, cut and cloned without a copy.
 #![tactic(auto)]
 
+mod adapters;
 pub mod borrow;
 pub mod slice;

@@ -18,7 +18,7 @@ use arc_owners::error::{OwnerError, RangeError, TryReserveError};
 use arc_owners::mark::Whole;
 use arc_owners::owners::Pass;
 use arc_read::slice::ArcSlice;
-use arc_write::slice_mut::{ArcSliceMut, try_into_mut_as};
+use arc_write::slice_mut::{ArcSliceMut, IntoMut};
 use std::alloc::Allocator;
 use std::marker::Model;
 use std::sync::Wait;
@@ -564,7 +564,7 @@ where
             unreachable!()
         };
         let mut pass = passes.lend(block);
-        let asked = try_into_mut_as(window, &mut pass);
+        let asked = window.try_into_mut_as(&mut pass);
         passes.give_back(block, pass);
         match asked {
             Ok(window) => Ok(Slot::written(window, block)),

@@ -1,3 +1,4 @@
 mod Extend
 pub mod Legal
+mod More
 mod Zeros

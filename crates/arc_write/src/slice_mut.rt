@@ -1,13 +1,13 @@
 //! `ArcSliceMut`, a window that is written.
-ghost use Rattle.std.specs.Prelude.{◌≡◌};
+ghost use Rattle.std.specs.Prelude.{◌≡◌, false};
+ghost use Rattle.arc_block.specs.Steps.{EndsShownAt};
 ghost use Rattle.arc_block.specs.Writers.{idle_writer};
 
 use arc_block::layout::{DefaultLayoutMut, LayoutMut};
 use arc_block::parts::SoleParts;
 use arc_buffer::kinds::{Emptyable, Plain, Slice, Text};
 use arc_owners::mark::{Mark, Open};
-pub use change::try_into_mut_as;
-pub use plain::try_into_mut;
+pub use into_mut::IntoMut;
 use std::alloc::{Allocator, Global};
 use std::marker::{Model, PhantomData};
 
@@ -72,7 +72,9 @@ impl<S: Slice, L: LayoutMut, const UNIQUE: u8, B, M, A: Allocator + Copy, H: Mar
 impl<S: Slice, L: LayoutMut, const UNIQUE: u8, B, M, A: Allocator + Copy, H: Mark> Drop
     for ArcSliceMut<S, L, UNIQUE, B, M, A, H> {
     #[inline(always)]
-    fn drop(self) {
+    fn drop(self)
+        ensures ended { H.whole ≡ false → EndsShownAt H H.real self.place }
+    {
         let ArcSliceMut { parts, of: _ } = self;
         drop(parts);
     }
@@ -113,6 +115,7 @@ impl<S: Slice, L: LayoutMut, B, M, A: Allocator + Copy, H: Mark> ArcSliceMut<S, 
 
 mod change;
 mod cuts;
+mod into_mut;
 mod iterate;
 mod make;
 mod own;

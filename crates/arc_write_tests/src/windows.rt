@@ -5,7 +5,7 @@ use arc_owners::error::{RangeError, TryReserveError};
 use arc_owners::mark::Whole;
 use arc_owners::owners::Pass;
 use arc_read::slice::ArcSlice;
-use arc_write::slice_mut::{ArcBytesMut, ArcSliceMut, ArcStrMut, try_into_mut, try_into_mut_as};
+use arc_write::slice_mut::{ArcBytesMut, ArcSliceMut, ArcStrMut, IntoMut};
 use linked_list_allocator::LocalHeap;
 use std::alloc::{Allocator, Global};
 use std::sync::Wait;
@@ -97,12 +97,12 @@ fn refused_beside_another(
     frozen: ArcSlice<Plain<u8>, DefaultLayout>,
 ) -> Option<ArcSlice<Plain<u8>, DefaultLayout>> {
     let _clone = frozen.try_clone(rt).ok()?;
-    try_into_mut::<_, _, DefaultLayoutMut, _, _, _, _>(frozen).err()
+    frozen.try_into_mut::<DefaultLayoutMut>().err()
 }
 
 /// Whether a frozen window that is alone can be written again, and has its items then, and a third.
 fn written_again(frozen: ArcSlice<Plain<u8>, DefaultLayout>) -> Option<(bool, bool)> {
-    let mut window = try_into_mut::<_, _, DefaultLayoutMut, _, _, _, _>(frozen).ok()?;
+    let mut window = frozen.try_into_mut::<DefaultLayoutMut>().ok()?;
     let pushed = window.try_push(3).is_ok();
     Some((pushed, window.as_slice() == [1, 2, 3].as_slice()))
 }
@@ -219,7 +219,7 @@ fn one_pass_throughout(rt: HostRuntime) -> Result<(), Fail> {
     window.try_extend_from_slice_as(&[2, 3], &mut pass)?;
     let frozen: ArcSlice<Plain<u8>, DefaultLayout, Vec<u8>, (), Global, Whole> =
         ArcSlice::from_parts(window.into_parts().freeze());
-    let is_same = match try_into_mut_as::<_, _, DefaultLayoutMut, _, _, _, _>(frozen, &mut pass) {
+    let is_same = match frozen.try_into_mut_as::<DefaultLayoutMut>(&mut pass) {
         Ok(window) => {
             let is_same = window.as_slice() == [1, 2, 3].as_slice();
             window.release_as(&mut pass);

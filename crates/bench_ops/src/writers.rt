@@ -3,8 +3,8 @@ use crate::keep::Keep;
 use crate::rounds::{LONG, PIECE, PLACES, ROUND, empty_rounds};
 use crate::words::Writing;
 use arc_slice::layout::DefaultLayout;
-use arc_slice::{ArcBytes, ArcBytesMut, try_into_mut};
 use arc_slice::error::AllocError;
+use arc_slice::{ArcBytes, ArcBytesMut, IntoMut};
 use std::alloc::Global;
 
 /// Runs an operation so often, and answers whether all was done.
@@ -131,7 +131,7 @@ fn freeze(window: ArcBytesMut, count: usize, keep: &dyn Keep) -> bool {
         };
         let frozen: ArcBytes = frozen;
         keep.window(&frozen);
-        let Ok(back) = try_into_mut(frozen) else {
+        let Ok(back) = frozen.try_into_mut() else {
             return false;
         };
         window = back;

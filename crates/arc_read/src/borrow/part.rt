@@ -49,6 +49,15 @@ impl<'a, S: Subsliceable, L: Layout, B, M, A: Allocator + Copy, H: Mark> ArcSlic
         &self.window.as_slice()[..self.end][self.start..]
     }
 
+    /// The items, which are a legal list of the kind.
+    pub(crate) fn as_legal_slice(&self) -> &'a [S::Item]
+        ensures items { result.now ≡ (borrowed_part self.now).items }
+        ensures legal { ∥ S.is_legal result.now ∥₁ }
+    {
+        self.window.has_part(self.start, self.end);
+        self.as_slice()
+    }
+
     /// Whether `start` to `end` is a range of the part.
     ///
     /// # Errors

@@ -33,6 +33,14 @@ impl<S: Slice, L: Layout, B, M, A: Allocator + Copy, H: Mark> ArcSlice<S, L, B, 
     {
         self.parts.as_slice()
     }
+
+    /// The items, which are a legal list of the kind.
+    pub(crate) fn as_legal_slice(&self) -> &[S::Item]
+        ensures items { result.now ≡ self.now.items }
+        ensures legal { ∥ S.is_legal result.now ∥₁ }
+    {
+        self.parts.as_slice()
+    }
 }
 
 impl<S: Subsliceable, L: Layout, B, M, A: Allocator + Copy, H: Mark> ArcSlice<S, L, B, M, A, H> {

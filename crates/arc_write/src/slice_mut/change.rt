@@ -1,12 +1,11 @@
-//! From a window that is written to one that is read, and back.
-ghost use Rattle.std.specs.Prelude.{◌≡◌, ◌≤◌, true, false, length, drop, IfOk, IfErr};
+//! From a window that is written to one that is read, or over another kind.
+ghost use Rattle.std.specs.Prelude.{◌≡◌, false, drop, IfOk, IfErr};
 ghost use Rattle.std.specs.Str.{IsUtf8, valid_up_to, error_len};
 ghost use Rattle.std.specs.Str.Lossy.{utf8_valid_len, utf8_error_len};
-ghost use Rattle.arc_owners.specs.count.Calls.{Asks};
-ghost use Rattle.arc_block.specs.Place.{at_owner, IsOnBlock};
+ghost use Rattle.arc_block.specs.Place.{IsOnBlock};
 ghost use Rattle.arc_block.specs.Window.{parts_of};
 ghost use Rattle.arc_block.specs.Steps.{IsPassAt};
-ghost use Rattle.arc_block.specs.Writers.{as_sole, Freezes};
+ghost use Rattle.arc_block.specs.Writers.{Freezes};
 
 use super::ArcSliceMut;
 use arc_block::layout::{Layout, LayoutMut};
@@ -100,39 +99,5 @@ impl<L: LayoutMut, B, M, A: Allocator + Copy, H: Mark> ArcSliceMut<ByteText, L, 
         ensures { IfOk result (λ text. text ≡ bytes) }
     {
         Ok(bytes.into_kind())
-    }
-}
-
-/// The same items at the same place, as their only writer, where the window stands on a block that
-/// no other owner has, or where it has none and stands on no block.
-///
-/// # Errors
-///
-/// The window, where another owner lives, or where it has items of a static slice.
-///
-/// # History
-///
-/// On a block Alone with the answer.
-pub fn try_into_mut_as<S, L, K, B, M, A, H>(
-    window: ArcSlice<S, L, B, M, A, H>,
-    pass: &mut Pass<H>,
-) -> Result<ArcSliceMut<S, K, 1, B, M, A, H>, ArcSlice<S, L, B, M, A, H>>
-where
-    S: Slice,
-    L: Layout,
-    K: LayoutMut,
-    A: Allocator + Copy,
-    H: Mark,
-    requires pass { IsPassAt window.place pass.old }
-    ensures sole { IfOk result (λ sole. (sole ≡ as_sole S.DROPS (parts_of window))
-        × at_owner window.place ((length window.items ≡ 0) × (pass.new ≡ pass.old))
-        (λ o. Asks o pass.old pass.new true)) }
-    ensures refused { IfErr result (λ back. (back ≡ window)
-        × at_owner window.place ((1 ≤ length window.items) × (pass.new ≡ pass.old))
-        (λ o. Asks o pass.old pass.new false)) }
-{
-    match window.into_parts().try_into_sole_as(pass) {
-        Ok(parts) => Ok(ArcSliceMut::from_parts(parts)),
-        Err(parts) => Err(ArcSlice::from_parts(parts)),
     }
 }

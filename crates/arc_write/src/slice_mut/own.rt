@@ -1,9 +1,9 @@
 //! Owners of a write window's block, and ends of the window.
-ghost use Rattle.std.specs.Prelude.{◌≡◌, true, IfOk, IfErr};
+ghost use Rattle.std.specs.Prelude.{◌≡◌, true, false, IfOk, IfErr};
 ghost use Rattle.arc_owners.specs.count.Calls.{Leaves, Learns, IsNewPass, IsPassOfNone};
 ghost use Rattle.arc_owners.specs.count.Calls.{SeesAlone};
 ghost use Rattle.arc_block.specs.Place.{at_owner};
-ghost use Rattle.arc_block.specs.Steps.{IsPassAt};
+ghost use Rattle.arc_block.specs.Steps.{IsPassAt, EndsAt};
 ghost use Rattle.arc_block.specs.Writers.{IsWholeWriter};
 
 use super::ArcSliceMut;
@@ -82,6 +82,31 @@ impl<S: Slice, L: LayoutMut, B, M, A: Allocator + Copy, H: Mark> ArcSliceMut<S, 
             Learns o.block pass.old other.now pass.new) }
     {
         self.parts.learn(pass, other);
+    }
+}
+
+impl<S: Slice, L: LayoutMut, const UNIQUE: u8, B, M, A: Allocator + Copy, H: Mark> ArcSliceMut<
+    S,
+    L,
+    UNIQUE,
+    B,
+    M,
+    A,
+    H,
+> {
+    /// What a drop does: under `Open` the window ends with a new pass, and the block is given back
+    /// with its items; under `Whole` it is a forgotten owner, without a step, and its items stay.
+    /// The pass is the one that it ended with; on no block, and under `Whole`, it is of none.
+    ///
+    /// # History
+    ///
+    /// On a block Down under `Open`, without a step, and nothing under `Whole`.
+    pub fn let_go(self) -> Pass<H>
+        ensures forgotten { H.whole ≡ true → IsPassOfNone result }
+        ensures ended { H.whole ≡ false → EndsAt self.place result }
+    {
+        let ArcSliceMut { parts, of: _ } = self;
+        parts.let_go()
     }
 }
 

@@ -2,16 +2,15 @@
 ghost use Rattle.std.specs.Prelude.{◌≡◌, ◌≤◌, ◌+◌, ◌++◌, ◌∷◌, true, false, []};
 ghost use Rattle.std.specs.Prelude.{length, replicate, IfOk, IfErr, OnOk, OnErr, Err};
 ghost use Rattle.std.specs.Mem.{FitsInMemory, type_size};
-ghost use Rattle.arc_owners.specs.count.Calls.{Asks, Leaves};
+ghost use Rattle.arc_owners.specs.count.Calls.{Leaves};
 ghost use Rattle.arc_block.specs.Place.{nowhere, at_owner, IsOnBlock};
 ghost use Rattle.arc_block.specs.Window.{parts_of};
-ghost use Rattle.arc_block.specs.Writers.{capacity_of, room_for, as_sole, MakesWriter, MakesRoom};
+ghost use Rattle.arc_block.specs.Writers.{capacity_of, room_for, MakesWriter, MakesRoom};
 ghost use Rattle.arc_block.specs.Writers.{Pushes};
 ghost use Rattle.arc_block.specs.Writers.{Freezes, IsWholeWriter};
 ghost use Rattle.arc_read.specs.Steps.{WithNewPass};
 
 use super::ArcSliceMut;
-use super::change::try_into_mut_as;
 use arc_block::layout::{Layout, LayoutMut};
 use arc_buffer::kinds::{AnyItems, CopySlice, Emptyable, Extendable, Slice, Text, Zeroable};
 use arc_owners::error::{AllocError, TryReserveError};
@@ -332,37 +331,4 @@ impl<L: LayoutMut, B, M, A: Allocator + Copy, H: Stepping> ArcSliceMut<Text, L, 
         pass.show();
         extended
     }
-}
-
-/// The same items at the same place, as their only writer: `try_into_mut_as` with a new pass.
-///
-/// # Errors
-///
-/// Those of `try_into_mut_as`.
-///
-/// # History
-///
-/// That of `try_into_mut_as`.
-pub fn try_into_mut<S, L, K, B, M, A, H>(
-    window: ArcSlice<S, L, B, M, A, H>,
-) -> Result<ArcSliceMut<S, K, 1, B, M, A, H>, ArcSlice<S, L, B, M, A, H>>
-where
-    S: Slice,
-    L: Layout,
-    K: LayoutMut,
-    A: Allocator + Copy,
-    H: Stepping,
-    ensures sole { IfOk result (λ sole. (sole ≡ as_sole S.DROPS (parts_of window))
-        × WithNewPass {H = H} H.real window.place (λ first last.
-        at_owner window.place ((length window.items ≡ 0) × (last ≡ first))
-        (λ o. Asks o first last true))) }
-    ensures refused { IfErr result (λ back. (back ≡ window)
-        × WithNewPass {H = H} H.real window.place (λ first last.
-        at_owner window.place ((1 ≤ length window.items) × (last ≡ first))
-        (λ o. Asks o first last false))) }
-{
-    let mut pass = window.pass();
-    let changed = try_into_mut_as(window, &mut pass);
-    pass.show();
-    changed
 }

@@ -36,6 +36,14 @@ impl<S: Slice, L: LayoutMut, B, M, A: Allocator + Copy, H: Mark> ArcSliceMut<S, 
         self.parts.as_slice()
     }
 
+    /// The items, which are a legal list of the kind.
+    pub(crate) fn as_legal_slice(&self) -> &[S::Item]
+        ensures items { result.now ≡ self.now.items }
+        ensures legal { ∥ S.is_legal result.now ∥₁ }
+    {
+        self.parts.as_slice()
+    }
+
     /// How many places the window has, from its first item on.
     #[inline(always)]
     pub fn capacity(&self) -> usize

@@ -4,7 +4,8 @@ ghost use Rattle.std.specs.Prelude.{IfOk, IfErr, OnOk, OnErr, Ok, Err};
 ghost use Rattle.std.specs.Borrow.{sem};
 ghost use Rattle.std.specs.Mem.{FitsInMemory, type_size};
 ghost use Rattle.arc_block.specs.Steps.{IsPassAt};
-ghost use Rattle.arc_block.specs.Writers.{capacity_of, room_for, MakesRoom, Pushes, Reclaims};
+ghost use Rattle.arc_block.specs.Writers.{capacity_of, room_for, with_more};
+ghost use Rattle.arc_block.specs.Writers.{MakesRoom, Pushes, Reclaims};
 
 use super::ArcSliceMut;
 use arc_block::layout::LayoutMut;
@@ -160,5 +161,17 @@ impl<S: Slice, L: LayoutMut, B, M, A: Allocator + Copy, H: Mark> ArcSliceMut<S, 
             self.old self.new pass.old pass.new (Err e)) }
     {
         self.parts.try_extend_from_slice_as(items, pass)
+    }
+
+    /// A copy of the items more, behind the others, where the window has places for them. It adds
+    /// nothing.
+    pub(crate) fn extend_within(&mut self, items: &[S::Item])
+    where
+        S: CopySlice,
+        S::Item: Copy,
+        requires { length self.old.items + length items.now ≤ capacity_of self.old.role }
+        ensures { self.new ≡ with_more items.now self.old }
+    {
+        self.parts.extend_reserved(items);
     }
 }

@@ -161,7 +161,7 @@ where
     }
 
     /// A copy of the items more, behind the others, where there are places for them.
-    fn extend_reserved(&mut self, items: &[S::Item])
+    pub fn extend_reserved(&mut self, items: &[S::Item])
         requires { length self.old.items + length items.now ≤ capacity_of self.old.role }
         ensures { self.new ≡ with_more items.now self.old }
     {

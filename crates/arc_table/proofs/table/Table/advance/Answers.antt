@@ -107,8 +107,8 @@ unreachable-requires g c =
     none-some s (sym c.in_default-index_mut.is
     ∙ same_Some c.index_mut.result.now (Some s) (sym at ∙ got))
 
-pub advance-requires-after_bounds : goal.advance-requires-after_bounds
-advance-requires-after_bounds g c κs within =
+pub advance-requires : goal.advance-requires
+advance-requires g c =
     let slots = c.self.inside.slots.items in
     let i = c.args.i in
     let s = c.in-Some-index_mut.slot in

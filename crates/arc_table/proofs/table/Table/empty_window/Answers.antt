@@ -45,7 +45,7 @@ did g c =
     (λ none. refl))
 
 pub push_writer-requires-clause-slot : goal.push_writer-requires-clause-slot
-push_writer-requires-clause-slot g c κs within =
+push_writer-requires-clause-slot g c =
     let room = no_error c.reserve.result (sym c.if-is_err.ensures.value) c.reserve.ensures.ok in
     omega (arith, room)
 

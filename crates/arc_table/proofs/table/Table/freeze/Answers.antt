@@ -121,7 +121,7 @@ returns-then-is_err-clause-rows g c =
     ∙ ap (λ ps. (reply.Refused, (state_of slots ps).table)) (sym c.reserve_for.ensures.items))
 
 pub try_freeze-requires-clause-writes : goal.try_freeze-requires-clause-writes
-try_freeze-requires-clause-writes g c κs within =
+try_freeze-requires-clause-writes g c =
     let slots = c.self.inside.slots.items in
     let i = c.args.i in
     let s = c.in-Some-replace.slot in
@@ -134,7 +134,7 @@ try_freeze-requires-clause-writes g c κs within =
     ∙ sym c.is_written.ensures.answer ∙ c.if-not-is_written.false
 
 pub try_freeze-requires-clause-pass : goal.try_freeze-requires-clause-pass
-try_freeze-requires-clause-pass g c κs within =
+try_freeze-requires-clause-pass g c =
     let slots = c.self.inside.slots.items in
     let i = c.args.i in
     let s = c.in-Some-replace.slot in
@@ -153,7 +153,7 @@ wants false true off some = absurd (false≢true (sym some))
 wants false false off some = refl
 
 pub try_freeze-requires-clause-room : goal.try_freeze-requires-clause-room
-try_freeze-requires-clause-room g c κs within off some =
+try_freeze-requires-clause-room g c off some =
     let slots = c.self.inside.slots.items in
     let i = c.args.i in
     let s = c.in-Some-replace.slot in

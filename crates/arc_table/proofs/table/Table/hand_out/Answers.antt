@@ -180,11 +180,11 @@ unreachable-requires g c =
     ∙ same_Some c.index_mut.result.now (Some s) (sym at ∙ again))
 
 pub try_part-requires-clause-within : goal.try_part-requires-clause-within
-try_part-requires-clause-within g c κs within =
+try_part-requires-clause-within g c =
     (known g (goal.at.try_part-requires-clause-within g c).In-Some-index_mut).has
 
 pub try_part-requires-clause-pass : goal.try_part-requires-clause-pass
-try_part-requires-clause-pass g c κs within =
+try_part-requires-clause-pass g c =
     let s = c.in-Some-index_mut.slot in
     known-pass c.args.i c.self.invariant.0 (stand_of (Some s))
     (stand-there c.self.inside.slots.items c.self.inside.passes.of_blocks.items c.args.i s
@@ -261,14 +261,14 @@ returns-in-Err-clause-rows g c =
     (sym c.in-Err.ensures.answer))
 
 pub try_part-requires-clause-reads : goal.try_part-requires-clause-reads
-try_part-requires-clause-reads g c κs within =
+try_part-requires-clause-reads g c =
     (known g (goal.at.try_part-requires-clause-reads g c).In-Some-index_mut).reads
 
 pub invariant_of-self : goal.invariant_of-self
 invariant_of-self g c = same-fact c.self.invariant c.reserve.ensures.items refl
 
-pub check_part-requires-after_bounds : goal.check_part-requires-after_bounds
-check_part-requires-after_bounds g c κs within =
+pub check_part-requires : goal.check_part-requires
+check_part-requires g c =
     c.is_written.ensures.reads c.if-is_written.false
 
 -- a reply that hands nothing out adds nothing, whichever part was asked for

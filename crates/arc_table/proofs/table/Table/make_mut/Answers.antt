@@ -129,7 +129,7 @@ unreachable-requires g c =
     ∙ same_Some c.index_mut.result.now (Some s) (sym at ∙ got))
 
 pub try_into_mut-requires-clause-reads : goal.try_into_mut-requires-clause-reads
-try_into_mut-requires-clause-reads g c κs within =
+try_into_mut-requires-clause-reads g c =
     let slots = c.self.inside.slots.items in
     let i = c.args.i in
     let s = c.in-Some-replace.slot in
@@ -142,7 +142,7 @@ try_into_mut-requires-clause-reads g c κs within =
     ∙ c.is_written.ensures.reads c.if-is_written.false
 
 pub try_into_mut-requires-clause-pass : goal.try_into_mut-requires-clause-pass
-try_into_mut-requires-clause-pass g c κs within =
+try_into_mut-requires-clause-pass g c =
     let slots = c.self.inside.slots.items in
     let i = c.args.i in
     let s = c.in-Some-replace.slot in

@@ -64,7 +64,7 @@ unreachable-requires g c =
     ∙ same_Some c.index_mut.result.now (Some s) (sym at ∙ got))
 
 pub try_reclaim-requires-clause-writes : goal.try_reclaim-requires-clause-writes
-try_reclaim-requires-clause-writes g c κs within =
+try_reclaim-requires-clause-writes g c =
     let slots = c.self.inside.slots.items in
     let i = c.args.i in
     let s = c.in-Some-index_mut.slot in

@@ -54,8 +54,8 @@ returns-in_default-clause-gone g c =
     o.table.rows ≡ slice_set o.table.rows c.args.i None) c.self.view_is
     (none-there slots c.args.i none)
 
-pub release-requires-after_bounds : goal.release-requires-after_bounds
-release-requires-after_bounds g c κs within =
+pub release-requires : goal.release-requires
+release-requires g c =
     let slots = c.self.inside.slots.items in
     let passes = c.self.inside.passes.of_blocks.items in
     let i = c.args.i in

@@ -116,7 +116,7 @@ unreachable-requires g c =
     ∙ same_Some c.index_mut.result.now (Some s) (sym at ∙ got))
 
 pub into_static-requires-clause-reads : goal.into_static-requires-clause-reads
-into_static-requires-clause-reads g c κs within =
+into_static-requires-clause-reads g c =
     let slots = c.self.inside.slots.items in
     let i = c.args.i in
     let s = c.in-Some-replace.slot in
@@ -129,7 +129,7 @@ into_static-requires-clause-reads g c κs within =
     ∙ c.is_written.ensures.reads c.if-is_written.false
 
 pub into_static-requires-clause-nowhere : goal.into_static-requires-clause-nowhere
-into_static-requires-clause-nowhere g c κs within =
+into_static-requires-clause-nowhere g c =
     let slots = c.self.inside.slots.items in
     let i = c.args.i in
     let s = c.in-Some-replace.slot in

@@ -118,7 +118,7 @@ unreachable-requires g c =
     ∙ same_Some c.index_mut.result.now (Some s) (sym at ∙ got))
 
 pub truncate-requires-clause-at : goal.truncate-requires-clause-at
-truncate-requires-clause-at g c κs within =
+truncate-requires-clause-at g c =
     let slots = c.self.inside.slots.items in
     let i = c.args.i in
     let s = c.in-Some-index_mut.slot in
@@ -131,7 +131,7 @@ truncate-requires-clause-at g c κs within =
     (same_entry slots i c.in-Some.slot.now s got there) (c.in_default-check_at.ensures.ok.0 refl)
 
 pub truncate-requires-clause-shorter : goal.truncate-requires-clause-shorter
-truncate-requires-clause-shorter g c κs within =
+truncate-requires-clause-shorter g c =
     let slots = c.self.inside.slots.items in
     let i = c.args.i in
     let s = c.in-Some-index_mut.slot in

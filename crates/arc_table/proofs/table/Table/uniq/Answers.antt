@@ -42,11 +42,11 @@ did g c found is =
     (λ none. sym is ∙ question.ensures.nowhere none))
 
 pub is_unique-alone-requires-clause-reads : goal.is_unique-alone-requires-clause-reads
-is_unique-alone-requires-clause-reads g c κs within =
+is_unique-alone-requires-clause-reads g c =
     c.is_written.ensures.reads c.if-is_written.false
 
 pub is_unique-alone-requires-clause-pass : goal.is_unique-alone-requires-clause-pass
-is_unique-alone-requires-clause-pass g c κs within =
+is_unique-alone-requires-clause-pass g c =
     let slots = c.self.inside.slots.items in
     let passes = c.self.inside.passes.of_blocks.items in
     let i = c.args.i in

@@ -85,7 +85,7 @@ unreachable-requires g c =
     ∙ same_Some c.index_mut.result.now (Some s) (sym at ∙ got))
 
 pub write-requires-clause-writes : goal.write-requires-clause-writes
-write-requires-clause-writes g c κs within =
+write-requires-clause-writes g c =
     let slots = c.self.inside.slots.items in
     let i = c.args.i in
     let s = c.in-Some-index_mut.slot in
@@ -102,7 +102,7 @@ abbrev fresh_for : (g : Over) → SlotView g.row.S-Item.Denot g.row.M.Denot → 
 fresh_for g s n = is_fresh (room_of (setting g) (row_of s) n)
 
 pub write-requires-clause-room : goal.write-requires-clause-room
-write-requires-clause-room g c κs within fresh =
+write-requires-clause-room g c fresh =
     let slots = c.self.inside.slots.items in
     let i = c.args.i in
     let s = c.in-Some-index_mut.slot in
@@ -118,7 +118,7 @@ write-requires-clause-room g c κs within fresh =
     c.reserve_for.ensures.room begins
 
 pub write-requires-clause-pass : goal.write-requires-clause-pass
-write-requires-clause-pass g c κs within =
+write-requires-clause-pass g c =
     let slots = c.self.inside.slots.items in
     let i = c.args.i in
     let s = c.in-Some-index_mut.slot in

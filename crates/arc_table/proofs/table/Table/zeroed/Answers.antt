@@ -82,11 +82,11 @@ returns-in_default-made-clause-rows g c =
     c.make_room.ensures.slots c.make_room.ensures.passes
 
 pub push_writer-requires-clause-slot : goal.push_writer-requires-clause-slot
-push_writer-requires-clause-slot g c κs within =
+push_writer-requires-clause-slot g c =
     no_error c.make_room.result (sym c.if-is_err.ensures.value) c.make_room.ensures.slot
 
 pub push_writer-requires-clause-pass : goal.push_writer-requires-clause-pass
-push_writer-requires-clause-pass g c κs within some =
+push_writer-requires-clause-pass g c some =
     no_error c.make_room.result (sym c.if-is_err.ensures.value) c.make_room.ensures.pass
 
 pub invariant_of-self-2 : goal.invariant_of-self-2
@@ -113,16 +113,16 @@ invariant_of-self-in_default-made g c =
     same-fact c.self.invariant c.make_room.ensures.slots c.make_room.ensures.passes
 
 pub push_writer-requires-clause-writes : goal.push_writer-requires-clause-writes
-push_writer-requires-clause-writes g c κs within =
+push_writer-requires-clause-writes g c =
     writes g.S.Slice.DROPS _ c.args.count c.in-Ok.window c.none-pass.result
     c.try_zeroed_as.new.pass (written g (goal.at.push_writer-requires-clause-writes g c).In-Ok)
 
 pub push_writer-requires-clause-nowhere : goal.push_writer-requires-clause-nowhere
-push_writer-requires-clause-nowhere g c κs within none =
+push_writer-requires-clause-nowhere g c none =
     idle-nowhere g.S.Slice.DROPS _ c.args.count c.in-Ok.window c.none-pass.result
     c.try_zeroed_as.new.pass (written g (goal.at.push_writer-requires-clause-nowhere g c).In-Ok) none
 
 pub push_writer-requires-clause-block : goal.push_writer-requires-clause-block
-push_writer-requires-clause-block g c κs within some n =
+push_writer-requires-clause-block g c some n =
     new-on-block g.S.Slice.DROPS _ c.args.count c.in-Ok.window c.none-pass.result
     c.try_zeroed_as.new.pass (written g (goal.at.push_writer-requires-clause-block g c).In-Ok) n some

@@ -1,0 +1,9 @@
+use Rattle.std.proofs.Common.{take, flat_map}
+use Rattle.std.specs.Fmt.{HasWritten, IsPlainFormatter}
+use Rattle.arc_buffer.specs.Printed.{hex_byte}
+use Rattle.arc_buffer.proofs.print.write_hex.Given as goal
+
+abbrev pub invariant-loop-byte : goal.invariant-loop-byte
+invariant-loop-byte g l =
+    IsPlainFormatter l.initial.f → HasWritten g.W.Write.write_str_gives l.initial.f
+    (flat_map (hex_byte l.upper) (take l.byte-index l.bytes)) l.f

@@ -1,0 +1,59 @@
+//! `Buf` of read windows over bytes and byte text.
+ghost use Rattle.std.specs.Prelude.{◌≡◌, ◌≤◌, [], length, drop};
+ghost use Rattle.arc_block.specs.Place.{moved};
+ghost use Rattle.bytes.specs.Unread.{IsChunkOf};
+
+use crate::slice::ArcSlice;
+use arc_block::layout::Layout;
+use arc_buffer::kinds::{ByteText, Plain};
+use arc_owners::mark::Mark;
+use bytes::Buf;
+use std::alloc::Allocator;
+
+impl<L: Layout, B, M, A: Allocator + Copy, H: Mark> Buf for ArcSlice<Plain<u8>, L, B, M, A, H> {
+    ghost unread = { λ w. w.items };
+
+    fn remaining(&self) -> usize {
+        self.len()
+    }
+
+    fn chunk(&self) -> &[u8]
+        ensures chunk { IsChunkOf result.now self.now.items }
+        ensures whole { result.now ≡ self.now.items }
+    {
+        self.as_slice()
+    }
+
+    /// The window's own `advance`.
+    fn advance(&mut self, count: usize)
+        requires { count ≤ length self.old.items }
+        ensures value { self.new.items ≡ drop count self.old.items }
+        ensures place { self.new.place ≡ moved count self.old.place }
+    {
+        ArcSlice::advance(self, count);
+    }
+}
+
+impl<L: Layout, B, M, A: Allocator + Copy, H: Mark> Buf for ArcSlice<ByteText, L, B, M, A, H> {
+    ghost unread = { λ w. w.items };
+
+    fn remaining(&self) -> usize {
+        self.len()
+    }
+
+    fn chunk(&self) -> &[u8]
+        ensures chunk { IsChunkOf result.now self.now.items }
+        ensures whole { result.now ≡ self.now.items }
+    {
+        self.as_slice()
+    }
+
+    /// The window's own `advance`.
+    fn advance(&mut self, count: usize)
+        requires { count ≤ length self.old.items }
+        ensures value { self.new.items ≡ drop count self.old.items }
+        ensures place { self.new.place ≡ moved count self.old.place }
+    {
+        ArcSlice::advance(self, count);
+    }
+}

@@ -1,0 +1,17 @@
+-- What is written into the places that a window has already.
+use Rattle.std.specs.Prelude.{ℕ, ◌-◌, min, List, length, take}
+use Rattle.arc_block.specs.Table.{RowOf}
+use Rattle.arc_block.specs.Writers.{capacity_of, with_more}
+
+module _ {N T M : Type 0} where
+  -- how many items more the window has places for
+  abbrev pub spare_places : RowOf N T M → ℕ
+  spare_places w = capacity_of w.role - length w.items
+
+  -- how many of these items it takes, where it takes as many as it has places for
+  abbrev pub taken : RowOf N T M → List T → ℕ
+  taken w xs = min (spare_places w) (length xs)
+
+  -- the window, with these behind its own items
+  abbrev pub after_write : RowOf N T M → List T → RowOf N T M
+  after_write w xs = with_more (take (taken w xs) xs) w

@@ -1,0 +1,69 @@
+//! `Buf` of write windows over bytes and byte text.
+ghost use Rattle.std.specs.Prelude.{◌≡◌, ◌≤◌, length, drop};
+ghost use Rattle.arc_block.specs.Writers.{after_advance};
+ghost use Rattle.arc_write.specs.Within.{spare_places};
+ghost use Rattle.bytes.specs.Adapters.{kept_spare};
+ghost use Rattle.bytes.specs.Unread.{IsChunkOf};
+
+use crate::slice_mut::ArcSliceMut;
+use arc_block::layout::LayoutMut;
+use arc_buffer::kinds::{ByteText, Plain};
+use arc_owners::mark::Mark;
+use bytes::Buf;
+use std::alloc::Allocator;
+
+impl<L: LayoutMut, B, M, A: Allocator + Copy, H: Mark> Buf
+    for ArcSliceMut<Plain<u8>, L, 1, B, M, A, H> {
+    ghost unread = { λ w. w.items };
+
+    ghost kept = { λ w. kept_spare (spare_places w) };
+
+    fn remaining(&self) -> usize {
+        self.len()
+    }
+
+    fn chunk(&self) -> &[u8]
+        ensures chunk { IsChunkOf result.now self.now.items }
+        ensures whole { result.now ≡ self.now.items }
+    {
+        self.as_slice()
+    }
+
+    /// The window's own `advance`: the places of what was read go too.
+    fn advance(&mut self, count: usize)
+        requires { count ≤ length self.old.items }
+        ensures value { self.new.items ≡ drop count self.old.items }
+        ensures kept { kept_spare (spare_places self.new) ≡ kept_spare (spare_places self.old) }
+        ensures window { self.new ≡ after_advance count self.old }
+    {
+        ArcSliceMut::advance(self, count);
+    }
+}
+
+impl<L: LayoutMut, B, M, A: Allocator + Copy, H: Mark> Buf
+    for ArcSliceMut<ByteText, L, 1, B, M, A, H> {
+    ghost unread = { λ w. w.items };
+
+    ghost kept = { λ w. kept_spare (spare_places w) };
+
+    fn remaining(&self) -> usize {
+        self.len()
+    }
+
+    fn chunk(&self) -> &[u8]
+        ensures chunk { IsChunkOf result.now self.now.items }
+        ensures whole { result.now ≡ self.now.items }
+    {
+        self.as_slice()
+    }
+
+    /// The window's own `advance`: the places of what was read go too.
+    fn advance(&mut self, count: usize)
+        requires { count ≤ length self.old.items }
+        ensures value { self.new.items ≡ drop count self.old.items }
+        ensures kept { kept_spare (spare_places self.new) ≡ kept_spare (spare_places self.old) }
+        ensures window { self.new ≡ after_advance count self.old }
+    {
+        ArcSliceMut::advance(self, count);
+    }
+}

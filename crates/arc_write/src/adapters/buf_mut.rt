@@ -1,0 +1,128 @@
+//! `BufMut` of write windows over bytes and byte text: it fills the places that a window has, and
+//! makes no room.
+ghost use Rattle.std.specs.Prelude.{◌≡◌, ◌≤◌, ◌+◌, ◌-◌, ◌^◌, ◌++◌, ◌∷◌, [], min, length};
+ghost use Rattle.std.specs.Prelude.{OnOk, OnErr, Some, replicate};
+ghost use Rattle.arc_block.specs.Writers.{capacity_of, with_more};
+ghost use Rattle.arc_write.specs.Within.{spare_places};
+ghost use Rattle.bytes.specs.Filled.{KeepsMaxSpare, MakesSpare, UsesMaxSpare, UsesSpare};
+
+use crate::slice_mut::ArcSliceMut;
+use arc_block::layout::LayoutMut;
+use arc_buffer::kinds::CopySlice;
+use arc_owners::mark::Mark;
+use bytes::BufMut;
+use std::alloc::{AllocError, Allocator};
+
+impl<S: CopySlice<Item = u8>, L: LayoutMut, B, M, A: Allocator + Copy, H: Mark> BufMut
+    for ArcSliceMut<S, L, 1, B, M, A, H> {
+    ghost written = { λ w. w.items };
+
+    ghost spare = { spare_places };
+
+    ghost max_spare = { λ w. Some (spare_places w) };
+
+    /// Whether the window has so many places more. It makes none.
+    ///
+    /// # Errors
+    ///
+    /// `AllocError` where it hasn't.
+    fn reserve(&mut self, additional: usize) -> Result<(), AllocError>
+        ensures kept { self.new.items ≡ self.old.items }
+        ensures spare { MakesSpare result (spare_places self.old) (spare_places self.new)
+            additional }
+        ensures max_spare { KeepsMaxSpare result (Some (spare_places self.old))
+            (Some (spare_places self.new)) additional }
+        ensures same { self.new ≡ self.old }
+    {
+        if additional <= self.capacity() - self.len() {
+            Ok(())
+        } else {
+            Err(AllocError)
+        }
+    }
+
+    /// A copy of the bytes more, where the window has places for all of them. It adds nothing.
+    ///
+    /// # Errors
+    ///
+    /// `AllocError` where it hasn't; nothing is changed then.
+    fn put_slice(&mut self, source: &[u8]) -> Result<(), AllocError>
+        ensures ok { OnOk result (self.new.items ≡ self.old.items ++ source.now) }
+        ensures err { OnErr result (self.new.items ≡ self.old.items) }
+        ensures spare { UsesSpare result (spare_places self.old) (spare_places self.new)
+            (length source.now) }
+        ensures max_spare { UsesMaxSpare result (Some (spare_places self.old))
+            (Some (spare_places self.new)) (length source.now) }
+        ensures window { OnOk result (self.new ≡ with_more source.now self.old) }
+        ensures same { OnErr result (self.new ≡ self.old) }
+    {
+        if source.len() > self.capacity() - self.len() {
+            return Err(AllocError);
+        }
+        self.extend_within(source);
+        Ok(())
+    }
+
+    fn put_u8(&mut self, byte: u8) -> Result<(), AllocError>
+        ensures ok { OnOk result (self.new.items ≡ self.old.items ++ byte ∷ []) }
+        ensures err { OnErr result (self.new.items ≡ self.old.items) }
+        ensures spare { UsesSpare result (spare_places self.old) (spare_places self.new) 1 }
+        ensures max_spare { UsesMaxSpare result (Some (spare_places self.old))
+            (Some (spare_places self.new)) 1 }
+        ensures window { OnOk result (self.new ≡ with_more (byte ∷ []) self.old) }
+        ensures same { OnErr result (self.new ≡ self.old) }
+    {
+        self.put_slice(&[byte])
+    }
+
+    /// So many bytes of one value more, where the window has places for all of them. It adds
+    /// nothing.
+    ///
+    /// # Errors
+    ///
+    /// `AllocError` where it hasn't; nothing is changed then.
+    fn put_bytes(&mut self, byte: u8, count: usize) -> Result<(), AllocError>
+        ensures ok { OnOk result (self.new.items ≡ self.old.items ++ replicate count byte) }
+        ensures err { OnErr result (self.new.items ≡ self.old.items) }
+        ensures spare { UsesSpare result (spare_places self.old) (spare_places self.new) count }
+        ensures max_spare { UsesMaxSpare result (Some (spare_places self.old))
+            (Some (spare_places self.new)) count }
+        ensures window { OnOk result (self.new ≡ with_more (replicate count byte) self.old) }
+        ensures same { OnErr result (self.new ≡ self.old) }
+    {
+        if count > self.capacity() - self.len() {
+            return Err(AllocError);
+        }
+        self.fill(byte, count);
+        Ok(())
+    }
+
+    /// How many places the window has behind its bytes.
+    fn remaining_mut(&self) -> usize
+        ensures spare { min (spare_places self.now) (2 ^ 64 - 1) ≤ result }
+        ensures value { result ≡ spare_places self.now }
+    {
+        self.capacity() - self.len()
+    }
+}
+
+impl<S: CopySlice<Item = u8>, L: LayoutMut, B, M, A: Allocator + Copy, H: Mark> ArcSliceMut<
+    S,
+    L,
+    1,
+    B,
+    M,
+    A,
+    H,
+> {
+    /// So many bytes of one value more, where the window has places for them.
+    #[tactic(auto, using(crate::proofs::More::more_none, crate::proofs::More::one_more_alike))]
+    fn fill(&mut self, byte: u8, count: usize)
+        requires { length self.old.items + count ≤ capacity_of self.old.role }
+        ensures { self.new ≡ with_more (replicate count byte) self.old }
+    {
+        for _ in 0..count {
+            self.extend_within(&[byte]);
+        }
+    }
+}

@@ -1,0 +1,114 @@
+//! `fmt::Write` of write windows over text, byte text and bytes: each text whole, or nothing.
+ghost use Rattle.std.specs.Prelude.{◌≡◌, ◌++◌, false, length, IsOk, OnOk, OnErr, Err};
+ghost use Rattle.arc_owners.specs.declared.error.TryReserveError.{TryReserveError};
+ghost use Rattle.arc_block.specs.Writers.{MakesRoom, Pushes, room_for};
+ghost use Rattle.arc_read.specs.Steps.{WithNewPass};
+
+use crate::slice_mut::ArcSliceMut;
+use arc_block::layout::LayoutMut;
+use arc_buffer::kinds::{ByteText, Plain, Text};
+use arc_owners::mark::Stepping;
+use std::alloc::Allocator;
+use std::fmt;
+
+impl<L: LayoutMut, B, M, A: Allocator + Copy, H: Stepping> fmt::Write
+    for ArcSliceMut<Text, L, 1, B, M, A, H> {
+    ghost write_str_gives = { λ w text v. v.items ≡ w.items ++ text };
+
+    /// A copy of the text more: `try_extend_from_str`.
+    ///
+    /// # Errors
+    ///
+    /// In the place of each of `try_reserve_as`; nothing is changed then.
+    ///
+    /// # Allocates
+    ///
+    /// As `try_reserve_as`.
+    ///
+    /// # History
+    ///
+    /// That of `try_reserve_as`.
+    fn write_str(&mut self, text: &str) -> fmt::Result
+        ensures ok { IsOk result → self.new.items ≡ self.old.items ++ text.now }
+        ensures extended { OnOk result (WithNewPass {H = H} H.real self.old.place (λ first last.
+            Pushes false H.whole (room_for false 1 self.old (length text.now)) text.now
+            self.old self.new first last)) }
+        ensures refused { OnErr result ((e : TryReserveError)
+            × WithNewPass {H = H} H.real self.old.place (λ first last. MakesRoom false H.whole
+            (room_for false 1 self.old (length text.now)) self.old self.new first last (Err e))) }
+        ensures same { OnErr result (self.new ≡ self.old) }
+    {
+        match self.try_extend_from_str(text) {
+            Ok(()) => Ok(()),
+            Err(_) => Err(fmt::Error),
+        }
+    }
+}
+
+impl<L: LayoutMut, B, M, A: Allocator + Copy, H: Stepping> fmt::Write
+    for ArcSliceMut<ByteText, L, 1, B, M, A, H> {
+    ghost write_str_gives = { λ w text v. v.items ≡ w.items ++ text };
+
+    /// A copy of the text more: `try_extend_from_slice`.
+    ///
+    /// # Errors
+    ///
+    /// In the place of each of `try_reserve_as`; nothing is changed then.
+    ///
+    /// # Allocates
+    ///
+    /// As `try_reserve_as`.
+    ///
+    /// # History
+    ///
+    /// That of `try_reserve_as`.
+    fn write_str(&mut self, text: &str) -> fmt::Result
+        ensures ok { IsOk result → self.new.items ≡ self.old.items ++ text.now }
+        ensures extended { OnOk result (WithNewPass {H = H} H.real self.old.place (λ first last.
+            Pushes false H.whole (room_for false 1 self.old (length text.now)) text.now
+            self.old self.new first last)) }
+        ensures refused { OnErr result ((e : TryReserveError)
+            × WithNewPass {H = H} H.real self.old.place (λ first last. MakesRoom false H.whole
+            (room_for false 1 self.old (length text.now)) self.old self.new first last (Err e))) }
+        ensures same { OnErr result (self.new ≡ self.old) }
+    {
+        match self.try_extend_from_slice(text.as_bytes()) {
+            Ok(()) => Ok(()),
+            Err(_) => Err(fmt::Error),
+        }
+    }
+}
+
+impl<L: LayoutMut, B, M, A: Allocator + Copy, H: Stepping> fmt::Write
+    for ArcSliceMut<Plain<u8>, L, 1, B, M, A, H> {
+    ghost write_str_gives = { λ w text v. v.items ≡ w.items ++ text };
+
+    /// A copy of the text more: `try_extend_from_slice`.
+    ///
+    /// # Errors
+    ///
+    /// In the place of each of `try_reserve_as`; nothing is changed then.
+    ///
+    /// # Allocates
+    ///
+    /// As `try_reserve_as`.
+    ///
+    /// # History
+    ///
+    /// That of `try_reserve_as`.
+    fn write_str(&mut self, text: &str) -> fmt::Result
+        ensures ok { IsOk result → self.new.items ≡ self.old.items ++ text.now }
+        ensures extended { OnOk result (WithNewPass {H = H} H.real self.old.place (λ first last.
+            Pushes false H.whole (room_for false 1 self.old (length text.now)) text.now
+            self.old self.new first last)) }
+        ensures refused { OnErr result ((e : TryReserveError)
+            × WithNewPass {H = H} H.real self.old.place (λ first last. MakesRoom false H.whole
+            (room_for false 1 self.old (length text.now)) self.old self.new first last (Err e))) }
+        ensures same { OnErr result (self.new ≡ self.old) }
+    {
+        match self.try_extend_from_slice(text.as_bytes()) {
+            Ok(()) => Ok(()),
+            Err(_) => Err(fmt::Error),
+        }
+    }
+}

@@ -1,0 +1,62 @@
+//! `io::Read` and `io::Write` of write windows over bytes.
+ghost use Rattle.std.specs.Prelude.{◌≡◌, ◌++◌, min, length, drop, take, Ok, Some, IsOk};
+ghost use Rattle.std.specs.Io.{ReadsAtMost, WritesAtMost};
+ghost use Rattle.std.specs.Io.KnownBytes.{Keeps, ReadConsumes, WriteAppends};
+ghost use Rattle.arc_block.specs.Writers.{after_advance};
+ghost use Rattle.arc_write.specs.Within.{after_write, taken};
+
+use crate::slice_mut::ArcSliceMut;
+use arc_block::layout::LayoutMut;
+use arc_buffer::kinds::Plain;
+use arc_owners::mark::Mark;
+use std::alloc::Allocator;
+use std::io;
+
+impl<L: LayoutMut, B, M, A: Allocator + Copy, H: Mark> io::Read
+    for ArcSliceMut<Plain<u8>, L, 1, B, M, A, H> {
+    ghost remaining = { λ w. Some w.items };
+
+    /// Moves the window's first bytes to the front of the buffer, as many as there are or as it
+    /// has places for, and answers how many. Always Ok. It adds nothing.
+    fn read(&mut self, buffer: &mut [u8]) -> io::Result<usize>
+        ensures bound { ReadsAtMost result buffer.new }
+        ensures bytes { ReadConsumes (Some self.old.items) (Some self.new.items) result buffer.new }
+        ensures count { result ≡ Ok (min (length self.old.items) (length buffer.old)) }
+        ensures copied { let n = min (length self.old.items) (length buffer.old) in
+            buffer.new ≡ take n self.old.items ++ drop n buffer.old }
+        ensures window { self.new
+            ≡ after_advance (min (length self.old.items) (length buffer.old)) self.old }
+    {
+        let count = self.len().min(buffer.len());
+        buffer[..count].copy_from_slice(&self.as_slice()[..count]);
+        self.advance(count);
+        Ok(count)
+    }
+}
+
+impl<L: LayoutMut, B, M, A: Allocator + Copy, H: Mark> io::Write
+    for ArcSliceMut<Plain<u8>, L, 1, B, M, A, H> {
+    ghost contents = { λ w. Some w.items };
+
+    /// Appends as many of the bytes as the window has places for, and answers how many. It makes
+    /// no room. Always Ok. It adds nothing.
+    fn write(&mut self, bytes: &[u8]) -> io::Result<usize>
+        ensures bound { WritesAtMost result bytes.now }
+        ensures bytes { WriteAppends (Some self.old.items) (Some self.new.items) result bytes.now }
+        ensures count { result ≡ Ok (taken self.old bytes.now) }
+        ensures window { self.new ≡ after_write self.old bytes.now }
+    {
+        let count = (self.capacity() - self.len()).min(bytes.len());
+        self.extend_within(&bytes[..count]);
+        Ok(count)
+    }
+
+    /// Always Ok: nothing is held back.
+    fn flush(&mut self) -> io::Result<()>
+        ensures bytes { Keeps (Some self.old.items) (Some self.new.items) }
+        ensures ok { IsOk result }
+        ensures same { self.new ≡ self.old }
+    {
+        Ok(())
+    }
+}

@@ -1,0 +1,80 @@
+//! What lends a write window's items: as a slice, as text, and one by one.
+ghost use Rattle.std.specs.Prelude.{◌≡◌, ◌<◌, ◌^◌, length};
+ghost use Rattle.std.specs.Borrow.{sem};
+ghost use Rattle.std.specs.Iterator.Runs.{EveryRun, ItemsMapTo};
+ghost use Rattle.std.specs.Slice.Iter.{iter_rest, iter_steps};
+
+use crate::slice_mut::ArcSliceMut;
+use arc_block::layout::LayoutMut;
+use arc_buffer::kinds::{AnyItems, Slice, Text};
+use arc_owners::mark::Mark;
+use std::alloc::Allocator;
+use std::convert::{AsSlice, AsStr};
+use std::iter::IntoIterator;
+use std::ops::{DerefSlice, DerefSliceMut};
+use std::slice::Iter;
+
+impl<S: Slice, L: LayoutMut, B, M, A: Allocator + Copy, H: Mark> AsSlice<S::Item>
+    for ArcSliceMut<S, L, 1, B, M, A, H> {
+    ghost items = { λ w. w.items };
+
+    fn as_slice(&self) -> &[S::Item] {
+        ArcSliceMut::as_slice(self)
+    }
+}
+
+impl<L: LayoutMut, B, M, A: Allocator + Copy, H: Mark> AsStr
+    for ArcSliceMut<Text, L, 1, B, M, A, H> {
+    ghost text = { λ w. w.items };
+
+    fn as_str(&self) -> &str {
+        ArcSliceMut::as_str(self)
+    }
+}
+
+impl<S: Slice, L: LayoutMut, B, M, A: Allocator + Copy, H: Mark> DerefSlice
+    for ArcSliceMut<S, L, 1, B, M, A, H> {
+    type Elem = S::Item;
+
+    ghost deref_gives = { λ w xs. xs ≡ w.items };
+
+    fn deref(&self) -> &[S::Item] {
+        ArcSliceMut::as_slice(self)
+    }
+}
+
+impl<S: AnyItems, L: LayoutMut, B, M, A: Allocator + Copy, H: Mark> DerefSliceMut
+    for ArcSliceMut<S, L, 1, B, M, A, H> {
+    ghost use Rattle.arc_write.specs.Lends.{lends_items};
+
+    fn deref_mut(&mut self) -> &mut [S::Item]
+        ensures* writes_back { sem 𝓛 (lends_items S.row L.row B.row M.row A.row H.row S.Item.row
+            S.TryFromSliceError.row L.Writable.row S.Slice L.Layout A.Allocator H.Mark
+            self.entry result) }
+        ensures value { result.now ≡ self.old.items }
+    {
+        self.as_mut_slice()
+    }
+}
+
+impl<
+    'a,
+    T: Drop + 'a,
+    S: Slice<Item = T>,
+    L: LayoutMut,
+    B,
+    M,
+    A: Allocator + Copy,
+    H: Mark,
+> IntoIterator for &'a ArcSliceMut<S, L, 1, B, M, A, H> {
+    type Item = &'a T;
+
+    type IntoIter = Iter<'a, T>;
+
+    ghost into_iter_gives = { λ w r. (iter_rest r ≡ w.now.items) × (length (iter_rest r) < 2 ^ 64)
+        × EveryRun (iter_steps {A = T}) (λ p. ItemsMapTo p (λ y. y.now) (iter_rest p.from)) };
+
+    fn into_iter(self) -> Iter<'a, T> {
+        ArcSliceMut::as_slice(self).iter()
+    }
+}

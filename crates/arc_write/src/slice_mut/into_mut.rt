@@ -1,0 +1,133 @@
+//! From a window that is read to one that is written.
+ghost use Rattle.std.specs.Prelude.{◌≡◌, ◌≤◌, true, false, length, IfOk, IfErr};
+ghost use Rattle.arc_owners.specs.count.Calls.{Asks};
+ghost use Rattle.arc_block.specs.Place.{at_owner};
+ghost use Rattle.arc_block.specs.Window.{Window, parts_of};
+ghost use Rattle.arc_block.specs.Steps.{IsPassAt};
+ghost use Rattle.arc_block.specs.Writers.{as_sole};
+ghost use Rattle.arc_read.specs.Steps.{WithNewPass};
+
+use super::ArcSliceMut;
+use arc_block::layout::{Layout, LayoutMut};
+use arc_buffer::kinds::Slice;
+use arc_owners::mark::{Mark, Stepping};
+use arc_owners::owners::Pass;
+use arc_read::slice::ArcSlice;
+use std::alloc::Allocator;
+
+/// Windows that are read, and may be written again where no other owner of their block lives:
+/// `ArcSlice`, of whatever kind and layout. It is a trait, since `ArcSlice` stands in a crate
+/// below.
+pub trait IntoMut: Sized {
+    /// The kind of slice.
+    type Kind: Slice;
+
+    /// The type of callers' buffers.
+    type Buffer;
+
+    /// The type of their metadata.
+    type Metadata;
+
+    /// The allocator.
+    type Alloc: Allocator + Copy;
+
+    /// The mark.
+    type Mark: Mark;
+
+    // The window's items, and where it stands.
+    ghost seen: { Self → Window Self.Kind.Item Self.Metadata };
+
+    /// The same items at the same place, as their only writer, where the window stands on a block
+    /// that no other owner has, or where it has none and stands on no block.
+    ///
+    /// # Errors
+    ///
+    /// The window, where another owner lives, or where it has items of a static slice.
+    ///
+    /// # History
+    ///
+    /// On a block Alone with the answer.
+    fn try_into_mut_as<K: LayoutMut>(
+        self,
+        pass: &mut Pass<Self::Mark>,
+    ) -> Result<
+        ArcSliceMut<Self::Kind, K, 1, Self::Buffer, Self::Metadata, Self::Alloc, Self::Mark>,
+        Self,
+    >
+        requires pass { IsPassAt (seen self).place pass.old }
+        ensures sole { IfOk result (λ sole. (sole ≡ as_sole Self.Kind.DROPS (parts_of (seen self)))
+            × at_owner (seen self).place ((length (seen self).items ≡ 0) × (pass.new ≡ pass.old))
+            (λ o. Asks o pass.old pass.new true)) }
+        ensures refused { IfErr result (λ back. (back ≡ self)
+            × at_owner (seen self).place ((1 ≤ length (seen self).items) × (pass.new ≡ pass.old))
+            (λ o. Asks o pass.old pass.new false)) };
+
+    /// The same items at the same place, as their only writer: `try_into_mut_as` with a new pass.
+    ///
+    /// # Errors
+    ///
+    /// Those of `try_into_mut_as`.
+    ///
+    /// # History
+    ///
+    /// That of `try_into_mut_as`.
+    fn try_into_mut<K: LayoutMut>(
+        self,
+    ) -> Result<
+        ArcSliceMut<Self::Kind, K, 1, Self::Buffer, Self::Metadata, Self::Alloc, Self::Mark>,
+        Self,
+    >
+    where
+        Self::Mark: Stepping,
+        ensures sole { IfOk result (λ sole. (sole ≡ as_sole Self.Kind.DROPS (parts_of (seen self)))
+            × WithNewPass {H = Self.Mark} Self.Mark.real (seen self).place (λ first last.
+            at_owner (seen self).place ((length (seen self).items ≡ 0) × (last ≡ first))
+            (λ o. Asks o first last true))) }
+        ensures refused { IfErr result (λ back. (back ≡ self)
+            × WithNewPass {H = Self.Mark} Self.Mark.real (seen self).place (λ first last.
+            at_owner (seen self).place ((1 ≤ length (seen self).items) × (last ≡ first))
+            (λ o. Asks o first last false))) };
+}
+
+impl<S: Slice, L: Layout, B, M, A: Allocator + Copy, H: Mark> IntoMut
+    for ArcSlice<S, L, B, M, A, H> {
+    type Kind = S;
+
+    type Buffer = B;
+
+    type Metadata = M;
+
+    type Alloc = A;
+
+    type Mark = H;
+
+    ghost seen = { λ window. window };
+
+    fn try_into_mut_as<K: LayoutMut>(
+        self,
+        pass: &mut Pass<H>,
+    ) -> Result<ArcSliceMut<S, K, 1, B, M, A, H>, Self>
+        requires pass { IsPassAt self.place pass.old }
+        ensures sole { IfOk result (λ sole. (sole ≡ as_sole S.DROPS (parts_of self))
+            × at_owner self.place ((length self.items ≡ 0) × (pass.new ≡ pass.old))
+            (λ o. Asks o pass.old pass.new true)) }
+        ensures refused { IfErr result (λ back. (back ≡ self)
+            × at_owner self.place ((1 ≤ length self.items) × (pass.new ≡ pass.old))
+            (λ o. Asks o pass.old pass.new false)) }
+    {
+        match self.into_parts().try_into_sole_as(pass) {
+            Ok(parts) => Ok(ArcSliceMut::from_parts(parts)),
+            Err(parts) => Err(ArcSlice::from_parts(parts)),
+        }
+    }
+
+    fn try_into_mut<K: LayoutMut>(self) -> Result<ArcSliceMut<S, K, 1, B, M, A, H>, Self>
+    where
+        H: Stepping,
+    {
+        let mut pass = self.pass();
+        let changed = self.try_into_mut_as(&mut pass);
+        pass.show();
+        changed
+    }
+}
