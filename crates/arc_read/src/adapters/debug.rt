@@ -18,15 +18,8 @@ impl<S: DebugSlice, L: Layout, B, M, A: Allocator + Copy, H: Mark> fmt::Debug
     }
 }
 
-impl<
-    'a,
-    S: DebugSlice + Subsliceable,
-    L: Layout,
-    B,
-    M,
-    A: Allocator + Copy,
-    H: Mark,
-> fmt::Debug for ArcSliceBorrow<'a, S, L, B, M, A, H> {
+impl<'a, S: DebugSlice + Subsliceable, L: Layout, B, M, A: Allocator + Copy, H: Mark> fmt::Debug
+    for ArcSliceBorrow<'a, S, L, B, M, A, H> {
     ghost debug_output = { λ b. S.debug_items (borrowed_part b).items };
 
     fn fmt<W: fmt::Write>(&self, f: &mut fmt::Formatter<W>) -> fmt::Result {

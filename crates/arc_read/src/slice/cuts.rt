@@ -21,7 +21,7 @@ impl<S: Slice, L: Layout, B, M, A: Allocator + Copy, H: Mark> ArcSlice<S, L, B, 
     /// a block's owner can meet, and then no entry is added.
     #[tactic(auto, using(arc_block::proofs::Held::shared_held))]
     #[inline(always)]
-    fn try_clone_once_as(
+    pub(super) fn try_clone_once_as(
         &self,
         leave: RaiseLeave,
         pass: &mut Pass<H>,
@@ -82,7 +82,7 @@ impl<S: Slice, L: Layout, B, M, A: Allocator + Copy, H: Mark> ArcSlice<S, L, B, 
     /// One attempt of `try_subslice_as`: nothing where another thread's step came between, and then
     /// no entry is added.
     #[inline(always)]
-    fn try_subslice_once_as(
+    pub(super) fn try_subslice_once_as(
         &self,
         leave: RaiseLeave,
         start: usize,

@@ -12,6 +12,7 @@ use super::ArcSlice;
 use arc_block::layout::Layout;
 use arc_buffer::kinds::{Slice, Subsliceable};
 use arc_owners::error::OwnerError;
+use arc_owners::leave::RaiseLeave;
 use arc_owners::mark::Stepping;
 use std::alloc::Allocator;
 use std::sync::Wait;
@@ -92,6 +93,11 @@ impl<S: Slice, L: Layout, B, M, A: Allocator + Copy, H: Stepping> ArcSlice<S, L,
             (λ first last. Refuses L.clone_wants self.now.place first last e)) }
     {
         let mut pass = self.pass();
+        // The first attempt stands here: where it succeeds, no call is made that may wait.
+        if let Some(made) = self.try_clone_once_as(RaiseLeave::of(rt), &mut pass) {
+            pass.show();
+            return made;
+        }
         let made = self.try_clone_as(rt, &mut pass);
         pass.show();
         made
@@ -120,6 +126,11 @@ impl<S: Slice, L: Layout, B, M, A: Allocator + Copy, H: Stepping> ArcSlice<S, L,
             Refuses L.clone_wants (sub_place L.STATIC self.now start end) old new e)) }
     {
         let mut pass = self.pass();
+        let leave = RaiseLeave::of(rt);
+        if let Some(made) = self.try_subslice_once_as(leave, start, end, &mut pass) {
+            pass.show();
+            return made;
+        }
         let made = self.try_subslice_as(rt, start, end, &mut pass);
         pass.show();
         made
