@@ -105,6 +105,60 @@ fn alone_or_not(rt: HostRuntime) -> Result<(), Fail> {
     Ok(())
 }
 
+/// What each plain call that takes `rt` made is dropped, and whether the window is alone then.
+fn alone_after_calls(rt: &impl Wait, alloc: Global) -> Result<[bool; 4], Fail> {
+    let mut window: ArcSlice<Plain<u8>> = ArcSlice::try_from_slice(alloc, b"Hello world")?;
+    drop(window.try_clone(rt)?);
+    let after_clone = window.is_unique();
+    drop(window.try_subslice(rt, 2, 5)?);
+    let after_cut = window.is_unique();
+    drop(window.try_split_off(rt, 6)?);
+    let after_back = window.is_unique();
+    drop(window.try_split_to(rt, 2)?);
+    Ok([after_clone, after_cut, after_back, window.is_unique()])
+}
+
+/// The same of the calls with a pass.
+fn alone_after_calls_as(rt: &impl Wait, alloc: Global) -> Result<[bool; 4], Fail> {
+    let mut pass = Pass::none();
+    let mut window: ArcSlice<Plain<u8>> = ArcSlice::try_from_slice_as(
+        alloc,
+        b"Hello world",
+        &mut pass,
+    )?;
+    window.try_clone_as(rt, &mut pass)?.release_as(&mut pass);
+    let after_clone = window.is_unique_as(&mut pass);
+    window
+        .try_subslice_as(rt, 2, 5, &mut pass)?
+        .release_as(&mut pass);
+    let after_cut = window.is_unique_as(&mut pass);
+    window
+        .try_split_off_as(rt, 6, &mut pass)?
+        .release_as(&mut pass);
+    let after_back = window.is_unique_as(&mut pass);
+    window
+        .try_split_to_as(rt, 2, &mut pass)?
+        .release_as(&mut pass);
+    Ok([
+        after_clone,
+        after_cut,
+        after_back,
+        window.is_unique_as(&mut pass),
+    ])
+}
+
+/// No call leaves an owner more than it hands out: no clause can say so, since an owner that a
+/// second pass makes is as good as another thread's.
+#[test]
+fn alone_after_each_call(rt: HostRuntime) -> Result<(), Fail> {
+    let found = (
+        alone_after_calls(&rt, rt.alloc())?,
+        alone_after_calls_as(&rt, rt.alloc())?,
+    );
+    assert!(rt; found == ([true; 4], [true; 4]));
+    Ok(())
+}
+
 /// Each call on windows that stand on no block, and makes none: the pass is as it was, as the
 /// contract says. The windows that were made.
 fn called_on_no_block<R: Wait>(
