@@ -3,4 +3,6 @@
 #![tactic(auto)]
 
 #[cfg(test)]
+mod threads;
+#[cfg(test)]
 mod windows;

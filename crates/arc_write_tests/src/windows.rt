@@ -1,8 +1,10 @@
 //! Write windows: the worked rows, under each form of the default layout, and each call once.
+ghost use Rattle.std.specs.Prelude.{◌≡◌, length, IfSome};
+
 use arc_block::layout::{ArcLayout, DefaultLayout, DefaultLayoutMut, Layout, LayoutMut, VecLayout};
-use arc_buffer::kinds::{ByteText, Owned, Plain};
+use arc_buffer::kinds::{ByteText, Owned, Plain, Text};
 use arc_owners::error::{RangeError, TryReserveError};
-use arc_owners::mark::Whole;
+use arc_owners::mark::{Stepping, Whole};
 use arc_owners::owners::Pass;
 use arc_read::slice::ArcSlice;
 use arc_write::slice_mut::{ArcBytesMut, ArcSliceMut, ArcStrMut, IntoMut};
@@ -107,6 +109,18 @@ fn written_again(frozen: ArcSlice<Plain<u8>, DefaultLayout>) -> Option<(bool, bo
     Some((pushed, window.as_slice() == [1, 2, 3].as_slice()))
 }
 
+/// How many items a window of whatever type has once it is written again, if it can be.
+fn items_written<W: IntoMut<Alloc = Global> + Drop>(window: W) -> Option<usize>
+where
+    W::Mark: Stepping,
+    ensures { IfSome result (λ count. count ≡ length (W.seen window).items) }
+{
+    match window.try_into_mut::<DefaultLayoutMut>() {
+        Ok(window) => Some(window.len()),
+        Err(_) => None,
+    }
+}
+
 #[test]
 fn frozen_and_written_again(rt: HostRuntime) -> Result<(), Fail> {
     let window: ArcBytesMut = ArcSliceMut::try_from_slice(rt.alloc(), &[1, 2])?;
@@ -117,6 +131,8 @@ fn frozen_and_written_again(rt: HostRuntime) -> Result<(), Fail> {
         return Err("another owner is there".into());
     };
     assert!(rt; written_again(frozen) == Some((true, true)));
+    let text: ArcSlice<Text, VecLayout> = ArcSlice::try_from_str(rt.alloc(), "ab")?;
+    assert!(rt; items_written(text) == Some(2));
     Ok(())
 }
 
