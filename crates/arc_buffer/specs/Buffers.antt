@@ -25,3 +25,7 @@ refusal_names_no_owner false same = subst IsNotUnique same tt
 pub vec_names_no_owner : (places : ℕ) → NotUnique ≡ vec_refusal places → ⊥
 vec_names_no_owner places same =
     refusal_names_no_owner (nat_lt 9223372036854775807 places) same
+
+-- nor does a buffer that never grows
+pub unsupported_names_no_owner : NotUnique ≡ Unsupported → ⊥
+unsupported_names_no_owner same = subst IsNotUnique same tt

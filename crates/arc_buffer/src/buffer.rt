@@ -6,7 +6,20 @@ ghost use Rattle.std.specs.Borrow.{Array, Lends, sem};
 ghost use Rattle.arc_owners.specs.declared.error.TryReserveError.TheVariants as reserve;
 
 use arc_owners::error::TryReserveError;
+pub use as_mut::AsMutBuffer;
+pub use as_ref::AsRefBuffer;
+pub use lend::{Lend, LendMut};
+pub use metadata::BorrowMetadata;
 
+mod arc;
+mod as_mut;
+mod as_ref;
+mod boxed;
+mod bstring;
+mod lend;
+mod metadata;
+mod slice;
+mod string;
 mod vec;
 
 /// A caller's buffer of items: its list stays the same while nobody writes.
@@ -14,9 +27,13 @@ pub trait Buffer<T> {
     /// Its items.
     ghost list: { Self → List T };
 
+    /// How many places it has: as many as items, where it is only read.
+    ghost places: { Self → ℕ };
+
     /// Its items.
     fn as_slice(&self) -> &[T]
-        ensures { result.now ≡ list self.now };
+        ensures value { result.now ≡ list self.now }
+        ensures bound { length (list self.now) ≤ places self.now };
 
     /// Whether nobody else has a part of it.
     fn is_unique(&self) -> bool {
@@ -26,9 +43,6 @@ pub trait Buffer<T> {
 
 /// A buffer that may be written, with room for more items.
 pub trait BufferMut<T>: Buffer<T> {
-    /// How many places it has.
-    ghost places: { Self → ℕ };
-
     /// The same buffer with other items.
     ghost with_list: { Self → List T → Self };
 
@@ -40,7 +54,7 @@ pub trait BufferMut<T>: Buffer<T> {
 
     /// How many places it has.
     fn capacity(&self) -> usize
-        ensures value { result ≡ places self.now }
+        ensures value { result ≡ Self.places self.now }
         ensures bound { length (Self.list self.now) ≤ result };
 
     /// Why it may refuse to make room for so many items more.
@@ -58,9 +72,9 @@ pub trait BufferMut<T>: Buffer<T> {
     /// Where it has no room, as the buffer does.
     fn try_reserve(&mut self, additional: usize) -> Result<(), TryReserveError>
         ensures list { Self.list self.new ≡ Self.list self.old }
-        ensures ok { OnOk result (length (Self.list self.old) + additional ≤ places self.new) }
+        ensures ok { OnOk result (length (Self.list self.old) + additional ≤ Self.places self.new) }
         ensures refused { IfErr result (λ e. refuses self.old additional e) }
-        ensures back { OnErr result (places self.new ≡ places self.old) };
+        ensures back { OnErr result (Self.places self.new ≡ Self.places self.old) };
 
     /// Appends an item where there is a place for it, which takes no memory.
     ///
@@ -68,15 +82,15 @@ pub trait BufferMut<T>: Buffer<T> {
     ///
     /// The item comes back where each place has one.
     fn try_push(&mut self, item: T) -> Result<(), T>
-        ensures ok { OnOk result ((length (Self.list self.old) < places self.old)
+        ensures ok { OnOk result ((length (Self.list self.old) < Self.places self.old)
             × (Self.list self.new ≡ Self.list self.old ++ item ∷ [])) }
-        ensures full { IfErr result (λ back. (places self.old ≡ length (Self.list self.old))
+        ensures full { IfErr result (λ back. (Self.places self.old ≡ length (Self.list self.old))
             × (back ≡ item) × (Self.list self.new ≡ Self.list self.old)) }
-        ensures places { places self.new ≡ places self.old };
+        ensures places { Self.places self.new ≡ Self.places self.old };
 
     /// Written in its places, a buffer has the list that was written, and as many places.
     ghost keeps: { (b : Self) (xs : List T) → length xs ≡ length (Self.list b)
-        → (Self.list (with_list b xs) ≡ xs) × (places (with_list b xs) ≡ places b) };
+        → (Self.list (with_list b xs) ≡ xs) × (Self.places (with_list b xs) ≡ Self.places b) };
 
     /// A buffer has no other owners that it could name.
     ghost names_no_owner: { (b : Self) (additional : ℕ)

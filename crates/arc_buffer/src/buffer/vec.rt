@@ -1,6 +1,6 @@
 //! Vectors as buffers.
-ghost use Rattle.std.specs.Prelude.{◌≡◌, ◌≤◌, ◌<◌, ◌+◌, ◌++◌, ◌∷◌, [], length, refl, OnOk, OnErr};
-ghost use Rattle.std.specs.Prelude.{IfErr};
+ghost use Rattle.std.specs.Prelude.{◌≡◌, ◌≤◌, ◌<◌, ◌+◌, ◌++◌, ◌∷◌, [], length, refl, true, OnOk};
+ghost use Rattle.std.specs.Prelude.{OnErr, IfErr};
 ghost use Rattle.std.specs.Vec.{vec_items, vec_capacity, with_items};
 ghost use Rattle.std.proofs.Common.{sym, ◌∙◌};
 ghost use Rattle.std.proofs.lemmas.List.{with_items_is};
@@ -13,14 +13,21 @@ use std::alloc::Allocator;
 impl<T, A: Allocator> Buffer<T> for Vec<T, A> {
     ghost list = { vec_items };
 
+    ghost places = { vec_capacity };
+
     fn as_slice(&self) -> &[T] {
         Vec::as_slice(self)
+    }
+
+    /// True: its items are its own.
+    fn is_unique(&self) -> bool
+        ensures { result ≡ true }
+    {
+        true
     }
 }
 
 impl<T, A: Allocator> BufferMut<T> for Vec<T, A> {
-    ghost places = { vec_capacity };
-
     ghost with_list = { with_items };
 
     fn as_mut_slice(&mut self) -> &mut [T] {
@@ -31,7 +38,8 @@ impl<T, A: Allocator> BufferMut<T> for Vec<T, A> {
         Vec::capacity(self)
     }
 
-    ghost refuses = { λ v additional e. e ≡ vec_refusal (length (vec_items v) + additional) };
+    ghost refuses = { λ v additional e. (vec_capacity v < length (vec_items v) + additional)
+        × (e ≡ vec_refusal (length (vec_items v) + additional)) };
 
     fn try_reserve(&mut self, additional: usize) -> Result<(), TryReserveError> {
         let len = self.len();
@@ -60,6 +68,6 @@ impl<T, A: Allocator> BufferMut<T> for Vec<T, A> {
 
     ghost keeps = { λ v xs same. (with_items_is v xs (same ∙ sym v.ok.0), refl) };
 
-    ghost names_no_owner = { λ v additional.
-        vec_names_no_owner (length (vec_items v) + additional) };
+    ghost names_no_owner = { λ v additional refused.
+        vec_names_no_owner (length (vec_items v) + additional) refused.1 };
 }

@@ -1,0 +1,110 @@
+//! A type whose items can be written, as a buffer that never grows.
+ghost use Rattle.std.specs.Prelude.{◌≡◌, false, length, Err};
+ghost use Rattle.std.proofs.Common.{ap, ◌∙◌};
+ghost use Rattle.arc_owners.specs.declared.error.TryReserveError.TheVariants.{Unsupported};
+ghost use Rattle.arc_buffer.specs.Buffers.{unsupported_names_no_owner};
+
+use super::{BorrowMetadata, Buffer, BufferMut, LendMut};
+use arc_owners::error::TryReserveError;
+use std::marker::Model;
+
+/// A type whose items can be written, as a buffer that never grows: it has as many places as items.
+#[derive(Drop)]
+pub struct AsMutBuffer<B> {
+    inner: B,
+}
+
+impl<B> Model for AsMutBuffer<B> {
+    ghost Value = { B };
+
+    ghost view = { λ b. b.inner };
+
+    ghost inverse = { λ b. record { inner = b } };
+}
+
+impl<B> AsMutBuffer<B> {
+    /// Wraps a value.
+    pub fn new(buffer: B) -> AsMutBuffer<B>
+        ensures { result ≡ buffer }
+    {
+        AsMutBuffer { inner: buffer }
+    }
+
+    /// The value that it wraps.
+    pub fn into_inner(self) -> B
+        ensures { result ≡ self }
+    {
+        self.inner
+    }
+}
+
+impl<T, B: LendMut<T>> Buffer<T> for AsMutBuffer<B> {
+    ghost list = { B.lent };
+
+    ghost places = { λ b. length (B.lent b) };
+
+    fn as_slice(&self) -> &[T] {
+        self.inner.lend()
+    }
+
+    /// False: what others have of the value isn't known.
+    fn is_unique(&self) -> bool
+        ensures { result ≡ false }
+    {
+        false
+    }
+}
+
+impl<T, B: LendMut<T>> BufferMut<T> for AsMutBuffer<B> {
+    ghost with_list = { B.with_lent };
+
+    fn as_mut_slice(&mut self) -> &mut [T] {
+        self.inner.lend_mut()
+    }
+
+    fn capacity(&self) -> usize {
+        self.inner.lend().len()
+    }
+
+    ghost refuses = { λ _ _ e. e ≡ Unsupported };
+
+    /// Makes no room: there is none to be had, so also a request for no place is refused.
+    ///
+    /// # Errors
+    ///
+    /// `Unsupported`, always.
+    fn try_reserve(&mut self, additional: usize) -> Result<(), TryReserveError>
+        ensures refused { result ≡ Err Unsupported }
+        ensures same { self.new ≡ self.old }
+    {
+        let _ = additional;
+        Err(TryReserveError::Unsupported)
+    }
+
+    /// Appends nothing, since each place has an item.
+    ///
+    /// # Errors
+    ///
+    /// The item comes back, always.
+    fn try_push(&mut self, item: T) -> Result<(), T>
+        ensures full { result ≡ Err item }
+        ensures same { self.new ≡ self.old }
+    {
+        Err(item)
+    }
+
+    ghost keeps = { λ b xs same.
+        (B.agrees b xs same, ap length (B.agrees b xs same) ∙ same) };
+
+    ghost names_no_owner = { λ _ _. unsupported_names_no_owner };
+}
+
+impl<B: BorrowMetadata> BorrowMetadata for AsMutBuffer<B> {
+    type Metadata = B::Metadata;
+
+    ghost metadata = { B.metadata };
+
+    fn borrow_metadata(&self) -> &B::Metadata {
+        self.inner.borrow_metadata()
+    }
+}

@@ -1,0 +1,35 @@
+//! A type that shows items, as a buffer that is only read.
+ghost use Rattle.std.specs.Prelude.{◌≡◌, false, length};
+
+use super::{BorrowMetadata, Buffer, Lend};
+
+/// A type that shows items, as a buffer that is only read.
+#[derive(Drop)]
+pub struct AsRefBuffer<B>(pub B);
+
+impl<T, B: Lend<T>> Buffer<T> for AsRefBuffer<B> {
+    ghost list = { λ b. B.lent b.0 };
+
+    ghost places = { λ b. length (B.lent b.0) };
+
+    fn as_slice(&self) -> &[T] {
+        self.0.lend()
+    }
+
+    /// False: what others have of the value isn't known.
+    fn is_unique(&self) -> bool
+        ensures { result ≡ false }
+    {
+        false
+    }
+}
+
+impl<B: BorrowMetadata> BorrowMetadata for AsRefBuffer<B> {
+    type Metadata = B::Metadata;
+
+    ghost metadata = { λ b. B.metadata b.0 };
+
+    fn borrow_metadata(&self) -> &B::Metadata {
+        self.0.borrow_metadata()
+    }
+}
