@@ -43,7 +43,11 @@ fn bytes_printed(rt: HostRuntime) -> Result<(), Fail> {
         debugs::<Plain<u8>>(alloc, &[97, 39, 10, 0], "b\"a\\'\\n\\x00\""),
         debugs::<Plain<u8>>(alloc, b"\t\n\r\"'\\", "b\"\\t\\n\\r\\\"\\'\\\\\""),
         debugs::<Plain<u8>>(alloc, b" !A~", "b\" !A~\""),
-        debugs::<Plain<u8>>(alloc, &[0, 31, 127, 128, 255], "b\"\\x00\\x1f\\x7f\\x80\\xff\""),
+        debugs::<Plain<u8>>(
+            alloc,
+            &[0, 31, 127, 128, 255],
+            "b\"\\x00\\x1f\\x7f\\x80\\xff\"",
+        ),
         debugs::<Plain<u8>>(alloc, &[], "b\"\""),
     ];
     assert!(rt; told == [Some(true); 5]);
@@ -117,7 +121,11 @@ fn cut_beside<L: Layout>(
         return None;
     }
     let cut = whole.try_subslice(rt, front.len(), 4).ok()?;
-    let alike = [cut == back, hash_of(&cut) == hash_of(&back), cut.eq_slice(other)];
+    let alike = [
+        cut == back,
+        hash_of(&cut) == hash_of(&back),
+        cut.eq_slice(other),
+    ];
     Some((alike, cut.cmp(&back)))
 }
 
@@ -161,7 +169,11 @@ fn boxes_compared(alloc: Global) -> Option<(bool, Option<Ordering>)> {
 /// A window over text beside two texts.
 fn beside_texts(alloc: Global, text: &str, same: &str, other: &str) -> Option<[bool; 3]> {
     let window: ArcSlice<Text> = ArcSlice::try_from_str(alloc, text).ok()?;
-    Some([window.eq_str(same), window.eq_str(other), AsStr::as_str(&window) == same])
+    Some([
+        window.eq_str(same),
+        window.eq_str(other),
+        AsStr::as_str(&window) == same,
+    ])
 }
 
 #[test]
@@ -169,5 +181,127 @@ fn owned_items_and_text_compared(rt: HostRuntime) -> Result<(), Fail> {
     assert!(rt; boxes_compared(rt.alloc()) == Some((true, Some(Ordering::Greater))));
     let told = beside_texts(rt.alloc(), "aéb", "aéb", "aeb");
     assert!(rt; told == Some([true, false, true]));
+    Ok(())
+}
+
+/// A window of three bytes is read into two places, three times: the counts, what came and what is
+/// left.
+fn read_thrice(alloc: Global) -> Option<([usize; 3], [u8; 2], [usize; 3])> {
+    let mut window: ArcSlice<Plain<u8>> = ArcSlice::try_from_slice(alloc, &[1, 2, 3]).ok()?;
+    let mut places = [0; 2];
+    let first = window.read(&mut places).ok()?;
+    let left = window.len();
+    let second = window.read(&mut places).ok()?;
+    let after = window.len();
+    let third = window.read(&mut places).ok()?;
+    Some(([first, second, third], places, [left, after, window.len()]))
+}
+
+#[test]
+fn read_from(rt: HostRuntime) -> Result<(), Fail> {
+    assert!(rt; read_thrice(rt.alloc()) == Some(([2, 1, 0], [3, 2], [1, 0, 0])));
+    Ok(())
+}
+
+/// Two numbers of two bytes each, and a byte that is passed over between them; what is left.
+fn numbers(alloc: Global, bytes: &[u8]) -> Option<([u16; 2], usize)> {
+    let mut window: ArcSlice<Plain<u8>> = ArcSlice::try_from_slice(alloc, bytes).ok()?;
+    if window.remaining() < 5 {
+        return None;
+    }
+    let first = window.get_u16();
+    Buf::advance(&mut window, 1);
+    let second = window.get_u16();
+    Some(([first, second], window.chunk().len()))
+}
+
+/// The same of byte text, whose first byte is read.
+fn first_byte(alloc: Global, bytes: &[u8]) -> Option<(u8, usize)> {
+    let mut window: ArcSlice<ByteText> = ArcSlice::try_from_slice(alloc, bytes).ok()?;
+    if window.remaining() < 1 {
+        return None;
+    }
+    let byte = window.get_u8();
+    Some((byte, window.chunk().len()))
+}
+
+#[test]
+fn numbers_read(rt: HostRuntime) -> Result<(), Fail> {
+    let told = numbers(rt.alloc(), &[1, 2, 9, 3, 4, 5]);
+    assert!(rt; told == Some(([0x0102, 0x0304], 1)));
+    assert!(rt; numbers(rt.alloc(), &[1, 2, 9, 3]) == None);
+    assert!(rt; first_byte(rt.alloc(), b"ab") == Some((97, 1)));
+    Ok(())
+}
+
+/// Of a window over these numbers: their sum by a loop, the second of them, how many are lent, and
+/// the greatest that an iterator finds.
+fn lent(alloc: Global, numbers: &[u32]) -> Option<(u64, [Option<u32>; 2], usize)> {
+    let window: ArcSlice<Plain<u32>> = ArcSlice::try_from_slice(alloc, numbers).ok()?;
+    let mut sum = 0u64;
+    for number in &window {
+        sum = sum.wrapping_add(*number as u64);
+    }
+    let second = window.get(1).copied();
+    let most = window.iter().copied().max();
+    Some((sum, [second, most], AsSlice::as_slice(&window).len()))
+}
+
+#[test]
+fn items_lent(rt: HostRuntime) -> Result<(), Fail> {
+    assert!(rt; lent(rt.alloc(), &[4, 7, 5]) == Some((16, [Some(7), Some(7)], 3)));
+    assert!(rt; lent(rt.alloc(), &[]) == Some((0, [None, None], 0)));
+    Ok(())
+}
+
+/// What two maps have under a window of this text, where they have a number under that one.
+fn looked_up(alloc: Global, key: &[u8], asked: &[u8]) -> Option<[Option<u32>; 2]> {
+    let one: ArcSlice<Plain<u8>> = ArcSlice::try_from_slice(alloc, key).ok()?;
+    let two: ArcSlice<Plain<u8>> = ArcSlice::try_from_slice(alloc, key).ok()?;
+    let asked: ArcSlice<Plain<u8>> = ArcSlice::try_from_slice(alloc, asked).ok()?;
+    let mut ordered = BTreeMap::new(alloc);
+    ordered.insert(one, 5u32).ok()?;
+    let mut hashed = HashMap::new(alloc);
+    hashed.insert(two, 6u32).ok()?;
+    Some([ordered.get(&asked).copied(), hashed.get(&asked).copied()])
+}
+
+#[test]
+fn keys_of_maps(rt: HostRuntime) -> Result<(), Fail> {
+    assert!(rt; looked_up(rt.alloc(), b"key", b"key") == Some([Some(5), Some(6)]));
+    assert!(rt; looked_up(rt.alloc(), b"key", b"kex") == Some([None; 2]));
+    Ok(())
+}
+
+/// What a caller's struct gets of a window in it.
+#[derive(Debug, PartialEq, Eq, PartialOrd, Ord, Hash, Drop)]
+struct Frame {
+    number: u8,
+    body: ArcSlice<Plain<u8>>,
+}
+
+/// Two frames: whether they are equal, whether their hashes are, and whether the first prints so.
+fn frames(alloc: Global, one: &[u8], two: &[u8], text: &str) -> Option<[bool; 3]> {
+    let one = Frame {
+        number: 1,
+        body: ArcSlice::try_from_slice(alloc, one).ok()?,
+    };
+    let two = Frame {
+        number: 1,
+        body: ArcSlice::try_from_slice(alloc, two).ok()?,
+    };
+    let written = format!(in alloc; "{one:?}").ok()?;
+    Some([
+        one == two,
+        hash_of(&one) == hash_of(&two),
+        written.as_str() == text,
+    ])
+}
+
+#[test]
+fn derived_over_a_window(rt: HostRuntime) -> Result<(), Fail> {
+    let text = "Frame { number: 1, body: b\"ab\" }";
+    assert!(rt; frames(rt.alloc(), b"ab", b"ab", text) == Some([true; 3]));
+    assert!(rt; frames(rt.alloc(), b"ab", b"ac", text) == Some([false, false, true]));
     Ok(())
 }
