@@ -2,6 +2,6 @@
 
 pub use arc_buffer::buffer::{Buffer, BufferMut};
 pub use arc_buffer::kinds::{
-    AnyItems, ByteText, Concatenable, CopySlice, Emptyable, Extendable, Owned, Plain, Slice,
-    Subsliceable, Text, VecIn, Wraps, ZeroItem, Zeroable,
+    AnyItems, ByteText, Concatenable, CopySlice, DebugItem, DebugSlice, Emptyable, Extendable,
+    Owned, Plain, Slice, Subsliceable, Text, VecIn, Wraps, ZeroItem, Zeroable,
 };
