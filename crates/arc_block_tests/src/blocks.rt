@@ -42,7 +42,12 @@ fn shared_up_to_three(rt: HostRuntime) -> Result<(), Fail> {
     assert!(rt; first.is_unique_as(&mut pass));
     let second = shared(leave, &first, &mut pass)?;
     let third = shared(leave, &second, &mut pass)?;
-    assert!(rt; matches!(third.try_share_once_as(leave, &mut pass), Some(Err(CountFull))));
+    assert!(rt;
+        matches!(
+            third.try_share_once_as(leave, &mut pass),
+            Some(Err(CountFull))
+        )
+    );
     assert!(rt; !first.is_unique_as(&mut pass));
     assert!(rt; !first.release_as(&mut pass));
     let fourth = shared(leave, &third, &mut pass)?;
