@@ -7,6 +7,7 @@ use arc_buffer::buffer::{
 };
 use arc_owners::error::TryReserveError;
 use bstr::BString;
+use std::alloc::{AllocError, Global};
 use std::boxed::BoxedSlice;
 use std::sync::Arc;
 use std::test::Fail;
@@ -40,40 +41,66 @@ fn digits(bytes: &[u8]) -> u64 {
 }
 
 /// How many bytes a buffer has, which ones, and whether it is unique.
-fn seen<B: Buffer<u8>>(buffer: &B) -> (usize, u64, bool) {
+type Seen = (usize, u64, bool);
+
+fn seen<B: Buffer<u8>>(buffer: &B) -> Seen {
     let bytes = buffer.as_slice();
     (bytes.len(), digits(bytes), buffer.is_unique())
+}
+
+fn vec_seen(alloc: Global, bytes: &[u8]) -> Result<Seen, AllocError> {
+    Ok(seen(&Vec::from_slice(alloc, bytes)?))
+}
+
+fn string_seen(alloc: Global, text: &str) -> Result<Seen, AllocError> {
+    Ok(seen(&String::from_str(alloc, text)?))
+}
+
+fn bstring_seen(alloc: Global, bytes: &[u8]) -> Result<Seen, AllocError> {
+    Ok(seen(&BString::from_slice(alloc, bytes)?))
+}
+
+fn boxed_seen(alloc: Global, bytes: &[u8]) -> Result<Seen, AllocError> {
+    Ok(seen(&BoxedSlice::from_slice(alloc, bytes)?))
+}
+
+fn arc_seen(alloc: Global, bytes: &[u8]) -> Result<Seen, AllocError> {
+    let vec = Vec::from_slice(alloc, bytes)?;
+    Ok(seen(&Arc::new(alloc, vec)?))
+}
+
+fn page_seen(alloc: Global, bytes: &[u8]) -> Result<Seen, AllocError> {
+    Ok(seen(&AsRefBuffer(Page::new(alloc, bytes, 7)?)))
+}
+
+fn page_mut_seen(alloc: Global, bytes: &[u8]) -> Result<Seen, AllocError> {
+    Ok(seen(&AsMutBuffer::new(Page::new(alloc, bytes, 7)?)))
 }
 
 #[test]
 fn buffers_that_are_read(rt: HostRuntime) -> Result<(), Fail> {
     let alloc = rt.alloc();
-    let vec = Vec::from_slice(alloc, &[1u8, 2, 3])?;
-    let text = String::from_str(alloc, "aé")?;
-    let bytes = BString::from_slice(alloc, &[0xa9u8, 0xc3])?;
-    let boxed = BoxedSlice::from_slice(alloc, &[4u8, 5])?;
     let fixed: &'static [u8] = b"abcd";
-    let shared = Arc::new(alloc, Vec::from_slice(alloc, &[42u8])?)?;
-    let page = AsRefBuffer(Page {
-        bytes: Vec::from_slice(alloc, &[1, 2])?,
-        number: 7,
-    });
     let found = [
-        seen(&vec),
-        seen(&text),
-        seen(&bytes),
-        seen(&boxed),
+        vec_seen(alloc, &[1, 2, 3])?,
+        vec_seen(alloc, &[])?,
+        string_seen(alloc, "aé")?,
+        bstring_seen(alloc, &[0xa9, 0xc3])?,
+        boxed_seen(alloc, &[4, 5])?,
         seen(&fixed),
-        seen(&shared),
-        seen(&page),
+        arc_seen(alloc, &[42])?,
+        page_seen(alloc, &[1, 2])?,
+        page_mut_seen(alloc, &[1, 2])?,
     ];
     let wanted = [
         (3, 0x010203, true),
+        (0, 0, true),
         (3, 0x61c3a9, true),
         (2, 0xa9c3, true),
         (2, 0x0405, true),
         (4, 0x61626364, false),
         (1, 42, false),
+        (2, 0x0102, false),
         (2, 0x0102, false),
     ];
     assert!(rt; found == wanted);
@@ -81,17 +108,18 @@ fn buffers_that_are_read(rt: HostRuntime) -> Result<(), Fail> {
 }
 
 /// What is answered where an item is pushed, the bytes after it, and the capacity.
-fn push<B: BufferMut<u8>>(buffer: &mut B, item: u8) -> (Result<(), u8>, u64, usize) {
+type Pushed = (Result<(), u8>, u64, usize);
+
+fn push<B: BufferMut<u8>>(buffer: &mut B, item: u8) -> Pushed {
     let answer = buffer.try_push(item);
     (answer, digits(buffer.as_slice()), buffer.capacity())
 }
 
 /// What is answered where room is asked for, the bytes after it, whether there is that room, and
 /// whether there are as many places as before.
-fn reserve<B: BufferMut<u8>>(
-    buffer: &mut B,
-    additional: usize,
-) -> (Result<(), TryReserveError>, u64, bool, bool) {
+type Reserved = (Result<(), TryReserveError>, u64, bool, bool);
+
+fn reserve<B: BufferMut<u8>>(buffer: &mut B, additional: usize) -> Reserved {
     let places = buffer.capacity();
     let answer = buffer.try_reserve(additional);
     let after = buffer.capacity();
@@ -108,73 +136,94 @@ fn raise<B: BufferMut<u8>>(buffer: &mut B) -> u64 {
     digits(buffer.as_slice())
 }
 
-#[test]
-fn vector_that_is_written(rt: HostRuntime) -> Result<(), Fail> {
-    let mut vec = Vec::with_capacity(rt.alloc(), 3)?;
+/// What a vector with two places answers that is pushed to, and its bytes raised by one.
+fn vec_written(alloc: Global, items: [u8; 3]) -> Result<([Pushed; 3], u64), AllocError> {
+    let mut vec = Vec::with_capacity(alloc, 2)?;
+    let [first, second, third] = items;
     let pushed = [
-        push(&mut vec, 1),
-        push(&mut vec, 2),
-        push(&mut vec, 3),
-        push(&mut vec, 4),
+        push(&mut vec, first),
+        push(&mut vec, second),
+        push(&mut vec, third),
     ];
-    let wanted = [
-        (Ok(()), 0x01, 3),
-        (Ok(()), 0x0102, 3),
-        (Ok(()), 0x010203, 3),
-        (Err(4), 0x010203, 3),
-    ];
+    Ok((pushed, raise(&mut vec)))
+}
+
+/// What a vector of three bytes and as many places answers where room is asked for.
+fn vec_reserved(alloc: Global, additional: usize) -> Result<Reserved, AllocError> {
+    let mut vec = Vec::from_slice(alloc, &[1u8, 2, 3])?;
+    Ok(reserve(&mut vec, additional))
+}
+
+#[test]
+fn vector_pushed_within_its_room(rt: HostRuntime) -> Result<(), Fail> {
+    let (pushed, raised) = vec_written(rt.alloc(), [1, 2, 3])?;
+    let wanted = [(Ok(()), 0x01, 2), (Ok(()), 0x0102, 2), (Err(3), 0x0102, 2)];
     assert!(rt; pushed == wanted);
-    assert!(rt; raise(&mut vec) == 0x020304);
-    // Three and so many are 2^63 - 1, which no memory has; with one more it is no size at all.
+    assert!(rt; raised == 0x0203);
+    Ok(())
+}
+
+/// Three places and `most` are 2^63 - 1, which no memory has; one more, and no block could be so
+/// large.
+#[test]
+fn vector_makes_room_or_refuses(rt: HostRuntime) -> Result<(), Fail> {
+    let alloc = rt.alloc();
     let most = 9223372036854775804;
-    let reserved = [
-        reserve(&mut vec, most),
-        reserve(&mut vec, most + 1),
-        reserve(&mut vec, usize::MAX),
-        reserve(&mut vec, 0),
-        reserve(&mut vec, 1),
+    let found = [
+        vec_reserved(alloc, 0)?,
+        vec_reserved(alloc, 1)?,
+        vec_reserved(alloc, most)?,
+        vec_reserved(alloc, most + 1)?,
+        vec_reserved(alloc, usize::MAX)?,
     ];
     let wanted = [
-        (Err(TryReserveError::AllocError), 0x020304, false, true),
+        (Ok(()), 0x010203, true, true),
+        (Ok(()), 0x010203, true, false),
+        (Err(TryReserveError::AllocError), 0x010203, false, true),
         (
             Err(TryReserveError::CapacityOverflow),
-            0x020304,
+            0x010203,
             false,
             true,
         ),
         (
             Err(TryReserveError::CapacityOverflow),
-            0x020304,
+            0x010203,
             false,
             true,
         ),
-        (Ok(()), 0x020304, true, true),
-        (Ok(()), 0x020304, true, false),
     ];
-    assert!(rt; reserved == wanted);
-    assert!(rt; vec.try_push(5) == Ok(()));
-    set(&mut vec, 0, 9);
-    assert!(rt; seen(&vec) == (4, 0x09030405, true));
+    assert!(rt; found == wanted);
     Ok(())
+}
+
+/// What a page answers of which the second byte is set, then pushed to, asked for room, and raised;
+/// and what the page itself shows at the end, with its number.
+fn page_written(
+    alloc: Global,
+    bytes: [u8; 2],
+    item: u8,
+) -> Result<(Pushed, [Reserved; 2], u64, (u64, u32)), AllocError> {
+    let page = Page::new(alloc, &bytes, 7)?;
+    let mut buffer = AsMutBuffer::new(set_lent(page, 1, item));
+    let pushed = push(&mut buffer, item);
+    let reserved = [reserve(&mut buffer, 0), reserve(&mut buffer, 1)];
+    let raised = raise(&mut buffer);
+    let page = buffer.into_inner();
+    Ok((pushed, reserved, raised, (digits(page.lend()), page.number)))
 }
 
 #[test]
 fn lent_bytes_that_are_written(rt: HostRuntime) -> Result<(), Fail> {
-    let bytes = Vec::from_slice(rt.alloc(), &[1u8, 2])?;
-    let page = set_lent(Page { bytes, number: 7 }, 1, 9);
-    let mut buffer = AsMutBuffer::new(page);
-    assert!(rt; seen(&buffer) == (2, 0x0109, false));
-    assert!(rt; push(&mut buffer, 3) == (Err(3), 0x0109, 2));
-    let reserved = [reserve(&mut buffer, 0), reserve(&mut buffer, 1)];
+    let (pushed, reserved, raised, shown) = page_written(rt.alloc(), [1, 2], 9)?;
     let wanted = [
         (Err(TryReserveError::Unsupported), 0x0109, true, true),
         (Err(TryReserveError::Unsupported), 0x0109, false, true),
     ];
+    assert!(rt; pushed == (Err(9), 0x0109, 2));
     assert!(rt; reserved == wanted);
-    assert!(rt; raise(&mut buffer) == 0x020a);
-    let page = buffer.into_inner();
-    assert!(rt; digits(page.lend()) == 0x020a);
-    assert!(rt; page.number == 7);
+    assert!(rt; raised == 0x020a);
+    assert!(rt; shown == (0x020a, 7));
     Ok(())
 }
 
@@ -183,21 +232,16 @@ fn number<B: BorrowMetadata<Metadata = u32>>(buffer: &B) -> u32 {
     *buffer.borrow_metadata()
 }
 
+/// The number of a page that is read, shared and read, and written.
+fn numbers(alloc: Global, wanted: u32) -> Result<[u32; 3], AllocError> {
+    let written = number(&AsMutBuffer::new(Page::new(alloc, &[1], wanted)?));
+    let page = AsRefBuffer(Page::new(alloc, &[1], wanted)?);
+    let read = number(&page);
+    Ok([read, number(&Arc::new(alloc, page)?), written])
+}
+
 #[test]
 fn metadata_of_buffers(rt: HostRuntime) -> Result<(), Fail> {
-    let alloc = rt.alloc();
-    let page = Page {
-        bytes: Vec::from_slice(alloc, &[1u8])?,
-        number: 7,
-    };
-    let read = AsRefBuffer(page);
-    let lent = number(&read);
-    let shared = Arc::new(alloc, read)?;
-    let page = Page {
-        bytes: Vec::from_slice(alloc, &[2u8])?,
-        number: 8,
-    };
-    let found = [lent, number(&shared), number(&AsMutBuffer::new(page))];
-    assert!(rt; found == [7, 7, 8]);
+    assert!(rt; numbers(rt.alloc(), 7)? == [7, 7, 7]);
     Ok(())
 }

@@ -1,16 +1,27 @@
 //! A caller's type that lends its items.
-ghost use Rattle.std.specs.Prelude.{◌≡◌};
+ghost use Rattle.std.specs.Prelude.{◌≡◌, IfOk};
 ghost use Rattle.std.specs.Vec.{vec_items, with_items};
 ghost use Rattle.std.proofs.Common.{sym, ◌∙◌};
 ghost use Rattle.std.proofs.lemmas.List.{with_items_is};
 
 use arc_buffer::buffer::{BorrowMetadata, Lend, LendMut};
+use std::alloc::{AllocError, Global};
 
 /// Bytes with a number, as a file's mapped bytes have one.
 #[derive(Drop)]
 pub struct Page {
     pub bytes: Vec<u8>,
     pub number: u32,
+}
+
+impl Page {
+    /// A page of a copy of these bytes.
+    pub fn new(alloc: Global, bytes: &[u8], number: u32) -> Result<Page, AllocError>
+        ensures { IfOk result (λ page. vec_items page.bytes ≡ bytes.now) }
+    {
+        let bytes = Vec::from_slice(alloc, bytes)?;
+        Ok(Page { bytes, number })
+    }
 }
 
 impl Lend<u8> for Page {
