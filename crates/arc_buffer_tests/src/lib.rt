@@ -6,3 +6,5 @@
 mod buffer;
 #[cfg(test)]
 mod kinds;
+#[cfg(test)]
+mod page;
