@@ -150,7 +150,8 @@ fn vec_written(alloc: Global, items: [u8; 3]) -> Result<([Pushed; 3], u64), Allo
 
 /// What a vector of three bytes and as many places answers where room is asked for.
 fn vec_reserved(alloc: Global, additional: usize) -> Result<Reserved, AllocError> {
-    let mut vec = Vec::from_slice(alloc, &[1u8, 2, 3])?;
+    let mut vec = Vec::with_capacity(alloc, 3)?;
+    vec.extend_from_slice(&[1u8, 2, 3])?;
     Ok(reserve(&mut vec, additional))
 }
 

@@ -18,8 +18,6 @@ impl<B> Model for AsMutBuffer<B> {
     ghost Value = { B };
 
     ghost view = { λ b. b.inner };
-
-    ghost inverse = { λ b. record { inner = b } };
 }
 
 impl<B> AsMutBuffer<B> {
