@@ -1,6 +1,8 @@
 //! Read windows compared, hashed, printed, lent, and read from.
+ghost use Rattle.std.specs.Fmt.{debug_list};
+
 use arc_block::layout::{ArcLayout, DefaultLayout, Layout, VecLayout};
-use arc_buffer::kinds::{AnyItems, ByteText, CopySlice, DebugSlice, Owned, Plain, Slice, Text};
+use arc_buffer::kinds::{ByteText, CopySlice, DebugItem, DebugSlice, Owned, Plain, Text};
 use arc_read::slice::ArcSlice;
 use bytes::Buf;
 use std::alloc::Global;
@@ -303,5 +305,28 @@ fn derived_over_a_window(rt: HostRuntime) -> Result<(), Fail> {
     let text = "Frame { number: 1, body: b\"ab\" }";
     assert!(rt; frames(rt.alloc(), b"ab", b"ab", text) == Some([true; 3]));
     assert!(rt; frames(rt.alloc(), b"ab", b"ac", text) == Some([false, false, true]));
+    Ok(())
+}
+
+/// What a caller's own item type gets: the language's list.
+#[derive(Clone, Copy, Debug)]
+struct Point {
+    x: u8,
+    y: u8,
+}
+
+impl DebugItem for Point {
+    ghost debug_plain = { debug_list Self.debug_output };
+
+    fn fmt_plain<W: fmt::Write>(items: &[Point], f: &mut fmt::Formatter<W>) -> fmt::Result {
+        fmt::Debug::fmt(&items, f)
+    }
+}
+
+#[test]
+fn callers_types(rt: HostRuntime) -> Result<(), Fail> {
+    let point = Point { x: 1, y: 2 };
+    let told = debugs::<Plain<Point>>(rt.alloc(), &[point], "[Point { x: 1, y: 2 }]");
+    assert!(rt; told == Some(true));
     Ok(())
 }
