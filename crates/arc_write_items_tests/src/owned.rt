@@ -1,7 +1,9 @@
-//! Owned items: each is dropped once.
+//! Owned items: each is dropped once, or stays with its forgotten owner.
 use arc_block::layout::{DefaultLayout, DefaultLayoutMut};
 use arc_buffer::kinds::Owned;
 use arc_owners::error::TryReserveError;
+use arc_owners::mark::{Open, Whole};
+use arc_owners::owners::Pass;
 use arc_write::slice_mut::ArcSliceMut;
 use linked_list_allocator::LocalHeap;
 use std::alloc::Global;
@@ -46,14 +48,18 @@ impl Counts {
     }
 }
 
-type Writer<'a, A = Global> = ArcSliceMut<
+type Writer<'a, A = Global, H = Open> = ArcSliceMut<
     Owned<Counted<'a>>,
     DefaultLayoutMut,
     1,
     Vec<Counted<'a>>,
     (),
     A,
+    H,
 >;
+
+/// A window that is forgotten where it is dropped.
+type Forgotten<'a> = Writer<'a, &'a LocalHeap, Whole>;
 
 type Boxes<'a> = ArcSliceMut<Owned<Box<Counted<'a>>>, DefaultLayoutMut, 1, Vec<Box<Counted<'a>>>>;
 
@@ -147,6 +153,26 @@ fn extended_behind_a_cut(rt: HostRuntime) -> Result<(), Fail> {
     assert!(rt; counts.now() == [0, 0, 0, 1, 1]);
     drop(window);
     assert!(rt; counts.now() == [1; 5]);
+    Ok(())
+}
+
+/// Dropped under `Whole` a window stays the owner of its block: its item isn't dropped, and neither
+/// the items' memory nor the count's is given back.
+#[test]
+fn kept_by_a_forgotten_owner(rt: HostRuntime) -> Result<(), Fail> {
+    let drops = AtomicU64::new(0);
+    let heap = LocalHeap::new(rt.alloc(), 512)?;
+    let mut pass = Pass::none();
+    let mut window = Forgotten::try_with_capacity_as(&heap, 4, &mut pass)?;
+    assert!(rt;
+        window
+            .try_push_as(Counted { drops: &drops }, &mut pass)
+            .is_ok()
+    );
+    let taken = heap.used();
+    assert!(rt; 0 < taken);
+    drop(window);
+    assert!(rt; (drops.load(Ordering::SeqCst), heap.used()) == (0, taken));
     Ok(())
 }
 
