@@ -1,7 +1,7 @@
 //! Read windows compared, hashed, printed, lent, and read from.
 ghost use Rattle.std.specs.Fmt.{debug_list};
 
-use arc_block::layout::{ArcLayout, DefaultLayout, Layout, VecLayout};
+use arc_block::layout::{ArcLayout, BoxedSliceLayout, DefaultLayout, Layout, RawLayout, VecLayout};
 use arc_buffer::kinds::{ByteText, CopySlice, DebugItem, DebugSlice, Owned, Plain, Text};
 use arc_read::slice::ArcSlice;
 use bytes::Buf;
@@ -129,6 +129,25 @@ fn cut_beside<L: Layout>(
         cut.eq_slice(other),
     ];
     Some((alike, cut.cmp(&back)))
+}
+
+/// What a hasher says of a window over these bytes under a layout.
+fn hash_under<L: Layout>(alloc: Global, bytes: &[u8]) -> Option<u64> {
+    let window: ArcSlice<Plain<u8>, L> = ArcSlice::try_from_slice(alloc, bytes).ok()?;
+    Some(hash_of(&window))
+}
+
+#[test]
+fn hashed_alike_under_each_layout(rt: HostRuntime) -> Result<(), Fail> {
+    let hash = hash_under::<DefaultLayout>(rt.alloc(), b"abc");
+    let told = [
+        hash_under::<ArcLayout<false, false>>(rt.alloc(), b"abc"),
+        hash_under::<BoxedSliceLayout>(rt.alloc(), b"abc"),
+        hash_under::<VecLayout>(rt.alloc(), b"abc"),
+        hash_under::<RawLayout>(rt.alloc(), b"abc"),
+    ];
+    assert!(rt; hash.is_some() && told == [hash; 4]);
+    Ok(())
 }
 
 #[test]
