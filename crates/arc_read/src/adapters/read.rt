@@ -1,7 +1,9 @@
 //! `io::Read` of read windows over bytes.
-ghost use Rattle.std.specs.Prelude.{◌≡◌, ◌++◌, min, length, drop, take, Ok, Some};
+ghost use Rattle.std.specs.Prelude.{◌≡◌, ◌<◌, ◌≤◌, ◌++◌, min, length, drop, take, Ok, Some};
+ghost use Rattle.std.specs.Prelude.{OnOk, IfErr};
 ghost use Rattle.std.specs.Io.{ReadsAtMost};
-ghost use Rattle.std.specs.Io.KnownBytes.{ReadConsumes};
+ghost use Rattle.std.specs.Io.KnownBytes.{Consumes, ReadConsumes};
+ghost use Rattle.std.specs.IoError.{error_kind};
 ghost use Rattle.arc_block.specs.Place.{moved};
 
 use crate::slice::ArcSlice;
@@ -10,6 +12,7 @@ use arc_buffer::kinds::Plain;
 use arc_owners::mark::Mark;
 use std::alloc::Allocator;
 use std::io;
+use std::io::ErrorKind;
 
 impl<L: Layout, B, M, A: Allocator + Copy, H: Mark> io::Read
     for ArcSlice<Plain<u8>, L, B, M, A, H> {
@@ -30,5 +33,30 @@ impl<L: Layout, B, M, A: Allocator + Copy, H: Mark> io::Read
         buffer[..count].copy_from_slice(&self.as_slice()[..count]);
         self.advance(count);
         Ok(count)
+    }
+
+    /// Moves the window's first bytes to the buffer, as many as that has places for. It adds
+    /// nothing.
+    ///
+    /// # Errors
+    /// One of kind `UnexpectedEof` where the window has fewer bytes: all of them went to the front
+    /// of the buffer.
+    fn read_exact(&mut self, buffer: &mut [u8]) -> io::Result<()>
+        ensures bytes { OnOk result
+            (Consumes (Some self.old.items) (Some self.new.items) buffer.new) }
+        ensures ok { OnOk result (length buffer.old ≤ length self.old.items) }
+        ensures short { IfErr result (λ e. (length self.old.items < length buffer.old)
+            × (error_kind e ≡ ErrorKind.UnexpectedEof)) }
+        ensures copied { let n = min (length self.old.items) (length buffer.old) in
+            buffer.new ≡ take n self.old.items ++ drop n buffer.old }
+        ensures window { let n = min (length self.old.items) (length buffer.old) in
+            self.new ≡ record { items = drop n self.old.items; place = moved n self.old.place } }
+    {
+        let is_short = self.len() < buffer.len();
+        self.read(buffer)?;
+        if is_short {
+            return Err(io::Error::new(ErrorKind::UnexpectedEof, "failed to fill whole buffer"));
+        }
+        Ok(())
     }
 }

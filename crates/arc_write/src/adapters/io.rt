@@ -1,9 +1,11 @@
 //! `io::Read` and `io::Write` of write windows over bytes.
-ghost use Rattle.std.specs.Prelude.{◌≡◌, ◌++◌, min, length, drop, take, Ok, Some, IsOk};
+ghost use Rattle.std.specs.Prelude.{◌≡◌, ◌<◌, ◌≤◌, ◌++◌, min, length, drop, take, Ok, Some};
+ghost use Rattle.std.specs.Prelude.{IsOk, OnOk, IfErr};
 ghost use Rattle.std.specs.Io.{ReadsAtMost, WritesAtMost};
-ghost use Rattle.std.specs.Io.KnownBytes.{Keeps, ReadConsumes, WriteAppends};
+ghost use Rattle.std.specs.Io.KnownBytes.{Appends, Consumes, Keeps, ReadConsumes, WriteAppends};
+ghost use Rattle.std.specs.IoError.{error_kind};
 ghost use Rattle.arc_block.specs.Writers.{after_advance};
-ghost use Rattle.arc_write.specs.Within.{after_write, taken};
+ghost use Rattle.arc_write.specs.Within.{after_write, spare_places, taken};
 
 use crate::slice_mut::ArcSliceMut;
 use arc_block::layout::LayoutMut;
@@ -11,6 +13,7 @@ use arc_buffer::kinds::Plain;
 use arc_owners::mark::Mark;
 use std::alloc::Allocator;
 use std::io;
+use std::io::ErrorKind;
 
 impl<L: LayoutMut, B, M, A: Allocator + Copy, H: Mark> io::Read
     for ArcSliceMut<Plain<u8>, L, 1, B, M, A, H> {
@@ -32,6 +35,31 @@ impl<L: LayoutMut, B, M, A: Allocator + Copy, H: Mark> io::Read
         self.advance(count);
         Ok(count)
     }
+
+    /// Moves the window's first bytes to the buffer, as many as that has places for. It adds
+    /// nothing.
+    ///
+    /// # Errors
+    /// One of kind `UnexpectedEof` where the window has fewer bytes: all of them went to the front
+    /// of the buffer.
+    fn read_exact(&mut self, buffer: &mut [u8]) -> io::Result<()>
+        ensures bytes { OnOk result
+            (Consumes (Some self.old.items) (Some self.new.items) buffer.new) }
+        ensures ok { OnOk result (length buffer.old ≤ length self.old.items) }
+        ensures short { IfErr result (λ e. (length self.old.items < length buffer.old)
+            × (error_kind e ≡ ErrorKind.UnexpectedEof)) }
+        ensures copied { let n = min (length self.old.items) (length buffer.old) in
+            buffer.new ≡ take n self.old.items ++ drop n buffer.old }
+        ensures window { self.new
+            ≡ after_advance (min (length self.old.items) (length buffer.old)) self.old }
+    {
+        let is_short = self.len() < buffer.len();
+        self.read(buffer)?;
+        if is_short {
+            return Err(io::Error::new(ErrorKind::UnexpectedEof, "failed to fill whole buffer"));
+        }
+        Ok(())
+    }
 }
 
 impl<L: LayoutMut, B, M, A: Allocator + Copy, H: Mark> io::Write
@@ -49,6 +77,27 @@ impl<L: LayoutMut, B, M, A: Allocator + Copy, H: Mark> io::Write
         let count = (self.capacity() - self.len()).min(bytes.len());
         self.extend_within(&bytes[..count]);
         Ok(count)
+    }
+
+    /// Appends the bytes within the window's places. It makes no room and adds nothing.
+    ///
+    /// # Errors
+    /// One of kind `WriteZero` where there are more bytes than places: those that fit were
+    /// appended.
+    fn write_all(&mut self, bytes: &[u8]) -> io::Result<()>
+        ensures bytes { OnOk result
+            (Appends (Some self.old.items) (Some self.new.items) bytes.now) }
+        ensures ok { OnOk result (length bytes.now ≤ spare_places self.old) }
+        ensures full { IfErr result (λ e. (spare_places self.old < length bytes.now)
+            × (error_kind e ≡ ErrorKind.WriteZero)) }
+        ensures window { self.new ≡ after_write self.old bytes.now }
+    {
+        let is_full = self.capacity() - self.len() < bytes.len();
+        self.write(bytes)?;
+        if is_full {
+            return Err(io::Error::new(ErrorKind::WriteZero, "failed to write whole buffer"));
+        }
+        Ok(())
     }
 
     /// Always Ok: nothing is held back.
