@@ -232,6 +232,14 @@ pub verb_read : (words : List (List ℕ)) (word : List ℕ) (behind : List (List
 unfolding command_of read_as
 verb_read words word behind v are is = rw (are, is) refl
 
+-- no form has this word where each one's word is another
+pub none_named : (word : List ℕ) → AllByRecursion (λ (line : List ℕ × Verb). bytes_eq line.0 word ≡ false) verbs → None ≡ named word verbs
+none_named word others = none verbs others
+  where
+    none : (table : List (List ℕ × Verb)) → AllByRecursion (λ (line : List ℕ × Verb). bytes_eq line.0 word ≡ false) table → None ≡ named word table
+    none [] others = refl
+    none (line ∷ table) others = none table others.1 ∙ sym (cond-false _ (Some line.1) (named word table) others.0)
+
 pub no_verb : (words : List (List ℕ)) (word : List ℕ) (behind : List (List ℕ)) → words ≡ word ∷ behind → named word verbs ≡ None → None ≡ command_of words
 unfolding command_of
 no_verb words word behind are is = rw (are, is) refl

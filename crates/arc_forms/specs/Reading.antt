@@ -183,11 +183,7 @@ verbs = map (λ v. ((reads v).word, v)) (
     verb.Numbers two.Res ∷ verb.Numbers two.Rec ∷ verb.Number one.Room ∷ verb.Number one.Freeze ∷
     verb.Number one.Mut ∷ verb.Bare bare.Static ∷ verb.Number one.TakeStatic ∷ [])
 
--- a table of first words, where these are references
-abbrev pub lines : List (Bor (List ℕ) × Verb) → List (List ℕ × Verb)
-lines table = map (λ line. (line.0.now, line.1)) table
-
--- the form whose first word this is, in such a table
+-- the form whose first word this is, in a table of first words
 abbrev pub named : List ℕ → List (List ℕ × Verb) → Option Verb
 named word [] = None
 named word (line ∷ table) = if bytes_eq line.0 word then Some line.1 else named word table
