@@ -4,3 +4,4 @@ pub mod Calls
 pub mod Parts
 pub mod Splits
 pub mod Writing
+pub mod Answers

@@ -1,0 +1,1 @@
+//! What the window of a slot is answered to a command.
