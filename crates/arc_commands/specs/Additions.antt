@@ -140,7 +140,7 @@ module _ {H : Type 0} where
     RowAdds row (Freeze i) reply.Ok = Stays
     RowAdds row (Drop i) reply.Ok = Goes (λ o history. entry.Down o.number ∷ [])
     RowAdds row (TakeStatic i) (reply.Static items) =
-        (there ≡ None) × (made ≡ None) × (new ≡ old)
+        (here ≡ None) × (there ≡ None) × (made ≡ None) × (new ≡ old)
     RowAdds row command reply = AddsNone
 
   -- what is added by a command that makes a window of what it brings: it stands on nothing, or as

@@ -1,10 +1,10 @@
 -- What each call of a slot leads to, as what its window is answered to a command.
 use Rattle.std.proofs.Common.{◌≡◌, ℕ, ◌+◌, ◌==◌, ◌&&◌, Bool, true, false, if◌then◌else◌, List, [], ◌∷◌}
 use Rattle.std.proofs.Common.{length, Option, Some, None, Result, Ok, Err, is_some, refl, sym, ap}
-use Rattle.std.proofs.Common.{◌∙◌, subst}
+use Rattle.std.proofs.Common.{◌∙◌, subst, inl, inr}
 use Rattle.std.specs.Prelude.{nat_lt}
 use Rattle.std.specs.Result.{result_err}
-use Rattle.std.proofs.lemmas.Bool.{false≢true}
+use Rattle.std.proofs.lemmas.Bool.{cases_Bool, false≢true}
 use Rattle.std.proofs.lemmas.List.{length-append}
 use Rattle.std.proofs.lemmas.Option.{none-some, same_Some}
 use Rattle.arc_owners.specs.declared.mark.Whole.{Whole}
@@ -41,10 +41,7 @@ use Rattle.arc_commands.proofs.Roles.{sole_each}
 use Rattle.arc_slots.specs.Answers.{Answers, around_in}
 use Rattle.arc_slots.specs.Calls.{Along, Beside, RefusesAt}
 use Rattle.arc_slots.specs.Parts.{is_itself, part_answer, part_command, part_row, rest_of}
-use Rattle.arc_block.specs.Window.{Window, PartsView}
-use Rattle.arc_slots.specs.Slots.{SlotView, held, role_fits, row_of, stand_of}
-use Rattle.arc_slots.specs.declared.slot.Held.{Held}
-use Rattle.arc_slots.specs.declared.slot.Held.TheVariants.{Read, Write}
+use Rattle.arc_slots.specs.Slots.{SlotView, row_of, stand_of}
 use Rattle.arc_slots.specs.Splits.{IsSplit}
 use Rattle.arc_slots.specs.Stands.{HasPassFor}
 use Rattle.arc_slots.specs.Writing.{Fills, additional_of, is_fresh, items_of, write_command}
@@ -216,9 +213,12 @@ module _ {T M : Type 0} (setting : Setting T) (windows : ℕ) (s : SlotView T M)
             many-refused passes passes' setting.clone_wants (new_part i reads part).place here AllocError
             why;
         adds =
-            (part-adds part here None passes').1 (refl, refl,
-            refuses-at passes passes' setting.clone_wants (new_part i reads part).place AllocError here
-            why);
+            (part-adds part here None passes').1 (
+              refl,
+              refl,
+              refuses-at passes passes' setting.clone_wants (new_part i reads part).place AllocError here
+                  why,
+            );
       }
       part-refused CountFull why = record {
         begins = false;
@@ -232,9 +232,12 @@ module _ {T M : Type 0} (setting : Setting T) (windows : ℕ) (s : SlotView T M)
             many-refused passes passes' setting.clone_wants (new_part i reads part).place here CountFull
             why;
         adds =
-            (part-adds part here None passes').2 (refl, refl,
-            refuses-at passes passes' setting.clone_wants (new_part i reads part).place CountFull here
-            why);
+            (part-adds part here None passes').2 (
+              refl,
+              refl,
+              refuses-at passes passes' setting.clone_wants (new_part i reads part).place CountFull here
+                  why,
+            );
       }
         where
           full-beside : (st : Stand) → HasPassFor passes st
@@ -283,8 +286,7 @@ module _ {T M : Type 0} (setting : Setting T) (windows : ℕ) (s : SlotView T M)
       itself handed kept is h =
           part-made kept handed kept
           (h.made_is ∙ ap (λ b. if b then new_part i reads part else rest_of row part) (sym is))
-          (h.same_is ∙ ap (λ b. if b then row else new_part i reads part) (sym is)) h.made_is h.added
-          (
+          (h.same_is ∙ ap (λ b. if b then row else new_part i reads part) (sym is)) h.made_is h.added (
             stand_of (Some kept),
             raises-beside passes passes' here (stand_of (Some kept)) h.added,
             ap (λ b. if b then stand_of (Some kept) else here) (sym is),
@@ -298,8 +300,7 @@ module _ {T M : Type 0} (setting : Setting T) (windows : ℕ) (s : SlotView T M)
       beside handed kept is h =
           part-made kept handed handed
           (h.same_is ∙ ap (λ b. if b then new_part i reads part else rest_of row part) (sym is))
-          (h.made_is ∙ ap (λ b. if b then row else new_part i reads part) (sym is)) h.made_is h.added
-          (
+          (h.made_is ∙ ap (λ b. if b then row else new_part i reads part) (sym is)) h.made_is h.added (
             stand_of (Some handed),
             raises-beside passes passes' here (stand_of (Some handed)) h.added,
             h.owner ∙ ap (λ b. if b then stand_of (Some handed) else here) (sym is),
@@ -331,8 +332,12 @@ module _ {T M : Type 0} (setting : Setting T) (windows : ℕ) (s : SlotView T M)
 
       asked-adds : (found : Bool) → AskedAs found
           → Enters here here None passes passes' (History_asked found)
-      asked-adds found along = (refl, refl, enters-along passes passes' (λ o p q. Asks o p q found)
-          (History_asked found) (asked-comes found) here along)
+      asked-adds found along = (
+        refl,
+        refl,
+        enters-along passes passes' (λ o p q. Asks o p q found)
+            (History_asked found) (asked-comes found) here along,
+      )
 
       asked-many : (found : Bool) → AskedAs found → length passes' ≡ length passes
       asked-many found along = many-along passes passes' here (λ o p q. Asks o p q found) along
@@ -409,8 +414,12 @@ module _ {T M : Type 0} (setting : Setting T) (windows : ℕ) (s : SlotView T M)
     begins = false;
     change = for-role no_shortage (command.Drop i) is;
     blocks = many-along passes passes' here Ended along;
-    adds = (refl, refl, enters-along passes passes' Ended (λ o history. entry.Down o.number ∷ [])
-        ended-comes here along);
+    adds = (
+      refl,
+      refl,
+      enters-along passes passes' Ended (λ o history. entry.Down o.number ∷ [])
+          ended-comes here along,
+    );
   }
 
   pub taken : (i : ℕ) → s.role ≡ reader → is_some (block_of row.place) ≡ false
@@ -422,7 +431,7 @@ module _ {T M : Type 0} (setting : Setting T) (windows : ℕ) (s : SlotView T M)
         (reads-for reads (command.TakeStatic i) true refl)
         ∙ ap (λ b. if b then is_now reply.Refused row else gone (reply.Static row.items)) off;
     blocks = refl;
-    adds = (refl, refl, refl);
+    adds = (none-stands here (ap is_some (sym (row-block s)) ∙ off), refl, refl, refl);
   }
 
   pub untaken : (i : ℕ) → s.role ≡ reader → is_some (block_of row.place) ≡ true
@@ -499,14 +508,12 @@ module _ {T M : Type 0} (setting : Setting T) (windows : ℕ) (s : SlotView T M)
       (refl, refl, refl)
 
   -- what is for a reader and for each sole writer is for a slot's window
-  pub for-each : (h : Held (Window T M) (PartsView T M)) (b : Option ℕ) → held h b ≡ s
-      → role_fits h ≡ true → (c : Command) → is_for c reader ≡ true
-      → ((places : ℕ) → is_for c (sole_writer places) ≡ true) → IsFor c
-  for-each (Read window) b is fits c reads writes =
-      subst (λ (x : SlotView T M). is_for c x.role ≡ true) is reads
-  for-each (Write window) b is fits c reads writes =
-      subst (λ (x : SlotView T M). is_for c x.role ≡ true) is
-      (sole_each (λ role. is_for c role ≡ true) writes window.role fits)
+  pub for-each : (is_sole s.role ≡ false → s.role ≡ reader) → (c : Command)
+      → is_for c reader ≡ true → ((places : ℕ) → is_for c (sole_writer places) ≡ true) → IsFor c
+  for-each role c reads writes = elim (cases_Bool (is_sole s.role)) [
+    | inl sole ↦ writes-for sole c true writes
+    | inr other ↦ reads-for (role other) c true reads
+  ]
 
   -- ---- what is only told
 

@@ -6,3 +6,4 @@ pub mod Ended
 pub mod Added
 pub mod Told
 pub mod Answered
+pub mod Keeps

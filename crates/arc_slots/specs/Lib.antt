@@ -5,3 +5,4 @@ pub mod Parts
 pub mod Splits
 pub mod Writing
 pub mod Answers
+pub mod Makers

@@ -1,5 +1,5 @@
 -- The slots of a table as rows, and where their windows stand.
-use Rattle.std.specs.Prelude.{ℕ, Bool, true, List, Option, Some, None, length, map}
+use Rattle.std.specs.Prelude.{ℕ, Bool, true, List, [], ◌∷◌, ◌++◌, Option, Some, None, length, map}
 use Rattle.std.specs.Option.{option_map}
 use Rattle.arc_owners.specs.declared.count.tokens.Pass.{Pass}
 use Rattle.arc_owners.specs.declared.mark.Whole.{Whole}
@@ -53,6 +53,11 @@ module _ {T M : Type 0} where
 
   abbrev pub stands_of : List (Option (SlotView T M)) → List Stand
   stands_of slots = map stand_of slots
+
+-- a slot more, if there is one
+abbrev pub with_slot : {X : Type 0} → List (Option X) → Option X → List (Option X)
+with_slot slots None = slots
+with_slot slots (Some slot) = slots ++ Some slot ∷ []
 
 -- what these slots are seen as, with the passes of the blocks: there were as many blocks as there
 -- are passes

@@ -211,6 +211,17 @@ where
         }
     }
 
+    /// A window is read, or it is its block's only owner's, who writes. Does nothing: its contract is
+    /// the law.
+    pub(crate) fn known_role(&self)
+        ensures { is_sole self.now.role ≡ false → self.now.role ≡ reader }
+    {
+        match &self.window {
+            Held::Read(_) => (),
+            Held::Write(_) => (),
+        }
+    }
+
     /// How many places the window has, if it is one that is written.
     pub fn capacity(&self) -> Option<usize>
         ensures { MatchOption result (self.now.role ≡ reader) (λ places.
