@@ -7,3 +7,4 @@ pub mod Added
 pub mod Told
 pub mod Answered
 pub mod Keeps
+pub mod Made

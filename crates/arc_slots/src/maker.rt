@@ -14,6 +14,7 @@ use crate::kinds::{Commands, ZeroOf};
 use crate::passes::Passes;
 use crate::slot::{Held, Slot};
 use arc_block::layout::{Layout, LayoutMut, stands_on_nothing};
+use arc_block::static_slice::StaticSlice;
 use arc_commands::command::{Cmd, Reply, TableCmd, TableReply};
 use arc_owners::error::AllocError;
 use arc_owners::mark::Whole;
@@ -21,12 +22,6 @@ use arc_owners::owners::Pass;
 use arc_read::slice::ArcSlice;
 use arc_write::slice_mut::ArcSliceMut;
 use std::alloc::Allocator;
-
-/// What was made: a reply, and the window.
-type Made<S, L, B, M, A> = (
-    TableReply<<S as arc_buffer::kinds::Slice>::Item, A>,
-    Option<Slot<S, L, B, M, A>>,
-);
 
 /// A writer's slot, on nothing, or as the first owner of a block more, which keeps its pass.
 fn writer<S: Commands, L: Layout, B, M, A: Allocator + Copy>(
@@ -84,4 +79,229 @@ where
         window: Held::Read(window),
         block,
     })
+}
+
+/// A window that is read, over a copy of the items.
+fn over_copy<S: Commands, L: Layout, B, M, A: Allocator + Copy>(
+    alloc: A,
+    items: Vec<S::Item, A>,
+    next: usize,
+    has_room: bool,
+    passes: &mut Passes<A>,
+) -> (TableReply<S::Item, A>, Option<Slot<S, L, B, M, A>>)
+where
+    S::Item: Copy,
+    L::Writable: LayoutMut,
+    ensures made { Makes (setting_of L.STATIC L.clone_wants S.DROPS S.boundary
+        (type_size S.Item.row) S.Zero.zero) next (command.Slice items.items)
+        passes.old.of_blocks.items (seen_reply result.0) result.1 passes.new.of_blocks.items }
+    ensures room { is_some result.1 ≡ true → has_room ≡ true }
+{
+    if !has_room {
+        return (Reply::Alloc, None);
+    }
+    if passes.reserve_for(true).is_err() {
+        return (Reply::Alloc, None);
+    }
+    match reader(alloc, &items, passes) {
+        Ok(slot) => (Reply::New(next), Some(slot)),
+        Err(_) => (Reply::Alloc, None),
+    }
+}
+
+/// A window that is read, over a slice that is there for good.
+fn over_static<S: Commands, L: Layout, B, M, A: Allocator + Copy>(
+    alloc: A,
+    items: StaticSlice<S::Item>,
+    next: usize,
+    has_room: bool,
+    passes: &mut Passes<A>,
+) -> (TableReply<S::Item, A>, Option<Slot<S, L, B, M, A>>)
+where
+    S::Item: Copy,
+    L::Writable: LayoutMut,
+    ensures made { Makes (setting_of L.STATIC L.clone_wants S.DROPS S.boundary
+        (type_size S.Item.row) S.Zero.zero) next (command.Static items)
+        passes.old.of_blocks.items (seen_reply result.0) result.1 passes.new.of_blocks.items }
+    ensures room { is_some result.1 ≡ true → has_room ≡ true }
+{
+    let _ = passes;
+    if !L::STATIC {
+        return (Reply::Kind, None);
+    }
+    if !has_room {
+        return (Reply::Alloc, None);
+    }
+    (Reply::New(next), Some(Slot::on_static(alloc, items)))
+}
+
+/// A window that is written, on nothing.
+#[tactic(auto, using(crate::proofs::Made::own_items, crate::proofs::Made::made_so))]
+fn idle<S: Commands, L: Layout, B, M, A: Allocator + Copy>(
+    alloc: A,
+    next: usize,
+    has_room: bool,
+    passes: &mut Passes<A>,
+) -> (TableReply<S::Item, A>, Option<Slot<S, L, B, M, A>>)
+where
+    S::Item: Copy,
+    L::Writable: LayoutMut,
+    ensures made { Makes (setting_of L.STATIC L.clone_wants S.DROPS S.boundary
+        (type_size S.Item.row) S.Zero.zero) next command.New
+        passes.old.of_blocks.items (seen_reply result.0) result.1 passes.new.of_blocks.items }
+    ensures room { is_some result.1 ≡ true → has_room ≡ true }
+{
+    if !has_room {
+        return (Reply::Alloc, None);
+    }
+    let window = ArcSliceMut::new(alloc);
+    (
+        Reply::New(next),
+        Some(writer(window, 0, Pass::none(), passes)),
+    )
+}
+
+/// A window that is written, with no items and so many places.
+#[tactic(auto, using(crate::proofs::Made::own_items, crate::proofs::Made::made_so))]
+fn with_places<S: Commands, L: Layout, B, M, A: Allocator + Copy>(
+    alloc: A,
+    places: usize,
+    next: usize,
+    has_room: bool,
+    passes: &mut Passes<A>,
+) -> (TableReply<S::Item, A>, Option<Slot<S, L, B, M, A>>)
+where
+    S::Item: Copy,
+    L::Writable: LayoutMut,
+    ensures made { Makes (setting_of L.STATIC L.clone_wants S.DROPS S.boundary
+        (type_size S.Item.row) S.Zero.zero) next (command.Cap places)
+        passes.old.of_blocks.items (seen_reply result.0) result.1 passes.new.of_blocks.items }
+    ensures room { is_some result.1 ≡ true → has_room ≡ true }
+{
+    if !has_room {
+        return (Reply::Alloc, None);
+    }
+    if passes.reserve_for(true).is_err() {
+        return (Reply::Alloc, None);
+    }
+    let mut pass = Pass::none();
+    let Ok(window) = ArcSliceMut::try_with_capacity_as(alloc, places, &mut pass) else {
+        return (Reply::Alloc, None);
+    };
+    (Reply::New(next), Some(writer(window, places, pass, passes)))
+}
+
+/// A window that is written, over so many zeros.
+#[tactic(auto, using(crate::proofs::Made::own_items, crate::proofs::Made::made_so))]
+fn over_zeros<S: Commands, L: Layout, B, M, A: Allocator + Copy>(
+    alloc: A,
+    count: usize,
+    next: usize,
+    has_room: bool,
+    passes: &mut Passes<A>,
+) -> (TableReply<S::Item, A>, Option<Slot<S, L, B, M, A>>)
+where
+    S::Item: Copy,
+    L::Writable: LayoutMut,
+    ensures made { Makes (setting_of L.STATIC L.clone_wants S.DROPS S.boundary
+        (type_size S.Item.row) S.Zero.zero) next (command.Zero count)
+        passes.old.of_blocks.items (seen_reply result.0) result.1 passes.new.of_blocks.items }
+    ensures room { is_some result.1 ≡ true → has_room ≡ true }
+{
+    if !S::Zero::has_zero() {
+        return (Reply::Kind, None);
+    }
+    if !has_room {
+        return (Reply::Alloc, None);
+    }
+    if passes.reserve_for(true).is_err() {
+        return (Reply::Alloc, None);
+    }
+    let mut pass = Pass::none();
+    let Some(made) = S::Zero::try_zeroed_as(alloc, count, &mut pass) else {
+        unreachable!()
+    };
+    let Ok(window) = made else {
+        return (Reply::Alloc, None);
+    };
+    (Reply::New(next), Some(writer(window, count, pass, passes)))
+}
+
+/// A window that is written, over a copy of the items.
+#[tactic(auto, using(crate::proofs::Made::own_items, crate::proofs::Made::made_so))]
+fn over_written_copy<S: Commands, L: Layout, B, M, A: Allocator + Copy>(
+    alloc: A,
+    items: Vec<S::Item, A>,
+    next: usize,
+    has_room: bool,
+    passes: &mut Passes<A>,
+) -> (TableReply<S::Item, A>, Option<Slot<S, L, B, M, A>>)
+where
+    S::Item: Copy,
+    L::Writable: LayoutMut,
+    ensures made { Makes (setting_of L.STATIC L.clone_wants S.DROPS S.boundary
+        (type_size S.Item.row) S.Zero.zero) next (command.MSlice items.items)
+        passes.old.of_blocks.items (seen_reply result.0) result.1 passes.new.of_blocks.items }
+    ensures room { is_some result.1 ≡ true → has_room ≡ true }
+{
+    if !has_room {
+        return (Reply::Alloc, None);
+    }
+    if passes.reserve_for(true).is_err() {
+        return (Reply::Alloc, None);
+    }
+    let mut pass = Pass::none();
+    let Ok(window) = ArcSliceMut::try_from_slice_as(alloc, &items, &mut pass) else {
+        return (Reply::Alloc, None);
+    };
+    (
+        Reply::New(next),
+        Some(writer(window, items.len(), pass, passes)),
+    )
+}
+
+/// Makes the window of a command that brings what it is made of: the reply, and the window, if it was
+/// made. That goes under the next number, where there is room for it.
+pub fn make<S: Commands, L: Layout, B, M, A: Allocator + Copy>(
+    alloc: A,
+    command: TableCmd<S::Item, A>,
+    next: usize,
+    has_room: bool,
+    passes: &mut Passes<A>,
+) -> (TableReply<S::Item, A>, Option<Slot<S, L, B, M, A>>)
+where
+    S::Item: Copy,
+    L::Writable: LayoutMut,
+    ensures made { Makes (setting_of L.STATIC L.clone_wants S.DROPS S.boundary
+        (type_size S.Item.row) S.Zero.zero) next (seen_command command)
+        passes.old.of_blocks.items (seen_reply result.0) result.1 passes.new.of_blocks.items }
+    ensures room { is_some result.1 ≡ true → has_room ≡ true }
+{
+    match command {
+        Cmd::Slice(items) => over_copy(alloc, items, next, has_room, passes),
+        Cmd::Static(items) => over_static(alloc, items, next, has_room, passes),
+        Cmd::New => idle(alloc, next, has_room, passes),
+        Cmd::Cap { places } => with_places(alloc, places, next, has_room, passes),
+        Cmd::Zero { count } => over_zeros(alloc, count, next, has_room, passes),
+        Cmd::MSlice(items) => over_written_copy(alloc, items, next, has_room, passes),
+        // These are on a window.
+        Cmd::Clone { .. } => (Reply::Kind, None),
+        Cmd::Sub { .. } => (Reply::Kind, None),
+        Cmd::Uniq { .. } => (Reply::Kind, None),
+        Cmd::Show { .. } => (Reply::Kind, None),
+        Cmd::Off { .. } => (Reply::Kind, None),
+        Cmd::To { .. } => (Reply::Kind, None),
+        Cmd::Len { .. } => (Reply::Kind, None),
+        Cmd::Room { .. } => (Reply::Kind, None),
+        Cmd::Res { .. } => (Reply::Kind, None),
+        Cmd::Push { .. } => (Reply::Kind, None),
+        Cmd::Ext { .. } => (Reply::Kind, None),
+        Cmd::Rec { .. } => (Reply::Kind, None),
+        Cmd::Freeze { .. } => (Reply::Kind, None),
+        Cmd::Mut { .. } => (Reply::Kind, None),
+        Cmd::Adv { .. } => (Reply::Kind, None),
+        Cmd::Trunc { .. } => (Reply::Kind, None),
+        Cmd::Drop { .. } => (Reply::Kind, None),
+        Cmd::TakeStatic { .. } => (Reply::Kind, None),
+    }
 }
