@@ -3,7 +3,7 @@ use Rattle.std.proofs.Common.{inl, inr, ◌≡◌, ◌⊎◌, ℕ, ◌+◌, ◌<
 use Rattle.std.proofs.Common.{List, length, is_some, ◌==◌}
 use Rattle.std.proofs.Common.{[], ◌∷◌, ◌++◌, Option, Some, None, slice_get, slice_set, refl}
 use Rattle.std.proofs.Common.{sym, ap, ◌∙◌, subst, arith}
-use Rattle.std.specs.Option.{option_flatten, option_map_or}
+use Rattle.std.specs.Option.{option_flatten}
 use Rattle.std.proofs.lemmas.Option.{none-some, same_Some}
 use Rattle.std.proofs.lemmas.Bool.{false≢true}
 use Rattle.arc_block.specs.Block.{BlockInfo}
@@ -14,8 +14,9 @@ use Rattle.arc_block.specs.Writers.{as_sole, sole_at}
 use Rattle.arc_block.proofs.Alone.{is_alone-means}
 use Rattle.arc_block.proofs.Lists.{push-cases, set-cases}
 use Rattle.arc_commands.specs.Blocks.{SaysOf, RowsAgree, is_sole}
-use Rattle.arc_commands.specs.Step.{Setting, Shortage, shortage, Step, Run, answer, with_static}
-use Rattle.arc_commands.specs.Step.{changed, may_write, begun}
+use Rattle.arc_commands.specs.Step.{Setting, Shortage, no_shortage, shortage, Step, Run, answer}
+use Rattle.arc_commands.specs.Step.{around_of, founded, may_write, static_row, with_block}
+use Rattle.arc_commands.proofs.Lists.{there}
 use Rattle.arc_commands.specs.declared.command.Cmd.{Cmd}
 use Rattle.arc_commands.specs.declared.command.Reply.{Reply}
 use Rattle.arc_commands.proofs.Answers.{StaysOn, IsPart, answer_each}
@@ -23,12 +24,6 @@ use Rattle.arc_commands.proofs.Answers.{StaysOn, IsPart, answer_each}
 not-writing : (b : Bool) → (b ≡ true → ⊥) → b ≡ false
 not-writing true none = absurd (none refl)
 not-writing false none = refl
-
-pub there : {X : Type 0} (x : Option (Option X)) (y : X) → option_flatten x ≡ Some y
-    → x ≡ Some (Some y)
-there None y is = absurd (none-some y is)
-there (Some None) y is = absurd (none-some y is)
-there (Some (Some z)) y is = ap Some is
 
 -- what a place says of its block
 abbrev info_at : {M : Type 0} → Place ℕ M → Option (BlockInfo M)
@@ -339,14 +334,6 @@ module _ {T M : Type 0} where
       one-part i row part at is new same =
           subst (Stood t.rows i) (same-row part new same) (stood i row part at is)
 
-      more : (i : ℕ) (row part : Row T M) → row_at t i ≡ Some row → is_sole row.role ≡ false
-          → IsPart row part
-          → RowsAgree (record { rows = t.rows ++ Some part ∷ []; blocks = t.blocks })
-      more i row part at shares is =
-          agree-after (record { rows = t.rows ++ Some part ∷ []; blocks = t.blocks })
-          (each-push IsSaid t.rows (Some part) said-each (said-part i row part at is.0)) refl
-          (alone-push t.rows part alone-now (joins i row part at shares is t.rows as-is))
-
       becomes : (i : ℕ) (row part : Row T M) → row_at t i ≡ Some row → IsPart row part
           → RowsAgree (record { rows = slice_set t.rows i (Some part); blocks = t.blocks })
       becomes i row part at is =
@@ -368,7 +355,7 @@ module _ {T M : Type 0} where
       sole-on drops items (on_block n offset info) block on = on
 
       -- beside a row that may be written no other stands
-      only-here : (i : ℕ) (row : Row T M) → row_at t i ≡ Some row → may_write t row ≡ true
+      only-here : (i : ℕ) (row : Row T M) → row_at t i ≡ Some row → may_write (around_of t row) row ≡ true
           → (j block : ℕ) (other : Row T M) → slice_get t.rows j ≡ Some (Some other)
           → OnBlock block row → OnBlock block other → j ≡ i
       only-here i row at may j block other here on beside =
@@ -384,7 +371,8 @@ module _ {T M : Type 0} where
           a.only j (stands-at j a.block other here (beside ∙ ap Some one))
 
       writes : (drops : Bool) (i : ℕ) (row : Row T M) → row_at t i ≡ Some row
-          → may_write t row ≡ true → RowsAgree (changed t i (as_sole drops row)).1
+          → may_write (around_of t row) row ≡ true → RowsAgree
+          (record { rows = slice_set t.rows i (Some (as_sole drops row)); blocks = t.blocks })
       writes drops i row at may =
           let new = as_sole drops row in
           agree-after (record { rows = slice_set t.rows i (Some new); blocks = t.blocks })
@@ -475,7 +463,10 @@ module _ {T M : Type 0} where
       -- a row becomes one on a block more, or on none
       begins : (i : ℕ) (items : List T) (role : Role) (nothing : Bool) (info : BlockInfo M)
           → let place = if nothing then nowhere else on_block t.blocks 0 info in
-          RowsAgree (begun t i (record { items = items; place = place; role = role })).1
+          RowsAgree (record {
+            rows = slice_set t.rows i (Some (record { items = items; place = place; role = role }));
+            blocks = with_block (is_some (block_of place)) t.blocks;
+          })
       begins i items role true info =
           let row : Row T M = record { items = items; place = nowhere; role = role } in
           agree-after (record { rows = slice_set t.rows i (Some row); blocks = t.blocks })
@@ -506,7 +497,7 @@ module _ {T M : Type 0} where
       apart new past j block other at on beside =
           absurd (omega (arith, past block on, known j block other at beside))
 
-      statics : (items : List T) → RowsAgree (with_static t items).1
+      statics : (items : List T) → RowsAgree (founded no_shortage t (static_row items)).1
       statics items =
           let row : Row T M = record { items = items; place = static_data; role = reader } in
           agree-after (record { rows = t.rows ++ Some row ∷ []; blocks = t.blocks })
@@ -534,7 +525,7 @@ module _ {T M : Type 0} where
           → let place = if nothing then nowhere else on_block t.blocks 0 info in
           RowsAgree (record {
             rows = t.rows ++ Some (record { items = items; place = place; role = role }) ∷ [];
-            blocks = option_map_or (λ block. t.blocks + 1) (block_of place) t.blocks;
+            blocks = with_block (is_some (block_of place)) t.blocks;
           })
       founds items role true info =
           let row : Row T M = record { items = items; place = nowhere; role = role } in
@@ -561,7 +552,6 @@ module _ {T M : Type 0} where
         answer_each setting short t c (λ reply new. RowsAgree new) (λ reply tells. agree)
         (λ items role nothing info fits. founds t agree items role nothing info)
         (statics t agree)
-        (λ i row part at shares is fits. more t agree i row part at shares is)
         (λ i row kept handed at shares one other fits also.
         splits t agree i row kept handed at shares one other)
         (λ i row part at is fits. becomes t agree i row part at is)

@@ -13,7 +13,7 @@ use Rattle.arc_commands.specs.Step.{Setting, Shortage, shortage, Step, Run, answ
 use Rattle.arc_commands.specs.declared.command.Cmd.{Cmd}
 use Rattle.arc_commands.specs.declared.command.Reply.{Reply}
 use Rattle.arc_commands.proofs.Answers.{answer_each}
-use Rattle.arc_commands.proofs.Blocks.{there}
+use Rattle.arc_commands.proofs.Lists.{there}
 use Rattle.arc_commands.proofs.Fits.{reads-fit, sole-fits}
 
 module _ {T M : Type 0} (drops : Bool) where
@@ -56,7 +56,6 @@ module _ {T M : Type 0} (setting : Setting T) where
         place = static_data;
         role = reader;
       }) refl tt)))
-      (λ i row part at shares is fits. each-push d t.rows _ fit (this d part (fits (fit i row at))))
       (λ i row kept handed at shares one other fits also.
       each-push d (slice_set t.rows i (Some kept)) _
       (each-set d t.rows i (Some kept) fit (this d kept (fits (fit i row at))))

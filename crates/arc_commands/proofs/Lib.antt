@@ -6,3 +6,4 @@ pub mod Blocks
 pub mod Fits
 pub mod FitsRoom
 pub mod FitsStep
+pub mod Windows

@@ -7,7 +7,7 @@ use Rattle.std.proofs.Common.{◌∙◌, subst, arith}
 use Rattle.std.specs.Option.{option_flatten}
 use Rattle.std.proofs.lemmas.Bool.{cases_eq, false≢true}
 use Rattle.std.specs.Result.{is_err, OnOk, OnErr}
-use Rattle.std.proofs.lemmas.Option.{same_Some, slice_get_cases, slice_get_read, slice_get_within}
+use Rattle.std.proofs.lemmas.Option.{none-some, same_Some, slice_get_cases, slice_get_read, slice_get_within}
 use Rattle.arc_block.proofs.Lists.{get-set_other}
 
 -- a list that is the same as one that is the same as another has the same elements
@@ -67,3 +67,14 @@ none-of (x ∷ xs) is = absurd (omega (arith, is))
 pub none-or-some : (n : ℕ) → (n ≡ 0) ⊎ (1 ≤ n)
 none-or-some zero = inl refl
 none-or-some (suc n) = inr (omega arith)
+
+-- an element that is there, and one that is put where it stands
+pub there : {X : Type 0} (x : Option (Option X)) (y : X) → option_flatten x ≡ Some y → x ≡ Some (Some y)
+there None y is = absurd (none-some y is)
+there (Some None) y is = absurd (none-some y is)
+there (Some (Some z)) y is = ap Some is
+
+pub set-there : {X : Type 0} (xs : List X) (i : ℕ) (x : X) → slice_get xs i ≡ Some x → slice_set xs i x ≡ xs
+set-there [] i x at = refl
+set-there (y ∷ xs) zero x at = ap (λ z. z ∷ xs) (sym (same_Some y x at))
+set-there (y ∷ xs) (suc i) x at = ap (λ zs. y ∷ zs) (set-there xs i x at)

@@ -1,7 +1,7 @@
 -- What each command adds to the histories of the blocks, and where the windows stand after it.
 use Rattle.std.specs.Prelude.{◌≡◌, ℕ, ◌==◌, Bool, true, false, if◌then◌else◌, List, [], ◌∷◌, ◌++◌}
-use Rattle.std.specs.Prelude.{length, Some, None, slice_get, slice_set}
-use Rattle.std.specs.Option.{option_flatten, option_map_or}
+use Rattle.std.specs.Prelude.{length, Option, Some, None, slice_get, slice_set, MatchOption}
+use Rattle.std.specs.Option.{option_flatten}
 use Rattle.arc_owners.specs.declared.count.tokens.Pass.{Pass}
 use Rattle.arc_owners.specs.declared.history.entry.Entry.{Entry}
 use Rattle.arc_owners.specs.declared.history.entry.Entry.TheVariants as entry
@@ -12,11 +12,12 @@ use Rattle.arc_owners.specs.declared.error.OwnerError.{OwnerError}
 use Rattle.arc_owners.specs.declared.error.OwnerError.TheVariants.{AllocError, CountFull}
 use Rattle.arc_block.specs.declared.block.TheConstants.{MAX_OWNERS}
 use Rattle.arc_block.specs.Owned.{Stand}
-use Rattle.arc_block.specs.Table.{Table, row_at}
+use Rattle.arc_block.specs.Table.{Row, Table, row_at}
+use Rattle.arc_commands.specs.Step.{window_of}
 use Rattle.arc_commands.specs.declared.command.Cmd.{Cmd}
-use Rattle.arc_commands.specs.declared.command.Cmd.TheVariants.{Slice, Clone, Sub, Off, To, Uniq}
-use Rattle.arc_commands.specs.declared.command.Cmd.TheVariants.{Drop, Static, TakeStatic, MSlice}
-use Rattle.arc_commands.specs.declared.command.Cmd.TheVariants.{New, Cap, Zero, Mut, Res, Push, Ext}
+use Rattle.arc_commands.specs.declared.command.Cmd.TheVariants.{Clone, Sub, Off, To, Uniq}
+use Rattle.arc_commands.specs.declared.command.Cmd.TheVariants.{Drop, Static, TakeStatic}
+use Rattle.arc_commands.specs.declared.command.Cmd.TheVariants.{Mut, Res, Push, Ext}
 use Rattle.arc_commands.specs.declared.command.Cmd.TheVariants.{Freeze}
 use Rattle.arc_commands.specs.declared.command.Reply.{Reply}
 use Rattle.arc_commands.specs.declared.command.Reply.TheVariants as reply
@@ -40,6 +41,11 @@ asked alone o history =
 abbrev pub refused : OwnerError → Owner → List Entry → List Entry
 refused CountFull o history = entry.Full o.number ∷ []
 refused AllocError o history = []
+
+-- a stand more, if there is one
+abbrev pub with_stand : List Stand → Option Stand → List Stand
+with_stand stands None = stands
+with_stand stands (Some stand) = stands ++ stand ∷ []
 
 module _ {H : Type 0} where
   -- An owner of the block with this number added entries to the block's history, and nothing came
@@ -80,64 +86,87 @@ module _ {H : Type 0} where
       (number ≡ length old) × IsFirst MAX_OWNERS true owner
       × (p : Pass H) × IsFreshPass owner p × (new ≡ old ++ p ∷ [])
 
-  -- a window more, on nothing or as the first owner of a block more
-  abbrev pub MakesWindow : Standing H → Standing H → Type 0
-  MakesWindow old new = (made : Stand) × Founds made old.passes new.passes
-      × (new.stands ≡ old.stands ++ made ∷ [])
+  -- The window stands where it stood. Where that was on nothing it may be the first owner of a block
+  -- more, whose pass is a fresh one.
+  abbrev pub MayBegin : (here there : Stand) → List (Pass H) → List (Pass H) → Type 0
+  MayBegin None there old new = Founds there old new
+  MayBegin (Some here) there old new = (there ≡ Some here) × (new ≡ old)
+
+  -- A command on a window that stood here. Then it stands there, and where a window was made, that
+  -- stands there.
+  module _ (here there : Stand) (made : Option Stand) (old new : List (Pass H)) where
+    -- the window added entries, and stands where it stood
+    abbrev pub Enters : (Owner → List Entry → List Entry) → Type 0
+    Enters entries = (there ≡ here) × (made ≡ None) × AddsAt here entries old new
+
+    -- A window was made beside it. But where the window itself is handed out, what was made stands
+    -- under its number.
+    abbrev pub Joins : Bool → Type 0
+    Joins handed_out = (other : Stand) × Raises here other old new
+        × (there ≡ (if handed_out then other else here))
+        × (made ≡ Some (if handed_out then here else other))
+
+    -- it stands where it stood, or on a block more
+    abbrev pub Stays : Type 0
+    Stays = MayBegin here there old new × (made ≡ None)
+
+    -- the window has gone, and added entries
+    abbrev pub Goes : (Owner → List Entry → List Entry) → Type 0
+    Goes entries = (there ≡ None) × (made ≡ None) × AddsAt here entries old new
+
+    -- nothing was added
+    abbrev pub AddsNone : Type 0
+    AddsNone = (there ≡ here) × (made ≡ None) × (new ≡ old)
+
+    -- What a command on such a row adds, by what it is answered. A split that leaves nothing hands
+    -- out the window itself
+    abbrev pub RowAdds : {T M : Type 0} → Row T M → Cmd (List T) (List T) T
+        → Reply (List T) (List T) → Type 0
+    RowAdds row (Clone i) (reply.New number) = Joins false
+    RowAdds row (Sub i start end) (reply.New number) = Joins false
+    RowAdds row (Off i at) (reply.New number) = Joins (at == 0)
+    RowAdds row (To i at) (reply.New number) = Joins (at == length row.items)
+    RowAdds row (Clone i) (reply.Owner e) = Enters (refused e)
+    RowAdds row (Sub i start end) (reply.Owner e) = Enters (refused e)
+    RowAdds row (Off i at) (reply.Owner e) = Enters (refused e)
+    RowAdds row (To i at) (reply.Owner e) = Enters (refused e)
+    RowAdds row (Uniq i) reply.Yes = Enters (asked true)
+    RowAdds row (Uniq i) reply.No = Enters (asked false)
+    RowAdds row (Mut i) reply.Ok = Enters (asked true)
+    RowAdds row (Mut i) reply.Refused = Enters (asked false)
+    RowAdds row (Res i additional) reply.Ok = Stays
+    RowAdds row (Push i item) reply.Ok = Stays
+    RowAdds row (Ext i items) reply.Ok = Stays
+    RowAdds row (Freeze i) reply.Ok = Stays
+    RowAdds row (Drop i) reply.Ok = Goes (λ o history. entry.Down o.number ∷ [])
+    RowAdds row (TakeStatic i) (reply.Static items) =
+        (here ≡ None) × (there ≡ None) × (made ≡ None) × (new ≡ old)
+    RowAdds row command reply = AddsNone
+
+  -- what is added by a command that makes a window of what it brings: it stands on nothing, or as
+  -- the first owner of a block more
+  abbrev pub MakerAdds : {T : Type 0} → Cmd (List T) (List T) T → Reply (List T) (List T)
+      → (made : Option Stand) → (old new : List (Pass H)) → Type 0
+  MakerAdds (Static items) (reply.New number) made old new = (made ≡ Some None) × (new ≡ old)
+  MakerAdds command (reply.New number) made old new = (stand : Stand) × (made ≡ Some stand)
+      × Founds stand old new
+  MakerAdds command reply made old new = (made ≡ None) × (new ≡ old)
 
   -- where the window with this number stands
   abbrev pub stand_in : Standing H → ℕ → Stand
   stand_in t i = option_flatten (slice_get t.stands i)
 
-  -- A window more beside the one with this number, under the next number. But where the window
-  -- itself is handed out, that has the next number, and what was made stands under its own.
-  abbrev pub Joins : Standing H → ℕ → Bool → Standing H → Type 0
-  Joins old i handed_out new = (made : Stand) × Raises (stand_in old i) made old.passes new.passes
-      × (new.stands ≡ (if handed_out then slice_set old.stands i made ++ stand_in old i ∷ [] else
-      old.stands ++ made ∷ []))
+  -- what a command adds that is on the window with this number, or on none
+  abbrev pub AddsBy : {T M : Type 0} → Table T M → Standing H → Cmd (List T) (List T) T
+      → Reply (List T) (List T) → Standing H → Option ℕ → Type 0
+  AddsBy t old c reply new None = (made : Option Stand)
+      × MakerAdds c reply made old.passes new.passes × (new.stands ≡ with_stand old.stands made)
+  AddsBy t old c reply new (Some i) = MatchOption (row_at t i) (new ≡ old) (λ row.
+      (there : Stand) × (made : Option Stand)
+      × RowAdds (stand_in old i) there made old.passes new.passes row c reply
+      × (new.stands ≡ with_stand (slice_set old.stands i there) made))
 
-  -- the window with this number added entries, and the windows stand where they stood
-  abbrev pub Enters : Standing H → ℕ → (Owner → List Entry → List Entry) → Standing H → Type 0
-  Enters old i entries new =
-      (new.stands ≡ old.stands) × AddsAt (stand_in old i) entries old.passes new.passes
-
-  -- The window with this number stands where it stood. Where that was on nothing it may be the
-  -- first owner of a block more, whose pass is a fresh one.
-  abbrev pub MayBegin : Stand → Standing H → ℕ → Standing H → Type 0
-  MayBegin None old i new = (made : Stand) × Founds made old.passes new.passes
-      × (new.stands ≡ slice_set old.stands i made)
-  MayBegin (Some here) old i new = new ≡ old
-
-  -- what a command adds, by what it is answered. A split that leaves nothing hands out the window
-  -- itself
+  -- what a command adds, by what it is answered
   abbrev pub Adds : {T M : Type 0} → Table T M → Standing H → Cmd (List T) (List T) T
       → Reply (List T) (List T) → Standing H → Type 0
-  Adds t old (Slice items) (reply.New number) new = MakesWindow old new
-  Adds t old New (reply.New number) new = MakesWindow old new
-  Adds t old (Cap places) (reply.New number) new = MakesWindow old new
-  Adds t old (Zero count) (reply.New number) new = MakesWindow old new
-  Adds t old (MSlice items) (reply.New number) new = MakesWindow old new
-  Adds t old (Static items) (reply.New number) new =
-      (new.stands ≡ old.stands ++ None ∷ []) × (new.passes ≡ old.passes)
-  Adds t old (Clone i) (reply.New number) new = Joins old i false new
-  Adds t old (Sub i start end) (reply.New number) new = Joins old i false new
-  Adds t old (Off i at) (reply.New number) new = Joins old i (at == 0) new
-  Adds t old (To i at) (reply.New number) new =
-      Joins old i (option_map_or (λ row. at == length row.items) (row_at t i) false) new
-  Adds t old (Clone i) (reply.Owner e) new = Enters old i (refused e) new
-  Adds t old (Sub i start end) (reply.Owner e) new = Enters old i (refused e) new
-  Adds t old (Off i at) (reply.Owner e) new = Enters old i (refused e) new
-  Adds t old (To i at) (reply.Owner e) new = Enters old i (refused e) new
-  Adds t old (Uniq i) reply.Yes new = Enters old i (asked true) new
-  Adds t old (Uniq i) reply.No new = Enters old i (asked false) new
-  Adds t old (Res i additional) reply.Ok new = MayBegin (stand_in old i) old i new
-  Adds t old (Push i item) reply.Ok new = MayBegin (stand_in old i) old i new
-  Adds t old (Ext i items) reply.Ok new = MayBegin (stand_in old i) old i new
-  Adds t old (Freeze i) reply.Ok new = MayBegin (stand_in old i) old i new
-  Adds t old (Mut i) reply.Ok new = Enters old i (asked true) new
-  Adds t old (Mut i) reply.Refused new = Enters old i (asked false) new
-  Adds t old (Drop i) reply.Ok new = (new.stands ≡ slice_set old.stands i None)
-      × AddsAt (stand_in old i) (λ o history. entry.Down o.number ∷ []) old.passes new.passes
-  Adds t old (TakeStatic i) (reply.Static items) new =
-      (new.stands ≡ slice_set old.stands i None) × (new.passes ≡ old.passes)
-  Adds t old command reply new = new ≡ old
+  Adds t old c reply new = AddsBy t old c reply new (window_of c)

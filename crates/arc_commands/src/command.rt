@@ -106,6 +106,51 @@ pub enum Cmd<X, F, T> {
     },
 }
 
+impl<X, F, T> Cmd<X, F, T> {
+    ghost use Rattle.std.specs.Prelude.{◌≡◌};
+    ghost use Rattle.arc_commands.specs.Step.{window_of};
+
+    /// The window on which it is, `None` of those that make one of what they bring.
+    pub fn window(&self) -> Option<usize>
+        ensures { result ≡ window_of self.now }
+    {
+        match self {
+            Cmd::Slice(_) => None,
+            Cmd::Static(_) => None,
+            Cmd::New => None,
+            Cmd::Cap { .. } => None,
+            Cmd::Zero { .. } => None,
+            Cmd::MSlice(_) => None,
+            Cmd::Clone { window } => Some(*window),
+            Cmd::Sub { window, .. } => Some(*window),
+            Cmd::Uniq { window } => Some(*window),
+            Cmd::Show { window } => Some(*window),
+            Cmd::Off { window, .. } => Some(*window),
+            Cmd::To { window, .. } => Some(*window),
+            Cmd::Len { window } => Some(*window),
+            Cmd::Room { window } => Some(*window),
+            Cmd::Res { window, .. } => Some(*window),
+            Cmd::Push { window, .. } => Some(*window),
+            Cmd::Ext { window, .. } => Some(*window),
+            Cmd::Rec { window, .. } => Some(*window),
+            Cmd::Freeze { window } => Some(*window),
+            Cmd::Mut { window } => Some(*window),
+            Cmd::Adv { window, .. } => Some(*window),
+            Cmd::Trunc { window, .. } => Some(*window),
+            Cmd::Drop { window } => Some(*window),
+            Cmd::TakeStatic { window } => Some(*window),
+        }
+    }
+
+    /// Whether it makes another window beside the one on which it is.
+    pub fn makes_beside(&self) -> bool {
+        matches!(
+            self,
+            Cmd::Clone { .. } | Cmd::Sub { .. } | Cmd::Off { .. } | Cmd::To { .. }
+        )
+    }
+}
+
 /// What a command is answered, where X holds items and F a slice that is there for good.
 #[derive(Debug, Drop)]
 pub enum Reply<X, F> {

@@ -196,7 +196,7 @@ module _ {T M : Type 0} (b : Option ℕ) (w : PartsView T M) (fits : is_numbered
             ap {B = Row T M} (λ place. record {
               items = w.items ++ items;
               place = place;
-              role = sole_writer (capacity_of w.role);
+              role = w.role;
             }) (numbered_each (λ n place. numbered n (with_full k place)
             ≡ with_full k (numbered n place)) refl refl (λ n o offset info. refl) b w.place fits);
         stand =

@@ -3,3 +3,8 @@ pub mod Slots
 pub mod Splits
 pub mod Filled
 pub mod Ended
+pub mod Added
+pub mod Told
+pub mod Answered
+pub mod Keeps
+pub mod Made

@@ -34,7 +34,7 @@ held-block (Write w) b = refl
 -- a slot whose window is read
 module _ {T M : Type 0} (h : Held (Window T M) (PartsView T M)) (w : Window T M) (b : Option ℕ)
     (is : h ≡ Read w) where
-  pub reads-view : held h b ≡ record { window = w; capacity = None; block = b }
+  pub reads-view : held h b ≡ record { window = w; role = reader; block = b }
   reads-view = ap (λ x. held x b) is
 
   pub reads-fits : is_numbered b (held h b).window.place ≡ true → is_numbered b w.place ≡ true

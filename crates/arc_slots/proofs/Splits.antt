@@ -16,7 +16,7 @@ use Rattle.arc_slots.proofs.Slots.{shares-part, part-place, moved-numbered, move
 
 -- a slot of these
 abbrev pub slot : {T M : Type 0} → Window T M → Option ℕ → SlotView T M
-slot w b = record { window = w; capacity = None; block = b }
+slot w b = record { window = w; role = reader; block = b }
 
 module _ {T M H : Type 0} (has_static : Bool) (passes left : List (Pass H)) (p new : Pass H)
     (after : List (Pass H)) (w : Window T M) (b : Option ℕ)

@@ -4,3 +4,5 @@ pub mod Calls
 pub mod Parts
 pub mod Splits
 pub mod Writing
+pub mod Answers
+pub mod Makers

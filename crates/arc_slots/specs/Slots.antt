@@ -1,36 +1,31 @@
 -- The slots of a table as rows, and where their windows stand.
-use Rattle.std.specs.Prelude.{ℕ, Bool, true, List, Option, Some, None, length, map}
-use Rattle.std.specs.Option.{option_map, option_map_or}
+use Rattle.std.specs.Prelude.{ℕ, Bool, true, List, [], ◌∷◌, ◌++◌, Option, Some, None, length, map}
+use Rattle.std.specs.Option.{option_map}
 use Rattle.arc_owners.specs.declared.count.tokens.Pass.{Pass}
 use Rattle.arc_owners.specs.declared.mark.Whole.{Whole}
 use Rattle.arc_block.specs.Window.{Window, PartsView, window_of}
 use Rattle.arc_block.specs.Owned.{Stand}
-use Rattle.arc_block.specs.Table.{Row, Role, reader, sole_writer}
-use Rattle.arc_block.specs.Writers.{capacity_of}
+use Rattle.arc_block.specs.Table.{Row, Role, reader}
 use Rattle.arc_commands.specs.Blocks.{is_sole}
 use Rattle.arc_commands.specs.State.{State}
 use Rattle.arc_slots.specs.Stands.{numbered, stand_at}
 use Rattle.arc_slots.specs.declared.slot.Held.{Held}
 use Rattle.arc_slots.specs.declared.slot.Held.TheVariants.{Read, Write}
 
--- what is seen of a slot: its window, how many places that has where it is one that is written, and
--- the number of the block on which it stands
+-- what is seen of a slot: its window, what that may do, and the number of the block on which it
+-- stands
 pub record SlotView (T M : Type 0) : Type 0 where
   pub window : Window T M
-  pub capacity : Option ℕ
+  pub role : Role
   pub block : Option ℕ
-
--- the role of a window of a slot
-abbrev pub role_of : Option ℕ → Role
-role_of capacity = option_map_or sole_writer capacity reader
 
 module _ {T M : Type 0} where
   -- a window, on the block with this number, as it is seen of a slot
   abbrev pub held : Held (Window T M) (PartsView T M) → Option ℕ → SlotView T M
-  held (Read window) block = record { window = window; capacity = None; block = block }
+  held (Read window) block = record { window = window; role = reader; block = block }
   held (Write window) block = record {
     window = window_of window;
-    capacity = Some (capacity_of window.role);
+    role = window.role;
     block = block;
   }
 
@@ -48,7 +43,7 @@ module _ {T M : Type 0} where
   row_of s = record {
     items = s.window.items;
     place = numbered s.block s.window.place;
-    role = role_of s.capacity;
+    role = s.role;
   }
 
   -- where its window stands, if that hasn't gone
@@ -58,6 +53,11 @@ module _ {T M : Type 0} where
 
   abbrev pub stands_of : List (Option (SlotView T M)) → List Stand
   stands_of slots = map stand_of slots
+
+-- a slot more, if there is one
+abbrev pub with_slot : {X : Type 0} → List (Option X) → Option X → List (Option X)
+with_slot slots None = slots
+with_slot slots (Some slot) = slots ++ Some slot ∷ []
 
 -- what these slots are seen as, with the passes of the blocks: there were as many blocks as there
 -- are passes

@@ -2,7 +2,9 @@
 use Rattle.std.specs.Prelude.{◌≡◌, ℕ, ◌<◌, Bool, true, false, List, Option, Some, None, length}
 use Rattle.std.specs.Prelude.{slice_get, slice_set}
 use Rattle.arc_owners.specs.declared.count.tokens.Pass.{Pass}
-use Rattle.arc_owners.specs.count.Calls.{Owner, IsPassOfNone}
+use Rattle.arc_owners.specs.count.Calls.{Owner, IsPassOfNone, seen}
+use Rattle.arc_owners.specs.history.Histories.{is_in, live_owners}
+use Rattle.arc_block.specs.declared.block.TheConstants.{MAX_OWNERS}
 use Rattle.arc_block.specs.Owned.{Stand, HasPass}
 use Rattle.arc_block.specs.Place.{Place, nowhere, static_data, on_block}
 
@@ -36,11 +38,14 @@ module _ {M : Type 0} where
   stand_at (Some number) (on_block (Some owner) offset facts) = Some (number, owner)
 
 module _ {H : Type 0} where
-  -- the block on which a window stands has its one pass
+  -- The block on which a window stands has its one pass, which has seen that this owner lives, and
+  -- may have as many owners as blocks here may.
   abbrev pub HasPassFor : List (Pass H) → Stand → Type 0
   HasPassFor passes None = Unit {0}
   HasPassFor passes (Some (number, owner)) = HasPass passes number owner
-      × (owner.block.whole ≡ true)
+      × (owner.block.whole ≡ true) × (owner.block.most ≡ MAX_OWNERS)
+      × ((p : Pass H) → slice_get passes number ≡ Some p
+      → is_in owner.number (live_owners (seen p)) ≡ true)
 
   -- the pass with this number was taken out of these, or one of no block was made
   abbrev pub TakenOut : List (Pass H) → Option ℕ → Pass H → List (Pass H) → Type 0

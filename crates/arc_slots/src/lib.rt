@@ -1,7 +1,11 @@
 //! The slots of a table of windows, and the passes of the blocks on which they stand.
 #![tactic(auto)]
 
+pub mod answer;
+pub mod command;
+pub mod kinds;
 pub mod list;
+pub mod maker;
 pub mod part;
 pub mod passes;
 pub mod slot;

@@ -5,7 +5,8 @@ ghost use Rattle.std.specs.Prelude.{MatchOption, slice_get, slice_set};
 ghost use Rattle.std.specs.Option.{option_flatten};
 ghost use Rattle.std.specs.Vec.{vec_capacity};
 ghost use Rattle.arc_commands.specs.Blocks.{is_sole};
-ghost use Rattle.arc_slots.specs.Slots.{writer_slot};
+ghost use Rattle.std.specs.Prelude.{is_some};
+ghost use Rattle.arc_slots.specs.Slots.{with_slot, writer_slot};
 ghost use Rattle.arc_slots.specs.Stands.{is_numbered};
 
 use crate::slot::Slot;
@@ -24,6 +25,15 @@ pub fn slot_at<X>(slots: &[Option<X>], i: usize) -> Option<&X>
         slice_get slots.now i ≡ Some (Some slot.now)) }
 {
     slots.get(i)?.as_ref()
+}
+
+/// Puts a slot, if there is one, where there is none.
+pub(crate) fn set_slot<X>(place: &mut Option<X>, slot: Option<X>)
+    requires { place.old ≡ None }
+    ensures { place.new ≡ slot }
+{
+    let left = mem::replace(place, slot);
+    let None = left else { unreachable!() };
 }
 
 /// Puts a slot under a number under which there is none.
@@ -87,6 +97,27 @@ where
     passes.push_reserved(pass);
     slots.push_reserved(Some(Slot::written(window, block)));
     number
+}
+
+/// Whether there is room for a window more, where it is wanted. Takes memory for it there.
+pub fn room_if<X, A: Allocator>(slots: &mut Vec<X, A>, wanted: bool) -> bool
+    ensures slots { slots.new.items ≡ slots.old.items }
+    ensures room { result ≡ true → length slots.new.items < vec_capacity slots.new }
+{
+    if !wanted {
+        return false;
+    }
+    slots.reserve(1).is_ok()
+}
+
+/// Puts a window that was made, if one was, behind the others.
+pub fn push_made<X, A: Allocator>(slots: &mut Vec<Option<X>, A>, made: Option<X>)
+    requires { is_some made ≡ true → length slots.old.items < vec_capacity slots.old }
+    ensures { slots.new.items ≡ with_slot slots.old.items made }
+{
+    if let Some(slot) = made {
+        slots.push_reserved(Some(slot));
+    }
 }
 
 /// Gives back the memory of slots whose windows have all gone.

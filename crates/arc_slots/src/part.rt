@@ -30,6 +30,7 @@ where
     ghost use Rattle.arc_slots.specs.Calls.{RefusesAt};
     ghost use Rattle.arc_slots.specs.Parts.{IsPart, is_itself, part_answer, rest_of, part_row};
     ghost use Rattle.arc_slots.specs.Slots.{row_of, stand_of};
+    ghost use Rattle.arc_block.specs.Table.{reader};
     ghost use Rattle.arc_slots.specs.Splits.{IsSplit};
     ghost use Rattle.arc_slots.specs.Stands.{HasPassFor};
 
@@ -39,7 +40,7 @@ where
     ///
     /// Those of `check_range`, and of `check_at` for a back or a front.
     pub fn check_part(&self, part: Part) -> Result<(), RangeError>
-        requires { self.now.capacity ≡ None }
+        requires { self.now.role ≡ reader }
         ensures answer { result ≡ part_answer S.boundary self.now.window.items part }
         ensures ok { IsOk result → IsPart S.boundary self.now.window.items part }
     {
@@ -70,7 +71,7 @@ where
         part: Part,
         passes: &mut Passes<A>,
     ) -> Result<Self, OwnerError>
-        requires reads { self.old.capacity ≡ None }
+        requires reads { self.old.role ≡ reader }
         requires within { IsPart S.boundary self.old.window.items part }
         requires pass { HasPassFor passes.old.of_blocks.items (stand_of (Some self.old)) }
         ensures itself { IfOk result (λ handed. is_itself (row_of self.old) part ≡ true

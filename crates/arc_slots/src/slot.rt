@@ -143,7 +143,7 @@ where
     L::Writable: LayoutMut,
 {
     ghost use Rattle.std.specs.Prelude.{◌≡◌, ◌<◌, ◌≤◌, ◌↔◌, length, Bool, false, None, Some};
-    ghost use Rattle.std.specs.Prelude.{IfOk, IfErr, IsOk, take, drop, true, is_some};
+    ghost use Rattle.std.specs.Prelude.{IfOk, IfErr, IsOk, take, drop, true, is_some, MatchOption};
     ghost use Rattle.arc_buffer.specs.Slice.{IsRange, IsEdge, sub, range_answer, edge_answer};
     ghost use Rattle.arc_block.specs.Place.{part_place};
     ghost use Rattle.arc_block.specs.Table.{block_of, reader};
@@ -171,7 +171,7 @@ where
         requires { L.STATIC ≡ true }
         ensures { result ≡ record {
           window = record { items = items; place = static_data };
-          capacity = None;
+          role = reader;
           block = None;
         } }
     {
@@ -190,7 +190,7 @@ where
         requires block { is_numbered block window.place ≡ true }
         ensures { result ≡ record {
           window = window_of window;
-          capacity = Some (capacity_of window.role);
+          role = window.role;
           block = block;
         } }
     {
@@ -202,8 +202,8 @@ where
 
     /// Whether the window is one that is written.
     pub fn is_written(&self) -> bool
-        ensures answer { result ≡ is_some self.now.capacity }
-        ensures reads { result ≡ false → self.now.capacity ≡ None }
+        ensures answer { result ≡ is_sole self.now.role }
+        ensures reads { result ≡ false → self.now.role ≡ reader }
     {
         match &self.window {
             Held::Read(_) => false,
@@ -211,9 +211,21 @@ where
         }
     }
 
+    /// A window is read, or it is its block's only owner's, who writes. Does nothing: its contract is
+    /// the law.
+    pub(crate) fn known_role(&self)
+        ensures { is_sole self.now.role ≡ false → self.now.role ≡ reader }
+    {
+        match &self.window {
+            Held::Read(_) => (),
+            Held::Write(_) => (),
+        }
+    }
+
     /// How many places the window has, if it is one that is written.
     pub fn capacity(&self) -> Option<usize>
-        ensures { result ≡ self.now.capacity }
+        ensures { MatchOption result (self.now.role ≡ reader) (λ places.
+            (is_sole self.now.role ≡ true) × (places ≡ capacity_of self.now.role)) }
     {
         match &self.window {
             Held::Read(_) => None,
@@ -230,7 +242,7 @@ where
 
     /// The items of a window that stands on no block, for good. Takes no memory.
     pub fn into_static(self) -> StaticSlice<S::Item>
-        requires reads { self.capacity ≡ None }
+        requires reads { self.role ≡ reader }
         requires nowhere { is_some (block_of (row_of self).place) ≡ false }
         ensures { result ≡ self.window.items }
     {
@@ -258,7 +270,7 @@ where
     pub fn check_range(&self, start: usize, end: usize) -> Result<(), RangeError>
     where
         S: Subsliceable,
-        requires { self.now.capacity ≡ None }
+        requires { self.now.role ≡ reader }
         ensures answer { result ≡ range_answer S.boundary self.now.window.items start end }
         ensures ok { IsOk result ↔ IsRange S.boundary self.now.window.items start end }
     {
@@ -335,7 +347,7 @@ where
     ///
     /// On a block Up, or Full where refused.
     pub fn try_clone(&self, rt: &impl Wait, passes: &mut Passes<A>) -> Result<Self, OwnerError>
-        requires reads { self.now.capacity ≡ None }
+        requires reads { self.now.role ≡ reader }
         requires pass { HasPassFor passes.old.of_blocks.items (stand_of (Some self.now)) }
         ensures row { IfOk result (λ slot. row_of slot ≡ row_of self.now) }
         ensures stand { IfOk result (λ slot.
@@ -383,7 +395,7 @@ where
     where
         S: Subsliceable,
         requires range { IsRange S.boundary self.now.window.items start end }
-        requires reads { self.now.capacity ≡ None }
+        requires reads { self.now.role ≡ reader }
         requires pass { HasPassFor passes.old.of_blocks.items (stand_of (Some self.now)) }
         ensures row { IfOk result (λ slot.
             row_of slot ≡ record {
@@ -438,7 +450,7 @@ where
     ) -> Result<Self, OwnerError>
     where
         S: Subsliceable,
-        requires reads { self.old.capacity ≡ None }
+        requires reads { self.old.role ≡ reader }
         requires at { IsEdge S.boundary self.old.window.items at }
         requires pass { HasPassFor passes.old.of_blocks.items (stand_of (Some self.old)) }
         ensures start { IfOk result (λ back. at ≡ 0 → IsSplit self.old back self.new
@@ -496,7 +508,7 @@ where
     ) -> Result<Self, OwnerError>
     where
         S: Subsliceable,
-        requires reads { self.old.capacity ≡ None }
+        requires reads { self.old.role ≡ reader }
         requires at { IsEdge S.boundary self.old.window.items at }
         requires pass { HasPassFor passes.old.of_blocks.items (stand_of (Some self.old)) }
         ensures end { IfOk result (λ front. at ≡ length self.old.window.items → IsSplit self.old
@@ -545,7 +557,7 @@ where
     ///
     /// On a block Alone, which says whether it is.
     pub fn try_into_mut(self, passes: &mut Passes<A>) -> Result<Self, Self>
-        requires reads { self.capacity ≡ None }
+        requires reads { self.role ≡ reader }
         requires pass { HasPassFor passes.old.of_blocks.items (stand_of (Some self)) }
         ensures row { IfOk result (λ slot. row_of slot ≡ as_sole S.DROPS (row_of self)) }
         ensures stand { IfOk result (λ slot. stand_of (Some slot) ≡ stand_of (Some self)) }
@@ -577,7 +589,7 @@ where
 
     /// Whether a first block has to be made for so many items more in the window, which is written.
     pub fn wants_block(&self, additional: usize) -> bool
-        requires { is_some self.now.capacity ≡ true }
+        requires { is_sole self.now.role ≡ true }
         ensures { result ≡ is_fresh
             (room_for S.DROPS (type_size S.Item.row) (row_of self.now) additional) }
     {
@@ -610,7 +622,7 @@ where
         S: CopySlice + Extendable,
         S::Item: Copy,
         requires item { FitsInMemory S.Item.row }
-        requires writes { is_some self.old.capacity ≡ true }
+        requires writes { is_sole self.old.role ≡ true }
         requires room { is_fresh (room_for S.DROPS (type_size S.Item.row) (row_of self.old)
             (additional_of (seen_writing what))) ≡ true
             → length passes.old.of_blocks.items < vec_capacity passes.old.of_blocks }
@@ -641,7 +653,7 @@ where
     /// that is written; then it is made.
     pub fn try_reclaim(&mut self, additional: usize) -> bool
         requires item { FitsInMemory S.Item.row }
-        requires writes { is_some self.old.capacity ≡ true }
+        requires writes { is_sole self.old.role ≡ true }
         ensures row { Reclaims
             (room_for S.DROPS (type_size S.Item.row) (row_of self.old) additional)
             (row_of self.old) (row_of self.new) result }
@@ -679,7 +691,7 @@ where
     ///
     /// None. A first block's history begins.
     pub fn try_freeze(self, passes: &mut Passes<A>) -> Result<Self, Self>
-        requires writes { is_some self.capacity ≡ true }
+        requires writes { is_sole self.role ≡ true }
         requires pass { HasPassFor passes.old.of_blocks.items (stand_of (Some self)) }
         requires room { is_some (block_of (row_of self).place) ≡ false
             → (L.STATIC && (length self.window.items == 0)) ≡ false
@@ -728,7 +740,7 @@ where
     ///
     /// On a block Alone, which says what is answered.
     pub fn is_unique(&self, passes: &mut Passes<A>) -> bool
-        requires reads { self.now.capacity ≡ None }
+        requires reads { self.now.role ≡ reader }
         requires pass { HasPassFor passes.old.of_blocks.items (stand_of (Some self.now)) }
         ensures asked { Along (stand_of (Some self.now)) passes.old.of_blocks.items
             passes.new.of_blocks.items (λ o p q.

@@ -5,7 +5,7 @@ use arc_block::layout::{DefaultLayout, Layout, LayoutMut, stands_on_nothing};
 use arc_block::static_slice::StaticSlice;
 use arc_buffer::kinds::Slice;
 use arc_commands::command::{Cmd, Reply, TableCmd, TableReply};
-use arc_kinds::kinds::Commands;
+use arc_slots::kinds::Commands;
 use arc_owners::mark::Whole;
 use arc_owners::owners::Pass;
 use arc_read::slice::ArcSlice;

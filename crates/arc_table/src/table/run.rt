@@ -6,7 +6,7 @@ ghost use Rattle.std.specs.Vec.{vec_len};
 use super::Table;
 use arc_block::layout::{Layout, LayoutMut};
 use arc_commands::command::{TableCmd, TableReply};
-use arc_kinds::kinds::Commands;
+use arc_slots::kinds::Commands;
 use arc_owners::error::AllocError;
 use std::alloc::Allocator;
 use std::sync::Wait;

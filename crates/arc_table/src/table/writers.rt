@@ -4,7 +4,7 @@ ghost use Rattle.std.specs.Mem.{FitsInMemory, type_size};
 use super::Table;
 use arc_block::layout::{Layout, LayoutMut};
 use arc_commands::command::{Reply, TableReply};
-use arc_kinds::kinds::{Commands, ZeroOf};
+use arc_slots::kinds::{Commands, ZeroOf};
 use arc_owners::error::TryReserveError;
 use arc_owners::owners::Pass;
 use arc_slots::list::{make_room, push_writer, put_slot, slot_at};

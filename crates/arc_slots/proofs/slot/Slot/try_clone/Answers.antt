@@ -1,5 +1,6 @@
 -- What the clone adds to the pass that was lent for it, it adds to the passes.
-use Rattle.std.proofs.Common.{◌≡◌, Some, None, sym, subst, ◌∙◌}
+use Rattle.std.proofs.Common.{◌≡◌, Some, sym, subst, ◌∙◌}
+use Rattle.arc_block.specs.Table.{reader}
 use Rattle.arc_slots.specs.Calls.{Beside, RefusesAt}
 use Rattle.arc_slots.specs.Slots.{SlotView, row_of, stand_of}
 use Rattle.arc_slots.specs.Stands.{HasPassFor, numbered, stand_at}
@@ -81,7 +82,7 @@ returns-in-Ok-clause-row g c =
     let view =
     sym (reads-view c.self.inside.window w b c.in-Read.is) ∙ c.self.view_is in
     let one : SlotView g.row.S-Item.Denot g.row.M.Denot =
-    record { window = made; capacity = None; block = b } in
+    record { window = made; role = reader; block = b } in
     subst (λ (s : SlotView g.row.S-Item.Denot g.row.M.Denot). row_of one ≡ row_of s) view
     (same-reader c.in-Ok.ensures.items
     (shares-numbered c.lend-pass.result c.try_clone_as-made.new.pass b w.place made.place

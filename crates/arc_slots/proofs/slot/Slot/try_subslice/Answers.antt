@@ -144,7 +144,7 @@ returns-in-Ok-clause-row g c =
     c.part_block.ensures
     ∙ ap (λ n. if g.L.Layout.STATIC && (n == 0) then None else b) (sym long) in
     let one : SlotView g.row.S-Item.Denot g.row.M.Denot =
-    record { window = made; capacity = None; block = c.part_block.result } in
+    record { window = made; role = reader; block = c.part_block.result } in
     let there =
     ap (λ o. numbered o made.place) block
     ∙ shares-numbered c.lend-pass.result c.try_subslice_as-made.new.pass

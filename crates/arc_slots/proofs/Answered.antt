@@ -1,0 +1,839 @@
+-- What each call of a slot leads to, as what its window is answered to a command.
+use Rattle.std.proofs.Common.{◌≡◌, ℕ, ◌+◌, ◌==◌, ◌&&◌, Bool, true, false, if◌then◌else◌, List, [], ◌∷◌}
+use Rattle.std.proofs.Common.{length, Option, Some, None, Result, Ok, Err, is_some, refl, sym, ap}
+use Rattle.std.proofs.Common.{◌∙◌, subst, inl, inr}
+use Rattle.std.specs.Prelude.{nat_lt}
+use Rattle.std.specs.Result.{result_err}
+use Rattle.std.proofs.lemmas.Bool.{cases_Bool, false≢true}
+use Rattle.std.proofs.lemmas.List.{length-append}
+use Rattle.std.proofs.lemmas.Option.{none-some, same_Some}
+use Rattle.arc_owners.specs.declared.mark.Whole.{Whole}
+use Rattle.arc_owners.specs.declared.count.tokens.Pass.{Pass}
+use Rattle.arc_owners.specs.declared.error.RangeError.{RangeError}
+use Rattle.arc_owners.specs.declared.error.OwnerError.{OwnerError}
+use Rattle.arc_owners.specs.declared.error.OwnerError.TheVariants.{AllocError, CountFull}
+use Rattle.arc_owners.specs.declared.error.TryReserveError.{TryReserveError}
+use Rattle.arc_owners.specs.declared.error.TryReserveError.TheVariants as reserve
+use Rattle.arc_owners.specs.declared.history.entry.Entry.TheVariants as entry
+use Rattle.arc_owners.specs.count.Calls.{Asks}
+use Rattle.arc_buffer.specs.Slice.{range_answer, edge_answer}
+use Rattle.arc_block.specs.declared.parts.room.Room.{Room}
+use Rattle.arc_block.specs.declared.parts.room.Room.TheVariants as from
+use Rattle.arc_block.specs.Block.{native_facts}
+use Rattle.arc_block.specs.Owned.{Stand}
+use Rattle.arc_block.specs.Place.{nowhere, on_block}
+use Rattle.arc_block.specs.Table.{Row, reader, sole_writer, block_of}
+use Rattle.arc_block.specs.Writers.{new_writer, with_more, with_room, Reclaims, as_reader, as_sole}
+use Rattle.arc_block.specs.Writers.{after_advance, capacity_of}
+use Rattle.arc_commands.specs.Additions.{RowAdds, Joins, Enters, Founds, MayBegin, Stays}
+use Rattle.arc_commands.specs.Additions.{asked as History_asked, refused}
+use Rattle.arc_commands.specs.Step.{Setting, Shortage, no_shortage, of_table, of_clones, of_blocks}
+use Rattle.arc_commands.specs.Step.{Around, Change, answer_any, answer_row, asking_block, begun}
+use Rattle.arc_commands.specs.Step.{filled, frozen, in_range, is_for, is_now, made_row, may_write}
+use Rattle.arc_commands.specs.Step.{parted, reclaimed, room_of, shortage, truncated, with_block}
+use Rattle.arc_commands.specs.Step.{with_made, gone}
+use Rattle.arc_commands.specs.Blocks.{is_sole}
+use Rattle.arc_commands.specs.declared.command.Cmd.{Cmd}
+use Rattle.arc_commands.specs.declared.command.Cmd.TheVariants as command
+use Rattle.arc_commands.specs.declared.command.Reply.{Reply}
+use Rattle.arc_commands.specs.declared.command.Reply.TheVariants as reply
+use Rattle.arc_commands.proofs.Roles.{sole_each}
+use Rattle.arc_slots.specs.Answers.{Answers, around_in}
+use Rattle.arc_slots.specs.Calls.{Along, Beside, RefusesAt}
+use Rattle.arc_slots.specs.Parts.{is_itself, part_answer, part_command, part_row, rest_of}
+use Rattle.arc_slots.specs.Slots.{SlotView, row_of, stand_of}
+use Rattle.arc_slots.specs.Splits.{IsSplit}
+use Rattle.arc_slots.specs.Stands.{HasPassFor}
+use Rattle.arc_slots.specs.Writing.{Fills, additional_of, is_fresh, items_of, write_command}
+use Rattle.arc_slots.specs.declared.part.Part.{Part}
+use Rattle.arc_slots.specs.declared.part.Part.TheVariants.{Whole as All, Range, Back, Front}
+use Rattle.arc_slots.specs.declared.slot.Writing.{Writing}
+use Rattle.arc_slots.specs.declared.slot.Writing.TheVariants as writing
+use Rattle.arc_slots.proofs.Added.{Ended, asked-comes, ended-comes, enters-along, raises-beside}
+use Rattle.arc_slots.proofs.Added.{refuses-at}
+use Rattle.arc_slots.proofs.Told.{alone-told, full-told, many-along, many-beside, many-refused}
+use Rattle.arc_slots.proofs.Told.{none-stands, room-beside, row-block, stand_block}
+
+-- what is refused for one reason is refused for no other
+refused-same : (e f : TryReserveError)
+    → ◌≡◌ {A = Result (Unit {0}) TryReserveError} (Err e) (Err f) → e ≡ f
+refused-same e f is = same_Some e f (ap result_err is)
+
+-- a command to write is for writers alone
+pub write-reads : {T : Type 0} (i : ℕ) (what : Writing (List T) T)
+    → is_for (write_command i what) reader ≡ false
+write-reads i (writing.Nothing additional) = refl
+write-reads i (writing.Item item) = refl
+write-reads i (writing.Items items) = refl
+
+module _ {T M : Type 0} (setting : Setting T) (windows : ℕ) (s : SlotView T M)
+    (passes : List (Pass Whole)) where
+  abbrev here : Stand
+  here = stand_of (Some s)
+
+  abbrev row : Row T M
+  row = row_of s
+
+  abbrev around : Around
+  around = around_in windows passes here
+
+  abbrev Command : Type 0
+  Command = Cmd (List T) (List T) T
+
+  abbrev Said : Command → Reply (List T) (List T) → Option (SlotView T M)
+      → Option (SlotView T M) → List (Pass Whole) → Type 0
+  Said c r new made passes' = Answers setting windows c s passes r new made passes'
+
+  abbrev IsFor : Command → Type 0
+  IsFor c = is_for c s.role ≡ true
+
+  for-role : (short : Shortage) (c : Command) → is_for c s.role ≡ true
+      → answer_any setting short around c row ≡ answer_row setting short around c row
+  for-role short c is =
+      ap (λ b. if b then answer_row setting short around c row else is_now reply.Kind row) is
+
+  not-for : (short : Shortage) (c : Command) → is_for c s.role ≡ false
+      → answer_any setting short around c row ≡ is_now reply.Kind row
+  not-for short c is =
+      ap (λ b. if b then answer_row setting short around c row else is_now reply.Kind row) is
+
+  reads-for : s.role ≡ reader → (c : Command) → (b : Bool) → is_for c reader ≡ b
+      → is_for c s.role ≡ b
+  reads-for reads c b is = ap (is_for c) reads ∙ is
+
+  writes-for : is_sole s.role ≡ true → (c : Command) (b : Bool)
+      → ((places : ℕ) → is_for c (sole_writer places) ≡ b) → is_for c s.role ≡ b
+  writes-for writes c b each = sole_each (λ role. is_for c role ≡ b) each s.role writes
+
+  -- nothing changes
+  pub same : (c : Command) (r : Reply (List T) (List T))
+      → answer_any setting (shortage r c) around c row ≡ is_now r row
+      → RowAdds here here None passes passes row c r → Said c r (Some s) None passes
+  same c r is adds = record { begins = false; change = is; blocks = refl; adds = adds }
+
+  -- ---- a part that is handed out
+
+  module _ (i : ℕ) (reads : s.role ≡ reader) (part : Part) where
+    abbrev c : Command
+    c = part_command i part
+
+    abbrev out : Bool
+    out = is_itself row part
+
+    abbrev new_part : Row T M
+    new_part = part_row setting.has_static row part
+
+    abbrev hands : Shortage → Change T M
+    hands short =
+        parted setting short around row new_part (if out then new_part else rest_of row part)
+        (if out then row else new_part)
+
+  module _ (i : ℕ) (reads : s.role ≡ reader) where
+    hand-is : (part : Part) (short : Shortage)
+        → part_answer setting.boundary s.window.items part ≡ Ok tt
+        → answer_any setting short around (part_command i part) row ≡ hands i reads part short
+    hand-is All short ok =
+        for-role short (command.Clone i) (reads-for reads (command.Clone i) true refl)
+    hand-is (Range start end) short ok =
+        for-role short (command.Sub i start end)
+        (reads-for reads (command.Sub i start end) true refl)
+        ∙ ap (λ a. in_range a row (hands i reads (Range start end) short)) ok
+    hand-is (Back at) short ok =
+        for-role short (command.Off i at) (reads-for reads (command.Off i at) true refl)
+        ∙ ap (λ a. in_range a row (hands i reads (Back at) short)) ok
+    hand-is (Front at) short ok =
+        for-role short (command.To i at) (reads-for reads (command.To i at) true refl)
+        ∙ ap (λ a. in_range a row (hands i reads (Front at) short)) ok
+
+    -- it isn't one of the window
+    pub part-range : (part : Part) (e : RangeError)
+        → part_answer setting.boundary s.window.items part ≡ Err e
+        → Said (part_command i part) (reply.Range e) (Some s) None passes
+    part-range All e is = absurd (cc)
+    part-range (Range start end) e is =
+        same (command.Sub i start end) (reply.Range e)
+        (for-role no_shortage (command.Sub i start end)
+        (reads-for reads (command.Sub i start end) true refl)
+        ∙ ap (λ a. in_range a row (hands i reads (Range start end) no_shortage)) is)
+        (refl, refl, refl)
+    part-range (Back at) e is =
+        same (command.Off i at) (reply.Range e)
+        (for-role no_shortage (command.Off i at) (reads-for reads (command.Off i at) true refl)
+        ∙ ap (λ a. in_range a row (hands i reads (Back at) no_shortage)) is) (refl, refl, refl)
+    part-range (Front at) e is =
+        same (command.To i at) (reply.Range e)
+        (for-role no_shortage (command.To i at) (reads-for reads (command.To i at) true refl)
+        ∙ ap (λ a. in_range a row (hands i reads (Front at) no_shortage)) is) (refl, refl, refl)
+
+    part-adds : (part : Part) (there : Stand) (made : Option Stand) (passes' : List (Pass Whole))
+        → (Joins here there made passes passes' (is_itself row part) → (number : ℕ)
+        → RowAdds here there made passes passes' row (part_command i part) (reply.New number))
+        × (Enters here there made passes passes' (refused AllocError)
+        → RowAdds here there made passes passes' row (part_command i part) (reply.Owner AllocError))
+        × (Enters here there made passes passes' (refused CountFull)
+        → RowAdds here there made passes passes' row (part_command i part) (reply.Owner CountFull))
+    part-adds All there made passes' = (λ joins number. joins, λ enters. enters, λ enters. enters)
+    part-adds (Range start end) there made passes' =
+        (λ joins number. joins, λ enters. enters, λ enters. enters)
+    part-adds (Back at) there made passes' =
+        (λ joins number. joins, λ enters. enters, λ enters. enters)
+    part-adds (Front at) there made passes' =
+        (λ joins number. joins, λ enters. enters, λ enters. enters)
+
+    part-none : (part : Part) → RowAdds here here None passes passes row (part_command i part)
+        reply.Alloc
+    part-none All = (refl, refl, refl)
+    part-none (Range start end) = (refl, refl, refl)
+    part-none (Back at) = (refl, refl, refl)
+    part-none (Front at) = (refl, refl, refl)
+
+    -- memory for the window was refused
+    pub part-alloc : (part : Part) → part_answer setting.boundary s.window.items part ≡ Ok tt
+        → Said (part_command i part) reply.Alloc (Some s) None passes
+    part-alloc part ok =
+        same (part_command i part) reply.Alloc (hand-is part of_table ok) (part-none part)
+
+    module _ (has : HasPassFor passes here) (passes' : List (Pass Whole)) (part : Part)
+        (ok : part_answer setting.boundary s.window.items part ≡ Ok tt) where
+      -- an owner more was refused
+      pub part-refused : (e : OwnerError)
+          → RefusesAt setting.clone_wants (part_row setting.has_static row part).place here passes
+          passes' e
+          → Said (part_command i part) (reply.Owner e) (Some s) None passes'
+      part-refused AllocError why = record {
+        begins = false;
+        change =
+            hand-is part of_clones ok
+            ∙ ap (λ (b : Bool). if b then is_now (reply.Owner AllocError) row else
+            if around.full && is_some (block_of (new_part i reads part).place) then
+            is_now (reply.Owner CountFull) row else
+            with_made around (if out i reads part then new_part i reads part else rest_of row part)
+            (if out i reads part then row else new_part i reads part)) why.0;
+        blocks =
+            many-refused passes passes' setting.clone_wants (new_part i reads part).place here AllocError
+            why;
+        adds =
+            (part-adds part here None passes').1 (
+              refl,
+              refl,
+              refuses-at passes passes' setting.clone_wants (new_part i reads part).place AllocError here
+                  why,
+            );
+      }
+      part-refused CountFull why = record {
+        begins = false;
+        change =
+            hand-is part no_shortage ok
+            ∙ ap (λ (b : Bool). if b then is_now (reply.Owner CountFull) row else
+            with_made around (if out i reads part then new_part i reads part else rest_of row part)
+            (if out i reads part then row else new_part i reads part))
+            (full-beside here has why);
+        blocks =
+            many-refused passes passes' setting.clone_wants (new_part i reads part).place here CountFull
+            why;
+        adds =
+            (part-adds part here None passes').2 (
+              refl,
+              refl,
+              refuses-at passes passes' setting.clone_wants (new_part i reads part).place CountFull here
+                  why,
+            );
+      }
+        where
+          full-beside : (st : Stand) → HasPassFor passes st
+              → RefusesAt setting.clone_wants (new_part i reads part).place st passes passes' CountFull
+              → ((around_in windows passes st).full
+              && is_some (block_of (new_part i reads part).place)) ≡ true
+          full-beside None has why = absurd why
+          full-beside (Some (n, o)) has why =
+              ap (λ b. b && is_some (block_of (new_part i reads part).place))
+              (full-told passes passes' windows n o has why.1)
+              ∙ ap is_some why.0
+
+      -- it was made: the window's owner has the one part, and that one the other
+      part-made : (kept made other : SlotView T M)
+          → row_of kept ≡ (if out i reads part then new_part i reads part else rest_of row part)
+          → row_of made ≡ (if out i reads part then row else new_part i reads part)
+          → row_of other ≡ new_part i reads part
+          → Beside here passes passes' (stand_of (Some other))
+          → Joins here (stand_of (Some kept)) (Some (stand_of (Some made))) passes passes'
+          (is_itself row part)
+          → Said (part_command i part) (reply.New windows) (Some kept) (Some made) passes'
+      part-made kept made other kept-is made-is other-is beside joins =
+          let room =
+          ap (λ x. around.full && is_some x)
+          (ap (λ (r : Row T M). block_of r.place) (sym other-is) ∙ row-block other)
+          ∙ room-beside passes passes' windows here (stand_of (Some other)) has beside in
+          record {
+            begins = false;
+            change =
+                hand-is part no_shortage ok
+                ∙ ap (λ (b : Bool). if b then is_now (reply.Owner CountFull) row else
+                with_made around (if out i reads part then new_part i reads part else rest_of row part)
+                (if out i reads part then row else new_part i reads part)) room
+                ∙ ap (λ x. with_made around x (if out i reads part then row else new_part i reads part))
+                (sym kept-is)
+                ∙ ap (with_made around (row_of kept)) (sym made-is);
+            blocks = many-beside passes passes' here (stand_of (Some other)) beside;
+            adds =
+                (part-adds part (stand_of (Some kept)) (Some (stand_of (Some made))) passes').0
+                joins windows;
+          }
+
+      pub itself : (handed kept : SlotView T M) → out i reads part ≡ true
+          → IsSplit s handed kept row (new_part i reads part) passes passes'
+          → Said (part_command i part) (reply.New windows) (Some kept) (Some handed) passes'
+      itself handed kept is h =
+          part-made kept handed kept
+          (h.made_is ∙ ap (λ b. if b then new_part i reads part else rest_of row part) (sym is))
+          (h.same_is ∙ ap (λ b. if b then row else new_part i reads part) (sym is)) h.made_is h.added (
+            stand_of (Some kept),
+            raises-beside passes passes' here (stand_of (Some kept)) h.added,
+            ap (λ b. if b then stand_of (Some kept) else here) (sym is),
+            ap Some h.owner
+                ∙ ap (λ b. Some (if b then here else stand_of (Some kept))) (sym is),
+          )
+
+      pub beside : (handed kept : SlotView T M) → out i reads part ≡ false
+          → IsSplit s kept handed (rest_of row part) (new_part i reads part) passes passes'
+          → Said (part_command i part) (reply.New windows) (Some kept) (Some handed) passes'
+      beside handed kept is h =
+          part-made kept handed handed
+          (h.same_is ∙ ap (λ b. if b then new_part i reads part else rest_of row part) (sym is))
+          (h.made_is ∙ ap (λ b. if b then row else new_part i reads part) (sym is)) h.made_is h.added (
+            stand_of (Some handed),
+            raises-beside passes passes' here (stand_of (Some handed)) h.added,
+            h.owner ∙ ap (λ b. if b then stand_of (Some handed) else here) (sym is),
+            ap (λ b. Some (if b then here else stand_of (Some handed))) (sym is),
+          )
+
+  -- a part of a window that is written
+  pub part-kind : is_sole s.role ≡ true → (i : ℕ) (part : Part)
+      → Said (part_command i part) reply.Kind (Some s) None passes
+  part-kind writes i All =
+      same (command.Clone i) reply.Kind (not-for no_shortage (command.Clone i)
+      (writes-for writes (command.Clone i) false (λ n. refl))) (refl, refl, refl)
+  part-kind writes i (Range start end) =
+      same (command.Sub i start end) reply.Kind (not-for no_shortage (command.Sub i start end)
+      (writes-for writes (command.Sub i start end) false (λ n. refl))) (refl, refl, refl)
+  part-kind writes i (Back at) =
+      same (command.Off i at) reply.Kind (not-for no_shortage (command.Off i at)
+      (writes-for writes (command.Off i at) false (λ n. refl))) (refl, refl, refl)
+  part-kind writes i (Front at) =
+      same (command.To i at) reply.Kind (not-for no_shortage (command.To i at)
+      (writes-for writes (command.To i at) false (λ n. refl))) (refl, refl, refl)
+
+  -- ---- whether the window is alone
+
+  module _ (has : HasPassFor passes here) (reads : s.role ≡ reader) (passes' : List (Pass Whole))
+    where
+      abbrev AskedAs : Bool → Type 0
+      AskedAs found = Along here passes passes' (λ o p q. Asks o p q found)
+
+      asked-adds : (found : Bool) → AskedAs found
+          → Enters here here None passes passes' (History_asked found)
+      asked-adds found along = (
+        refl,
+        refl,
+        enters-along passes passes' (λ o p q. Asks o p q found)
+            (History_asked found) (asked-comes found) here along,
+      )
+
+      asked-many : (found : Bool) → AskedAs found → length passes' ≡ length passes
+      asked-many found along = many-along passes passes' here (λ o p q. Asks o p q found) along
+
+      pub uniq : (i : ℕ) (found : Bool) → AskedAs found → (here ≡ None → found ≡ false)
+          → Said (command.Uniq i) (if found then reply.Yes else reply.No) (Some s) None passes'
+      uniq i true along none = record {
+        begins = false;
+        change =
+            for-role no_shortage (command.Uniq i) (reads-for reads (command.Uniq i) true refl)
+            ∙ ap (λ b. is_now (if b then reply.Yes else reply.No) row)
+            (alone-told passes passes' windows true here has along none);
+        blocks = asked-many true along;
+        adds = asked-adds true along;
+      }
+      uniq i false along none = record {
+        begins = false;
+        change =
+            for-role no_shortage (command.Uniq i) (reads-for reads (command.Uniq i) true refl)
+            ∙ ap (λ b. is_now (if b then reply.Yes else reply.No) row)
+            (alone-told passes passes' windows false here has along none);
+        blocks = asked-many false along;
+        adds = asked-adds false along;
+      }
+
+      -- it may be written where it is alone, or stands on nothing without items
+      may-told : (st : Stand) → here ≡ st → (found : Bool) → AskedAs found
+          → (here ≡ None → found ≡ (length row.items == 0)) → may_write around row ≡ found
+      may-told None is found along none =
+          ap (λ b. if is_some b then around.alone else length row.items == 0)
+          (row-block s ∙ ap stand_block is) ∙ sym (none is)
+      may-told (Some at) is found along none =
+          ap (λ b. if is_some b then around.alone else length row.items == 0)
+          (row-block s ∙ ap stand_block is)
+          ∙ alone-told passes passes' windows found here has along
+          (λ e. absurd (none-some at (sym e ∙ is)))
+
+      mut-is : (i : ℕ) (found : Bool) → AskedAs found
+          → (here ≡ None → found ≡ (length row.items == 0))
+          → answer_any setting no_shortage around (command.Mut i) row
+          ≡ (if found then is_now reply.Ok (as_sole setting.drops row) else
+          is_now reply.Refused row)
+      mut-is i found along none =
+          for-role no_shortage (command.Mut i) (reads-for reads (command.Mut i) true refl)
+          ∙ ap (λ b. if b then is_now reply.Ok (as_sole setting.drops row) else
+          is_now reply.Refused row) (may-told here refl found along none)
+
+      pub wrote : (i : ℕ) → AskedAs true → (here ≡ None → true ≡ (length row.items == 0))
+          → (new : SlotView T M) → stand_of (Some new) ≡ here
+          → row_of new ≡ as_sole setting.drops row
+          → Said (command.Mut i) reply.Ok (Some new) None passes'
+      wrote i along none new stays is = record {
+        begins = false;
+        change = mut-is i true along none ∙ ap (is_now reply.Ok) (sym is);
+        blocks = asked-many true along;
+        adds = let adds = asked-adds true along in (stays, refl, adds.2);
+      }
+
+      pub unwritten : (i : ℕ) → AskedAs false → (here ≡ None → false ≡ (length row.items == 0))
+          → Said (command.Mut i) reply.Refused (Some s) None passes'
+      unwritten i along none = record {
+        begins = false;
+        change = mut-is i false along none;
+        blocks = asked-many false along;
+        adds = asked-adds false along;
+      }
+
+  -- ---- the end of the window
+
+  pub dropped : (i : ℕ) (passes' : List (Pass Whole)) → IsFor (command.Drop i)
+      → Along here passes passes' Ended
+      → Said (command.Drop i) reply.Ok None None passes'
+  dropped i passes' is along = record {
+    begins = false;
+    change = for-role no_shortage (command.Drop i) is;
+    blocks = many-along passes passes' here Ended along;
+    adds = (
+      refl,
+      refl,
+      enters-along passes passes' Ended (λ o history. entry.Down o.number ∷ [])
+          ended-comes here along,
+    );
+  }
+
+  pub taken : (i : ℕ) → s.role ≡ reader → is_some (block_of row.place) ≡ false
+      → Said (command.TakeStatic i) (reply.Static s.window.items) None None passes
+  taken i reads off = record {
+    begins = false;
+    change =
+        for-role no_shortage (command.TakeStatic i)
+        (reads-for reads (command.TakeStatic i) true refl)
+        ∙ ap (λ b. if b then is_now reply.Refused row else gone (reply.Static row.items)) off;
+    blocks = refl;
+    adds = (none-stands here (ap is_some (sym (row-block s)) ∙ off), refl, refl, refl);
+  }
+
+  pub untaken : (i : ℕ) → s.role ≡ reader → is_some (block_of row.place) ≡ true
+      → Said (command.TakeStatic i) reply.Refused (Some s) None passes
+  untaken i reads on =
+      same (command.TakeStatic i) reply.Refused (for-role no_shortage (command.TakeStatic i)
+      (reads-for reads (command.TakeStatic i) true refl)
+      ∙ ap (λ b. if b then is_now reply.Refused row else gone (reply.Static row.items)) on)
+      (refl, refl, refl)
+
+  -- ---- the window in another form, as the same owner
+
+  -- where it stood on nothing it still does
+  stays-there : (st there : Stand) → there ≡ st → MayBegin st there passes passes
+  stays-there None there is = subst (λ x. Founds x passes passes) (sym is) refl
+  stays-there (Some at) there is = (is, refl)
+
+  changes : (c : Command) (r : Reply (List T) (List T)) (new : SlotView T M)
+      → answer_any setting (shortage r c) around c row ≡ is_now r (row_of new)
+      → RowAdds here (stand_of (Some new)) None passes passes row c r
+      → Said c r (Some new) None passes
+  changes c r new is adds = record { begins = false; change = is; blocks = refl; adds = adds }
+
+  module _ (new : SlotView T M) (stays : stand_of (Some new) ≡ here) where
+    pub advanced : (i by : ℕ) → IsFor (command.Adv i by)
+        → edge_answer setting.boundary s.window.items by ≡ Ok tt
+        → row_of new ≡ after_advance by row
+        → Said (command.Adv i by) reply.Ok (Some new) None passes
+    advanced i by for edge is =
+        changes (command.Adv i by) reply.Ok new
+        (for-role no_shortage (command.Adv i by) for
+        ∙ ap (λ a. in_range a row (is_now reply.Ok (after_advance by row))) edge
+        ∙ ap (is_now reply.Ok) (sym is)) (stays, refl, refl)
+
+    pub truncates : (i len : ℕ) → IsFor (command.Trunc i len)
+        → nat_lt len (length s.window.items) ≡ true
+        → edge_answer setting.boundary s.window.items len ≡ Ok tt
+        → row_of new ≡ truncated setting.drops row len
+        → Said (command.Trunc i len) reply.Ok (Some new) None passes
+    truncates i len for short edge is =
+        changes (command.Trunc i len) reply.Ok new
+        (for-role no_shortage (command.Trunc i len) for
+        ∙ ap (λ b. if b then in_range (edge_answer setting.boundary row.items len) row
+        (is_now reply.Ok (truncated setting.drops row len)) else is_now reply.Ok row) short
+        ∙ ap (λ a. in_range a row (is_now reply.Ok (truncated setting.drops row len))) edge
+        ∙ ap (is_now reply.Ok) (sym is)) (stays, refl, refl)
+
+  pub adv-range : (i by : ℕ) (e : RangeError) → IsFor (command.Adv i by)
+      → edge_answer setting.boundary s.window.items by ≡ Err e
+      → Said (command.Adv i by) (reply.Range e) (Some s) None passes
+  adv-range i by e for edge =
+      same (command.Adv i by) (reply.Range e) (for-role no_shortage (command.Adv i by) for
+      ∙ ap (λ a. in_range a row (is_now reply.Ok (after_advance by row))) edge) (refl, refl, refl)
+
+  pub trunc-range : (i len : ℕ) (e : RangeError)
+      → IsFor (command.Trunc i len)
+      → nat_lt len (length s.window.items) ≡ true
+      → edge_answer setting.boundary s.window.items len ≡ Err e
+      → Said (command.Trunc i len) (reply.Range e) (Some s) None passes
+  trunc-range i len e for short edge =
+      same (command.Trunc i len) (reply.Range e) (for-role no_shortage (command.Trunc i len) for
+      ∙ ap (λ b. if b then in_range (edge_answer setting.boundary row.items len) row
+      (is_now reply.Ok (truncated setting.drops row len)) else is_now reply.Ok row) short
+      ∙ ap (λ a. in_range a row (is_now reply.Ok (truncated setting.drops row len))) edge)
+      (refl, refl, refl)
+
+  pub trunc-longer : (i len : ℕ) → IsFor (command.Trunc i len)
+      → nat_lt len (length s.window.items) ≡ false
+      → Said (command.Trunc i len) reply.Ok (Some s) None passes
+  trunc-longer i len for long =
+      same (command.Trunc i len) reply.Ok (for-role no_shortage (command.Trunc i len) for
+      ∙ ap (λ b. if b then in_range (edge_answer setting.boundary row.items len) row
+      (is_now reply.Ok (truncated setting.drops row len)) else is_now reply.Ok row) long)
+      (refl, refl, refl)
+
+  -- what is for a reader and for each sole writer is for a slot's window
+  pub for-each : (is_sole s.role ≡ false → s.role ≡ reader) → (c : Command)
+      → is_for c reader ≡ true → ((places : ℕ) → is_for c (sole_writer places) ≡ true) → IsFor c
+  for-each role c reads writes = elim (cases_Bool (is_sole s.role)) [
+    | inl sole ↦ writes-for sole c true writes
+    | inr other ↦ reads-for (role other) c true reads
+  ]
+
+  -- ---- what is only told
+
+  pub shown : (i : ℕ) → IsFor (command.Show i)
+      → Said (command.Show i) (reply.Items s.window.items) (Some s) None passes
+  shown i for =
+      same (command.Show i) (reply.Items s.window.items)
+      (for-role no_shortage (command.Show i) for) (refl, refl, refl)
+
+  pub show-alloc : (i : ℕ) → IsFor (command.Show i)
+      → Said (command.Show i) reply.Alloc (Some s) None passes
+  show-alloc i for =
+      same (command.Show i) reply.Alloc (for-role of_table (command.Show i) for) (refl, refl, refl)
+
+  pub counted : (i : ℕ) → IsFor (command.Len i)
+      → Said (command.Len i) (reply.Number (length s.window.items)) (Some s) None passes
+  counted i for =
+      same (command.Len i) (reply.Number (length s.window.items))
+      (for-role no_shortage (command.Len i) for) (refl, refl, refl)
+
+  pub places-told : (i places : ℕ) → is_sole s.role ≡ true → places ≡ capacity_of s.role
+      → Said (command.Room i) (reply.Number places) (Some s) None passes
+  places-told i places writes is =
+      same (command.Room i) (reply.Number places)
+      (for-role no_shortage (command.Room i)
+      (writes-for writes (command.Room i) true (λ n. refl))
+      ∙ ap (λ n. is_now (reply.Number n) row) (sym is)) (refl, refl, refl)
+
+  pub room-kind : (i : ℕ) → s.role ≡ reader → Said (command.Room i) reply.Kind (Some s) None passes
+  room-kind i reads =
+      same (command.Room i) reply.Kind
+      (not-for no_shortage (command.Room i) (reads-for reads (command.Room i) false refl))
+      (refl, refl, refl)
+
+  -- ---- what is written into a window
+
+  pub write-kind : (i : ℕ) (what : Writing (List T) T) → s.role ≡ reader
+      → Said (write_command i what) reply.Kind (Some s) None passes
+  write-kind i (writing.Nothing additional) reads =
+      same (command.Res i additional) reply.Kind (not-for no_shortage (command.Res i additional)
+      (reads-for reads (command.Res i additional) false refl)) (refl, refl, refl)
+  write-kind i (writing.Item item) reads =
+      same (command.Push i item) reply.Kind (not-for no_shortage (command.Push i item)
+      (reads-for reads (command.Push i item) false refl)) (refl, refl, refl)
+  write-kind i (writing.Items items) reads =
+      same (command.Ext i items) reply.Kind (not-for no_shortage (command.Ext i items)
+      (reads-for reads (command.Ext i items) false refl)) (refl, refl, refl)
+
+  module _ (writes : is_sole s.role ≡ true) (i : ℕ) where
+    module _ (what : Writing (List T) T) where
+      abbrev w : Command
+      w = write_command i what
+
+      abbrev outcome : Shortage → Room → Change T M
+      outcome short room = filled setting short around row (items_of what) room
+
+    write-is : (what : Writing (List T) T) (short : Shortage) (room : Room)
+        → room ≡ room_of setting row (additional_of what)
+        → answer_any setting short around (write_command i what) row ≡ outcome what short room
+    write-is (writing.Nothing additional) short room is =
+        for-role short (command.Res i additional)
+        (writes-for writes (command.Res i additional) true (λ n. refl))
+        ∙ ap (outcome (writing.Nothing additional) short) (sym is)
+    write-is (writing.Item item) short room is =
+        for-role short (command.Push i item)
+        (writes-for writes (command.Push i item) true (λ n. refl))
+        ∙ ap (outcome (writing.Item item) short) (sym is)
+    write-is (writing.Items items) short room is =
+        for-role short (command.Ext i items)
+        (writes-for writes (command.Ext i items) true (λ n. refl))
+        ∙ ap (outcome (writing.Items items) short) (sym is)
+
+    write-adds : (what : Writing (List T) T) (there : Stand) (passes' : List (Pass Whole))
+        → Stays here there None passes passes'
+        → RowAdds here there None passes passes' row (write_command i what) reply.Ok
+    write-adds (writing.Nothing additional) there passes' stays = stays
+    write-adds (writing.Item item) there passes' stays = stays
+    write-adds (writing.Items items) there passes' stays = stays
+
+    write-none : (what : Writing (List T) T) (e : TryReserveError)
+        → RowAdds here here None passes passes row (write_command i what) (reply.Reserve e)
+    write-none (writing.Nothing additional) e = (refl, refl, refl)
+    write-none (writing.Item item) e = (refl, refl, refl)
+    write-none (writing.Items items) e = (refl, refl, refl)
+
+    -- a block more, if it stands on one
+    founds-many : (st : Stand) (passes' : List (Pass Whole)) → Founds st passes passes'
+        → length passes' ≡ with_block (is_some (stand_block st)) (length passes)
+    founds-many None passes' founds = ap length founds
+    founds-many (Some (number, o)) passes' founds =
+        ap length founds.4 ∙ length-append passes (founds.2 ∷ [])
+
+    founded-begins : (new : SlotView T M) (r : Row T M) → row_of new ≡ r
+        → is_some (block_of r.place) ≡ is_some (stand_block (stand_of (Some new)))
+    founded-begins new r is =
+        ap (λ (x : Row T M). is_some (block_of x.place)) (sym is) ∙ ap is_some (row-block new)
+
+    begins-as : (c : Command) (new : SlotView T M) (r : Row T M) (passes' : List (Pass Whole))
+        → answer_any setting no_shortage around c row ≡ begun r
+        → ((there : Stand) → Stays here there None passes passes'
+        → RowAdds here there None passes passes' row c reply.Ok)
+        → here ≡ None → Founds (stand_of (Some new)) passes passes' → row_of new ≡ r
+        → Said c reply.Ok (Some new) None passes'
+    begins-as c new r passes' is adds none founds row-is = record {
+      begins = is_some (stand_block (stand_of (Some new)));
+      change =
+          is ∙ ap (λ x. record {
+            reply = reply.Ok;
+            row = Some x;
+            made = None;
+            begins = is_some (block_of r.place);
+          }) (sym row-is)
+          ∙ ap (λ b. record {
+            reply = reply.Ok;
+            row = Some (row_of new);
+            made = None;
+            begins = b;
+          }) (founded-begins new r row-is);
+      blocks = founds-many (stand_of (Some new)) passes' founds;
+      adds =
+          adds (stand_of (Some new))
+          (subst (λ st. MayBegin st (stand_of (Some new)) passes passes') (sym none) founds, refl);
+    }
+
+    module _ (what : Writing (List T) T) where
+      put-in : (room : Room) → room ≡ room_of setting row (additional_of what)
+          → (new : SlotView T M) (passes' : List (Pass Whole))
+          → outcome what no_shortage room
+          ≡ is_now reply.Ok (with_more (items_of what) (with_room room row))
+          → (row_of new ≡ with_more (items_of what) (with_room room row))
+          × (stand_of (Some new) ≡ here) × (passes' ≡ passes)
+          → Said (w what) reply.Ok (Some new) None passes'
+      put-in room is new passes' does did =
+          subst (λ ps. Said (w what) reply.Ok (Some new) None ps) (sym did.2)
+          (changes (w what) reply.Ok new (write-is what no_shortage room is ∙ does
+          ∙ ap (is_now reply.Ok) (sym did.0))
+          (write-adds what (stand_of (Some new)) passes
+          (stays-there here (stand_of (Some new)) did.1, refl)))
+
+      -- what was written stands in the window
+      pub wrote-in : (room : Room) → room ≡ room_of setting row (additional_of what)
+          → (is_fresh room ≡ true → here ≡ None) → (new : SlotView T M)
+          (passes' : List (Pass Whole))
+          → Fills setting.drops room (items_of what) s new passes passes' (Ok tt)
+          → Said (w what) reply.Ok (Some new) None passes'
+      wrote-in (from.Fresh places) is none new passes' did =
+          begins-as (w what) new
+          (with_more (items_of what) (new_writer setting.drops (length passes) [] places)) passes'
+          (write-is what no_shortage (from.Fresh places) is)
+          (λ there. write-adds what there passes') (none refl) did.1 did.0
+      wrote-in (from.Refused e) is none new passes' did =
+          let fine : ◌≡◌ {A = Result (Unit {0}) TryReserveError} (Ok tt) (Err e) = did.0 in
+          absurd (cc)
+      wrote-in from.Spare is none new passes' did =
+          put-in from.Spare is new passes' refl (did.1, did.2, did.3)
+      wrote-in from.Behind is none new passes' did =
+          put-in from.Behind is new passes' refl (did.1, did.2, did.3)
+      wrote-in from.Front is none new passes' did =
+          put-in from.Front is new passes' refl (did.1, did.2, did.3)
+      wrote-in (from.Growth places) is none new passes' did =
+          put-in (from.Growth places) is new passes' refl (did.1, did.2, did.3)
+
+      unwrote : (e : TryReserveError) (new : SlotView T M) (passes' : List (Pass Whole))
+          → answer_any setting (shortage (reply.Reserve e) (w what)) around (w what) row
+          ≡ is_now (reply.Reserve e) row
+          → new ≡ s → passes' ≡ passes → Said (w what) (reply.Reserve e) (Some new) None passes'
+      unwrote e new passes' is stays all =
+          subst (λ x. Said (w what) (reply.Reserve e) (Some x) None passes') (sym stays)
+          (subst (λ ps. Said (w what) (reply.Reserve e) (Some s) None ps) (sym all)
+          (same (w what) (reply.Reserve e) is (write-none what e)))
+
+      -- memory was refused for it
+      short-of : (room : Room) → room ≡ room_of setting row (additional_of what)
+          → (e : TryReserveError) → e ≡ reserve.AllocError
+          → outcome what of_blocks room ≡ is_now (reply.Reserve reserve.AllocError) row
+          → answer_any setting (shortage (reply.Reserve e) (w what)) around (w what) row
+          ≡ is_now (reply.Reserve e) row
+      short-of room is e short does =
+          subst (λ x. answer_any setting (shortage (reply.Reserve x) (w what)) around (w what) row
+          ≡ is_now (reply.Reserve x) row) (sym short) (write-is what of_blocks room is ∙ does)
+
+      -- it was refused, and nothing changed
+      pub unwritten-in : (room : Room) → room ≡ room_of setting row (additional_of what)
+          → (e : TryReserveError) (new : SlotView T M) (passes' : List (Pass Whole))
+          → Fills setting.drops room (items_of what) s new passes passes' (Err e)
+          → Said (w what) (reply.Reserve e) (Some new) None passes'
+      unwritten-in (from.Fresh places) is e new passes' did =
+          unwrote e new passes' (short-of (from.Fresh places) is e did.0 refl) did.1.0 did.1.1
+      unwritten-in (from.Growth places) is e new passes' did =
+          unwrote e new passes' (short-of (from.Growth places) is e did.0 refl) did.1.0 did.1.1
+      unwritten-in (from.Refused refusal) is e new passes' did =
+          let alike : e ≡ refusal = refused-same e refusal did.0 in
+          unwrote e new passes'
+          (write-is what (shortage (reply.Reserve e) (w what)) (from.Refused refusal) is
+          ∙ ap (λ x. is_now (reply.Reserve x) row) (sym alike)) did.1.0 did.1.1
+      unwritten-in from.Spare is e new passes' did =
+          let fine : ◌≡◌ {A = Result (Unit {0}) TryReserveError} (Err e) (Ok tt) = did.0 in
+          absurd (cc)
+      unwritten-in from.Behind is e new passes' did =
+          let fine : ◌≡◌ {A = Result (Unit {0}) TryReserveError} (Err e) (Ok tt) = did.0 in
+          absurd (cc)
+      unwritten-in from.Front is e new passes' did =
+          let fine : ◌≡◌ {A = Result (Unit {0}) TryReserveError} (Err e) (Ok tt) = did.0 in
+          absurd (cc)
+
+      -- memory for a first block's pass was refused
+      pub no-pass : (room : Room) → room ≡ room_of setting row (additional_of what)
+          → is_fresh room ≡ true
+          → Said (w what) (reply.Reserve reserve.AllocError) (Some s) None passes
+      no-pass room is fresh =
+          same (w what) (reply.Reserve reserve.AllocError)
+          (write-is what of_blocks room is ∙ short room fresh) (write-none what reserve.AllocError)
+        where
+          short : (x : Room) → is_fresh x ≡ true
+              → outcome what of_blocks x ≡ is_now (reply.Reserve reserve.AllocError) row
+          short (from.Fresh places) some = refl
+          short (from.Refused e) some = absurd (false≢true some)
+          short from.Spare some = absurd (false≢true some)
+          short from.Behind some = absurd (false≢true some)
+          short from.Front some = absurd (false≢true some)
+          short (from.Growth places) some = absurd (false≢true some)
+
+    -- ---- room without memory
+
+    module _ (k : ℕ) (new : SlotView T M) (stays : stand_of (Some new) ≡ here) where
+      abbrev rec : Command
+      rec = command.Rec i k
+
+      room-is : (room : Room) → room ≡ room_of setting row k
+          → answer_any setting no_shortage around rec row ≡ reclaimed row room
+      room-is room is =
+          for-role no_shortage rec (writes-for writes rec true (λ n. refl))
+          ∙ ap (reclaimed row) (sym is)
+
+      has-room : (room : Room) → row_of new ≡ with_room room row
+          → answer_any setting no_shortage around rec row ≡ is_now reply.Yes (with_room room row)
+          → Said rec reply.Yes (Some new) None passes
+      has-room room row-is is =
+          changes rec reply.Yes new (is ∙ ap (is_now reply.Yes) (sym row-is)) (stays, refl, refl)
+
+      lacks : new ≡ s → answer_any setting no_shortage around rec row ≡ is_now reply.No row
+          → Said rec reply.No (Some new) None passes
+      lacks alike is =
+          subst (λ x. Said rec reply.No (Some x) None passes) (sym alike)
+          (same rec reply.No is (refl, refl, refl))
+
+      pub has : (room : Room) → room ≡ room_of setting row k
+          → Reclaims room row (row_of new) true → Said rec reply.Yes (Some new) None passes
+      has (from.Fresh places) is did = absurd (false≢true (sym did.0))
+      has (from.Growth places) is did = absurd (false≢true (sym did.0))
+      has (from.Refused e) is did = absurd (false≢true (sym did.0))
+      has from.Spare is did = has-room from.Spare did.1 (room-is from.Spare is)
+      has from.Behind is did = has-room from.Behind did.1 (room-is from.Behind is)
+      has from.Front is did = has-room from.Front did.1 (room-is from.Front is)
+
+      pub has-none : (room : Room) → room ≡ room_of setting row k
+          → Reclaims room row (row_of new) false → new ≡ s
+          → Said rec reply.No (Some new) None passes
+      has-none (from.Fresh places) is did alike = lacks alike (room-is (from.Fresh places) is)
+      has-none (from.Growth places) is did alike = lacks alike (room-is (from.Growth places) is)
+      has-none (from.Refused e) is did alike = lacks alike (room-is (from.Refused e) is)
+      has-none from.Spare is did alike = absurd (false≢true did.0)
+      has-none from.Behind is did alike = absurd (false≢true did.0)
+      has-none from.Front is did alike = absurd (false≢true did.0)
+
+    -- ---- a writer that reads from now on
+
+    abbrev freeze : Command
+    freeze = command.Freeze i
+
+    abbrev made : Row T M
+    made = made_row setting.has_static setting.drops (length passes) row.items
+
+    abbrev frozen_as : Shortage → (on new : Bool) → Change T M
+    frozen_as short on new =
+        if on then is_now reply.Ok (as_reader row) else
+        if new then asking_block short reply.Refused row (begun made) else begun made
+
+    frozen-is : (short : Shortage) (on new : Bool) → is_some (block_of row.place) ≡ on
+        → is_some (block_of made.place) ≡ new
+        → answer_any setting short around freeze row ≡ frozen_as short on new
+    frozen-is short on new is so =
+        for-role short freeze (writes-for writes freeze true (λ n. refl))
+        ∙ ap (λ b. frozen_as short b (is_some (block_of made.place))) is
+        ∙ ap (λ b. frozen_as short on b) so
+
+    begun-either : (new : Bool) → frozen_as no_shortage false new ≡ begun made
+    begun-either true = refl
+    begun-either false = refl
+
+    off-block : is_some (block_of row.place) ≡ false → here ≡ None
+    off-block off = none-stands here (ap is_some (sym (row-block s)) ∙ off)
+
+    -- it was frozen
+    pub froze : (new : SlotView T M) (passes' : List (Pass Whole)) (on : Bool)
+        → is_some (block_of row.place) ≡ on
+        → (is_some (block_of row.place) ≡ true → (row_of new ≡ as_reader row)
+        × (stand_of (Some new) ≡ here) × (passes' ≡ passes))
+        → (is_some (block_of row.place) ≡ false
+        → (row_of new ≡ made_row setting.has_static setting.drops (length passes) s.window.items)
+        × Founds (stand_of (Some new)) passes passes')
+        → Said freeze reply.Ok (Some new) None passes'
+    froze new passes' true is stays makes =
+        let did = stays is in
+        subst (λ ps. Said freeze reply.Ok (Some new) None ps) (sym did.2)
+        (changes freeze reply.Ok new
+        (frozen-is no_shortage true _ is refl ∙ ap (is_now reply.Ok) (sym did.0))
+        (stays-there here (stand_of (Some new)) did.1, refl))
+    froze new passes' false is stays makes =
+        let did = makes is in
+        begins-as freeze new made passes'
+        (frozen-is no_shortage false _ is refl ∙ begun-either (is_some (block_of made.place)))
+        (λ there adds. adds) (off-block is) did.1 did.0
+
+    -- memory for its block was refused
+    pub unfrozen : is_some (block_of row.place) ≡ false
+        → (setting.has_static && (length row.items == 0)) ≡ false
+        → Said freeze reply.Refused (Some s) None passes
+    unfrozen off some =
+        same freeze reply.Refused (frozen-is of_blocks false true off
+        (ap (λ b. is_some (block_of {M = M} (if b then nowhere else
+        on_block (length passes) (0 + 0) (native_facts setting.drops (length row.items))))) some))
+        (refl, refl, refl)

@@ -1,0 +1,267 @@
+-- Where the windows of a table and the passes of their blocks belong together, they do after what a
+-- command adds.
+use Rattle.std.proofs.Common.{inl, inr, ◌≡◌, ℕ, ◌==◌, Bool, true, false, if◌then◌else◌, List, [], ◌∷◌}
+use Rattle.std.proofs.Common.{◌++◌, length, Option, Some, None, slice_get, slice_set, refl, sym, ap}
+use Rattle.std.proofs.Common.{◌∙◌, subst, arith}
+use Rattle.std.specs.Option.{option_map_or}
+use Rattle.std.proofs.lemmas.Bool.{cases_Bool, eq-eqb, eqb-true}
+use Rattle.std.proofs.lemmas.Option.{none-some, slice_get_cases}
+use Rattle.std.proofs.lemmas.List.Sorted.{length_permutation, list_any-IsPermutation}
+use Rattle.arc_owners.specs.declared.count.tokens.Pass.{Pass}
+use Rattle.arc_owners.specs.declared.error.OwnerError.{OwnerError}
+use Rattle.arc_owners.specs.declared.error.OwnerError.TheVariants.{AllocError, CountFull}
+use Rattle.arc_owners.specs.declared.history.entry.Entry.TheVariants as entry
+use Rattle.arc_owners.specs.history.Histories.{is_counted, is_in, live_owners}
+use Rattle.arc_owners.specs.count.Invariant.{BlockId}
+use Rattle.arc_owners.specs.count.Calls.{Owner, Appends, Asks, FindsFull, MakesAnother, seen}
+use Rattle.arc_owners.specs.count.Calls.{history_of}
+use Rattle.arc_owners.proofs.Steps.{one_is}
+use Rattle.arc_owners.proofs.Wholes.{may-stand}
+use Rattle.arc_block.specs.declared.block.TheConstants.{MAX_OWNERS}
+use Rattle.arc_block.specs.Owned.{Stand, IsKept, number_on, owners_on}
+use Rattle.arc_block.specs.Table.{Row}
+use Rattle.arc_block.proofs.Lists.{filter_map-in}
+use Rattle.arc_block.proofs.Owned.{kept-asked, kept-begun, kept-full, kept-gone, kept-gone-nowhere}
+use Rattle.arc_block.proofs.Owned.{kept-new, kept-nowhere, kept-same, kept-shared, kept-turned}
+use Rattle.arc_commands.specs.Additions.{AddsAt, Enters, Founds, Goes, Joins, MayBegin, Raises}
+use Rattle.arc_commands.specs.Additions.{RowAdds, asked, refused, with_stand}
+use Rattle.arc_commands.specs.declared.command.Cmd.{Cmd}
+use Rattle.arc_commands.specs.declared.command.Cmd.TheVariants as command
+use Rattle.arc_commands.specs.declared.command.Reply.{Reply}
+use Rattle.arc_commands.specs.declared.command.Reply.TheVariants as reply
+use Rattle.arc_slots.specs.Answers.{live_on}
+use Rattle.arc_slots.specs.Stands.{HasPassFor}
+use Rattle.arc_slots.proofs.Taken.{set-back}
+
+number_here : (n : ℕ) (o : Owner) → number_on n (Some (n, o)) ≡ Some o.number
+number_here n o = ap (λ b. if b then Some o.number else None) (eq-eqb n n refl)
+
+module _ {H : Type 0} (stands : List Stand) (passes : List (Pass H))
+    (k : IsKept MAX_OWNERS stands passes) (i : ℕ) where
+  -- an owner that stands here lives
+  lives : (n : ℕ) (o : Owner) → slice_get stands i ≡ Some (Some (n, o)) → (p : Pass H)
+      → slice_get passes n ≡ Some p → is_in o.number (live_owners (seen p)) ≡ true
+  lives n o at p was =
+      list_any-IsPermutation (λ m. m == o.number) _ _ (k.live n p was)
+      ∙ filter_map-in (number_on n) stands i (Some (n, o)) o.number at (number_here n o)
+
+  pub known-pass : (s : Stand) → slice_get stands i ≡ Some s → HasPassFor passes s
+  known-pass None at = tt
+  known-pass (Some (n, o)) at =
+      let has = k.known i n o at in
+      elim (slice_get_cases passes n).1 [
+        | inl there ↦
+            (let is = (has.1 there.0 there.2).1 in
+            let fits = k.passes_fit n there.0 there.2 in (
+              has,
+              ap (λ (t : BlockId). t.whole) (sym is) ∙ fits.whole,
+              ap (λ (t : BlockId). t.most) (sym is) ∙ fits.most,
+              lives n o at,
+            ))
+        | inr past ↦ absurd (omega (arith, has.0, past.0))
+      ]
+
+  -- as many owners live as stand on its block
+  pub many-live : (n : ℕ) (o : Owner) → slice_get stands i ≡ Some (Some (n, o))
+      → length (owners_on n stands) ≡ live_on passes (Some (n, o))
+  many-live n o at =
+      let has = k.known i n o at in
+      elim (slice_get_cases passes n).1 [
+        | inl there ↦
+            length_permutation _ _ (k.live n there.0 there.2)
+            ∙ sym (ap (λ x. option_map_or (λ p. length (live_owners (seen p))) x 0) there.2)
+        | inr past ↦ absurd (omega (arith, has.0, past.0))
+      ]
+
+  module _ (here : Stand) (at : slice_get stands i ≡ Some here) (passes' : List (Pass H)) where
+    abbrev Keeps : Stand → Option Stand → Type 0
+    Keeps there made =
+        IsKept MAX_OWNERS (with_stand (slice_set stands i there) made) passes'
+
+    -- nothing changes where it stands
+    same-place : IsKept MAX_OWNERS stands passes' → (there : Stand) → there ≡ here
+        → (made : Option Stand) → made ≡ None → Keeps there made
+    same-place kept there is made none =
+        subst (Keeps there) (sym none)
+        (subst (λ x. IsKept MAX_OWNERS x passes')
+        (sym (ap (slice_set stands i) is ∙ set-back stands i here at)) kept)
+
+  -- what was asked, or refused, changes no owner
+  asked-kept : (n : ℕ) (o : Owner) → slice_get stands i ≡ Some (Some (n, o)) → (found b : Bool)
+      → (p q : Pass H) → slice_get passes n ≡ Some p → b ≡ is_counted o.block.began (seen p)
+      → Appends o.block p q (history_of p) (if b then entry.Alone o.number found ∷ [] else [])
+      → IsKept MAX_OWNERS stands (slice_set passes n q)
+  asked-kept n o at found false p q was is added = kept-same i n k at was added
+  asked-kept n o at found true p q was is added =
+      kept-asked i n k at was (record {
+        before = history_of p;
+        added =
+            subst (λ c. Appends o.block p q (history_of p)
+            (if c then entry.Alone o.number found ∷ [] else [])) is added;
+        exact = (may-stand added).2;
+      })
+
+  asked-at : (here : Stand) → slice_get stands i ≡ Some here → (found : Bool)
+      (passes' : List (Pass H)) → AddsAt here (asked found) passes passes'
+      → IsKept MAX_OWNERS stands passes'
+  asked-at None at found passes' adds = subst (IsKept MAX_OWNERS stands) (sym adds) k
+  asked-at (Some (n, o)) at found passes' adds =
+      subst (IsKept MAX_OWNERS stands) (sym adds.others)
+      (asked-kept n o at found _ adds.before adds.after adds.was refl adds.added)
+
+  refused-at : (here : Stand) → slice_get stands i ≡ Some here → (e : OwnerError)
+      (passes' : List (Pass H)) → AddsAt here (refused e) passes passes'
+      → IsKept MAX_OWNERS stands passes'
+  refused-at None at e passes' adds = subst (IsKept MAX_OWNERS stands) (sym adds) k
+  refused-at (Some (n, o)) at AllocError passes' adds =
+      subst (IsKept MAX_OWNERS stands) (sym adds.others) (kept-same i n k at adds.was adds.added)
+  refused-at (Some (n, o)) at CountFull passes' adds =
+      subst (IsKept MAX_OWNERS stands) (sym adds.others) (kept-full i n k at adds.was (record {
+        middle = adds.before;
+        joined = inl refl;
+        before = history_of adds.before;
+        added = adds.added;
+        full = (may-stand adds.added).2;
+      }))
+
+  raised-at : (here other : Stand) → slice_get stands i ≡ Some here → (passes' : List (Pass H))
+      → Raises here other passes passes' → IsKept MAX_OWNERS (stands ++ other ∷ []) passes'
+  raised-at here None at passes' adds =
+      subst (λ ps. IsKept MAX_OWNERS (stands ++ None ∷ []) ps) (sym adds) (kept-nowhere k)
+  raised-at None (Some made) at passes' adds = absurd adds
+  raised-at (Some (n, o)) (Some made) at passes' adds =
+      let a = adds.1 in
+      subst (λ (m : ℕ). IsKept MAX_OWNERS (stands ++ Some (m, made.1) ∷ []) passes') (sym adds.0)
+      (subst (λ ps. IsKept MAX_OWNERS (stands ++ Some (n, made.1) ∷ []) ps) (sym a.others)
+      (kept-shared i n k at a.was (record {
+        middle = a.before;
+        joined = inl refl;
+        before = history_of a.before;
+        added =
+            subst (λ (m : ℕ). Appends o.block a.before a.after (history_of a.before)
+            ((if is_counted o.block.began (seen a.before) then entry.Up o.number m else
+            entry.Promote o.number m) ∷ [])) refl a.added;
+        made = adds.2;
+      })))
+
+  gone-at : (here : Stand) → slice_get stands i ≡ Some here → (passes' : List (Pass H))
+      → AddsAt here (λ o history. entry.Down o.number ∷ []) passes passes'
+      → IsKept MAX_OWNERS (slice_set stands i None) passes'
+  gone-at None at passes' adds =
+      subst (λ ps. IsKept MAX_OWNERS (slice_set stands i None) ps) (sym adds)
+      (kept-gone-nowhere i k at)
+  gone-at (Some (n, o)) at passes' adds =
+      let xs = live_owners (seen adds.before) in
+      subst (λ ps. IsKept MAX_OWNERS (slice_set stands i None) ps) (sym adds.others)
+      (kept-gone i n k at adds.was {last = length xs == 1} (record {
+        before = history_of adds.before;
+        added = adds.added;
+        exact = (
+          λ one. one_is xs o.number (lives n o at adds.before adds.was) (eqb-true (length xs) 1 one),
+          λ alone. eq-eqb (length xs) 1 (ap length alone),
+        );
+      }))
+
+  begins-at : (here there : Stand) → slice_get stands i ≡ Some here → (passes' : List (Pass H))
+      → MayBegin here there passes passes' → IsKept MAX_OWNERS (slice_set stands i there) passes'
+  begins-at (Some here) there at passes' adds =
+      subst (λ ps. IsKept MAX_OWNERS (slice_set stands i there) ps) (sym adds.1)
+      (subst (λ x. IsKept MAX_OWNERS x passes)
+      (sym (ap (slice_set stands i) adds.0 ∙ set-back stands i (Some here) at)) k)
+  begins-at None None at passes' adds =
+      subst (λ ps. IsKept MAX_OWNERS (slice_set stands i None) ps) (sym adds)
+      (kept-gone-nowhere i k at)
+  begins-at None (Some (number, o)) at passes' adds =
+      let p = adds.2 in
+      subst (λ ps. IsKept MAX_OWNERS (slice_set stands i (Some (number, o))) ps) (sym adds.4)
+      (subst (λ n. IsKept MAX_OWNERS (slice_set stands i (Some (n, o))) (passes ++ p ∷ []))
+      (sym adds.0) (kept-begun i p k at adds.1 adds.3))
+
+  -- a window was made of a list
+  pub founded-kept : (stand : Stand) (passes' : List (Pass H)) → Founds stand passes passes'
+      → IsKept MAX_OWNERS (stands ++ stand ∷ []) passes'
+  founded-kept None passes' adds =
+      subst (λ ps. IsKept MAX_OWNERS (stands ++ None ∷ []) ps) (sym adds) (kept-nowhere k)
+  founded-kept (Some (number, o)) passes' adds =
+      let p = adds.2 in
+      subst (λ ps. IsKept MAX_OWNERS (stands ++ Some (number, o) ∷ []) ps) (sym adds.4)
+      (subst (λ (n : ℕ). IsKept MAX_OWNERS (stands ++ Some (n, o) ∷ []) (passes ++ p ∷ []))
+      (sym adds.0) (kept-new p k adds.1 adds.3))
+
+  module _ (here : Stand) (at : slice_get stands i ≡ Some here) (passes' : List (Pass H))
+      (there : Stand) (made : Option Stand) where
+    abbrev Kept : Type 0
+    Kept = IsKept MAX_OWNERS (with_stand (slice_set stands i there) made) passes'
+
+    enters-kept : (entries : _) → IsKept MAX_OWNERS stands passes'
+        → Enters here there made passes passes' entries → Kept
+    enters-kept entries kept adds = same-place here at passes' kept there adds.0 made adds.1
+
+    none-kept : (there ≡ here) × (made ≡ None) × (passes' ≡ passes) → Kept
+    none-kept adds =
+        same-place here at passes' (subst (IsKept MAX_OWNERS stands) (sym adds.2) k) there adds.0 made
+        adds.1
+
+    joins-kept : (out : Bool) → Joins here there made passes passes' out → Kept
+    joins-kept false adds =
+        let other = adds.0 in
+        subst (λ m. IsKept MAX_OWNERS (with_stand (slice_set stands i there) m) passes')
+        (sym adds.3)
+        (subst (λ ss. IsKept MAX_OWNERS (ss ++ other ∷ []) passes')
+        (sym (ap (slice_set stands i) adds.2 ∙ set-back stands i here at))
+        (raised-at here other at passes' adds.1))
+    joins-kept true adds =
+        let other = adds.0 in
+        subst (λ m. IsKept MAX_OWNERS (with_stand (slice_set stands i there) m) passes')
+        (sym adds.3)
+        (subst (λ st. IsKept MAX_OWNERS (slice_set stands i st ++ here ∷ []) passes') (sym adds.2)
+        (kept-turned stands i here other (raised-at here other at passes' adds.1) at))
+
+    stays-kept : MayBegin here there passes passes' × (made ≡ None) → Kept
+    stays-kept adds =
+        subst (λ m. IsKept MAX_OWNERS (with_stand (slice_set stands i there) m) passes')
+        (sym adds.1) (begins-at here there at passes' adds.0)
+
+    goes-kept : Goes here there made passes passes' (λ o history. entry.Down o.number ∷ []) → Kept
+    goes-kept adds =
+        subst (λ m. IsKept MAX_OWNERS (with_stand (slice_set stands i there) m) passes')
+        (sym adds.1)
+        (subst (λ st. IsKept MAX_OWNERS (slice_set stands i st) passes') (sym adds.0)
+        (gone-at here at passes' adds.2))
+
+    -- the slice under a window that stood on nothing was taken
+    taken-kept : (here ≡ None) × (there ≡ None) × (made ≡ None) × (passes' ≡ passes) → Kept
+    taken-kept adds = none-kept (adds.1 ∙ sym adds.0, adds.2, adds.3)
+
+    -- what a command on a row adds keeps them together
+    pub row-kept : {T M : Type 0} (row : Row T M) (c : Cmd (List T) (List T) T)
+        (r : Reply (List T) (List T)) → RowAdds here there made passes passes' row c r → Kept
+    row-kept row (command.Clone i) (reply.New number) adds = joins-kept false adds
+    row-kept row (command.Sub i start end) (reply.New number) adds = joins-kept false adds
+    row-kept row (command.Off i at) (reply.New number) adds = joins-kept (at == 0) adds
+    row-kept row (command.To i at) (reply.New number) adds =
+        joins-kept (at == length row.items) adds
+    row-kept row (command.Clone i) (reply.Owner e) adds =
+        enters-kept (refused e) (refused-at here at e passes' adds.2) adds
+    row-kept row (command.Sub i start end) (reply.Owner e) adds =
+        enters-kept (refused e) (refused-at here at e passes' adds.2) adds
+    row-kept row (command.Off i place) (reply.Owner e) adds =
+        enters-kept (refused e) (refused-at here at e passes' adds.2) adds
+    row-kept row (command.To i place) (reply.Owner e) adds =
+        enters-kept (refused e) (refused-at here at e passes' adds.2) adds
+    row-kept row (command.Uniq i) reply.Yes adds =
+        enters-kept (asked true) (asked-at here at true passes' adds.2) adds
+    row-kept row (command.Uniq i) reply.No adds =
+        enters-kept (asked false) (asked-at here at false passes' adds.2) adds
+    row-kept row (command.Mut i) reply.Ok adds =
+        enters-kept (asked true) (asked-at here at true passes' adds.2) adds
+    row-kept row (command.Mut i) reply.Refused adds =
+        enters-kept (asked false) (asked-at here at false passes' adds.2) adds
+    row-kept row (command.Res i additional) reply.Ok adds = stays-kept adds
+    row-kept row (command.Push i item) reply.Ok adds = stays-kept adds
+    row-kept row (command.Ext i items) reply.Ok adds = stays-kept adds
+    row-kept row (command.Freeze i) reply.Ok adds = stays-kept adds
+    row-kept row (command.Drop i) reply.Ok adds = goes-kept adds
+    row-kept row (command.TakeStatic i) (reply.Static items) adds =
+        taken-kept adds
+    row-kept row c r adds = none-kept adds

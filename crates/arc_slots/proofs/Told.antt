@@ -1,0 +1,119 @@
+-- What the pass of a window's block tells of the rest of its table.
+use Rattle.std.proofs.Common.{inl, inr, ◌≡◌, ℕ, ◌==◌, ◌&&◌, Bool, true, false, List, length}
+use Rattle.std.proofs.Common.{Option, Some, None, is_some, refl, sym, ap, ◌∙◌, arith, slice_get}
+use Rattle.std.specs.Option.{option_map, option_map_or}
+use Rattle.std.proofs.lemmas.Bool.{cases_Bool, eq-eqb, ne_eqb, false≢true}
+use Rattle.std.proofs.lemmas.List.{length-set}
+use Rattle.arc_owners.specs.declared.count.tokens.Pass.{Pass}
+use Rattle.arc_owners.specs.declared.error.OwnerError.{OwnerError}
+use Rattle.arc_owners.specs.declared.error.OwnerError.TheVariants.{AllocError, CountFull}
+use Rattle.arc_owners.specs.history.Histories.{live_owners}
+use Rattle.arc_owners.specs.count.Calls.{Owner, Asks, FindsFull, MakesAnother, seen}
+use Rattle.arc_owners.proofs.Steps.{one_is}
+use Rattle.arc_owners.proofs.Wholes.{found-exact, full-exact, room-made}
+use Rattle.arc_block.specs.declared.block.TheConstants.{MAX_OWNERS}
+use Rattle.arc_block.specs.Block.{Sort}
+use Rattle.arc_block.specs.Owned.{Stand}
+use Rattle.arc_block.specs.Place.{Place, nowhere, static_data, on_block}
+use Rattle.arc_block.specs.Table.{block_of}
+use Rattle.arc_slots.specs.Answers.{around_in, live_on}
+use Rattle.arc_slots.specs.Calls.{Through, Along, Beside, RefusesAt, AddsNothing}
+use Rattle.arc_slots.specs.Slots.{SlotView, row_of, stand_of}
+use Rattle.arc_slots.specs.Stands.{HasPassFor, numbered, stand_at}
+
+-- the block of a stand
+abbrev pub stand_block : Stand → Option ℕ
+stand_block stand = option_map (λ s. s.0) stand
+
+pub place_agrees : {M : Type 0} (b : Option ℕ) (place : Place (Option Owner) M)
+    → block_of (numbered b place) ≡ stand_block (stand_at b place)
+place_agrees b nowhere = refl
+place_agrees b static_data = refl
+place_agrees b (on_block None offset facts) = refl
+place_agrees None (on_block (Some owner) offset facts) = refl
+place_agrees (Some n) (on_block (Some owner) offset facts) = refl
+
+-- a slot's row stands on the block on which its window stands
+pub row-block : {T M : Type 0} (s : SlotView T M)
+    → block_of (row_of s).place ≡ stand_block (stand_of (Some s))
+row-block s = place_agrees s.block s.window.place
+
+-- where a row stands on no block, no owner stands
+pub none-stands : (st : Stand) → is_some (stand_block st) ≡ false → st ≡ None
+none-stands None off = refl
+none-stands (Some here) off = absurd (false≢true (sym off))
+
+and-false : (b : Bool) → (b && false) ≡ false
+and-false true = refl
+and-false false = refl
+
+module _ {H : Type 0} (passes passes' : List (Pass H)) where
+  -- there are as many passes
+  pub many-along : (s : Stand) (call : Owner → Pass H → Pass H → Type 0)
+      → Along s passes passes' call → length passes' ≡ length passes
+  many-along None call along = ap length along
+  many-along (Some (n, o)) call along =
+      ap length along.others ∙ length-set passes n along.after
+
+  pub many-beside : (s made : Stand) → Beside s passes passes' made
+      → length passes' ≡ length passes
+  many-beside s None same = ap length same
+  many-beside None (Some made) joins = absurd joins
+  many-beside (Some (n, o)) (Some made) joins =
+      ap length joins.1.others ∙ length-set passes n joins.1.after
+
+  pub many-refused : {M : Type 0} (wants : Sort → Bool) (place : Place ℕ M) (s : Stand)
+      (e : OwnerError) → RefusesAt wants place s passes passes' e
+      → length passes' ≡ length passes
+  many-refused wants place None CountFull why = absurd why
+  many-refused wants place (Some (n, o)) CountFull why =
+      ap length why.1.others ∙ length-set passes n why.1.after
+  many-refused wants place s AllocError why = many-along s AddsNothing why.1
+
+  module _ (windows : ℕ) where
+    -- how many owners live, where this pass of the block was found
+    live-is : (n : ℕ) (o : Owner) (p : Pass H) → slice_get passes n ≡ Some p
+        → live_on passes (Some (n, o)) ≡ length (live_owners (seen p))
+    live-is n o p was = ap (λ x. option_map_or (λ p. length (live_owners (seen p))) x 0) was
+
+    -- what was asked is whether the window is alone
+    pub alone-told : (found : Bool) (here : Stand) → HasPassFor passes here
+        → Along here passes passes' (λ o p q. Asks o p q found) → (here ≡ None → found ≡ false)
+        → (around_in windows passes here).alone ≡ found
+    alone-told found None has along none = sym (none refl)
+    alone-told found (Some (n, o)) has along none =
+        let p = along.before in
+        let exact = found-exact along.whole along.called in
+        let many = live-is n o p along.was in
+        elim (cases_Bool found) [
+          | inl sole ↦
+              eq-eqb (live_on passes (Some (n, o))) 1 (many ∙ ap length (exact.0 sole)) ∙ sym sole
+          | inr shared ↦
+              ne_eqb (live_on passes (Some (n, o))) 1 (λ one.
+              false≢true (sym shared ∙ exact.1 (one_is (live_owners (seen p)) o.number
+              (has.3 p along.was) (sym many ∙ one)))) ∙ sym shared
+        ]
+
+    pub full-told : (n : ℕ) (o : Owner) → HasPassFor passes (Some (n, o))
+        → Through n o passes passes' FindsFull
+        → (around_in windows passes (Some (n, o))).full ≡ true
+    full-told n o has found =
+        eq-eqb (live_on passes (Some (n, o))) MAX_OWNERS
+        (live-is n o found.before found.was ∙ full-exact found.whole found.called ∙ has.2)
+
+    room-told : (n : ℕ) (o other : Owner) → HasPassFor passes (Some (n, o))
+        → Through n o passes passes' (λ o p q. MakesAnother o p q other)
+        → (around_in windows passes (Some (n, o))).full ≡ false
+    room-told n o other has made =
+        let room =
+        room-made made.whole (omega (arith, has.2)) made.called in
+        ne_eqb (live_on passes (Some (n, o))) MAX_OWNERS
+        (λ e. omega (arith, room, has.2, live-is n o made.before made.was, e))
+
+    -- where a window was made beside it, its block had room for an owner more, or none was wanted
+    pub room-beside : (here st : Stand) → HasPassFor passes here → Beside here passes passes' st
+        → ((around_in windows passes here).full && is_some (stand_block st)) ≡ false
+    room-beside here None has joins = and-false (around_in windows passes here).full
+    room-beside None (Some made) has joins = absurd joins
+    room-beside (Some (n, o)) (Some made) has joins =
+        ap (λ b. b && true) (room-told n o made.1 has joins.1)

@@ -1,0 +1,45 @@
+use Rattle.std.specs.Mem.{type_size}
+use Rattle.arc_commands.specs.Step.{Setting, setting_of}
+use Rattle.std.proofs.Common.{Ok, Err, Some, None, inl, inr, sym, subst, ◌∙◌}
+use Rattle.std.proofs.lemmas.Bool.{cases_Bool}
+use Rattle.arc_slots.specs.Answers.{Answers}
+use Rattle.arc_slots.specs.Parts.{is_itself, part_command}
+use Rattle.arc_slots.specs.Slots.{row_of}
+use Rattle.arc_commands.specs.declared.command.Reply.TheVariants as reply
+use Rattle.arc_slots.proofs.Answered.{beside, itself, part-refused}
+use Rattle.arc_slots.proofs.slot.Slot.hand_out.Given.{Over}
+use Rattle.arc_slots.proofs.slot.Slot.hand_out.Goals as goal
+
+abbrev setting : (g : Over) → Setting g.row.S-Item.Denot
+setting g =
+    setting_of g.L.Layout.STATIC g.L.Layout.clone_wants g.S.Slice.DROPS g.S.Subsliceable.boundary
+    (type_size g.row.S-Item) g.S.Zero.ZeroOf.zero
+
+pub returns-in-Ok-clause-answer : goal.returns-in-Ok-clause-answer
+returns-in-Ok-clause-answer g c i =
+    let s = c.args.self.now in
+    let passes = c.args.passes.now.of_blocks.items in
+    let reads = c.is_written.ensures.reads c.if-is_written.false in
+    let ok = sym c.check_part.ensures.answer ∙ c.in_default.is in
+    let after = c.try_part.new.passes.of_blocks.items in
+    elim (cases_Bool (is_itself (row_of s) c.args.part)) [
+      | inl all ↦
+          itself (setting g) c.args.next s passes i reads c.requires after c.args.part ok c.in-Ok.slot
+          c.try_part.new.self all (c.in-Ok.ensures.itself all)
+      | inr other ↦
+          beside (setting g) c.args.next s passes i reads c.requires after c.args.part ok c.in-Ok.slot
+          c.try_part.new.self other (c.in-Ok.ensures.beside other)
+    ]
+
+pub returns-in-Err-try_part-clause-answer : goal.returns-in-Err-try_part-clause-answer
+returns-in-Err-try_part-clause-answer g c i =
+    let s = c.args.self.now in
+    let passes = c.args.passes.now.of_blocks.items in
+    let reads = c.is_written.ensures.reads c.if-is_written.false in
+    let ok = sym c.check_part.ensures.answer ∙ c.in_default.is in
+    let after = c.try_part.new.passes.of_blocks.items in
+    let e = c.in-Err-try_part.e in
+    subst (λ x. Answers (setting g) c.args.next (part_command i c.args.part) s passes (reply.Owner e)
+    (Some x) None after) (sym c.in-Err-try_part.ensures.kept)
+    (part-refused (setting g) c.args.next s passes i reads c.requires after c.args.part ok e
+    c.in-Err-try_part.ensures.refused)

@@ -1,0 +1,49 @@
+-- What the window of a slot is answered to a command, and what becomes of it.
+use Rattle.std.specs.Prelude.{◌≡◌, ℕ, ◌==◌, Bool, List, length, Option, Some, None, slice_get}
+use Rattle.std.specs.Option.{option_map, option_map_or}
+use Rattle.arc_owners.specs.declared.mark.Whole.{Whole}
+use Rattle.arc_owners.specs.declared.count.tokens.Pass.{Pass}
+use Rattle.arc_owners.specs.history.Histories.{live_owners}
+use Rattle.arc_owners.specs.count.Calls.{seen}
+use Rattle.arc_block.specs.declared.block.TheConstants.{MAX_OWNERS}
+use Rattle.arc_block.specs.Owned.{Stand}
+use Rattle.arc_commands.specs.Additions.{RowAdds}
+use Rattle.arc_commands.specs.Step.{Setting, Around, answer_any, shortage, with_block}
+use Rattle.arc_commands.specs.declared.command.Cmd.{Cmd}
+use Rattle.arc_commands.specs.declared.command.Reply.{Reply}
+use Rattle.arc_slots.specs.Slots.{SlotView, row_of, stand_of}
+
+module _ {H : Type 0} where
+  -- how many owners live of the block on which a window stands
+  abbrev pub live_on : List (Pass H) → Stand → ℕ
+  live_on passes None = 0
+  live_on passes (Some (number, owner)) =
+      option_map_or (λ p. length (live_owners (seen p))) (slice_get passes number) 0
+
+  -- what a window knows of its table by the passes of the blocks, where so many were made
+  abbrev pub around_in : ℕ → List (Pass H) → Stand → Around
+  around_in windows passes here = record {
+    alone = live_on passes here == 1;
+    full = live_on passes here == MAX_OWNERS;
+    blocks = length passes;
+    windows = windows;
+  }
+
+-- A command on a slot's window, of so many, was answered as its row answers it; then the window is
+-- the new one, if it hasn't gone, and one was made beside it, if one was; and what that command and
+-- that reply add was added.
+pub record Answers {T M : Type 0} (setting : Setting T) (windows : ℕ) (c : Cmd (List T) (List T) T)
+    (old : SlotView T M) (before : List (Pass Whole)) (r : Reply (List T) (List T))
+    (new made : Option (SlotView T M)) (after : List (Pass Whole)) : Type 0 where
+  pub begins : Bool
+  pub change : answer_any setting (shortage r c)
+      (around_in windows before (stand_of (Some old))) c (row_of old)
+      ≡ record {
+        reply = r;
+        row = option_map row_of new;
+        made = option_map row_of made;
+        begins = begins;
+      }
+  pub blocks : length after ≡ with_block begins (length before)
+  pub adds : RowAdds (stand_of (Some old)) (stand_of new)
+      (option_map (λ s. stand_of (Some s)) made) before after (row_of old) c r

@@ -1,0 +1,270 @@
+//! What the window of a slot is answered to a command: each call of its window, with the tests that
+//! come before it.
+ghost use Rattle.std.specs.Mem.{FitsInMemory, type_size};
+
+use crate::kinds::Commands;
+use crate::part::Part;
+use crate::passes::Passes;
+use crate::slot::{Slot, Writing};
+use arc_block::layout::{Layout, LayoutMut};
+use arc_commands::command::{Reply, TableReply};
+use arc_owners::error::TryReserveError;
+use std::alloc::Allocator;
+use std::sync::Wait;
+
+impl<S: Commands, L: Layout, B, M, A: Allocator + Copy> Slot<S, L, B, M, A>
+where
+    S::Item: Copy,
+    L::Writable: LayoutMut,
+{
+    ghost use Rattle.std.specs.Prelude.{◌≡◌, ℕ, None, Some, true, is_some, length, IfOk};
+    ghost use Rattle.arc_commands.specs.Step.{setting_of};
+    ghost use Rattle.arc_commands.specs.Seen.{seen_reply};
+    ghost use Rattle.arc_commands.specs.declared.command.Cmd.TheVariants as command;
+    ghost use Rattle.arc_slots.specs.Answers.{Answers};
+    ghost use Rattle.arc_slots.specs.Parts.{part_command};
+    ghost use Rattle.arc_slots.specs.Slots.{stand_of};
+    ghost use Rattle.arc_slots.specs.Stands.{HasPassFor};
+    ghost use Rattle.arc_slots.specs.Writing.{seen_writing, write_command};
+
+    /// Hands out a part of the window under the next number, if there is room for it.
+    pub(crate) fn hand_out(
+        &mut self,
+        rt: &impl Wait,
+        part: Part,
+        next: usize,
+        has_room: bool,
+        passes: &mut Passes<A>,
+    ) -> (TableReply<S::Item, A>, Option<Self>)
+        requires { HasPassFor passes.old.of_blocks.items (stand_of (Some self.old)) }
+        ensures answer { (i : ℕ) → Answers (setting_of L.STATIC L.clone_wants S.DROPS S.boundary
+            (type_size S.Item.row) S.Zero.zero) next (part_command i part)
+            self.old passes.old.of_blocks.items (seen_reply result.0)
+            (Some self.new) result.1 passes.new.of_blocks.items }
+        ensures room { is_some result.1 ≡ true → has_room ≡ true }
+    {
+        if self.is_written() {
+            return (Reply::Kind, None);
+        }
+        if let Err(e) = self.check_part(part) {
+            return (Reply::Range(e), None);
+        }
+        if !has_room {
+            return (Reply::Alloc, None);
+        }
+        match self.try_part(rt, part, passes) {
+            Ok(slot) => (Reply::New(next), Some(slot)),
+            Err(e) => (Reply::Owner(e), None),
+        }
+    }
+
+    /// Whether the window is the only owner of its block.
+    pub(crate) fn uniq(&self, passes: &mut Passes<A>) -> TableReply<S::Item, A>
+        requires { HasPassFor passes.old.of_blocks.items (stand_of (Some self.now)) }
+        ensures { (next i : ℕ) → Answers (setting_of L.STATIC L.clone_wants S.DROPS S.boundary
+            (type_size S.Item.row) S.Zero.zero) next (command.Uniq i)
+            self.now passes.old.of_blocks.items (seen_reply result)
+            (Some self.now) None passes.new.of_blocks.items }
+    {
+        if self.is_written() {
+            return Reply::Kind;
+        }
+        if self.is_unique(passes) {
+            return Reply::Yes;
+        }
+        Reply::No
+    }
+
+    /// The items of the window, in a vector.
+    pub(crate) fn show(&self, alloc: A, passes: &Passes<A>) -> TableReply<S::Item, A>
+        ensures { (next i : ℕ) → Answers (setting_of L.STATIC L.clone_wants S.DROPS S.boundary
+            (type_size S.Item.row) S.Zero.zero) next (command.Show i)
+            self.now passes.now.of_blocks.items (seen_reply result)
+            (Some self.now) None passes.now.of_blocks.items }
+    {
+        let _ = passes;
+        self.known_role();
+        match Vec::from_slice(alloc, self.as_slice()) {
+            Ok(items) => Reply::Items(items),
+            Err(_) => Reply::Alloc,
+        }
+    }
+
+    /// How many items the window has.
+    pub(crate) fn count(&self, passes: &Passes<A>) -> TableReply<S::Item, A>
+        ensures { (next i : ℕ) → Answers (setting_of L.STATIC L.clone_wants S.DROPS S.boundary
+            (type_size S.Item.row) S.Zero.zero) next (command.Len i)
+            self.now passes.now.of_blocks.items (seen_reply result)
+            (Some self.now) None passes.now.of_blocks.items }
+    {
+        let _ = passes;
+        self.known_role();
+        Reply::Number(self.len())
+    }
+
+    /// How many places the window has, if it is one that is written.
+    pub(crate) fn room(&self, passes: &Passes<A>) -> TableReply<S::Item, A>
+        ensures { (next i : ℕ) → Answers (setting_of L.STATIC L.clone_wants S.DROPS S.boundary
+            (type_size S.Item.row) S.Zero.zero) next (command.Room i)
+            self.now passes.now.of_blocks.items (seen_reply result)
+            (Some self.now) None passes.now.of_blocks.items }
+    {
+        let _ = passes;
+        match self.capacity() {
+            Some(places) => Reply::Number(places),
+            None => Reply::Kind,
+        }
+    }
+
+    /// Writes into the window: room is made, and what is written goes behind its items. Refused, it
+    /// is let go.
+    pub(crate) fn fill(
+        &mut self,
+        what: Writing<Vec<S::Item, A>, S::Item>,
+        passes: &mut Passes<A>,
+    ) -> TableReply<S::Item, A>
+        requires item { FitsInMemory S.Item.row }
+        requires pass { HasPassFor passes.old.of_blocks.items (stand_of (Some self.old)) }
+        ensures { (next i : ℕ) → Answers (setting_of L.STATIC L.clone_wants S.DROPS S.boundary
+            (type_size S.Item.row) S.Zero.zero) next (write_command i (seen_writing what))
+            self.old passes.old.of_blocks.items (seen_reply result)
+            (Some self.new) None passes.new.of_blocks.items }
+    {
+        if !self.is_written() {
+            return Reply::Kind;
+        }
+        let begins = self.wants_block(what.additional());
+        if passes.reserve_for(begins).is_err() {
+            return Reply::Reserve(TryReserveError::AllocError);
+        }
+        if let Err(e) = self.write(what, passes) {
+            return Reply::Reserve(e);
+        }
+        Reply::Ok
+    }
+
+    /// Makes room for so many items more in the window, if that takes no memory.
+    pub(crate) fn reclaim(
+        &mut self,
+        additional: usize,
+        passes: &Passes<A>,
+    ) -> TableReply<S::Item, A>
+        requires { FitsInMemory S.Item.row }
+        ensures { (next i : ℕ) → Answers (setting_of L.STATIC L.clone_wants S.DROPS S.boundary
+            (type_size S.Item.row) S.Zero.zero) next (command.Rec i additional)
+            self.old passes.now.of_blocks.items (seen_reply result)
+            (Some self.new) None passes.now.of_blocks.items }
+    {
+        let _ = passes;
+        if !self.is_written() {
+            return Reply::Kind;
+        }
+        if self.try_reclaim(additional) {
+            return Reply::Yes;
+        }
+        Reply::No
+    }
+
+    /// Takes the first `by` items off the window.
+    pub(crate) fn skip(&mut self, by: usize, passes: &Passes<A>) -> TableReply<S::Item, A>
+        ensures { (next i : ℕ) → Answers (setting_of L.STATIC L.clone_wants S.DROPS S.boundary
+            (type_size S.Item.row) S.Zero.zero) next (command.Adv i by)
+            self.old passes.now.of_blocks.items (seen_reply result)
+            (Some self.new) None passes.now.of_blocks.items }
+    {
+        let _ = passes;
+        self.known_role();
+        if let Err(e) = self.check_at(by) {
+            return Reply::Range(e);
+        }
+        self.advance(by);
+        Reply::Ok
+    }
+
+    /// Leaves the window's first `len` items, or all where it has no more.
+    pub(crate) fn cut(&mut self, len: usize, passes: &Passes<A>) -> TableReply<S::Item, A>
+        ensures { (next i : ℕ) → Answers (setting_of L.STATIC L.clone_wants S.DROPS S.boundary
+            (type_size S.Item.row) S.Zero.zero) next (command.Trunc i len)
+            self.old passes.now.of_blocks.items (seen_reply result)
+            (Some self.new) None passes.now.of_blocks.items }
+    {
+        let _ = passes;
+        self.known_role();
+        if len >= self.len() {
+            return Reply::Ok;
+        }
+        if let Err(e) = self.check_at(len) {
+            return Reply::Range(e);
+        }
+        self.truncate(len);
+        Reply::Ok
+    }
+
+    /// Makes the window, which is written, one that is read.
+    pub(crate) fn freeze(self, passes: &mut Passes<A>) -> (TableReply<S::Item, A>, Self)
+        requires { HasPassFor passes.old.of_blocks.items (stand_of (Some self)) }
+        ensures { (next i : ℕ) → Answers (setting_of L.STATIC L.clone_wants S.DROPS S.boundary
+            (type_size S.Item.row) S.Zero.zero) next (command.Freeze i)
+            self passes.old.of_blocks.items (seen_reply result.0)
+            (Some result.1) None passes.new.of_blocks.items }
+    {
+        if !self.is_written() {
+            return (Reply::Kind, self);
+        }
+        let begins = self.wants_block_to_read();
+        if passes.reserve_for(begins).is_err() {
+            return (Reply::Refused, self);
+        }
+        match self.try_freeze(passes) {
+            Ok(slot) => (Reply::Ok, slot),
+            Err(slot) => (Reply::Refused, slot),
+        }
+    }
+
+    /// Makes the window, which is read, one that is written, if it is alone.
+    pub(crate) fn make_mut(self, passes: &mut Passes<A>) -> (TableReply<S::Item, A>, Self)
+        requires { HasPassFor passes.old.of_blocks.items (stand_of (Some self)) }
+        ensures { (next i : ℕ) → Answers (setting_of L.STATIC L.clone_wants S.DROPS S.boundary
+            (type_size S.Item.row) S.Zero.zero) next (command.Mut i)
+            self passes.old.of_blocks.items (seen_reply result.0)
+            (Some result.1) None passes.new.of_blocks.items }
+    {
+        if self.is_written() {
+            return (Reply::Kind, self);
+        }
+        match self.try_into_mut(passes) {
+            Ok(slot) => (Reply::Ok, slot),
+            Err(slot) => (Reply::Refused, slot),
+        }
+    }
+
+    /// Ends the window.
+    pub(crate) fn drop_window(self, passes: &mut Passes<A>) -> TableReply<S::Item, A>
+        requires { HasPassFor passes.old.of_blocks.items (stand_of (Some self)) }
+        ensures { (next i : ℕ) → Answers (setting_of L.STATIC L.clone_wants S.DROPS S.boundary
+            (type_size S.Item.row) S.Zero.zero) next (command.Drop i)
+            self passes.old.of_blocks.items (seen_reply result)
+            None None passes.new.of_blocks.items }
+    {
+        self.known_role();
+        self.release(passes);
+        Reply::Ok
+    }
+
+    /// The items of the window, which ends, if it is read and stands on no block.
+    pub(crate) fn take_static(self, passes: &Passes<A>) -> (TableReply<S::Item, A>, Option<Self>)
+        ensures { (next i : ℕ) → Answers (setting_of L.STATIC L.clone_wants S.DROPS S.boundary
+            (type_size S.Item.row) S.Zero.zero) next (command.TakeStatic i)
+            self passes.now.of_blocks.items (seen_reply result.0)
+            result.1 None passes.now.of_blocks.items }
+    {
+        let _ = passes;
+        if self.is_written() {
+            return (Reply::Kind, Some(self));
+        }
+        if self.is_on_block() {
+            return (Reply::Refused, Some(self));
+        }
+        (Reply::Static(self.into_static()), None)
+    }
+}

@@ -1,0 +1,307 @@
+//! A window that a command makes of what it brings.
+ghost use Rattle.std.specs.Prelude.{◌≡◌, ◌<◌, ◌≤◌, IfErr, IfOk, Some, true, is_some, length};
+ghost use Rattle.std.specs.Mem.{type_size};
+ghost use Rattle.std.specs.Vec.{vec_capacity};
+ghost use Rattle.arc_block.specs.Writers.{IsNewWriter, idle_writer};
+ghost use Rattle.arc_commands.specs.Additions.{Founds};
+ghost use Rattle.arc_commands.specs.Seen.{seen_command, seen_reply};
+ghost use Rattle.arc_commands.specs.Step.{made_row, setting_of, writer_row};
+ghost use Rattle.arc_commands.specs.declared.command.Cmd.TheVariants as command;
+ghost use Rattle.arc_slots.specs.Makers.{Makes};
+ghost use Rattle.arc_slots.specs.Slots.{row_of, stand_of};
+
+use crate::kinds::{Commands, ZeroOf};
+use crate::passes::Passes;
+use crate::slot::{Held, Slot};
+use arc_block::layout::{Layout, LayoutMut, stands_on_nothing};
+use arc_block::static_slice::StaticSlice;
+use arc_commands::command::{Cmd, Reply, TableCmd, TableReply};
+use arc_owners::error::AllocError;
+use arc_owners::mark::Whole;
+use arc_owners::owners::Pass;
+use arc_read::slice::ArcSlice;
+use arc_write::slice_mut::ArcSliceMut;
+use std::alloc::Allocator;
+
+/// A writer's slot, on nothing, or as the first owner of a block more, which keeps its pass.
+fn writer<S: Commands, L: Layout, B, M, A: Allocator + Copy>(
+    window: ArcSliceMut<S, L::Writable, 1, B, M, A, Whole>,
+    places: usize,
+    pass: Pass<Whole>,
+    passes: &mut Passes<A>,
+) -> Slot<S, L, B, M, A>
+where
+    L::Writable: LayoutMut,
+    requires idle { places ≡ 0 → window ≡ idle_writer }
+    requires new { 1 ≤ places → IsNewWriter S.DROPS true window.items places window pass }
+    requires room { 1 ≤ places → length passes.old.of_blocks.items < vec_capacity passes.old.of_blocks }
+    ensures row { row_of result
+        ≡ writer_row S.DROPS (length passes.old.of_blocks.items) window.items places }
+    ensures stand { Founds (stand_of (Some result)) passes.old.of_blocks.items
+        passes.new.of_blocks.items }
+{
+    if places == 0 {
+        return Slot::written(window, None);
+    }
+    let block = passes.keep(None, true, pass);
+    Slot::written(window, block)
+}
+
+/// A reader's slot, of a window that was made of this many items.
+fn reader<S: Commands, L: Layout, B, M, A: Allocator + Copy>(
+    alloc: A,
+    items: &[S::Item],
+    passes: &mut Passes<A>,
+) -> Result<Slot<S, L, B, M, A>, AllocError>
+where
+    S::Item: Copy,
+    L::Writable: LayoutMut,
+    requires { length passes.old.of_blocks.items < vec_capacity passes.old.of_blocks }
+    ensures row { IfOk result (λ slot. row_of slot
+        ≡ made_row L.STATIC S.DROPS (length passes.old.of_blocks.items) items.now) }
+    ensures stand { IfOk result (λ slot. Founds (stand_of (Some slot)) passes.old.of_blocks.items
+        passes.new.of_blocks.items) }
+    ensures refused { IfErr result (λ _. passes.new.of_blocks.items ≡ passes.old.of_blocks.items) }
+{
+    let mut pass = Pass::none();
+    let window = match ArcSlice::try_from_slice_as(alloc, items, &mut pass) {
+        Ok(window) => window,
+        Err(e) => return Err(e),
+    };
+    if stands_on_nothing::<L>(items.len()) {
+        return Ok(Slot {
+            window: Held::Read(window),
+            block: None,
+        });
+    }
+    let block = passes.keep(None, true, pass);
+    Ok(Slot {
+        window: Held::Read(window),
+        block,
+    })
+}
+
+/// A window that is read, over a copy of the items.
+fn over_copy<S: Commands, L: Layout, B, M, A: Allocator + Copy>(
+    alloc: A,
+    items: Vec<S::Item, A>,
+    next: usize,
+    has_room: bool,
+    passes: &mut Passes<A>,
+) -> (TableReply<S::Item, A>, Option<Slot<S, L, B, M, A>>)
+where
+    S::Item: Copy,
+    L::Writable: LayoutMut,
+    ensures made { Makes (setting_of L.STATIC L.clone_wants S.DROPS S.boundary
+        (type_size S.Item.row) S.Zero.zero) next (command.Slice items.items)
+        passes.old.of_blocks.items (seen_reply result.0) result.1 passes.new.of_blocks.items }
+    ensures room { is_some result.1 ≡ true → has_room ≡ true }
+{
+    if !has_room {
+        return (Reply::Alloc, None);
+    }
+    if passes.reserve_for(true).is_err() {
+        return (Reply::Alloc, None);
+    }
+    match reader(alloc, &items, passes) {
+        Ok(slot) => (Reply::New(next), Some(slot)),
+        Err(_) => (Reply::Alloc, None),
+    }
+}
+
+/// A window that is read, over a slice that is there for good.
+fn over_static<S: Commands, L: Layout, B, M, A: Allocator + Copy>(
+    alloc: A,
+    items: StaticSlice<S::Item>,
+    next: usize,
+    has_room: bool,
+    passes: &mut Passes<A>,
+) -> (TableReply<S::Item, A>, Option<Slot<S, L, B, M, A>>)
+where
+    S::Item: Copy,
+    L::Writable: LayoutMut,
+    ensures made { Makes (setting_of L.STATIC L.clone_wants S.DROPS S.boundary
+        (type_size S.Item.row) S.Zero.zero) next (command.Static items)
+        passes.old.of_blocks.items (seen_reply result.0) result.1 passes.new.of_blocks.items }
+    ensures room { is_some result.1 ≡ true → has_room ≡ true }
+{
+    let _ = passes;
+    if !L::STATIC {
+        return (Reply::Kind, None);
+    }
+    if !has_room {
+        return (Reply::Alloc, None);
+    }
+    (Reply::New(next), Some(Slot::on_static(alloc, items)))
+}
+
+/// A window that is written, on nothing.
+#[tactic(auto, using(crate::proofs::Made::own_items, crate::proofs::Made::made_so))]
+fn idle<S: Commands, L: Layout, B, M, A: Allocator + Copy>(
+    alloc: A,
+    next: usize,
+    has_room: bool,
+    passes: &mut Passes<A>,
+) -> (TableReply<S::Item, A>, Option<Slot<S, L, B, M, A>>)
+where
+    S::Item: Copy,
+    L::Writable: LayoutMut,
+    ensures made { Makes (setting_of L.STATIC L.clone_wants S.DROPS S.boundary
+        (type_size S.Item.row) S.Zero.zero) next command.New
+        passes.old.of_blocks.items (seen_reply result.0) result.1 passes.new.of_blocks.items }
+    ensures room { is_some result.1 ≡ true → has_room ≡ true }
+{
+    if !has_room {
+        return (Reply::Alloc, None);
+    }
+    let window = ArcSliceMut::new(alloc);
+    (
+        Reply::New(next),
+        Some(writer(window, 0, Pass::none(), passes)),
+    )
+}
+
+/// A window that is written, with no items and so many places.
+#[tactic(auto, using(crate::proofs::Made::own_items, crate::proofs::Made::made_so))]
+fn with_places<S: Commands, L: Layout, B, M, A: Allocator + Copy>(
+    alloc: A,
+    places: usize,
+    next: usize,
+    has_room: bool,
+    passes: &mut Passes<A>,
+) -> (TableReply<S::Item, A>, Option<Slot<S, L, B, M, A>>)
+where
+    S::Item: Copy,
+    L::Writable: LayoutMut,
+    ensures made { Makes (setting_of L.STATIC L.clone_wants S.DROPS S.boundary
+        (type_size S.Item.row) S.Zero.zero) next (command.Cap places)
+        passes.old.of_blocks.items (seen_reply result.0) result.1 passes.new.of_blocks.items }
+    ensures room { is_some result.1 ≡ true → has_room ≡ true }
+{
+    if !has_room {
+        return (Reply::Alloc, None);
+    }
+    if passes.reserve_for(true).is_err() {
+        return (Reply::Alloc, None);
+    }
+    let mut pass = Pass::none();
+    let Ok(window) = ArcSliceMut::try_with_capacity_as(alloc, places, &mut pass) else {
+        return (Reply::Alloc, None);
+    };
+    (Reply::New(next), Some(writer(window, places, pass, passes)))
+}
+
+/// A window that is written, over so many zeros.
+#[tactic(auto, using(crate::proofs::Made::own_items, crate::proofs::Made::made_so))]
+fn over_zeros<S: Commands, L: Layout, B, M, A: Allocator + Copy>(
+    alloc: A,
+    count: usize,
+    next: usize,
+    has_room: bool,
+    passes: &mut Passes<A>,
+) -> (TableReply<S::Item, A>, Option<Slot<S, L, B, M, A>>)
+where
+    S::Item: Copy,
+    L::Writable: LayoutMut,
+    ensures made { Makes (setting_of L.STATIC L.clone_wants S.DROPS S.boundary
+        (type_size S.Item.row) S.Zero.zero) next (command.Zero count)
+        passes.old.of_blocks.items (seen_reply result.0) result.1 passes.new.of_blocks.items }
+    ensures room { is_some result.1 ≡ true → has_room ≡ true }
+{
+    if !S::Zero::has_zero() {
+        return (Reply::Kind, None);
+    }
+    if !has_room {
+        return (Reply::Alloc, None);
+    }
+    if passes.reserve_for(true).is_err() {
+        return (Reply::Alloc, None);
+    }
+    let mut pass = Pass::none();
+    let Some(made) = S::Zero::try_zeroed_as(alloc, count, &mut pass) else {
+        unreachable!()
+    };
+    let Ok(window) = made else {
+        return (Reply::Alloc, None);
+    };
+    (Reply::New(next), Some(writer(window, count, pass, passes)))
+}
+
+/// A window that is written, over a copy of the items.
+#[tactic(auto, using(crate::proofs::Made::own_items, crate::proofs::Made::made_so))]
+fn over_written_copy<S: Commands, L: Layout, B, M, A: Allocator + Copy>(
+    alloc: A,
+    items: Vec<S::Item, A>,
+    next: usize,
+    has_room: bool,
+    passes: &mut Passes<A>,
+) -> (TableReply<S::Item, A>, Option<Slot<S, L, B, M, A>>)
+where
+    S::Item: Copy,
+    L::Writable: LayoutMut,
+    ensures made { Makes (setting_of L.STATIC L.clone_wants S.DROPS S.boundary
+        (type_size S.Item.row) S.Zero.zero) next (command.MSlice items.items)
+        passes.old.of_blocks.items (seen_reply result.0) result.1 passes.new.of_blocks.items }
+    ensures room { is_some result.1 ≡ true → has_room ≡ true }
+{
+    if !has_room {
+        return (Reply::Alloc, None);
+    }
+    if passes.reserve_for(true).is_err() {
+        return (Reply::Alloc, None);
+    }
+    let mut pass = Pass::none();
+    let Ok(window) = ArcSliceMut::try_from_slice_as(alloc, &items, &mut pass) else {
+        return (Reply::Alloc, None);
+    };
+    (
+        Reply::New(next),
+        Some(writer(window, items.len(), pass, passes)),
+    )
+}
+
+/// Makes the window of a command that brings what it is made of: the reply, and the window, if it was
+/// made. That goes under the next number, where there is room for it.
+pub fn make<S: Commands, L: Layout, B, M, A: Allocator + Copy>(
+    alloc: A,
+    command: TableCmd<S::Item, A>,
+    next: usize,
+    has_room: bool,
+    passes: &mut Passes<A>,
+) -> (TableReply<S::Item, A>, Option<Slot<S, L, B, M, A>>)
+where
+    S::Item: Copy,
+    L::Writable: LayoutMut,
+    ensures made { Makes (setting_of L.STATIC L.clone_wants S.DROPS S.boundary
+        (type_size S.Item.row) S.Zero.zero) next (seen_command command)
+        passes.old.of_blocks.items (seen_reply result.0) result.1 passes.new.of_blocks.items }
+    ensures room { is_some result.1 ≡ true → has_room ≡ true }
+{
+    match command {
+        Cmd::Slice(items) => over_copy(alloc, items, next, has_room, passes),
+        Cmd::Static(items) => over_static(alloc, items, next, has_room, passes),
+        Cmd::New => idle(alloc, next, has_room, passes),
+        Cmd::Cap { places } => with_places(alloc, places, next, has_room, passes),
+        Cmd::Zero { count } => over_zeros(alloc, count, next, has_room, passes),
+        Cmd::MSlice(items) => over_written_copy(alloc, items, next, has_room, passes),
+        // These are on a window.
+        Cmd::Clone { .. } => (Reply::Kind, None),
+        Cmd::Sub { .. } => (Reply::Kind, None),
+        Cmd::Uniq { .. } => (Reply::Kind, None),
+        Cmd::Show { .. } => (Reply::Kind, None),
+        Cmd::Off { .. } => (Reply::Kind, None),
+        Cmd::To { .. } => (Reply::Kind, None),
+        Cmd::Len { .. } => (Reply::Kind, None),
+        Cmd::Room { .. } => (Reply::Kind, None),
+        Cmd::Res { .. } => (Reply::Kind, None),
+        Cmd::Push { .. } => (Reply::Kind, None),
+        Cmd::Ext { .. } => (Reply::Kind, None),
+        Cmd::Rec { .. } => (Reply::Kind, None),
+        Cmd::Freeze { .. } => (Reply::Kind, None),
+        Cmd::Mut { .. } => (Reply::Kind, None),
+        Cmd::Adv { .. } => (Reply::Kind, None),
+        Cmd::Trunc { .. } => (Reply::Kind, None),
+        Cmd::Drop { .. } => (Reply::Kind, None),
+        Cmd::TakeStatic { .. } => (Reply::Kind, None),
+    }
+}
