@@ -29,7 +29,11 @@ fn window_of_part<L: Layout>(
     if window.as_slice() != inner.as_slice() {
         return Ok(None);
     }
-    Ok(Some((window.len(), window.as_slice().first().copied(), source.is_unique())))
+    Ok(Some((
+        window.len(),
+        window.as_slice().first().copied(),
+        source.is_unique(),
+    )))
 }
 
 #[test]
