@@ -11,7 +11,7 @@ use std::collections::{BTreeMap, HashMap};
 use std::convert::{AsSlice, AsStr};
 use std::fmt;
 use std::hash::{DefaultHasher, Hash, Hasher};
-use std::io::Read;
+use std::io::{ErrorKind, Read};
 use std::sync::Wait;
 use std::test::Fail;
 
@@ -84,11 +84,20 @@ fn text_prints(alloc: Global, text: &str, debug: &str, wide: &str) -> Option<[bo
     ])
 }
 
-/// Whether `{}` of a window over this byte text is that text.
-fn byte_text_prints(alloc: Global, bytes: &[u8], text: &str) -> Option<bool> {
+/// Whether `{}` of a window over this byte text is that text, and in columns of five, without and
+/// with an alignment, these.
+fn byte_text_prints(alloc: Global, bytes: &[u8], texts: [&str; 4]) -> Option<[bool; 4]> {
     let window: ArcSlice<ByteText> = ArcSlice::try_from_slice(alloc, bytes).ok()?;
     let displayed = format!(in alloc; "{window}").ok()?;
-    Some(displayed.as_str() == text)
+    let wide = format!(in alloc; "{window:5}").ok()?;
+    let right = format!(in alloc; "{window:>5}").ok()?;
+    let middle = format!(in alloc; "{window:-^5}").ok()?;
+    Some([
+        displayed.as_str() == texts[0],
+        wide.as_str() == texts[1],
+        right.as_str() == texts[2],
+        middle.as_str() == texts[3],
+    ])
 }
 
 #[test]
@@ -98,7 +107,8 @@ fn texts_printed(rt: HostRuntime) -> Result<(), Fail> {
     assert!(rt; told == Some([true; 3]));
     let told = text_prints(alloc, "a\n\"c", "\"a\\n\\\"c\"", " a\n\"c");
     assert!(rt; told == Some([true; 3]));
-    assert!(rt; byte_text_prints(alloc, b"a\xc3\xa9\xff", "aé\u{fffd}") == Some(true));
+    let texts = ["aé\u{fffd}", "aé\u{fffd}", "  aé\u{fffd}", "-aé\u{fffd}-"];
+    assert!(rt; byte_text_prints(alloc, b"a\xc3\xa9\xff", texts) == Some([true; 4]));
     Ok(())
 }
 
@@ -224,6 +234,24 @@ fn read_from(rt: HostRuntime) -> Result<(), Fail> {
     Ok(())
 }
 
+/// A window of three bytes fills two places, and then has too few for them: whether that is said to
+/// be the end, what stands in the places, and what is left after each.
+fn read_exactly(alloc: Global) -> Option<(bool, [u8; 2], [usize; 2])> {
+    let mut window: ArcSlice<Plain<u8>> = ArcSlice::try_from_slice(alloc, &[1, 2, 3]).ok()?;
+    let mut places = [0; 2];
+    window.read_exact(&mut places).ok()?;
+    let left = window.len();
+    let error = window.read_exact(&mut places).err()?;
+    let is_end = error.kind() == ErrorKind::UnexpectedEof;
+    Some((is_end, places, [left, window.len()]))
+}
+
+#[test]
+fn read_to_the_end(rt: HostRuntime) -> Result<(), Fail> {
+    assert!(rt; read_exactly(rt.alloc()) == Some((true, [3, 2], [1, 0])));
+    Ok(())
+}
+
 /// Two numbers of two bytes each, and a byte that is passed over between them; what is left.
 fn numbers(alloc: Global, bytes: &[u8]) -> Option<([u16; 2], usize)> {
     let mut window: ArcSlice<Plain<u8>> = ArcSlice::try_from_slice(alloc, bytes).ok()?;
@@ -324,6 +352,25 @@ fn derived_over_a_window(rt: HostRuntime) -> Result<(), Fail> {
     let text = "Frame { number: 1, body: b\"ab\" }";
     assert!(rt; frames(rt.alloc(), b"ab", b"ab", text) == Some([true; 3]));
     assert!(rt; frames(rt.alloc(), b"ab", b"ac", text) == Some([false, false, true]));
+    Ok(())
+}
+
+/// Whether `{:#?}` of a window over these bytes, and of a frame with it, are these.
+fn laid_out(alloc: Global, bytes: &[u8], text: &str, framed: &str) -> Option<[bool; 2]> {
+    let window: ArcSlice<Plain<u8>> = ArcSlice::try_from_slice(alloc, bytes).ok()?;
+    let one = format!(in alloc; "{window:#?}").ok()?;
+    let frame = Frame {
+        number: 1,
+        body: window,
+    };
+    let two = format!(in alloc; "{frame:#?}").ok()?;
+    Some([one.as_str() == text, two.as_str() == framed])
+}
+
+#[test]
+fn printed_on_lines(rt: HostRuntime) -> Result<(), Fail> {
+    let framed = "Frame {\n    number: 1,\n    body: b\"ab\",\n}";
+    assert!(rt; laid_out(rt.alloc(), b"ab", "b\"ab\"", framed) == Some([true; 2]));
     Ok(())
 }
 

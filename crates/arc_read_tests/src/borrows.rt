@@ -93,3 +93,17 @@ fn text_parts(rt: HostRuntime) -> Result<(), Fail> {
     assert!(rt; found == wanted);
     Ok(())
 }
+
+/// Whether `{:?}` of the second and third of three bytes is this text.
+fn part_prints(alloc: Global, text: &str) -> Result<bool, Fail> {
+    let window: ArcSlice<Plain<u8>> = ArcSlice::try_from_slice(alloc, b"abc")?;
+    let part = window.borrow(1, 3);
+    let written = format!(in alloc; "{part:?}")?;
+    Ok(written.as_str() == text)
+}
+
+#[test]
+fn parts_printed(rt: HostRuntime) -> Result<(), Fail> {
+    assert!(rt; part_prints(rt.alloc(), "b\"bc\"")?);
+    Ok(())
+}

@@ -159,6 +159,53 @@ fn alone_after_each_call(rt: HostRuntime) -> Result<(), Fail> {
     Ok(())
 }
 
+/// The same of an empty cut, and of a window that was made of a borrowed part.
+fn alone_after_parts<L: Layout>(rt: &impl Wait, alloc: Global) -> Result<[bool; 2], Fail> {
+    let window: ArcSlice<Plain<u8>, L> = ArcSlice::try_from_slice(alloc, b"Hello")?;
+    drop(window.try_subslice(rt, 3, 3)?);
+    let after_cut = window.is_unique();
+    drop(window.borrow(1, 3).try_clone_arc(rt)?);
+    Ok([after_cut, window.is_unique()])
+}
+
+/// Of splits at both ends: whether the part with the items is alone once the empty one is dropped.
+fn alone_after_end_splits<L: Layout>(rt: &impl Wait, alloc: Global) -> Result<[bool; 4], Fail> {
+    let mut window: ArcSlice<Plain<u8>, L> = ArcSlice::try_from_slice(alloc, b"Hello")?;
+    drop(window.try_split_off(rt, 5)?);
+    let after_back = window.is_unique();
+    drop(window.try_split_to(rt, 0)?);
+    let after_front = window.is_unique();
+    let mut whole = window.try_split_off(rt, 0)?;
+    drop(window);
+    let is_whole_alone = whole.is_unique();
+    let all = whole.try_split_to(rt, 5)?;
+    drop(whole);
+    Ok([after_back, after_front, is_whole_alone, all.is_unique()])
+}
+
+#[test]
+fn alone_under_both_layouts(rt: HostRuntime) -> Result<(), Fail> {
+    assert!(rt; alone_after_parts::<DefaultLayout>(&rt, rt.alloc())? == [true; 2]);
+    assert!(rt; alone_after_parts::<WithoutStatic>(&rt, rt.alloc())? == [true; 2]);
+    assert!(rt; alone_after_end_splits::<DefaultLayout>(&rt, rt.alloc())? == [true; 4]);
+    assert!(rt; alone_after_end_splits::<WithoutStatic>(&rt, rt.alloc())? == [true; 4]);
+    Ok(())
+}
+
+/// The items of a clone that is alone, since its source was dropped.
+fn taken_from_clone(rt: &impl Wait, alloc: Global) -> Result<Option<[u8; 5]>, Fail> {
+    let source: ArcSlice<Plain<u8>> = ArcSlice::try_from_slice(alloc, b"Hello")?;
+    let clone = source.try_clone(rt)?;
+    drop(source);
+    Ok(clone.try_into_array::<5>().ok())
+}
+
+#[test]
+fn clone_taken_as_an_array(rt: HostRuntime) -> Result<(), Fail> {
+    assert!(rt; taken_from_clone(&rt, rt.alloc())? == Some(*b"Hello"));
+    Ok(())
+}
+
 /// Each call on windows that stand on no block, and makes none: the pass is as it was, as the
 /// contract says. The windows that were made.
 fn called_on_no_block<R: Wait>(
