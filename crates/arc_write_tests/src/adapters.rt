@@ -8,7 +8,7 @@ use std::alloc::Global;
 use std::cmp::Ordering;
 use std::convert::{AsSlice, AsStr};
 use std::hash::{DefaultHasher, Hash, Hasher};
-use std::io::{Read, Write};
+use std::io::{ErrorKind, Read, Write};
 use std::test::Fail;
 use std::{fmt, io};
 
@@ -33,6 +33,24 @@ fn written_twice(alloc: Global) -> Option<([usize; 2], [usize; 2], bool)> {
 #[test]
 fn written_within_its_places(rt: HostRuntime) -> Result<(), Fail> {
     assert!(rt; written_twice(rt.alloc()) == Some(([1, 0], [4, 4], true)));
+    Ok(())
+}
+
+/// Two bytes are written to a window of three that has six places, and then two more, of which one
+/// fits: whether the error is of kind `WriteZero`, the lengths, and whether what fits is there.
+fn written_whole(alloc: Global) -> Option<(bool, [usize; 2], bool)> {
+    let mut window = with_places(alloc, 6, &[1, 2, 3])?;
+    window.write_all(&[4, 5]).ok()?;
+    let len = window.len();
+    let error = window.write_all(&[6, 7]).err()?;
+    let is_kept = window.eq_slice(&[1, 2, 3, 4, 5, 6]);
+    let is_zero = error.kind() == ErrorKind::WriteZero;
+    Some((is_zero, [len, window.len()], is_kept))
+}
+
+#[test]
+fn written_as_a_whole(rt: HostRuntime) -> Result<(), Fail> {
+    assert!(rt; written_whole(rt.alloc()) == Some((true, [5, 6], true)));
     Ok(())
 }
 
@@ -98,6 +116,24 @@ fn read_from(alloc: Global) -> Option<(u16, usize, [u8; 2], [usize; 2])> {
 #[test]
 fn read_from_the_front(rt: HostRuntime) -> Result<(), Fail> {
     assert!(rt; read_from(rt.alloc()) == Some((0x0102, 2, [4, 5], [0, 3])));
+    Ok(())
+}
+
+/// A window of three bytes fills two places, and then has too few for them: whether that is said to
+/// be the end, what stands in the places, and what is left after each.
+fn read_exactly(alloc: Global) -> Option<(bool, [u8; 2], [usize; 2])> {
+    let mut window = with_places(alloc, 4, &[1, 2, 3])?;
+    let mut places = [0; 2];
+    window.read_exact(&mut places).ok()?;
+    let left = window.len();
+    let error = window.read_exact(&mut places).err()?;
+    let is_end = error.kind() == ErrorKind::UnexpectedEof;
+    Some((is_end, places, [left, window.len()]))
+}
+
+#[test]
+fn read_to_the_end(rt: HostRuntime) -> Result<(), Fail> {
+    assert!(rt; read_exactly(rt.alloc()) == Some((true, [3, 2], [1, 0])));
     Ok(())
 }
 
@@ -205,14 +241,32 @@ fn compared_by_their_lists(rt: HostRuntime) -> Result<(), Fail> {
     Ok(())
 }
 
-/// Whether a window over these bytes prints so.
-fn bytes_print(alloc: Global, bytes: &[u8], debug: &str, lower: &str) -> Option<[bool; 2]> {
+/// Whether a window over these bytes prints so, and in digits of either case so.
+fn bytes_print(alloc: Global, bytes: &[u8], debug: &str, digits: [&str; 2]) -> Option<[bool; 4]> {
     let window = with_places(alloc, 9, bytes)?;
     let debugged = format!(in alloc; "{window:?}").ok()?;
-    let mut f = fmt::Formatter::new(String::new(alloc));
-    fmt::LowerHex::fmt(&window, &mut f).ok()?;
-    let digits = f.into_inner();
-    Some([debugged.as_str() == debug, digits.as_str() == lower])
+    let laid_out = format!(in alloc; "{window:#?}").ok()?;
+    let mut small = fmt::Formatter::new(String::new(alloc));
+    fmt::LowerHex::fmt(&window, &mut small).ok()?;
+    let mut large = fmt::Formatter::new(String::new(alloc));
+    fmt::UpperHex::fmt(&window, &mut large).ok()?;
+    let (small, large) = (small.into_inner(), large.into_inner());
+    Some([
+        debugged.as_str() == debug,
+        laid_out.as_str() == debug,
+        small.as_str() == digits[0],
+        large.as_str() == digits[1],
+    ])
+}
+
+/// Whether a window over this byte text prints so, and in a column of five so.
+fn byte_text_prints(alloc: Global, bytes: &[u8], text: &str, wide: &str) -> Option<[bool; 2]> {
+    let window: ArcSliceMut<ByteText, DefaultLayoutMut, 1> = ArcSliceMut::try_from_slice(
+        alloc, bytes,
+    ).ok()?;
+    let displayed = format!(in alloc; "{window}").ok()?;
+    let padded = format!(in alloc; "{window:>5}").ok()?;
+    Some([displayed.as_str() == text, padded.as_str() == wide])
 }
 
 /// Whether a window over this text prints so.
@@ -231,7 +285,10 @@ fn text_prints(alloc: Global, text: &str, debug: &str) -> Option<[bool; 3]> {
 #[test]
 fn printed(rt: HostRuntime) -> Result<(), Fail> {
     let alloc = rt.alloc();
-    let told = bytes_print(alloc, &[97, 39, 10, 0], "b\"a\\'\\n\\x00\"", "61270a00");
+    let digits = ["61270a00", "61270A00"];
+    let told = bytes_print(alloc, &[97, 39, 10, 0], "b\"a\\'\\n\\x00\"", digits);
+    assert!(rt; told == Some([true; 4]));
+    let told = byte_text_prints(alloc, b"a\xff", "a\u{fffd}", "   a\u{fffd}");
     assert!(rt; told == Some([true; 2]));
     assert!(rt; text_prints(alloc, "aé\n", "\"aé\\n\"") == Some([true; 3]));
     Ok(())

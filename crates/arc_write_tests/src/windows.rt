@@ -109,6 +109,23 @@ fn written_again(frozen: ArcSlice<Plain<u8>, DefaultLayout>) -> Option<(bool, bo
     Some((pushed, window.as_slice() == [1, 2, 3].as_slice()))
 }
 
+/// The same of a clone that is alone, since its source was dropped.
+fn clone_written_again(
+    rt: &impl Wait,
+    frozen: ArcSlice<Plain<u8>, DefaultLayout>,
+) -> Option<(bool, bool)> {
+    let clone = frozen.try_clone(rt).ok()?;
+    drop(frozen);
+    written_again(clone)
+}
+
+#[test]
+fn clone_that_is_alone(rt: HostRuntime) -> Result<(), Fail> {
+    let frozen: ArcSlice<Plain<u8>> = ArcSlice::try_from_slice(rt.alloc(), &[1, 2])?;
+    assert!(rt; clone_written_again(&rt, frozen) == Some((true, true)));
+    Ok(())
+}
+
 /// How many items a window of whatever type has once it is written again, if it can be.
 fn items_written<W: IntoMut<Alloc = Global> + Drop>(window: W) -> Option<usize>
 where
