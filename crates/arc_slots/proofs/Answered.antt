@@ -51,7 +51,7 @@ use Rattle.arc_slots.specs.declared.slot.Writing.{Writing}
 use Rattle.arc_slots.specs.declared.slot.Writing.TheVariants as writing
 use Rattle.arc_slots.proofs.Added.{Ended, asked-comes, ended-comes, enters-along, raises-beside}
 use Rattle.arc_slots.proofs.Added.{refuses-at}
-use Rattle.arc_slots.proofs.Told.{alone-told, full-told, many-along, many-beside, many-refused}
+use Rattle.arc_slots.proofs.Told.{alone-told, full-told, many_along, many-beside, many-refused}
 use Rattle.arc_slots.proofs.Told.{none-stands, room-beside, row-block, stand_block}
 
 -- what is refused for one reason is refused for no other
@@ -340,7 +340,7 @@ module _ {T M : Type 0} (setting : Setting T) (windows : ℕ) (s : SlotView T M)
       )
 
       asked-many : (found : Bool) → AskedAs found → length passes' ≡ length passes
-      asked-many found along = many-along passes passes' here (λ o p q. Asks o p q found) along
+      asked-many found along = many_along passes passes' here (λ o p q. Asks o p q found) along
 
       pub uniq : (i : ℕ) (found : Bool) → AskedAs found → (here ≡ None → found ≡ false)
           → Said (command.Uniq i) (if found then reply.Yes else reply.No) (Some s) None passes'
@@ -413,7 +413,7 @@ module _ {T M : Type 0} (setting : Setting T) (windows : ℕ) (s : SlotView T M)
   dropped i passes' is along = record {
     begins = false;
     change = for-role no_shortage (command.Drop i) is;
-    blocks = many-along passes passes' here Ended along;
+    blocks = many_along passes passes' here Ended along;
     adds = (
       refl,
       refl,

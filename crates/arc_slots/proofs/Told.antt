@@ -49,10 +49,10 @@ and-false false = refl
 
 module _ {H : Type 0} (passes passes' : List (Pass H)) where
   -- there are as many passes
-  pub many-along : (s : Stand) (call : Owner → Pass H → Pass H → Type 0)
+  pub many_along : (s : Stand) (call : Owner → Pass H → Pass H → Type 0)
       → Along s passes passes' call → length passes' ≡ length passes
-  many-along None call along = ap length along
-  many-along (Some (n, o)) call along =
+  many_along None call along = ap length along
+  many_along (Some (n, o)) call along =
       ap length along.others ∙ length-set passes n along.after
 
   pub many-beside : (s made : Stand) → Beside s passes passes' made
@@ -68,7 +68,7 @@ module _ {H : Type 0} (passes passes' : List (Pass H)) where
   many-refused wants place None CountFull why = absurd why
   many-refused wants place (Some (n, o)) CountFull why =
       ap length why.1.others ∙ length-set passes n why.1.after
-  many-refused wants place s AllocError why = many-along s AddsNothing why.1
+  many-refused wants place s AllocError why = many_along s AddsNothing why.1
 
   module _ (windows : ℕ) where
     -- how many owners live, where this pass of the block was found

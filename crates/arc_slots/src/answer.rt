@@ -239,10 +239,12 @@ where
     }
 
     /// Ends the window.
+    #[tactic(auto, using(crate::proofs::Told::many_along))]
     pub(crate) fn drop_window(self, passes: &mut Passes<A>) -> TableReply<S::Item, A>
         requires { HasPassFor passes.old.of_blocks.items (stand_of (Some self)) }
-        ensures { (next i : ℕ) → Answers (setting_of L.STATIC L.clone_wants S.DROPS S.boundary
-            (type_size S.Item.row) S.Zero.zero) next (command.Drop i)
+        ensures many { length passes.new.of_blocks.items ≡ length passes.old.of_blocks.items }
+        ensures answer { (next i : ℕ) → Answers (setting_of L.STATIC L.clone_wants S.DROPS
+            S.boundary (type_size S.Item.row) S.Zero.zero) next (command.Drop i)
             self passes.old.of_blocks.items (seen_reply result)
             None None passes.new.of_blocks.items }
     {

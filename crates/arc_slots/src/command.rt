@@ -1,5 +1,5 @@
 //! A command on the window under one number of a table.
-ghost use Rattle.std.specs.Prelude.{◌≡◌, ℕ, None, Some, true, is_some, IfSome};
+ghost use Rattle.std.specs.Prelude.{◌≡◌, ℕ, None, Some, true, is_some, length, IfSome};
 ghost use Rattle.std.specs.Mem.{FitsInMemory, type_size};
 ghost use Rattle.arc_commands.specs.Seen.{seen_command, seen_reply};
 ghost use Rattle.arc_commands.specs.Step.{setting_of};
@@ -64,8 +64,8 @@ where
     reply
 }
 
-/// The window ends.
-fn drop_at<S: Commands, L: Layout, B, M, A: Allocator + Copy>(
+/// The window ends, if there is one. Takes no memory.
+pub fn drop_at<S: Commands, L: Layout, B, M, A: Allocator + Copy>(
     place: &mut Option<Slot<S, L, B, M, A>>,
     passes: &mut Passes<A>,
 ) -> TableReply<S::Item, A>
@@ -73,10 +73,14 @@ where
     S::Item: Copy,
     L::Writable: LayoutMut,
     requires { HasPassFor passes.old.of_blocks.items (stand_of place.old) }
-    ensures { IfSome place.old (λ s. (next i : ℕ) → Answers (setting_of L.STATIC L.clone_wants
-        S.DROPS S.boundary (type_size S.Item.row) S.Zero.zero) next (command.Drop i)
+    ensures dropped { IfSome place.old (λ s. (next i : ℕ) → Answers (setting_of L.STATIC
+        L.clone_wants S.DROPS S.boundary (type_size S.Item.row) S.Zero.zero) next (command.Drop i)
         s passes.old.of_blocks.items (seen_reply result)
         place.new None passes.new.of_blocks.items) }
+    ensures none { place.old ≡ None → (result ≡ reply.NoWindow)
+        × (passes.new.of_blocks.items ≡ passes.old.of_blocks.items) }
+    ensures gone { place.new ≡ None }
+    ensures many { length passes.new.of_blocks.items ≡ length passes.old.of_blocks.items }
 {
     let Some(slot) = mem::replace(place, None) else {
         return Reply::NoWindow;

@@ -213,7 +213,7 @@ where
 
     /// A window is read, or it is its block's only owner's, who writes. Does nothing: its contract is
     /// the law.
-    pub(crate) fn known_role(&self)
+    pub fn known_role(&self)
         ensures { is_sole self.now.role ≡ false → self.now.role ≡ reader }
     {
         match &self.window {

@@ -2,8 +2,7 @@
 #![tactic(auto)]
 
 pub use arc_commands::command;
-pub use arc_slots::kinds;
-pub use arc_slots::passes;
+pub use arc_slots::{kinds, passes};
 
 pub mod laws;
 pub mod table;

@@ -1,21 +1,18 @@
 //! `Table`, windows by number.
 ghost use Rattle.std.specs.Mem.{FitsInMemory, type_size};
 
-use arc_block::layout::{DefaultLayout, Layout, LayoutMut, stands_on_nothing};
+use arc_block::layout::{DefaultLayout, Layout, LayoutMut};
 use arc_block::static_slice::StaticSlice;
 use arc_buffer::kinds::Slice;
-use arc_commands::command::{Cmd, Reply, TableCmd, TableReply};
+use arc_commands::command::{Reply, TableCmd, TableReply};
+use arc_slots::command::{answer, drop_at};
 use arc_slots::kinds::Commands;
-use arc_owners::mark::Whole;
-use arc_owners::owners::Pass;
-use arc_read::slice::ArcSlice;
-use arc_slots::list::{end_slots, make_room, slot_at};
-use arc_slots::part::Part;
+use arc_slots::list::{end_slots, push_made, room_if, slot_at};
+use arc_slots::maker::make;
 use arc_slots::passes::Passes;
-use arc_slots::slot::{Held, Slot, Writing};
+use arc_slots::slot::Slot;
 use std::alloc::{Allocator, Global};
 use std::marker::Model;
-use std::mem;
 use std::sync::Wait;
 
 /// The windows of a table under their numbers, `None` where one has gone, and the passes of the
@@ -64,14 +61,12 @@ where
     S::Item: Copy,
     L::Writable: LayoutMut,
 {
-    ghost use Rattle.std.specs.Prelude.{◌≡◌, [], length, slice_set};
+    ghost use Rattle.std.specs.Prelude.{◌≡◌, [], None, Some, length, slice_set};
     ghost use Rattle.arc_block.specs.declared.block.TheConstants.{MAX_OWNERS};
     ghost use Rattle.arc_block.specs.Owned.{IsKept};
-    ghost use Rattle.arc_commands.specs.Step.{Step, no_shortage, setting_of, shortage};
+    ghost use Rattle.arc_commands.specs.Step.{Step, no_shortage, setting_of, shortage, window_of};
     ghost use Rattle.arc_commands.specs.Seen.{map_reply, seen_command, seen_reply};
     ghost use Rattle.arc_commands.specs.Additions.{Adds};
-    ghost use Rattle.arc_slots.specs.Parts.{part_command};
-    ghost use Rattle.arc_slots.specs.Writing.{seen_writing, write_command};
     ghost use Rattle.arc_commands.specs.Blocks.{RowsAgree};
     ghost use Rattle.arc_commands.specs.State.{Agrees, CarriesOut, EndsAll, EndsWith, empty_state};
     ghost use Rattle.arc_commands.specs.declared.command.Cmd.TheVariants as command;
@@ -119,7 +114,7 @@ where
         reply
     }
 
-    /// The reply to one command, by the method for it.
+    /// The reply to one command: on the window under its number, or of what it brings.
     fn answer(&mut self, rt: &impl Wait, command: TableCmd<S::Item, A>) -> TableReply<S::Item, A>
         requires item { FitsInMemory S.Item.row }
         ensures rows { Step (setting_of L.STATIC L.clone_wants S.DROPS S.boundary
@@ -128,34 +123,54 @@ where
         ensures passes { Adds self.old.table self.old.standing (seen_command command)
             (seen_reply result) self.new.standing }
     {
-        match command {
-            Cmd::Slice(items) => self.slice(items),
-            Cmd::Static(items) => self.static_window(items),
-            Cmd::New => self.empty_window(),
-            Cmd::Cap { places } => self.with_capacity(places),
-            Cmd::Zero { count } => self.zeroed(count),
-            Cmd::MSlice(items) => self.slice_mut(items),
-            Cmd::Clone { window } => self.hand_out(rt, window, Part::Whole),
-            Cmd::Sub { window, start, end } => {
-                self.hand_out(rt, window, Part::Range { start, end })
-            }
-            Cmd::Uniq { window } => self.uniq(window),
-            Cmd::Show { window } => self.show(window),
-            Cmd::Off { window, at } => self.hand_out(rt, window, Part::Back(at)),
-            Cmd::To { window, at } => self.hand_out(rt, window, Part::Front(at)),
-            Cmd::Len { window } => self.len(window),
-            Cmd::Room { window } => self.room(window),
-            Cmd::Res { window, additional } => self.write(window, Writing::Nothing(additional)),
-            Cmd::Push { window, item } => self.write(window, Writing::Item(item)),
-            Cmd::Ext { window, items } => self.write(window, Writing::Items(items)),
-            Cmd::Rec { window, additional } => self.reclaim(window, additional),
-            Cmd::Freeze { window } => self.freeze(window),
-            Cmd::Mut { window } => self.make_mut(window),
-            Cmd::Adv { window, by } => self.advance(window, by),
-            Cmd::Trunc { window, len } => self.truncate(window, len),
-            Cmd::Drop { window } => self.release(window),
-            Cmd::TakeStatic { window } => self.take_static(window),
+        match command.window() {
+            Some(i) => self.on_window(rt, i, command),
+            None => self.make(command),
         }
+    }
+
+    /// Carries out a command on the window under this number. Room for a window that it makes is
+    /// reserved before it is asked, and used where the tests before that are passed.
+    fn on_window(
+        &mut self,
+        rt: &impl Wait,
+        i: usize,
+        command: TableCmd<S::Item, A>,
+    ) -> TableReply<S::Item, A>
+        requires item { FitsInMemory S.Item.row }
+        requires on { window_of (seen_command command) ≡ Some i }
+        ensures rows { Step (setting_of L.STATIC L.clone_wants S.DROPS S.boundary
+            (type_size S.Item.row) S.Zero.zero) self.old.table
+            (seen_command command) (seen_reply result) self.new.table }
+        ensures passes { Adds self.old.table self.old.standing (seen_command command)
+            (seen_reply result) self.new.standing }
+    {
+        let has_room = room_if(&mut self.slots, command.makes_beside());
+        let next = self.slots.len();
+        if i >= next {
+            return Reply::NoWindow;
+        }
+        let place = &mut self.slots[i];
+        let passes = &mut self.passes;
+        let (reply, made) = answer(place, rt, self.alloc, command, next, has_room, passes);
+        push_made(&mut self.slots, made);
+        reply
+    }
+
+    /// Makes the window of a command that brings what it is made of.
+    fn make(&mut self, command: TableCmd<S::Item, A>) -> TableReply<S::Item, A>
+        requires { window_of (seen_command command) ≡ None }
+        ensures rows { Step (setting_of L.STATIC L.clone_wants S.DROPS S.boundary
+            (type_size S.Item.row) S.Zero.zero) self.old.table
+            (seen_command command) (seen_reply result) self.new.table }
+        ensures passes { Adds self.old.table self.old.standing (seen_command command)
+            (seen_reply result) self.new.standing }
+    {
+        let has_room = room_if(&mut self.slots, true);
+        let next = self.slots.len();
+        let (reply, made) = make(self.alloc, command, next, has_room, &mut self.passes);
+        push_made(&mut self.slots, made);
+        reply
     }
 
     /// Each window stands on the block of its row, and rows on one block agree about it. Does
@@ -200,130 +215,6 @@ where
         }
     }
 
-    /// A window over a copy of the items.
-    fn slice(&mut self, items: Vec<S::Item, A>) -> TableReply<S::Item, A>
-        ensures rows { Step (setting_of L.STATIC L.clone_wants S.DROPS S.boundary
-            (type_size S.Item.row) S.Zero.zero) self.old.table
-            (command.Slice items.items) (seen_reply result) self.new.table }
-        ensures passes { Adds self.old.table self.old.standing (command.Slice items.items)
-            (seen_reply result) self.new.standing }
-    {
-        if make_room(&mut self.slots, &mut self.passes.of_blocks).is_err() {
-            return Reply::Alloc;
-        }
-        let mut pass = Pass::none();
-        let Ok(window) = ArcSlice::try_from_slice_as(self.alloc, &items, &mut pass) else {
-            return Reply::Alloc;
-        };
-        let number = self.slots.len();
-        if stands_on_nothing::<L>(items.len()) {
-            self.slots.push_reserved(Some(Slot {
-                window: Held::Read(window),
-                block: None,
-            }));
-            return Reply::New(number);
-        }
-        let block = Some(self.passes.of_blocks.len());
-        self.passes.of_blocks.push_reserved(pass);
-        let window = Held::Read(window);
-        self.slots.push_reserved(Some(Slot { window, block }));
-        Reply::New(number)
-    }
-
-    /// A window over a slice that is there for good. `Kind` where the layout has no static data.
-    /// Takes memory for the new slot; refused, the answer is `Alloc`.
-    fn static_window(&mut self, items: StaticSlice<S::Item>) -> TableReply<S::Item, A>
-        ensures rows { Step (setting_of L.STATIC L.clone_wants S.DROPS S.boundary
-            (type_size S.Item.row) S.Zero.zero) self.old.table
-            (command.Static items) (seen_reply result) self.new.table }
-        ensures passes { Adds self.old.table self.old.standing (command.Static items)
-            (seen_reply result) self.new.standing }
-    {
-        if !L::STATIC {
-            return Reply::Kind;
-        }
-        if self.slots.reserve(1).is_err() {
-            return Reply::Alloc;
-        }
-        let number = self.slots.len();
-        self.slots
-            .push_reserved(Some(Slot::on_static(self.alloc, items)));
-        Reply::New(number)
-    }
-
-    /// Hands out a part of a window under the next number. `NoWindow` where the window isn't there,
-    /// `Kind` where it is written, `Range` where it has no such part, `Owner` where the part can't
-    /// have an owner of its own. Takes memory for the new slot; refused, the answer is `Alloc`.
-    fn hand_out(&mut self, rt: &impl Wait, i: usize, part: Part) -> TableReply<S::Item, A>
-        ensures rows { Step (setting_of L.STATIC L.clone_wants S.DROPS S.boundary
-            (type_size S.Item.row) S.Zero.zero) self.old.table
-            (part_command i part) (seen_reply result) self.new.table }
-        ensures passes { Adds self.old.table self.old.standing (part_command i part)
-            (seen_reply result) self.new.standing }
-    {
-        let Some(slot) = slot_at(&self.slots, i) else {
-            return Reply::NoWindow;
-        };
-        if slot.is_written() {
-            return Reply::Kind;
-        }
-        if let Err(e) = slot.check_part(part) {
-            return Reply::Range(e);
-        }
-        if self.slots.reserve(1).is_err() {
-            return Reply::Alloc;
-        }
-        let Some(slot) = &mut self.slots[i] else {
-            unreachable!()
-        };
-        match slot.try_part(rt, part, &mut self.passes) {
-            Ok(slot) => {
-                let number = self.slots.len();
-                self.slots.push_reserved(Some(slot));
-                Reply::New(number)
-            }
-            Err(e) => Reply::Owner(e),
-        }
-    }
-
-    /// Whether a window is the only owner of its block. `No` where it stands on no block.
-    fn uniq(&mut self, i: usize) -> TableReply<S::Item, A>
-        ensures rows { Step (setting_of L.STATIC L.clone_wants S.DROPS S.boundary
-            (type_size S.Item.row) S.Zero.zero) self.old.table
-            (command.Uniq i) (seen_reply result) self.new.table }
-        ensures passes { Adds self.old.table self.old.standing (command.Uniq i) (seen_reply result)
-            self.new.standing }
-    {
-        let Some(slot) = slot_at(&self.slots, i) else {
-            return Reply::NoWindow;
-        };
-        if slot.is_written() {
-            return Reply::Kind;
-        }
-        let alone = slot.is_unique(&mut self.passes);
-        if alone {
-            return Reply::Yes;
-        }
-        Reply::No
-    }
-
-    /// The items of a window.
-    fn show(&self, i: usize) -> TableReply<S::Item, A>
-        ensures rows { Step (setting_of L.STATIC L.clone_wants S.DROPS S.boundary
-            (type_size S.Item.row) S.Zero.zero) self.now.table
-            (command.Show i) (seen_reply result) self.now.table }
-        ensures passes { Adds self.now.table self.now.standing (command.Show i) (seen_reply result)
-            self.now.standing }
-    {
-        let Some(slot) = slot_at(&self.slots, i) else {
-            return Reply::NoWindow;
-        };
-        match Vec::from_slice(self.alloc, slot.as_slice()) {
-            Ok(items) => Reply::Items(items),
-            Err(_) => Reply::Alloc,
-        }
-    }
-
     /// Carries out a `Cmd::Show`, and answers with the items where they stand in the window. Takes
     /// no memory.
     pub fn show_in_place(&self, i: usize) -> Reply<&[S::Item], StaticSlice<S::Item>>
@@ -335,72 +226,15 @@ where
     {
         self.agree();
         match slot_at(&self.slots, i) {
-            Some(slot) => Reply::Items(slot.as_slice()),
+            Some(slot) => {
+                slot.known_role();
+                Reply::Items(slot.as_slice())
+            }
             None => Reply::NoWindow,
         }
     }
 
-    /// How many items a window has.
-    fn len(&self, i: usize) -> TableReply<S::Item, A>
-        ensures rows { Step (setting_of L.STATIC L.clone_wants S.DROPS S.boundary
-            (type_size S.Item.row) S.Zero.zero) self.now.table
-            (command.Len i) (seen_reply result) self.now.table }
-        ensures passes { Adds self.now.table self.now.standing (command.Len i) (seen_reply result)
-            self.now.standing }
-    {
-        match slot_at(&self.slots, i) {
-            Some(slot) => Reply::Number(slot.len()),
-            None => Reply::NoWindow,
-        }
-    }
-
-    /// Takes the first `by` items off a window.
-    fn advance(&mut self, i: usize, by: usize) -> TableReply<S::Item, A>
-        ensures rows { Step (setting_of L.STATIC L.clone_wants S.DROPS S.boundary
-            (type_size S.Item.row) S.Zero.zero) self.old.table
-            (command.Adv i by) (seen_reply result) self.new.table }
-        ensures passes { Adds self.old.table self.old.standing (command.Adv i by)
-            (seen_reply result) self.new.standing }
-    {
-        let Some(slot) = slot_at(&self.slots, i) else {
-            return Reply::NoWindow;
-        };
-        if let Err(e) = slot.check_at(by) {
-            return Reply::Range(e);
-        }
-        let Some(slot) = &mut self.slots[i] else {
-            unreachable!()
-        };
-        slot.advance(by);
-        Reply::Ok
-    }
-
-    /// Leaves the first `len` items of a window, or all where it has no more.
-    fn truncate(&mut self, i: usize, len: usize) -> TableReply<S::Item, A>
-        ensures rows { Step (setting_of L.STATIC L.clone_wants S.DROPS S.boundary
-            (type_size S.Item.row) S.Zero.zero) self.old.table
-            (command.Trunc i len) (seen_reply result) self.new.table }
-        ensures passes { Adds self.old.table self.old.standing (command.Trunc i len)
-            (seen_reply result) self.new.standing }
-    {
-        let Some(slot) = slot_at(&self.slots, i) else {
-            return Reply::NoWindow;
-        };
-        if len >= slot.len() {
-            return Reply::Ok;
-        }
-        if let Err(e) = slot.check_at(len) {
-            return Reply::Range(e);
-        }
-        let Some(slot) = &mut self.slots[i] else {
-            unreachable!()
-        };
-        slot.truncate(len);
-        Reply::Ok
-    }
-
-    /// The end of a window.
-    #[inline(always)]
+    /// The end of a window, if one has this number.
     fn release(&mut self, i: usize) -> TableReply<S::Item, A>
         ensures rows { Step (setting_of L.STATIC L.clone_wants S.DROPS S.boundary
             (type_size S.Item.row) S.Zero.zero) self.old.table
@@ -410,40 +244,11 @@ where
         ensures gone { self.new.table.rows ≡ slice_set self.old.table.rows i None }
         ensures blocks { self.new.table.blocks ≡ self.old.table.blocks }
     {
-        let Some(_) = slot_at(&self.slots, i) else {
+        if i >= self.slots.len() {
             return Reply::NoWindow;
-        };
-        let Some(slot) = mem::replace(&mut self.slots[i], None) else {
-            unreachable!()
-        };
-        slot.release(&mut self.passes);
-        Reply::Ok
-    }
-
-    /// The slice on which a window stands that is on no block, and the window's end. `Kind` where
-    /// it is written, `Refused` where it stands on a block. Takes no memory.
-    fn take_static(&mut self, i: usize) -> TableReply<S::Item, A>
-        ensures rows { Step (setting_of L.STATIC L.clone_wants S.DROPS S.boundary
-            (type_size S.Item.row) S.Zero.zero) self.old.table
-            (command.TakeStatic i) (seen_reply result) self.new.table }
-        ensures passes { Adds self.old.table self.old.standing (command.TakeStatic i)
-            (seen_reply result) self.new.standing }
-    {
-        let Some(slot) = slot_at(&self.slots, i) else {
-            return Reply::NoWindow;
-        };
-        if slot.is_written() {
-            return Reply::Kind;
         }
-        if slot.is_on_block() {
-            return Reply::Refused;
-        }
-        let Some(slot) = mem::replace(&mut self.slots[i], None) else {
-            unreachable!()
-        };
-        Reply::Static(slot.into_static())
+        drop_at(&mut self.slots[i], &mut self.passes)
     }
 }
 
 mod run;
-mod writers;

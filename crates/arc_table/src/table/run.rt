@@ -6,8 +6,8 @@ ghost use Rattle.std.specs.Vec.{vec_len};
 use super::Table;
 use arc_block::layout::{Layout, LayoutMut};
 use arc_commands::command::{TableCmd, TableReply};
-use arc_slots::kinds::Commands;
 use arc_owners::error::AllocError;
+use arc_slots::kinds::Commands;
 use std::alloc::Allocator;
 use std::sync::Wait;
 

@@ -2,19 +2,21 @@
 use Rattle.std.specs.Mem.{type_size}
 use Rattle.std.proofs.Common.{slice_get, refl, sym, ap, ◌∙◌, subst}
 use Rattle.std.specs.Option.{option_flatten}
+use Rattle.arc_commands.specs.Additions.{Adds}
 use Rattle.arc_commands.specs.State.{State}
-use Rattle.arc_slots.specs.Slots.{state_of}
-use Rattle.arc_commands.specs.Step.{Setting, Step, no_shortage, setting_of}
+use Rattle.arc_commands.specs.Step.{Setting, Step, setting_of}
 use Rattle.arc_commands.specs.declared.command.Cmd.TheVariants as command
 use Rattle.arc_commands.specs.declared.command.Reply.TheVariants as reply
-use Rattle.arc_table.proofs.Rows.{show-answers}
-use Rattle.arc_table.proofs.Tables.{unanswered}
+use Rattle.arc_slots.specs.Slots.{state_of}
+use Rattle.arc_table.proofs.Done.{Done}
+use Rattle.arc_table.proofs.Stepped.{shown-there, unanswered}
 use Rattle.arc_table.proofs.table.Table.show_in_place.Given.{Over}
 use Rattle.arc_table.proofs.table.Table.show_in_place.Goals as goal
 
 abbrev setting : (g : Over) → Setting g.row.S-Item.Denot
 setting g =
-    setting_of g.L.Layout.STATIC g.L.Layout.clone_wants g.S.Slice.DROPS g.S.Subsliceable.boundary (type_size g.row.S-Item) g.S.Zero.ZeroOf.zero
+    setting_of g.L.Layout.STATIC g.L.Layout.clone_wants g.S.Slice.DROPS g.S.Subsliceable.boundary
+    (type_size g.row.S-Item) g.S.Zero.ZeroOf.zero
 
 pub returns-in-Some-clause-carried : goal.returns-in-Some-clause-carried
 returns-in-Some-clause-carried g c =
@@ -22,15 +24,19 @@ returns-in-Some-clause-carried g c =
     let passes = c.self.inside.passes.of_blocks.items in
     let i = c.args.i in
     let there = ap (λ ss. slice_get ss i) (sym c.deref.ensures.value) ∙ c.in-Some.ensures in
-    let t = (state_of slots passes).table in
+    let all =
+    subst (λ xs. Done (setting g) (state_of slots passes) (command.Show i) (reply.Items xs) slots
+    passes) (sym c.as_slice.ensures)
+    (shown-there (setting g) slots passes c.self.invariant i c.in-Some.slot.now there
+    c.known_role.ensures) in
     record {
       rows =
           subst (λ (o : State g.row.S-Item.Denot g.row.M.Denot).
           Step (setting g) o.table (command.Show i) (reply.Items c.as_slice.result.now) o.table)
-          c.self.view_is
-          (show-answers (setting g) slots passes i c.in-Some.slot.now there no_shortage
-          ∙ ap (λ xs. (reply.Items xs, t)) (sym c.as_slice.ensures));
-      passes = refl;
+          c.self.view_is all.rows;
+      passes =
+          subst (λ (o : State g.row.S-Item.Denot g.row.M.Denot). Adds o.table o.standing (command.Show i)
+          (reply.Items c.as_slice.result.now) o.standing) c.self.view_is all.passes_are;
       agree = c.agree.ensures.stands;
     }
 
@@ -41,11 +47,16 @@ returns-in-None-clause-carried g c =
     let none =
     ap (λ ss. option_flatten (slice_get ss c.args.i)) (sym c.deref.ensures.value)
     ∙ c.in-None.ensures in
+    let all =
+    unanswered (setting g) slots passes c.self.invariant c.args.i none (command.Show c.args.i)
+    refl in
     record {
       rows =
           subst (λ (o : State g.row.S-Item.Denot g.row.M.Denot).
           Step (setting g) o.table (command.Show c.args.i) reply.NoWindow o.table) c.self.view_is
-          (unanswered slots passes c.args.i (command.Show c.args.i) _ none);
-      passes = refl;
+          all.rows;
+      passes =
+          subst (λ (o : State g.row.S-Item.Denot g.row.M.Denot). Adds o.table o.standing (command.Show c.args.i)
+          reply.NoWindow o.standing) c.self.view_is all.passes_are;
       agree = c.agree.ensures.stands;
     }

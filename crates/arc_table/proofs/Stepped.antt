@@ -1,0 +1,379 @@
+-- What a slot is answered, as a step of its table.
+use Rattle.std.proofs.Common.{◌≡◌, ℕ, zero, suc, ◌==◌, Bool, true, false, if◌then◌else◌, List, []}
+use Rattle.std.proofs.Common.{◌∷◌, ◌++◌, length, map, Option, Some, None, is_some, slice_get}
+use Rattle.std.proofs.Common.{slice_set, slice_index_or, refl, sym, ap, ◌∙◌, subst, arith, inl, inr}
+use Rattle.std.proofs.Common.{◌<◌, ◌≤◌}
+use Rattle.std.specs.Prelude.{MatchOption, IfSome}
+use Rattle.std.specs.Option.{option_map, option_map_or, option_flatten}
+use Rattle.std.proofs.lemmas.List.{map-append, length-append, length-map}
+use Rattle.std.proofs.lemmas.Option.{none-some, same_Some, slice_get-map, slice_get_cases}
+use Rattle.std.proofs.lemmas.Option.{slice_get_read}
+use Rattle.arc_owners.specs.declared.mark.Whole.{Whole}
+use Rattle.arc_owners.specs.declared.count.tokens.Pass.{Pass}
+use Rattle.arc_block.specs.declared.block.TheConstants.{MAX_OWNERS}
+use Rattle.arc_block.specs.Owned.{Stand, IsKept, owners_on}
+use Rattle.arc_block.specs.Place.{Place, nowhere, static_data, on_block}
+use Rattle.arc_block.specs.Table.{Row, Table, block_of, is_alone, owners, reader, row_at}
+use Rattle.arc_commands.specs.Blocks.{is_sole}
+use Rattle.arc_commands.specs.Additions.{AddsBy, Founds, MakerAdds, RowAdds, Standing, stand_in}
+use Rattle.arc_commands.specs.Additions.{with_stand}
+use Rattle.arc_commands.specs.State.{State}
+use Rattle.arc_commands.specs.Step.{Setting, Shortage, Around, around_of, answer_any, answer_by}
+use Rattle.arc_commands.specs.Step.{changed, founded, is_full, no_shortage, of_table, row_by}
+use Rattle.arc_commands.specs.Step.{shortage, static_row, window_of, with_block, with_row}
+use Rattle.arc_commands.specs.declared.command.Cmd.{Cmd}
+use Rattle.arc_commands.specs.declared.command.Cmd.TheVariants as command
+use Rattle.arc_commands.specs.declared.command.Reply.{Reply}
+use Rattle.arc_commands.specs.declared.command.Reply.TheVariants as reply
+use Rattle.arc_slots.specs.Answers.{Answers, around_in, live_on}
+use Rattle.arc_slots.specs.Makers.{Makes}
+use Rattle.arc_slots.specs.Slots.{SlotView, row_of, stand_of, stands_of, state_of, with_slot}
+use Rattle.arc_slots.proofs.Keeps.{founded-kept, known-pass, many-live, row-kept}
+use Rattle.arc_slots.specs.Stands.{HasPassFor}
+use Rattle.arc_slots.proofs.Answered.{for-each, shown}
+use Rattle.arc_slots.proofs.Taken.{set-back}
+use Rattle.arc_slots.proofs.Told.{none-stands, row-block, stand_block}
+use Rattle.arc_table.proofs.Done.{Done, Fact, done}
+use Rattle.arc_table.proofs.Places.{rows-counted}
+
+-- a place may be set before each is changed, or after
+map-slice_set : {X Y : Type 0} (f : X → Y) (xs : List X) (i : ℕ) (x : X)
+    → map f (slice_set xs i x) ≡ slice_set (map f xs) i (f x)
+map-slice_set f [] i x = refl
+map-slice_set f (y ∷ ys) zero x = refl
+map-slice_set f (y ∷ ys) (suc i) x = ap (λ zs. f y ∷ zs) (map-slice_set f ys i x)
+
+-- a row is alone, and its block full, by how many rows stand there; never on no block
+alone-at : {T M : Type 0} (t : Table T M) (place : Place ℕ M) (b : Option ℕ)
+    → block_of place ≡ b → is_alone t place ≡ option_map_or (λ n. owners t n == 1) b false
+alone-at t nowhere b is = ap (λ x. option_map_or (λ n. owners t n == 1) x false) is
+alone-at t static_data b is = ap (λ x. option_map_or (λ n. owners t n == 1) x false) is
+alone-at t (on_block n offset facts) b is =
+    ap (λ x. option_map_or (λ n. owners t n == 1) x false) is
+
+module _ {T M : Type 0} where
+  -- the rows, and the stands, of slots of which one changed and to which one was added
+  rows-with : (slots : List (Option (SlotView T M))) (made : Option (SlotView T M))
+      → map (option_map row_of) (with_slot slots made)
+      ≡ with_row (map (option_map row_of) slots) (option_map row_of made)
+  rows-with slots None = refl
+  rows-with slots (Some s) = map-append (option_map row_of) slots (Some s ∷ [])
+
+  stands-with : (slots : List (Option (SlotView T M))) (made : Option (SlotView T M))
+      → stands_of (with_slot slots made)
+      ≡ with_stand (stands_of slots) (option_map (λ s. stand_of (Some s)) made)
+  stands-with slots None = refl
+  stands-with slots (Some s) = map-append stand_of slots (Some s ∷ [])
+
+  -- a slot that is taken out
+  pub gone-rows : (slots : List (Option (SlotView T M))) (i : ℕ) (new : Option (SlotView T M))
+      → new ≡ None → map (option_map row_of) (slice_set slots i new)
+      ≡ slice_set (map (option_map row_of) slots) i None
+  gone-rows slots i new gone =
+      map-slice_set (option_map row_of) slots i new
+      ∙ ap (λ x. slice_set (map (option_map row_of) slots) i (option_map row_of x)) gone
+
+  no-row : (x : Option (Option (SlotView T M))) → option_flatten x ≡ None
+      → option_flatten (option_map (option_map row_of) x) ≡ None
+  no-row None none = refl
+  no-row (Some None) none = refl
+  no-row (Some (Some s)) none = cc
+
+module _ {T M : Type 0} (setting : Setting T) (slots : List (Option (SlotView T M)))
+    (passes : List (Pass Whole)) (fact : Fact slots passes) where
+  abbrev old : State T M
+  old = state_of slots passes
+
+  abbrev t : Table T M
+  t = old.table
+
+  abbrev Command : Type 0
+  Command = Cmd (List T) (List T) T
+
+  -- ---- a command on a window
+
+  module _ (i : ℕ) (s : SlotView T M) (there : slice_get slots i ≡ Some (Some s)) where
+    abbrev here : Stand
+    here = stand_of (Some s)
+
+    row-there : row_at t i ≡ Some (row_of s)
+    row-there =
+        ap option_flatten (slice_get-map (option_map row_of) slots i
+        ∙ ap (option_map (option_map row_of)) there)
+
+    stand-at : slice_get (stands_of slots) i ≡ Some here
+    stand-at = slice_get-map stand_of slots i ∙ ap (option_map stand_of) there
+
+    stand-is : stand_in old.standing i ≡ here
+    stand-is = ap option_flatten stand-at
+
+    -- so many rows stand on its block as owners of that live
+    owners-live : (st : Stand) → here ≡ st → (test : ℕ → Bool) → test 0 ≡ false
+        → test (live_on passes here)
+        ≡ option_map_or (λ n. test (owners t n)) (stand_block st) false
+    owners-live None is test none = ap (λ st. test (live_on passes st)) is ∙ none
+    owners-live (Some (n, o)) is test none =
+        ap (λ st. test (live_on passes st)) is
+        ∙ ap test (sym (rows-counted slots passes n
+        ∙ many-live (stands_of slots) passes fact.0 i n o (stand-at ∙ ap Some is)))
+
+    -- what the window knows of its table by the passes is what its row knows
+    around-is : around_in (length slots) passes here ≡ around_of t (row_of s)
+    around-is =
+        let alone : (live_on passes here == 1) ≡ is_alone t (row_of s).place =
+        owners-live here refl (λ n. n == 1) refl
+        ∙ sym (alone-at t (row_of s).place (stand_block here) (row-block s)) in
+        let full : (live_on passes here == MAX_OWNERS) ≡ is_full t (row_of s).place =
+        owners-live here refl (λ n. n == MAX_OWNERS) refl
+        ∙ ap (λ b. option_map_or (λ n. owners t n == MAX_OWNERS) b false) (sym (row-block s)) in
+        ap {B = Around} (λ b. record {
+          alone = b;
+          full = live_on passes here == MAX_OWNERS;
+          blocks = length passes;
+          windows = length slots;
+        }) alone
+        ∙ ap {B = Around} (λ b. record {
+          alone = is_alone t (row_of s).place;
+          full = b;
+          blocks = length passes;
+          windows = length slots;
+        }) full
+        ∙ ap {B = Around} (λ n. record {
+          alone = is_alone t (row_of s).place;
+          full = is_full t (row_of s).place;
+          blocks = length passes;
+          windows = n;
+        }) (sym (length-map slots (option_map row_of)))
+
+    pub answered : (c : Command) → window_of c ≡ Some i → (r : Reply (List T) (List T))
+        (new made : Option (SlotView T M)) (passes' : List (Pass Whole))
+        → Answers setting (length slots) c s passes r new made passes'
+        → Done setting old c r (with_slot (slice_set slots i new) made) passes'
+    answered c on r new made passes' said =
+        let slots' = with_slot (slice_set slots i new) made in
+        let stands : stands_of slots' ≡ with_stand (slice_set (stands_of slots) i (stand_of new))
+        (option_map (λ s. stand_of (Some s)) made) =
+        stands-with (slice_set slots i new) made
+        ∙ ap (λ ss. with_stand ss (option_map (λ s. stand_of (Some s)) made))
+        (map-slice_set stand_of slots i new) in
+        let rows : with_row (slice_set t.rows i (option_map row_of new)) (option_map row_of made)
+        ≡ map (option_map row_of) slots' =
+        sym (rows-with (slice_set slots i new) made
+        ∙ ap (λ rs. with_row rs (option_map row_of made))
+        (map-slice_set (option_map row_of) slots i new)) in
+        done fact.1
+        (subst (λ ss. IsKept MAX_OWNERS ss passes') (sym stands)
+        (row-kept (stands_of slots) passes fact.0 i here stand-at passes' (stand_of new)
+        (option_map (λ s. stand_of (Some s)) made) (row_of s) c r said.adds))
+        (ap (answer_by setting (shortage r c) t c) on
+        ∙ ap (λ x. option_map_or (λ row.
+        changed t i (answer_any setting (shortage r c) (around_of t row) c row)) x
+        (reply.NoWindow, t)) row-there
+        ∙ ap (λ a. changed t i (answer_any setting (shortage r c) a c (row_of s))) (sym around-is)
+        ∙ ap (changed t i) said.change
+        ∙ ap (λ rs. (r, record { rows = rs; blocks = with_block said.begins (length passes) })) rows
+        ∙ ap (λ n. (r, record { rows = map (option_map row_of) slots'; blocks = n }))
+        (sym said.blocks))
+        (subst (AddsBy t old.standing c r (state_of slots' passes').standing) (sym on)
+        (subst (λ x. MatchOption x
+        ((state_of slots' passes').standing ≡ old.standing) (λ row.
+        (there : Stand) × (made : Option Stand)
+        × RowAdds (stand_in old.standing i) there made passes passes' row c r
+        × (stands_of slots' ≡ with_stand (slice_set (stands_of slots) i there) made)))
+        (sym row-there) (
+          stand_of new,
+          option_map (λ s. stand_of (Some s)) made,
+          subst (λ st. RowAdds st (stand_of new) (option_map (λ s. stand_of (Some s)) made) passes
+              passes' (row_of s) c r) (sym stand-is) said.adds,
+          stands,
+        )))
+
+  -- there is no window
+  pub unanswered : (i : ℕ) → option_flatten (slice_get slots i) ≡ None → (c : Command)
+      → window_of c ≡ Some i → Done setting old c reply.NoWindow slots passes
+  unanswered i none c on =
+      let row : row_at t i ≡ None =
+      ap option_flatten (slice_get-map (option_map row_of) slots i)
+      ∙ no-row (slice_get slots i) none in
+      done fact.1 fact.0
+      (ap (answer_by setting no_shortage t c) on
+      ∙ ap (λ x. option_map_or (λ row.
+      changed t i (answer_any setting no_shortage (around_of t row) c row)) x
+      (reply.NoWindow, t)) row)
+      (subst (AddsBy t old.standing c reply.NoWindow old.standing) (sym on)
+      (subst (λ x. MatchOption x (old.standing ≡ old.standing) (λ row.
+      (there : Stand) × (made : Option Stand)
+      × RowAdds (stand_in old.standing i) there made passes passes row c reply.NoWindow
+      × (stands_of slots ≡ with_stand (slice_set (stands_of slots) i there) made)))
+      (sym row) refl))
+
+  -- ---- a command that makes a window of what it brings
+
+  maker-kind : (c : Command) → MakerAdds c reply.Kind None passes passes
+  maker-kind (command.Static items) = (refl, refl)
+  maker-kind other = (refl, refl)
+
+  maker-alloc : (c : Command) → MakerAdds c reply.Alloc None passes passes
+  maker-alloc (command.Static items) = (refl, refl)
+  maker-alloc other = (refl, refl)
+
+  founds-many : (st : Stand) (passes' : List (Pass Whole)) → Founds st passes passes'
+      → length passes' ≡ with_block (is_some (stand_block st)) (length passes)
+  founds-many None passes' founds = ap length founds
+  founds-many (Some (number, o)) passes' founds =
+      ap length founds.4 ∙ length-append passes (founds.2 ∷ [])
+
+  -- none was made
+  unmade : (c : Command) → window_of c ≡ None → (r : Reply (List T) (List T))
+      → MatchOption (row_by {M = M} setting (length passes) c) (r ≡ reply.Kind)
+      (λ row. r ≡ reply.Alloc) → Done setting old c r slots passes
+  unmade c on r why = at (row_by setting (length passes) c) refl why
+    where
+      at : (x : Option (Row T M)) → row_by setting (length passes) c ≡ x
+          → MatchOption x (r ≡ reply.Kind) (λ row. r ≡ reply.Alloc)
+          → Done setting old c r slots passes
+      at None is why =
+          subst (λ r. Done setting old c r slots passes) (sym why)
+          (done fact.1 fact.0
+          (ap (answer_by setting no_shortage t c) on
+          ∙ ap (λ x. option_map_or (founded no_shortage t) x (reply.Kind, t)) is)
+          (subst (AddsBy t old.standing c reply.Kind old.standing) (sym on)
+          (None, maker-kind c, refl)))
+      at (Some row) is why =
+          subst (λ r. Done setting old c r slots passes) (sym why)
+          (done fact.1 fact.0
+          (ap (answer_by setting of_table t c) on
+          ∙ ap (λ x. option_map_or (founded of_table t) x (reply.Kind, t)) is)
+          (subst (AddsBy t old.standing c reply.Alloc old.standing) (sym on)
+          (None, maker-alloc c, refl)))
+
+  module _ (s : SlotView T M) (passes' : List (Pass Whole))
+      (founds : Founds (stand_of (Some s)) passes passes') where
+    abbrev stand : Stand
+    stand = stand_of (Some s)
+
+    static-stand : (has_static : Bool) (items : List T)
+        → (if has_static then Some (static_row items) else None) ≡ Some (row_of s) → stand ≡ None
+    static-stand true items is =
+        none-stands stand (ap is_some (sym (row-block s))
+        ∙ ap (λ (r : Row T M). is_some (block_of r.place)) (sym (same_Some _ _ is)))
+    static-stand false items is = absurd (none-some (row_of s) is)
+
+    maker-adds : (c : Command) → row_by setting (length passes) c ≡ Some (row_of s) → (n : ℕ)
+        → MakerAdds c (reply.New n) (Some stand) passes passes'
+    maker-adds (command.Static items) is n =
+        let none = static-stand setting.has_static items is in
+        (ap Some none, subst (λ st. Founds st passes passes') none founds)
+    maker-adds other is n = (stand, refl, founds)
+
+    -- it was made
+    founds-row : (c : Command) → window_of c ≡ None
+        → row_by setting (length passes) c ≡ Some (row_of s)
+        → Done setting old c (reply.New (length slots)) (slots ++ Some s ∷ []) passes'
+    founds-row c on is =
+        let slots' = slots ++ Some s ∷ [] in
+        let stands : stands_of slots' ≡ stands_of slots ++ stand ∷ [] =
+        map-append stand_of slots (Some s ∷ []) in
+        let many : with_block (is_some (block_of (row_of s).place)) (length passes)
+        ≡ length passes' =
+        ap (λ b. with_block (is_some b) (length passes)) (row-block s)
+        ∙ sym (founds-many stand passes' founds) in
+        done fact.1
+        (subst (λ ss. IsKept MAX_OWNERS ss passes') (sym stands)
+        (founded-kept (stands_of slots) passes fact.0 0 stand passes' founds))
+        (ap (answer_by setting no_shortage t c) on
+        ∙ ap (λ x. option_map_or (founded no_shortage t) x (reply.Kind, t)) is
+        ∙ ap (λ n. (
+          reply.New n,
+          record {
+            rows = t.rows ++ Some (row_of s) ∷ [];
+            blocks = with_block (is_some (block_of (row_of s).place)) (length passes);
+          },
+        )) (length-map slots (option_map row_of))
+        ∙ ap (λ rs. (
+          reply.New (length slots),
+          record {
+            rows = rs;
+            blocks = with_block (is_some (block_of (row_of s).place)) (length passes);
+          },
+        )) (sym (map-append (option_map row_of) slots (Some s ∷ [])))
+        ∙ ap (λ n. (
+          reply.New (length slots),
+          record { rows = map (option_map row_of) slots'; blocks = n },
+        )) many)
+        (subst (AddsBy t old.standing c (reply.New (length slots))
+        (state_of slots' passes').standing) (sym on)
+        (Some stand, maker-adds c is (length slots), stands))
+
+  pub made-window : (c : Command) → window_of c ≡ None → (r : Reply (List T) (List T))
+      (made : Option (SlotView T M)) (passes' : List (Pass Whole))
+      → Makes setting (length slots) c passes r made passes'
+      → Done setting old c r (with_slot slots made) passes'
+  made-window c on r None passes' makes =
+      subst (Done setting old c r slots) (sym makes.said.0) (unmade c on r makes.said.1)
+  made-window c on r (Some s) passes' makes =
+      subst (λ r. Done setting old c r (slots ++ Some s ∷ []) passes') (sym makes.said.1)
+      (founds-row s passes' makes.said.2 c on makes.said.0)
+
+  -- what stands under a number was carried out on, if it is a window
+  module _ (i : ℕ) (place : Option (SlotView T M)) (at : slice_get slots i ≡ Some place) where
+    pub known : HasPassFor passes (stand_of place)
+    known =
+        known-pass (stands_of slots) passes fact.0 i (stand_of place)
+        (slice_get-map stand_of slots i ∙ ap (option_map stand_of) at)
+
+    pub carried : (c : Command) → window_of c ≡ Some i → (r : Reply (List T) (List T))
+        (new made : Option (SlotView T M)) (passes' : List (Pass Whole))
+        → IfSome place (λ s. Answers setting (length slots) c s passes r new made passes')
+        → (place ≡ None → (r ≡ reply.NoWindow) × (made ≡ None) × (new ≡ None)
+        × (passes' ≡ passes))
+        → Done setting old c r (with_slot (slice_set slots i new) made) passes'
+    carried c on r new made passes' some none = by place refl some
+      where
+        by : (x : Option (SlotView T M)) → place ≡ x
+            → IfSome x (λ s. Answers setting (length slots) c s passes r new made passes')
+            → Done setting old c r (with_slot (slice_set slots i new) made) passes'
+        by (Some s) is said = answered i s (at ∙ ap Some is) c on r new made passes' said
+        by None is said =
+            let so = none is in
+            let back : with_slot (slice_set slots i new) made ≡ slots =
+            ap (with_slot (slice_set slots i new)) so.1
+            ∙ ap (slice_set slots i) so.2 ∙ set-back slots i None (at ∙ ap Some is) in
+            subst (λ ss. Done setting old c r ss passes') (sym back)
+            (subst (λ ps. Done setting old c r slots ps) (sym so.3)
+            (subst (λ r. Done setting old c r slots passes) (sym so.0)
+            (unanswered i (ap option_flatten (at ∙ ap Some is)) c on)))
+
+  -- what is said of each count of windows is said of this one
+  pub ended : (i : ℕ) (place : Option (SlotView T M)) (r : Reply (List T) (List T))
+      (new : Option (SlotView T M)) (passes' : List (Pass Whole))
+      → IfSome place (λ s. (next j : ℕ) → Answers setting next (command.Drop j) s passes r new None
+      passes')
+      → IfSome place (λ s. Answers setting (length slots) (command.Drop i) s passes r new None
+      passes')
+  ended i None r new passes' said = said
+  ended i (Some s) r new passes' said = said (length slots) i
+
+  -- a window that is shown stays
+  pub shown-there : (i : ℕ) (s : SlotView T M) → slice_get slots i ≡ Some (Some s)
+      → (is_sole s.role ≡ false → s.role ≡ reader)
+      → Done setting old (command.Show i) (reply.Items s.window.items) slots passes
+  shown-there i s there role =
+      subst (λ ss. Done setting old (command.Show i) (reply.Items s.window.items) ss passes)
+      (set-back slots i (Some s) there)
+      (answered i s there (command.Show i) refl (reply.Items s.window.items) (Some s) None passes
+      (shown setting (length slots) s passes i
+      (for-each setting (length slots) s passes role (command.Show i) refl (λ n. refl))))
+
+-- what stands at a place within a list
+pub at-place : {X : Type 0} (xs : List X) (i : ℕ) (x : X) → i < length xs
+    → x ≡ slice_index_or xs i x → slice_get xs i ≡ Some x
+at-place xs i x within read = slice_get_read xs (length xs) i x refl within read
+
+-- nothing stands past its end
+pub past-end : {X : Type 0} (xs : List (Option X)) (i : ℕ) → length xs ≤ i
+    → option_flatten (slice_get xs i) ≡ None
+past-end xs i past = elim (slice_get_cases xs i).1 [
+  | inl there ↦ absurd (omega (arith, past, there.1))
+  | inr none ↦ ap option_flatten none.1
+]
