@@ -1,6 +1,6 @@
 -- Reading a line: its words, and the command that they say.
 use Rattle.std.specs.Prelude.{ℕ, ◌+◌, ◌*◌, ◌^◌, Bool, ◌==◌, ◌&&◌, ◌||◌, nat_lt, if◌then◌else◌}
-use Rattle.std.specs.Prelude.{List, [], ◌∷◌, Option, Some, None}
+use Rattle.std.specs.Prelude.{List, [], ◌∷◌, ◌++◌, Option, Some, None}
 use Rattle.std.specs.Prelude.{decimal, codes, map, true, false, IsTrue}
 use Rattle.std.specs.Borrow.{Bor}
 use Rattle.std.specs.Char.{digit_value}
@@ -173,21 +173,36 @@ reads verb.Push = entry (ANumber ∷ AByte ∷ []) (codes "push", command.Push)
 reads (verb.Items v) = entry (SomeItems ∷ []) (items_form v)
 reads verb.Ext = entry (ANumber ∷ SomeItems ∷ []) (codes "ext", command.Ext)
 
--- all forms, by their first words
-abbrev pub verbs : List (List ℕ × Verb)
-verbs = map (λ v. ((reads v).word, v)) (
+-- forms by their first words
+abbrev pub by_word : List Verb → List (List ℕ × Verb)
+by_word vs = map (λ v. ((reads v).word, v)) vs
+
+-- all forms, in four groups: those of windows that most lines are about, cuts and lengths, what
+-- makes windows, and the others
+abbrev pub usual_verbs : List (List ℕ × Verb)
+usual_verbs = by_word (
     verb.Number one.Show ∷ verb.Number one.Drop ∷ verb.Items items.Slice ∷ verb.Number one.Clone ∷
-    verb.Sub ∷ verb.Push ∷ verb.Ext ∷ verb.Numbers two.Off ∷ verb.Numbers two.To ∷
-    verb.Number one.Len ∷ verb.Numbers two.Adv ∷ verb.Numbers two.Trunc ∷ verb.Number one.Uniq ∷
+    verb.Sub ∷ verb.Push ∷ [])
+
+abbrev pub cut_verbs : List (List ℕ × Verb)
+cut_verbs = by_word (
+    verb.Ext ∷ verb.Numbers two.Off ∷ verb.Numbers two.To ∷ verb.Number one.Len ∷
+    verb.Numbers two.Adv ∷ verb.Numbers two.Trunc ∷ [])
+
+abbrev pub making_verbs : List (List ℕ × Verb)
+making_verbs = by_word (
     verb.Items items.MSlice ∷ verb.Bare bare.New ∷ verb.Number one.Cap ∷ verb.Number one.Zero ∷
-    verb.Numbers two.Res ∷ verb.Numbers two.Rec ∷ verb.Number one.Room ∷ verb.Number one.Freeze ∷
-    verb.Number one.Mut ∷ verb.Bare bare.Static ∷ verb.Number one.TakeStatic ∷ [])
+    verb.Bare bare.Static ∷ [])
 
--- a table of first words, where these are references
-abbrev pub lines : List (Bor (List ℕ) × Verb) → List (List ℕ × Verb)
-lines table = map (λ line. (line.0.now, line.1)) table
+abbrev pub other_verbs : List (List ℕ × Verb)
+other_verbs = by_word (
+    verb.Number one.Uniq ∷ verb.Numbers two.Res ∷ verb.Numbers two.Rec ∷ verb.Number one.Room ∷
+    verb.Number one.Freeze ∷ verb.Number one.Mut ∷ verb.Number one.TakeStatic ∷ [])
 
--- the form whose first word this is, in such a table
+abbrev pub verbs : List (List ℕ × Verb)
+verbs = usual_verbs ++ (cut_verbs ++ (making_verbs ++ other_verbs))
+
+-- the form whose first word this is, among these
 abbrev pub named : List ℕ → List (List ℕ × Verb) → Option Verb
 named word [] = None
 named word (line ∷ table) = if bytes_eq line.0 word then Some line.1 else named word table

@@ -12,7 +12,8 @@ ghost use Rattle.arc_commands.specs.Seen.{seen_command};
 ghost use Rattle.arc_commands.specs.declared.command.Cmd.{Cmd};
 ghost use Rattle.arc_forms.specs.Reading.{ANumber, SomeItems, BringsItems, command_of, first_by};
 ghost use Rattle.arc_forms.specs.Reading.{is_hex_digit, items_of, number_of, operand_of};
-ghost use Rattle.arc_forms.specs.Reading.{operands_of, pairs, words_in, lines, named, read_behind};
+ghost use Rattle.arc_forms.specs.Reading.{operands_of, pairs, words_in, named, read_behind};
+ghost use Rattle.arc_forms.specs.Reading.{cut_verbs, making_verbs, other_verbs, usual_verbs, verbs};
 ghost use Rattle.arc_forms.specs.Reading.{number_form, numbers_form};
 ghost use Rattle.arc_forms.specs.Reading.{AByte, byte_of, read_as};
 ghost use Rattle.arc_forms.specs.Reading.{words_of_line};
@@ -93,35 +94,6 @@ enum JustItems {
     Slice,
     MSlice,
 }
-
-/// The forms by their first words, in the order in which they are looked for: those that most lines
-/// have stand first.
-const VERBS: &[(&[u8], Verb)] = &[
-    (b"show", Verb::Number(OneNumber::Show)),
-    (b"drop", Verb::Number(OneNumber::Drop)),
-    (b"slice", Verb::Items(JustItems::Slice)),
-    (b"clone", Verb::Number(OneNumber::Clone)),
-    (b"sub", Verb::Sub),
-    (b"push", Verb::Push),
-    (b"ext", Verb::Ext),
-    (b"off", Verb::Numbers(TwoNumbers::Off)),
-    (b"to", Verb::Numbers(TwoNumbers::To)),
-    (b"len", Verb::Number(OneNumber::Len)),
-    (b"adv", Verb::Numbers(TwoNumbers::Adv)),
-    (b"trunc", Verb::Numbers(TwoNumbers::Trunc)),
-    (b"uniq", Verb::Number(OneNumber::Uniq)),
-    (b"mslice", Verb::Items(JustItems::MSlice)),
-    (b"new", Verb::Bare(Bare::New)),
-    (b"cap", Verb::Number(OneNumber::Cap)),
-    (b"zero", Verb::Number(OneNumber::Zero)),
-    (b"res", Verb::Numbers(TwoNumbers::Res)),
-    (b"rec", Verb::Numbers(TwoNumbers::Rec)),
-    (b"room", Verb::Number(OneNumber::Room)),
-    (b"freeze", Verb::Number(OneNumber::Freeze)),
-    (b"mut", Verb::Number(OneNumber::Mut)),
-    (b"static", Verb::Bare(Bare::Static)),
-    (b"takestatic", Verb::Number(OneNumber::TakeStatic)),
-];
 
 /// What is left of a line behind a word: `None` behind the last.
 type Rest<'a> = Option<&'a [u8]>;
@@ -303,16 +275,85 @@ fn one_hex(rest: Rest) -> Option<Hex>
     }
 }
 
-/// The form whose first word this is, in a table of first words.
-fn verb_in(table: &[(&[u8], Verb)], word: &[u8]) -> Option<Verb>
-    ensures { result ≡ named word.now (lines table.now) }
+/// The form whose first word this is. A match tests the length and then bytes; seven words are what
+/// the proof of one takes by search, so there are four.
+fn verb_named(word: &[u8]) -> Option<Verb>
+    ensures { result ≡ named word.now verbs }
 {
-    for (name, verb) in table {
-        if *name == word {
-            return Some(*verb);
-        }
+    if let Some(verb) = usual_verb_named(word) {
+        return Some(verb);
     }
-    None
+    if let Some(verb) = cut_verb_named(word) {
+        return Some(verb);
+    }
+    if let Some(verb) = making_verb_named(word) {
+        return Some(verb);
+    }
+    other_verb_named(word)
+}
+
+/// The form whose first word this is, of those that most lines have.
+#[inline(always)]
+fn usual_verb_named(word: &[u8]) -> Option<Verb>
+    ensures { result ≡ named word.now usual_verbs }
+{
+    match word {
+        b"show" => Some(Verb::Number(OneNumber::Show)),
+        b"drop" => Some(Verb::Number(OneNumber::Drop)),
+        b"slice" => Some(Verb::Items(JustItems::Slice)),
+        b"clone" => Some(Verb::Number(OneNumber::Clone)),
+        b"sub" => Some(Verb::Sub),
+        b"push" => Some(Verb::Push),
+        _ => None,
+    }
+}
+
+/// The same, of cuts and lengths.
+#[inline(always)]
+fn cut_verb_named(word: &[u8]) -> Option<Verb>
+    ensures { result ≡ named word.now cut_verbs }
+{
+    match word {
+        b"ext" => Some(Verb::Ext),
+        b"off" => Some(Verb::Numbers(TwoNumbers::Off)),
+        b"to" => Some(Verb::Numbers(TwoNumbers::To)),
+        b"len" => Some(Verb::Number(OneNumber::Len)),
+        b"adv" => Some(Verb::Numbers(TwoNumbers::Adv)),
+        b"trunc" => Some(Verb::Numbers(TwoNumbers::Trunc)),
+        _ => None,
+    }
+}
+
+/// The same, of forms that make a window.
+#[inline(always)]
+fn making_verb_named(word: &[u8]) -> Option<Verb>
+    ensures { result ≡ named word.now making_verbs }
+{
+    match word {
+        b"mslice" => Some(Verb::Items(JustItems::MSlice)),
+        b"new" => Some(Verb::Bare(Bare::New)),
+        b"cap" => Some(Verb::Number(OneNumber::Cap)),
+        b"zero" => Some(Verb::Number(OneNumber::Zero)),
+        b"static" => Some(Verb::Bare(Bare::Static)),
+        _ => None,
+    }
+}
+
+/// The same, of the others.
+#[inline(always)]
+fn other_verb_named(word: &[u8]) -> Option<Verb>
+    ensures { result ≡ named word.now other_verbs }
+{
+    match word {
+        b"uniq" => Some(Verb::Number(OneNumber::Uniq)),
+        b"res" => Some(Verb::Numbers(TwoNumbers::Res)),
+        b"rec" => Some(Verb::Numbers(TwoNumbers::Rec)),
+        b"room" => Some(Verb::Number(OneNumber::Room)),
+        b"freeze" => Some(Verb::Number(OneNumber::Freeze)),
+        b"mut" => Some(Verb::Number(OneNumber::Mut)),
+        b"takestatic" => Some(Verb::Number(OneNumber::TakeStatic)),
+        _ => None,
+    }
 }
 
 /// The form that a line begins with, and what is left of the line behind its first word, where that
@@ -344,7 +385,7 @@ fn verb_of(line: &[u8]) -> Option<(Verb, Rest)>
         return Some((verb, Some(rest)));
     }
     let (word, rest) = word(line);
-    let Some(verb) = verb_in(VERBS, word) else {
+    let Some(verb) = verb_named(word) else {
         return None;
     };
     Some((verb, rest))
