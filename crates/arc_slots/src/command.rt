@@ -110,8 +110,8 @@ where
     reply
 }
 
-/// Carries out a command on the window that is here, if there is one: its reply, and the window that
-/// was made beside it, if one was. That goes under the next number, where there is room for it.
+/// Carries out a command on the window that is here, if there is one: its reply, and the window
+/// that was made beside it, if one was. That goes under the next number, where there is room.
 pub fn answer<S: Commands, L: Layout, B, M, A: Allocator + Copy>(
     place: &mut Option<Slot<S, L, B, M, A>>,
     rt: &impl Wait,
@@ -130,7 +130,8 @@ where
         S.boundary (type_size S.Item.row) S.Zero.zero) next (seen_command command)
         s passes.old.of_blocks.items (seen_reply result.0)
         place.new result.1 passes.new.of_blocks.items) }
-    ensures none { place.old ≡ None → (result.0 ≡ reply.NoWindow) × (result.1 ≡ None) × (place.new ≡ None)
+    ensures none { place.old ≡ None
+        → (result.0 ≡ reply.NoWindow) × (result.1 ≡ None) × (place.new ≡ None)
         × (passes.new.of_blocks.items ≡ passes.old.of_blocks.items) }
     ensures room { is_some result.1 ≡ true → has_room ≡ true }
 {

@@ -34,7 +34,8 @@ where
     L::Writable: LayoutMut,
     requires idle { places ≡ 0 → window ≡ idle_writer }
     requires new { 1 ≤ places → IsNewWriter S.DROPS true window.items places window pass }
-    requires room { 1 ≤ places → length passes.old.of_blocks.items < vec_capacity passes.old.of_blocks }
+    requires room { 1 ≤ places
+        → length passes.old.of_blocks.items < vec_capacity passes.old.of_blocks }
     ensures row { row_of result
         ≡ writer_row S.DROPS (length passes.old.of_blocks.items) window.items places }
     ensures stand { Founds (stand_of (Some result)) passes.old.of_blocks.items
@@ -260,8 +261,8 @@ where
     )
 }
 
-/// Makes the window of a command that brings what it is made of: the reply, and the window, if it was
-/// made. That goes under the next number, where there is room for it.
+/// Makes the window of a command that brings what it is made of: the reply, and the window, if it
+/// was made. That goes under the next number, where there is room for it.
 pub fn make<S: Commands, L: Layout, B, M, A: Allocator + Copy>(
     alloc: A,
     command: TableCmd<S::Item, A>,

@@ -211,8 +211,8 @@ where
         }
     }
 
-    /// A window is read, or it is its block's only owner's, who writes. Does nothing: its contract is
-    /// the law.
+    /// A window is read, or it is its block's only owner's, who writes. Does nothing: its contract
+    /// is the law.
     pub fn known_role(&self)
         ensures { is_sole self.now.role ≡ false → self.now.role ≡ reader }
     {

@@ -121,9 +121,11 @@ impl<'a, S: Subsliceable, L: Layout, B, M, A: Allocator + Copy, H: Mark> ArcSlic
         requires pass { IsPassAt (borrowed_part self).place pass.old }
         ensures items { IfOk result (λ window. window.items ≡ (borrowed_part self.entry).items) }
         ensures place { IfOk result (λ window.
-            Shares (clone_place L.STATIC (borrowed_part self.entry)) pass.old pass.new window.place) }
+            Shares (clone_place L.STATIC (borrowed_part self.entry))
+                pass.old pass.new window.place) }
         ensures refused { IfErr result (λ e.
-            Refuses L.clone_wants (clone_place L.STATIC (borrowed_part self.entry)) pass.old pass.new e) }
+            Refuses L.clone_wants (clone_place L.STATIC (borrowed_part self.entry))
+                pass.old pass.new e) }
     {
         self.window.try_subslice_as(rt, self.start, self.end, pass)
     }

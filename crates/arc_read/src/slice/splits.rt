@@ -29,7 +29,8 @@ impl<S: Subsliceable, L: Layout, B, M, A: Allocator + Copy, H: Mark> ArcSlice<S,
         requires { IsRange S.boundary self.now.items start end }
         ensures legal { ∥ S.is_legal (sub self.now.items start end) ∥₁ }
         ensures cuts { (at : ℕ) → start + at ≤ end
-            → S.boundary (sub self.now.items start end) at ≡ S.boundary self.now.items (start + at) }
+            → S.boundary (sub self.now.items start end) at
+                ≡ S.boundary self.now.items (start + at) }
     {
         let _ = &self.parts;
         let _ = (start, end);
