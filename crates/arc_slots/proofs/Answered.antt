@@ -5,7 +5,6 @@ use Rattle.std.proofs.Common.{◌∙◌, subst, inl, inr}
 use Rattle.std.specs.Prelude.{nat_lt}
 use Rattle.std.specs.Result.{result_err}
 use Rattle.std.proofs.lemmas.Bool.{cases_Bool, false≢true}
-use Rattle.std.proofs.lemmas.List.{length-append}
 use Rattle.std.proofs.lemmas.Option.{none-some, same_Some}
 use Rattle.arc_owners.specs.declared.mark.Whole.{Whole}
 use Rattle.arc_owners.specs.declared.count.tokens.Pass.{Pass}
@@ -16,7 +15,7 @@ use Rattle.arc_owners.specs.declared.error.TryReserveError.{TryReserveError}
 use Rattle.arc_owners.specs.declared.error.TryReserveError.TheVariants as reserve
 use Rattle.arc_owners.specs.declared.history.entry.Entry.TheVariants as entry
 use Rattle.arc_owners.specs.count.Calls.{Asks}
-use Rattle.arc_buffer.specs.Slice.{range_answer, edge_answer}
+use Rattle.arc_buffer.specs.Slice.{edge_answer}
 use Rattle.arc_block.specs.declared.parts.room.Room.{Room}
 use Rattle.arc_block.specs.declared.parts.room.Room.TheVariants as from
 use Rattle.arc_block.specs.Block.{native_facts}
@@ -30,7 +29,7 @@ use Rattle.arc_commands.specs.Additions.{asked as History_asked, refused}
 use Rattle.arc_commands.specs.Step.{Setting, Shortage, no_shortage, of_table, of_clones, of_blocks}
 use Rattle.arc_commands.specs.Step.{Around, Change, answer_any, answer_row, asking_block, begun}
 use Rattle.arc_commands.specs.Step.{filled, frozen, in_range, is_for, is_now, made_row, may_write}
-use Rattle.arc_commands.specs.Step.{parted, reclaimed, room_of, shortage, truncated, with_block}
+use Rattle.arc_commands.specs.Step.{parted, reclaimed, room_of, shortage, truncated}
 use Rattle.arc_commands.specs.Step.{with_made, gone}
 use Rattle.arc_commands.specs.Blocks.{is_sole}
 use Rattle.arc_commands.specs.declared.command.Cmd.{Cmd}
@@ -49,22 +48,17 @@ use Rattle.arc_slots.specs.declared.part.Part.{Part}
 use Rattle.arc_slots.specs.declared.part.Part.TheVariants.{Whole as All, Range, Back, Front}
 use Rattle.arc_slots.specs.declared.slot.Writing.{Writing}
 use Rattle.arc_slots.specs.declared.slot.Writing.TheVariants as writing
+use Rattle.arc_slots.proofs.Adds.{part-adds, part-none, write-adds, write-none}
 use Rattle.arc_slots.proofs.Added.{Ended, asked-comes, ended-comes, enters-along, raises-beside}
 use Rattle.arc_slots.proofs.Added.{refuses-at}
 use Rattle.arc_slots.proofs.Told.{alone-told, full-told, many_along, many-beside, many-refused}
-use Rattle.arc_slots.proofs.Told.{none-stands, room-beside, row-block, stand_block}
+use Rattle.arc_slots.proofs.Told.{many-founded, none-stands, room-beside, row-begins, row-block}
+use Rattle.arc_slots.proofs.Told.{stand_block}
 
 -- what is refused for one reason is refused for no other
 refused-same : (e f : TryReserveError)
     → ◌≡◌ {A = Result (Unit {0}) TryReserveError} (Err e) (Err f) → e ≡ f
 refused-same e f is = same_Some e f (ap result_err is)
-
--- a command to write is for writers alone
-pub write-reads : {T : Type 0} (i : ℕ) (what : Writing (List T) T)
-    → is_for (write_command i what) reader ≡ false
-write-reads i (writing.Nothing additional) = refl
-write-reads i (writing.Item item) = refl
-write-reads i (writing.Items items) = refl
 
 module _ {T M : Type 0} (setting : Setting T) (windows : ℕ) (s : SlotView T M)
     (passes : List (Pass Whole)) where
@@ -165,33 +159,12 @@ module _ {T M : Type 0} (setting : Setting T) (windows : ℕ) (s : SlotView T M)
         (for-role no_shortage (command.To i at) (reads-for reads (command.To i at) true refl)
         ∙ ap (λ a. in_range a row (hands i reads (Front at) no_shortage)) is) (refl, refl, refl)
 
-    part-adds : (part : Part) (there : Stand) (made : Option Stand) (passes' : List (Pass Whole))
-        → (Joins here there made passes passes' (is_itself row part) → (number : ℕ)
-        → RowAdds here there made passes passes' row (part_command i part) (reply.New number))
-        × (Enters here there made passes passes' (refused AllocError)
-        → RowAdds here there made passes passes' row (part_command i part) (reply.Owner AllocError))
-        × (Enters here there made passes passes' (refused CountFull)
-        → RowAdds here there made passes passes' row (part_command i part) (reply.Owner CountFull))
-    part-adds All there made passes' = (λ joins number. joins, λ enters. enters, λ enters. enters)
-    part-adds (Range start end) there made passes' =
-        (λ joins number. joins, λ enters. enters, λ enters. enters)
-    part-adds (Back at) there made passes' =
-        (λ joins number. joins, λ enters. enters, λ enters. enters)
-    part-adds (Front at) there made passes' =
-        (λ joins number. joins, λ enters. enters, λ enters. enters)
-
-    part-none : (part : Part) → RowAdds here here None passes passes row (part_command i part)
-        reply.Alloc
-    part-none All = (refl, refl, refl)
-    part-none (Range start end) = (refl, refl, refl)
-    part-none (Back at) = (refl, refl, refl)
-    part-none (Front at) = (refl, refl, refl)
-
     -- memory for the window was refused
     pub part-alloc : (part : Part) → part_answer setting.boundary s.window.items part ≡ Ok tt
         → Said (part_command i part) reply.Alloc (Some s) None passes
     part-alloc part ok =
-        same (part_command i part) reply.Alloc (hand-is part of_table ok) (part-none part)
+        same (part_command i part) reply.Alloc (hand-is part of_table ok)
+        (part-none i here passes row part)
 
     module _ (has : HasPassFor passes here) (passes' : List (Pass Whole)) (part : Part)
         (ok : part_answer setting.boundary s.window.items part ≡ Ok tt) where
@@ -213,7 +186,7 @@ module _ {T M : Type 0} (setting : Setting T) (windows : ℕ) (s : SlotView T M)
             many-refused passes passes' setting.clone_wants (new_part i reads part).place here AllocError
             why;
         adds =
-            (part-adds part here None passes').1 (
+            (part-adds i here passes row part here None passes').1 (
               refl,
               refl,
               refuses-at passes passes' setting.clone_wants (new_part i reads part).place AllocError here
@@ -232,7 +205,7 @@ module _ {T M : Type 0} (setting : Setting T) (windows : ℕ) (s : SlotView T M)
             many-refused passes passes' setting.clone_wants (new_part i reads part).place here CountFull
             why;
         adds =
-            (part-adds part here None passes').2 (
+            (part-adds i here passes row part here None passes').2 (
               refl,
               refl,
               refuses-at passes passes' setting.clone_wants (new_part i reads part).place CountFull here
@@ -276,8 +249,8 @@ module _ {T M : Type 0} (setting : Setting T) (windows : ℕ) (s : SlotView T M)
                 ∙ ap (with_made around (row_of kept)) (sym made-is);
             blocks = many-beside passes passes' here (stand_of (Some other)) beside;
             adds =
-                (part-adds part (stand_of (Some kept)) (Some (stand_of (Some made))) passes').0
-                joins windows;
+                (part-adds i here passes row part (stand_of (Some kept))
+                (Some (stand_of (Some made))) passes').0 joins windows;
           }
 
       pub itself : (handed kept : SlotView T M) → out i reads part ≡ true
@@ -586,31 +559,6 @@ module _ {T M : Type 0} (setting : Setting T) (windows : ℕ) (s : SlotView T M)
         (writes-for writes (command.Ext i items) true (λ n. refl))
         ∙ ap (outcome (writing.Items items) short) (sym is)
 
-    write-adds : (what : Writing (List T) T) (there : Stand) (passes' : List (Pass Whole))
-        → Stays here there None passes passes'
-        → RowAdds here there None passes passes' row (write_command i what) reply.Ok
-    write-adds (writing.Nothing additional) there passes' stays = stays
-    write-adds (writing.Item item) there passes' stays = stays
-    write-adds (writing.Items items) there passes' stays = stays
-
-    write-none : (what : Writing (List T) T) (e : TryReserveError)
-        → RowAdds here here None passes passes row (write_command i what) (reply.Reserve e)
-    write-none (writing.Nothing additional) e = (refl, refl, refl)
-    write-none (writing.Item item) e = (refl, refl, refl)
-    write-none (writing.Items items) e = (refl, refl, refl)
-
-    -- a block more, if it stands on one
-    founds-many : (st : Stand) (passes' : List (Pass Whole)) → Founds st passes passes'
-        → length passes' ≡ with_block (is_some (stand_block st)) (length passes)
-    founds-many None passes' founds = ap length founds
-    founds-many (Some (number, o)) passes' founds =
-        ap length founds.4 ∙ length-append passes (founds.2 ∷ [])
-
-    founded-begins : (new : SlotView T M) (r : Row T M) → row_of new ≡ r
-        → is_some (block_of r.place) ≡ is_some (stand_block (stand_of (Some new)))
-    founded-begins new r is =
-        ap (λ (x : Row T M). is_some (block_of x.place)) (sym is) ∙ ap is_some (row-block new)
-
     begins-as : (c : Command) (new : SlotView T M) (r : Row T M) (passes' : List (Pass Whole))
         → answer_any setting no_shortage around c row ≡ begun r
         → ((there : Stand) → Stays here there None passes passes'
@@ -631,8 +579,8 @@ module _ {T M : Type 0} (setting : Setting T) (windows : ℕ) (s : SlotView T M)
             row = Some (row_of new);
             made = None;
             begins = b;
-          }) (founded-begins new r row-is);
-      blocks = founds-many (stand_of (Some new)) passes' founds;
+          }) (row-begins new r row-is);
+      blocks = many-founded passes passes' (stand_of (Some new)) founds;
       adds =
           adds (stand_of (Some new))
           (subst (λ st. MayBegin st (stand_of (Some new)) passes passes') (sym none) founds, refl);
@@ -650,7 +598,7 @@ module _ {T M : Type 0} (setting : Setting T) (windows : ℕ) (s : SlotView T M)
           subst (λ ps. Said (w what) reply.Ok (Some new) None ps) (sym did.2)
           (changes (w what) reply.Ok new (write-is what no_shortage room is ∙ does
           ∙ ap (is_now reply.Ok) (sym did.0))
-          (write-adds what (stand_of (Some new)) passes
+          (write-adds i here passes row what (stand_of (Some new)) passes
           (stays-there here (stand_of (Some new)) did.1, refl)))
 
       -- what was written stands in the window
@@ -663,7 +611,7 @@ module _ {T M : Type 0} (setting : Setting T) (windows : ℕ) (s : SlotView T M)
           begins-as (w what) new
           (with_more (items_of what) (new_writer setting.drops (length passes) [] places)) passes'
           (write-is what no_shortage (from.Fresh places) is)
-          (λ there. write-adds what there passes') (none refl) did.1 did.0
+          (λ there. write-adds i here passes row what there passes') (none refl) did.1 did.0
       wrote-in (from.Refused e) is none new passes' did =
           let fine : ◌≡◌ {A = Result (Unit {0}) TryReserveError} (Ok tt) (Err e) = did.0 in
           absurd (cc)
@@ -683,7 +631,7 @@ module _ {T M : Type 0} (setting : Setting T) (windows : ℕ) (s : SlotView T M)
       unwrote e new passes' is stays all =
           subst (λ x. Said (w what) (reply.Reserve e) (Some x) None passes') (sym stays)
           (subst (λ ps. Said (w what) (reply.Reserve e) (Some s) None ps) (sym all)
-          (same (w what) (reply.Reserve e) is (write-none what e)))
+          (same (w what) (reply.Reserve e) is (write-none i here passes row what e)))
 
       -- memory was refused for it
       short-of : (room : Room) → room ≡ room_of setting row (additional_of what)
@@ -725,7 +673,8 @@ module _ {T M : Type 0} (setting : Setting T) (windows : ℕ) (s : SlotView T M)
           → Said (w what) (reply.Reserve reserve.AllocError) (Some s) None passes
       no-pass room is fresh =
           same (w what) (reply.Reserve reserve.AllocError)
-          (write-is what of_blocks room is ∙ short room fresh) (write-none what reserve.AllocError)
+          (write-is what of_blocks room is ∙ short room fresh)
+          (write-none i here passes row what reserve.AllocError)
         where
           short : (x : Room) → is_fresh x ≡ true
               → outcome what of_blocks x ≡ is_now (reply.Reserve reserve.AllocError) row

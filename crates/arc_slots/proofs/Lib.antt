@@ -4,6 +4,7 @@ pub mod Splits
 pub mod Filled
 pub mod Ended
 pub mod Added
+pub mod Adds
 pub mod Told
 pub mod Answered
 pub mod Keeps

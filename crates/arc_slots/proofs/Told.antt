@@ -1,9 +1,10 @@
 -- What the pass of a window's block tells of the rest of its table.
 use Rattle.std.proofs.Common.{inl, inr, ◌≡◌, ℕ, ◌==◌, ◌&&◌, Bool, true, false, List, length}
+use Rattle.std.proofs.Common.{[], ◌∷◌}
 use Rattle.std.proofs.Common.{Option, Some, None, is_some, refl, sym, ap, ◌∙◌, arith, slice_get}
 use Rattle.std.specs.Option.{option_map, option_map_or}
 use Rattle.std.proofs.lemmas.Bool.{cases_Bool, eq-eqb, ne_eqb, false≢true}
-use Rattle.std.proofs.lemmas.List.{length-set}
+use Rattle.std.proofs.lemmas.List.{length-append, length-set}
 use Rattle.arc_owners.specs.declared.count.tokens.Pass.{Pass}
 use Rattle.arc_owners.specs.declared.error.OwnerError.{OwnerError}
 use Rattle.arc_owners.specs.declared.error.OwnerError.TheVariants.{AllocError, CountFull}
@@ -15,7 +16,9 @@ use Rattle.arc_block.specs.declared.block.TheConstants.{MAX_OWNERS}
 use Rattle.arc_block.specs.Block.{Sort}
 use Rattle.arc_block.specs.Owned.{Stand}
 use Rattle.arc_block.specs.Place.{Place, nowhere, static_data, on_block}
-use Rattle.arc_block.specs.Table.{block_of}
+use Rattle.arc_block.specs.Table.{Row, block_of}
+use Rattle.arc_commands.specs.Additions.{Founds}
+use Rattle.arc_commands.specs.Step.{with_block}
 use Rattle.arc_slots.specs.Answers.{around_in, live_on}
 use Rattle.arc_slots.specs.Calls.{Through, Along, Beside, RefusesAt, AddsNothing}
 use Rattle.arc_slots.specs.Slots.{SlotView, row_of, stand_of}
@@ -37,6 +40,21 @@ place_agrees (Some n) (on_block (Some owner) offset facts) = refl
 pub row-block : {T M : Type 0} (s : SlotView T M)
     → block_of (row_of s).place ≡ stand_block (stand_of (Some s))
 row-block s = place_agrees s.block s.window.place
+
+-- and so does a row that is a slot's
+module _ {T M : Type 0} (s : SlotView T M) (r : Row T M) where
+  pub row-begins : row_of s ≡ r
+      → is_some (block_of r.place) ≡ is_some (stand_block (stand_of (Some s)))
+  row-begins is =
+      ap (λ (x : Row T M). is_some (block_of x.place)) (sym is) ∙ ap is_some (row-block s)
+
+-- where a block was founded there is a pass more
+pub many-founded : {H : Type 0} (passes passes' : List (Pass H)) (st : Stand)
+    → Founds st passes passes'
+    → length passes' ≡ with_block (is_some (stand_block st)) (length passes)
+many-founded passes passes' None founds = ap length founds
+many-founded passes passes' (Some (number, o)) founds =
+    ap length founds.4 ∙ length-append passes (founds.2 ∷ [])
 
 -- where a row stands on no block, no owner stands
 pub none-stands : (st : Stand) → is_some (stand_block st) ≡ false → st ≡ None
