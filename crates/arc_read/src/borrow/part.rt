@@ -122,10 +122,10 @@ impl<'a, S: Subsliceable, L: Layout, B, M, A: Allocator + Copy, H: Mark> ArcSlic
         ensures items { IfOk result (λ window. window.items ≡ (borrowed_part self.entry).items) }
         ensures place { IfOk result (λ window.
             Shares (clone_place L.STATIC (borrowed_part self.entry))
-                pass.old pass.new window.place) }
+            pass.old pass.new window.place) }
         ensures refused { IfErr result (λ e.
             Refuses L.clone_wants (clone_place L.STATIC (borrowed_part self.entry))
-                pass.old pass.new e) }
+            pass.old pass.new e) }
     {
         self.window.try_subslice_as(rt, self.start, self.end, pass)
     }

@@ -30,7 +30,7 @@ impl<S: Subsliceable, L: Layout, B, M, A: Allocator + Copy, H: Mark> ArcSlice<S,
         ensures legal { ∥ S.is_legal (sub self.now.items start end) ∥₁ }
         ensures cuts { (at : ℕ) → start + at ≤ end
             → S.boundary (sub self.now.items start end) at
-                ≡ S.boundary self.now.items (start + at) }
+            ≡ S.boundary self.now.items (start + at) }
     {
         let _ = &self.parts;
         let _ = (start, end);
