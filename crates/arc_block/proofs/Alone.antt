@@ -3,7 +3,6 @@ use Rattle.std.proofs.Common.{◌≡◌, ◌↔◌, ℕ, ◌==◌, true, false, 
 use Rattle.std.specs.Option.{option_flatten, option_map_or}
 use Rattle.std.proofs.lemmas.Bool.{eq-eqb, eqb-true, false≢true}
 use Rattle.std.proofs.lemmas.Option.{none-some, same_Some}
-use Rattle.arc_block.specs.Place.{Place, nowhere, static_data, on_block}
 use Rattle.arc_block.specs.Table.{Row, Table, row_at, block_of, StandsOn, IsAlone, stands_on, owners, is_alone}
 use Rattle.arc_block.specs.Owned.{Stand, number_on, owners_on}
 use Rattle.arc_block.proofs.Lists.{only-one, one-only, counts-more}
@@ -20,10 +19,9 @@ unflattened None x is = absurd (none-some x is)
 unflattened (Some None) x is = absurd (none-some x is)
 unflattened (Some (Some y)) x is = ap Some is
 
-block_here : {M : Type 0} (b : ℕ) (p : Place ℕ M) → option_map_or (λ c. c == b) (block_of p) false ≡ true → block_of p ≡ Some b
-block_here b nowhere is = absurd (false≢true is)
-block_here b static_data is = absurd (false≢true is)
-block_here b (on_block c offset facts) is = ap Some (eqb-true c b is)
+block_here : (b : ℕ) (n : Option ℕ) → option_map_or (λ c. c == b) n false ≡ true → n ≡ Some b
+block_here b None is = absurd (false≢true is)
+block_here b (Some c) is = ap Some (eqb-true c b is)
 
 module _ {T M : Type 0} (t : Table T M) where
   counted : (i b : ℕ) (row : Row T M) → row_at t i ≡ Some row → block_of row.place ≡ Some b → (slice_get t.rows i ≡ Some (Some row)) × (stands_on b (Some row) ≡ true)
@@ -31,7 +29,7 @@ module _ {T M : Type 0} (t : Table T M) where
 
   stands : (i b : ℕ) (row : Option (Row T M)) → slice_get t.rows i ≡ Some row → stands_on b row ≡ true → StandsOn t i b
   stands i b None here is = absurd (false≢true is)
-  stands i b (Some row) here is = record { row = row; alive = ap option_flatten here; stands = block_here b row.place is }
+  stands i b (Some row) here is = record { row = row; alive = ap option_flatten here; stands = block_here b (block_of row.place) is }
 
   -- one row stands on the block of row i exactly where row i is alone
   one-alone : (i b : ℕ) (row : Row T M) → row_at t i ≡ Some row → block_of row.place ≡ Some b → owners t b ≡ 1 → IsAlone t i
@@ -52,12 +50,12 @@ module _ {T M : Type 0} (t : Table T M) where
       let same : b ≡ a.block = same_Some b a.block (sym on ∙ block-alone i row is a) in
       only-one (stands_on b) t.rows i (Some row) c.0 c.1 (λ j other here too. a.only j (subst (StandsOn t j) same (stands j b other here too)))
 
-  means-at : (i : ℕ) (row : Row T M) → row_at t i ≡ Some row → (place : Place ℕ M) → row.place ≡ place → (is_alone t place ≡ true) ↔ IsAlone t i
-  means-at i row is nowhere at = (λ h. absurd (false≢true h), λ a. absurd (none-some a.block (sym (ap block_of at) ∙ block-alone i row is a)))
-  means-at i row is static_data at = (λ h. absurd (false≢true h), λ a. absurd (none-some a.block (sym (ap block_of at) ∙ block-alone i row is a)))
-  means-at i row is (on_block b offset facts) at =
-      (λ one. one-alone i b row is (ap block_of at) (eqb-true (owners t b) 1 one), λ a. eq-eqb (owners t b) 1 (alone-one i b row is (ap block_of at) a))
+  means-at : (i : ℕ) (row : Row T M) → row_at t i ≡ Some row → (b : Option ℕ) → block_of row.place ≡ b
+      → (option_map_or (λ c. owners t c == 1) b false ≡ true) ↔ IsAlone t i
+  means-at i row is None at = (λ h. absurd (false≢true h), λ a. absurd (none-some a.block (sym at ∙ block-alone i row is a)))
+  means-at i row is (Some b) at =
+      (λ one. one-alone i b row is at (eqb-true (owners t b) 1 one), λ a. eq-eqb (owners t b) 1 (alone-one i b row is at a))
 
   -- what is counted of a row's place is whether the row is alone
   pub is_alone-means : (i : ℕ) (row : Row T M) → row_at t i ≡ Some row → (is_alone t row.place ≡ true) ↔ IsAlone t i
-  is_alone-means i row is = means-at i row is row.place refl
+  is_alone-means i row is = means-at i row is (block_of row.place) refl

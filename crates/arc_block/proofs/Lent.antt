@@ -8,11 +8,11 @@ use Rattle.std.proofs.lemmas.List.{take-take, take_all, take-append-le, append-n
 use Rattle.arc_owners.specs.count.Calls.{Owner}
 use Rattle.arc_buffer.specs.Slice.{sub}
 use Rattle.arc_buffer.proofs.Sub.{length-sub}
-use Rattle.arc_block.specs.Block.{partly_full}
+use Rattle.arc_block.specs.Block.{memory_info}
 use Rattle.arc_block.specs.Place.{on_block}
 use Rattle.arc_block.specs.Table.{sole_writer}
 use Rattle.arc_block.specs.Window.{PartsView}
-use Rattle.arc_block.specs.Writers.{writer_capacity, sole_seen, sole_part, IsSoleWithin, with_items}
+use Rattle.arc_block.specs.Writers.{SoleOwner, writer_capacity, sole_seen, sole_part, IsSoleWithin, with_items}
 use Rattle.arc_block.proofs.Writers.{slice_is_sub}
 
 -- what stays behind the written items within the first ones is theirs alone
@@ -24,7 +24,7 @@ first-written (w ∷ ws) (x ∷ xs) zero = refl
 first-written (w ∷ ws) (x ∷ xs) (suc n) = ap (λ ys. w ∷ ys) (first-written ws xs n)
 
 -- a part of a list in which other items were written from its start on
-part-written : {T : Type 0} (xs ws : List T) (start end : ℕ) → start ≤ end → end ≤ length xs →
+pub part-written : {T : Type 0} (xs ws : List T) (start end : ℕ) → start ≤ end → end ≤ length xs →
     let ys : List T = take start xs ++ (ws ++ drop (length ws) (drop start xs)) in
     sub (take (length xs) (ys ++ drop (length ys) xs)) start end ≡ take (length (sub xs start end)) (ws ++ drop (length ws) (sub xs start end))
 part-written xs ws start end ordered inside =
@@ -44,10 +44,10 @@ part-written xs ws start end ordered inside =
     ∙ ap (λ n. take n (ws ++ drop (length ws) (sub xs start end))) (sym count)
 
 module _ {T M A : Type 0} where
-  lent-part : (drops : Bool) (o : Owner) (v : Vec T A) (start end : ℕ) (ws : List T) → start ≤ end → end ≤ length v.items
+  lent-part : (drops : Bool) (o : SoleOwner) (v : Vec T A) (start end : ℕ) (ws : List T) → start ≤ end → end ≤ length v.items
       → sole_part {M = M} drops o (with_items_from v start ws) start end ≡ with_items (sole_part {M = M} drops o v start end) ws
   lent-part drops o v start end ws ordered inside =
-      let make : List T → ℕ → PartsView T M = λ xs full. let info = partly_full drops (vec_capacity v) full in record { items = xs; place = on_block (Some o) start info; role = sole_writer (writer_capacity drops info start (end - start)) } in
+      let make : List T → ℕ → PartsView T M = λ xs full. let info = memory_info o.sort drops (vec_capacity v) full in record { items = xs; place = on_block (Some o.owner) start info; role = sole_writer (writer_capacity drops info start (end - start)) } in
       let ys : List T = take start v.items ++ (ws ++ drop (length ws) (drop start v.items)) in
       let part : List T = sub v.items start end in
       ap (λ n. make (sub (take n (ys ++ drop (length ys) v.items)) start end) (length (take v.len (ys ++ drop (length ys) v.items)))) v.ok.0
@@ -55,7 +55,7 @@ module _ {T M A : Type 0} where
       ∙ ap (make (refill (length part) part ws)) (sym (length_refill v.len v.items ys v.ok.0) ∙ v.ok.0)
 
   -- the slice from start to end is the writer's items
-  pub slice_seen : (drops one_pass : Bool) (owner : Option Owner) (v : Vec T A) (start end : ℕ) (seen : PartsView T M) → sole_seen {M = M} drops owner v start end ≡ seen → IsSoleWithin drops one_pass owner v start end
+  pub slice_seen : (drops one_pass : Bool) (owner : Option SoleOwner) (v : Vec T A) (start end : ℕ) (seen : PartsView T M) → sole_seen {M = M} drops owner v start end ≡ seen → IsSoleWithin drops one_pass owner v start end
       → slice_range v.items start end ≡ seen.items
   slice_seen drops one_pass None v start end seen view within =
       let none : end - start ≡ 0 = omega (arith, within.1) in
@@ -63,7 +63,7 @@ module _ {T M A : Type 0} where
   slice_seen drops one_pass (Some o) v start end seen view within = slice_is_sub v.items start end within.1 ∙ ap (λ s. s.items) view
 
   -- the items that were lent are those that were written, in the same places
-  pub lent_seen : (drops one_pass : Bool) (owner : Option Owner) (v : Vec T A) (start end : ℕ) (ws : List T) (seen : PartsView T M) → sole_seen {M = M} drops owner v start end ≡ seen → IsSoleWithin drops one_pass owner v start end
+  pub lent_seen : (drops one_pass : Bool) (owner : Option SoleOwner) (v : Vec T A) (start end : ℕ) (ws : List T) (seen : PartsView T M) → sole_seen {M = M} drops owner v start end ≡ seen → IsSoleWithin drops one_pass owner v start end
       → sole_seen {M = M} drops owner (with_items_from v start ws) start end ≡ with_items seen ws
   lent_seen drops one_pass None v start end ws seen view within = ap (λ s. with_items s ws) view
   lent_seen drops one_pass (Some o) v start end ws seen view within =

@@ -1,11 +1,16 @@
 pub mod Lists
 pub mod Permutations
 pub mod Owned
+pub mod Contents
 pub mod Alone
 pub mod Windows
+pub mod Raws
 pub mod Held
+pub mod Moves
 pub mod StaticSlices
 pub mod Writers
 pub mod Lent
 pub mod Rooms
+pub mod More
+pub mod SoleBuffers
 pub mod Soles

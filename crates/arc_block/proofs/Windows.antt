@@ -1,20 +1,19 @@
 -- What a window's parts are seen as: over a block, and cut.
-use Rattle.std.proofs.Common.{Fits, Fits-le, ◌≡◌, ℕ, ◌+◌, ◌-◌, ◌≤◌, ◌==◌, ◌&&◌, Bool, true, false, if◌then◌else◌, List, [], length, Option, Some, refl, sym, ap, ◌∙◌, subst, arith}
+use Rattle.std.proofs.Common.{Fits, Fits-le, ◌≡◌, ℕ, ◌+◌, ◌-◌, ◌≤◌, ◌==◌, ◌&&◌, Bool, true, false, if◌then◌else◌, List, [], length, Option, Some, None, refl, sym, ap, ◌∙◌, subst, arith}
 use mir.Syntax.{w64}
-use Rattle.std.proofs.lemmas.Bool.{eqb-true, false≢true}
+use Rattle.std.proofs.lemmas.Bool.{eqb-true, eq-eqb, false≢true}
 use Rattle.std.proofs.lemmas.List.{nil_from_length}
 use Rattle.arc_owners.specs.declared.count.tokens.Pass.{Pass}
 use Rattle.arc_owners.specs.count.Calls.{Owner, IsFirst, MakesAnother, Asks}
 use Rattle.arc_buffer.specs.Slice.{sub}
 use Rattle.arc_buffer.proofs.Sub.{sub-sub, sub-whole, length-sub}
-use Rattle.arc_block.specs.Block.{BlockInfo, BlockView, native, native_facts, native_block}
+use Rattle.arc_block.specs.Block.{BlockInfo, BlockView, native, vector, memory_info, native_facts, native_block, raw_info}
 use Rattle.arc_block.specs.declared.block.TheConstants.{MAX_OWNERS}
 use Rattle.arc_block.specs.Place.{Place, nowhere, static_data, on_block, moved, part_place, at_owner}
 use Rattle.arc_block.specs.Table.{reader}
-use Rattle.arc_block.specs.declared.parts.storage.Storage.{Storage}
-use Rattle.arc_block.specs.declared.parts.storage.Storage.TheVariants.{Nothing, Static, Block}
-use Rattle.arc_block.specs.Window.{PartsView, parts_of, window_of, made_window, window_seen, IsWithin, IsNativeOf, IsWholeOf}
-use Rattle.arc_block.specs.Steps.{Shares, Makes, RefusesArray}
+use Rattle.arc_block.specs.declared.parts.storage.Storage.TheVariants.{Nothing, Static, Block, Raw}
+use Rattle.arc_block.specs.Window.{PartsView, StandsBy, parts_of, window_of, made_window, window_seen, IsWithin, IsNativeOf, IsWholeOf}
+use Rattle.arc_block.specs.Steps.{Shares, Makes, MakesOfVec, RefusesArray, RefusesTaking}
 
 stays : {M : Type 0} (place : Place (Option Owner) M) → moved 0 place ≡ place
 stays nowhere = refl
@@ -23,13 +22,14 @@ stays (on_block owner offset facts) = let same : offset + 0 ≡ offset = omega a
 
 module _ {T M : Type 0} where
   -- how many items there are
-  pub how_long : (inner : Storage T (BlockView T M)) (from to : ℕ) (p : PartsView T M) → parts_of (window_seen inner from to) ≡ p → IsWithin inner from to → from + length p.items ≡ to
+  pub how_long : (inner : StandsBy T M) (from to : ℕ) (p : PartsView T M) → parts_of (window_seen inner from to) ≡ p → IsWithin inner from to → from + length p.items ≡ to
   how_long (Nothing none) from to p view within = omega (arith, ap (λ (v : PartsView T M). length v.items) view, within.0, within.1)
   how_long (Static items) from to p view within = omega (arith, ap (λ (v : PartsView T M). length v.items) view, length-sub items from to within.0 within.1, within.0)
   how_long (Block b) from to p view within = omega (arith, ap (λ (v : PartsView T M). length v.items) view, length-sub b.items from to within.0 within.1, within.0)
+  how_long (Raw items) from to p view within = omega (arith, ap (λ (v : PartsView T M). length v.items) view, length-sub items from to within.0 within.1, within.0)
 
   -- places among the items are as small as the end, and so numbers of the code's
-  pub places_fit : (inner : Storage T (BlockView T M)) (from to : ℕ) (p : PartsView T M)
+  pub places_fit : (inner : StandsBy T M) (from to : ℕ) (p : PartsView T M)
       → parts_of (window_seen inner from to) ≡ p → IsWithin inner from to → Fits w64 to
       → (start end : ℕ) → start ≤ end → end ≤ length p.items
       → Fits w64 (from + start) × Fits w64 (from + end)
@@ -38,13 +38,14 @@ module _ {T M : Type 0} where
       (Fits-le (omega (arith, long, ordered, inside)) fits, Fits-le (omega (arith, long, inside)) fits)
 
   -- what is left between two ends lies within the block
-  pub kept_within : (inner : Storage T (BlockView T M)) (from to start end : ℕ) → IsWithin inner from to → start ≤ end → from + end ≤ to → IsWithin inner (from + start) (from + end)
+  pub kept_within : (inner : StandsBy T M) (from to start end : ℕ) → IsWithin inner from to → start ≤ end → from + end ≤ to → IsWithin inner (from + start) (from + end)
   kept_within (Nothing none) from to start end within ordered inside = (omega (arith, within.0, within.1, ordered, inside), omega (arith, within.0, within.1, inside))
   kept_within (Static items) from to start end within ordered inside = (omega (arith, ordered), omega (arith, inside, within.1))
   kept_within (Block b) from to start end within ordered inside = (omega (arith, ordered), omega (arith, inside, within.1), within.2)
+  kept_within (Raw items) from to start end within ordered inside = (omega (arith, ordered), omega (arith, inside, within.1))
 
   -- and is seen as the items between them, that much further in
-  pub kept_seen : (inner : Storage T (BlockView T M)) (from to start end : ℕ) (p : PartsView T M) → parts_of (window_seen inner from to) ≡ p → IsWithin inner from to → start ≤ end → from + end ≤ to
+  pub kept_seen : (inner : StandsBy T M) (from to start end : ℕ) (p : PartsView T M) → parts_of (window_seen inner from to) ≡ p → IsWithin inner from to → start ≤ end → from + end ≤ to
       → parts_of (window_seen inner (from + start) (from + end)) ≡ record { items = sub p.items start end; place = moved start p.place; role = p.role }
   kept_seen (Nothing none) from to start end p view within ordered inside =
       let nil : List T = [] in
@@ -58,6 +59,10 @@ module _ {T M : Type 0} where
       let seen : PartsView T M → Type 0 = λ v. parts_of (window_seen (Block b) (from + start) (from + end)) ≡ record { items = sub v.items start end; place = moved start v.place; role = v.role } in
       let there : Place (Option Owner) M = on_block (Some b.owner) (from + start) b.facts in
       subst seen view (ap (λ xs. record { items = xs; place = there; role = reader }) (sym (sub-sub b.items from to start end inside)))
+  kept_seen (Raw items) from to start end p view within ordered inside =
+      let seen : PartsView T M → Type 0 = λ v. parts_of (window_seen {T = T} (Raw items) (from + start) (from + end)) ≡ record { items = sub v.items start end; place = moved start v.place; role = v.role } in
+      let there : Place (Option Owner) M = on_block None (from + start) (raw_info (length items)) in
+      subst seen view (ap (λ xs. record { items = xs; place = there; role = reader }) (sym (sub-sub items from to start end inside)))
 
 -- the block that another owner stands on: its items and what is known of it are the same
 abbrev reowned : {T M : Type 0} → BlockView T M → Owner → BlockView T M
@@ -70,7 +75,7 @@ as_reowned {T} {M} b b' items facts =
     ap f (sym items) ∙ ap g (sym facts)
 
 -- parts that stand on a block b
-module _ {T M : Type 0} (inner : Storage T (BlockView T M)) (from to : ℕ) (p : PartsView T M) (b : BlockView T M) (view : parts_of (window_seen inner from to) ≡ p) (is : inner ≡ Block b) (within : IsWithin inner from to) where
+module _ {T M : Type 0} (inner : StandsBy T M) (from to : ℕ) (p : PartsView T M) (b : BlockView T M) (view : parts_of (window_seen inner from to) ≡ p) (is : inner ≡ Block b) (within : IsWithin inner from to) where
   here : IsWithin (Block b) from to
   here = subst (λ x. IsWithin x from to) is within
 
@@ -126,6 +131,11 @@ module _ {T M : Type 0} (inner : Storage T (BlockView T M)) (from to : ℕ) (p :
       let last : to ≡ length b.items = omega (arith, here.0, here.1, here.2, places, long) in
       (omega (arith, here.0, here.1, here.2, places, long), sym (ap (λ (v : PartsView T M). v.items) on_block_seen ∙ ap (λ n. sub b.items n to) start ∙ ap (λ n. sub b.items 0 n) last ∙ sub-whole b.items))
 
+  -- which is a native one
+  pub whole_is_native : (size : ℕ) → IsWholeOf size (window_of p) → b.facts.sort ≡ native
+  whole_is_native size whole =
+      (subst (λ (v : PartsView T M). IsNativeOf size v.place) on_block_seen whole.block).0
+
   -- they are all of a native block where the numbers say so
   pub whole_told : (n : ℕ) → b.facts.sort ≡ native → (length p.items ≡ n) × (b.facts.size ≡ n) → IsWholeOf n (window_of p)
   whole_told n sort told = record { items = told.0; block = subst (λ (v : PartsView T M). IsNativeOf n v.place) (sym on_block_seen) (sort, told.1) }
@@ -141,8 +151,19 @@ module _ {T M : Type 0} (inner : Storage T (BlockView T M)) (from to : ℕ) (p :
     },
   )
 
+  -- they come back where all was as wanted but the count
+  pub taking_refused : {H : Type 0} (b' : BlockView T M) → b' ≡ b → (wanted : Type 0) → wanted → (old new : Pass H) → Asks b.owner old new false
+      → (parts_of (window_seen (Block b') from to) ≡ p) × RefusesTaking wanted p.place old new
+  taking_refused b' same wanted met old new asks = (
+    ap (λ x. parts_of (window_seen (Block x) from to)) same ∙ sym on_block_seen,
+    record {
+      asked = λ _. subst (λ (v : PartsView T M). at_owner v.place ⊥ (λ o. Asks o old new false)) (sym on_block_seen) asks;
+      unasked = λ unmet. absurd (unmet met);
+    },
+  )
+
 -- parts that stand on a static slice
-module _ {T M : Type 0} (inner : Storage T (BlockView T M)) (from to : ℕ) (p : PartsView T M) (all : List T) (view : parts_of (window_seen inner from to) ≡ p) (is : inner ≡ Static all) (within : IsWithin inner from to) where
+module _ {T M : Type 0} (inner : StandsBy T M) (from to : ℕ) (p : PartsView T M) (all : List T) (view : parts_of (window_seen inner from to) ≡ p) (is : inner ≡ Static all) (within : IsWithin inner from to) where
   inside_slice : IsWithin {T = T} {M = M} (Static all) from to
   inside_slice = subst (λ x. IsWithin x from to) is within
 
@@ -186,7 +207,7 @@ none_there has_static xs start end ordered inside nothing =
     sym (nil_from_length (sub xs start end) (length-sub xs start end ordered inside ∙ none))
 
 -- nor has a part of what stands on nothing
-pub none_on_nothing : {T M : Type 0} (inner : Storage T (BlockView T M)) (from to : ℕ)
+pub none_on_nothing : {T M : Type 0} (inner : StandsBy T M) (from to : ℕ)
     (p : PartsView T M) (none : List T) → parts_of (window_seen inner from to) ≡ p
     → inner ≡ Nothing none → (start end : ℕ) → start ≤ end → end ≤ length p.items → [] ≡ sub p.items start end
 none_on_nothing {T} {M} inner from to p none view is start end ordered inside =
@@ -226,3 +247,45 @@ module _ {T M : Type 0} (has_static drops one_pass : Bool) (items : List T) wher
 -- an owner, for parts that stand on nothing and have none
 pub owner_for : {H : Type 0} → Pass H → Owner
 owner_for p = record { block = p.trace.block; number = 0; born = [] }
+
+both_of : (b : Bool) (m n : ℕ) → m ≤ n → (b && (n == 0)) ≡ true → (b && (m == 0)) ≡ true
+both_of true m n less both =
+    let last : n ≡ 0 = eqb-true n 0 both in eq-eqb m 0 (omega (arith, less, last))
+both_of false m n less both = absurd (false≢true both)
+
+module _ {T M : Type 0} (has_static drops one_pass : Bool) (items : List T) (places : ℕ)
+    (fit : length items ≤ places) where
+  -- a vector without places, on nothing
+  pub vec_on_nothing : (owner : Owner) → (has_static && (places == 0)) ≡ true
+      → MakesOfVec {M = M} has_static drops one_pass items places
+      (record { items = []; place = nowhere })
+  vec_on_nothing owner nothing =
+      let none : (has_static && (length items == 0)) ≡ true =
+      both_of has_static (length items) places fit nothing in record {
+        none = λ zero. made_on_nothing has_static drops one_pass items owner none;
+        some = λ more.
+            absurd (omega (arith, more, both_true has_static places nothing));
+      }
+
+  -- and on a block with its places
+  pub vec_on_block : (b : BlockView T M)
+      → b ≡ record {
+        owner = b.owner;
+        items = items;
+        facts = memory_info vector drops places (length items);
+      }
+      → IsFirst MAX_OWNERS one_pass b.owner → (places ≡ 0 → ⊥) → (w : PartsView T M)
+      → w ≡ record { items = b.items; place = on_block (Some b.owner) 0 b.facts; role = reader }
+      → MakesOfVec has_static drops one_pass items places (window_of w)
+  vec_on_block b is first many w seen = record {
+    none = λ zero. absurd (many zero);
+    some = λ more. record {
+      owner = b.owner;
+      made = ap window_of seen
+          ∙ ap (λ (x : BlockView T M). record {
+            items = x.items;
+            place = on_block (Some b.owner) 0 x.facts;
+          }) is;
+      first = first;
+    };
+  }

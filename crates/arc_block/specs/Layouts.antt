@@ -1,6 +1,17 @@
 -- What layouts differ in.
-use Rattle.std.specs.Prelude.{◌≡◌, ◌==◌, ℕ, Bool, true, false, refl}
+use Rattle.std.specs.Prelude.{◌≡◌, ◌==◌, ◌&&◌, ℕ, Bool, true, false, not, refl, Option, Some, None}
 use Rattle.arc_block.specs.Block.{Sort, native, vector, buffer, raw}
+
+-- what windows under a layout may stand on
+pub record LayoutFacts : Type 0 where
+  -- nothing, and static data
+  pub has_static : Bool
+  -- a block of a caller's making: a vector, a buffer, or an `Arc` of one
+  pub has_any : Bool
+  -- an `Arc` is a block by itself, and isn't counted once more
+  pub by_itself : Bool
+  -- a vector of this length and capacity that stands alone
+  pub lone : ℕ → ℕ → Bool
 
 -- which vectors stand alone until their window is cloned, by length and capacity: none, all, or
 -- those that are full
@@ -27,3 +38,20 @@ never_wanted native = refl
 never_wanted vector = refl
 never_wanted (buffer writable) = refl
 never_wanted raw = refl
+
+-- whether a layout under which blocks may be of a caller's making, or not, holds those of a sort:
+-- native ones all do
+abbrev pub holds_sort : (has_any : Bool) → Sort → Bool
+holds_sort has_any native = true
+holds_sort has_any vector = has_any
+holds_sort has_any (buffer writable) = has_any
+holds_sort has_any raw = has_any
+
+-- Whether a layout holds a block with this owner, of this sort. The only blocks that count no
+-- owners are an `Arc` each, and an `Arc` is counted only where it isn't a block by itself.
+abbrev pub holds_block : {O : Type 0} → LayoutFacts → Option O → Sort → Bool
+holds_block layout None sort = layout.by_itself
+holds_block layout (Some owner) native = true
+holds_block layout (Some owner) vector = layout.has_any
+holds_block layout (Some owner) (buffer writable) = layout.has_any
+holds_block layout (Some owner) raw = layout.has_any && not layout.by_itself

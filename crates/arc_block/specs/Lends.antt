@@ -3,15 +3,37 @@ use Rattle.std.specs.Prelude.{List}
 use Rattle.std.specs.Borrow.{Lends, Fml, RattleType, MutBor, Array}
 use Rattle.std.specs.declared.alloc.Allocator as allocator
 use Rattle.arc_owners.specs.declared.mark.Mark as mark
+use Rattle.arc_buffer.specs.declared.buffer.Buffer as buffer
 use Rattle.arc_buffer.specs.declared.kinds.Slice as kind
 use Rattle.arc_block.specs.Window.{PartsView}
 use Rattle.arc_block.specs.Writers.{with_items}
-use Rattle.arc_block.specs.contracts.parts.sole.SoleParts.{the_row}
+use Rattle.arc_buffer.specs.declared.buffer.BufferMut as buffer_mut
+use Rattle.arc_block.specs.contracts.parts.sole.memory.SoleMemory as memory
+use Rattle.arc_block.specs.contracts.parts.sole.buffer.SoleBuffer as in_buffer
+use Rattle.arc_block.specs.contracts.parts.sole.SoleParts as either
 
 module _ (S B M A H Item Error : RattleType) (h : mark.Ghosts H.Denot)
-    (s : kind.Ghosts S.Denot Item.Denot Error.Denot) (a : allocator.Ghosts A.Denot)
+    (s : kind.Ghosts S.Denot Item.Denot Error.Denot)
+    (b : buffer.Ghosts B.Denot Item.Denot) (a : allocator.Ghosts A.Denot)
     (parts : MutBor (PartsView Item.Denot M.Denot)) where
   -- once the borrow r ends, the items are those that r shows last
+  abbrev pub lends_memory_items : MutBor (List Item.Denot) → Fml
+  lends_memory_items r =
+      Lends (memory.the_row S B M A H Item Error h s b a) (Array Item 0) parts r
+      (with_items parts.now)
+
+-- the same of items in a caller's buffer
+module _ (S B M A H Item Error : RattleType) (h : mark.Ghosts H.Denot)
+    (s : kind.Ghosts S.Denot Item.Denot Error.Denot)
+    (m : buffer_mut.Ghosts B.Denot Item.Denot) (b : buffer.Ghosts B.Denot Item.Denot)
+    (a : allocator.Ghosts A.Denot) (parts : MutBor (PartsView Item.Denot M.Denot)) where
+  abbrev pub lends_buffer_items : MutBor (List Item.Denot) → Fml
+  lends_buffer_items r =
+      Lends (in_buffer.the_row S B M A H Item Error h s m b a) (Array Item 0) parts r
+      (with_items parts.now)
+
+  -- of either
   abbrev pub lends_items : MutBor (List Item.Denot) → Fml
   lends_items r =
-      Lends (the_row S B M A H Item Error h s a) (Array Item 0) parts r (with_items parts.now)
+      Lends (either.the_row S B M A H Item Error s m b a h) (Array Item 0) parts r
+      (with_items parts.now)

@@ -1,11 +1,16 @@
 pub mod Block
+pub mod Contents
 pub mod Place
 pub mod Table
 pub mod Owned
 pub mod Layouts
+pub mod LayoutFacts
 pub mod Window
 pub mod Steps
-pub mod StaticSlices
+pub mod Unique
+pub mod Moves
 pub mod Lends
+pub mod LendsBuffers
 pub mod Room
 pub mod Writers
+pub mod Metadata

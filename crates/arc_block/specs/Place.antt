@@ -15,6 +15,12 @@ IsOnBlock nowhere = ⊥
 IsOnBlock static_data = ⊥
 IsOnBlock (on_block block offset facts) = Unit {0}
 
+-- the metadata of the block on which a place lies
+abbrev pub metadata_at : {N M : Type 0} → Place N M → Option M
+metadata_at nowhere = None
+metadata_at static_data = None
+metadata_at (on_block block offset facts) = facts.metadata
+
 -- by places further in
 abbrev pub moved : {N M : Type 0} → ℕ → Place N M → Place N M
 moved by nowhere = nowhere
@@ -40,3 +46,16 @@ module _ {O M : Type 0} where
   at_owner static_data none some = none
   at_owner (on_block None offset facts) none some = none
   at_owner (on_block (Some owner) offset facts) none some = some owner
+
+  -- the block on which a place lies counts its owners, where there is one
+  abbrev pub IsCounted : Place (Option O) M → Type 0
+  IsCounted nowhere = Unit {0}
+  IsCounted static_data = Unit {0}
+  IsCounted (on_block None offset facts) = ⊥
+  IsCounted (on_block (Some owner) offset facts) = Unit {0}
+
+  -- the same place, on a block with another owner, or on one that counts none
+  abbrev pub owned_by : Option O → Place (Option O) M → Place (Option O) M
+  owned_by owner nowhere = nowhere
+  owned_by owner static_data = static_data
+  owned_by owner (on_block old offset facts) = on_block owner offset facts

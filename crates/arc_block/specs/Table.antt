@@ -18,9 +18,9 @@ pub record RowOf (N T M : Type 0) : Type 0 where
   pub place : Place N M
   pub role : Role
 
--- in the table blocks go by their numbers
+-- in the table blocks go by their numbers; one that counts no owners has none
 abbrev pub Row : Type 0 → Type 0 → Type 0
-Row T M = RowOf ℕ T M
+Row T M = RowOf (Option ℕ) T M
 
 -- the rows by their numbers, where None has gone, and how many blocks were made
 pub record Table (T M : Type 0) : Type 0 where
@@ -35,11 +35,11 @@ empty_table = record { rows = []; blocks = 0 }
 abbrev pub row_at : {T M : Type 0} → Table T M → ℕ → Option (Row T M)
 row_at t i = option_flatten (slice_get t.rows i)
 
--- the block on which a place lies
-abbrev pub block_of : {M : Type 0} → Place ℕ M → Option ℕ
+-- the number of the block on which a place lies, where that counts its owners
+abbrev pub block_of : {M : Type 0} → Place (Option ℕ) M → Option ℕ
 block_of nowhere = None
 block_of static_data = None
-block_of (on_block block offset facts) = Some block
+block_of (on_block number offset facts) = number
 
 -- row i stands on the block with this number
 pub record StandsOn {T M : Type 0} (t : Table T M) (i block : ℕ) : Type 0 where
@@ -62,8 +62,7 @@ stands_on block (Some row) = option_map_or (λ b. b == block) (block_of row.plac
 abbrev pub owners : {T M : Type 0} → Table T M → ℕ → ℕ
 owners t block = length (filter (stands_on block) t.rows)
 
--- whether no other row stands on the block of this place. On no block the answer is no
-abbrev pub is_alone : {T M : Type 0} → Table T M → Place ℕ M → Bool
-is_alone t nowhere = false
-is_alone t static_data = false
-is_alone t (on_block block offset facts) = owners t block == 1
+-- Whether no other row stands on the block of this place. On no block the answer is no, and on one
+-- that counts no owners.
+abbrev pub is_alone : {T M : Type 0} → Table T M → Place (Option ℕ) M → Bool
+is_alone t place = option_map_or (λ block. owners t block == 1) (block_of place) false

@@ -1,14 +1,15 @@
 -- What is seen of a window and of its parts, and what holds of them.
 use Rattle.std.specs.Prelude.{◌≡◌, ℕ, ◌≤◌, Bool, true, false, List, [], length}
-use Rattle.std.specs.Prelude.{Option, Some}
+use Rattle.std.specs.Prelude.{Option, Some, None}
 use Rattle.arc_owners.specs.count.Calls.{Owner}
 use Rattle.arc_buffer.specs.Slice.{sub}
-use Rattle.arc_block.specs.Block.{Sort, native, vector, buffer, raw}
-use Rattle.arc_block.specs.Block.{BlockInfo, BlockView, native_facts}
+use Rattle.arc_block.specs.Block.{Sort, native, vector, raw}
+use Rattle.arc_block.specs.Block.{IsBuffer, BlockInfo, BlockView, native_facts, raw_info}
+use Rattle.arc_block.specs.Layouts.{LayoutFacts, holds_block}
 use Rattle.arc_block.specs.Place.{Place, nowhere, static_data, on_block, IsOnBlock, made_place}
 use Rattle.arc_block.specs.Table.{RowOf, reader}
 use Rattle.arc_block.specs.declared.parts.storage.Storage.{Storage}
-use Rattle.arc_block.specs.declared.parts.storage.Storage.TheVariants.{Nothing, Static, Block}
+use Rattle.arc_block.specs.declared.parts.storage.Storage.TheVariants.{Nothing, Static, Block, Raw}
 
 -- what is seen of a window: its items, and where it stands: on a block as one of its owners, where
 -- the block counts them
@@ -30,22 +31,31 @@ NeedsBlock {T} has_static items =
     let facts : BlockInfo (Unit {0}) = native_facts false (length items) in
     IsOnBlock (made_place {T = T} {N = Unit {0}} has_static tt facts items)
 
+-- what a window stands on: of an `Arc` that is a block by itself its buffer's items are seen
+abbrev pub StandsBy : Type 0 → Type 0 → Type 0
+StandsBy T M = Storage T (BlockView T M) (List T)
+
 -- the part from start to end of what a window stands on
-abbrev pub window_seen : {T M : Type 0} → Storage T (BlockView T M) → ℕ → ℕ → Window T M
+abbrev pub window_seen : {T M : Type 0} → StandsBy T M → ℕ → ℕ → Window T M
 window_seen (Nothing none) start end = record { items = []; place = nowhere }
 window_seen (Static items) start end = record { items = sub items start end; place = static_data }
 window_seen (Block block) start end = record {
   items = sub block.items start end;
   place = on_block (Some block.owner) start block.facts;
 }
+window_seen (Raw items) start end = record {
+  items = sub items start end;
+  place = on_block None start (raw_info (length items));
+}
 
 -- start to end lies within what the window stands on; a block has a place for each item; a window
 -- on nothing has no items
-abbrev pub IsWithin : {T M : Type 0} → Storage T (BlockView T M) → ℕ → ℕ → Type 0
+abbrev pub IsWithin : {T M : Type 0} → StandsBy T M → ℕ → ℕ → Type 0
 IsWithin (Nothing none) start end = (start ≡ 0) × (end ≡ 0)
 IsWithin (Static items) start end = (start ≤ end) × (end ≤ length items)
 IsWithin (Block block) start end = (start ≤ end) × (end ≤ length block.items)
     × (length block.items ≤ block.facts.size)
+IsWithin (Raw items) start end = (start ≤ end) × (end ≤ length items)
 
 -- a native block of this size
 abbrev pub IsNativeOf : {N M : Type 0} → ℕ → Place N M → Type 0
@@ -57,6 +67,52 @@ IsNativeOf size (on_block block offset facts) = (facts.sort ≡ native) × (fact
 pub record IsWholeOf {T M : Type 0} (size : ℕ) (w : Window T M) : Type 0 where
   pub items : length w.items ≡ size
   pub block : IsNativeOf size w.place
+
+-- the block on which a place lies is of this sort
+abbrev pub IsOfSort : {N M : Type 0} → Sort → Place N M → Type 0
+IsOfSort sort nowhere = ⊥
+IsOfSort sort static_data = ⊥
+IsOfSort sort (on_block block offset facts) = facts.sort ≡ sort
+
+-- or a caller's buffer
+abbrev pub IsOfBuffer : {N M : Type 0} → Place N M → Type 0
+IsOfBuffer nowhere = ⊥
+IsOfBuffer static_data = ⊥
+IsOfBuffer (on_block block offset facts) = IsBuffer facts.sort
+
+-- so many items from there on are all of the block's full places, where these are counted
+abbrev pub IsAllFull : {N M : Type 0} → (len : ℕ) → Place N M → Type 0
+IsAllFull len nowhere = ⊥
+IsAllFull len static_data = ⊥
+IsAllFull len (on_block block offset facts) = (offset ≡ 0) × (facts.full ≡ Some len)
+
+-- they are all of its places
+abbrev pub IsAllPlaces : {N M : Type 0} → (len : ℕ) → Place N M → Type 0
+IsAllPlaces len nowhere = ⊥
+IsAllPlaces len static_data = ⊥
+IsAllPlaces len (on_block block offset facts) = (offset ≡ 0) × (facts.size ≡ len)
+
+-- A window whose list can be had as its block's vector: any part of one, as it is moved to the
+-- front; but items that are dropped one by one are moved nowhere, so they have to be all.
+pub record IsVecPart {N T M : Type 0} (drops : Bool) (items : List T) (place : Place N M)
+    : Type 0 where
+  pub sort : IsOfSort vector place
+  pub whole : drops ≡ true → IsAllFull (length items) place
+
+-- as its box, which has no places beside its items'
+pub record IsBoxWhole {N T M : Type 0} (items : List T) (place : Place N M) : Type 0 where
+  pub sort : IsOfSort vector place
+  pub whole : IsAllPlaces (length items) place
+
+-- as the caller's buffer, which is all of it
+pub record IsBufferWhole {N T M : Type 0} (items : List T) (place : Place N M) : Type 0 where
+  pub sort : IsOfBuffer place
+  pub whole : IsAllFull (length items) place
+
+-- as the `Arc` of it
+pub record IsRawWhole {N T M : Type 0} (items : List T) (place : Place N M) : Type 0 where
+  pub sort : IsOfSort raw place
+  pub whole : IsAllFull (length items) place
 
 -- what is seen of a window's parts: a row of the table of lists, with its owner
 abbrev pub PartsView : Type 0 → Type 0 → Type 0
@@ -70,16 +126,15 @@ window_of p = record { items = p.items; place = p.place }
 abbrev pub parts_of : {T M : Type 0} → Window T M → PartsView T M
 parts_of w = record { items = w.items; place = w.place; role = reader }
 
--- a layout holds blocks of a sort
-abbrev pub IsHeldSort : (has_any : Bool) → Sort → Type 0
-IsHeldSort has_any native = Unit {0}
-IsHeldSort has_any vector = has_any ≡ true
-IsHeldSort has_any (buffer writable) = has_any ≡ true
-IsHeldSort has_any raw = has_any ≡ true
+-- A layout holds what a window stands on: nothing and static data where it has static data, and a
+-- block by its sort.
+abbrev pub IsHeld : {O M : Type 0} → LayoutFacts → Place (Option O) M → Type 0
+IsHeld layout nowhere = layout.has_static ≡ true
+IsHeld layout static_data = layout.has_static ≡ true
+IsHeld layout (on_block owner offset facts) = holds_block layout owner facts.sort ≡ true
 
--- A layout holds what a window stands on. Nothing and static data need a layout with static data,
--- and a block that isn't native one under which a block may be of the caller's making.
-abbrev pub IsHeld : {N M : Type 0} (has_static has_any : Bool) → Place N M → Type 0
-IsHeld has_static has_any nowhere = has_static ≡ true
-IsHeld has_static has_any static_data = has_static ≡ true
-IsHeld has_static has_any (on_block block offset facts) = IsHeldSort has_any facts.sort
+-- a layout holds the block, where the window stands on one
+abbrev pub IsBlockHeld : {O M : Type 0} → LayoutFacts → Place (Option O) M → Type 0
+IsBlockHeld layout nowhere = Unit {0}
+IsBlockHeld layout static_data = Unit {0}
+IsBlockHeld layout (on_block owner offset facts) = holds_block layout owner facts.sort ≡ true

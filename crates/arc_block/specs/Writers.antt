@@ -7,21 +7,27 @@ use Rattle.std.specs.Option.{option_map}
 use Rattle.std.specs.declared.vec.Vec.{Vec}
 use Rattle.std.specs.Vec.{vec_capacity}
 use Rattle.arc_owners.specs.declared.error.TryReserveError.{TryReserveError}
-use Rattle.arc_owners.specs.declared.error.TryReserveError.TheVariants.{AllocError}
+use Rattle.arc_owners.specs.declared.error.TryReserveError.TheVariants.{AllocError, NotUnique}
+use Rattle.arc_owners.specs.declared.error.TryReserveError.TheVariants.{Unsupported}
+use Rattle.arc_owners.specs.declared.error.TryReserveError.TheVariants.{CapacityOverflow}
 use Rattle.arc_owners.specs.declared.count.tokens.Pass.{Pass}
-use Rattle.arc_owners.specs.count.Calls.{Owner, IsFirst, IsFreshPass}
+use Rattle.arc_owners.specs.count.Calls.{Owner, IsFirst, IsFreshPass, Asks}
 use Rattle.arc_buffer.specs.Slice.{sub}
 use Rattle.arc_block.specs.declared.block.TheConstants.{MAX_OWNERS}
 use Rattle.arc_block.specs.declared.parts.room.Room.{Room}
+use Rattle.arc_block.specs.declared.parts.sole.SoleStorage.{SoleStorage}
+use Rattle.arc_block.specs.declared.parts.sole.SoleStorage.TheVariants.{Memory, Buffer}
 use Rattle.arc_block.specs.declared.parts.room.Room.TheVariants.{Spare, Fresh, Behind, Front}
-use Rattle.arc_block.specs.declared.parts.room.Room.TheVariants.{Growth, Refused}
-use Rattle.arc_block.specs.Block.{BlockInfo, IsLimited, partly_full}
+use Rattle.arc_block.specs.declared.parts.room.Room.TheVariants.{Growth, Own, Refused}
+use Rattle.arc_block.specs.Block.{Sort, native, buffer, BlockInfo, BlockView, IsLimited}
+use Rattle.arc_block.specs.Block.{IsMemory, IsWritable, memory_info}
 use Rattle.arc_block.specs.Place.{Place, nowhere, static_data, on_block, IsOnBlock, moved}
 use Rattle.arc_block.specs.Table.{RowOf, Role, reader, sole_writer, one_writer_of_several}
 use Rattle.arc_block.specs.Table.{inline, forgotten}
-use Rattle.arc_block.specs.Window.{PartsView, IsNativeOf, window_of}
-use Rattle.arc_block.specs.Steps.{Makes, Begins}
-use Rattle.arc_block.specs.Room.{ends_full, room_in}
+use Rattle.arc_block.specs.Window.{PartsView, IsNativeOf}
+use Rattle.arc_block.specs.Layouts.{LayoutFacts, holds_sort}
+use Rattle.arc_block.specs.Moves.{Moves, layout_move}
+use Rattle.arc_block.specs.Room.{ends_full, room_in, IsBuffersRefusal}
 
 -- How many places a writer of so many items has, from this offset of a block on: up to the block's
 -- end. But items that are dropped one by one, and behind which others lie, have their own alone.
@@ -33,31 +39,63 @@ writer_capacity drops info offset len =
 abbrev pub idle_writer : {N T M : Type 0} → RowOf N T M
 idle_writer = record { items = []; place = nowhere; role = sole_writer 0 }
 
+-- where a writer stands: on nothing, or on a block that counts its owners and may be written
+abbrev pub IsWriterPlace : {N M : Type 0} → Place (Option N) M → Type 0
+IsWriterPlace nowhere = Unit {0}
+IsWriterPlace static_data = ⊥
+IsWriterPlace (on_block None offset info) = ⊥
+IsWriterPlace (on_block (Some owner) offset info) = IsWritable info.sort
+
+-- the only owner of a block, who has its memory as a vector, and the block's sort
+pub record SoleOwner : Type 0 where
+  pub owner : Owner
+  pub sort : Sort
+
+-- the part from start to end of a block, as its only owner's
+abbrev pub block_part : {T M : Type 0} → Bool → BlockView T M → (start end : ℕ) → PartsView T M
+block_part drops block start end = record {
+  items = sub block.items start end;
+  place = on_block (Some block.owner) start block.facts;
+  role = sole_writer (writer_capacity drops block.facts start (end - start));
+}
+
+-- Start to end lies within the full places of a caller's buffer that may be written.
+abbrev pub IsBufferWithin : {T M : Type 0} → Bool → BlockView T M → (start end : ℕ) → Type 0
+IsBufferWithin one_pass block start end = IsLimited MAX_OWNERS one_pass block.owner
+    × (start ≤ end) × (end ≤ length block.items) × (length block.items ≤ block.facts.size)
+    × (block.facts.sort ≡ buffer true)
+
 module _ {T M A : Type 0} where
   -- the part from start to end of a vector that is a block's memory, as its only owner's
-  abbrev pub sole_part : Bool → Owner → Vec T A → (start end : ℕ) → PartsView T M
-  sole_part drops owner v start end =
-      let info = partly_full drops (vec_capacity v) (length v.items) in
+  abbrev pub sole_part : Bool → SoleOwner → Vec T A → (start end : ℕ) → PartsView T M
+  sole_part drops sole v start end =
+      let info = memory_info sole.sort drops (vec_capacity v) (length v.items) in
       record {
         items = sub v.items start end;
-        place = on_block (Some owner) start info;
+        place = on_block (Some sole.owner) start info;
         role = sole_writer (writer_capacity drops info start (end - start));
       }
 
   -- what is seen of a sole writer from start to end of a vector, which is the memory of a block
   -- that has this owner; or who stands on nothing
-  abbrev pub sole_seen : Bool → Option Owner → Vec T A → (start end : ℕ) → PartsView T M
+  abbrev pub sole_seen : Bool → Option SoleOwner → Vec T A → (start end : ℕ) → PartsView T M
   sole_seen drops None v start end = idle_writer
-  sole_seen drops (Some owner) v start end = sole_part drops owner v start end
+  sole_seen drops (Some sole) v start end = sole_part drops sole v start end
 
 module _ {T A : Type 0} where
-  -- Start to end lies within the full places of a block of this project's. Items that aren't
-  -- dropped one by one end where these do. On nothing there are no items and no memory.
-  abbrev pub IsSoleWithin : Bool → Bool → Option Owner → Vec T A → (start end : ℕ) → Type 0
+  -- Start to end lies within the full places of a block whose places are memory of ours. Items that
+  -- aren't dropped one by one end where these do. On nothing there are no items and no memory.
+  abbrev pub IsSoleWithin : Bool → Bool → Option SoleOwner → Vec T A → (start end : ℕ) → Type 0
   IsSoleWithin drops one_pass None v start end =
       (start ≡ 0) × (end ≡ 0) × (v.items ≡ []) × (vec_capacity v ≡ 0)
-  IsSoleWithin drops one_pass (Some owner) v start end = IsLimited MAX_OWNERS one_pass owner
+  IsSoleWithin drops one_pass (Some sole) v start end = IsLimited MAX_OWNERS one_pass sole.owner
       × (start ≤ end) × (end ≤ length v.items) × (drops ≡ false → end ≡ length v.items)
+      × IsMemory sole.sort
+
+-- what is seen of a sole writer, whose items are memory of ours or a caller's buffer
+abbrev pub sole_on : {P : Type 0} → SoleStorage P P → P
+sole_on (Memory parts) = parts
+sole_on (Buffer parts) = parts
 
 -- how many places a writer has
 abbrev pub capacity_of : Role → ℕ
@@ -89,12 +127,14 @@ module _ {N M : Type 0} where
   with_size places (on_block block offset info) =
       on_block block offset (record info { size = places })
 
-  -- the same place, in a block of which so many places more are full
-  abbrev pub with_full : ℕ → Place N M → Place N M
-  with_full more nowhere = nowhere
-  with_full more static_data = static_data
-  with_full more (on_block block offset info) =
-      on_block block offset (record info { full = option_map (λ full. full + more) info.full })
+  -- The same place, once so many items more stand behind so many: those of them that stand past
+  -- the block's full places are full places more.
+  abbrev pub with_full : (len more : ℕ) → Place N M → Place N M
+  with_full len more nowhere = nowhere
+  with_full len more static_data = static_data
+  with_full len more (on_block block offset info) = on_block block offset (record info {
+    full = option_map (λ full. full + (more - (full - (offset + len)))) info.full;
+  })
 
   -- how many places the block has, how far into it a place is, and the place at its front
   abbrev pub size_at : Place N M → ℕ
@@ -137,7 +177,10 @@ module _ {N T M : Type 0} where
     place = with_size places row.place;
     role = with_capacity row.role (places - offset_at row.place);
   }
-  with_room room row = row
+  with_room Spare row = row
+  with_room (Fresh places) row = row
+  with_room (Own additional) row = row
+  with_room (Refused e) row = row
 
 -- a writer on a block, whose places go up to the end of the block, which isn't to have fewer
 pub record CanGrow {T M : Type 0} (w : PartsView T M) (places : ℕ) : Type 0 where
@@ -192,55 +235,104 @@ pub record IsWholeWriter {T M : Type 0} (size : ℕ) (w : PartsView T M) : Type 
 
 -- Room for more items without memory: whether there is some, and the window with it.
 abbrev pub Reclaims : {N T M : Type 0} → Room → (old new : RowOf N T M) → Bool → Type 0
+Reclaims Spare old new found = (found ≡ true) × (new ≡ old)
+Reclaims Behind old new found = (found ≡ true) × (new ≡ with_room Behind old)
+Reclaims Front old new found = (found ≡ true) × (new ≡ with_room Front old)
 Reclaims (Fresh places) old new found = (found ≡ false) × (new ≡ old)
 Reclaims (Growth places) old new found = (found ≡ false) × (new ≡ old)
+Reclaims (Own additional) old new found = (found ≡ false) × (new ≡ old)
 Reclaims (Refused e) old new found = (found ≡ false) × (new ≡ old)
-Reclaims room old new found = (found ≡ true) × (new ≡ with_room room old)
 
--- a writer of these items, which are all that a native block of so many places holds
-abbrev pub new_writer : {N T M : Type 0} → Bool → N → List T → ℕ → RowOf N T M
-new_writer drops block items places = record {
+-- a writer of these items, which are all that a block of this sort and so many places holds
+abbrev pub writer_over : {N T M : Type 0} → Sort → Bool → N → List T → ℕ → RowOf N T M
+writer_over sort drops block items places = record {
   items = items;
-  place = on_block block 0 (partly_full drops places (length items));
+  place = on_block block 0 (memory_info sort drops places (length items));
   role = sole_writer places;
 }
 
--- the items stand behind the others, and the block's full places are as many more
+-- of a native block
+abbrev pub new_writer : {N T M : Type 0} → Bool → N → List T → ℕ → RowOf N T M
+new_writer = writer_over native
+
+-- the items stand behind the others, in places that are full then
 abbrev pub with_more : {N T M : Type 0} → List T → RowOf N T M → RowOf N T M
 with_more xs w = record w {
   items = w.items ++ xs;
-  place = with_full (length xs) w.place;
+  place = with_full (length w.items) (length xs) w.place;
 }
 
 module _ {T M H : Type 0} where
-  -- a writer of these items was made, as the first owner of a new block of so many places
-  pub record IsNewWriter (drops one_pass : Bool) (items : List T) (places : ℕ) (w : PartsView T M)
-      (p : Pass H) : Type 0 where
+  -- a writer of these items was made, as the first owner of a new block of this sort and so many
+  -- places
+  pub record IsWriterOver (sort : Sort) (drops one_pass : Bool) (items : List T) (places : ℕ)
+      (w : PartsView T M) (p : Pass H) : Type 0 where
     pub owner : Owner
-    pub made : w ≡ new_writer drops (Some owner) items places
+    pub made : w ≡ writer_over sort drops (Some owner) items places
     pub first : IsFirst MAX_OWNERS one_pass owner
     pub pass : IsFreshPass owner p
 
-  -- a writer of these items was made, with so many places: for none on nothing
-  pub record MakesWriter (drops one_pass : Bool) (items : List T) (places : ℕ) (w : PartsView T M)
-      (before after : Pass H) : Type 0 where
+  -- a writer of these items was made, as the first owner of a new block with all of them, of which
+  -- this is known
+  pub record MakesBufferWriter (one_pass : Bool) (info : BlockInfo M) (items : List T)
+      (w : PartsView T M) (p : Pass H) : Type 0 where
+    pub owner : Owner
+    pub made : w ≡ record {
+      items = items;
+      place = on_block (Some owner) 0 info;
+      role = sole_writer info.size;
+    }
+    pub first : IsFirst MAX_OWNERS one_pass owner
+    pub pass : IsFreshPass owner p
+
+  -- of a native block
+  abbrev pub IsNewWriter : (drops one_pass : Bool) → List T → ℕ → PartsView T M → Pass H → Type 0
+  IsNewWriter = IsWriterOver native
+
+  -- a writer of these items was made, with so many places: for none on nothing, and else on a new
+  -- block of this sort
+  pub record MakesWriterOver (sort : Sort) (drops one_pass : Bool) (items : List T) (places : ℕ)
+      (w : PartsView T M) (before after : Pass H) : Type 0 where
     pub idle : places ≡ 0 → (w ≡ idle_writer) × (after ≡ before)
-    pub new : 1 ≤ places → IsNewWriter drops one_pass items places w after
+    pub new : 1 ≤ places → IsWriterOver sort drops one_pass items places w after
+
+  -- on a native block
+  abbrev pub MakesWriter : (drops one_pass : Bool) → List T → ℕ → PartsView T M → Pass H → Pass H
+      → Type 0
+  MakesWriter = MakesWriterOver native
+
+  -- the window has this room now, without memory
+  abbrev pub HasRoom : Room → (old new : PartsView T M) → (before after : Pass H)
+      → Result (Unit {0}) TryReserveError → Type 0
+  HasRoom room old new before after reply =
+      (reply ≡ Ok tt) × (new ≡ with_room room old) × (after ≡ before)
 
   -- From this room there was made some, or it was refused, and then nothing changed. Of memory it
-  -- is refused only where a block is made or grows.
+  -- is refused only where a block is made or grows. A caller's buffer grows as it will, to the
+  -- places that were asked for or more, and refuses as it will.
   abbrev pub MakesRoom : (drops one_pass : Bool) → Room → (old new : PartsView T M)
       → (before after : Pass H) → Result (Unit {0}) TryReserveError → Type 0
+  MakesRoom drops one_pass Spare old new before after reply =
+      HasRoom Spare old new before after reply
+  MakesRoom drops one_pass Behind old new before after reply =
+      HasRoom Behind old new before after reply
+  MakesRoom drops one_pass Front old new before after reply =
+      HasRoom Front old new before after reply
   MakesRoom drops one_pass (Fresh places) old new before after (Ok done) =
       IsNewWriter drops one_pass [] places new after
   MakesRoom drops one_pass (Fresh places) old new before after (Err e) =
       (e ≡ AllocError) × (new ≡ old) × (after ≡ before)
+  MakesRoom drops one_pass (Growth places) old new before after (Ok done) =
+      HasRoom (Growth places) old new before after (Ok done)
   MakesRoom drops one_pass (Growth places) old new before after (Err e) =
       (e ≡ AllocError) × (new ≡ old) × (after ≡ before)
+  MakesRoom drops one_pass (Own additional) old new before after (Ok done) = (places : ℕ)
+      × (offset_at old.place + length old.items + additional ≤ places)
+      × (new ≡ with_room (Growth places) old) × (after ≡ before)
+  MakesRoom drops one_pass (Own additional) old new before after (Err e) =
+      IsBuffersRefusal e × (new ≡ old) × (after ≡ before)
   MakesRoom drops one_pass (Refused refusal) old new before after reply =
       (reply ≡ Err refusal) × (new ≡ old) × (after ≡ before)
-  MakesRoom drops one_pass room old new before after reply =
-      (reply ≡ Ok tt) × (new ≡ with_room room old) × (after ≡ before)
 
   -- Items were pushed: behind the others, after room was made for as many.
   abbrev pub Pushes : (drops one_pass : Bool) → Room → List T → (old new : PartsView T M)
@@ -249,11 +341,45 @@ module _ {T M H : Type 0} where
       × MakesRoom drops one_pass room old between before after (Ok tt)
       × (new ≡ with_more xs between)
 
-  -- A writer became a reader: on a block at the same place, and nothing was added. On nothing, what
-  -- no items are made of under such a layout.
-  pub record Freezes (has_static drops one_pass : Bool) (w v : PartsView T M)
-      (before after : Pass H) : Type 0 where
-    pub stays : IsOnBlock w.place → (v ≡ as_reader w) × (after ≡ before)
-    pub made : ¬ IsOnBlock w.place → Makes has_static drops one_pass w.items (window_of v)
-        × Begins (window_of v) before after
-    pub role : v.role ≡ reader
+  -- A writer became a reader under a layout: the same parts, where they may stay, and else what no
+  -- items are made of.
+  abbrev pub Freezes : LayoutFacts → (drops one_pass : Bool) → (w v : PartsView T M)
+      → (before after : Pass H) → Type 0
+  Freezes layout drops one_pass w v before after =
+      Moves (layout_move layout w.place) drops one_pass (as_reader w) v before after
+
+-- the only owner of a block of this sort may write it under a layout, which holds it
+abbrev pub MayWrite : (has_any : Bool) → Sort → Type 0
+MayWrite has_any sort = IsWritable sort × (holds_sort has_any sort ≡ true)
+
+module _ {M H : Type 0} where
+  -- A reader of so many items that stands here became a sole writer under a layout: on a block
+  -- that may be written there, whose count said that no other owner lives. On no block it had no
+  -- items.
+  abbrev pub BecomesSoleAt : (has_any : Bool) → Place (Option Owner) M → (len : ℕ)
+      → (before after : Pass H) → Type 0
+  BecomesSoleAt has_any nowhere len before after = (len ≡ 0) × (after ≡ before)
+  BecomesSoleAt has_any static_data len before after = (len ≡ 0) × (after ≡ before)
+  BecomesSoleAt has_any (on_block None offset info) len before after = ⊥
+  BecomesSoleAt has_any (on_block (Some o) offset info) len before after =
+      MayWrite has_any info.sort × Asks o before after true
+
+  -- It did not: the count was asked where the block may be written there, and said no, and else
+  -- nothing was asked. On no block it had items.
+  abbrev pub RefusesSoleAt : (has_any : Bool) → Place (Option Owner) M → (len : ℕ)
+      → (before after : Pass H) → Type 0
+  RefusesSoleAt has_any nowhere len before after = (1 ≤ len) × (after ≡ before)
+  RefusesSoleAt has_any static_data len before after = (1 ≤ len) × (after ≡ before)
+  RefusesSoleAt has_any (on_block None offset info) len before after = after ≡ before
+  RefusesSoleAt has_any (on_block (Some o) offset info) len before after =
+      (MayWrite has_any info.sort → Asks o before after false)
+      × (¬ MayWrite has_any info.sort → after ≡ before)
+
+module _ {T M H : Type 0} where
+  abbrev pub BecomesSole : (has_any : Bool) → PartsView T M → (before after : Pass H) → Type 0
+  BecomesSole has_any w before after =
+      BecomesSoleAt has_any w.place (length w.items) before after
+
+  abbrev pub RefusesSole : (has_any : Bool) → PartsView T M → (before after : Pass H) → Type 0
+  RefusesSole has_any w before after =
+      RefusesSoleAt has_any w.place (length w.items) before after

@@ -1,24 +1,42 @@
 //! Blocks: memory that stays where it is while a window stands on it.
 ghost use Rattle.std.specs.Prelude.{◌≡◌, ◌≤◌, ◌↔◌, length, true, false, Bool, IsTrue};
-ghost use Rattle.std.specs.Prelude.{IfOk, IfErr, IfSome, IfNone, replicate};
+ghost use Rattle.std.specs.Prelude.{IfOk, IfErr, OnErr, IfSome, IfNone, replicate};
 ghost use Rattle.std.specs.Vec.{vec_capacity, vec_len};
 ghost use Rattle.arc_owners.specs.count.Calls.{IsFirst, IsPassFor, IsFreshPass, IsNewPass, Learns};
 ghost use Rattle.arc_owners.specs.count.Calls.{Asks, FindsFull, MakesAnother, Leaves, TakesBlock};
 ghost use Rattle.arc_owners.specs.count.Calls.{IsPassOfNone, EndsByItself, EndsShown};
 ghost use Rattle.arc_buffer.specs.Slice.{sub};
-ghost use Rattle.arc_block.specs.Block.{native, native_block, IsLimited};
+ghost use Rattle.arc_block.specs.Block.{native, vector, buffer, raw, native_block, IsLimited};
+ghost use Rattle.arc_block.specs.Block.{IsMemory, IsWritable, held_as, buffer_block, raw_block};
+ghost use Rattle.arc_block.specs.Block.{raw_info};
+ghost use Rattle.std.specs.Arc.{arc_value};
+ghost use Rattle.std.specs.Prelude.{Some, None};
+ghost use Rattle.arc_block.specs.Block.{IsBuffer, IsBufferOf, full_places};
+ghost use Rattle.arc_block.specs.Contents.{held_in};
+ghost use Rattle.arc_block.specs.Unique.{AsksUnique};
+ghost use Rattle.arc_block.specs.LayoutFacts.{layout_facts};
+ghost use Rattle.arc_block.specs.Moves.{counted_move};
+ghost use Rattle.arc_block.specs.Writers.{MayWrite};
+ghost use Rattle.arc_owners.specs.memory.Boxes.{owner_in, value_of};
 
+mod content;
+mod metadata;
 mod sole;
 
+use crate::layout::Layout;
+use crate::parts::moves::Move;
+use arc_buffer::buffer::Buffer;
 use arc_buffer::kinds::Slice;
 use arc_memory::{Base, Native};
 use arc_owners::error::{AllocError, CountFull};
 use arc_owners::leave::RaiseLeave;
 use arc_owners::mark::{Mark, Open, Stepping};
-use arc_owners::owners::{CountedBox, Pass};
+use arc_owners::owners::{CountedBox, Pass, Shown};
+pub use content::{CallersBuffer, Content};
 pub(crate) use sole::{SoleCount, end_sole, new_count};
 use std::alloc::Allocator;
-use std::marker::{Model, PhantomData};
+use std::marker::Model;
+use std::sync::Arc;
 
 /// How many owners a window's block may have at once: 9,223,372,036,854,775,807.
 pub const MAX_OWNERS: u64 = 9223372036854775807;
@@ -33,33 +51,55 @@ pub fn max_owners() -> u64
 /// An owner of a block, which at most `MAX` owners share. The block is given back with its last
 /// owner.
 ///
-/// `B` is the type of callers' buffers and `M` that of their metadata. No block is made of a buffer
-/// yet, so they stand in the type alone.
+/// `B` is the type of callers' buffers and `M` that of their metadata.
 ///
 /// Dropped, it ends with a new pass under the mark `Open`. Under `Whole` it is a forgotten owner:
 /// the block stays for good.
-pub struct Block<S: Slice, B, M, A: Allocator + Copy, const MAX: u64, H: Mark = Open> {
+pub struct Block<
+    S: Slice,
+    B: Buffer<S::Item> + Drop,
+    M: Drop,
+    A: Allocator + Copy,
+    const MAX: u64,
+    H: Mark = Open,
+> {
     base: Base<S::Item>,
-    piece: CountedBox<Native<S::Item, A>, A, MAX, H>,
-    of: PhantomData<(B, M)>,
+    piece: CountedBox<Content<S::Item, B, M, A>, A, MAX, H>,
+    // That the items lie at the base for as long as an owner lives, so that no read asks the block.
+    shown: Shown<S::Item, Content<S::Item, B, M, A>>,
 }
 
-impl<S: Slice, B, M, A: Allocator + Copy, const MAX: u64, H: Mark> Model
-    for Block<S, B, M, A, MAX, H> {
+impl<
+    S: Slice,
+    B: Buffer<S::Item> + Drop,
+    M: Drop,
+    A: Allocator + Copy,
+    const MAX: u64,
+    H: Mark,
+> Model for Block<S, B, M, A, MAX, H> {
     ghost use Rattle.std.specs.Prelude.{◌≡◌};
-    ghost use Rattle.arc_owners.specs.memory.Boxes.{owner_in, value_of};
-    ghost use Rattle.arc_block.specs.Block.{BlockView, held_in, IsLimited};
+    ghost use Rattle.arc_owners.specs.memory.Boxes.{owner_in, value_of, lifetime_in};
+    ghost use Rattle.arc_block.specs.Block.{BlockView, IsLimited};
+    ghost use Rattle.arc_block.specs.Contents.{held_in, content_items};
 
     ghost Value = { BlockView S.Item M };
 
-    ghost view = { λ b. held_in S.DROPS (owner_in b.piece) (value_of b.piece) };
+    ghost view = { λ b.
+        held_in B.list B.places S.DROPS (owner_in b.piece) (value_of b.piece) };
 
     ghost invariant = { λ b. IsLimited MAX H.whole (owner_in b.piece)
-        × (b.base.at ≡ (value_of b.piece).places.base) };
+        × (b.base.at ≡ b.shown.at) × (b.shown.lifetime ≡ lifetime_in b.piece)
+        × (b.shown.items ≡ content_items B.list (value_of b.piece)) };
 }
 
-impl<S: Slice, B, M, A: Allocator + Copy, const MAX: u64, H: Mark> Drop
-    for Block<S, B, M, A, MAX, H> {
+impl<
+    S: Slice,
+    B: Buffer<S::Item> + Drop,
+    M: Drop,
+    A: Allocator + Copy,
+    const MAX: u64,
+    H: Mark,
+> Drop for Block<S, B, M, A, MAX, H> {
     #[inline(always)]
     fn drop(self)
         ensures ended { H.whole ≡ false → EndsShown H H.real self.owner }
@@ -67,7 +107,7 @@ impl<S: Slice, B, M, A: Allocator + Copy, const MAX: u64, H: Mark> Drop
         let Block {
             piece,
             base: _,
-            of: _,
+            shown: _,
         } = self;
         drop(piece);
     }
@@ -78,15 +118,19 @@ impl<S: Slice, B, M, A: Allocator + Copy, const MAX: u64, H: Mark> Drop
 ///
 /// # Errors
 ///
-/// The vector, where memory for the other one is refused.
+/// The vector, which then has items, where memory for the other one is refused.
 ///
 /// # Allocates
 ///
 /// Only where there are more places than items.
-fn exact<T: Drop, A: Allocator + Copy>(alloc: A, items: Vec<T, A>) -> Result<Vec<T, A>, Vec<T, A>>
+pub fn exact<T: Drop, A: Allocator + Copy>(
+    alloc: A,
+    items: Vec<T, A>,
+) -> Result<Vec<T, A>, Vec<T, A>>
     ensures exact { IfOk result (λ v. (v.items ≡ items.items)
         × (vec_capacity v ≡ length v.items)) }
     ensures refused { IfErr result (λ back. back ≡ items) }
+    ensures some { OnErr result (1 ≤ length items.items) }
 {
     if items.capacity() == items.len() {
         return Ok(items);
@@ -164,7 +208,28 @@ pub(crate) fn moved<T: Drop, A: Allocator + Copy, const N: usize>(
     }
 }
 
-impl<S: Slice, B, M, A: Allocator + Copy, const MAX: u64, H: Mark> Block<S, B, M, A, MAX, H> {
+impl<
+    S: Slice,
+    B: Buffer<S::Item> + Drop,
+    M: Drop,
+    A: Allocator + Copy,
+    const MAX: u64,
+    H: Mark,
+> Block<S, B, M, A, MAX, H> {
+    /// This owner's block, which is asked once where its items lie.
+    #[inline(always)]
+    fn over(piece: CountedBox<Content<S::Item, B, M, A>, A, MAX, H>) -> Self
+        requires { IsLimited MAX H.whole (owner_in piece) }
+        ensures { result ≡ held_in B.list B.places S.DROPS (owner_in piece) (value_of piece) }
+    {
+        let (at, shown) = piece.show();
+        Block {
+            base: Base { at },
+            piece,
+            shown,
+        }
+    }
+
     /// The first owner of a new native block with the items of a vector that has exactly a place
     /// for each, with a pass of the block.
     ///
@@ -180,12 +245,77 @@ impl<S: Slice, B, M, A: Allocator + Copy, const MAX: u64, H: Mark> Block<S, B, M
         ensures pass { IfOk result (λ r. IsFreshPass r.0.owner r.1) }
         ensures refused { IfErr result (λ back. back ≡ items) }
     {
-        let (at, native) = Native::of(items);
-        let base = Base { at };
-        let of = PhantomData;
-        match CountedBox::new(alloc, native) {
-            Ok((piece, pass)) => Ok((Block { piece, base, of }, pass)),
-            Err(native) => Err(native.into_vec()),
+        let (_, memory) = Native::of(items);
+        match CountedBox::new(alloc, Content::Native(memory)) {
+            Ok((piece, pass)) => Ok((Self::over(piece), pass)),
+            Err(content) => Err(content.into_memory()),
+        }
+    }
+
+    /// The first owner of a new block of a vector's memory, with its items and its places, and a
+    /// pass of the block. No item is copied.
+    ///
+    /// Takes memory for the count; refused, the vector comes back. `MAX` is at least 2.
+    pub fn try_from_vec(
+        alloc: A,
+        items: Vec<S::Item, A>,
+    ) -> Result<(Self, Pass<H>), Vec<S::Item, A>>
+        requires { 2 ≤ MAX }
+        ensures made { IfOk result (λ r. (r.0 ≡ held_as vector S.DROPS r.0.owner items)
+            × IsFirst MAX H.whole r.0.owner) }
+        ensures pass { IfOk result (λ r. IsFreshPass r.0.owner r.1) }
+        ensures refused { IfErr result (λ back. back ≡ items) }
+    {
+        let (_, memory) = Native::of(items);
+        match CountedBox::new(alloc, Content::Vector(memory)) {
+            Ok((piece, pass)) => Ok((Self::over(piece), pass)),
+            Err(content) => Err(content.into_memory()),
+        }
+    }
+
+    /// The first owner of a new block of a caller's buffer, with metadata or without, and a pass of
+    /// the block. No item is copied.
+    ///
+    /// Takes memory for the count and the buffer; refused, both come back. `MAX` is at least 2.
+    pub fn try_from_buffer(
+        alloc: A,
+        buffer: B,
+        metadata: Option<M>,
+    ) -> Result<(Self, Pass<H>), (B, Option<M>)>
+        requires { 2 ≤ MAX }
+        ensures made { IfOk result (λ r. (r.0 ≡ buffer_block (B.list buffer) (B.places buffer)
+            metadata r.0.owner) × IsFirst MAX H.whole r.0.owner) }
+        ensures pass { IfOk result (λ r. IsFreshPass r.0.owner r.1) }
+        ensures refused { IfErr result (λ back. (back.0 ≡ buffer) × (back.1 ≡ metadata)) }
+    {
+        let held = CallersBuffer {
+            buffer,
+            metadata,
+            writable: false,
+        };
+        match CountedBox::new(alloc, Content::Buffer(held)) {
+            Ok((piece, pass)) => Ok((Self::over(piece), pass)),
+            Err(content) => {
+                let held = content.into_buffer();
+                Err((held.buffer, held.metadata))
+            }
+        }
+    }
+
+    /// The first owner of a new block of an `Arc` of a caller's buffer, and a pass of the block. No
+    /// item is copied.
+    ///
+    /// Takes memory for the count; refused, the `Arc` comes back. `MAX` is at least 2.
+    pub fn try_from_raw(alloc: A, shared: Arc<B, A>) -> Result<(Self, Pass<H>), Arc<B, A>>
+        requires { 2 ≤ MAX }
+        ensures made { IfOk result (λ r. (r.0 ≡ raw_block (B.list (arc_value shared)) r.0.owner)
+            × IsFirst MAX H.whole r.0.owner) }
+        ensures pass { IfOk result (λ r. IsFreshPass r.0.owner r.1) }
+        ensures refused { IfErr result (λ back. back ≡ shared) }
+    {
+        match CountedBox::new(alloc, Content::Raw(shared)) {
+            Ok((piece, pass)) => Ok((Self::over(piece), pass)),
+            Err(content) => Err(content.into_raw()),
         }
     }
 
@@ -256,31 +386,160 @@ impl<S: Slice, B, M, A: Allocator + Copy, const MAX: u64, H: Mark> Block<S, B, M
         ensures again { IfNone result (pass.new ≡ pass.old) }
     {
         let base = Base { at: self.base.at };
-        let of = PhantomData;
+        let shown = self.shown.again();
         match self.piece.try_clone_once_as(leave, pass)? {
-            Ok(piece) => Some(Ok(Block { piece, base, of })),
+            Ok(piece) => Some(Ok(Block { piece, base, shown })),
             Err(e) => Some(Err(e)),
         }
     }
 }
 
-impl<S: Slice, B, M, A: Allocator + Copy, const MAX: u64, H: Mark> Block<S, B, M, A, MAX, H> {
+impl<
+    S: Slice,
+    B: Buffer<S::Item> + Drop,
+    M: Drop,
+    A: Allocator + Copy,
+    const MAX: u64,
+    H: Mark,
+> Block<S, B, M, A, MAX, H> {
     /// The items from the place `start` on and before the place `end`. It reads no memory.
     #[inline(always)]
     pub fn range(&self, start: usize, end: usize) -> &[S::Item]
         requires { (start ≤ end) × (end ≤ length self.now.items) }
         ensures { result.now ≡ sub self.now.items start end }
     {
-        self.piece.get().range(self.base.at, start, end)
+        self.piece.range(self.base.at, &self.shown, start, end)
     }
 
-    /// Whether items and count are of our own making.
-    pub fn is_native(&self) -> bool
-        ensures { IsTrue result ↔ (self.now.facts.sort ≡ native) }
+    /// Where an owner of the block goes that is to be a window under the layout `L`.
+    pub fn move_to<L: Layout>(&self) -> Move
+        ensures { result ≡ counted_move (layout_facts L.Layout) self.now.facts.sort }
     {
-        // All blocks are so far.
-        let _ = &self.piece;
-        true
+        match self.piece.get() {
+            Content::Native(_) => Move::Stays,
+            Content::Raw(_) if L::RAW => Move::LeavesCount,
+            _ if L::ANY => Move::Stays,
+            _ => Move::HandedBack,
+        }
+    }
+
+    /// A clone of the `Arc` that the block keeps. Takes no memory and adds no entry.
+    ///
+    /// # Errors
+    ///
+    /// `AllocError` where the `Arc` has as many owners as it may have.
+    pub fn try_clone_raw(&self) -> Result<Arc<B, A>, AllocError>
+        requires { self.now.facts.sort ≡ raw }
+        ensures items { IfOk result (λ shared. B.list (arc_value shared) ≡ self.now.items) }
+        ensures facts { IfOk result (λ shared.
+            self.now.facts ≡ raw_info (length (B.list (arc_value shared)))) }
+    {
+        match self.piece.get() {
+            Content::Raw(shared) => match Arc::try_clone(shared) {
+                Ok(shared) => Ok(shared),
+                Err(_) => Err(AllocError),
+            },
+            _ => unreachable!(),
+        }
+    }
+
+    /// Whether items and count are of this crate's own making, with so many places for items.
+    pub fn is_native_of(&self, size: usize) -> bool
+        ensures { IsTrue result ↔ (self.now.facts.sort ≡ native) × (self.now.facts.size ≡ size) }
+    {
+        match self.piece.get() {
+            Content::Native(memory) => memory.count() == size,
+            _ => false,
+        }
+    }
+
+    /// Whether its only owner may write the block under a layout that holds it: a native one, and,
+    /// where blocks may be of a caller's making, a vector, or a buffer that came in as writable.
+    pub fn may_write(&self, has_any: bool) -> bool
+        ensures { IsTrue result ↔ MayWrite has_any self.now.facts.sort }
+    {
+        match self.piece.get() {
+            Content::Native(_) => true,
+            Content::Vector(_) => has_any,
+            Content::Buffer(held) => held.writable && has_any,
+            Content::Raw(_) => false,
+        }
+    }
+
+    /// Whether the block keeps its items in memory of ours; else it is a caller's buffer, where it
+    /// may be written.
+    pub(crate) fn is_in_memory(&self) -> bool
+        ensures answer { IsTrue result ↔ IsMemory self.now.facts.sort }
+        ensures other { result ≡ false → IsWritable self.now.facts.sort
+            → self.now.facts.sort ≡ buffer true }
+    {
+        matches!(self.piece.get(), Content::Native(_) | Content::Vector(_))
+    }
+
+    /// Whether the block is a vector.
+    pub fn is_vector(&self) -> bool
+        ensures { IsTrue result ↔ (self.now.facts.sort ≡ vector) }
+    {
+        matches!(self.piece.get(), Content::Vector(_))
+    }
+
+    /// Whether the block is a vector with so many items.
+    pub fn is_vector_of_items(&self, len: usize) -> bool
+        ensures answer { IsTrue result
+            ↔ (self.now.facts.sort ≡ vector) × (length self.now.items ≡ len) }
+        ensures full { self.now.facts.sort ≡ vector
+            → self.now.facts.full ≡ full_places S.DROPS (length self.now.items) }
+    {
+        match self.piece.get() {
+            Content::Vector(memory) => memory.len() == len,
+            _ => false,
+        }
+    }
+
+    /// Whether the block is a vector with so many places.
+    pub fn is_vector_of(&self, size: usize) -> bool
+        ensures { IsTrue result ↔ (self.now.facts.sort ≡ vector) × (self.now.facts.size ≡ size) }
+    {
+        match self.piece.get() {
+            Content::Vector(memory) => memory.count() == size,
+            _ => false,
+        }
+    }
+
+    /// Whether the block is a caller's buffer with so many items.
+    pub fn is_buffer_of_items(&self, len: usize) -> bool
+        ensures answer { IsTrue result ↔ IsBufferOf self.now len }
+        ensures full { IsBuffer self.now.facts.sort
+            → self.now.facts.full ≡ Some (length self.now.items) }
+    {
+        match self.piece.get() {
+            Content::Buffer(held) => held.buffer.as_slice().len() == len,
+            _ => false,
+        }
+    }
+
+    /// Whether the block is an `Arc` of a caller's buffer with so many items.
+    pub fn is_raw_of_items(&self, len: usize) -> bool
+        ensures answer { IsTrue result
+            ↔ (self.now.facts.sort ≡ raw) × (length self.now.items ≡ len) }
+        ensures full { self.now.facts.sort ≡ raw
+            → self.now.facts.full ≡ Some (length self.now.items) }
+    {
+        match self.piece.get() {
+            Content::Raw(shared) => shared.as_slice().len() == len,
+            _ => false,
+        }
+    }
+
+    /// The metadata with which the block was made.
+    pub fn metadata(&self) -> Option<&M>
+        ensures some { IfSome result (λ m. self.now.facts.metadata ≡ Some m.now) }
+        ensures none { IfNone result (self.now.facts.metadata ≡ None) }
+    {
+        match self.piece.get() {
+            Content::Buffer(held) => held.metadata.as_ref(),
+            _ => None,
+        }
     }
 
     /// How many owners the block may have at once, and under which mark it is.
@@ -292,13 +551,6 @@ impl<S: Slice, B, M, A: Allocator + Copy, const MAX: u64, H: Mark> Block<S, B, M
         MAX
     }
 
-    /// How many places the block has.
-    pub fn size(&self) -> usize
-        ensures { result ≡ self.now.facts.size }
-    {
-        self.piece.get().count()
-    }
-
     /// Whether no other owner lives, by one load. Adds Alone with the answer. Takes no memory.
     #[inline(always)]
     pub fn is_unique_as(&self, pass: &mut Pass<H>) -> bool
@@ -308,19 +560,41 @@ impl<S: Slice, B, M, A: Allocator + Copy, const MAX: u64, H: Mark> Block<S, B, M
         self.piece.is_unique_as(pass)
     }
 
-    /// The items, taken out of the block, where no other owner lives: adds Alone, then the Down of
-    /// this one. Else it is handed back, and Alone was added with no. Takes no memory.
-    pub fn try_into_items_as(self, pass: &mut Pass<H>) -> Result<Vec<S::Item, A>, Self>
+    /// Whether nobody else has a part of the block: of a caller's buffer the count is asked, and
+    /// then the buffer; of an `Arc` nobody is, and the answer is no.
+    ///
+    /// # History
+    ///
+    /// But for an `Arc` Alone, with what the count says.
+    #[inline(always)]
+    pub fn is_unique_by_sort_as(&self, pass: &mut Pass<H>) -> bool
+        requires pass { IsPassFor self.now.owner pass.old }
+        ensures entry { AsksUnique self.now.facts.sort self.now.owner pass.old pass.new result }
+    {
+        match self.piece.get() {
+            Content::Native(_) | Content::Vector(_) => self.piece.is_unique_as(pass),
+            Content::Buffer(held) => {
+                let alone = self.piece.is_unique_as(pass);
+                alone && held.buffer.is_unique()
+            }
+            Content::Raw(_) => false,
+        }
+    }
+
+    /// What the block keeps, taken out of it, where no other owner lives: adds Alone, then the Down
+    /// of this one. Else it is handed back, and Alone was added with no. Takes no memory.
+    pub fn try_into_content_as(self, pass: &mut Pass<H>) -> Result<Content<S::Item, B, M, A>, Self>
         requires pass { IsPassFor self.owner pass.old }
-        ensures alone { IfOk result (λ items. (items.items ≡ self.items)
-            × (vec_capacity items ≡ self.facts.size) × TakesBlock self.owner pass.old pass.new) }
+        ensures content { IfOk result (λ content.
+            held_in B.list B.places S.DROPS self.owner content ≡ self) }
+        ensures alone { IfOk result (λ _. TakesBlock self.owner pass.old pass.new) }
         ensures others { IfErr result (λ back. (back ≡ self)
             × Asks self.owner pass.old pass.new false) }
     {
-        let Block { piece, base, of } = self;
+        let Block { piece, base, shown } = self;
         match piece.try_into_value_as(pass) {
-            Ok(native) => Ok(native.into_vec()),
-            Err(piece) => Err(Block { piece, base, of }),
+            Ok(content) => Ok(content),
+            Err(piece) => Err(Block { piece, base, shown }),
         }
     }
 
@@ -334,11 +608,11 @@ impl<S: Slice, B, M, A: Allocator + Copy, const MAX: u64, H: Mark> Block<S, B, M
         let Block {
             piece,
             base: _,
-            of: _,
+            shown: _,
         } = self;
         match piece.release_as(pass) {
-            Some(native) => {
-                drop(native);
+            Some(content) => {
+                drop(content);
                 true
             }
             None => false,
@@ -356,10 +630,10 @@ impl<S: Slice, B, M, A: Allocator + Copy, const MAX: u64, H: Mark> Block<S, B, M
         let Block {
             piece,
             base: _,
-            of: _,
+            shown: _,
         } = self;
-        let (native, pass) = piece.let_go();
-        drop(native);
+        let (content, pass) = piece.let_go();
+        drop(content);
         pass
     }
 
@@ -374,18 +648,32 @@ impl<S: Slice, B, M, A: Allocator + Copy, const MAX: u64, H: Mark> Block<S, B, M
     }
 }
 
-impl<S: Slice, B, M, A: Allocator + Copy, const MAX: u64, H: Mark> Block<S, B, M, A, MAX, H> {
+impl<
+    S: Slice,
+    B: Buffer<S::Item> + Drop,
+    M: Drop,
+    A: Allocator + Copy,
+    const MAX: u64,
+    H: Mark,
+> Block<S, B, M, A, MAX, H> {
     /// The same owner, of items of another kind. Takes no memory and adds nothing.
     pub fn into_kind<K: Slice<Item = S::Item>>(self) -> Block<K, B, M, A, MAX, H>
         requires { K.DROPS ≡ S.DROPS }
         ensures { result ≡ self }
     {
-        let Block { piece, base, of } = self;
-        Block { piece, base, of }
+        let Block { piece, base, shown } = self;
+        Block { piece, base, shown }
     }
 }
 
-impl<S: Slice, B, M, A: Allocator + Copy, const MAX: u64, H: Stepping> Block<S, B, M, A, MAX, H> {
+impl<
+    S: Slice,
+    B: Buffer<S::Item> + Drop,
+    M: Drop,
+    A: Allocator + Copy,
+    const MAX: u64,
+    H: Stepping,
+> Block<S, B, M, A, MAX, H> {
     /// A new pass, which has seen at least the entry that made this owner, and made nothing. It
     /// adds no entry and takes no memory.
     pub fn pass(&self) -> Pass<H>

@@ -7,7 +7,7 @@
 //! | `VecLayout` | yes | counted | yes | yes |
 //! | `RawLayout` | yes | a block by itself | yes | no |
 //!
-//! All hold native blocks. No window stands on a vector, a buffer or an `Arc` yet.
+//! All hold native blocks.
 ghost use Rattle.std.specs.Prelude.{◌≡◌, ◌==◌, ◌&&◌, ℕ, Bool, true, false, refl};
 ghost use Rattle.arc_block.specs.Block.{Sort};
 ghost use Rattle.arc_block.specs.Layouts.{clones_want, never_wanted, never, always, where_full};

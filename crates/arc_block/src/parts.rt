@@ -3,22 +3,26 @@
 //! What all windows have in common stands here once: where a window without items stands, how far
 //! into its block a part begins, and how items and owner are reached. That a list is legal for its
 //! kind, and where it may be cut, is known to the windows alone.
-ghost use Rattle.std.specs.Prelude.{◌≡◌, ◌≤◌, ◌==◌, ◌&&◌, false, length, [], IfOk, IfErr, OnErr};
+ghost use Rattle.std.specs.Prelude.{◌≡◌, ◌≤◌, ◌==◌, ◌&&◌, false, length, []};
+ghost use Rattle.std.specs.Prelude.{Some, IfOk, IfErr, OnErr};
 ghost use Rattle.arc_buffer.specs.Slice.{sub};
 ghost use Rattle.arc_owners.specs.count.Calls.{IsFirst, IsFreshPass, IsPassOfNone};
 ghost use Rattle.arc_block.specs.Block.{native_block};
-ghost use Rattle.arc_block.specs.Place.{nowhere, static_data, moved};
+ghost use Rattle.arc_block.specs.LayoutFacts.{layout_facts};
+ghost use Rattle.arc_block.specs.Place.{nowhere, static_data, on_block, moved, IsCounted};
 ghost use Rattle.arc_block.specs.Table.{reader};
-ghost use Rattle.arc_block.specs.Window.{window_of, NeedsBlock};
+ghost use Rattle.arc_block.specs.Window.{window_of, NeedsBlock, IsHeld};
 ghost use Rattle.arc_block.specs.Steps.{Makes, Begins, EndsShownAt};
 
 use crate::block::{Block, MAX_OWNERS};
 use crate::layout::{Layout, stands_on_nothing};
 use crate::static_slice::{StaticItems, StaticSlice};
+use arc_buffer::buffer::Buffer;
 use arc_buffer::kinds::Slice;
 use arc_owners::error::AllocError;
 use arc_owners::mark::{Mark, Open};
 use arc_owners::owners::Pass;
+use shared_buffer::SharedBuffer;
 pub use sole::SoleParts;
 use std::alloc::{Allocator, Global};
 use std::marker::Model;
@@ -29,22 +33,26 @@ use storage::Storage;
 ///
 /// `B` is the type of callers' buffers and `M` that of their metadata.
 ///
+/// Where a call says what it adds on a block, it adds nothing on an `Arc` that is a block by
+/// itself: that has no owners of ours, and a pass of none.
+///
 /// Dropped, parts end as a window does: under the mark `Open` with a new pass; under `Whole` their
 /// owner is a forgotten one.
 pub struct Parts<
     S: Slice,
-    B = Vec<<S as Slice>::Item>,
-    M = (),
+    B: Buffer<<S as Slice>::Item> + Drop = Vec<<S as Slice>::Item>,
+    M: Drop = (),
     A: Allocator + Copy = Global,
     H: Mark = Open,
 > {
-    on: Storage<S::Item, Block<S, B, M, A, MAX_OWNERS, H>>,
+    on: Storage<S::Item, Block<S, B, M, A, MAX_OWNERS, H>, SharedBuffer<S::Item, B, A>>,
     start: usize,
     end: usize,
     alloc: A,
 }
 
-impl<S: Slice, B, M, A: Allocator + Copy, H: Mark> Model for Parts<S, B, M, A, H> {
+impl<S: Slice, B: Buffer<S::Item> + Drop, M: Drop, A: Allocator + Copy, H: Mark> Model
+    for Parts<S, B, M, A, H> {
     ghost use Rattle.arc_block.specs.Window.{PartsView, parts_of, window_seen, IsWithin};
 
     ghost Value = { PartsView S.Item M };
@@ -54,7 +62,8 @@ impl<S: Slice, B, M, A: Allocator + Copy, H: Mark> Model for Parts<S, B, M, A, H
     ghost invariant = { λ p. IsWithin p.on p.start p.end };
 }
 
-impl<S: Slice, B, M, A: Allocator + Copy, H: Mark> Drop for Parts<S, B, M, A, H> {
+impl<S: Slice, B: Buffer<S::Item> + Drop, M: Drop, A: Allocator + Copy, H: Mark> Drop
+    for Parts<S, B, M, A, H> {
     #[inline(always)]
     fn drop(self)
         ensures ended { H.whole ≡ false → EndsShownAt H H.real self.place }
@@ -69,12 +78,19 @@ impl<S: Slice, B, M, A: Allocator + Copy, H: Mark> Drop for Parts<S, B, M, A, H>
             Storage::Block(block) => drop(block),
             Storage::Static(items) => drop(items),
             Storage::Nothing(items) => drop(items),
+            Storage::Raw(shared) => drop(shared),
         }
         drop(alloc);
     }
 }
 
-impl<S: Slice, B, M, A: Allocator + Copy, H: Mark> Parts<S, B, M, A, H> {
+impl<S: Slice, B: Buffer<S::Item> + Drop, M: Drop, A: Allocator + Copy, H: Mark> Parts<
+    S,
+    B,
+    M,
+    A,
+    H,
+> {
     /// No items, on nothing.
     #[inline(always)]
     pub fn on_nothing(alloc: A) -> Self
@@ -105,18 +121,37 @@ impl<S: Slice, B, M, A: Allocator + Copy, H: Mark> Parts<S, B, M, A, H> {
     fn over_new<L: Layout>(
         alloc: A,
         block: Block<S, B, M, A, MAX_OWNERS, H>,
+        end: usize,
         new: Pass<H>,
         pass: &mut Pass<H>,
     ) -> Self
         requires made { (block ≡ native_block S.DROPS block.owner block.items)
             × IsFirst MAX_OWNERS H.whole block.owner × IsFreshPass block.owner new }
+        requires all { end ≡ length block.items }
         requires stands { (L.STATIC && (length block.items == 0)) ≡ false }
         ensures made { Makes L.STATIC S.DROPS H.whole block.items (window_of result) }
         ensures role { result.role ≡ reader }
         ensures pass { Begins (window_of result) pass.old pass.new }
     {
-        let end = block.size();
         *pass = new;
+        Parts {
+            on: Storage::Block(block),
+            start: 0,
+            end,
+            alloc,
+        }
+    }
+
+    /// All items of a block, of which there are so many.
+    fn over_all(alloc: A, block: Block<S, B, M, A, MAX_OWNERS, H>, end: usize) -> Self
+        requires all { end ≡ length block.items }
+        requires places { length block.items ≤ block.facts.size }
+        ensures { result ≡ record {
+          items = block.items;
+          place = on_block (Some block.owner) 0 block.facts;
+          role = reader;
+        } }
+    {
         Parts {
             on: Storage::Block(block),
             start: 0,
@@ -154,7 +189,7 @@ impl<S: Slice, B, M, A: Allocator + Copy, H: Mark> Parts<S, B, M, A, H> {
             return Ok(Self::on_nothing(alloc));
         }
         let (block, new) = Block::try_from_slice(alloc, items)?;
-        Ok(Self::over_new::<L>(alloc, block, new, pass))
+        Ok(Self::over_new::<L>(alloc, block, items.len(), new, pass))
     }
 
     /// An array's items, which are moved as `try_from_slice_as` copies.
@@ -179,16 +214,23 @@ impl<S: Slice, B, M, A: Allocator + Copy, H: Mark> Parts<S, B, M, A, H> {
         ensures refused { IfErr result (λ back. (back ≡ array) × NeedsBlock L.STATIC array
             × (pass.new ≡ pass.old)) }
     {
-        if stands_on_nothing::<L>(array.as_slice().len()) {
+        let end = array.as_slice().len();
+        if stands_on_nothing::<L>(end) {
             drop(array);
             return Ok(Self::on_nothing(alloc));
         }
         let (block, new) = Block::try_from_array(alloc, array)?;
-        Ok(Self::over_new::<L>(alloc, block, new, pass))
+        Ok(Self::over_new::<L>(alloc, block, end, new, pass))
     }
 }
 
-impl<S: Slice, B, M, A: Allocator + Copy, H: Mark> Parts<S, B, M, A, H> {
+impl<S: Slice, B: Buffer<S::Item> + Drop, M: Drop, A: Allocator + Copy, H: Mark> Parts<
+    S,
+    B,
+    M,
+    A,
+    H,
+> {
     /// How many items there are.
     #[inline(always)]
     pub fn len(&self) -> usize
@@ -197,15 +239,43 @@ impl<S: Slice, B, M, A: Allocator + Copy, H: Mark> Parts<S, B, M, A, H> {
         self.end - self.start
     }
 
-    /// The items.
+    /// The items, of parts that a layout holds: only where an `Arc` may be a block by itself is it
+    /// asked what the parts stand on.
     #[inline(always)]
-    pub fn as_slice(&self) -> &[S::Item]
+    pub fn as_slice<L: Layout>(&self) -> &[S::Item]
+        requires held { IsHeld (layout_facts L.Layout) self.now.place }
+        ensures { result.now ≡ self.now.items }
+    {
+        if L::RAW {
+            return self.as_any_slice();
+        }
+        self.as_counted_slice()
+    }
+
+    /// The items, whatever the parts stand on.
+    fn as_any_slice(&self) -> &[S::Item]
         ensures { result.now ≡ self.now.items }
     {
         match &self.on {
             Storage::Block(block) => block.range(self.start, self.end),
             Storage::Static(items) => items.range(self.start, self.end),
             Storage::Nothing(items) => items.range(self.start, self.end),
+            Storage::Raw(shared) => shared.range(self.start, self.end),
+        }
+    }
+
+    /// The items, of parts that stand on no `Arc` that is a block by itself.
+    #[inline(always)]
+    fn as_counted_slice(&self) -> &[S::Item]
+        requires { IsCounted self.now.place }
+        ensures { result.now ≡ self.now.items }
+    {
+        match &self.on {
+            Storage::Block(block) => block.range(self.start, self.end),
+            Storage::Static(items) => items.range(self.start, self.end),
+            Storage::Nothing(items) => items.range(self.start, self.end),
+            // It isn't reached, and reads as the others do, so that all are one read.
+            Storage::Raw(shared) => shared.none.range(self.start, self.end),
         }
     }
 
@@ -225,8 +295,12 @@ impl<S: Slice, B, M, A: Allocator + Copy, H: Mark> Parts<S, B, M, A, H> {
     }
 }
 
+mod buffers;
 mod ends;
+pub mod moves;
 mod owners;
 pub mod room;
+mod shared_buffer;
 mod sole;
 mod storage;
+mod vectors;

@@ -2,7 +2,7 @@
 ghost use Rattle.std.specs.Prelude.{◌≡◌, ◌≤◌, ◌==◌, List, [], length, take};
 ghost use denote.RawPtr.{Ptr};
 ghost use Rattle.arc_buffer.specs.Slice.{sub};
-ghost use Rattle.arc_block.specs.StaticSlices.{slice_lent};
+ghost use Rattle.arc_owners.specs.memory.LentSlices.{slice_lent};
 
 use arc_memory::Base;
 use std::marker::{Model, PhantomData};

@@ -1,5 +1,10 @@
 -- What buffers answer.
 use Rattle.std.proofs.Common.{◌≡◌, ℕ, Bool, true, false, if◌then◌else◌, nat_lt, subst}
+use Rattle.std.proofs.Common.{List, ◌++◌, length, take, drop}
+use Rattle.std.proofs.Common.{refl, sym, ap}
+use Rattle.std.specs.List.{refill, length_refill}
+use Rattle.std.specs.declared.vec.Vec.{Vec}
+use Rattle.std.specs.Vec.{vec_items, with_items_from}
 use Rattle.arc_owners.specs.declared.error.TryReserveError.{TryReserveError}
 use Rattle.arc_owners.specs.declared.error.TryReserveError.TheVariants.{AllocError, NotUnique}
 use Rattle.arc_owners.specs.declared.error.TryReserveError.TheVariants.{CapacityOverflow}
@@ -29,3 +34,22 @@ vec_names_no_owner places same =
 -- nor does a buffer that never grows
 pub unsupported_names_no_owner : NotUnique ≡ Unsupported → ⊥
 unsupported_names_no_owner same = subst IsNotUnique same tt
+
+-- the list with other items from a place on, of which as many count as there are places
+abbrev pub written_from : {T : Type 0} → List T → (start : ℕ) → List T → List T
+written_from xs start ws =
+    refill (length xs) xs (take start xs ++ (ws ++ drop (length ws) (drop start xs)))
+
+-- a vector has the list that was written
+pub vec_written : {T A : Type 0} (v : Vec T A) (start : ℕ) (ws : List T)
+    → vec_items (with_items_from v start ws) ≡ written_from (vec_items v) start ws
+vec_written v start ws =
+    let ys : List _ = take start v.items ++ (ws ++ drop (length ws) (drop start v.items)) in
+    ap (λ n. take n (ys ++ drop (length ys) v.items)) v.ok.0
+
+-- which is as long as before
+pub written_long : {T : Type 0} (xs : List T) (start : ℕ) (ws : List T)
+    → length (written_from xs start ws) ≡ length xs
+written_long xs start ws =
+    sym (length_refill (length xs) xs (take start xs ++ (ws ++ drop (length ws) (drop start xs)))
+    refl)

@@ -3,6 +3,8 @@ ghost use Rattle.std.specs.Prelude.{◌≡◌, ◌≤◌, ◌<◌, ◌+◌, ◌+
 ghost use Rattle.std.specs.Prelude.{IfErr, OnOk, OnErr};
 ghost use Rattle.arc_owners.specs.declared.error.TryReserveError.{TryReserveError};
 ghost use Rattle.std.specs.Borrow.{Array, Lends, sem};
+ghost use Rattle.arc_buffer.specs.Buffers.{written_from};
+ghost use Rattle.arc_buffer.specs.Slice.{sub};
 ghost use Rattle.arc_owners.specs.declared.error.TryReserveError.TheVariants as reserve;
 
 use arc_owners::error::TryReserveError;
@@ -52,6 +54,17 @@ pub trait BufferMut<T>: Buffer<T> {
             (with_list self.old)) }
         ensures value { result.now ≡ Self.list self.old };
 
+    /// The same buffer with other items from a place on.
+    ghost with_part: { Self → ℕ → List T → Self };
+
+    /// The items from `start` to before `end`, to be changed in their places. What is written in a
+    /// part of a lent slice can't be handed on with that, so a buffer lends its parts itself.
+    fn as_mut_part(&mut self, start: usize, end: usize) -> &mut [T]
+        requires range { (start ≤ end) × (end ≤ length (Self.list self.old)) }
+        ensures* writes_back { sem 𝓛 (Lends Self.row (Array T.row 0) self.entry result
+            (with_part self.old start)) }
+        ensures value { result.now ≡ sub (Self.list self.old) start end };
+
     /// How many places it has.
     fn capacity(&self) -> usize
         ensures value { result ≡ Self.places self.now }
@@ -91,6 +104,11 @@ pub trait BufferMut<T>: Buffer<T> {
     /// Written in its places, a buffer has the list that was written, and as many places.
     ghost keeps: { (b : Self) (xs : List T) → length xs ≡ length (Self.list b)
         → (Self.list (with_list b xs) ≡ xs) × (Self.places (with_list b xs) ≡ Self.places b) };
+
+    /// Written from one of its places on, it has the list that was written, as far as that goes.
+    ghost keeps_part: { (b : Self) (start : ℕ) (xs : List T)
+        → (Self.list (with_part b start xs) ≡ written_from (Self.list b) start xs)
+        × (Self.places (with_part b start xs) ≡ Self.places b) };
 
     /// A buffer has no other owners that it could name.
     ghost names_no_owner: { (b : Self) (additional : ℕ)

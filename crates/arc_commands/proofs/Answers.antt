@@ -14,9 +14,13 @@ use Rattle.std.specs.Option.{option_map, option_map_or}
 use Rattle.arc_owners.specs.declared.error.RangeError.{RangeError}
 use Rattle.arc_owners.specs.declared.error.OwnerError.TheVariants.{AllocError, CountFull}
 use Rattle.arc_buffer.specs.Slice.{sub, range_answer, edge_answer}
-use Rattle.arc_block.specs.Block.{Sort, BlockInfo, native_facts, partly_full}
+use Rattle.arc_block.specs.Block.{Sort, BlockInfo, native_facts, partly_full, memory_info}
+use Rattle.arc_block.specs.Block.{native, vector, buffer, raw}
+use Rattle.arc_block.specs.Moves.{layout_move}
+use Rattle.arc_block.specs.declared.parts.moves.Move.{Move}
+use Rattle.arc_block.specs.declared.parts.moves.Move.TheVariants as to
 use Rattle.arc_block.specs.Place.{Place, nowhere, static_data, on_block, moved}
-use Rattle.arc_block.specs.Table.{Row, Table, Role, row_at, block_of}
+use Rattle.arc_block.specs.Table.{Row, Table, Role, row_at, block_of, is_alone}
 use Rattle.arc_commands.proofs.Lists.{set-there, there}
 use Rattle.arc_block.specs.Table.{reader, sole_writer, one_writer_of_several, inline, forgotten}
 use Rattle.arc_block.specs.Writers.{with_capacity, capacity_of, as_sole, after_advance}
@@ -24,32 +28,34 @@ use Rattle.arc_block.specs.Writers.{with_room, with_more, as_reader}
 use Rattle.arc_block.specs.declared.parts.room.Room.{Room as RoomFrom}
 use Rattle.arc_block.specs.declared.parts.room.Room.TheVariants as from
 use Rattle.arc_owners.specs.declared.error.TryReserveError.TheVariants as reserve
-use Rattle.arc_commands.proofs.FitsRoom.{no-more, never-short}
+use Rattle.arc_block.proofs.More.{more_none}
+use Rattle.arc_commands.proofs.FitsRoom.{never-short}
 use Rattle.arc_owners.specs.declared.error.TryReserveError.{TryReserveError}
 use Rattle.arc_commands.proofs.FitsRoom.{IsMade, room-fits, room-alone-fits, room-enough, fresh-fits}
 use Rattle.arc_commands.specs.Blocks.{is_sole}
 use Rattle.arc_commands.specs.Fits.{RowFits}
 use Rattle.arc_commands.proofs.Fits.{in-edge, in-range, advance-fits, truncate-fits, founded-fits}
-use Rattle.arc_commands.proofs.Fits.{writer-fits, part-fits, cut-fits, off-fits, to-fits, reads-fit}
+use Rattle.arc_commands.proofs.Fits.{writer-fits, vector-fits, part-fits, cut-fits, off-fits, to-fits, reads-fit}
 use Rattle.arc_commands.specs.Step.{Setting, Shortage, no_shortage, of_table, of_clones, of_blocks}
-use Rattle.arc_commands.specs.Step.{shortage, asking_block, filled, reclaimed, frozen, made_row}
+use Rattle.arc_commands.specs.Step.{of_buffer, is_unique_at, is_on_block, is_free, taken_as, after_move}
+use Rattle.arc_commands.specs.Step.{vector_row, count_brought, is_buffer_at, unless_buffer}
+use Rattle.arc_commands.specs.Step.{shortage, asking_block, filled, reclaimed, made_row}
 use Rattle.arc_commands.specs.Step.{begun, room_of, Around, around_of, Change, is_now, with_made}
 use Rattle.arc_commands.specs.Step.{gone, parted, split, answer_row, answer_any, row_by, window_of}
 use Rattle.arc_commands.specs.Step.{Step, answer, answer_by, may_write, with_block}
-use Rattle.arc_commands.specs.Step.{static_row, writer_row, truncated}
+use Rattle.arc_commands.specs.Step.{static_row, writer_row, truncated, is_allowed, has_call}
 use Rattle.arc_commands.specs.Step.{asking, founded, is_wanting, with_owner, part_of, cut_row}
 use Rattle.arc_commands.specs.Step.{off_part, to_part, changed, is_for, in_range}
-use Rattle.arc_commands.specs.declared.command.Cmd.{Cmd}
+use Rattle.arc_commands.specs.Commands.{ListCmd, ListReply}
 use Rattle.arc_commands.specs.declared.command.Cmd.TheVariants.{Slice, Clone, Sub, Uniq, Show, Len}
 use Rattle.arc_commands.specs.declared.command.Cmd.TheVariants.{Off, To, Adv, Trunc, Drop}
 use Rattle.arc_commands.specs.declared.command.Cmd.TheVariants.{Static, TakeStatic, MSlice}
 use Rattle.arc_commands.specs.declared.command.Cmd.TheVariants.{New, Cap, Zero, Room, Mut, Res, Push, Ext}
-use Rattle.arc_commands.specs.declared.command.Cmd.TheVariants.{Rec, Freeze}
-use Rattle.arc_commands.specs.declared.command.Reply.{Reply}
+use Rattle.arc_commands.specs.declared.command.Cmd.TheVariants.{Rec, Freeze, Vec, Take, TakeBox}
 use Rattle.arc_commands.specs.declared.command.Reply.TheVariants as reply
 
 -- a part stands on the block on which the whole does, or on none
-abbrev pub StaysOn : {M : Type 0} → Place ℕ M → Place ℕ M → Type 0
+abbrev pub StaysOn : {M : Type 0} → Place (Option ℕ) M → Place (Option ℕ) M → Type 0
 StaysOn whole nowhere = Unit {0}
 StaysOn whole static_data = Unit {0}
 StaysOn nowhere (on_block block offset info) = ⊥
@@ -57,17 +63,17 @@ StaysOn static_data (on_block block offset info) = ⊥
 StaysOn (on_block one here old) (on_block block offset info) = (one ≡ block) × (old ≡ info)
 
 module _ {M : Type 0} where
-  stays-same : (place : Place ℕ M) → StaysOn place place
+  stays-same : (place : Place (Option ℕ) M) → StaysOn place place
   stays-same nowhere = tt
   stays-same static_data = tt
   stays-same (on_block block offset info) = (refl, refl)
 
-  stays-moved : (by : ℕ) (place : Place ℕ M) → StaysOn place (moved by place)
+  stays-moved : (by : ℕ) (place : Place (Option ℕ) M) → StaysOn place (moved by place)
   stays-moved by nowhere = tt
   stays-moved by static_data = tt
   stays-moved by (on_block block offset info) = (refl, refl)
 
-  stays-part : (nothing : Bool) (by : ℕ) (place : Place ℕ M)
+  stays-part : (nothing : Bool) (by : ℕ) (place : Place (Option ℕ) M)
       → StaysOn place (if nothing then nowhere else moved by place)
   stays-part true by place = tt
   stays-part false by place = stays-moved by place
@@ -93,7 +99,7 @@ abbrev pub KeepsFit : {T M : Type 0} → Bool → Row T M → Row T M → Type 0
 KeepsFit drops row part = RowFits drops row → RowFits drops part
 
 -- a command that isn't for sole writers
-shared : {X F T : Type 0} (c : Cmd X F T) → ((places : ℕ) → is_for c (sole_writer places) ≡ false)
+shared : {T M : Type 0} (c : ListCmd T M) → ((places : ℕ) → is_for c (sole_writer places) ≡ false)
     → (role : Role) → is_for c role ≡ true → is_sole role ≡ false
 shared c each reader is = refl
 shared c each (sole_writer places) is = absurd (false≢true (sym (each places) ∙ is))
@@ -102,7 +108,7 @@ shared c each inline is = refl
 shared c each forgotten is = refl
 
 -- a command that is for sole writers alone
-writers-only : {X F T : Type 0} (c : Cmd X F T) → is_for c reader ≡ false
+writers-only : {T M : Type 0} (c : ListCmd T M) → is_for c reader ≡ false
     → ((places : ℕ) → is_for c (one_writer_of_several places) ≡ false) → is_for c inline ≡ false
     → (role : Role) → is_for c role ≡ true → is_sole role ≡ true
 writers-only c none several small reader is = absurd (false≢true (sym none ∙ is))
@@ -112,9 +118,14 @@ writers-only c none several small (one_writer_of_several places) is =
 writers-only c none several small inline is = absurd (false≢true (sym small ∙ is))
 writers-only c none several small forgotten is = absurd (false≢true is)
 
--- in answer to this command no shortage is told, or this one
-abbrev pub MayTell : {X F T : Type 0} → Shortage → Cmd X F T → Reply X F → Type 0
-MayTell short c r = (shortage r c ≡ no_shortage) ⊎ (shortage r c ≡ short)
+-- what some commands are answered tells of a shortage that need not be
+abbrev pub MayTellMore : {T M : Type 0} → ListCmd T M → Type 0
+MayTellMore c = (i : ℕ) × ((c ≡ Uniq i) ⊎ (c ≡ Freeze i))
+
+-- in answer to this command no shortage is told, or this one, or one that need not be
+abbrev pub MayTell : {T M : Type 0} → Shortage → ListCmd T M → ListReply T M → Type 0
+MayTell short c r =
+    (shortage r c ≡ no_shortage) ⊎ ((shortage r c ≡ short) ⊎ MayTellMore c)
 
 -- on its block a row stays, whatever it says of that
 abbrev pub StaysPut : {T M : Type 0} → Row T M → Row T M → Type 0
@@ -124,27 +135,28 @@ StaysPut row new = block_of new.place ≡ block_of row.place
 -- stays, or another one was made beside it, or it became a part of itself, or of a sole writer
 -- another one on its block, or one on a block more, or it went.
 module _ {T M : Type 0} (setting : Setting T) (short : Shortage) (around : Around) (row : Row T M)
-    (this : Cmd (List T) (List T) T) (Holds : Change T M → Type 0)
-    (same : (r : Reply (List T) (List T)) → MayTell short this r → Holds (is_now r row))
+    (this : ListCmd T M) (Holds : Change T M → Type 0)
+    (same : (r : ListReply T M) → MayTell short this r → Holds (is_now r row))
     (parts : (kept made : Row T M) → is_sole row.role ≡ false → IsPart row kept → IsPart row made
     → KeepsFit setting.drops row kept → KeepsFit setting.drops row made
     → Holds (with_made around kept made))
     (becomes : (part : Row T M) → IsPart row part → KeepsFit setting.drops row part
     → Holds (is_now reply.Ok part))
-    (writes : may_write around row ≡ true → Holds (is_now reply.Ok (as_sole setting.drops row)))
-    (refits : (new : Row T M) (r : Reply (List T) (List T)) → MayTell short this r
+    (writes : may_write setting around row ≡ true
+    → Holds (is_now reply.Ok (as_sole setting.drops row)))
+    (refits : (new : Row T M) (r : ListReply T M) → MayTell short this r
     → is_sole row.role ≡ true → StaysPut row new → KeepsFit setting.drops row new
     → Holds (is_now r new))
     (begins : (items : List T) (role : Role) (nothing : Bool) (info : BlockInfo M)
-    → let place = if nothing then nowhere else on_block around.blocks 0 info in
+    → let place = if nothing then nowhere else on_block (Some around.blocks) 0 info in
     RowFits {M = M} setting.drops (record { items = items; place = place; role = role })
     → Holds (begun (record { items = items; place = place; role = role })))
-    (goes : (r : Reply (List T) (List T)) → MayTell short this r → Holds (gone r)) where
+    (goes : (r : ListReply T M) → MayTell short this r → Holds (gone r)) where
   abbrev Outcome : Type 0
   Outcome = Change T M
 
   abbrev Command : Type 0
-  Command = Cmd (List T) (List T) T
+  Command = ListCmd T M
 
   abbrev IsFor : Command → Type 0
   IsFor c = is_for c row.role ≡ true
@@ -175,27 +187,30 @@ module _ {T M : Type 0} (setting : Setting T) (short : Shortage) (around : Aroun
   asking_each : (s : Shortage) → s ≡ short → (outcome : Outcome) → Holds outcome
       → Holds (asking s row outcome)
   asking_each no_shortage is outcome after = after
-  asking_each of_table is outcome after = same reply.Alloc (inr is)
+  asking_each of_table is outcome after = same reply.Alloc (inr (inl is))
   asking_each of_clones is outcome after = after
   asking_each of_blocks is outcome after = after
+  asking_each of_buffer is outcome after = after
 
-  asking_block_each : (s : Shortage) → s ≡ short → (answer : Reply (List T) (List T))
+  asking_block_each : (s : Shortage) → s ≡ short → (answer : ListReply T M)
       → shortage answer this ≡ of_blocks → (outcome : Outcome) → Holds outcome
       → Holds (asking_block s answer row outcome)
   asking_block_each no_shortage is answer told outcome after = after
   asking_block_each of_table is answer told outcome after = after
   asking_block_each of_clones is answer told outcome after = after
-  asking_block_each of_blocks is answer told outcome after = same answer (inr (told ∙ is))
+  asking_block_each of_blocks is answer told outcome after = same answer (inr (inl (told ∙ is)))
+  asking_block_each of_buffer is answer told outcome after = after
 
-  wanting_each : (s : Shortage) → s ≡ short → (wants : Sort → Bool) (place : Place ℕ M)
+  wanting_each : (s : Shortage) → s ≡ short → (wants : Sort → Bool) (place : Place (Option ℕ) M)
       (outcome : Outcome) → Holds outcome
       → Holds (if is_wanting s wants place then is_now (reply.Owner AllocError) row else outcome)
   wanting_each no_shortage is wants place outcome after = after
   wanting_each of_table is wants place outcome after = after
   wanting_each of_blocks is wants place outcome after = after
+  wanting_each of_buffer is wants place outcome after = after
   wanting_each of_clones is wants place outcome after =
       either (is_wanting of_clones wants place) (is_now (reply.Owner AllocError) row) outcome
-      (same (reply.Owner AllocError) (inr is)) after
+      (same (reply.Owner AllocError) (inr (inl is))) after
 
   parted_each : (part kept made : Row T M) → Holds (with_made around kept made)
       → Holds (parted setting short around row part kept made)
@@ -209,9 +224,9 @@ module _ {T M : Type 0} (setting : Setting T) (short : Shortage) (around : Aroun
       (either fills full (with_made around kept made) (same (reply.Owner CountFull) (inl refl))
       after))
 
-  part_is : (start end : ℕ) → IsPart row (part_of setting.has_static row start end)
+  part_is : (start end : ℕ) → IsPart row (part_of setting.layout.has_static row start end)
   part_is start end = (
-    stays-part (setting.has_static && (length (sub row.items start end) == 0)) start row.place,
+    stays-part (setting.layout.has_static && (length (sub row.items start end) == 0)) start row.place,
     refl,
   )
 
@@ -237,20 +252,16 @@ module _ {T M : Type 0} (setting : Setting T) (short : Shortage) (around : Aroun
       (one-is out part cut other one) (one-is out row part itself other)
       (one-fits out part cut fits-too fits) (one-fits out row part (λ f. f) fits-too))
 
-  off_is : (at : ℕ) → IsPart row (off_part setting.has_static row at)
+  off_is : (at : ℕ) → IsPart row (off_part setting.layout.has_static row at)
   off_is at =
-      one-is (at == 0) (part_of setting.has_static row 0 0)
-      (part_of setting.has_static row at (length row.items)) (part_is 0 0)
+      one-is (at == 0) (part_of setting.layout.has_static row 0 0)
+      (part_of setting.layout.has_static row at (length row.items)) (part_is 0 0)
       (part_is at (length row.items))
 
-  to_is : (at : ℕ) → IsPart row (to_part setting.has_static row at)
+  to_is : (at : ℕ) → IsPart row (to_part setting.layout.has_static row at)
   to_is at =
-      one-is (at == length row.items) (part_of setting.has_static row at at)
-      (part_of setting.has_static row 0 at) (part_is at at) (part_is 0 at)
-
-  yes_or_no : (yes : Bool) → MayTell short this (if yes then reply.Yes else reply.No)
-  yes_or_no true = inl refl
-  yes_or_no false = inl refl
+      one-is (at == length row.items) (part_of setting.layout.has_static row at at)
+      (part_of setting.layout.has_static row 0 at) (part_is at at) (part_is 0 at)
 
   -- a refusal for want of room may tell want of memory, and that was so then
   no-room : (e : TryReserveError) → ¬ (e ≡ reserve.AllocError)
@@ -260,9 +271,15 @@ module _ {T M : Type 0} (setting : Setting T) (short : Shortage) (around : Aroun
   no-room reserve.Unsupported fine = inl refl
   no-room reserve.CapacityOverflow fine = inl refl
 
+  -- a writer in a caller's buffer stays as he is
+  unless_each : (change : Change T M) → Holds change → Holds (unless_buffer row change)
+  unless_each change holds =
+      either (is_buffer_at row.place) (is_now reply.Kind row) change (same reply.Kind (inl refl))
+      holds
+
   module _ (sole : is_sole row.role ≡ true) where
     -- the row has room on its own block, and these items behind its others
-    stays-put : (r : RoomFrom) (items : List T) (place : Place ℕ M) (role : Role)
+    stays-put : (r : RoomFrom) (items : List T) (place : Place (Option ℕ) M) (role : Role)
         → block_of (with_more items (with_room r (record {
           items = row.items;
           place = place;
@@ -283,6 +300,9 @@ module _ {T M : Type 0} (setting : Setting T) (short : Shortage) (around : Aroun
     stays-put (from.Growth places) items nowhere role = refl
     stays-put (from.Growth places) items static_data role = refl
     stays-put (from.Growth places) items (on_block block offset info) role = refl
+    stays-put (from.Own additional) items nowhere role = refl
+    stays-put (from.Own additional) items static_data role = refl
+    stays-put (from.Own additional) items (on_block block offset info) role = refl
     stays-put (from.Refused e) items nowhere role = refl
     stays-put (from.Refused e) items static_data role = refl
     stays-put (from.Refused e) items (on_block block offset info) role = refl
@@ -290,7 +310,7 @@ module _ {T M : Type 0} (setting : Setting T) (short : Shortage) (around : Aroun
     -- so it stays without items too
     stays-alone : (r : RoomFrom) → StaysPut row (with_room r row)
     stays-alone r =
-        ap (λ (x : Row T M). block_of x.place) (sym (no-more (with_room r row)))
+        ap (λ (x : Row T M). block_of x.place) (sym (more_none (with_room r row)))
         ∙ stays-put r [] row.place row.role
 
     module _ (items : List T) (k : ℕ) (enough : length items ≤ k) where
@@ -308,6 +328,7 @@ module _ {T M : Type 0} (setting : Setting T) (short : Shortage) (around : Aroun
       filled_each (from.Refused e) is =
           same (reply.Reserve e) (no-room e (never-short setting.drops _ setting.item_size row k e
           (sym is)))
+      filled_each (from.Own additional) is = same reply.Kind (inl refl)
       filled_each (from.Fresh places) is =
           asking_block_each short refl (reply.Reserve reserve.AllocError) refl _
           (begins items (sole_writer places) false _
@@ -325,7 +346,7 @@ module _ {T M : Type 0} (setting : Setting T) (short : Shortage) (around : Aroun
           asking_block_each short refl (reply.Reserve reserve.AllocError) refl _
           (on-block (from.Growth places) is tt)
 
-    module _ (k : ℕ) where
+    module _ (k : ℕ) (told : shortage reply.No this ≡ no_shortage) where
       has-room : (r : RoomFrom) → r ≡ room_of setting row k → IsMade r
           → Holds (is_now reply.Yes (with_room r row))
       has-room r is made =
@@ -334,39 +355,40 @@ module _ {T M : Type 0} (setting : Setting T) (short : Shortage) (around : Aroun
           (room-alone-fits setting.drops _ setting.item_size row k sole f (subst IsMade is made)))
 
       reclaimed_each : (r : RoomFrom) → r ≡ room_of setting row k → Holds (reclaimed row r)
-      reclaimed_each (from.Refused e) is = same reply.No (inl refl)
-      reclaimed_each (from.Fresh places) is = same reply.No (inl refl)
-      reclaimed_each (from.Growth places) is = same reply.No (inl refl)
+      reclaimed_each (from.Refused e) is = same reply.No (inl told)
+      reclaimed_each (from.Fresh places) is = same reply.No (inl told)
+      reclaimed_each (from.Growth places) is = same reply.No (inl told)
+      reclaimed_each (from.Own additional) is = same reply.No (inl told)
       reclaimed_each from.Spare is = has-room from.Spare is tt
       reclaimed_each from.Behind is = has-room from.Behind is tt
       reclaimed_each from.Front is = has-room from.Front is tt
 
     -- the row is read from now on
-    frozen_each : shortage reply.Refused this ≡ of_blocks → Holds (frozen setting short around row)
-    frozen_each told =
-        let made : Row T M =
-        made_row setting.has_static setting.drops around.blocks row.items in
-        let nothing = setting.has_static && (length row.items == 0) in
-        let fresh : Holds (begun made) =
-        begins row.items reader nothing (native_facts setting.drops (length row.items))
-        (founded-fits setting.drops around.blocks row.items nothing (λ none.
-        eqb-true (length row.items) 0
-        (and_parts setting.has_static (length row.items == 0) none).1)) in
-        either (is_some (block_of row.place)) (is_now reply.Ok (as_reader row))
-        (if is_some (block_of made.place) then
-        asking_block short reply.Refused row (begun made) else begun made)
-        (refits (as_reader row) reply.Ok (inl refl) sole refl
-        (λ f. reads-fit setting.drops (as_reader row) refl f.within))
-        (either (is_some (block_of made.place))
-        (asking_block short reply.Refused row (begun made)) (begun made)
-        (asking_block_each short refl reply.Refused told (begun made) fresh) fresh)
+    moved_each : shortage reply.Refused this ≡ of_blocks → MayTellMore this → (move : Move)
+        → Holds (after_move setting short around row move)
+    moved_each told more to.Stays =
+        refits (as_reader row) reply.Ok (inl refl) sole refl
+        (λ f. reads-fit setting.drops (as_reader row) refl f.within)
+    moved_each told more to.HandedBack = same reply.Refused (inr (inr more))
+    moved_each told more to.NewCount = same reply.Refused (inr (inr more))
+    moved_each told more to.LeavesCount = same reply.Refused (inr (inr more))
+    moved_each told more to.NewEmpty =
+        asking_block_each short refl reply.Refused told _
+        (begins row.items reader false (native_facts setting.drops (length row.items))
+        (founded-fits setting.drops around.blocks row.items false (λ none. absurd (false≢true none))))
+
+  taken_each : (wanted : Bool) (answer : ListReply T M) → MayTell short this reply.Refused
+      → MayTell short this answer → Holds (taken_as wanted around row answer)
+  taken_each wanted answer refused tells =
+      either (wanted && is_free around.alone row.place) (gone answer) (is_now reply.Refused row) (goes answer tells)
+      (same reply.Refused refused)
 
   row_each : (c : Command) → c ≡ this → IsFor c → Holds (answer_row setting short around c row)
   row_each (Clone i) e is =
       parted_each row row row (parts row row (reads-only (Clone i) (λ places. refl) is) itself itself
       (λ f. f) (λ f. f))
   row_each (Sub i start end) e is =
-      let part = part_of setting.has_static row start end in
+      let part = part_of setting.layout.has_static row start end in
       let shares = reads-only (Sub i start end) (λ places. refl) is in
       in_range_each (range_answer setting.boundary row.items start end) _ (λ ok.
       let ranged = in-range setting.boundary row.items start end ok in
@@ -376,7 +398,7 @@ module _ {T M : Type 0} (setting : Setting T) (short : Shortage) (around : Aroun
       let shares = reads-only (Off i at) (λ places. refl) is in
       in_range_each (edge_answer setting.boundary row.items at) _ (λ ok.
       let within = in-edge setting.boundary row.items at ok in
-      split_each (at == 0) (cut_row row 0 at) (off_part setting.has_static row at) shares
+      split_each (at == 0) (cut_row row 0 at) (off_part setting.layout.has_static row at) shares
       (stays-moved 0 row.place, refl) (off_is at)
       (λ f. cut-fits setting row shares f 0 at (omega arith) within)
       (λ f. off-fits setting row shares f at within))
@@ -385,35 +407,41 @@ module _ {T M : Type 0} (setting : Setting T) (short : Shortage) (around : Aroun
       in_range_each (edge_answer setting.boundary row.items at) _ (λ ok.
       let within = in-edge setting.boundary row.items at ok in
       split_each (at == length row.items) (cut_row row at (length row.items))
-      (to_part setting.has_static row at) shares (stays-moved at row.place, refl) (to_is at)
+      (to_part setting.layout.has_static row at) shares (stays-moved at row.place, refl) (to_is at)
       (λ f. cut-fits setting row shares f at (length row.items) within (omega arith))
       (λ f. to-fits setting row shares f at within))
   row_each (Uniq i) e is =
-      same (if around.alone then reply.Yes else reply.No) (yes_or_no around.alone)
+      same (if is_unique_at short around.alone row.place then reply.Yes else reply.No)
+      (inr (inr (i, inl (sym e))))
   row_each (Show i) e is =
       asking_each short refl (is_now (reply.Items row.items) row)
       (same (reply.Items row.items) (inl refl))
   row_each (Len i) e is = same (reply.Number (length row.items)) (inl refl)
   row_each (Room i) e is = same (reply.Number (capacity_of row.role)) (inl refl)
   row_each (Mut i) e is =
-      either-is (may_write around row) (is_now reply.Ok (as_sole setting.drops row))
+      either-is (may_write setting around row) (is_now reply.Ok (as_sole setting.drops row))
       (is_now reply.Refused row) writes
       (same reply.Refused (inl (sym (ap (λ d. shortage reply.Refused d) e))))
   row_each (Res i k) e is =
-      filled_each (writes-only (Res i k) refl (λ places. refl) refl is) [] k (omega arith)
-      (room_of setting row k) refl
+      unless_each (filled setting short around row [] (room_of setting row k))
+      (filled_each (writes-only (Res i k) refl (λ places. refl) refl is) [] k (omega arith)
+      (room_of setting row k) refl)
   row_each (Push i x) e is =
-      filled_each (writes-only (Push i x) refl (λ places. refl) refl is) (x ∷ []) 1 (omega arith)
-      (room_of setting row 1) refl
+      unless_each (filled setting short around row (x ∷ []) (room_of setting row 1))
+      (filled_each (writes-only (Push i x) refl (λ places. refl) refl is) (x ∷ []) 1 (omega arith)
+      (room_of setting row 1) refl)
   row_each (Ext i xs) e is =
-      filled_each (writes-only (Ext i xs) refl (λ places. refl) refl is) xs (length xs)
-      (omega arith) (room_of setting row (length xs)) refl
+      unless_each (filled setting short around row xs (room_of setting row (length xs)))
+      (filled_each (writes-only (Ext i xs) refl (λ places. refl) refl is) xs (length xs)
+      (omega arith) (room_of setting row (length xs)) refl)
   row_each (Rec i k) e is =
-      reclaimed_each (writes-only (Rec i k) refl (λ places. refl) refl is) k (room_of setting row k)
-      refl
+      unless_each (reclaimed row (room_of setting row k))
+      (reclaimed_each (writes-only (Rec i k) refl (λ places. refl) refl is) k
+      (sym (ap (λ d. shortage reply.No d) e)) (room_of setting row k) refl)
   row_each (Freeze i) e is =
-      frozen_each (writes-only (Freeze i) refl (λ places. refl) refl is)
-      (sym (ap (λ d. shortage reply.Refused d) e))
+      moved_each (writes-only (Freeze i) refl (λ places. refl) refl is)
+      (sym (ap (λ d. shortage reply.Refused d) e)) (i, inr (sym e))
+      (layout_move setting.layout row.place)
   row_each (Adv i by) e is =
       let part = after_advance by row in
       in_range_each (edge_answer setting.boundary row.items by) (is_now reply.Ok part) (λ ok.
@@ -433,8 +461,14 @@ module _ {T M : Type 0} (setting : Setting T) (short : Shortage) (around : Aroun
       ) (truncate-fits setting.drops row len (ltb-true len (length row.items) less))))
       (same reply.Ok (inl refl))
   row_each (Drop i) e is = goes reply.Ok (inl refl)
+  row_each (Take i) e is =
+      taken_each _ (reply.Vec row.items) (inl (sym (ap (λ d. shortage reply.Refused d) e)))
+      (inl refl)
+  row_each (TakeBox i) e is =
+      taken_each _ (reply.Boxed row.items) (inl (sym (ap (λ d. shortage reply.Refused d) e)))
+      (inl refl)
   row_each (TakeStatic i) e is =
-      either (is_some (block_of row.place)) (is_now reply.Refused row)
+      either (is_on_block row.place) (is_now reply.Refused row)
       (gone (reply.Static row.items))
       (same reply.Refused (inl (sym (ap (λ d. shortage reply.Refused d) e))))
       (goes (reply.Static row.items) (inl refl))
@@ -442,8 +476,10 @@ module _ {T M : Type 0} (setting : Setting T) (short : Shortage) (around : Aroun
 
   pub any_each : (c : Command) → c ≡ this → Holds (answer_any setting short around c row)
   any_each c e =
-      either-is (is_for c row.role) (answer_row setting short around c row)
-      (is_now reply.Kind row) (row_each c e) (same reply.Kind (inl refl))
+      either-is (is_allowed setting.calls c row.role) (answer_row setting short around c row)
+      (is_now reply.Kind row)
+      (λ is. row_each c e (and_parts (is_for c row.role) (has_call setting.calls c) is).0)
+      (same reply.Kind (inl refl))
 
 -- a row that is put where it stands leaves the table as it is
 pub put-back : {T M : Type 0} (t : Table T M) (i : ℕ) (row : Row T M) → row_at t i ≡ Some row
@@ -455,11 +491,12 @@ put-back t i row at =
 -- Whatever holds of each way in which a command may be answered holds of its answer: the table
 -- stays, or has a window more, or a row was split, or became a part of itself, or of a sole writer
 -- another one on its block, or one on a block more, or went.
-module _ {T M : Type 0} (setting : Setting T) (short : Shortage) (t : Table T M)
-    (this : Cmd (List T) (List T) T) (Holds : Reply (List T) (List T) → Table T M → Type 0)
-    (same : (r : Reply (List T) (List T)) → MayTell short this r → Holds r t)
+module _ {T M : Type 0} (setting : Setting T) (short : Shortage) (places : ℕ) (t : Table T M)
+    (this : ListCmd T M) (enough : count_brought this ≤ places)
+    (Holds : ListReply T M → Table T M → Type 0)
+    (same : (r : ListReply T M) → MayTell short this r → Holds r t)
     (founds : (items : List T) (role : Role) (nothing : Bool) (info : BlockInfo M)
-    → let place = if nothing then nowhere else on_block t.blocks 0 info in
+    → let place = if nothing then nowhere else on_block (Some t.blocks) 0 info in
     RowFits {M = M} setting.drops (record { items = items; place = place; role = role })
     → Holds (reply.New (length t.rows)) (record {
       rows = t.rows ++ Some (record { items = items; place = place; role = role }) ∷ [];
@@ -478,39 +515,35 @@ module _ {T M : Type 0} (setting : Setting T) (short : Shortage) (t : Table T M)
     → KeepsFit setting.drops row part
     → Holds reply.Ok (record { rows = slice_set t.rows i (Some part); blocks = t.blocks }))
     (writes : (i : ℕ) (row : Row T M) → row_at t i ≡ Some row
-    → may_write (around_of t row) row ≡ true → Holds reply.Ok
+    → may_write setting (around_of t row) row ≡ true → Holds reply.Ok
     (record { rows = slice_set t.rows i (Some (as_sole setting.drops row)); blocks = t.blocks }))
-    (refits : (i : ℕ) (row new : Row T M) (r : Reply (List T) (List T)) → MayTell short this r
+    (refits : (i : ℕ) (row new : Row T M) (r : ListReply T M) → MayTell short this r
     → row_at t i ≡ Some row → is_sole row.role ≡ true → StaysPut row new
     → KeepsFit setting.drops row new
     → Holds r (record { rows = slice_set t.rows i (Some new); blocks = t.blocks }))
     (begins : (i : ℕ) (row : Row T M) (items : List T) (role : Role) (nothing : Bool)
     (info : BlockInfo M) → row_at t i ≡ Some row
-    → let place = if nothing then nowhere else on_block t.blocks 0 info in
+    → let place = if nothing then nowhere else on_block (Some t.blocks) 0 info in
     RowFits {M = M} setting.drops (record { items = items; place = place; role = role })
     → Holds reply.Ok (record {
       rows = slice_set t.rows i (Some (record { items = items; place = place; role = role }));
       blocks = with_block (is_some (block_of place)) t.blocks;
     }))
-    (goes : (r : Reply (List T) (List T)) → MayTell short this r → (i : ℕ)
+    (goes : (r : ListReply T M) → MayTell short this r → (i : ℕ)
     → Holds r (record { rows = slice_set t.rows i None; blocks = t.blocks })) where
-  abbrev After : Reply (List T) (List T) × Table T M → Type 0
+  abbrev After : ListReply T M × Table T M → Type 0
   After o = Holds o.0 o.1
 
   founded_each : (s : Shortage) → s ≡ short → (row : Row T M)
       → After (founded no_shortage t row) → After (founded s t row)
   founded_each no_shortage is row after = after
-  founded_each of_table is row after = same reply.Alloc (inr is)
+  founded_each of_table is row after = same reply.Alloc (inr (inl is))
   founded_each of_clones is row after = after
   founded_each of_blocks is row after = after
+  founded_each of_buffer is row after = after
 
   abbrev Makes : Option (Row T M) → Type 0
   Makes x = After (option_map_or (founded short t) x (reply.Kind, t))
-
-  static_each : (has_static : Bool) (items : List T)
-      → Makes (if has_static then Some (static_row items) else None)
-  static_each true items = founded_each short refl (static_row items) (statics items)
-  static_each false items = same reply.Kind (inl refl)
 
   writer_each : (items : List T) (places : ℕ) → length items ≤ places
       → Makes (Some (writer_row setting.drops t.blocks items places))
@@ -527,22 +560,59 @@ module _ {T M : Type 0} (setting : Setting T) (short : Shortage) (t : Table T M)
   zero_each count (Some item) =
       writer_each (replicate count item) count (omega (arith, length-replicate count item))
 
-  made_each : (c : Cmd (List T) (List T) T) → Makes (row_by setting t.blocks c)
-  made_each (Slice items) =
-      let nothing = setting.has_static && (length items == 0) in
-      founded_each short refl (made_row setting.has_static setting.drops t.blocks items)
+  if_each : (has : Bool) (row : Row T M) → Makes (Some row)
+      → Makes (if has then Some row else None)
+  if_each true row after = after
+  if_each false row after = same reply.Kind (inl refl)
+
+  list_each : (items : List T)
+      → Makes (Some (made_row setting.layout.has_static setting.drops t.blocks items))
+  list_each items =
+      let nothing = setting.layout.has_static && (length items == 0) in
+      founded_each short refl (made_row setting.layout.has_static setting.drops t.blocks items)
       (founds items reader nothing (native_facts setting.drops (length items))
       (founded-fits setting.drops t.blocks items nothing
       (λ none. eqb-true (length items) 0
-      (and_parts setting.has_static (length items == 0) none).1)))
-  made_each (Static items) = static_each setting.has_static items
-  made_each New = writer_each [] 0 (omega arith)
-  made_each (Cap places) = writer_each [] places (omega arith)
-  made_each (Zero count) = zero_each count setting.zero
-  made_each (MSlice items) = writer_each items (length items) (omega arith)
-  made_each other = same reply.Kind (inl refl)
+      (and_parts setting.layout.has_static (length items == 0) none).1)))
 
-  at_each : (c : Cmd (List T) (List T) T) → c ≡ this → (i : ℕ) (x : Option (Row T M))
+  either_each : (b : Bool) (one other : Row T M) → Makes (Some one) → Makes (Some other)
+      → Makes (Some (if b then one else other))
+  either_each true one other h k = h
+  either_each false one other h k = k
+
+  vector_each : (items : List T) → length items ≤ places
+      → Makes (Some (vector_row setting.layout.has_static setting.drops t.blocks items places))
+  vector_each items within =
+      let info : BlockInfo M = memory_info vector setting.drops places (length items) in
+      let row : Row T M = record {
+        items = items;
+        place = on_block (Some t.blocks) 0 info;
+        role = reader;
+      } in
+      either_each (places == 0) (made_row setting.layout.has_static setting.drops t.blocks items) row
+      (list_each items)
+      (founded_each short refl row (founds items reader false info
+      (vector-fits setting.drops t.blocks items places within)))
+
+  made_each : (c : ListCmd T M) → c ≡ this → Makes (row_by setting places t.blocks c)
+  made_each (Slice items) e =
+      if_each setting.calls.copies (made_row setting.layout.has_static setting.drops t.blocks items)
+      (list_each items)
+  made_each (Vec items) e =
+      if_each setting.layout.has_any (vector_row setting.layout.has_static setting.drops t.blocks items places)
+      (vector_each items (subst (λ d. count_brought d ≤ places) (sym e) enough))
+  made_each (Static items) e =
+      if_each setting.layout.has_static (static_row items)
+      (founded_each short refl (static_row items) (statics items))
+  made_each New e = writer_each [] 0 (omega arith)
+  made_each (Cap wanted) e = writer_each [] wanted (omega arith)
+  made_each (Zero count) e = zero_each count setting.zero
+  made_each (MSlice items) e =
+      if_each setting.calls.copies (writer_row setting.drops t.blocks items (length items))
+      (writer_each items (length items) (omega arith))
+  made_each other e = same reply.Kind (inl refl)
+
+  at_each : (c : ListCmd T M) → c ≡ this → (i : ℕ) (x : Option (Row T M))
       → row_at t i ≡ x
       → After (option_map_or (λ row. changed t i (answer_any setting short (around_of t row) c row))
       x (reply.NoWindow, t))
@@ -556,29 +626,114 @@ module _ {T M : Type 0} (setting : Setting T) (short : Shortage) (t : Table T M)
       (λ items role nothing info. begins i row items role nothing info at)
       (λ r tells. goes r tells i) c e
 
-  by_each : (c : Cmd (List T) (List T) T) → c ≡ this → (x : Option ℕ)
-      → After (answer_by setting short t c x)
-  by_each c e None = made_each c
+  by_each : (c : ListCmd T M) → c ≡ this → (x : Option ℕ)
+      → After (answer_by setting short places t c x)
+  by_each c e None = made_each c e
   by_each c e (Some i) = at_each c e i (row_at t i) refl
 
-  pub answer_each : (c : Cmd (List T) (List T) T) → c ≡ this → After (answer setting short t c)
+  pub answer_each : (c : ListCmd T M) → c ≡ this → After (answer setting short places t c)
   answer_each c e = by_each c e (window_of c)
 
-module _ {T M : Type 0} (setting : Setting T) (t : Table T M) (c : Cmd (List T) (List T) T) where
-  tells_none : (r : Reply (List T) (List T)) → MayTell no_shortage c r
-      → shortage r c ≡ no_shortage
-  tells_none r (inl is) = is
-  tells_none r (inr is) = is
+-- where it is told of a shortage that need not be, the answer is the same without it
+module _ {T M : Type 0} (setting : Setting T) where
+  module _ (i : ℕ) where
+    abbrev uniq : ListCmd T M
+    uniq = Uniq i
 
-  answer_ample : shortage (answer setting no_shortage t c).0 c ≡ no_shortage
-  answer_ample =
-      answer_each setting no_shortage t c (λ reply new. shortage reply c ≡ no_shortage) tells_none
-      (λ items role nothing info fits. refl) (λ items. refl)
-      (λ i row kept handed at shares one other fits also. refl) (λ i row part at is fits. refl)
-      (λ i row at may. refl) (λ i row new r tells at sole put fits. tells_none r tells)
-      (λ i row items role nothing info at fits. refl)
-      (λ r tells i. tells_none r tells) c refl
+    abbrev says : Shortage → Bool → Place (Option ℕ) M → ListReply T M
+    says short alone place = if is_unique_at short alone place then reply.Yes else reply.No
 
-  pub answer_step : Step setting t c (answer setting no_shortage t c).0
-      (answer setting no_shortage t c).1
-  answer_step = ap (λ short. answer setting short t c) answer_ample
+    abbrev Same : Bool → Place (Option ℕ) M → Type 0
+    Same alone place =
+        says (shortage (says no_shortage alone place) uniq) alone place
+        ≡ says no_shortage alone place
+
+    same-sort : (alone : Bool) (block : Option ℕ) (offset : ℕ) (info : BlockInfo M) (sort : Sort)
+        → Same alone (on_block block offset (record info { sort = sort }))
+    same-sort true block offset info native = refl
+    same-sort false block offset info native = refl
+    same-sort true block offset info vector = refl
+    same-sort false block offset info vector = refl
+    same-sort true block offset info (buffer writable) = refl
+    same-sort false block offset info (buffer writable) = refl
+    same-sort alone block offset info raw = refl
+
+    same-says : (alone : Bool) (place : Place (Option ℕ) M) → Same alone place
+    same-says alone nowhere = refl
+    same-says alone static_data = refl
+    same-says alone (on_block block offset info) = same-sort alone block offset info info.sort
+
+    abbrev freeze : ListCmd T M
+    freeze = Freeze i
+
+    same-move : (around : Around) (row : Row T M) (move : Move)
+        → let moved = λ (short : Shortage). after_move setting short around row move in
+        moved (shortage (moved no_shortage).reply freeze) ≡ moved no_shortage
+    same-move around row to.Stays = refl
+    same-move around row to.HandedBack = refl
+    same-move around row to.NewCount = refl
+    same-move around row to.LeavesCount = refl
+    same-move around row to.NewEmpty = refl
+
+  -- a command on a window, of which that is so on each row
+  module _ (t : Table T M) (i : ℕ) (c : ListCmd T M)
+      (each : (around : Around) (row : Row T M)
+      → answer_row setting (shortage (answer_row setting no_shortage around c row).reply c) around c
+      row ≡ answer_row setting no_shortage around c row) where
+    abbrev allowed : Shortage → Bool → Row T M → Change T M
+    allowed short b row =
+        if b then answer_row setting short (around_of t row) c row else is_now reply.Kind row
+
+    same-allowed : (b : Bool) (row : Row T M)
+        → allowed (shortage (allowed no_shortage b row).reply c) b row ≡ allowed no_shortage b row
+    same-allowed true row = each (around_of t row) row
+    same-allowed false row = refl
+
+    abbrev asks : Shortage → Option (Row T M) → ListReply T M × Table T M
+    asks short x =
+        option_map_or (λ row. changed t i
+        (allowed short (is_allowed setting.calls c row.role) row)) x (reply.NoWindow, t)
+
+    same-asks : (x : Option (Row T M))
+        → asks (shortage (asks no_shortage x).0 c) x ≡ asks no_shortage x
+    same-asks None = refl
+    same-asks (Some row) =
+        ap (changed t i) (same-allowed (is_allowed setting.calls c row.role) row)
+
+module _ {T M : Type 0} (setting : Setting T) (places : ℕ) (t : Table T M) (c : ListCmd T M)
+    (enough : count_brought c ≤ places) where
+  abbrev Ample : ListCmd T M → Type 0
+  Ample d =
+      answer setting (shortage (answer setting no_shortage places t d).0 d) places t d
+      ≡ answer setting no_shortage places t d
+
+  abbrev Told : ListReply T M → Type 0
+  Told r = (shortage r c ≡ no_shortage) ⊎ MayTellMore c
+
+  told : (r : ListReply T M) → MayTell no_shortage c r → Told r
+  told r (inl is) = inl is
+  told r (inr (inl is)) = inl is
+  told r (inr (inr more)) = inr more
+
+  answer_told : Told (answer setting no_shortage places t c).0
+  answer_told =
+      answer_each setting no_shortage places t c enough (λ reply new. Told reply) told
+      (λ items role nothing info fits. inl refl) (λ items. inl refl)
+      (λ i row kept handed at shares one other fits also. inl refl)
+      (λ i row part at is fits. inl refl) (λ i row at may. inl refl)
+      (λ i row new r tells at sole put fits. told r tells)
+      (λ i row items role nothing info at fits. inl refl) (λ r tells i. told r tells) c refl
+
+  ample : Told (answer setting no_shortage places t c).0 → Ample c
+  ample (inl none) = ap (λ short. answer setting short places t c) none
+  ample (inr (i, inl is)) =
+      subst Ample (sym is) (same-asks setting t i (Uniq i) (λ around row.
+      ap (λ r. is_now r row) (same-says setting i around.alone row.place)) (row_at t i))
+  ample (inr (i, inr is)) =
+      subst Ample (sym is) (same-asks setting t i (Freeze i) (λ around row.
+      same-move setting i around row
+      (layout_move setting.layout row.place)) (row_at t i))
+
+  pub answer_step : Step setting t c (answer setting no_shortage places t c).0
+      (answer setting no_shortage places t c).1
+  answer_step = record { places = places; enough = enough; answered = ample answer_told }

@@ -5,7 +5,7 @@ use Rattle.std.proofs.Common.{[], ◌∷◌, ◌++◌, Option, Some, None, slice
 use Rattle.std.proofs.Common.{sym, ap, ◌∙◌, subst, arith}
 use Rattle.std.specs.Option.{option_flatten}
 use Rattle.std.proofs.lemmas.Option.{none-some, same_Some}
-use Rattle.std.proofs.lemmas.Bool.{false≢true}
+use Rattle.std.proofs.lemmas.Bool.{false≢true, and_parts}
 use Rattle.arc_block.specs.Block.{BlockInfo}
 use Rattle.arc_block.specs.Place.{Place, nowhere, static_data, on_block}
 use Rattle.arc_block.specs.Table.{Row, Table, Role, StandsOn, row_at, reader, block_of}
@@ -15,10 +15,10 @@ use Rattle.arc_block.proofs.Alone.{is_alone-means}
 use Rattle.arc_block.proofs.Lists.{push-cases, set-cases}
 use Rattle.arc_commands.specs.Blocks.{SaysOf, RowsAgree, is_sole}
 use Rattle.arc_commands.specs.Step.{Setting, Shortage, no_shortage, shortage, Step, Run, answer}
-use Rattle.arc_commands.specs.Step.{around_of, founded, may_write, static_row, with_block}
+use Rattle.arc_commands.specs.Step.{around_of, founded, may_write, may_write_at, may_write_sort}
+use Rattle.arc_commands.specs.Step.{static_row, with_block, count_brought}
 use Rattle.arc_commands.proofs.Lists.{there}
-use Rattle.arc_commands.specs.declared.command.Cmd.{Cmd}
-use Rattle.arc_commands.specs.declared.command.Reply.{Reply}
+use Rattle.arc_commands.specs.Commands.{ListCmd, ListReply}
 use Rattle.arc_commands.proofs.Answers.{StaysOn, IsPart, answer_each}
 
 not-writing : (b : Bool) → (b ≡ true → ⊥) → b ≡ false
@@ -26,33 +26,33 @@ not-writing true none = absurd (none refl)
 not-writing false none = refl
 
 -- what a place says of its block
-abbrev info_at : {M : Type 0} → Place ℕ M → Option (BlockInfo M)
+abbrev info_at : {M : Type 0} → Place (Option ℕ) M → Option (BlockInfo M)
 info_at nowhere = None
 info_at static_data = None
 info_at (on_block block offset info) = Some info
 
 module _ {T M : Type 0} where
   -- this holds of the place of each row
-  abbrev Each : (Place ℕ M → Type 0) → List (Option (Row T M)) → Type 0
+  abbrev Each : (Place (Option ℕ) M → Type 0) → List (Option (Row T M)) → Type 0
   Each P rows = (i : ℕ) (row : Row T M) → slice_get rows i ≡ Some (Some row) → P row.place
 
   -- and of a row, if it is one
-  abbrev OfRow : (Place ℕ M → Type 0) → Option (Row T M) → Type 0
+  abbrev OfRow : (Place (Option ℕ) M → Type 0) → Option (Row T M) → Type 0
   OfRow P None = Unit {0}
   OfRow P (Some row) = P row.place
 
-  of-row : (P : Place ℕ M → Type 0) (x : Option (Row T M)) (row : Row T M) → x ≡ Some row
+  of-row : (P : Place (Option ℕ) M → Type 0) (x : Option (Row T M)) (row : Row T M) → x ≡ Some row
       → OfRow P x → P row.place
   of-row P x row is p = subst (OfRow P) is p
 
-  each-push : (P : Place ℕ M → Type 0) (rows : List (Option (Row T M))) (x : Option (Row T M))
+  each-push : (P : Place (Option ℕ) M → Type 0) (rows : List (Option (Row T M))) (x : Option (Row T M))
       → Each P rows → OfRow P x → Each P (rows ++ x ∷ [])
   each-push P rows x each new i row at = elim (push-cases rows i (Some row) x at) [
     | inl old ↦ each i row old
     | inr last ↦ of-row P x row last.1 new
   ]
 
-  each-set : (P : Place ℕ M → Type 0) (rows : List (Option (Row T M))) (i : ℕ)
+  each-set : (P : Place (Option ℕ) M → Type 0) (rows : List (Option (Row T M))) (i : ℕ)
       (x : Option (Row T M)) → Each P rows → OfRow P x → Each P (slice_set rows i x)
   each-set P rows i x each new j row at = elim (set-cases rows i j (Some row) x at) [
     | inl old ↦ each j row old.1
@@ -177,44 +177,51 @@ module _ {T M : Type 0} where
 
   module _ (t : Table T M) where
     -- what a row says of the block on which it stands, a row of t says too
-    abbrev IsSaid : Place ℕ M → Type 0
+    abbrev IsSaidOf : Option ℕ → BlockInfo M → Type 0
+    IsSaidOf None info = Unit {0}
+    IsSaidOf (Some block) info = SaysOf t block info
+
+    abbrev IsSaid : Place (Option ℕ) M → Type 0
     IsSaid nowhere = Unit {0}
     IsSaid static_data = Unit {0}
-    IsSaid (on_block block offset info) = SaysOf t block info
+    IsSaid (on_block block offset info) = IsSaidOf block info
 
     -- or it stands on the next block, of which it says this
-    abbrev IsSaidOrNew : BlockInfo M → Place ℕ M → Type 0
+    abbrev IsSaidOrNew : BlockInfo M → Place (Option ℕ) M → Type 0
     IsSaidOrNew made nowhere = Unit {0}
     IsSaidOrNew made static_data = Unit {0}
-    IsSaidOrNew made (on_block block offset info) =
+    IsSaidOrNew made (on_block None offset info) = Unit {0}
+    IsSaidOrNew made (on_block (Some block) offset info) =
         SaysOf t block info ⊎ ((block ≡ t.blocks) × (info ≡ made))
 
-    said-there : (i : ℕ) (row : Row T M) → row_at t i ≡ Some row → (place : Place ℕ M)
+    said-there : (i : ℕ) (row : Row T M) → row_at t i ≡ Some row → (place : Place (Option ℕ) M)
         → row.place ≡ place → IsSaid place
     said-there i row at nowhere is = tt
     said-there i row at static_data is = tt
-    said-there i row at (on_block block offset info) is = (i, row, offset, at, is)
+    said-there i row at (on_block None offset info) is = tt
+    said-there i row at (on_block (Some block) offset info) is = (i, row, offset, at, is)
 
     said-each : Each IsSaid t.rows
     said-each i row at = said-there i row (ap option_flatten at) row.place refl
 
-    said-stays : (whole part : Place ℕ M) → StaysOn whole part → IsSaid whole → IsSaid part
+    said-stays : (whole part : Place (Option ℕ) M) → StaysOn whole part → IsSaid whole → IsSaid part
     said-stays whole nowhere stays said = tt
     said-stays whole static_data stays said = tt
     said-stays nowhere (on_block block offset info) stays said = absurd stays
     said-stays static_data (on_block block offset info) stays said = absurd stays
     said-stays (on_block one here old) (on_block block offset info) stays said =
-        subst (λ i. SaysOf t block i) stays.1 (subst (λ n. SaysOf t n old) stays.0 said)
+        subst (λ i. IsSaidOf block i) stays.1 (subst (λ n. IsSaidOf n old) stays.0 said)
 
     said-part : (i : ℕ) (row part : Row T M) → row_at t i ≡ Some row
         → StaysOn row.place part.place → IsSaid part.place
     said-part i row part at stays =
         said-stays row.place part.place stays (said-there i row at row.place refl)
 
-    said-new : (made : BlockInfo M) (place : Place ℕ M) → IsSaid place → IsSaidOrNew made place
+    said-new : (made : BlockInfo M) (place : Place (Option ℕ) M) → IsSaid place → IsSaidOrNew made place
     said-new made nowhere said = tt
     said-new made static_data said = tt
-    said-new made (on_block block offset info) said = inl said
+    said-new made (on_block None offset info) said = tt
+    said-new made (on_block (Some block) offset info) said = inl said
 
     module _ (agree : RowsAgree t) where
       alone-of : (new : Table T M) → Alone new.rows → (i j block : ℕ) (s : StandsOn new i block)
@@ -281,14 +288,14 @@ module _ {T M : Type 0} where
           }
 
       -- a block on which a place stands is that of the whole
-      on-whole : (whole part : Place ℕ M) → StaysOn whole part → (block : ℕ)
+      on-whole : (whole part : Place (Option ℕ) M) → StaysOn whole part → (block : ℕ)
           → block_of part ≡ Some block → block_of whole ≡ Some block
       on-whole whole nowhere stays block on = absurd (none-some block on)
       on-whole whole static_data stays block on = absurd (none-some block on)
       on-whole nowhere (on_block n offset info) stays block on = absurd stays
       on-whole static_data (on_block n offset info) stays block on = absurd stays
       on-whole (on_block one here old) (on_block n offset info) stays block on =
-          ap Some stays.0 ∙ on
+          stays.0 ∙ on
 
       stood : (i : ℕ) (row part : Row T M) → row_at t i ≡ Some row → IsPart row part
           → Stood t.rows i part
@@ -342,26 +349,34 @@ module _ {T M : Type 0} where
           (alone-set t.rows i (Some part) alone-now (one-part i row part at is))
 
       -- a row that is made a writer's stands where it stood, or on nothing
-      sole-said : (drops : Bool) (items : List T) (place : Place ℕ M) → IsSaid place
+      sole-said : (drops : Bool) (items : List T) (place : Place (Option ℕ) M) → IsSaid place
           → IsSaid (sole_at drops items place).place
       sole-said drops items nowhere said = tt
       sole-said drops items static_data said = tt
       sole-said drops items (on_block block offset info) said = said
 
-      sole-on : (drops : Bool) (items : List T) (place : Place ℕ M) (block : ℕ)
+      sole-on : (drops : Bool) (items : List T) (place : Place (Option ℕ) M) (block : ℕ)
           → block_of (sole_at drops items place).place ≡ Some block → block_of place ≡ Some block
       sole-on drops items nowhere block on = on
       sole-on drops items static_data block on = on
       sole-on drops items (on_block n offset info) block on = on
 
       -- beside a row that may be written no other stands
-      only-here : (i : ℕ) (row : Row T M) → row_at t i ≡ Some row → may_write (around_of t row) row ≡ true
+      alone-there : (has_any alone : Bool) (place : Place (Option ℕ) M) (len : ℕ)
+          → is_some (block_of place) ≡ true → may_write_at has_any alone place len ≡ true
+          → alone ≡ true
+      alone-there has_any alone nowhere len on may = absurd (false≢true on)
+      alone-there has_any alone static_data len on may = absurd (false≢true on)
+      alone-there has_any alone (on_block block offset info) len on may =
+          (and_parts (may_write_sort has_any info.sort) alone may).1
+
+      only-here : (setting : Setting T) (i : ℕ) (row : Row T M) → row_at t i ≡ Some row → may_write setting (around_of t row) row ≡ true
           → (j block : ℕ) (other : Row T M) → slice_get t.rows j ≡ Some (Some other)
           → OnBlock block row → OnBlock block other → j ≡ i
-      only-here i row at may j block other here on beside =
+      only-here setting i row at may j block other here on beside =
           let alone : is_alone t row.place ≡ true =
-          sym (ap (λ b. if is_some b then is_alone t row.place else length row.items == 0) on)
-          ∙ may in
+          alone-there setting.writes_any (is_alone t row.place) row.place (length row.items)
+          (ap is_some on) may in
           let a = (is_alone-means t i row at).0 alone in
           let same : row ≡ a.owner.row =
           same_Some row a.owner.row (sym at ∙ a.owner.alive) in
@@ -370,23 +385,25 @@ module _ {T M : Type 0} where
           (sym on ∙ ap (λ (r : Row T M). block_of r.place) same ∙ a.owner.stands) in
           a.only j (stands-at j a.block other here (beside ∙ ap Some one))
 
-      writes : (drops : Bool) (i : ℕ) (row : Row T M) → row_at t i ≡ Some row
-          → may_write (around_of t row) row ≡ true → RowsAgree
-          (record { rows = slice_set t.rows i (Some (as_sole drops row)); blocks = t.blocks })
-      writes drops i row at may =
-          let new = as_sole drops row in
+      writes : (setting : Setting T) (i : ℕ) (row : Row T M) → row_at t i ≡ Some row
+          → may_write setting (around_of t row) row ≡ true → RowsAgree
+          (record { rows = slice_set t.rows i (Some (as_sole setting.drops row)); blocks = t.blocks })
+      writes setting i row at may =
+          let new = as_sole setting.drops row in
           agree-after (record { rows = slice_set t.rows i (Some new); blocks = t.blocks })
           (each-set IsSaid t.rows i (Some new) said-each
-          (sole-said drops row.items row.place (said-there i row at row.place refl))) refl
+          (sole-said setting.drops row.items row.place (said-there i row at row.place refl))) refl
           (alone-writes t.rows i row new alone-now (there (slice_get t.rows i) row at)
-          (sole-on drops row.items row.place) (only-here i row at may))
+          (sole-on setting.drops row.items row.place) (only-here setting i row at may))
 
       within-blocks : (j block : ℕ) (other : Row T M) → slice_get t.rows j ≡ Some (Some other)
-          → (place : Place ℕ M) → other.place ≡ place → block_of place ≡ Some block
+          → (place : Place (Option ℕ) M) → other.place ≡ place → block_of place ≡ Some block
           → block < t.blocks
       within-blocks j block other at nowhere is on = absurd (none-some block on)
       within-blocks j block other at static_data is on = absurd (none-some block on)
-      within-blocks j block other at (on_block n offset info) is on =
+      within-blocks j block other at (on_block None offset info) is on =
+          absurd (none-some block on)
+      within-blocks j block other at (on_block (Some n) offset info) is on =
           subst (λ m. m < t.blocks) (same_Some n block on)
           (agree.numbered n info (j, other, offset, ap option_flatten at, is))
 
@@ -404,8 +421,8 @@ module _ {T M : Type 0} where
         abbrev Says : ℕ → BlockInfo M → Type 0
         Says block info =
             ((j : ℕ) × (other : Row T M) × (offset : ℕ) × ¬ (i ≡ j)
-            × (slice_get t.rows j ≡ Some (Some other)) × (other.place ≡ on_block block offset info))
-            ⊎ ((offset : ℕ) × (new.place ≡ on_block block offset info))
+            × (slice_get t.rows j ≡ Some (Some other)) × (other.place ≡ on_block (Some block) offset info))
+            ⊎ ((offset : ℕ) × (new.place ≡ on_block (Some block) offset info))
 
         says : (block : ℕ) (info : BlockInfo M) → SaysOf refitted block info → Says block info
         says block info (j, other, offset, here, is) =
@@ -421,8 +438,8 @@ module _ {T M : Type 0} where
 
         -- beside it no other row stands
         beside-none : (j block offset : ℕ) (other : Row T M) (one info : BlockInfo M) → ¬ (i ≡ j)
-            → slice_get t.rows j ≡ Some (Some other) → other.place ≡ on_block block offset one
-            → (o : ℕ) → new.place ≡ on_block block o info → ⊥
+            → slice_get t.rows j ≡ Some (Some other) → other.place ≡ on_block (Some block) offset one
+            → (o : ℕ) → new.place ≡ on_block (Some block) o info → ⊥
         beside-none j block offset other one info apart here is o there-too =
             let on : OnBlock block row = sym put ∙ ap block_of there-too in
             apart (sym (alone-now i j block row other row-here here sole on (ap block_of is)))
@@ -462,7 +479,7 @@ module _ {T M : Type 0} where
 
       -- a row becomes one on a block more, or on none
       begins : (i : ℕ) (items : List T) (role : Role) (nothing : Bool) (info : BlockInfo M)
-          → let place = if nothing then nowhere else on_block t.blocks 0 info in
+          → let place = if nothing then nowhere else on_block (Some t.blocks) 0 info in
           RowsAgree (record {
             rows = slice_set t.rows i (Some (record { items = items; place = place; role = role }));
             blocks = with_block (is_some (block_of place)) t.blocks;
@@ -476,7 +493,7 @@ module _ {T M : Type 0} where
       begins i items role false info =
           let row : Row T M = record {
             items = items;
-            place = on_block t.blocks 0 info;
+            place = on_block (Some t.blocks) 0 info;
             role = role;
           } in
           agree-made info (record { rows = slice_set t.rows i (Some row); blocks = t.blocks + 1 })
@@ -522,7 +539,7 @@ module _ {T M : Type 0} where
           (joins i row handed at shares other rows (stood-set t.rows i (Some kept) stays)))
 
       founds : (items : List T) (role : Role) (nothing : Bool) (info : BlockInfo M)
-          → let place = if nothing then nowhere else on_block t.blocks 0 info in
+          → let place = if nothing then nowhere else on_block (Some t.blocks) 0 info in
           RowsAgree (record {
             rows = t.rows ++ Some (record { items = items; place = place; role = role }) ∷ [];
             blocks = with_block (is_some (block_of place)) t.blocks;
@@ -536,7 +553,7 @@ module _ {T M : Type 0} where
       founds items role false info =
           let row : Row T M = record {
             items = items;
-            place = on_block t.blocks 0 info;
+            place = on_block (Some t.blocks) 0 info;
             role = role;
           } in
           agree-made info (record { rows = t.rows ++ Some row ∷ []; blocks = t.blocks + 1 })
@@ -546,27 +563,28 @@ module _ {T M : Type 0} where
           (apart row (λ block on. omega (arith, same_Some t.blocks block on))))
 
   module _ (setting : Setting T) where
-    answer-agrees : (short : Shortage) (t : Table T M) (c : Cmd (List T) (List T) T) → RowsAgree t
-        → RowsAgree (answer setting short t c).1
-    answer-agrees short t c agree =
-        answer_each setting short t c (λ reply new. RowsAgree new) (λ reply tells. agree)
+    answer-agrees : (short : Shortage) (places : ℕ) (t : Table T M) (c : ListCmd T M)
+        → count_brought c ≤ places → RowsAgree t
+        → RowsAgree (answer setting short places t c).1
+    answer-agrees short places t c enough agree =
+        answer_each setting short places t c enough (λ reply new. RowsAgree new) (λ reply tells. agree)
         (λ items role nothing info fits. founds t agree items role nothing info)
         (statics t agree)
         (λ i row kept handed at shares one other fits also.
         splits t agree i row kept handed at shares one other)
         (λ i row part at is fits. becomes t agree i row part at is)
-        (writes t agree setting.drops)
+        (writes t agree setting)
         (λ i row new r tells at sole put fits. refits t agree i row new at sole put)
         (λ i row items role nothing info at fits. begins t agree i items role nothing info)
         (λ r tells i. goes t agree i) c refl
 
-    pub step_agrees : (t : Table T M) (c : Cmd (List T) (List T) T) (r : Reply (List T) (List T)) (new : Table T M)
+    pub step_agrees : (t : Table T M) (c : ListCmd T M) (r : ListReply T M) (new : Table T M)
         → Step setting t c r new → RowsAgree t → RowsAgree new
     step_agrees t c r new step agree =
-        subst (λ (o : Reply (List T) (List T) × Table T M). RowsAgree o.1) step
-        (answer-agrees (shortage r c) t c agree)
+        subst (λ (o : ListReply T M × Table T M). RowsAgree o.1) step.answered
+        (answer-agrees (shortage r c) step.places t c step.enough agree)
 
-    pub run_agrees : (t : Table T M) (cs : List (Cmd (List T) (List T) T)) (rs : List (Reply (List T) (List T)))
+    pub run_agrees : (t : Table T M) (cs : List (ListCmd T M)) (rs : List (ListReply T M))
         (new : Table T M) → Run setting t cs rs new → RowsAgree t → RowsAgree new
     run_agrees t [] [] new run agree = subst RowsAgree (sym run) agree
     run_agrees t (c ∷ cs) (r ∷ rs) new run agree =

@@ -10,7 +10,8 @@ use Rattle.arc_owners.specs.declared.error.RangeError.{RangeError}
 use Rattle.arc_owners.specs.declared.error.RangeError.TheVariants.{OutOfRange}
 use Rattle.arc_buffer.specs.Slice.{sub, range_answer, edge_answer}
 use Rattle.arc_buffer.proofs.Sub.{length-sub}
-use Rattle.arc_block.specs.Block.{native_facts, partly_full, full_places}
+use Rattle.arc_block.specs.Block.{native_facts, partly_full, full_places, memory_info}
+use Rattle.arc_block.specs.Block.{vector}
 use Rattle.arc_block.specs.Place.{Place, nowhere, static_data, on_block, moved}
 use Rattle.arc_block.specs.Room.{ends_full}
 use Rattle.arc_block.specs.Table.{Row, Role, reader, sole_writer, one_writer_of_several}
@@ -76,25 +77,25 @@ ends-at false size n less = (less, omega arith)
 -- ---- places
 
 module _ {M : Type 0} (drops : Bool) where
-  within-moved : (place : Place ℕ M) (by len n : ℕ) → LieWithin drops place len → by + n ≤ len
+  within-moved : (place : Place (Option ℕ) M) (by len n : ℕ) → LieWithin drops place len → by + n ≤ len
       → LieWithin drops (moved by place) n
   within-moved nowhere by len n w fits = omega (arith, w, fits)
   within-moved static_data by len n w fits = tt
   within-moved (on_block block offset info) by len n w fits =
       (w.0, omega (arith, w.1, fits), w.2)
 
-  within-less : (place : Place ℕ M) (len n : ℕ) → LieWithin drops place len → n ≤ len
+  within-less : (place : Place (Option ℕ) M) (len n : ℕ) → LieWithin drops place len → n ≤ len
       → LieWithin drops place n
   within-less nowhere len n w fits = omega (arith, w, fits)
   within-less static_data len n w fits = tt
   within-less (on_block block offset info) len n w fits = (w.0, omega (arith, w.1, fits), w.2)
 
-  within-if : (b : Bool) (place : Place ℕ M) (n : ℕ) → (b ≡ true → n ≡ 0)
+  within-if : (b : Bool) (place : Place (Option ℕ) M) (n : ℕ) → (b ≡ true → n ≡ 0)
       → LieWithin drops place n → LieWithin drops (if b then nowhere else place) n
   within-if true place n none w = none refl
   within-if false place n none w = w
 
-  places-moved : (place : Place ℕ M) (by len capacity : ℕ) → by ≤ len
+  places-moved : (place : Place (Option ℕ) M) (by len capacity : ℕ) → by ≤ len
       → HasPlaces drops place len capacity
       → HasPlaces drops (moved by place) (len - by) (capacity - by)
   places-moved nowhere by len capacity fits has = omega (arith, has)
@@ -108,13 +109,13 @@ module _ {M : Type 0} (drops : Bool) where
 -- What is not dropped one by one leaves its places when it is cut off; what is ends before the
 -- block's full places then, and so has none behind it.
 module _ {M : Type 0} where
-  places-left : (place : Place ℕ M) (len n capacity : ℕ) → HasPlaces false place len capacity
+  places-left : (place : Place (Option ℕ) M) (len n capacity : ℕ) → HasPlaces false place len capacity
       → HasPlaces false place n capacity
   places-left nowhere len n capacity has = has
   places-left static_data len n capacity has = has
   places-left (on_block block offset info) len n capacity has = has
 
-  places-own : (place : Place ℕ M) (len n capacity : ℕ) → LieWithin true place len → n < len
+  places-own : (place : Place (Option ℕ) M) (len n capacity : ℕ) → LieWithin true place len → n < len
       → HasPlaces true place len capacity → HasPlaces true place n n
   places-own nowhere len n capacity w less has = absurd (omega (arith, w, less))
   places-own static_data len n capacity w less has = has
@@ -171,7 +172,7 @@ module _ {T M : Type 0} (drops : Bool) where
       }
 
   -- as a sole writer a row has the places that its place gives
-  at-fits : (items : List T) (place : Place ℕ M) → LieWithin drops place (length items)
+  at-fits : (items : List T) (place : Place (Option ℕ) M) → LieWithin drops place (length items)
       → RowFits drops (sole_at drops items place)
   at-fits items nowhere w = record { within = refl; writer = λ sole. refl }
   at-fits items static_data w = record { within = refl; writer = λ sole. refl }
@@ -185,13 +186,14 @@ module _ {T M : Type 0} (drops : Bool) where
       → (nothing ≡ true → length items ≡ 0)
       → RowFits {M = M} drops (record {
         items = items;
-        place = if nothing then nowhere else on_block block 0 (native_facts drops (length items));
+        place = if nothing then nowhere else
+            on_block (Some block) 0 (native_facts drops (length items));
         role = reader;
       })
   founded-fits block items nothing none =
       let n = length items in
       let ends = ends-at drops n n (omega arith) in
-      let place : Place ℕ M = on_block block 0 (native_facts drops n) in
+      let place : Place (Option ℕ) M = on_block (Some block) 0 (native_facts drops n) in
       reads-fit (record {
         items = items;
         place = if nothing then nowhere else place;
@@ -199,18 +201,34 @@ module _ {T M : Type 0} (drops : Bool) where
       }) refl
       (within-if drops nothing place n none (counted drops n, omega (arith, ends.0), ends.1))
 
+  -- a window over a vector with so many places
+  pub vector-fits : (block : ℕ) (items : List T) (places : ℕ) → length items ≤ places
+      → RowFits {M = M} drops (record {
+        items = items;
+        place = on_block (Some block) 0 (memory_info vector drops places (length items));
+        role = reader;
+      })
+  vector-fits block items places less =
+      let n = length items in
+      let ends = ends-at drops places n less in
+      reads-fit (record {
+        items = items;
+        place = on_block (Some block) 0 (memory_info vector drops places n);
+        role = reader;
+      }) refl (counted drops n, omega (arith, ends.0), ends.1)
+
   -- a writer with so many places, which are at least as many as its items
   pub writer-fits : (block : ℕ) (items : List T) (places : ℕ) → length items ≤ places
       → RowFits {M = M} drops (record {
         items = items;
         place = if places == 0 then nowhere else
-            on_block block 0 (partly_full drops places (length items));
+            on_block (Some block) 0 (partly_full drops places (length items));
         role = sole_writer places;
       })
   writer-fits block items places less =
       let n = length items in
       let ends = ends-at drops places n less in
-      let place : Place ℕ M = on_block block 0 (partly_full drops places n) in
+      let place : Place (Option ℕ) M = on_block (Some block) 0 (partly_full drops places n) in
       record {
         within =
             within-if drops (places == 0) place n
@@ -228,7 +246,7 @@ module _ {T M : Type 0} (drops : Bool) where
 
       has : (b : Bool) → (places == 0) ≡ b
           → HasPlaces {M = M} drops (if b then nowhere else
-          on_block block 0 (partly_full drops places (length items))) (length items) places
+          on_block (Some block) 0 (partly_full drops places (length items))) (length items) places
       has true is = eqb-true places 0 is
       has false is = whole drops (length items) places
 
@@ -271,13 +289,13 @@ module _ {T M : Type 0} (setting : Setting T) (row : Row T M) (reads : is_sole r
       f.within (omega (arith, length-sub row.items start end ordered within, ordered, within))
 
   pub part-fits : (start end : ℕ) → start ≤ end → end ≤ length row.items
-      → RowFits setting.drops (part_of setting.has_static row start end)
+      → RowFits setting.drops (part_of setting.layout.has_static row start end)
   part-fits start end ordered within =
       let items = sub row.items start end in
-      let nothing = setting.has_static && (length items == 0) in
-      reads-fit setting.drops (part_of setting.has_static row start end) reads
+      let nothing = setting.layout.has_static && (length items == 0) in
+      reads-fit setting.drops (part_of setting.layout.has_static row start end) reads
       (within-if setting.drops nothing (moved start row.place) (length items)
-      (λ none. eqb-true (length items) 0 (and_parts setting.has_static (length items == 0) none).1)
+      (λ none. eqb-true (length items) 0 (and_parts setting.layout.has_static (length items == 0) none).1)
       (lies start end ordered within))
 
   pub cut-fits : (start end : ℕ) → start ≤ end → end ≤ length row.items
@@ -291,13 +309,13 @@ module _ {T M : Type 0} (setting : Setting T) (row : Row T M) (reads : is_sole r
   one-fits false one other h k = k
 
   pub off-fits : (at : ℕ) → at ≤ length row.items
-      → RowFits setting.drops (off_part setting.has_static row at)
+      → RowFits setting.drops (off_part setting.layout.has_static row at)
   off-fits at within =
-      one-fits (at == 0) (part_of setting.has_static row 0 0) (part_of setting.has_static row at (length row.items))
+      one-fits (at == 0) (part_of setting.layout.has_static row 0 0) (part_of setting.layout.has_static row at (length row.items))
       (part-fits 0 0 (omega arith) (omega arith))
       (part-fits at (length row.items) within (omega arith))
 
-  pub to-fits : (at : ℕ) → at ≤ length row.items → RowFits setting.drops (to_part setting.has_static row at)
+  pub to-fits : (at : ℕ) → at ≤ length row.items → RowFits setting.drops (to_part setting.layout.has_static row at)
   to-fits at within =
-      one-fits (at == length row.items) (part_of setting.has_static row at at) (part_of setting.has_static row 0 at)
+      one-fits (at == length row.items) (part_of setting.layout.has_static row at at) (part_of setting.layout.has_static row 0 at)
       (part-fits at at (omega arith) within) (part-fits 0 at (omega arith) within)

@@ -10,7 +10,7 @@ use Rattle.std.proofs.lemmas.List.{append-nil, length-append}
 use Rattle.arc_owners.specs.declared.error.TryReserveError.{TryReserveError}
 use Rattle.arc_owners.specs.declared.error.TryReserveError.TheVariants.{AllocError, Unsupported}
 use Rattle.arc_owners.specs.declared.error.TryReserveError.TheVariants.{CapacityOverflow}
-use Rattle.arc_block.specs.Block.{Sort, native, BlockInfo, full_places}
+use Rattle.arc_block.specs.Block.{Sort, native, BlockInfo, full_places, vector, buffer, raw}
 use Rattle.arc_block.specs.Place.{Place, nowhere, static_data, on_block}
 use Rattle.arc_block.specs.Room.{ends_full, growth, room_in}
 use Rattle.arc_block.specs.Table.{Row, sole_writer}
@@ -18,9 +18,11 @@ use Rattle.arc_block.specs.Writers.{capacity_of, room, room_at, with_room, with_
 use Rattle.arc_block.specs.Writers.{new_writer}
 use Rattle.arc_block.specs.declared.parts.room.Room.{Room}
 use Rattle.arc_block.specs.declared.parts.room.Room.TheVariants.{Spare, Fresh, Behind, Front}
-use Rattle.arc_block.specs.declared.parts.room.Room.TheVariants.{Growth, Refused}
+use Rattle.arc_block.specs.declared.parts.room.Room.TheVariants.{Growth, Own, Refused}
+use Rattle.arc_block.proofs.More.{more_none}
 use Rattle.arc_commands.specs.Blocks.{is_sole}
 use Rattle.arc_commands.specs.Fits.{LieWithin, HasPlaces, RowFits}
+use Rattle.arc_commands.specs.Step.{is_buffer, is_buffer_at}
 use Rattle.arc_commands.proofs.Roles.{sole_each}
 use Rattle.arc_commands.proofs.Lists.{none-of, none-or-some}
 
@@ -41,6 +43,7 @@ module _ {M : Type 0} (drops : Bool) (size : ℕ) (info : BlockInfo M) (offset l
   Tells Behind = Ends × (k ≤ info.size - offset - len)
   Tells Front = (drops ≡ false) × (k ≤ info.size - len)
   Tells (Growth places) = Ends × (offset + len + k ≤ places)
+  Tells (Own additional) = Unit {0}
   Tells (Refused e) = Unit {0}
 
   grown : (b : Bool) (places : ℕ) → Ends → offset + len + k ≤ places
@@ -53,20 +56,35 @@ module _ {M : Type 0} (drops : Bool) (size : ℕ) (info : BlockInfo M) (offset l
   larger true = omega arith
   larger false = omega arith
 
+  -- of a vector it may be what is needed alone
+  grown-vector : (a b : Bool) (places : ℕ) → Ends → offset + len + k ≤ places
+      → Tells (if a then Refused CapacityOverflow else
+      Growth (if b then offset + len + k else places))
+  grown-vector true b places ends enough = tt
+  grown-vector false true places ends enough = (ends, omega arith)
+  grown-vector false false places ends enough = (ends, enough)
+
+  growth-tells : (sort : Sort) → Ends
+      → Tells (growth sort size info.size (offset + len) k)
+  growth-tells native ends = grown _ _ ends (larger (nat_lt (2 * info.size) (2 ^ 64)))
+  growth-tells vector ends = grown-vector _ _ _ ends (larger (nat_lt (2 * info.size) (2 ^ 64)))
+  growth-tells (buffer writable) ends = tt
+  growth-tells raw ends = tt
+
   third : Ends → (b : Bool)
       → b ≡ (not drops && not (nat_lt offset len) && not (nat_lt (info.size - len) k))
-      → Tells (if b then Front else growth size info.size (offset + len + k))
+      → Tells (if b then Front else growth info.sort size info.size (offset + len) k)
   third ends true is =
       let both = and_parts (not drops && not (nat_lt offset len)) (not (nat_lt (info.size - len) k))
       (sym is) in
       let first = and_parts (not drops) (not (nat_lt offset len)) both.0 in
       (not-true drops first.0, ltb-false (info.size - len) k (not-true _ both.1))
-  third ends false is = grown _ _ ends (larger (nat_lt (2 * info.size) (2 ^ 64)))
+  third ends false is = growth-tells info.sort ends
 
   second : Ends → (b : Bool) → b ≡ not (nat_lt (info.size - offset - len) k)
       → Tells (if b then Behind else
       if not drops && not (nat_lt offset len) && not (nat_lt (info.size - len) k) then Front else
-      growth size info.size (offset + len + k))
+      growth info.sort size info.size (offset + len) k)
   second ends true is = (ends, ltb-false (info.size - offset - len) k (not-true _ (sym is)))
   second ends false is = third ends _ refl
 
@@ -74,7 +92,7 @@ module _ {M : Type 0} (drops : Bool) (size : ℕ) (info : BlockInfo M) (offset l
       → Tells (if b then Refused Unsupported else
       if not (nat_lt (info.size - offset - len) k) then Behind else
       if not drops && not (nat_lt offset len) && not (nat_lt (info.size - len) k) then Front else
-      growth size info.size (offset + len + k))
+      growth info.sort size info.size (offset + len) k)
   first true is = tt
   first false is = second (ends-so drops (ends_full info (offset + len)) (sym is)) _ refl
 
@@ -84,12 +102,13 @@ module _ {M : Type 0} (drops : Bool) (size : ℕ) (info : BlockInfo M) (offset l
 -- So many items, and then so many more, that end where the full places do and for which there are
 -- places.
 block-fits : {M : Type 0} (drops : Bool) (sort : Sort) (full : Option ℕ) (meta : Option M)
-    (block offset len more places : ℕ) → is_some full ≡ drops → offset + len + more ≤ places
+    (block : Option ℕ)
+    (offset len more places : ℕ) → is_some full ≡ drops → offset + len + more ≤ places
     → (drops ≡ true → option_map_or (λ f. offset + len == f) full true ≡ true)
-    → let place : Place ℕ M = on_block block offset (record {
+    → let place : Place (Option ℕ) M = on_block block offset (record {
       sort = sort;
       size = places;
-      full = option_map (λ f. f + more) full;
+      full = option_map (λ f. f + (more - (f - (offset + len)))) full;
       metadata = meta;
     }) in
     LieWithin drops place (len + more) × HasPlaces drops place (len + more) (places - offset)
@@ -101,41 +120,27 @@ block-fits false sort (Some f) meta block offset len more places counted fits en
     absurd (false≢true (sym counted))
 block-fits true sort (Some f) meta block offset len more places counted fits ends =
     let at : offset + len ≡ f = eqb-true (offset + len) f (ends refl) in
-    let last : (offset + (len + more) == f + more) ≡ true =
-    eq-eqb (offset + (len + more)) (f + more) (omega (arith, at)) in (
+    let full = f + (more - (f - (offset + len))) in
+    let last : (offset + (len + more) == full) ≡ true =
+    eq-eqb (offset + (len + more)) full (omega (arith, at)) in (
       (refl, omega (arith, at), omega (arith, at, fits)),
       sym (ap (λ b. if not b then len + more else places - offset) last),
     )
 
--- no items more change nothing
-same-full : (full : Option ℕ) → option_map (λ f. f + 0) full ≡ full
-same-full None = refl
-same-full (Some f) = let same : f + 0 ≡ f = omega arith in ap Some same
-
-same-place : {M : Type 0} (place : Place ℕ M) → with_full 0 place ≡ place
-same-place nowhere = refl
-same-place static_data = refl
-same-place (on_block block offset info) =
-    ap (λ full. on_block block offset (record info { full = full })) (same-full info.full)
-
-pub no-more : {T M : Type 0} (row : Row T M) → with_more [] row ≡ row
-no-more row =
-    ap (λ xs. record row { items = xs; place = with_full 0 row.place }) (append-nil row.items)
-    ∙ ap (λ place. record row { place = place }) (same-place row.place)
-
 -- room was made on the row's own block
 abbrev pub IsMade : Room → Type 0
 IsMade (Fresh places) = ⊥
+IsMade (Own additional) = ⊥
 IsMade (Refused e) = ⊥
 IsMade room = Unit {0}
 
 module _ {T M : Type 0} (drops : Bool) (first size : ℕ) (old more : List T) (k : ℕ)
     (enough : length more ≤ k) where
-  abbrev row-at : Place ℕ M → ℕ → Row T M
+  abbrev row-at : Place (Option ℕ) M → ℕ → Row T M
   row-at place places = record { items = old; place = place; role = sole_writer places }
 
   -- the row, of which is known how long it is
-  fit : (place : Place ℕ M) (places : ℕ) → LieWithin drops place ((length old) + (length more))
+  fit : (place : Place (Option ℕ) M) (places : ℕ) → LieWithin drops place ((length old) + (length more))
       → HasPlaces drops place ((length old) + (length more)) places
       → RowFits drops (record { items = old ++ more; place = place; role = sole_writer places })
   fit place places within has =
@@ -145,14 +150,14 @@ module _ {T M : Type 0} (drops : Bool) (first size : ℕ) (old more : List T) (k
         writer = λ sole. subst (λ l. HasPlaces drops place l places) long has;
       }
 
-  module _ (place : Place ℕ M) (places : ℕ) (f : RowFits drops (row-at place places)) where
+  module _ (place : Place (Option ℕ) M) (places : ℕ) (f : RowFits drops (row-at place places)) where
     -- nothing is written
     unwritten : more ≡ [] → RowFits drops (with_more more (row-at place places))
     unwritten none =
         subst (λ xs. RowFits drops (with_more xs (row-at place places))) (sym none)
-        (subst (RowFits drops) (sym (no-more (row-at place places))) f)
+        (subst (RowFits drops) (sym (more_none (row-at place places))) f)
 
-  spare-more : (place : Place ℕ M) (places : ℕ) → RowFits drops (row-at place places)
+  spare-more : (place : Place (Option ℕ) M) (places : ℕ) → RowFits drops (row-at place places)
       → nat_lt (places - (length old)) k ≡ false → 1 ≤ (length more) → RowFits drops (with_more more (row-at place places))
   spare-more nowhere places f spare some =
       let less : k ≤ places - (length old) = ltb-false (places - (length old)) k spare in
@@ -172,12 +177,12 @@ module _ {T M : Type 0} (drops : Bool) (first size : ℕ) (old more : List T) (k
           let all =
           block-fits drops info.sort info.full info.metadata block offset (length old) (length more) info.size w.0
           (omega (arith, has, less, some, enough)) (ends-so drops _ is) in
-          fit (with_full (length more) (on_block block offset info)) places all.0
-          (subst (λ c. HasPlaces drops (with_full (length more) (on_block block offset info)) ((length old) + (length more)) c)
+          fit (with_full (length old) (length more) (on_block block offset info)) places all.0
+          (subst (λ c. HasPlaces drops (with_full (length old) (length more) (on_block block offset info)) ((length old) + (length more)) c)
           (sym has) all.1)
 
   -- the places of the row are enough
-  spare-fits : (place : Place ℕ M) (places : ℕ) → RowFits drops (row-at place places)
+  spare-fits : (place : Place (Option ℕ) M) (places : ℕ) → RowFits drops (row-at place places)
       → nat_lt (places - (length old)) k ≡ false → RowFits drops (with_more more (row-at place places))
   spare-fits place places f spare = elim (none-or-some (length more)) [
     | inl none ↦ unwritten place places f (none-of more none)
@@ -185,7 +190,7 @@ module _ {T M : Type 0} (drops : Bool) (first size : ℕ) (old more : List T) (k
   ]
 
   -- in the block there is room
-  module _ (block offset places : ℕ) (info : BlockInfo M)
+  module _ (block : Option ℕ) (offset places : ℕ) (info : BlockInfo M)
       (f : RowFits drops (row-at (on_block block offset info) places)) where
     abbrev here : Row T M
     here = row-at (on_block block offset info) places
@@ -197,7 +202,7 @@ module _ {T M : Type 0} (drops : Bool) (first size : ℕ) (old more : List T) (k
         let all =
         block-fits drops info.sort info.full info.metadata block offset (length old) (length more) info.size f.within.0
         (omega (arith, less, enough, f.within.1, f.within.2)) tells.0 in
-        fit (with_full (length more) (on_block block offset info)) (info.size - offset) all.0 all.1
+        fit (with_full (length old) (length more) (on_block block offset info)) (info.size - offset) all.0 all.1
 
     front-fits : Tells drops size info offset (length old) k Front
         → RowFits drops (with_more more (with_room Front here))
@@ -207,8 +212,8 @@ module _ {T M : Type 0} (drops : Bool) (first size : ℕ) (old more : List T) (k
         (omega (arith, tells.1, enough, f.within.1, f.within.2))
         (λ owned. absurd (false≢true (sym tells.0 ∙ owned))) in
         let whole : info.size - 0 ≡ info.size = omega arith in
-        fit (with_full (length more) (on_block block 0 info)) info.size all.0
-        (subst (λ c. HasPlaces drops (with_full (length more) (on_block block 0 info)) ((length old) + (length more)) c) whole all.1)
+        fit (with_full (length old) (length more) (on_block block 0 info)) info.size all.0
+        (subst (λ c. HasPlaces drops (with_full (length old) (length more) (on_block block 0 info)) ((length old) + (length more)) c) whole all.1)
 
     growth-fits : (made : ℕ) → Tells drops size info offset (length old) k (Growth made)
         → RowFits drops (with_more more (with_room (Growth made) here))
@@ -216,7 +221,7 @@ module _ {T M : Type 0} (drops : Bool) (first size : ℕ) (old more : List T) (k
         let all =
         block-fits drops info.sort info.full info.metadata block offset (length old) (length more) made f.within.0
         (omega (arith, tells.1, enough)) tells.0 in
-        fit (with_full (length more) (on_block block offset (record info { size = made }))) (made - offset)
+        fit (with_full (length old) (length more) (on_block block offset (record info { size = made }))) (made - offset)
         all.0 all.1
 
     in-block : (r : Room) → Tells drops size info offset (length old) k r → IsMade r
@@ -226,10 +231,11 @@ module _ {T M : Type 0} (drops : Bool) (first size : ℕ) (old more : List T) (k
     in-block Behind tells made = behind-fits tells
     in-block Front tells made = front-fits tells
     in-block (Growth places) tells made = growth-fits places tells
+    in-block (Own additional) tells made = absurd made
     in-block (Refused e) tells made = absurd made
 
   -- whichever room it has
-  row-fits : (place : Place ℕ M) (places : ℕ) → RowFits drops (row-at place places) → (b : Bool)
+  row-fits : (place : Place (Option ℕ) M) (places : ℕ) → RowFits drops (row-at place places) → (b : Bool)
       → nat_lt (places - (length old)) k ≡ b
       → IsMade (if not b then Spare else room_at drops first size place (length old) k)
       → RowFits drops (with_more more (with_room (if not b then Spare else
@@ -258,7 +264,7 @@ pub room-alone-fits : {T M : Type 0} (drops : Bool) (first size : ℕ) (row : Ro
     → is_sole row.role ≡ true → RowFits drops row → IsMade (room drops first size row k)
     → RowFits drops (with_room (room drops first size row k) row)
 room-alone-fits drops first size row k sole f made =
-    subst (RowFits drops) (no-more (with_room (room drops first size row k) row))
+    subst (RowFits drops) (more_none (with_room (room drops first size row k) row))
     (room-fits drops first size row [] k (omega arith) sole f made)
 
 -- a first block is as large as is asked for
@@ -273,9 +279,10 @@ tells-enough drops size info offset len k (Fresh places) tells = absurd tells
 tells-enough drops size info offset len k Behind tells = tt
 tells-enough drops size info offset len k Front tells = tt
 tells-enough drops size info offset len k (Growth places) tells = tt
+tells-enough drops size info offset len k (Own additional) tells = tt
 tells-enough drops size info offset len k (Refused e) tells = tt
 
-enough-at : {M : Type 0} (drops : Bool) (first size : ℕ) (place : Place ℕ M) (len k : ℕ) (b : Bool)
+enough-at : {M : Type 0} (drops : Bool) (first size : ℕ) (place : Place (Option ℕ) M) (len k : ℕ) (b : Bool)
     → IsEnough k (if b then Spare else room_at drops first size place len k)
 enough-at drops first size place len k true = tt
 enough-at drops first size nowhere len k false = omega arith
@@ -300,26 +307,32 @@ ample-growth : (b : Bool) (places : ℕ)
 ample-growth true places = λ same. absurd (cc)
 ample-growth false places = tt
 
+ample-sort : (sort : Sort) (size old end k : ℕ) → IsAmple (growth sort size old end k)
+ample-sort native size old end k = ample-growth _ _
+ample-sort vector size old end k = ample-growth _ _
+ample-sort (buffer writable) size old end k = tt
+ample-sort raw size old end k = λ same. absurd (cc)
+
 module _ {M : Type 0} (drops : Bool) (size : ℕ) (info : BlockInfo M) (offset len k : ℕ) where
   ample-third : (b : Bool) → IsAmple (if b then Front else
-      growth size info.size (offset + len + k))
+      growth info.sort size info.size (offset + len) k)
   ample-third true = tt
-  ample-third false = ample-growth _ _
+  ample-third false = ample-sort info.sort size info.size (offset + len) k
 
   ample-second : (b : Bool) → IsAmple (if b then Behind else
       if not drops && not (nat_lt offset len) && not (nat_lt (info.size - len) k) then Front else
-      growth size info.size (offset + len + k))
+      growth info.sort size info.size (offset + len) k)
   ample-second true = tt
   ample-second false = ample-third _
 
   ample-first : (b : Bool) → IsAmple (if b then Refused Unsupported else
       if not (nat_lt (info.size - offset - len) k) then Behind else
       if not drops && not (nat_lt offset len) && not (nat_lt (info.size - len) k) then Front else
-      growth size info.size (offset + len + k))
+      growth info.sort size info.size (offset + len) k)
   ample-first true = λ same. absurd (cc)
   ample-first false = ample-second _
 
-ample-at : {M : Type 0} (drops : Bool) (first size : ℕ) (place : Place ℕ M) (len k : ℕ) (b : Bool)
+ample-at : {M : Type 0} (drops : Bool) (first size : ℕ) (place : Place (Option ℕ) M) (len k : ℕ) (b : Bool)
     → IsAmple (if b then Spare else room_at drops first size place len k)
 ample-at drops first size place len k true = tt
 ample-at drops first size nowhere len k false = tt
@@ -336,17 +349,17 @@ never-short drops first size row k e is =
 -- a writer's first block, and its items
 pub fresh-fits : {T M : Type 0} (drops : Bool) (block places : ℕ) (more : List T)
     → length more ≤ places
-    → RowFits {M = M} drops (with_more more (new_writer drops block [] places))
+    → RowFits {M = M} drops (with_more more (new_writer drops (Some block) [] places))
 fresh-fits {T} {M} drops block places more less =
     let m = length more in
     let all =
-    block-fits {M = M} drops native (full_places drops 0) None block 0 0 m places (counted drops)
+    block-fits {M = M} drops native (full_places drops 0) None (Some block) 0 0 m places (counted drops)
     (omega (arith, less)) (λ owned. empty drops) in
     let whole : places - 0 ≡ places = omega arith in
-    let at : Place ℕ M = on_block block 0 (record {
+    let at : Place (Option ℕ) M = on_block (Some block) 0 (record {
       sort = native;
       size = places;
-      full = option_map (λ f. f + m) (full_places drops 0);
+      full = option_map (λ f. f + (m - (f - (0 + 0)))) (full_places drops 0);
       metadata = None;
     }) in
     record {
@@ -365,3 +378,59 @@ fresh-fits {T} {M} drops block places more less =
 
     none-before : (l : ℕ) → 0 + l ≡ l
     none-before l = omega arith
+
+-- only a caller's buffer makes its own room
+abbrev IsOwn : Bool → Room → Type 0
+IsOwn here (Own additional) = here ≡ true
+IsOwn here room = Unit {0}
+
+own-sort : (sort : Sort) (size old end k : ℕ) → IsOwn (is_buffer sort) (growth sort size old end k)
+own-sort native size old end k = own-growth _ _
+  where
+    own-growth : (b : Bool) (places : ℕ)
+        → IsOwn false (if b then Refused CapacityOverflow else Growth places)
+    own-growth true places = tt
+    own-growth false places = tt
+own-sort vector size old end k = own-growth _ _
+  where
+    own-growth : (b : Bool) (places : ℕ)
+        → IsOwn false (if b then Refused CapacityOverflow else Growth places)
+    own-growth true places = tt
+    own-growth false places = tt
+own-sort (buffer writable) size old end k = refl
+own-sort raw size old end k = tt
+
+module _ {M : Type 0} (drops : Bool) (size : ℕ) (info : BlockInfo M) (offset len k : ℕ) where
+  own-third : (b : Bool) → IsOwn (is_buffer info.sort) (if b then Front else
+      growth info.sort size info.size (offset + len) k)
+  own-third true = tt
+  own-third false = own-sort info.sort size info.size (offset + len) k
+
+  own-second : (b : Bool) → IsOwn (is_buffer info.sort) (if b then Behind else
+      if not drops && not (nat_lt offset len) && not (nat_lt (info.size - len) k) then Front else
+      growth info.sort size info.size (offset + len) k)
+  own-second true = tt
+  own-second false = own-third _
+
+  own-first : (b : Bool) → IsOwn (is_buffer info.sort) (if b then Refused Unsupported else
+      if not (nat_lt (info.size - offset - len) k) then Behind else
+      if not drops && not (nat_lt offset len) && not (nat_lt (info.size - len) k) then Front else
+      growth info.sort size info.size (offset + len) k)
+  own-first true = tt
+  own-first false = own-second _
+
+own-at : {M : Type 0} (drops : Bool) (first size : ℕ) (place : Place (Option ℕ) M) (len k : ℕ)
+    (b : Bool)
+    → IsOwn (is_buffer_at place) (if b then Spare else room_at drops first size place len k)
+own-at drops first size place len k true = tt
+own-at drops first size nowhere len k false = tt
+own-at drops first size static_data len k false = tt
+own-at drops first size (on_block block offset info) len k false =
+    own-first drops size info offset len k _
+
+pub own-on-buffer : {T M : Type 0} (drops : Bool) (first size : ℕ) (row : Row T M) (k j : ℕ)
+    → room drops first size row k ≡ Own j → is_buffer_at row.place ≡ true
+own-on-buffer drops first size row k j is =
+    subst (IsOwn (is_buffer_at row.place)) is
+    (own-at drops first size row.place (length row.items) k
+    (not (nat_lt (capacity_of row.role - length row.items) k)))

@@ -1,5 +1,5 @@
 -- Each step keeps what rows say of their places, and so does each run.
-use Rattle.std.proofs.Common.{inl, inr, ◌≡◌, ℕ, Bool, List, [], ◌∷◌, ◌++◌}
+use Rattle.std.proofs.Common.{inl, inr, ◌≡◌, ◌≤◌, ℕ, Bool, List, [], ◌∷◌, ◌++◌}
 use Rattle.std.proofs.Common.{Option, Some, None, slice_get, slice_set, refl, sym, ap}
 use Rattle.std.proofs.Common.{subst}
 use Rattle.std.specs.Option.{option_flatten}
@@ -10,8 +10,8 @@ use Rattle.arc_block.specs.Writers.{as_sole}
 use Rattle.arc_block.proofs.Lists.{push-cases, set-cases}
 use Rattle.arc_commands.specs.Fits.{RowFits, RowsFit}
 use Rattle.arc_commands.specs.Step.{Setting, Shortage, shortage, Step, Run, answer}
-use Rattle.arc_commands.specs.declared.command.Cmd.{Cmd}
-use Rattle.arc_commands.specs.declared.command.Reply.{Reply}
+use Rattle.arc_commands.specs.Step.{count_brought}
+use Rattle.arc_commands.specs.Commands.{ListCmd, ListReply}
 use Rattle.arc_commands.proofs.Answers.{answer_each}
 use Rattle.arc_commands.proofs.Lists.{there}
 use Rattle.arc_commands.proofs.Fits.{reads-fit, sole-fits}
@@ -45,11 +45,12 @@ module _ {T M : Type 0} (drops : Bool) where
       ]
 
 module _ {T M : Type 0} (setting : Setting T) where
-  answer-fits : (short : Shortage) (t : Table T M) (c : Cmd (List T) (List T) T)
-      → RowsFit setting.drops t → RowsFit setting.drops (answer setting short t c).1
-  answer-fits short t c fit =
+  answer-fits : (short : Shortage) (places : ℕ) (t : Table T M) (c : ListCmd T M)
+      → count_brought c ≤ places → RowsFit setting.drops t
+      → RowsFit setting.drops (answer setting short places t c).1
+  answer-fits short places t c enough fit =
       let d = setting.drops in
-      answer_each setting short t c (λ reply new. RowsFit d new) (λ reply tells. fit)
+      answer_each setting short places t c enough (λ reply new. RowsFit d new) (λ reply tells. fit)
       (λ items role nothing info fits. each-push d t.rows _ fit (this d _ fits))
       (λ items. each-push d t.rows _ fit (this d _ (reads-fit d (record {
         items = items;
@@ -68,15 +69,15 @@ module _ {T M : Type 0} (setting : Setting T) where
       (λ i row items role nothing info at fits. each-set d t.rows i _ fit (this d _ fits))
       (λ r tells i. each-set d t.rows i None fit (λ row none. absurd (none-some row none))) c refl
 
-  pub step_fits : (t : Table T M) (c : Cmd (List T) (List T) T) (r : Reply (List T) (List T))
+  pub step_fits : (t : Table T M) (c : ListCmd T M) (r : ListReply T M)
       (new : Table T M) → Step setting t c r new → RowsFit setting.drops t
       → RowsFit setting.drops new
   step_fits t c r new step fit =
-      subst (λ (o : Reply (List T) (List T) × Table T M). RowsFit setting.drops o.1) step
-      (answer-fits (shortage r c) t c fit)
+      subst (λ (o : ListReply T M × Table T M). RowsFit setting.drops o.1) step.answered
+      (answer-fits (shortage r c) step.places t c step.enough fit)
 
-  pub run_fits : (t : Table T M) (cs : List (Cmd (List T) (List T) T))
-      (rs : List (Reply (List T) (List T))) (new : Table T M) → Run setting t cs rs new
+  pub run_fits : (t : Table T M) (cs : List (ListCmd T M))
+      (rs : List (ListReply T M)) (new : Table T M) → Run setting t cs rs new
       → RowsFit setting.drops t → RowsFit setting.drops new
   run_fits t [] [] new run fit = subst (RowsFit setting.drops) (sym run) fit
   run_fits t (c ∷ cs) (r ∷ rs) new run fit =

@@ -1,11 +1,12 @@
 -- The window on which a command is, where items lie in vectors.
-use Rattle.std.proofs.Common.{◌≡◌, refl}
+use Rattle.std.proofs.Common.{◌≡◌, List, refl}
 use Rattle.arc_commands.specs.Seen.{map_command}
 use Rattle.arc_commands.specs.Step.{window_of}
 use Rattle.arc_commands.specs.declared.command.Cmd.{Cmd}
 use Rattle.arc_commands.specs.declared.command.Cmd.TheVariants as command
 
-pub window-seen : {X Y F T : Type 0} (f : X → Y) (c : Cmd X F T)
-    → window_of (map_command f c) ≡ window_of c
-window-seen f (command.Slice items) = refl
-window-seen f other = refl
+pub window-seen : {C X F B M T : Type 0} (f : X → List T) (g : F → List T)
+    (h : B → List T) (c : Cmd C X F B M T)
+    → window_of (map_command f g h c) ≡ window_of c
+window-seen f g h (command.Slice items) = refl
+window-seen f g h other = refl

@@ -11,15 +11,18 @@ use Rattle.arc_owners.specs.count.Calls.{history_of, seen}
 use Rattle.arc_owners.specs.declared.error.OwnerError.{OwnerError}
 use Rattle.arc_owners.specs.declared.error.OwnerError.TheVariants.{AllocError, CountFull}
 use Rattle.arc_block.specs.declared.block.TheConstants.{MAX_OWNERS}
+use Rattle.arc_block.specs.Block.{Sort, native, vector, buffer, raw}
 use Rattle.arc_block.specs.Owned.{Stand}
+use Rattle.arc_block.specs.Place.{Place, nowhere, static_data, on_block}
 use Rattle.arc_block.specs.Table.{Row, Table, row_at}
-use Rattle.arc_commands.specs.Step.{window_of}
-use Rattle.arc_commands.specs.declared.command.Cmd.{Cmd}
+use Rattle.arc_commands.specs.Step.{Setting, window_of, is_writable_at, is_vector_part}
+use Rattle.arc_commands.specs.Step.{is_box_whole}
+use Rattle.arc_commands.specs.Commands.{ListCmd, ListReply}
 use Rattle.arc_commands.specs.declared.command.Cmd.TheVariants.{Clone, Sub, Off, To, Uniq}
-use Rattle.arc_commands.specs.declared.command.Cmd.TheVariants.{Drop, Static, TakeStatic}
+use Rattle.arc_commands.specs.declared.command.Cmd.TheVariants.{Drop, Static, TakeStatic, Take}
+use Rattle.arc_commands.specs.declared.command.Cmd.TheVariants.{TakeBox}
 use Rattle.arc_commands.specs.declared.command.Cmd.TheVariants.{Mut, Res, Push, Ext}
 use Rattle.arc_commands.specs.declared.command.Cmd.TheVariants.{Freeze}
-use Rattle.arc_commands.specs.declared.command.Reply.{Reply}
 use Rattle.arc_commands.specs.declared.command.Reply.TheVariants as reply
 
 -- where the windows of a table stand, and the passes of the blocks by their numbers
@@ -41,6 +44,10 @@ asked alone o history =
 abbrev pub refused : OwnerError → Owner → List Entry → List Entry
 refused CountFull o history = entry.Full o.number ∷ []
 refused AllocError o history = []
+
+-- of one that ends
+abbrev pub ended : Owner → List Entry → List Entry
+ended o history = entry.Down o.number ∷ []
 
 -- a stand more, if there is one
 abbrev pub with_stand : List Stand → Option Stand → List Stand
@@ -86,8 +93,8 @@ module _ {H : Type 0} where
       (number ≡ length old) × IsFirst MAX_OWNERS true owner
       × (p : Pass H) × IsFreshPass owner p × (new ≡ old ++ p ∷ [])
 
-  -- The window stands where it stood. Where that was on nothing it may be the first owner of a block
-  -- more, whose pass is a fresh one.
+  -- The window stands where it stood. Where that was on nothing it may be the first owner of a
+  -- block more, whose pass is a fresh one.
   abbrev pub MayBegin : (here there : Stand) → List (Pass H) → List (Pass H) → Type 0
   MayBegin None there old new = Founds there old new
   MayBegin (Some here) there old new = (there ≡ Some here) × (new ≡ old)
@@ -118,34 +125,65 @@ module _ {H : Type 0} where
     abbrev pub AddsNone : Type 0
     AddsNone = (there ≡ here) × (made ≡ None) × (new ≡ old)
 
+    -- the window asked whether it is alone, and was, and has gone
+    abbrev pub Takes : Type 0
+    Takes = (there ≡ None) × (made ≡ None) × (between : List (Pass H))
+        × AddsAt here (asked true) old between × AddsAt here ended between new
+
+    -- where only the count decides, it was asked, and said no; else nothing was added
+    abbrev pub AsksIf : (decides : Bool) → Type 0
+    AsksIf true = Enters (asked false)
+    AsksIf false = AddsNone
+
+    -- Whether nobody else has a part of a block of this sort, and somebody may have: the count was
+    -- asked, which said no. A caller's buffer may say no though the owner is alone, and of an `Arc`
+    -- nobody was asked.
+    abbrev pub AsksInVain : Sort → Type 0
+    AsksInVain native = Enters (asked false)
+    AsksInVain vector = Enters (asked false)
+    AsksInVain (buffer writable) = (alone : Bool) × Enters (asked alone)
+    AsksInVain raw = AddsNone
+
+    abbrev pub AsksInVainAt : {N M : Type 0} → Place N M → Type 0
+    AsksInVainAt nowhere = AddsNone
+    AsksInVainAt static_data = AddsNone
+    AsksInVainAt (on_block block offset info) = AsksInVain info.sort
+
     -- What a command on such a row adds, by what it is answered. A split that leaves nothing hands
     -- out the window itself
-    abbrev pub RowAdds : {T M : Type 0} → Row T M → Cmd (List T) (List T) T
-        → Reply (List T) (List T) → Type 0
-    RowAdds row (Clone i) (reply.New number) = Joins false
-    RowAdds row (Sub i start end) (reply.New number) = Joins false
-    RowAdds row (Off i at) (reply.New number) = Joins (at == 0)
-    RowAdds row (To i at) (reply.New number) = Joins (at == length row.items)
-    RowAdds row (Clone i) (reply.Owner e) = Enters (refused e)
-    RowAdds row (Sub i start end) (reply.Owner e) = Enters (refused e)
-    RowAdds row (Off i at) (reply.Owner e) = Enters (refused e)
-    RowAdds row (To i at) (reply.Owner e) = Enters (refused e)
-    RowAdds row (Uniq i) reply.Yes = Enters (asked true)
-    RowAdds row (Uniq i) reply.No = Enters (asked false)
-    RowAdds row (Mut i) reply.Ok = Enters (asked true)
-    RowAdds row (Mut i) reply.Refused = Enters (asked false)
-    RowAdds row (Res i additional) reply.Ok = Stays
-    RowAdds row (Push i item) reply.Ok = Stays
-    RowAdds row (Ext i items) reply.Ok = Stays
-    RowAdds row (Freeze i) reply.Ok = Stays
-    RowAdds row (Drop i) reply.Ok = Goes (λ o history. entry.Down o.number ∷ [])
-    RowAdds row (TakeStatic i) (reply.Static items) =
+    abbrev pub RowAdds : {T M : Type 0} → Setting T → Row T M → ListCmd T M
+        → ListReply T M → Type 0
+    RowAdds setting row (Clone i) (reply.New number) = Joins false
+    RowAdds setting row (Sub i start end) (reply.New number) = Joins false
+    RowAdds setting row (Off i at) (reply.New number) = Joins (at == 0)
+    RowAdds setting row (To i at) (reply.New number) = Joins (at == length row.items)
+    RowAdds setting row (Clone i) (reply.Owner e) = Enters (refused e)
+    RowAdds setting row (Sub i start end) (reply.Owner e) = Enters (refused e)
+    RowAdds setting row (Off i at) (reply.Owner e) = Enters (refused e)
+    RowAdds setting row (To i at) (reply.Owner e) = Enters (refused e)
+    RowAdds setting row (Uniq i) reply.Yes = Enters (asked true)
+    RowAdds setting row (Uniq i) reply.No = AsksInVainAt row.place
+    RowAdds setting row (Mut i) reply.Ok = Enters (asked true)
+    RowAdds setting row (Mut i) reply.Refused =
+        AsksIf (is_writable_at setting.writes_any row.place)
+    RowAdds setting row (Res i additional) reply.Ok = Stays
+    RowAdds setting row (Push i item) reply.Ok = Stays
+    RowAdds setting row (Ext i items) reply.Ok = Stays
+    RowAdds setting row (Freeze i) reply.Ok = Stays
+    RowAdds setting row (Drop i) reply.Ok = Goes ended
+    RowAdds setting row (Take i) (reply.Vec items) = Takes
+    RowAdds setting row (TakeBox i) (reply.Boxed items) = Takes
+    RowAdds setting row (Take i) reply.Refused =
+        AsksIf (is_vector_part setting.drops row.place (length row.items))
+    RowAdds setting row (TakeBox i) reply.Refused =
+        AsksIf (is_box_whole row.place (length row.items))
+    RowAdds setting row (TakeStatic i) (reply.Static items) =
         (here ≡ None) × (there ≡ None) × (made ≡ None) × (new ≡ old)
-    RowAdds row command reply = AddsNone
+    RowAdds setting row command reply = AddsNone
 
   -- what is added by a command that makes a window of what it brings: it stands on nothing, or as
   -- the first owner of a block more
-  abbrev pub MakerAdds : {T : Type 0} → Cmd (List T) (List T) T → Reply (List T) (List T)
+  abbrev pub MakerAdds : {T M : Type 0} → ListCmd T M → ListReply T M
       → (made : Option Stand) → (old new : List (Pass H)) → Type 0
   MakerAdds (Static items) (reply.New number) made old new = (made ≡ Some None) × (new ≡ old)
   MakerAdds command (reply.New number) made old new = (stand : Stand) × (made ≡ Some stand)
@@ -157,16 +195,16 @@ module _ {H : Type 0} where
   stand_in t i = option_flatten (slice_get t.stands i)
 
   -- what a command adds that is on the window with this number, or on none
-  abbrev pub AddsBy : {T M : Type 0} → Table T M → Standing H → Cmd (List T) (List T) T
-      → Reply (List T) (List T) → Standing H → Option ℕ → Type 0
-  AddsBy t old c reply new None = (made : Option Stand)
+  abbrev pub AddsBy : {T M : Type 0} → Setting T → Table T M → Standing H → ListCmd T M
+      → ListReply T M → Standing H → Option ℕ → Type 0
+  AddsBy setting t old c reply new None = (made : Option Stand)
       × MakerAdds c reply made old.passes new.passes × (new.stands ≡ with_stand old.stands made)
-  AddsBy t old c reply new (Some i) = MatchOption (row_at t i) (new ≡ old) (λ row.
+  AddsBy setting t old c reply new (Some i) = MatchOption (row_at t i) (new ≡ old) (λ row.
       (there : Stand) × (made : Option Stand)
-      × RowAdds (stand_in old i) there made old.passes new.passes row c reply
+      × RowAdds (stand_in old i) there made old.passes new.passes setting row c reply
       × (new.stands ≡ with_stand (slice_set old.stands i there) made))
 
   -- what a command adds, by what it is answered
-  abbrev pub Adds : {T M : Type 0} → Table T M → Standing H → Cmd (List T) (List T) T
-      → Reply (List T) (List T) → Standing H → Type 0
-  Adds t old c reply new = AddsBy t old c reply new (window_of c)
+  abbrev pub Adds : {T M : Type 0} → Setting T → Table T M → Standing H → ListCmd T M
+      → ListReply T M → Standing H → Type 0
+  Adds setting t old c reply new = AddsBy setting t old c reply new (window_of c)

@@ -17,7 +17,7 @@ module _ {T M : Type 0} where
   -- a row that stands on the block with this number says this of it
   abbrev pub SaysOf : Table T M → ℕ → BlockInfo M → Type 0
   SaysOf t block info = (i : ℕ) × (row : Row T M) × (offset : ℕ)
-      × (row_at t i ≡ Some row) × (row.place ≡ on_block block offset info)
+      × (row_at t i ≡ Some row) × (row.place ≡ on_block (Some block) offset info)
 
   -- The rows that stand on one block say the same of it, and it is a block that was made. Where a
   -- sole writer stands on it no other row does.

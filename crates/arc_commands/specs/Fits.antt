@@ -1,5 +1,5 @@
 -- What each row of a table says of the place where it stands.
-use Rattle.std.specs.Prelude.{◌≡◌, ℕ, ◌+◌, ◌≤◌, Bool, true, is_some, Some, length}
+use Rattle.std.specs.Prelude.{◌≡◌, ℕ, ◌+◌, ◌≤◌, Bool, true, is_some, Option, Some, length}
 use Rattle.std.specs.Option.{option_map_or}
 use Rattle.arc_block.specs.Block.{BlockInfo}
 use Rattle.arc_block.specs.Place.{Place, nowhere, static_data, on_block}
@@ -14,14 +14,14 @@ module _ {M : Type 0} where
 
   -- So many items lie within the full places of a block, which are counted where items are dropped
   -- one by one. On nothing there are none.
-  abbrev pub LieWithin : Bool → Place ℕ M → ℕ → Type 0
+  abbrev pub LieWithin : Bool → Place (Option ℕ) M → ℕ → Type 0
   LieWithin drops nowhere len = len ≡ 0
   LieWithin drops static_data len = Unit {0}
   LieWithin drops (on_block block offset info) len = (is_some info.full ≡ drops)
       × (offset + len ≤ full_end info) × (full_end info ≤ info.size)
 
   -- a sole writer of so many items, who stands here, has so many places: none on static data
-  abbrev pub HasPlaces : Bool → Place ℕ M → (len capacity : ℕ) → Type 0
+  abbrev pub HasPlaces : Bool → Place (Option ℕ) M → (len capacity : ℕ) → Type 0
   HasPlaces drops nowhere len capacity = capacity ≡ 0
   HasPlaces drops static_data len capacity = ⊥
   HasPlaces drops (on_block block offset info) len capacity =

@@ -1,3 +1,4 @@
+pub mod Commands
 pub mod RunOf
 pub mod Step
 pub mod Seen

@@ -8,9 +8,8 @@ use Rattle.arc_block.specs.Table.{Table, block_of, empty_table, row_at}
 use Rattle.arc_commands.specs.RunOf.{RunOf}
 use Rattle.arc_commands.specs.Additions.{Standing, Adds}
 use Rattle.arc_commands.specs.Step.{Setting, Step}
-use Rattle.arc_commands.specs.declared.command.Cmd.{Cmd}
+use Rattle.arc_commands.specs.Commands.{ListCmd, ListReply}
 use Rattle.arc_commands.specs.declared.command.Cmd.TheVariants.{Drop}
-use Rattle.arc_commands.specs.declared.command.Reply.{Reply}
 
 -- the table, and beside it where the windows stand, with the passes of the blocks
 pub record State (T M : Type 0) : Type 0 where
@@ -28,19 +27,19 @@ Agrees s = map (option_and_then (λ row. block_of row.place)) s.table.rows
 
 -- a command is carried out: one step of the table, which adds what it adds to the histories
 pub record CarriesOut {T M : Type 0} (setting : Setting T) (old : State T M)
-    (c : Cmd (List T) (List T) T) (reply : Reply (List T) (List T)) (new : State T M)
+    (c : ListCmd T M) (reply : ListReply T M) (new : State T M)
     : Type 0 where
   pub rows : Step setting old.table c reply new.table
-  pub passes : Adds old.table old.standing c reply new.standing
+  pub passes : Adds setting old.table old.standing c reply new.standing
   pub agree : Agrees new
 
 -- the end of each window of so many, in the order of their numbers
-abbrev pub drops : {T : Type 0} → ℕ → List (Cmd (List T) (List T) T)
+abbrev pub drops : {T M : Type 0} → ℕ → List (ListCmd T M)
 drops n = map Drop (range_with_len 0 n)
 
 -- every window that is left ends by a `Drop` of its own
 pub record EndsAll {T M : Type 0} (setting : Setting T) (old new : State T M) : Type 0 where
-  pub replies : List (Reply (List T) (List T))
+  pub replies : List (ListReply T M)
   pub run : RunOf (CarriesOut setting) old (drops (length old.table.rows)) replies new
   pub none_left : (i : ℕ) → row_at new.table i ≡ None
 

@@ -1,13 +1,19 @@
 -- One step of a table of lists: what each command is answered, and the table after it.
 use Rattle.std.specs.Prelude.{◌≡◌, ℕ, ◌+◌, ◌==◌, Bool, true, false, if◌then◌else◌, List, [], ◌∷◌}
 use Rattle.std.specs.Prelude.{◌++◌, length, Option, Some, None, slice_set, Result, Ok, Err, take}
-use Rattle.std.specs.Prelude.{◌&&◌, is_some, nat_lt, replicate}
+use Rattle.std.specs.Prelude.{◌&&◌, ◌≤◌, is_some, nat_lt, replicate}
 use Rattle.std.specs.Option.{option_map, option_map_or}
 use Rattle.arc_owners.specs.declared.error.RangeError.{RangeError}
 use Rattle.arc_owners.specs.declared.error.OwnerError.TheVariants.{AllocError, CountFull}
 use Rattle.arc_buffer.specs.Slice.{sub, range_answer, edge_answer}
 use Rattle.arc_block.specs.declared.block.TheConstants.{MAX_OWNERS}
-use Rattle.arc_block.specs.Block.{Sort, native_facts, partly_full}
+use Rattle.arc_block.specs.Block.{Sort, native, vector, buffer, raw, native_facts, partly_full}
+use Rattle.arc_block.specs.Block.{BlockInfo, memory_info}
+use Rattle.arc_block.specs.Layouts.{LayoutFacts}
+use Rattle.arc_block.specs.Moves.{layout_move}
+use Rattle.arc_block.specs.declared.parts.moves.Move.{Move}
+use Rattle.arc_block.specs.declared.parts.moves.Move.TheVariants.{Stays, HandedBack, NewEmpty}
+use Rattle.arc_block.specs.declared.parts.moves.Move.TheVariants.{NewCount, LeavesCount}
 use Rattle.arc_block.specs.Place.{Place, nowhere, static_data, on_block, made_place, part_place}
 use Rattle.arc_block.specs.Place.{moved}
 use Rattle.arc_block.specs.Table.{Row, RowOf, Table, row_at, block_of, owners, is_alone}
@@ -19,6 +25,7 @@ use Rattle.arc_block.specs.declared.parts.room.Room.{Room as RoomFrom}
 use Rattle.arc_block.specs.declared.parts.room.Room.TheVariants as from
 use Rattle.arc_owners.specs.declared.error.TryReserveError.TheVariants as reserve
 use Rattle.arc_commands.specs.RunOf.{RunOf}
+use Rattle.arc_commands.specs.Commands.{ListCmd, ListReply}
 use Rattle.arc_commands.specs.declared.command.Cmd.{Cmd}
 use Rattle.arc_commands.specs.declared.command.Cmd.TheVariants.{Slice, Clone, Sub, Uniq, Show, Len}
 use Rattle.arc_commands.specs.declared.command.Cmd.TheVariants.{Off, To, Adv, Trunc, Drop}
@@ -26,50 +33,66 @@ use Rattle.arc_commands.specs.declared.command.Cmd.TheVariants.{Static, TakeStat
 use Rattle.arc_commands.specs.declared.command.Cmd.TheVariants.{New, Cap, Zero, Room, Mut, Res}
 use Rattle.arc_commands.specs.declared.command.Cmd.TheVariants.{Push, Ext}
 use Rattle.arc_commands.specs.declared.command.Cmd.TheVariants.{Rec, Freeze}
-use Rattle.arc_commands.specs.declared.command.Reply.{Reply}
+use Rattle.arc_commands.specs.declared.command.Cmd.TheVariants.{Vec, Raw, Buf, MBuf, Meta}
+use Rattle.arc_commands.specs.declared.command.Cmd.TheVariants.{Take, TakeBox, TakeBuf, TakeRaw}
 use Rattle.arc_commands.specs.declared.command.Reply.TheVariants as reply
 
--- what a table is run under: of its layout, whether it has static data and on which sorts of blocks
--- its clones may want memory; of its kind, whether blocks count their full places, where a list may
--- be cut, how many bytes an item has, and its zero, if it has one
+-- which calls a kind has, of those that not all kinds have: whether a list is copied, whether an
+-- item more is pushed, and whether a copy of items is put behind others
+pub record Calls : Type 0 where
+  pub copies : Bool
+  pub pushes : Bool
+  pub extends : Bool
+
+-- what a table is run under: of its layout, on what windows may stand, whether under the layout of
+-- its writers a block may be of a caller's making, and on which sorts of blocks its clones may want
+-- memory; of its kind, whether blocks count their full places, where a list may be cut, how
+-- many bytes an item has, its zero, if it has one, and which calls it has
 pub record Setting (T : Type 0) : Type 0 where
-  pub has_static : Bool
+  pub layout : LayoutFacts
+  pub writes_any : Bool
   pub clone_wants : Sort → Bool
   pub drops : Bool
   pub boundary : List T → ℕ → Bool
   pub item_size : ℕ
   pub zero : Option T
+  pub calls : Calls
 
-abbrev pub setting_of : {T : Type 0} → Bool → (Sort → Bool) → Bool → (List T → ℕ → Bool) → ℕ
-    → Option T → Setting T
-setting_of has_static clone_wants drops boundary item_size zero = record {
-  has_static = has_static;
+abbrev pub setting_of : {T : Type 0} → LayoutFacts → (writes_any : Bool) → (Sort → Bool) → Bool
+    → (List T → ℕ → Bool) → ℕ → Option T → Calls → Setting T
+setting_of layout writes_any clone_wants drops boundary item_size zero calls = record {
+  layout = layout;
+  writes_any = writes_any;
   clone_wants = clone_wants;
   drops = drops;
   boundary = boundary;
   item_size = item_size;
   zero = zero;
+  calls = calls;
 }
 
 -- What a step leaves free: where memory was refused. Nowhere, or for what the table asks for itself
 -- (room, a block, a copy of items), or for an owner more, where the layout's clones want some, or
--- for the block of a window that is there: its first one, or a larger one.
+-- for the block of a window that is there: its first one, or a larger one. Or that a caller's
+-- buffer said that somebody else has a part of it.
 pub data Shortage : Type 0 where
   no_shortage : Shortage
   of_table : Shortage
   of_clones : Shortage
   of_blocks : Shortage
+  of_buffer : Shortage
 
--- where it was refused, as the reply to a command tells
-abbrev pub shortage : {X F T : Type 0} → Reply X F → Cmd X F T → Shortage
+-- where it was refused, and what a buffer said, as the reply to a command tells
+abbrev pub shortage : {T M : Type 0} → ListReply T M → ListCmd T M → Shortage
 shortage reply.Alloc command = of_table
 shortage (reply.Owner AllocError) command = of_clones
 shortage (reply.Reserve reserve.AllocError) command = of_blocks
 shortage reply.Refused (Freeze i) = of_blocks
+shortage reply.No (Uniq i) = of_buffer
 shortage other command = no_shortage
 
 -- the roles that a command is for
-abbrev pub is_for : {X F T : Type 0} → Cmd X F T → Role → Bool
+abbrev pub is_for : {T M : Type 0} → ListCmd T M → Role → Bool
 is_for command forgotten = false
 is_for (Clone i) reader = true
 is_for (Clone i) inline = true
@@ -80,6 +103,8 @@ is_for (Off i at) (one_writer_of_several capacity) = true
 is_for (To i at) reader = true
 is_for (To i at) (one_writer_of_several capacity) = true
 is_for (Uniq i) reader = true
+is_for (Take i) reader = true
+is_for (TakeBox i) reader = true
 is_for (TakeStatic i) reader = true
 is_for (Mut i) reader = true
 is_for (Trunc i len) inline = false
@@ -97,6 +122,17 @@ is_for (Freeze i) (sole_writer capacity) = true
 is_for (Drop i) role = true
 is_for command role = false
 
+-- whether the kind has the call of a command on a window
+abbrev pub has_call : {T M : Type 0} → Calls → ListCmd T M → Bool
+has_call calls (Show i) = calls.copies
+has_call calls (Push i item) = calls.pushes
+has_call calls (Ext i items) = calls.extends
+has_call calls command = true
+
+-- whether a command is for this role, and the kind has its call
+abbrev pub is_allowed : {T M : Type 0} → Calls → ListCmd T M → Role → Bool
+is_allowed calls command role = is_for command role && has_call calls command
+
 -- what a row knows of the rest of its table: whether no other row stands on its block, whether that
 -- has as many owners as it may have, and how many blocks and windows were made
 pub record Around : Type 0 where
@@ -105,16 +141,16 @@ pub record Around : Type 0 where
   pub blocks : ℕ
   pub windows : ℕ
 
--- What comes of a command on a row: the reply, the row then, or None where it has gone, the row that
--- was made, and whether a block more begins, on which one of the two stands.
+-- What comes of a command on a row: the reply, the row then, or None where it has gone, the row
+-- that was made, and whether a block more begins, on which one of the two stands.
 pub record Change (T M : Type 0) : Type 0 where
-  pub reply : Reply (List T) (List T)
+  pub reply : ListReply T M
   pub row : Option (Row T M)
   pub made : Option (Row T M)
   pub begins : Bool
 
 -- this is the reply, and the row is this one
-abbrev pub is_now : {T M : Type 0} → Reply (List T) (List T) → Row T M → Change T M
+abbrev pub is_now : {T M : Type 0} → ListReply T M → Row T M → Change T M
 is_now reply row = record { reply = reply; row = Some row; made = None; begins = false }
 
 -- the row is this one, on a block more if it stands on one
@@ -136,7 +172,7 @@ with_made around row made = record {
 }
 
 -- the row has gone
-abbrev pub gone : {T M : Type 0} → Reply (List T) (List T) → Change T M
+abbrev pub gone : {T M : Type 0} → ListReply T M → Change T M
 gone reply = record { reply = reply; row = None; made = None; begins = false }
 
 -- memory is asked for: where it is refused, the row stays as it is
@@ -145,10 +181,11 @@ asking no_shortage row change = change
 asking of_table row change = is_now reply.Alloc row
 asking of_clones row change = change
 asking of_blocks row change = change
+asking of_buffer row change = change
 
 -- memory is asked for, for the block of the window: where it is refused, this is the reply, and the
 -- row stays as it is
-abbrev pub asking_block : {T M : Type 0} → Shortage → Reply (List T) (List T) → Row T M
+abbrev pub asking_block : {T M : Type 0} → Shortage → ListReply T M → Row T M
     → Change T M → Change T M
 asking_block of_blocks answer row change = is_now answer row
 asking_block short answer row change = change
@@ -157,16 +194,27 @@ asking_block short answer row change = change
 abbrev pub made_row : {T M : Type 0} → (has_static drops : Bool) → (block : ℕ) → List T → Row T M
 made_row has_static drops block items = record {
   items = items;
-  place = made_place has_static block (native_facts drops (length items)) items;
+  place = made_place has_static (Some block) (native_facts drops (length items)) items;
   role = reader;
 }
+
+-- What is made of a vector of these items and so many places: a reader of it, on a block that is
+-- the vector. Of no places it is what is made of a list.
+abbrev pub vector_row : {T M : Type 0} → (has_static drops : Bool) → (block : ℕ) → List T → ℕ
+    → Row T M
+vector_row has_static drops block items places =
+    if places == 0 then made_row has_static drops block items else record {
+      items = items;
+      place = on_block (Some block) 0 (memory_info vector drops places (length items));
+      role = reader;
+    }
 
 -- A writer of these items, which are all that a new block of so many places holds. Of no places
 -- there is no block.
 abbrev pub writer_row : {T M : Type 0} → (drops : Bool) → (block : ℕ) → List T → ℕ → Row T M
 writer_row drops block items places =
     let facts = partly_full drops places (length items) in
-    let place = if places == 0 then nowhere else on_block block 0 facts in
+    let place = if places == 0 then nowhere else on_block (Some block) 0 facts in
     record { items = items; place = place; role = sole_writer places }
 
 -- a window over a slice that is there for good, which no block holds
@@ -174,12 +222,12 @@ abbrev pub static_row : {T M : Type 0} → List T → Row T M
 static_row items = record { items = items; place = static_data; role = reader }
 
 -- whether the layout wants memory for an owner more at this place, and it was refused
-abbrev pub is_wanting : {M : Type 0} → Shortage → (Sort → Bool) → Place ℕ M → Bool
+abbrev pub is_wanting : {M : Type 0} → Shortage → (Sort → Bool) → Place (Option ℕ) M → Bool
 is_wanting of_clones wants (on_block block offset info) = wants info.sort
 is_wanting short wants place = false
 
 -- whether the block on which a place lies has as many owners as it may have
-abbrev pub is_full : {T M : Type 0} → Table T M → Place ℕ M → Bool
+abbrev pub is_full : {T M : Type 0} → Table T M → Place (Option ℕ) M → Bool
 is_full t place = option_map_or (λ block. owners t block == MAX_OWNERS) (block_of place) false
 
 -- an owner more at the place of this part, and then this comes of it
@@ -200,11 +248,93 @@ part_of has_static row start end =
       role = row.role;
     }
 
--- whether a row may be written from now on: where no other stands on its block, or where it has no
--- items and stands on none
-abbrev pub may_write : {T M : Type 0} → Around → Row T M → Bool
-may_write around row =
-    if is_some (block_of row.place) then around.alone else length row.items == 0
+-- whether the only owner of a block of this sort may write it under a layout, which holds it
+abbrev pub may_write_sort : (has_any : Bool) → Sort → Bool
+may_write_sort has_any native = true
+may_write_sort has_any vector = has_any
+may_write_sort has_any (buffer writable) = writable && has_any
+may_write_sort has_any raw = false
+
+-- whether a place lies on a block
+abbrev pub is_on_block : {N M : Type 0} → Place N M → Bool
+is_on_block nowhere = false
+is_on_block static_data = false
+is_on_block (on_block block offset info) = true
+
+-- whether a place lies on such a block
+abbrev pub is_writable_at : {N M : Type 0} → (has_any : Bool) → Place N M → Bool
+is_writable_at has_any nowhere = false
+is_writable_at has_any static_data = false
+is_writable_at has_any (on_block block offset info) = may_write_sort has_any info.sort
+
+-- whether so many items that stand here may be written from now on, where their owner is alone, or
+-- isn't: on no block there have to be none
+abbrev pub may_write_at : {N M : Type 0} → (has_any alone : Bool) → Place N M → (len : ℕ) → Bool
+may_write_at has_any alone nowhere len = len == 0
+may_write_at has_any alone static_data len = len == 0
+may_write_at has_any alone (on_block block offset info) len =
+    may_write_sort has_any info.sort && alone
+
+-- whether a row may be written from now on
+abbrev pub may_write : {T M : Type 0} → Setting T → Around → Row T M → Bool
+may_write setting around row =
+    may_write_at setting.writes_any around.alone row.place (length row.items)
+
+-- Whether nobody else has a part of a block of this sort. Of an `Arc` the answer is no, and a
+-- caller's buffer may say so.
+abbrev pub is_unique : Shortage → (alone : Bool) → Sort → Bool
+is_unique short alone native = alone
+is_unique short alone vector = alone
+is_unique of_buffer alone (buffer writable) = false
+is_unique short alone (buffer writable) = alone
+is_unique short alone raw = false
+
+-- whether nobody else has a part of what stands at a place. On no block the answer is no
+abbrev pub is_unique_at : {N M : Type 0} → Shortage → (alone : Bool) → Place N M → Bool
+is_unique_at short alone nowhere = false
+is_unique_at short alone static_data = false
+is_unique_at short alone (on_block block offset info) = is_unique short alone info.sort
+
+-- whether a block is of this sort
+abbrev pub is_vector : Sort → Bool
+is_vector native = false
+is_vector vector = true
+is_vector (buffer writable) = false
+is_vector raw = false
+
+-- whether so many items from there on are all of the block's full places
+abbrev pub is_all_full : {M : Type 0} → (offset len : ℕ) → BlockInfo M → Bool
+is_all_full offset len info = (offset == 0) && option_map_or (λ full. full == len) info.full false
+
+-- Whether so many items that stand here can be had as their block's vector: as any part of one, but
+-- items that are dropped one by one as all of it.
+abbrev pub is_vector_part : {N M : Type 0} → (drops : Bool) → Place N M → (len : ℕ) → Bool
+is_vector_part drops nowhere len = false
+is_vector_part drops static_data len = false
+is_vector_part drops (on_block block offset info) len =
+    is_vector info.sort && (if drops then is_all_full offset len info else true)
+
+-- whether they can be had as its box, of which they are all places
+abbrev pub is_box_whole : {N M : Type 0} → Place N M → (len : ℕ) → Bool
+is_box_whole nowhere len = false
+is_box_whole static_data len = false
+is_box_whole (on_block block offset info) len =
+    is_vector info.sort && ((offset == 0) && (info.size == len))
+
+-- whether nobody else has a part of what is taken out at this place, where its owner is alone, or
+-- isn't: nobody where no owners are counted
+abbrev pub is_free : {M : Type 0} → (alone : Bool) → Place (Option ℕ) M → Bool
+is_free alone nowhere = false
+is_free alone static_data = false
+is_free alone (on_block None offset info) = true
+is_free alone (on_block (Some block) offset info) = alone
+
+-- What a row stands on is taken out, where it is as the command wants it and nobody else has a part
+-- of it, and answered so.
+abbrev pub taken_as : {T M : Type 0} → (wanted : Bool) → Around → Row T M → ListReply T M
+    → Change T M
+taken_as wanted around row answer =
+    if wanted && is_free around.alone row.place then gone answer else is_now reply.Refused row
 
 -- The row's first items. What is dropped one by one stays in the block behind them, so a writer of
 -- these has no places beside their own.
@@ -252,17 +382,35 @@ abbrev pub room_of : {N T M : Type 0} → Setting T → RowOf N T M → ℕ → 
 room_of setting row additional =
     room_for setting.drops setting.item_size row additional
 
+-- whether a block is a caller's buffer
+abbrev pub is_buffer : Sort → Bool
+is_buffer native = false
+is_buffer vector = false
+is_buffer (buffer writable) = true
+is_buffer raw = false
+
+abbrev pub is_buffer_at : {N M : Type 0} → Place N M → Bool
+is_buffer_at nowhere = false
+is_buffer_at static_data = false
+is_buffer_at (on_block block offset info) = is_buffer info.sort
+
+-- A writer in a caller's buffer is answered that his kind lacks the call, so far: no command makes
+-- such a writer.
+abbrev pub unless_buffer : {T M : Type 0} → Row T M → Change T M → Change T M
+unless_buffer row change = if is_buffer_at row.place then is_now reply.Kind row else change
+
 -- The row has this room, and these items behind its others. Memory is asked for a first block, and
--- for a larger one.
+-- for a larger one. A caller's buffer makes its own room.
 abbrev pub filled : {T M : Type 0} → Setting T → Shortage → Around → Row T M → List T → RoomFrom
     → Change T M
 filled setting short around row items (from.Refused e) = is_now (reply.Reserve e) row
 filled setting short around row items (from.Fresh places) =
     asking_block short (reply.Reserve reserve.AllocError) row
-    (begun (with_more items (new_writer setting.drops around.blocks [] places)))
+    (begun (with_more items (new_writer setting.drops (Some around.blocks) [] places)))
 filled setting short around row items (from.Growth places) =
     asking_block short (reply.Reserve reserve.AllocError) row
     (is_now reply.Ok (with_more items (with_room (from.Growth places) row)))
+filled setting short around row items (from.Own additional) = is_now reply.Kind row
 filled setting short around row items room =
     is_now reply.Ok (with_more items (with_room room row))
 
@@ -271,16 +419,25 @@ abbrev pub reclaimed : {T M : Type 0} → Row T M → RoomFrom → Change T M
 reclaimed row (from.Refused e) = is_now reply.No row
 reclaimed row (from.Fresh places) = is_now reply.No row
 reclaimed row (from.Growth places) = is_now reply.No row
+reclaimed row (from.Own additional) = is_now reply.No row
 reclaimed row room = is_now reply.Yes (with_room room row)
 
--- The writer is a reader from now on: where he stands, or on no block as what is made of his items,
--- which are none.
+-- The writer is a reader from now on, by where his window goes under the layout: where he stands,
+-- or on a block more, of no places. Or he is handed back. No writer stands on an `Arc`, which may
+-- have to be counted, or to leave its count.
+abbrev pub after_move : {T M : Type 0} → Setting T → Shortage → Around → Row T M → Move → Change T M
+after_move setting short around row Stays = is_now reply.Ok (as_reader row)
+after_move setting short around row HandedBack = is_now reply.Refused row
+after_move setting short around row NewCount = is_now reply.Refused row
+after_move setting short around row LeavesCount = is_now reply.Refused row
+after_move setting short around row NewEmpty =
+    asking_block short reply.Refused row
+    (begun (made_row false setting.drops around.blocks row.items))
+
 abbrev pub frozen : {T M : Type 0} → Setting T → Shortage → Around → Row T M → Change T M
 frozen setting short around row =
-    let made = made_row setting.has_static setting.drops around.blocks row.items in
-    if is_some (block_of row.place) then is_now reply.Ok (as_reader row) else
-    if is_some (block_of made.place) then asking_block short reply.Refused row (begun made)
-    else begun made
+    after_move setting short around row
+    (layout_move setting.layout row.place)
 
 -- only in range
 abbrev pub in_range : {T M : Type 0} → Result (Unit {0}) RangeError → Row T M → Change T M
@@ -289,41 +446,41 @@ in_range (Ok done) row change = change
 in_range (Err e) row change = is_now (reply.Range e) row
 
 -- What comes of a command on a row for which it is, where memory was refused so: after the test of
--- the range, what it asks for, and then what it does. It is right of rows on native blocks, on static
--- slices or on none, which are read or of a sole writer: no command makes others yet. Of one writer
--- of several a split would keep a capacity that isn't the part's, and `Uniq` doesn't ask the block's
--- sort.
-abbrev pub answer_row : {T M : Type 0} → Setting T → Shortage → Around → Cmd (List T) (List T) T
+-- the range, what it asks for, and then what it does. It is right of rows that are read or of a
+-- sole writer: no command makes others yet. Of one writer of several a split would keep a capacity
+-- that isn't the part's.
+abbrev pub answer_row : {T M : Type 0} → Setting T → Shortage → Around → ListCmd T M
     → Row T M → Change T M
 answer_row setting short around (Clone i) row = parted setting short around row row row row
 answer_row setting short around (Sub i start end) row =
     in_range (range_answer setting.boundary row.items start end) row
-    (let part = part_of setting.has_static row start end in
+    (let part = part_of setting.layout.has_static row start end in
     parted setting short around row part row part)
 answer_row setting short around (Off i at) row =
     in_range (edge_answer setting.boundary row.items at) row
     (split setting short around (at == 0) row (cut_row row 0 at)
-    (off_part setting.has_static row at))
+    (off_part setting.layout.has_static row at))
 answer_row setting short around (To i at) row =
     in_range (edge_answer setting.boundary row.items at) row
     (split setting short around (at == length row.items) row (cut_row row at (length row.items))
-    (to_part setting.has_static row at))
+    (to_part setting.layout.has_static row at))
 answer_row setting short around (Uniq i) row =
-    is_now (if around.alone then reply.Yes else reply.No) row
+    is_now (if is_unique_at short around.alone row.place then reply.Yes else reply.No) row
 answer_row setting short around (Show i) row = asking short row (is_now (reply.Items row.items) row)
 answer_row setting short around (Len i) row = is_now (reply.Number (length row.items)) row
 answer_row setting short around (Room i) row = is_now (reply.Number (capacity_of row.role)) row
 answer_row setting short around (Mut i) row =
-    if may_write around row then is_now reply.Ok (as_sole setting.drops row) else
+    if may_write setting around row then is_now reply.Ok (as_sole setting.drops row) else
     is_now reply.Refused row
 answer_row setting short around (Res i additional) row =
-    filled setting short around row [] (room_of setting row additional)
+    unless_buffer row (filled setting short around row [] (room_of setting row additional))
 answer_row setting short around (Push i item) row =
-    filled setting short around row (item ∷ []) (room_of setting row 1)
+    unless_buffer row (filled setting short around row (item ∷ []) (room_of setting row 1))
 answer_row setting short around (Ext i items) row =
-    filled setting short around row items (room_of setting row (length items))
+    unless_buffer row
+    (filled setting short around row items (room_of setting row (length items)))
 answer_row setting short around (Rec i additional) row =
-    reclaimed row (room_of setting row additional)
+    unless_buffer row (reclaimed row (room_of setting row additional))
 answer_row setting short around (Freeze i) row = frozen setting short around row
 answer_row setting short around (Adv i by) row =
     in_range (edge_answer setting.boundary row.items by) row
@@ -333,35 +490,59 @@ answer_row setting short around (Trunc i len) row =
     in_range (edge_answer setting.boundary row.items len) row
     (is_now reply.Ok (truncated setting.drops row len)) else is_now reply.Ok row
 answer_row setting short around (Drop i) row = gone reply.Ok
+answer_row setting short around (Take i) row =
+    taken_as (is_vector_part setting.drops row.place (length row.items)) around row
+    (reply.Vec row.items)
+answer_row setting short around (TakeBox i) row =
+    taken_as (is_box_whole row.place (length row.items)) around row (reply.Boxed row.items)
 answer_row setting short around (TakeStatic i) row =
-    if is_some (block_of row.place) then is_now reply.Refused row else gone (reply.Static row.items)
+    if is_on_block row.place then is_now reply.Refused row else gone (reply.Static row.items)
 answer_row setting short around making row = is_now reply.Kind row
 
--- the same where it may not be for the row's role
-abbrev pub answer_any : {T M : Type 0} → Setting T → Shortage → Around → Cmd (List T) (List T) T
+-- the same where it may not be for the row's role, or the kind may lack its call
+abbrev pub answer_any : {T M : Type 0} → Setting T → Shortage → Around → ListCmd T M
     → Row T M → Change T M
 answer_any setting short around c row =
-    if is_for c row.role then answer_row setting short around c row else is_now reply.Kind row
+    if is_allowed setting.calls c row.role then answer_row setting short around c row else
+    is_now reply.Kind row
 
--- the row that a command makes of what it brings, on the block with this number where it stands on
--- one. None where the kind or the layout lacks what it asks for
-abbrev pub row_by : {T M : Type 0} → Setting T → (block : ℕ) → Cmd (List T) (List T) T
+-- The row that a command makes of what it brings, which has so many places, on the block with this
+-- number where it stands on one. None where the kind or the layout lacks what it asks for
+abbrev pub row_by : {T M : Type 0} → Setting T → (places block : ℕ) → ListCmd T M
     → Option (Row T M)
-row_by setting block (Slice items) =
-    Some (made_row setting.has_static setting.drops block items)
-row_by setting block (Static items) =
-    if setting.has_static then Some (static_row items) else None
-row_by setting block New = Some (writer_row setting.drops block [] 0)
-row_by setting block (Cap places) = Some (writer_row setting.drops block [] places)
-row_by setting block (Zero count) =
+row_by setting places block (Slice items) =
+    if setting.calls.copies then Some (made_row setting.layout.has_static setting.drops block items)
+    else None
+row_by setting places block (Vec items) =
+    if setting.layout.has_any then
+    Some (vector_row setting.layout.has_static setting.drops block items places) else None
+row_by setting places block (Static items) =
+    if setting.layout.has_static then Some (static_row items) else None
+row_by setting places block New = Some (writer_row setting.drops block [] 0)
+row_by setting places block (Cap wanted) = Some (writer_row setting.drops block [] wanted)
+row_by setting places block (Zero count) =
     option_map (λ item. writer_row setting.drops block (replicate count item) count) setting.zero
-row_by setting block (MSlice items) = Some (writer_row setting.drops block items (length items))
-row_by setting block other = None
+row_by setting places block (MSlice items) =
+    if setting.calls.copies then Some (writer_row setting.drops block items (length items))
+    else None
+row_by setting places block other = None
+
+-- how many items a vector or a buffer has that a command brings; it has as many places, or more
+abbrev pub count_brought : {T M : Type 0} → ListCmd T M → ℕ
+count_brought (Vec items) = length items
+count_brought (Raw given) = length given
+count_brought (Buf given metadata) = length given
+count_brought (MBuf given metadata) = length given
+count_brought other = 0
 
 -- the window on which a command is, None of those that make one of what they bring
-abbrev pub window_of : {X F T : Type 0} → Cmd X F T → Option ℕ
+abbrev pub window_of : {C X F B M T : Type 0} → Cmd C X F B M T → Option ℕ
 window_of (Slice items) = None
+window_of (Vec items) = None
 window_of (Static items) = None
+window_of (Raw given) = None
+window_of (Buf given metadata) = None
+window_of (MBuf given metadata) = None
 window_of New = None
 window_of (Cap places) = None
 window_of (Zero count) = None
@@ -371,6 +552,7 @@ window_of (Sub i start end) = Some i
 window_of (Off i at) = Some i
 window_of (To i at) = Some i
 window_of (Uniq i) = Some i
+window_of (Meta i) = Some i
 window_of (Show i) = Some i
 window_of (Len i) = Some i
 window_of (Room i) = Some i
@@ -383,6 +565,10 @@ window_of (Freeze i) = Some i
 window_of (Adv i by) = Some i
 window_of (Trunc i len) = Some i
 window_of (Drop i) = Some i
+window_of (Take i) = Some i
+window_of (TakeBox i) = Some i
+window_of (TakeBuf i) = Some i
+window_of (TakeRaw i) = Some i
 window_of (TakeStatic i) = Some i
 
 -- what a row knows of its table
@@ -406,7 +592,7 @@ with_block begins blocks = if begins then blocks + 1 else blocks
 
 -- the reply, and the table in which this has come of the row with this number
 abbrev pub changed : {T M : Type 0} → Table T M → ℕ → Change T M
-    → Reply (List T) (List T) × Table T M
+    → ListReply T M × Table T M
 changed t i change = (
   change.reply,
   record {
@@ -417,7 +603,7 @@ changed t i change = (
 
 -- the same of a row that was made of what a command brings. It takes memory
 abbrev pub founded : {T M : Type 0} → Shortage → Table T M → Row T M
-    → Reply (List T) (List T) × Table T M
+    → ListReply T M × Table T M
 founded of_table t row = (reply.Alloc, t)
 founded short t row = (
   reply.New (length t.rows),
@@ -428,28 +614,32 @@ founded short t row = (
 )
 
 -- what a command is answered that is on the window with this number, or on none
-abbrev pub answer_by : {T M : Type 0} → Setting T → Shortage → Table T M
-    → Cmd (List T) (List T) T → Option ℕ → Reply (List T) (List T) × Table T M
-answer_by setting short t c None =
-    option_map_or (founded short t) (row_by setting t.blocks c) (reply.Kind, t)
-answer_by setting short t c (Some i) =
+abbrev pub answer_by : {T M : Type 0} → Setting T → Shortage → (places : ℕ) → Table T M
+    → ListCmd T M → Option ℕ → ListReply T M × Table T M
+answer_by setting short places t c None =
+    option_map_or (founded short t) (row_by setting places t.blocks c) (reply.Kind, t)
+answer_by setting short places t c (Some i) =
     option_map_or (λ row. changed t i (answer_any setting short (around_of t row) c row))
     (row_at t i) (reply.NoWindow, t)
 
--- What a command is answered, and the table after it, where memory was refused so: after the tests
--- of number, role and range, in this order, what it asks for, and then what it does (`answer_row`,
--- and `row_by` of what makes a window of what it brings).
-abbrev pub answer : {T M : Type 0} → Setting T → Shortage → Table T M → Cmd (List T) (List T) T
-    → Reply (List T) (List T) × Table T M
-answer setting short t c = answer_by setting short t c (window_of c)
+-- What a command is answered, and the table after it, where memory was refused so, and what the
+-- command brings has so many places: after the tests of number, role and range, in this order, what
+-- it asks for, and then what it does (`answer_row`, and `row_by` of what makes a window of what it
+-- brings).
+abbrev pub answer : {T M : Type 0} → Setting T → Shortage → (places : ℕ) → Table T M → ListCmd T M
+    → ListReply T M × Table T M
+answer setting short places t c = answer_by setting short places t c (window_of c)
 
 -- From old, the table may give this reply to the command and go on to new: it is the answer, where
--- memory was refused as the reply tells. What is refused changes nothing.
-abbrev pub Step : {T M : Type 0} → Setting T → Table T M → Cmd (List T) (List T) T
-    → Reply (List T) (List T) → Table T M → Type 0
-Step setting old c reply new = answer setting (shortage reply c) old c ≡ (reply, new)
+-- memory was refused as the reply tells, and a vector or a buffer that the command brings has so
+-- many places. What is refused changes nothing.
+pub record Step {T M : Type 0} (setting : Setting T) (old : Table T M) (c : ListCmd T M)
+    (reply : ListReply T M) (new : Table T M) : Type 0 where
+  pub places : ℕ
+  pub enough : count_brought c ≤ places
+  pub answered : answer setting (shortage reply c) places old c ≡ (reply, new)
 
 -- the table may give these replies to these commands, one after another
-abbrev pub Run : {T M : Type 0} → Setting T → Table T M → List (Cmd (List T) (List T) T)
-    → List (Reply (List T) (List T)) → Table T M → Type 0
+abbrev pub Run : {T M : Type 0} → Setting T → Table T M → List (ListCmd T M)
+    → List (ListReply T M) → Table T M → Type 0
 Run setting = RunOf (Step setting)

@@ -1,15 +1,64 @@
 //! What a table is asked, and what it answers.
-use arc_block::static_slice::StaticSlice;
 use arc_owners::error::{OwnerError, RangeError, TryReserveError};
+use std::marker::PhantomData;
 
-/// A command, where X holds items, F is a slice that is there for good and T an item. Windows go by
-/// their numbers.
+/// The types of what commands carry.
+pub trait Carried {
+    /// A list of items.
+    type Items;
+
+    /// A slice that is there for good.
+    type Static;
+
+    /// A buffer of a caller's.
+    type Buffer;
+
+    /// Metadata.
+    type Meta;
+
+    /// An item.
+    type Item;
+}
+
+/// That commands carry these: lists X, slices F that are there for good, buffers B, metadata M and
+/// items T.
+pub struct Carries<X, F, B, M, T> {
+    of: PhantomData<(X, F, B, M, T)>,
+}
+
+impl<X, F, B, M, T> Carried for Carries<X, F, B, M, T> {
+    type Items = X;
+
+    type Static = F;
+
+    type Buffer = B;
+
+    type Meta = M;
+
+    type Item = T;
+}
+
+/// A command, which carries values of these types. Windows go by their numbers.
 #[derive(Debug, Drop)]
-pub enum Cmd<X, F, T> {
+pub enum Cmd<C: Carried> {
     /// A window over a copy of these items.
-    Slice(X),
+    Slice(C::Items),
+    /// A window over all items of a vector.
+    Vec(C::Items),
     /// A window over a slice that is there for good.
-    Static(F),
+    Static(C::Static),
+    /// A window over all items of a buffer behind an `Arc`.
+    Raw(C::Buffer),
+    /// A window over all items of a buffer, which is only read.
+    Buf {
+        buffer: C::Buffer,
+        metadata: C::Meta,
+    },
+    /// A window that is written, over all items of a buffer.
+    MBuf {
+        buffer: C::Buffer,
+        metadata: C::Meta,
+    },
     /// A window that is written, with no items and no places.
     New,
     /// A window that is written, with no items and so many places.
@@ -21,7 +70,7 @@ pub enum Cmd<X, F, T> {
         count: usize,
     },
     /// A window that is written, over a copy of these items.
-    MSlice(X),
+    MSlice(C::Items),
     /// Another window with the same items at the same place.
     Clone {
         window: usize,
@@ -34,6 +83,10 @@ pub enum Cmd<X, F, T> {
     },
     /// Whether a window is the only owner of its block.
     Uniq {
+        window: usize,
+    },
+    /// The metadata of a window's block.
+    Meta {
         window: usize,
     },
     /// The items of a window.
@@ -66,12 +119,12 @@ pub enum Cmd<X, F, T> {
     /// An item more, behind the others of a window that is written.
     Push {
         window: usize,
-        item: T,
+        item: C::Item,
     },
     /// These items more, behind the others of a window that is written.
     Ext {
         window: usize,
-        items: X,
+        items: C::Items,
     },
     /// Makes room for so many items more in a window that is written, if that takes no memory.
     Rec {
@@ -100,13 +153,29 @@ pub enum Cmd<X, F, T> {
     Drop {
         window: usize,
     },
+    /// The vector on which a window stands, as the window's items, and its end.
+    Take {
+        window: usize,
+    },
+    /// The same as a box.
+    TakeBox {
+        window: usize,
+    },
+    /// The buffer on which a window stands, and its end.
+    TakeBuf {
+        window: usize,
+    },
+    /// The `Arc` of a buffer on which a window stands, and its end.
+    TakeRaw {
+        window: usize,
+    },
     /// The items of a window that stands on no block, and its end.
     TakeStatic {
         window: usize,
     },
 }
 
-impl<X, F, T> Cmd<X, F, T> {
+impl<C: Carried> Cmd<C> {
     ghost use Rattle.std.specs.Prelude.{◌≡◌};
     ghost use Rattle.arc_commands.specs.Step.{window_of};
 
@@ -116,7 +185,11 @@ impl<X, F, T> Cmd<X, F, T> {
     {
         match self {
             Cmd::Slice(_) => None,
+            Cmd::Vec(_) => None,
             Cmd::Static(_) => None,
+            Cmd::Raw(_) => None,
+            Cmd::Buf { .. } => None,
+            Cmd::MBuf { .. } => None,
             Cmd::New => None,
             Cmd::Cap { .. } => None,
             Cmd::Zero { .. } => None,
@@ -124,6 +197,7 @@ impl<X, F, T> Cmd<X, F, T> {
             Cmd::Clone { window } => Some(*window),
             Cmd::Sub { window, .. } => Some(*window),
             Cmd::Uniq { window } => Some(*window),
+            Cmd::Meta { window } => Some(*window),
             Cmd::Show { window } => Some(*window),
             Cmd::Off { window, .. } => Some(*window),
             Cmd::To { window, .. } => Some(*window),
@@ -138,6 +212,10 @@ impl<X, F, T> Cmd<X, F, T> {
             Cmd::Adv { window, .. } => Some(*window),
             Cmd::Trunc { window, .. } => Some(*window),
             Cmd::Drop { window } => Some(*window),
+            Cmd::Take { window } => Some(*window),
+            Cmd::TakeBox { window } => Some(*window),
+            Cmd::TakeBuf { window } => Some(*window),
+            Cmd::TakeRaw { window } => Some(*window),
             Cmd::TakeStatic { window } => Some(*window),
         }
     }
@@ -151,9 +229,55 @@ impl<X, F, T> Cmd<X, F, T> {
     }
 }
 
-/// What a command is answered, where X holds items and F a slice that is there for good.
+/// The types of what replies give.
+pub trait Given {
+    /// Items that are shown.
+    type Shown;
+
+    /// A vector.
+    type Vector;
+
+    /// A box.
+    type Boxed;
+
+    /// A buffer of a caller's.
+    type Buffer;
+
+    /// An `Arc` of one.
+    type Raw;
+
+    /// A slice that is there for good.
+    type Static;
+
+    /// Metadata.
+    type Meta;
+}
+
+/// That replies give these: items X that are shown, vectors V, boxes D, buffers B, each behind an
+/// `Arc` as R, slices F that are there for good, and metadata M.
+pub struct Gives<X, V, D, B, R, F, M> {
+    of: PhantomData<(X, V, D, B, R, F, M)>,
+}
+
+impl<X, V, D, B, R, F, M> Given for Gives<X, V, D, B, R, F, M> {
+    type Shown = X;
+
+    type Vector = V;
+
+    type Boxed = D;
+
+    type Buffer = B;
+
+    type Raw = R;
+
+    type Static = F;
+
+    type Meta = M;
+}
+
+/// What a command is answered, which gives values of these types.
 #[derive(Debug, Drop)]
-pub enum Reply<X, F> {
+pub enum Reply<G: Given> {
     /// A window was made, and has this number.
     New(usize),
     /// It is done.
@@ -163,14 +287,26 @@ pub enum Reply<X, F> {
     /// It isn't: the block has another owner, or the window stands on none. Or it hasn't.
     No,
     /// The items of the window.
-    Items(X),
+    Items(G::Shown),
+    /// The vector on which the window stood, which is gone.
+    Vec(G::Vector),
+    /// The same as a box.
+    Boxed(G::Boxed),
+    /// The buffer on which the window stood, which is gone.
+    Buffer(G::Buffer),
+    /// The `Arc` of a buffer on which the window stood, which is gone.
+    Raw(G::Raw),
     /// The slice on which the window stood, which is gone, or no items where it stood on nothing.
-    Static(F),
+    Static(G::Static),
     /// So many items, or places.
     Number(usize),
+    /// The metadata of the window's block.
+    Meta(G::Meta),
+    /// The window's block has no metadata, or the window stands on none.
+    None,
     /// No window has this number, or none has it any more.
     NoWindow,
-    /// The command isn't for a window of this role.
+    /// The command isn't for a window of this role, or its kind or layout lacks it.
     Kind,
     /// What the window stands on doesn't allow it, or memory for it was refused; nothing changed.
     Refused,
@@ -183,9 +319,3 @@ pub enum Reply<X, F> {
     /// Memory was refused; nothing changed.
     Alloc,
 }
-
-/// What a table of windows over items of type T is asked: what it copies lies in a vector.
-pub type TableCmd<T, A> = Cmd<Vec<T, A>, StaticSlice<T>, T>;
-
-/// What a table of windows over items of type T answers: what it shows lies in a vector.
-pub type TableReply<T, A> = Reply<Vec<T, A>, StaticSlice<T>>;

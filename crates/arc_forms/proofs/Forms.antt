@@ -6,7 +6,7 @@ use Rattle.std.specs.Option.{option_map}
 use Rattle.std.proofs.lemmas.Bool.{cases_Bool, leb-true, le-leb, cond-false, cond-true}
 use Rattle.std.proofs.lemmas.List.Splits.{join_with_byte-slice_split, slice_split_none, length-slice_split}
 use Rattle.std.proofs.lemmas.Option.{none-some, same_Some}
-use Rattle.arc_commands.specs.declared.command.Cmd.{Cmd}
+use Rattle.arc_forms.specs.Commands.{ByteCmd}
 use Rattle.arc_commands.specs.declared.command.Cmd.TheVariants as command
 use Rattle.arc_forms.specs.Text.{space, longest_line, words_of, form, Operand, Number, Byte, Items, operand_word, IsWritable, IsSayable, Says, IsBad}
 use Rattle.arc_forms.specs.Reading.{◌>>=◌, is_space, words_of_line, Sort, ANumber, AByte, SomeItems, number_of, byte_of, items_of, operand_of, operands_of, Value, Makes, made, reads, verbs, named, read_form, read_as, command_of, BringsItems}
@@ -161,9 +161,9 @@ named_written word (line ∷ table) v all e =
       | inr other ↦ named_written word table v all.1 (sym (cond-false _ (Some line.1) (named word table) other) ∙ e)
     ]
 
-made_written : (word : List ℕ) (before : List Operand) (sorts : List Sort) (make : Makes sorts) (os : List Operand) (c : Cmd (List ℕ) (List ℕ) ℕ)
+made_written : (word : List ℕ) (before : List Operand) (sorts : List Sort) (make : Makes sorts) (os : List Operand) (c : ByteCmd)
     → IsWritten word before sorts make → made sorts make os ≡ Some c → (form c ≡ (word, before ++ os)) × IsSayable c
-made_written word before [] make [] c written e = (rw append-nil (subst (λ (d : Cmd (List ℕ) (List ℕ) ℕ). form d ≡ (word, before)) (same_Some _ _ e) written.0), subst IsSayable (same_Some _ _ e) written.1)
+made_written word before [] make [] c written e = (rw append-nil (subst (λ (d : ByteCmd). form d ≡ (word, before)) (same_Some _ _ e) written.0), subst IsSayable (same_Some _ _ e) written.1)
 made_written word before [] make (o ∷ os) c written e = absurd (none-some c e)
 made_written word before (sort ∷ sorts) make [] c written e = absurd (none-some c e)
 made_written word before (ANumber ∷ sorts) make (Number n ∷ os) c written e = let is = made_written word (before ++ Number n ∷ []) sorts (make n) os c (written n) e in (is.0 ∙ ap (λ (all : List Operand). (word, all)) (append_assoc before (Number n ∷ []) os), is.1)
@@ -175,35 +175,47 @@ abbrev pub sorts_of : List ℕ → Option (List Sort)
 sorts_of word = option_map (λ v. (reads v).sorts) (named word verbs)
 
 -- each command's form is in the table
-sorts_again : (c : Cmd (List ℕ) (List ℕ) ℕ) → sorts_of (form c).0 ≡ Some (map sort_of (form c).1)
+sorts_again : (c : ByteCmd) → sorts_of (form c).0 ≡ Some (map sort_of (form c).1)
 sorts_again (command.Slice xs) = refl
 sorts_again (command.MSlice xs) = refl
+sorts_again (command.Vec xs) = refl
+sorts_again (command.Raw xs) = refl
+sorts_again (command.Buf xs metadata) = refl
+sorts_again (command.MBuf xs metadata) = refl
 sorts_again (command.Ext i xs) = refl
 sorts_again other = refl
 
-made_again : (c : Cmd (List ℕ) (List ℕ) ℕ) → IsSayable c → (named (form c).0 verbs >>= λ v. made (reads v).sorts (reads v).make (form c).1) ≡ Some c
+made_again : (c : ByteCmd) → IsSayable c → (named (form c).0 verbs >>= λ v. made (reads v).sorts (reads v).make (form c).1) ≡ Some c
 made_again (command.Slice xs) sayable = refl
 made_again (command.MSlice xs) sayable = refl
+made_again (command.Vec xs) sayable = refl
+made_again (command.Raw xs) sayable = refl
+made_again (command.Buf xs metadata) sayable = refl
+made_again (command.MBuf xs metadata) sayable = refl
 made_again (command.Ext i xs) sayable = refl
 made_again (command.Static xs) sayable = ap (λ (items : List ℕ). Some (command.Static items)) (sym sayable)
 made_again other sayable = refl
 
-no_space_form : (c : Cmd (List ℕ) (List ℕ) ℕ) → list_all (λ byte. not (is_space byte)) (form c).0 ≡ true
+no_space_form : (c : ByteCmd) → list_all (λ byte. not (is_space byte)) (form c).0 ≡ true
 no_space_form (command.Slice xs) = refl
 no_space_form (command.MSlice xs) = refl
+no_space_form (command.Vec xs) = refl
+no_space_form (command.Raw xs) = refl
+no_space_form (command.Buf xs metadata) = refl
+no_space_form (command.MBuf xs metadata) = refl
 no_space_form (command.Ext i xs) = refl
 no_space_form other = refl
 
 -- ---- the command that words say
 
 -- these words say the command: it can be written, and is written so
-pub record SaidBy (words : List (List ℕ)) (c : Cmd (List ℕ) (List ℕ) ℕ) : Type 0 where
+pub record SaidBy (words : List (List ℕ)) (c : ByteCmd) : Type 0 where
   pub sayable : IsSayable c
   pub writable : AllByRecursion IsWritable (form c).1
   pub are : words ≡ words_of c
 
 -- words that are read as a command say it
-pub command_said : (words : List (List ℕ)) (c : Cmd (List ℕ) (List ℕ) ℕ) → command_of words ≡ Some c → SaidBy words c
+pub command_said : (words : List (List ℕ)) (c : ByteCmd) → command_of words ≡ Some c → SaidBy words c
 unfolding command_of
 command_said [] c e = absurd (none-some c e)
 command_said (word ∷ words) c e =
@@ -216,7 +228,7 @@ command_said (word ∷ words) c e =
     record { sayable = written.1; writable = subst (λ (all : List ℕ × List Operand). AllByRecursion IsWritable all.1) (sym is) stand.writable; are = rw is (ap (λ (ws : List (List ℕ)). word ∷ ws) stand.are) }
 
 -- a command that can be written is read from its words again
-pub command_again : (c : Cmd (List ℕ) (List ℕ) ℕ) → IsSayable c → AllByRecursion IsWritable (form c).1 → command_of (words_of c) ≡ Some c
+pub command_again : (c : ByteCmd) → IsSayable c → AllByRecursion IsWritable (form c).1 → command_of (words_of c) ≡ Some c
 unfolding command_of
 command_again c sayable writable = at (named (form c).0 verbs) (sorts_again c) (made_again c sayable)
   where
@@ -239,15 +251,15 @@ no_verb words word behind are is = rw (are, is) refl
 -- ---- lines
 
 -- the words of a command part at the spaces
-words_apart : (c : Cmd (List ℕ) (List ℕ) ℕ) → AllByRecursion IsWritable (form c).1 → words_of_line (join_with_byte space (words_of c)) ≡ words_of c
+words_apart : (c : ByteCmd) → AllByRecursion IsWritable (form c).1 → words_of_line (join_with_byte space (words_of c)) ≡ words_of c
 words_apart c writable = words-join (form c).0 (map operand_word (form c).1) (no_space_text (form c).0 (no_space_form c), no_space_operands (form c).1 writable)
 
-pub line_says : (line : List ℕ) (c : Cmd (List ℕ) (List ℕ) ℕ) → length line ≤ longest_line → command_of (words_of_line line) ≡ Some c → Says line c
+pub line_says : (line : List ℕ) (c : ByteCmd) → length line ≤ longest_line → command_of (words_of_line line) ≡ Some c → Says line c
 line_says line c fits e =
     let said = command_said (words_of_line line) c e in
     record { fits = fits; sayable = said.sayable; writable = said.writable; words = sym (join_with_byte-slice_split space line) ∙ ap (join_with_byte space) said.are }
 
-pub says_read : (line : List ℕ) (c : Cmd (List ℕ) (List ℕ) ℕ) → Says line c → command_of (words_of_line line) ≡ Some c
+pub says_read : (line : List ℕ) (c : ByteCmd) → Says line c → command_of (words_of_line line) ≡ Some c
 says_read line c says = rw (says.words, words_apart c says.writable) (command_again c says.sayable says.writable)
 
 pub unread_is_bad : (line : List ℕ) → command_of (words_of_line line) ≡ None → IsBad line
@@ -258,10 +270,10 @@ cond_option true o x e = (refl, e)
 cond_option false o x e = absurd (none-some x e)
 
 -- what a line says, if it says a command
-abbrev pub reading : List ℕ → Option (Cmd (List ℕ) (List ℕ) ℕ)
+abbrev pub reading : List ℕ → Option (ByteCmd)
 reading line = cond (leb (length line) longest_line) (command_of (words_of_line line)) None
 
-pub reading_says : (line : List ℕ) (c : Cmd (List ℕ) (List ℕ) ℕ) → reading line ≡ Some c → Says line c
+pub reading_says : (line : List ℕ) (c : ByteCmd) → reading line ≡ Some c → Says line c
 reading_says line c e =
     let found = cond_option (leb (length line) longest_line) (command_of (words_of_line line)) c e in
     line_says line c (leb-true _ _ found.0) found.1
@@ -270,15 +282,15 @@ pub unread_is_none : (line : List ℕ) → reading line ≡ None → IsBad line
 unread_is_none line none c says = none-some c (sym none ∙ rw (le-leb _ _ says.fits) (says_read line c says))
 
 -- each line says a command, or is bad
-pub says_or_bad : (line : List ℕ) → ((c : Cmd (List ℕ) (List ℕ) ℕ) × Says line c) ⊎ IsBad line
+pub says_or_bad : (line : List ℕ) → ((c : ByteCmd) × Says line c) ⊎ IsBad line
 says_or_bad line = at (reading line) refl
   where
-    at : (o : Option (Cmd (List ℕ) (List ℕ) ℕ)) → reading line ≡ o → ((c : Cmd (List ℕ) (List ℕ) ℕ) × Says line c) ⊎ IsBad line
+    at : (o : Option (ByteCmd)) → reading line ≡ o → ((c : ByteCmd) × Says line c) ⊎ IsBad line
     at None seen = inr (unread_is_none line seen)
     at (Some c) seen = inl (c, reading_says line c seen)
 
 -- no line says two
-pub says_one : (line : List ℕ) (c d : Cmd (List ℕ) (List ℕ) ℕ) → Says line c → Says line d → c ≡ d
+pub says_one : (line : List ℕ) (c d : ByteCmd) → Says line c → Says line d → c ≡ d
 says_one line c d one other = same_Some c d (sym (says_read line c one) ∙ says_read line d other)
 
 some_and : {X : Type 0} (P : X → Type 0) (o : Option X) → IsSomeAnd o P → (x : X) × (o ≡ Some x) × P x
@@ -286,17 +298,17 @@ some_and P None found = absurd found
 some_and P (Some x) found = (x, refl, found)
 
 -- the same, of what a command has beside
-pub line_says_and : (P : Cmd (List ℕ) (List ℕ) ℕ → Type 0) (line : List ℕ) → length line ≤ longest_line → IsSomeAnd (command_of (words_of_line line)) P → (c : Cmd (List ℕ) (List ℕ) ℕ) × Says line c × P c
+pub line_says_and : (P : ByteCmd → Type 0) (line : List ℕ) → length line ≤ longest_line → IsSomeAnd (command_of (words_of_line line)) P → (c : ByteCmd) × Says line c × P c
 line_says_and P line fits found = let read = some_and P (command_of (words_of_line line)) found in (read.0, line_says line read.0 fits read.1, read.2)
 
 -- what `parse` answers, by what was read of the words
-pub read_ok : {V E : Type 0} (see : V → Cmd (List ℕ) (List ℕ) ℕ) (line : List ℕ) (r : Result (Option V) E) → length line ≤ longest_line
+pub read_ok : {V E : Type 0} (see : V → ByteCmd) (line : List ℕ) (r : Result (Option V) E) → length line ≤ longest_line
     → IfOk r (λ said. option_map see said ≡ command_of (words_of_line line)) → IfOk r (λ said. MatchOption said (IsBad line) (λ c. Says line (see c)))
 read_ok see line (Ok None) fits e = unread_is_bad line (sym e)
 read_ok see line (Ok (Some c)) fits e = line_says line (see c) fits (sym e)
 read_ok see line (Err error) fits e = e
 
 pub read_err : {V E : Type 0} (line : List ℕ) (r : Result V E) → length line ≤ longest_line
-    → OnErr r (IsSomeAnd (command_of (words_of_line line)) BringsItems) → OnErr r ((c : Cmd (List ℕ) (List ℕ) ℕ) × Says line c × BringsItems c)
+    → OnErr r (IsSomeAnd (command_of (words_of_line line)) BringsItems) → OnErr r ((c : ByteCmd) × Says line c × BringsItems c)
 read_err line (Ok v) fits e = e
 read_err line (Err error) fits e = line_says_and BringsItems line fits e

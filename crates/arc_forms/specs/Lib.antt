@@ -1,3 +1,4 @@
+pub mod Commands
 pub mod Text
 pub mod Reading
 pub mod Seen

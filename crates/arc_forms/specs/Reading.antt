@@ -11,7 +11,7 @@ use Rattle.std.specs.Str.{bytes_eq}
 use Rattle.std.specs.Str.Parse.{digits_value}
 use Rattle.arc_forms.specs.Text.{space, items_word, static_bytes, form}
 use Rattle.arc_forms.specs.Text.{Operand, Number, Byte, Items}
-use Rattle.arc_commands.specs.declared.command.Cmd.{Cmd}
+use Rattle.arc_forms.specs.Commands.{ByteCmd}
 use Rattle.arc_commands.specs.declared.command.Cmd.TheVariants as command
 use Rattle.arc_forms.specs.declared.parse.Verb.{Verb}
 use Rattle.arc_forms.specs.declared.parse.Verb.TheVariants as verb
@@ -23,6 +23,8 @@ use Rattle.arc_forms.specs.declared.parse.TwoNumbers.{TwoNumbers}
 use Rattle.arc_forms.specs.declared.parse.TwoNumbers.TheVariants as two
 use Rattle.arc_forms.specs.declared.parse.JustItems.{JustItems}
 use Rattle.arc_forms.specs.declared.parse.JustItems.TheVariants as items
+use Rattle.arc_forms.specs.declared.parse.ItemsAndNumber.{ItemsAndNumber}
+use Rattle.arc_forms.specs.declared.parse.ItemsAndNumber.TheVariants as both
 
 infixl 10 ◌>>=◌
 abbrev pub ◌>>=◌ : {A B : Type 0} → Option A → (A → Option B) → Option B
@@ -102,11 +104,11 @@ Value AByte = ℕ
 Value SomeItems = List ℕ
 
 abbrev pub Makes : List Sort → Type 0
-Makes [] = Cmd (List ℕ) (List ℕ) ℕ
+Makes [] = ByteCmd
 Makes (sort ∷ sorts) = Value sort → Makes sorts
 
 abbrev pub made : (sorts : List Sort) → Makes sorts → List Operand
-    → Option (Cmd (List ℕ) (List ℕ) ℕ)
+    → Option (ByteCmd)
 made [] make [] = Some make
 made [] make (o ∷ os) = None
 made (sort ∷ sorts) make [] = None
@@ -144,6 +146,11 @@ number_form one.Room = (codes "room", command.Room)
 number_form one.Freeze = (codes "freeze", command.Freeze)
 number_form one.Mut = (codes "mut", command.Mut)
 number_form one.Drop = (codes "drop", command.Drop)
+number_form one.Meta = (codes "meta", command.Meta)
+number_form one.Take = (codes "take", command.Take)
+number_form one.TakeBox = (codes "takebox", command.TakeBox)
+number_form one.TakeBuf = (codes "takebuf", command.TakeBuf)
+number_form one.TakeRaw = (codes "takeraw", command.TakeRaw)
 number_form one.TakeStatic = (codes "takestatic", command.TakeStatic)
 
 -- two numbers
@@ -159,6 +166,13 @@ numbers_form two.Trunc = (codes "trunc", command.Trunc)
 abbrev pub items_form : JustItems → Line (SomeItems ∷ [])
 items_form items.Slice = (codes "slice", command.Slice)
 items_form items.MSlice = (codes "mslice", command.MSlice)
+items_form items.Vec = (codes "vec", command.Vec)
+items_form items.Raw = (codes "raw", command.Raw)
+
+-- items and a number
+abbrev pub items_number_form : ItemsAndNumber → Line (SomeItems ∷ ANumber ∷ [])
+items_number_form both.Buf = (codes "buf", command.Buf)
+items_number_form both.MBuf = (codes "mbuf", command.MBuf)
 
 -- the forms of each group, and those that stand alone
 abbrev pub entry : (sorts : List Sort) → Line sorts → Form
@@ -172,13 +186,14 @@ reads verb.Sub = entry (ANumber ∷ ANumber ∷ ANumber ∷ []) (codes "sub", co
 reads verb.Push = entry (ANumber ∷ AByte ∷ []) (codes "push", command.Push)
 reads (verb.Items v) = entry (SomeItems ∷ []) (items_form v)
 reads verb.Ext = entry (ANumber ∷ SomeItems ∷ []) (codes "ext", command.Ext)
+reads (verb.ItemsNumber v) = entry (SomeItems ∷ ANumber ∷ []) (items_number_form v)
 
 -- forms by their first words
 abbrev pub by_word : List Verb → List (List ℕ × Verb)
 by_word vs = map (λ v. ((reads v).word, v)) vs
 
--- all forms, in four groups: those of windows that most lines are about, cuts and lengths, what
--- makes windows, and the others
+-- all forms, in five groups: those of windows that most lines are about, cuts and lengths, what
+-- makes windows, buffers and what is taken back, and the others
 abbrev pub usual_verbs : List (List ℕ × Verb)
 usual_verbs = by_word (
     verb.Number one.Show ∷ verb.Number one.Drop ∷ verb.Items items.Slice ∷ verb.Number one.Clone ∷
@@ -192,15 +207,25 @@ cut_verbs = by_word (
 abbrev pub making_verbs : List (List ℕ × Verb)
 making_verbs = by_word (
     verb.Items items.MSlice ∷ verb.Bare bare.New ∷ verb.Number one.Cap ∷ verb.Number one.Zero ∷
-    verb.Bare bare.Static ∷ [])
+    verb.Bare bare.Static ∷ verb.Items items.Vec ∷ verb.Items items.Raw ∷ [])
+
+abbrev pub buffer_verbs : List (List ℕ × Verb)
+buffer_verbs = by_word (
+    verb.ItemsNumber both.Buf ∷ verb.ItemsNumber both.MBuf ∷ verb.Number one.Meta ∷
+    verb.Number one.Take ∷ verb.Number one.TakeBox ∷ verb.Number one.TakeBuf ∷
+    verb.Number one.TakeRaw ∷ [])
 
 abbrev pub other_verbs : List (List ℕ × Verb)
 other_verbs = by_word (
     verb.Number one.Uniq ∷ verb.Numbers two.Res ∷ verb.Numbers two.Rec ∷ verb.Number one.Room ∷
     verb.Number one.Freeze ∷ verb.Number one.Mut ∷ verb.Number one.TakeStatic ∷ [])
 
+-- those that few lines have
+abbrev pub rare_verbs : List (List ℕ × Verb)
+rare_verbs = making_verbs ++ (buffer_verbs ++ other_verbs)
+
 abbrev pub verbs : List (List ℕ × Verb)
-verbs = usual_verbs ++ (cut_verbs ++ (making_verbs ++ other_verbs))
+verbs = usual_verbs ++ (cut_verbs ++ rare_verbs)
 
 -- the form whose first word this is, among these
 abbrev pub named : List ℕ → List (List ℕ × Verb) → Option Verb
@@ -208,20 +233,20 @@ named word [] = None
 named word (line ∷ table) = if bytes_eq line.0 word then Some line.1 else named word table
 
 -- the command that words say behind the first word of a form
-abbrev pub read_form : List (List ℕ) → Form → Option (Cmd (List ℕ) (List ℕ) ℕ)
+abbrev pub read_form : List (List ℕ) → Form → Option (ByteCmd)
 read_form words f = operands_of f.sorts words >>= λ os. made f.sorts f.make os
 
 -- the same of a form as the parser names it, and of a form and what is left of a line behind its
 -- first word
-unfoldable pub read_as : List (List ℕ) → Verb → Option (Cmd (List ℕ) (List ℕ) ℕ)
+unfoldable pub read_as : List (List ℕ) → Verb → Option (ByteCmd)
 read_as words v = read_form words (reads v)
 
-abbrev pub read_behind : Option (Verb × Option (Bor (List ℕ))) → Option (Cmd (List ℕ) (List ℕ) ℕ)
+abbrev pub read_behind : Option (Verb × Option (Bor (List ℕ))) → Option (ByteCmd)
 read_behind None = None
 read_behind (Some x) = read_as (words_in x.1) x.0
 
 -- the command that words say
-unfoldable pub command_of : List (List ℕ) → Option (Cmd (List ℕ) (List ℕ) ℕ)
+unfoldable pub command_of : List (List ℕ) → Option (ByteCmd)
 command_of [] = None
 command_of (word ∷ words) = named word verbs >>= λ v. read_form words (reads v)
 
@@ -231,5 +256,5 @@ is_items (Number n) = false
 is_items (Byte x) = false
 is_items (Items xs) = true
 
-abbrev pub BringsItems : Cmd (List ℕ) (List ℕ) ℕ → Type 0
+abbrev pub BringsItems : ByteCmd → Type 0
 BringsItems c = IsTrue (list_any is_items (form c).1)

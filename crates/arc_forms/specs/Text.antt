@@ -9,9 +9,8 @@ use Rattle.arc_owners.specs.declared.error.OwnerError.{OwnerError}
 use Rattle.arc_owners.specs.declared.error.OwnerError.TheVariants as owner
 use Rattle.arc_owners.specs.declared.error.TryReserveError.{TryReserveError}
 use Rattle.arc_owners.specs.declared.error.TryReserveError.TheVariants as reserve
-use Rattle.arc_commands.specs.declared.command.Cmd.{Cmd}
+use Rattle.arc_forms.specs.Commands.{ByteCmd, ByteReply}
 use Rattle.arc_commands.specs.declared.command.Cmd.TheVariants as command
-use Rattle.arc_commands.specs.declared.command.Reply.{Reply}
 use Rattle.arc_commands.specs.declared.command.Reply.TheVariants as reply
 
 -- the byte that parts words, and the one that ends lines
@@ -49,9 +48,13 @@ abbrev pub static_bytes : List ℕ
 static_bytes = codes "abcd"
 
 -- The table of forms, a line each: the first word of a command, and its operands.
-abbrev pub form : Cmd (List ℕ) (List ℕ) ℕ → List ℕ × List Operand
+abbrev pub form : ByteCmd → List ℕ × List Operand
 form (command.Slice xs) = (codes "slice", Items xs ∷ [])
 form (command.MSlice xs) = (codes "mslice", Items xs ∷ [])
+form (command.Vec xs) = (codes "vec", Items xs ∷ [])
+form (command.Raw xs) = (codes "raw", Items xs ∷ [])
+form (command.Buf xs metadata) = (codes "buf", Items xs ∷ Number metadata ∷ [])
+form (command.MBuf xs metadata) = (codes "mbuf", Items xs ∷ Number metadata ∷ [])
 form command.New = (codes "new", [])
 form (command.Cap places) = (codes "cap", Number places ∷ [])
 form (command.Zero count) = (codes "zero", Number count ∷ [])
@@ -73,6 +76,11 @@ form (command.Mut i) = (codes "mut", Number i ∷ [])
 form (command.Adv i by) = (codes "adv", Number i ∷ Number by ∷ [])
 form (command.Trunc i len) = (codes "trunc", Number i ∷ Number len ∷ [])
 form (command.Drop i) = (codes "drop", Number i ∷ [])
+form (command.Meta i) = (codes "meta", Number i ∷ [])
+form (command.Take i) = (codes "take", Number i ∷ [])
+form (command.TakeBox i) = (codes "takebox", Number i ∷ [])
+form (command.TakeBuf i) = (codes "takebuf", Number i ∷ [])
+form (command.TakeRaw i) = (codes "takeraw", Number i ∷ [])
 form (command.TakeStatic i) = (codes "takestatic", Number i ∷ [])
 
 -- an operand as a word
@@ -94,16 +102,16 @@ IsWritable (Byte x) = IsByte x
 IsWritable (Items xs) = AllByRecursion IsByte xs
 
 -- which commands have a line: of those over static slices the one over these bytes
-abbrev pub IsSayable : Cmd (List ℕ) (List ℕ) ℕ → Type 0
+abbrev pub IsSayable : ByteCmd → Type 0
 IsSayable (command.Static items) = items ≡ static_bytes
 IsSayable other = Unit {0}
 
 -- a command as words
-abbrev pub words_of : Cmd (List ℕ) (List ℕ) ℕ → List (List ℕ)
+abbrev pub words_of : ByteCmd → List (List ℕ)
 words_of c = (form c).0 ∷ map operand_word (form c).1
 
 -- the line says the command: its words, parted by one space each
-pub record Says (line : List ℕ) (c : Cmd (List ℕ) (List ℕ) ℕ) : Type 0 where
+pub record Says (line : List ℕ) (c : ByteCmd) : Type 0 where
   pub fits : length line ≤ longest_line
   pub sayable : IsSayable c
   pub writable : AllByRecursion IsWritable (form c).1
@@ -125,14 +133,20 @@ reserve_text reserve.AllocError = codes "allocation error"
 reserve_text reserve.CapacityOverflow = codes "capacity overflow"
 
 -- a reply as a text
-abbrev pub reply_text : Reply (List ℕ) (List ℕ) → List ℕ
+abbrev pub reply_text : ByteReply → List ℕ
 reply_text (reply.New number) = codes "h" ++ decimal number
 reply_text reply.Ok = codes "ok"
 reply_text reply.Yes = codes "yes"
 reply_text reply.No = codes "no"
 reply_text (reply.Items items) = items_word items
+reply_text (reply.Vec items) = items_word items
+reply_text (reply.Boxed items) = items_word items
+reply_text (reply.Buffer items) = items_word items
+reply_text (reply.Raw items) = items_word items
 reply_text (reply.Static items) = items_word items
 reply_text (reply.Number n) = decimal n
+reply_text (reply.Meta metadata) = decimal metadata
+reply_text reply.None = codes "none"
 reply_text reply.NoWindow = codes "no window"
 reply_text reply.Kind = codes "kind"
 reply_text reply.Refused = codes "refused"
@@ -143,9 +157,9 @@ reply_text reply.Alloc = codes "allocation error"
 
 -- the line says no command
 abbrev pub IsBad : List ℕ → Type 0
-IsBad line = (c : Cmd (List ℕ) (List ℕ) ℕ) → ¬ Says line c
+IsBad line = (c : ByteCmd) → ¬ Says line c
 
 -- what is written for a line: its reply, or that it says no command
-abbrev pub answer_text : Option (Reply (List ℕ) (List ℕ)) → List ℕ
+abbrev pub answer_text : Option ByteReply → List ℕ
 answer_text (Some reply) = reply_text reply
 answer_text None = codes "bad line"

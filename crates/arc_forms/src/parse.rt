@@ -8,23 +8,24 @@ ghost use Rattle.std.specs.Char.{digit_value};
 ghost use Rattle.std.specs.List.{list_all};
 ghost use Rattle.std.specs.Vec.{vec_items};
 ghost use Rattle.arc_forms.specs.Text.{Number, Byte, Items, Says, IsBad};
-ghost use Rattle.arc_commands.specs.Seen.{seen_command};
-ghost use Rattle.arc_commands.specs.declared.command.Cmd.{Cmd};
+ghost use Rattle.arc_forms.specs.Seen.{line_command};
+ghost use Rattle.arc_forms.specs.Commands.{ByteCmd};
 ghost use Rattle.arc_forms.specs.Reading.{ANumber, SomeItems, BringsItems, command_of, first_by};
 ghost use Rattle.arc_forms.specs.Reading.{is_hex_digit, items_of, number_of, operand_of};
 ghost use Rattle.arc_forms.specs.Reading.{operands_of, pairs, words_in, named, read_behind};
-ghost use Rattle.arc_forms.specs.Reading.{cut_verbs, making_verbs, other_verbs, usual_verbs, verbs};
+ghost use Rattle.arc_forms.specs.Reading.{buffer_verbs, cut_verbs, making_verbs, other_verbs};
+ghost use Rattle.arc_forms.specs.Reading.{rare_verbs, usual_verbs, verbs};
 ghost use Rattle.arc_forms.specs.Reading.{number_form, numbers_form};
 ghost use Rattle.arc_forms.specs.Reading.{AByte, byte_of, read_as};
 ghost use Rattle.arc_forms.specs.Reading.{words_of_line};
 
 use arc_block::static_slice::StaticSlice;
-use arc_commands::command::Cmd;
+use arc_commands::command::{Carries, Cmd};
 use arc_owners::error::AllocError;
 use std::alloc::Allocator;
 
 /// A command over bytes.
-pub type Command<A> = Cmd<Vec<u8, A>, StaticSlice<u8>, u8>;
+pub type Command<A> = Cmd<Carries<Vec<u8, A>, StaticSlice<u8>, Vec<u8, A>, u64, u8>>;
 
 /// The bytes over which `static` makes a window.
 const STATIC_BYTES: &[u8] = b"abcd";
@@ -52,6 +53,8 @@ enum Verb {
     Items(JustItems),
     /// A number and items.
     Ext,
+    /// Items and a number.
+    ItemsNumber(ItemsAndNumber),
 }
 
 /// The forms with nothing behind their first word.
@@ -74,6 +77,11 @@ enum OneNumber {
     Freeze,
     Mut,
     Drop,
+    Meta,
+    Take,
+    TakeBox,
+    TakeBuf,
+    TakeRaw,
     TakeStatic,
 }
 
@@ -93,6 +101,15 @@ enum TwoNumbers {
 enum JustItems {
     Slice,
     MSlice,
+    Vec,
+    Raw,
+}
+
+/// The forms of items and a number.
+#[derive(Clone, Copy)]
+enum ItemsAndNumber {
+    Buf,
+    MBuf,
 }
 
 /// What is left of a line behind a word: `None` behind the last.
@@ -276,7 +293,7 @@ fn one_hex(rest: Rest) -> Option<Hex>
 }
 
 /// The form whose first word this is. A match tests the length and then bytes; seven words are what
-/// the proof of one takes by search, so there are four.
+/// the proof of one takes by search, so there are five.
 fn verb_named(word: &[u8]) -> Option<Verb>
     ensures { result ≡ named word.now verbs }
 {
@@ -286,7 +303,17 @@ fn verb_named(word: &[u8]) -> Option<Verb>
     if let Some(verb) = cut_verb_named(word) {
         return Some(verb);
     }
+    rare_verb_named(word)
+}
+
+/// The same, of those that few lines have.
+fn rare_verb_named(word: &[u8]) -> Option<Verb>
+    ensures { result ≡ named word.now rare_verbs }
+{
     if let Some(verb) = making_verb_named(word) {
+        return Some(verb);
+    }
+    if let Some(verb) = buffer_verb_named(word) {
         return Some(verb);
     }
     other_verb_named(word)
@@ -335,6 +362,25 @@ fn making_verb_named(word: &[u8]) -> Option<Verb>
         b"cap" => Some(Verb::Number(OneNumber::Cap)),
         b"zero" => Some(Verb::Number(OneNumber::Zero)),
         b"static" => Some(Verb::Bare(Bare::Static)),
+        b"vec" => Some(Verb::Items(JustItems::Vec)),
+        b"raw" => Some(Verb::Items(JustItems::Raw)),
+        _ => None,
+    }
+}
+
+/// The same, of buffers, and of what is taken back.
+#[inline(always)]
+fn buffer_verb_named(word: &[u8]) -> Option<Verb>
+    ensures { result ≡ named word.now buffer_verbs }
+{
+    match word {
+        b"buf" => Some(Verb::ItemsNumber(ItemsAndNumber::Buf)),
+        b"mbuf" => Some(Verb::ItemsNumber(ItemsAndNumber::MBuf)),
+        b"meta" => Some(Verb::Number(OneNumber::Meta)),
+        b"take" => Some(Verb::Number(OneNumber::Take)),
+        b"takebox" => Some(Verb::Number(OneNumber::TakeBox)),
+        b"takebuf" => Some(Verb::Number(OneNumber::TakeBuf)),
+        b"takeraw" => Some(Verb::Number(OneNumber::TakeRaw)),
         _ => None,
     }
 }
@@ -394,7 +440,7 @@ fn verb_of(line: &[u8]) -> Option<(Verb, Rest)>
 /// The command of a form with nothing behind its first word.
 #[tactic(auto, using(crate::proofs::Forms::nothing_is_left, crate::proofs::Forms::word_is_left), unfolding(crate::specs::Reading::read_as))]
 fn with_nothing<A: Allocator>(verb: Bare, rest: Rest) -> Option<Command<A>>
-    ensures { option_map seen_command result
+    ensures { option_map line_command result
         ≡ read_as (words_in rest.entry) (Verb.Bare verb) }
 {
     if rest.is_some() {
@@ -408,7 +454,7 @@ fn with_nothing<A: Allocator>(verb: Bare, rest: Rest) -> Option<Command<A>>
 
 /// The command that a form of one number makes of it.
 fn number_command<A: Allocator>(verb: OneNumber, number: usize) -> Command<A>
-    ensures { seen_command result ≡ (number_form verb).1 number }
+    ensures { line_command result ≡ (number_form verb).1 number }
 {
     let window = number;
     match verb {
@@ -422,6 +468,11 @@ fn number_command<A: Allocator>(verb: OneNumber, number: usize) -> Command<A>
         OneNumber::Freeze => Cmd::Freeze { window },
         OneNumber::Mut => Cmd::Mut { window },
         OneNumber::Drop => Cmd::Drop { window },
+        OneNumber::Meta => Cmd::Meta { window },
+        OneNumber::Take => Cmd::Take { window },
+        OneNumber::TakeBox => Cmd::TakeBox { window },
+        OneNumber::TakeBuf => Cmd::TakeBuf { window },
+        OneNumber::TakeRaw => Cmd::TakeRaw { window },
         OneNumber::TakeStatic => Cmd::TakeStatic { window },
     }
 }
@@ -429,7 +480,7 @@ fn number_command<A: Allocator>(verb: OneNumber, number: usize) -> Command<A>
 /// The command of a form of one number.
 #[tactic(auto, unfolding(crate::specs::Reading::read_as))]
 fn with_number<A: Allocator>(verb: OneNumber, rest: Rest) -> Option<Command<A>>
-    ensures { option_map seen_command result
+    ensures { option_map line_command result
         ≡ read_as (words_in rest.entry) (Verb.Number verb) }
 {
     match one_number(rest) {
@@ -440,7 +491,7 @@ fn with_number<A: Allocator>(verb: OneNumber, rest: Rest) -> Option<Command<A>>
 
 /// The command that a form of two numbers makes of them.
 fn numbers_command<A: Allocator>(verb: TwoNumbers, window: usize, number: usize) -> Command<A>
-    ensures { seen_command result ≡ (numbers_form verb).1 window number }
+    ensures { line_command result ≡ (numbers_form verb).1 window number }
 {
     match verb {
         TwoNumbers::Off => Cmd::Off { window, at: number },
@@ -464,7 +515,7 @@ fn numbers_command<A: Allocator>(verb: TwoNumbers, window: usize, number: usize)
 /// The command of a form of two numbers.
 #[tactic(auto, unfolding(crate::specs::Reading::read_as))]
 fn with_numbers<A: Allocator>(verb: TwoNumbers, rest: Rest) -> Option<Command<A>>
-    ensures { option_map seen_command result
+    ensures { option_map line_command result
         ≡ read_as (words_in rest.entry) (Verb.Numbers verb) }
 {
     match two_numbers(rest) {
@@ -476,7 +527,7 @@ fn with_numbers<A: Allocator>(verb: TwoNumbers, rest: Rest) -> Option<Command<A>
 /// The command `Sub`.
 #[tactic(auto, unfolding(crate::specs::Reading::operands_of, crate::specs::Reading::read_as))]
 fn sub<A: Allocator>(rest: Rest) -> Option<Command<A>>
-    ensures { option_map seen_command result ≡ read_as (words_in rest.entry) Verb.Sub }
+    ensures { option_map line_command result ≡ read_as (words_in rest.entry) Verb.Sub }
 {
     let Some((window, rest)) = number(rest) else {
         return None;
@@ -490,7 +541,7 @@ fn sub<A: Allocator>(rest: Rest) -> Option<Command<A>>
 /// The command `Push`.
 #[tactic(auto, unfolding(crate::specs::Reading::operands_of, crate::specs::Reading::read_as))]
 fn push<A: Allocator>(rest: Rest) -> Option<Command<A>>
-    ensures { option_map seen_command result ≡ read_as (words_in rest.entry) Verb.Push }
+    ensures { option_map line_command result ≡ read_as (words_in rest.entry) Verb.Push }
 {
     let Some((window, rest)) = number(rest) else {
         return None;
@@ -508,7 +559,7 @@ fn with_items<A: Allocator>(
     verb: JustItems,
     rest: Rest,
 ) -> Result<Option<Command<A>>, AllocError>
-    ensures ok { IfOk result (λ said. option_map seen_command said
+    ensures ok { IfOk result (λ said. option_map line_command said
         ≡ read_as (words_in rest.entry) (Verb.Items verb)) }
     ensures err { OnErr result (IsSomeAnd (read_as (words_in rest.entry) (Verb.Items verb))
         BringsItems) }
@@ -520,6 +571,8 @@ fn with_items<A: Allocator>(
         Ok(items) => Ok(Some(match verb {
             JustItems::Slice => Cmd::Slice(items),
             JustItems::MSlice => Cmd::MSlice(items),
+            JustItems::Vec => Cmd::Vec(items),
+            JustItems::Raw => Cmd::Raw(items),
         })),
         Err(error) => Err(error),
     }
@@ -528,7 +581,7 @@ fn with_items<A: Allocator>(
 /// The command `Ext`. `Err` where memory is refused for its items.
 #[tactic(auto, unfolding(crate::specs::Reading::operands_of, crate::specs::Reading::read_as))]
 fn ext<A: Allocator>(alloc: A, rest: Rest) -> Result<Option<Command<A>>, AllocError>
-    ensures ok { IfOk result (λ said. option_map seen_command said
+    ensures ok { IfOk result (λ said. option_map line_command said
         ≡ read_as (words_in rest.entry) Verb.Ext) }
     ensures err { OnErr result (IsSomeAnd (read_as (words_in rest.entry) Verb.Ext) BringsItems) }
 {
@@ -544,11 +597,54 @@ fn ext<A: Allocator>(alloc: A, rest: Rest) -> Result<Option<Command<A>>, AllocEr
     }
 }
 
+/// The digits of the items that the first word says, and what is left behind it.
+fn first_hex(rest: Rest) -> Option<(Hex, Rest)>
+    ensures { option_map (λ x. (Items (pairs x.0.digits.now), words_in x.1)) result
+        ≡ first_by (operand_of SomeItems) (words_in rest.entry) }
+{
+    let Some(line) = rest else {
+        return None;
+    };
+    let (word, rest) = word(line);
+    let Some(hex) = digits_in(word) else {
+        return None;
+    };
+    Some((hex, rest))
+}
+
+/// The command of a form of items and a number. `Err` where memory is refused for the items.
+#[tactic(auto, unfolding(crate::specs::Reading::operands_of, crate::specs::Reading::read_as))]
+fn with_items_and_number<A: Allocator>(
+    alloc: A,
+    verb: ItemsAndNumber,
+    rest: Rest,
+) -> Result<Option<Command<A>>, AllocError>
+    ensures ok { IfOk result (λ said. option_map line_command said
+        ≡ read_as (words_in rest.entry) (Verb.ItemsNumber verb)) }
+    ensures err { OnErr result (IsSomeAnd (read_as (words_in rest.entry) (Verb.ItemsNumber verb))
+        BringsItems) }
+{
+    let Some((hex, rest)) = first_hex(rest) else {
+        return Ok(None);
+    };
+    let Some(number) = one_number(rest) else {
+        return Ok(None);
+    };
+    let metadata = number as u64;
+    match decoded(alloc, hex) {
+        Ok(buffer) => Ok(Some(match verb {
+            ItemsAndNumber::Buf => Cmd::Buf { buffer, metadata },
+            ItemsAndNumber::MBuf => Cmd::MBuf { buffer, metadata },
+        })),
+        Err(error) => Err(error),
+    }
+}
+
 /// The command that the words of a line say, or `None` where they say none. `Err` where memory is
 /// refused for items.
 fn command<A: Allocator>(alloc: A, line: &[u8]) -> Result<Option<Command<A>>, AllocError>
     ensures ok { IfOk result (λ said.
-        option_map seen_command said ≡ command_of (words_of_line line.now)) }
+        option_map line_command said ≡ command_of (words_of_line line.now)) }
     ensures err { OnErr result (IsSomeAnd (command_of (words_of_line line.now)) BringsItems) }
 {
     let Some((verb, rest)) = verb_of(line) else {
@@ -562,6 +658,7 @@ fn command<A: Allocator>(alloc: A, line: &[u8]) -> Result<Option<Command<A>>, Al
         Verb::Push => Ok(push(rest)),
         Verb::Items(verb) => with_items(alloc, verb, rest),
         Verb::Ext => ext(alloc, rest),
+        Verb::ItemsNumber(verb) => with_items_and_number(alloc, verb, rest),
     }
 }
 
@@ -571,8 +668,8 @@ fn command<A: Allocator>(alloc: A, line: &[u8]) -> Result<Option<Command<A>>, Al
 /// command that brings items.
 pub fn parse<A: Allocator + Copy>(alloc: A, line: &[u8]) -> Result<Option<Command<A>>, AllocError>
     ensures ok { IfOk result (λ said.
-        MatchOption said (IsBad line.now) (λ c. Says line.now (seen_command c))) }
-    ensures err { OnErr result ((c : Cmd (List ℕ) (List ℕ) ℕ) × Says line.now c × BringsItems c) }
+        MatchOption said (IsBad line.now) (λ c. Says line.now (line_command c))) }
+    ensures err { OnErr result ((c : ByteCmd) × Says line.now c × BringsItems c) }
 {
     if line.len() > LONGEST_LINE {
         return Ok(None);
@@ -582,5 +679,5 @@ pub fn parse<A: Allocator + Copy>(alloc: A, line: &[u8]) -> Result<Option<Comman
 
 /// No line says two commands. Does nothing: its contract is the law.
 pub fn one_command()
-    ensures { (line : List ℕ) (c d : Cmd (List ℕ) (List ℕ) ℕ) → Says line c → Says line d → c ≡ d }
+    ensures { (line : List ℕ) (c d : ByteCmd) → Says line c → Says line d → c ≡ d }
 {}

@@ -3,15 +3,22 @@ ghost use Rattle.std.specs.Prelude.{◌≡◌, ◌++◌, ◌<◌, ◌*◌, ℕ, 
 ghost use Rattle.std.specs.Prelude.{codes, decimal, length, OnErr, OnOk};
 ghost use Rattle.arc_forms.specs.Text.{hex, hex_digit, items_word, owner_text, range_text};
 ghost use Rattle.arc_forms.specs.Text.{reply_text, reserve_text};
-ghost use Rattle.arc_commands.specs.Seen.{map_reply};
+ghost use Rattle.arc_forms.specs.Seen.{line_reply};
 ghost use Rattle.arc_forms.specs.Writing.{Extends, answer_line};
 
 use arc_block::static_slice::StaticSlice;
-use arc_commands::command::Reply;
+use arc_commands::command::{Gives, Reply};
 use arc_owners::error::{AllocError, OwnerError, RangeError, TryReserveError};
 use itoa::Buffer;
 use std::alloc::Allocator;
+use std::boxed::BoxedSlice;
 use std::convert::AsSlice;
+use std::sync::Arc;
+
+/// What a table of bytes answers, where X holds the items that are shown.
+pub type ByteReply<X, A> = Reply<
+    Gives<X, Vec<u8, A>, BoxedSlice<u8, A>, Vec<u8, A>, Arc<Vec<u8, A>, A>, StaticSlice<u8>, u64>,
+>;
 
 /// The hex digit of a number below 16.
 fn digit_of(number: u8) -> u8
@@ -70,7 +77,7 @@ fn push_words<A: Allocator>(out: &mut Vec<u8, A>, words: &[u8]) -> Result<(), Al
 }
 
 /// Appends a number in decimal.
-fn push_number<A: Allocator>(out: &mut Vec<u8, A>, number: usize) -> Result<(), AllocError>
+fn push_number<A: Allocator>(out: &mut Vec<u8, A>, number: u64) -> Result<(), AllocError>
     ensures ok { OnOk result (out.new.items ≡ out.old.items ++ decimal number) }
     ensures err { OnErr result (Extends out.old.items out.new.items) }
 {
@@ -83,7 +90,7 @@ fn push_window<A: Allocator>(out: &mut Vec<u8, A>, number: usize) -> Result<(), 
     ensures err { OnErr result (Extends out.old.items out.new.items) }
 {
     match push_words(out, b"h") {
-        Ok(()) => push_number(out, number),
+        Ok(()) => push_number(out, number as u64),
         Err(error) => Err(error),
     }
 }
@@ -126,20 +133,26 @@ fn push_items<A: Allocator>(out: &mut Vec<u8, A>, items: &[u8]) -> Result<(), Al
 /// Appends the text of a reply. An `Err` may leave a part of it.
 fn push_reply<A: Allocator, X: AsSlice<u8>>(
     out: &mut Vec<u8, A>,
-    reply: &Reply<X, StaticSlice<u8>>,
+    reply: &ByteReply<X, A>,
 ) -> Result<(), AllocError>
     ensures ok { OnOk result
-        (out.new.items ≡ out.old.items ++ reply_text (map_reply X.items reply.now)) }
+        (out.new.items ≡ out.old.items ++ reply_text (line_reply X.items reply.now)) }
     ensures err { OnErr result (Extends out.old.items out.new.items) }
 {
     let words: &[u8] = match reply {
         Reply::New(number) => return push_window(out, *number),
         Reply::Items(items) => return push_items(out, items.as_slice()),
+        Reply::Vec(items) => return push_items(out, items.as_slice()),
+        Reply::Boxed(items) => return push_items(out, items.as_slice()),
+        Reply::Buffer(items) => return push_items(out, items.as_slice()),
+        Reply::Raw(shared) => return push_items(out, shared.as_slice()),
         Reply::Static(items) => return push_items(out, items.as_slice()),
-        Reply::Number(number) => return push_number(out, *number),
+        Reply::Meta(metadata) => return push_number(out, *metadata),
+        Reply::Number(number) => return push_number(out, *number as u64),
         Reply::Ok => return push_words(out, b"ok"),
         Reply::Yes => b"yes",
         Reply::No => b"no",
+        Reply::None => b"none",
         Reply::NoWindow => b"no window",
         Reply::Kind => b"kind",
         Reply::Refused => b"refused",
@@ -154,10 +167,10 @@ fn push_reply<A: Allocator, X: AsSlice<u8>>(
 /// Appends the text of a reply, and a line feed. An `Err` may leave a part of it.
 fn push_line<A: Allocator, X: AsSlice<u8>>(
     out: &mut Vec<u8, A>,
-    reply: &Reply<X, StaticSlice<u8>>,
+    reply: &ByteReply<X, A>,
 ) -> Result<(), AllocError>
     ensures ok { OnOk result
-        (out.new.items ≡ out.old.items ++ answer_line X.items (Some reply.now)) }
+        (out.new.items ≡ out.old.items ++ answer_line (Some (line_reply X.items reply.now))) }
     ensures err { OnErr result (Extends out.old.items out.new.items) }
 {
     match push_reply(out, reply) {
@@ -171,10 +184,10 @@ fn push_line<A: Allocator, X: AsSlice<u8>>(
 /// `Err` where that is refused, and `out` then has the bytes that it had.
 pub fn push_answer<A: Allocator, X: AsSlice<u8>>(
     out: &mut Vec<u8, A>,
-    reply: &Reply<X, StaticSlice<u8>>,
+    reply: &ByteReply<X, A>,
 ) -> Result<(), AllocError>
     ensures ok { OnOk result
-        (out.new.items ≡ out.old.items ++ answer_line X.items (Some reply.now)) }
+        (out.new.items ≡ out.old.items ++ answer_line (Some (line_reply X.items reply.now))) }
     ensures err { OnErr result (out.new.items ≡ out.old.items) }
 {
     let len = out.len();
@@ -189,7 +202,7 @@ pub fn push_answer<A: Allocator, X: AsSlice<u8>>(
 /// where `out` has no room: `Err` where that is refused, and `out` then has the bytes that it had.
 pub fn push_bad_line<A: Allocator>(out: &mut Vec<u8, A>) -> Result<(), AllocError>
     ensures ok { OnOk result
-        (out.new.items ≡ out.old.items ++ answer_line (λ (xs : List ℕ). xs) None) }
+        (out.new.items ≡ out.old.items ++ answer_line None) }
     ensures err { OnErr result (out.new.items ≡ out.old.items) }
 {
     let len = out.len();

@@ -4,6 +4,7 @@ ghost use Rattle.arc_memory.specs.Memory.{extent_of};
 ghost use Rattle.arc_memory.specs.Allocations.{IsAllOf};
 
 use crate::allocation::{Allocation, put_together, take_apart};
+use crate::base::Base;
 use crate::places::Places;
 use std::alloc::Allocator;
 
@@ -12,6 +13,10 @@ use std::alloc::Allocator;
 pub struct Native<T: Drop, A: Allocator> {
     pub places: Places<T>,
     pub allocation: Allocation<T, A>,
+    base: Base<T>,
+    len: usize,
+    ghost begins: { base.at ≡ places.base },
+    ghost counted: { len ≡ length places.items },
     ghost all: { IsAllOf places allocation },
     ghost kept: { length places.items ≡ allocation.len },
 }
@@ -23,8 +28,15 @@ impl<T: Drop, A: Allocator> Native<T, A> {
         ensures items { result.1.places.items ≡ items.items }
         ensures allocation { result.1.allocation ≡ extent_of items }
     {
-        let (base, allocation, places) = take_apart(items);
-        (base, Native { places, allocation })
+        let len = items.len();
+        let (at, allocation, places) = take_apart(items);
+        let memory = Native {
+            places,
+            allocation,
+            base: Base { at },
+            len,
+        };
+        (at, memory)
     }
 
     /// The memory as a vector's, with the items.
@@ -32,8 +44,21 @@ impl<T: Drop, A: Allocator> Native<T, A> {
         ensures items { result.items ≡ self.places.items }
         ensures allocation { extent_of result ≡ self.allocation }
     {
-        let Native { places, allocation } = self;
+        let Native {
+            places,
+            allocation,
+            base: _,
+            len: _,
+        } = self;
         put_together(allocation, places)
+    }
+
+    /// The items.
+    #[inline(always)]
+    pub fn as_slice(&self) -> &[T]
+        ensures { result.now ≡ self.now.places.items }
+    {
+        self.range(self.base.at, 0, self.len)
     }
 
     /// The items from `start` and before `end`, of memory that begins at `base`. It reads no
@@ -45,6 +70,13 @@ impl<T: Drop, A: Allocator> Native<T, A> {
         ensures { result.now ≡ drop start (take end self.now.places.items) }
     {
         unsafe { self.places.as_slice(base, start, end) }
+    }
+
+    /// How many items there are.
+    pub fn len(&self) -> usize
+        ensures { result ≡ length self.now.places.items }
+    {
+        self.len
     }
 
     /// How many places there are.

@@ -1,12 +1,24 @@
-//! Tests of the public functions of `arc_memory`, which stand in a crate of their own so that the
-//! check of the tests doesn't prove `arc_memory` once more.
+//! Tests of the public functions of `arc_memory`, `arc_buffer` and `arc_block`, which stand in a
+//! crate of their own so that the check of the tests doesn't prove those once more.
 #![tactic(auto)]
 
 #[cfg(test)]
+mod blocks;
+#[cfg(test)]
+mod buffer;
+#[cfg(test)]
 mod headers;
+#[cfg(test)]
+mod kinds;
 #[cfg(test)]
 mod lease_writers;
 #[cfg(test)]
 mod lent_allocations;
 #[cfg(test)]
+mod page;
+#[cfg(test)]
 mod places;
+#[cfg(test)]
+mod static_slices;
+#[cfg(test)]
+mod writers;

@@ -3,4 +3,7 @@ pub mod BoxPlaces
 pub mod Boxes
 pub mod Inheritances
 pub mod Inners
+pub mod LentSlices
+pub mod ShownSlices
 pub mod SoleBoxes
+pub mod ValuePlaces

@@ -9,9 +9,13 @@ mod inner;
 mod lent_box;
 mod lent_value;
 mod shared_borrow;
+mod shown;
+mod shows;
 mod sole_box;
 
 pub use counted_box::CountedBox;
 pub use counted_box_without_lifetime::CountedBoxWithoutLifetime;
 pub use lent_value::LentValue;
+pub use shown::Shown;
+pub use shows::Shows;
 pub use sole_box::SoleBox;

@@ -17,4 +17,6 @@ mod lent_values;
 #[cfg(test)]
 mod raises;
 #[cfg(test)]
+mod shown;
+#[cfg(test)]
 mod sole_boxes;

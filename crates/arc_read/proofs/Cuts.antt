@@ -8,6 +8,7 @@ use Rattle.std.proofs.Math.Bool.{Bool-set}
 use Rattle.arc_buffer.specs.Slice.{sub, IsEdge, IsRange}
 use Rattle.arc_buffer.specs.Laws.{sub-slice_range}
 use Rattle.arc_buffer.proofs.Sub.{sub-sub}
+use Rattle.arc_block.specs.Layouts.{LayoutFacts}
 use Rattle.arc_block.specs.Place.{Place, nowhere, static_data, on_block, moved}
 use Rattle.arc_block.specs.Table.{reader}
 use Rattle.arc_block.specs.Window.{PartsView, Window, IsHeld}
@@ -35,15 +36,15 @@ module _ {T : Type 0} (legal : List T → Type 0) (boundary : List T → ℕ →
   both_edges ends xs good = (edge_of_legal xs 0 (omega arith) (λ h. (ends xs h).0) good, edge_of_legal xs (length xs) (omega arith) (λ h. (ends xs h).1) good)
 
   -- what holds of the parts of a window that is read
-  abbrev pub IsRead : {M : Type 0} → Bool → Bool → PartsView T M → Type 0
-  IsRead has_static has_any p = (p.role ≡ reader) × IsHeld has_static has_any p.place × ∥ legal p.items ∥₁
+  abbrev pub IsRead : {M : Type 0} → LayoutFacts → PartsView T M → Type 0
+  IsRead layout p = (p.role ≡ reader) × IsHeld layout p.place × ∥ legal p.items ∥₁
 
   -- it also holds of what is kept of them
   pub keeps : {M : Type 0} → ((xs : List T) (s e : ℕ) → legal xs → IsRange boundary xs s e → legal (sub xs s e))
-      → (has_static has_any : Bool) (p q : PartsView T M) (start end : ℕ) → q ≡ record { items = sub p.items start end; place = moved start p.place; role = p.role }
-      → IsRead has_static has_any p → (legal p.items → IsRange boundary p.items start end) → IsRead has_static has_any q
-  keeps law has_static has_any p q start end is read range =
-      subst (IsRead has_static has_any) (sym is) (read.0, moved_held has_static has_any start p.place read.1, part_legal law p.items start end read.2 range)
+      → (layout : LayoutFacts) (p q : PartsView T M) (start end : ℕ) → q ≡ record { items = sub p.items start end; place = moved start p.place; role = p.role }
+      → IsRead layout p → (legal p.items → IsRange boundary p.items start end) → IsRead layout q
+  keeps law layout p q start end is read range =
+      subst (IsRead layout) (sym is) (read.0, moved_held layout start p.place read.1, part_legal law p.items start end read.2 range)
 
 moved-moved : {N M : Type 0} (by more : ℕ) (place : Place N M) → moved more (moved by place) ≡ moved (by + more) place
 moved-moved by more nowhere = refl

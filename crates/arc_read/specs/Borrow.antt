@@ -2,6 +2,7 @@
 use Rattle.std.specs.Prelude.{ℕ, Bool, ◌&&◌, ◌==◌, if◌then◌else◌, Option, length}
 use Rattle.arc_owners.specs.count.Calls.{Owner}
 use Rattle.arc_owners.specs.declared.mark.Mark as Mark
+use Rattle.arc_buffer.specs.declared.buffer.Buffer as Buffer
 use Rattle.arc_buffer.specs.declared.kinds.Slice as Slice
 use Rattle.arc_buffer.specs.declared.kinds.Subsliceable as Subsliceable
 use Rattle.arc_block.specs.declared.layout.Layout as Layout
@@ -17,7 +18,8 @@ clone_place has_static w =
     if has_static && (length w.items == 0) then nowhere else w.place
 
 module _ {S L B M A H T E W : Type 0} {cuts : Subsliceable.Ghosts S T E} {kind : Slice.Ghosts S T E}
-    {layout : Layout.Ghosts L W} {mark : Mark.Ghosts H} where
+    {layout : Layout.Ghosts L W} {buffer : Buffer.Ghosts B T} {mark : Mark.Ghosts H} where
   -- the part of a window that is borrowed, as the window cut to it
-  abbrev pub borrowed_part : ArcSliceBorrow S L B M A H T E W cuts kind layout mark → Window T M
+  abbrev pub borrowed_part : ArcSliceBorrow S L B M A H T E W cuts kind layout buffer mark
+      → Window T M
   borrowed_part b = cut_window b.window.now b.start b.end

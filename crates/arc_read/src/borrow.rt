@@ -3,6 +3,7 @@ ghost use Rattle.std.specs.Prelude.{◌≡◌, ◌≤◌, IsTrue, length};
 
 use crate::slice::ArcSlice;
 use arc_block::layout::{DefaultLayout, Layout};
+use arc_buffer::buffer::Buffer;
 use arc_buffer::kinds::{Slice, Subsliceable};
 use arc_owners::mark::{Mark, Open};
 use std::alloc::{AllocError, Allocator, Global};
@@ -15,8 +16,8 @@ pub struct ArcSliceBorrow<
     'a,
     S: Subsliceable,
     L: Layout = DefaultLayout,
-    B = Vec<<S as Slice>::Item>,
-    M = (),
+    B: Buffer<<S as Slice>::Item> + Drop = Vec<<S as Slice>::Item>,
+    M: Drop = (),
     A: Allocator + Copy = Global,
     H: Mark = Open,
 > {
@@ -29,8 +30,15 @@ pub struct ArcSliceBorrow<
     ghost to: { IsTrue (S.boundary window.now.items end) },
 }
 
-impl<'a, S: Subsliceable, L: Layout, B, M, A: Allocator + Copy, H: Mark> Clone
-    for ArcSliceBorrow<'a, S, L, B, M, A, H> {
+impl<
+    'a,
+    S: Subsliceable,
+    L: Layout,
+    B: Buffer<S::Item> + Drop,
+    M: Drop,
+    A: Allocator + Copy,
+    H: Mark,
+> Clone for ArcSliceBorrow<'a, S, L, B, M, A, H> {
     ghost is_clone = { λ x y. y ≡ x };
 
     ghost is_infallible = { λ _. Unit {0} };
@@ -41,5 +49,12 @@ impl<'a, S: Subsliceable, L: Layout, B, M, A: Allocator + Copy, H: Mark> Clone
     }
 }
 
-impl<'a, S: Subsliceable, L: Layout, B, M, A: Allocator + Copy, H: Mark> Copy
-    for ArcSliceBorrow<'a, S, L, B, M, A, H> {}
+impl<
+    'a,
+    S: Subsliceable,
+    L: Layout,
+    B: Buffer<S::Item> + Drop,
+    M: Drop,
+    A: Allocator + Copy,
+    H: Mark,
+> Copy for ArcSliceBorrow<'a, S, L, B, M, A, H> {}

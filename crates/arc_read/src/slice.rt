@@ -1,5 +1,6 @@
 //! `ArcSlice`, a window that is read.
 ghost use Rattle.std.specs.Prelude.{◌≡◌, [], false};
+ghost use Rattle.arc_block.specs.LayoutFacts.{layout_facts};
 ghost use Rattle.arc_block.specs.Place.{nowhere};
 ghost use Rattle.arc_block.specs.Steps.{EndsShownAt};
 ghost use Rattle.arc_block.specs.Table.{reader};
@@ -7,6 +8,7 @@ ghost use Rattle.arc_block.specs.Window.{IsHeld, parts_of, window_of};
 
 use arc_block::layout::{DefaultLayout, Layout, StaticLayout};
 use arc_block::parts::Parts;
+use arc_buffer::buffer::Buffer;
 use arc_buffer::kinds::{Emptyable, Plain, Slice};
 use arc_owners::mark::{Mark, Open};
 use std::alloc::{Allocator, Global};
@@ -15,19 +17,19 @@ use std::marker::{Model, PhantomData};
 /// A part of a block that may have other owners, of a slice that is there for good, or of nothing.
 /// Clones and cuts share the block and copy no item.
 ///
-/// `B` is the type of callers' buffers and `M` that of their metadata. No window is made of a
-/// buffer yet.
+/// `B` is the type of callers' buffers and `M` that of their metadata.
 ///
 /// Each call that makes, steps on or leaves a block has a form that ends in `_as` and takes a pass
 /// of the block, in which contracts read what was added to the block's history; a window that
-/// stands on no block has a pass of none. The plain form is that form with a new pass. Dropped,
-/// a window under the mark `Open` ends with a new pass. Under `Whole` only the `_as` forms are
-/// there, and a dropped window is a forgotten owner of its block.
+/// stands on no block has a pass of none, and so has one on an `Arc` that is a block by itself,
+/// whose owners the language counts. The plain form is that form with a new pass. Dropped, a
+/// window under the mark `Open` ends with a new pass. Under `Whole` only the `_as` forms are there,
+/// and a dropped window is a forgotten owner of its block.
 pub struct ArcSlice<
     S: Slice,
     L: Layout = DefaultLayout,
-    B = Vec<<S as Slice>::Item>,
-    M = (),
+    B: Buffer<<S as Slice>::Item> + Drop = Vec<<S as Slice>::Item>,
+    M: Drop = (),
     A: Allocator + Copy = Global,
     H: Mark = Open,
 > {
@@ -35,8 +37,10 @@ pub struct ArcSlice<
     of: PhantomData<L>,
 }
 
-impl<S: Slice, L: Layout, B, M, A: Allocator + Copy, H: Mark> Model for ArcSlice<S, L, B, M, A, H> {
+impl<S: Slice, L: Layout, B: Buffer<S::Item> + Drop, M: Drop, A: Allocator + Copy, H: Mark> Model
+    for ArcSlice<S, L, B, M, A, H> {
     ghost use Rattle.std.specs.Prelude.{◌≡◌};
+    ghost use Rattle.arc_block.specs.LayoutFacts.{layout_facts};
     ghost use Rattle.arc_block.specs.Table.{reader};
     ghost use Rattle.arc_block.specs.Window.{IsHeld, Window, window_of};
 
@@ -44,11 +48,12 @@ impl<S: Slice, L: Layout, B, M, A: Allocator + Copy, H: Mark> Model for ArcSlice
 
     ghost view = { λ w. window_of w.parts };
 
-    ghost invariant = { λ w. (w.parts.role ≡ reader) × IsHeld L.STATIC L.ANY w.parts.place
+    ghost invariant = { λ w. (w.parts.role ≡ reader) × IsHeld (layout_facts L.Layout) w.parts.place
         × ∥ S.is_legal w.parts.items ∥₁ };
 }
 
-impl<S: Slice, L: Layout, B, M, A: Allocator + Copy, H: Mark> Drop for ArcSlice<S, L, B, M, A, H> {
+impl<S: Slice, L: Layout, B: Buffer<S::Item> + Drop, M: Drop, A: Allocator + Copy, H: Mark> Drop
+    for ArcSlice<S, L, B, M, A, H> {
     #[inline(always)]
     fn drop(self)
         ensures ended { H.whole ≡ false → EndsShownAt H H.real self.place }
@@ -58,7 +63,14 @@ impl<S: Slice, L: Layout, B, M, A: Allocator + Copy, H: Mark> Drop for ArcSlice<
     }
 }
 
-impl<S: Slice, L: Layout, B, M, A: Allocator + Copy, H: Mark> ArcSlice<S, L, B, M, A, H> {
+impl<
+    S: Slice,
+    L: Layout,
+    B: Buffer<S::Item> + Drop,
+    M: Drop,
+    A: Allocator + Copy,
+    H: Mark,
+> ArcSlice<S, L, B, M, A, H> {
     /// A window with no items, which stands on nothing.
     pub fn new(alloc: A) -> Self
     where
@@ -74,7 +86,7 @@ impl<S: Slice, L: Layout, B, M, A: Allocator + Copy, H: Mark> ArcSlice<S, L, B, 
     #[inline(always)]
     pub fn from_parts(parts: Parts<S, B, M, A, H>) -> Self
         requires role { parts.role ≡ reader }
-        requires held { IsHeld L.STATIC L.ANY parts.place }
+        requires held { IsHeld (layout_facts L.Layout) parts.place }
         requires legal { ∥ S.is_legal parts.items ∥₁ }
         ensures { result ≡ window_of parts }
     {
@@ -88,7 +100,7 @@ impl<S: Slice, L: Layout, B, M, A: Allocator + Copy, H: Mark> ArcSlice<S, L, B, 
     #[inline(always)]
     pub fn into_parts(self) -> Parts<S, B, M, A, H>
         ensures parts { result ≡ parts_of self }
-        ensures held { IsHeld L.STATIC L.ANY result.place }
+        ensures held { IsHeld (layout_facts L.Layout) result.place }
         ensures legal { ∥ S.is_legal result.items ∥₁ }
     {
         let ArcSlice { parts, of: _ } = self;
@@ -98,10 +110,13 @@ impl<S: Slice, L: Layout, B, M, A: Allocator + Copy, H: Mark> ArcSlice<S, L, B, 
 
 const _: () = prove!(size_of::<ArcSlice<Plain<u8>>>() == 40);
 
+mod buffers;
 mod cuts;
 mod make;
+mod moves;
 mod own;
 mod plain;
 mod read;
 mod splits;
 mod text;
+mod vectors;

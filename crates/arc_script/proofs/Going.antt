@@ -3,6 +3,9 @@ use Rattle.std.proofs.Common.{◌≡◌, ℕ, Bool, false, List, [], ◌∷◌, 
 use Rattle.std.proofs.Common.{OnOk, IfErr, IsErrAnd, refl, sym, ap, ◌∙◌, subst, append_assoc, arith}
 use Rattle.std.proofs.lemmas.List.{append-nil}
 use Rattle.arc_commands.specs.State.{empty_state}
+use Rattle.arc_script.specs.declared.layout.NamedLayout as Named
+use Rattle.arc_block.specs.declared.layout.Layout as Layout
+use Rattle.arc_script.specs.declared.layout.ScriptLayout.{ScriptLayout}
 use Rattle.arc_script.specs.State.{ByteState}
 use Rattle.arc_forms.specs.Text.{line_feed}
 use Rattle.arc_script.specs.Script.{HasNoFeed}
@@ -28,204 +31,205 @@ in_place : (held bytes line : List ℕ) (too_long : Bool) → (held ≡ []) × (
 in_place held bytes line too_long none holds =
     ap (λ xs. xs ++ bytes) (sym none.0 ∙ subst (λ f. Holds held f line) none.1 holds)
 
-module _ {A : Type 0} where
+module _ {layout : ScriptLayout} {L A W V : Type 0} {N : Named.Ghosts L W V}
+    {G : Layout.Ghosts L W} {K : Layout.Ghosts W V} where
   -- the same windows, out, line and flag make the same state
-  pub same_state : (start input : List ℕ) (w : Traffic) (e : Engine A) (out held : List ℕ)
+  pub same_state : (start input : List ℕ) (w : Traffic) (e : Engine L A W V N G K) (out held : List ℕ)
       (state : ByteState) (too_long : Bool) → e.out.items ≡ out → e.table ≡ state
       → e.line.items ≡ held → e.too_long ≡ too_long
-      → IsUnderway start input w out state held too_long → HasRead start input w e
+      → IsUnderway layout start input w out state held too_long → HasRead layout start input w e
   same_state start input w e out held state too_long same_out same_windows same_line same_flag u =
       subst
-      (λ f. IsUnderway start input w e.out.items e.table e.line.items f)
+      (λ f. IsUnderway layout start input w e.out.items e.table e.line.items f)
       (sym same_flag)
-      (subst (λ l. IsUnderway start input w e.out.items e.table l too_long)
+      (subst (λ l. IsUnderway layout start input w e.out.items e.table l too_long)
       (sym same_line)
-      (subst (λ s. IsUnderway start input w e.out.items s held too_long) (sym same_windows)
-      (subst (λ o. IsUnderway start input w o state held too_long) (sym same_out) u)))
+      (subst (λ s. IsUnderway layout start input w e.out.items s held too_long) (sym same_windows)
+      (subst (λ o. IsUnderway layout start input w o state held too_long) (sym same_out) u)))
 
   -- the same windows and out make the same beginning
-  same_begun : (fault : ScriptError) (start input : List ℕ) (w : Traffic) (e : Engine A)
+  same_begun : (fault : ScriptError) (start input : List ℕ) (w : Traffic) (e : Engine L A W V N G K)
       (out : List ℕ) (state : ByteState) → e.out.items ≡ out → e.table ≡ state
-      → IsBegun fault start input w out state → IsBegun fault start input w e.out.items e.table
+      → IsBegun layout fault start input w out state → IsBegun layout fault start input w e.out.items e.table
   same_begun fault start input w e out state same_out same_windows b =
-      subst (λ o. IsBegun fault start input w o e.table) (sym same_out)
-      (subst (λ s. IsBegun fault start input w out s) (sym same_windows) b)
+      subst (λ o. IsBegun layout fault start input w o e.table) (sym same_out)
+      (subst (λ s. IsBegun layout fault start input w out s) (sym same_windows) b)
 
   -- it stops before it has written more
-  pub stops_now : (fault : ScriptError) (bytes : List ℕ) (w : Traffic) (e e1 : Engine A)
-      → e1.table ≡ e.table → e1.out.items ≡ e.out.items → Stops bytes w w e e1 fault
+  pub stops_now : (fault : ScriptError) (bytes : List ℕ) (w : Traffic) (e e1 : Engine L A W V N G K)
+      → e1.table ≡ e.table → e1.out.items ≡ e.out.items → Stops layout bytes w w e e1 fault
   stops_now fault bytes w e e1 same_windows same_out start input more read =
       same_begun fault start (input ++ (bytes ++ more)) w e1 e.out.items e.table same_out
       same_windows (still_begun read fault (bytes ++ more))
 
   -- it stops while its replies go out
-  pub stops_out : (bytes : List ℕ) (w w' : Traffic) (e e1 : Engine A)
+  pub stops_out : (bytes : List ℕ) (w w' : Traffic) (e e1 : Engine L A W V N G K)
       → TakesFront e.out.items w w' → e1.out.items ≡ [] → e1.table ≡ e.table
-      → Stops bytes w w' e e1 Write
+      → Stops layout bytes w w' e e1 Write
   stops_out bytes w w' e e1 front none same start input more read =
       same_begun Write start (input ++ (bytes ++ more)) w' e1 [] e.table none same
       (begun_front (still_begun read Write (bytes ++ more)) w' front)
 
   -- it stops at a line feed
-  pub stops_at_line : (w : Traffic) (e e1 : Engine A)
-      → MayEnd e.line.items e.too_long e.table e1.table → e1.out.items ≡ e.out.items
-      → Stops (line_feed ∷ []) w w e e1 Alloc
+  pub stops_at_line : (w : Traffic) (e e1 : Engine L A W V N G K)
+      → MayEnd layout e.line.items e.too_long e.table e1.table → e1.out.items ≡ e.out.items
+      → Stops layout (line_feed ∷ []) w w e e1 Alloc
   stops_at_line w e e1 may same_out start input more read =
-      subst (λ o. IsBegun Alloc start (input ++ (line_feed ∷ [] ++ more)) w o e1.table)
+      subst (λ o. IsBegun layout Alloc start (input ++ (line_feed ∷ [] ++ more)) w o e1.table)
       (sym same_out) (line_broken read e1.table more may)
 
   -- it stops, and what it holds goes out
   pub stops_and_out : (fault : ScriptError) (bytes : List ℕ) (w w1 w' : Traffic)
-      (e e1 e2 : Engine A) → Stops bytes w w1 e e1 fault → w'.bytes ≡ w1.bytes ++ e1.out.items
-      → e2.out.items ≡ [] → e2.table ≡ e1.table → Stops bytes w w' e e2 fault
+      (e e1 e2 : Engine L A W V N G K) → Stops layout bytes w w1 e e1 fault → w'.bytes ≡ w1.bytes ++ e1.out.items
+      → e2.out.items ≡ [] → e2.table ≡ e1.table → Stops layout bytes w w' e e2 fault
   stops_and_out fault bytes w w1 w' e e1 e2 stops out none same start input more read =
       same_begun fault start (input ++ (bytes ++ more)) w' e2 [] e1.table none same
       (begun_out (stops start input more read) w' out)
 
   -- or a front of it
   pub stops_and_front : (fault : ScriptError) (bytes : List ℕ) (w w1 w' : Traffic)
-      (e e1 e2 : Engine A) → Stops bytes w w1 e e1 fault → TakesFront e1.out.items w1 w'
-      → e2.out.items ≡ [] → e2.table ≡ e1.table → Stops bytes w w' e e2 Write
+      (e e1 e2 : Engine L A W V N G K) → Stops layout bytes w w1 e e1 fault → TakesFront e1.out.items w1 w'
+      → e2.out.items ≡ [] → e2.table ≡ e1.table → Stops layout bytes w w' e e2 Write
   stops_and_front fault bytes w w1 w' e e1 e2 stops front none same start input more read =
       same_begun Write start (input ++ (bytes ++ more)) w' e2 [] e1.table none same
       (begun_front (stops start input more read) w' front)
 
   -- it has read some bytes, and stops within others
   pub stops_later : (fault : ScriptError) (piece front rest : List ℕ) (w w1 w2 : Traffic)
-      (e e1 e2 : Engine A) → piece ≡ front ++ rest → Reads front w w1 e e1
-      → Stops rest w1 w2 e1 e2 fault → Stops piece w w2 e e2 fault
+      (e e1 e2 : Engine L A W V N G K) → piece ≡ front ++ rest → Reads layout front w w1 e e1
+      → Stops layout rest w1 w2 e1 e2 fault → Stops layout piece w w2 e e2 fault
   stops_later fault piece front rest w w1 w2 e e1 e2 parts reads stops start input more read =
-      subst (λ xs. IsBegun fault start xs w2 e2.out.items e2.table)
+      subst (λ xs. IsBegun layout fault start xs w2 e2.out.items e2.table)
       (append_assoc input front (rest ++ more) ∙ ap (λ xs. input ++ xs)
       (sym (append_assoc front rest more) ∙ ap (λ xs. xs ++ more) (sym parts)))
       (stops start (input ++ front) more (reads start input read))
 
   -- it stops within the front of some bytes
   pub stops_longer : (fault : ScriptError) (piece front rest : List ℕ) (w w' : Traffic)
-      (e e1 : Engine A) → piece ≡ front ++ rest → Stops front w w' e e1 fault
-      → Stops piece w w' e e1 fault
+      (e e1 : Engine L A W V N G K) → piece ≡ front ++ rest → Stops layout front w w' e e1 fault
+      → Stops layout piece w w' e e1 fault
   stops_longer fault piece front rest w w' e e1 parts stops start input more read =
-      subst (λ xs. IsBegun fault start (input ++ xs) w' e1.out.items e1.table)
+      subst (λ xs. IsBegun layout fault start (input ++ xs) w' e1.out.items e1.table)
       (sym (append_assoc front rest more) ∙ ap (λ xs. xs ++ more) (sym parts))
       (stops start input (rest ++ more) read)
 
   -- it has read some bytes, and then others
-  pub reads_on : (front more : List ℕ) (w w1 w2 : Traffic) (e e1 e2 : Engine A)
-      → Reads front w w1 e e1 → Reads more w1 w2 e1 e2 → Reads (front ++ more) w w2 e e2
+  pub reads_on : (front more : List ℕ) (w w1 w2 : Traffic) (e e1 e2 : Engine L A W V N G K)
+      → Reads layout front w w1 e e1 → Reads layout more w1 w2 e1 e2 → Reads layout (front ++ more) w w2 e e2
   reads_on front more w w1 w2 e e1 e2 one other start input read =
-      subst (λ xs. HasRead start xs w2 e2) (append_assoc input front more)
+      subst (λ xs. HasRead layout start xs w2 e2) (append_assoc input front more)
       (other start (input ++ front) (one start input read))
 
   -- it has read nothing more
-  pub reads_nothing : (w : Traffic) (e : Engine A) → Reads [] w w e e
+  pub reads_nothing : (w : Traffic) (e : Engine L A W V N G K) → Reads layout [] w w e e
   reads_nothing w e start input read =
-      subst (λ xs. HasRead start xs w e) (sym (append-nil input)) read
+      subst (λ xs. HasRead layout start xs w e) (sym (append-nil input)) read
 
   -- it holds more of a line
-  pub reads_held : (w : Traffic) (e e1 : Engine A) (bytes : List ℕ) → HasNoFeed bytes
+  pub reads_held : (w : Traffic) (e e1 : Engine L A W V N G K) (bytes : List ℕ) → HasNoFeed bytes
       → ((line : List ℕ) → Holds e.line.items e.too_long line
       → Holds e1.line.items e1.too_long (line ++ bytes))
       → e1.table ≡ e.table → e1.out.items ≡ e.out.items
-      → Reads bytes w w e e1
+      → Reads layout bytes w w e e1
   reads_held w e e1 bytes plain holds same_windows same_out start input read =
       same_state start (input ++ bytes) w e1 _ _ _ _ same_out same_windows refl refl
       (more_held read e1.line.items e1.too_long bytes plain holds)
 
   -- it answers the line
-  pub reads_feed : (w : Traffic) (e e1 : Engine A)
-      → Ends e.line.items e.too_long e.table e1.table e.out.items
+  pub reads_feed : (w : Traffic) (e e1 : Engine L A W V N G K)
+      → Ends layout e.line.items e.too_long e.table e1.table e.out.items
       e1.out.items
-      → (e1.line.items ≡ []) × (e1.too_long ≡ false) → Reads (line_feed ∷ []) w w e e1
+      → (e1.line.items ≡ []) × (e1.too_long ≡ false) → Reads layout (line_feed ∷ []) w w e e1
   reads_feed w e e1 ends empty start input read =
       same_state start (input ++ line_feed ∷ []) w e1 _ _ _ _ refl refl empty.0 empty.1
       (line_ended read e1.table e1.out.items ends)
 
   -- its replies have gone out
-  pub reads_out : (w w' : Traffic) (e e1 : Engine A)
+  pub reads_out : (w w' : Traffic) (e e1 : Engine L A W V N G K)
       → (w'.bytes ≡ w.bytes ++ e.out.items) × (e1.out.items ≡ [])
       → e1.table ≡ e.table
-      → (e1.line.items ≡ e.line.items) × (e1.too_long ≡ e.too_long) → Reads [] w w' e e1
+      → (e1.line.items ≡ e.line.items) × (e1.too_long ≡ e.too_long) → Reads layout [] w w' e e1
   reads_out w w' e e1 out same_windows same_line start input read =
-      subst (λ xs. HasRead start xs w' e1) (sym (append-nil input))
+      subst (λ xs. HasRead layout start xs w' e1) (sym (append-nil input))
       (same_state start input w' e1 _ _ _ _ out.1 same_windows same_line.0 same_line.1
       (went_out read w' out.0))
 
   -- it holds the end of a line, and answers it
-  pub reads_line : (w : Traffic) (e e1 e2 : Engine A) (bytes : List ℕ) → Reads bytes w w e e1
-      → Ends e1.line.items e1.too_long e1.table e2.table e1.out.items
+  pub reads_line : (w : Traffic) (e e1 e2 : Engine L A W V N G K) (bytes : List ℕ) → Reads layout bytes w w e e1
+      → Ends layout e1.line.items e1.too_long e1.table e2.table e1.out.items
       e2.out.items
       → (e2.line.items ≡ []) × (e2.too_long ≡ false)
-      → Reads (bytes ++ line_feed ∷ []) w w e e2
+      → Reads layout (bytes ++ line_feed ∷ []) w w e e2
   reads_line w e e1 e2 bytes held ends empty =
       reads_on bytes (line_feed ∷ []) w w w e e1 e2 held (reads_feed w e1 e2 ends empty)
 
   -- it answers such a line where it stands
-  pub reads_in_place : (w : Traffic) (e e1 : Engine A) (bytes : List ℕ) → HasNoFeed bytes
+  pub reads_in_place : (w : Traffic) (e e1 : Engine L A W V N G K) (bytes : List ℕ) → HasNoFeed bytes
       → (e.line.items ≡ []) × (e.too_long ≡ false)
-      → Ends bytes false e.table e1.table e.out.items e1.out.items
+      → Ends layout bytes false e.table e1.table e.out.items e1.out.items
       → (e1.line.items ≡ e.line.items) × (e1.too_long ≡ e.too_long)
-      → Reads (bytes ++ line_feed ∷ []) w w e e1
+      → Reads layout (bytes ++ line_feed ∷ []) w w e e1
   reads_in_place w e e1 bytes plain none ends same start input read =
       let held =
       more_held read bytes false bytes plain
       (λ line. in_place e.line.items bytes line e.too_long none) in
-      subst (λ xs. HasRead start xs w e1) (append_assoc input bytes (line_feed ∷ []))
+      subst (λ xs. HasRead layout start xs w e1) (append_assoc input bytes (line_feed ∷ []))
       (same_state start ((input ++ bytes) ++ line_feed ∷ []) w e1 _ _ _ _ refl refl
       (same.0 ∙ none.0) (same.1 ∙ none.1) (line_ended held e1.table e1.out.items ends))
 
   -- or stops there
-  pub stops_in_place : (w : Traffic) (e e1 : Engine A) (bytes : List ℕ) → HasNoFeed bytes
-      → (e.line.items ≡ []) × (e.too_long ≡ false) → MayEnd bytes false e.table e1.table
-      → e1.out.items ≡ e.out.items → Stops (bytes ++ line_feed ∷ []) w w e e1 Alloc
+  pub stops_in_place : (w : Traffic) (e e1 : Engine L A W V N G K) (bytes : List ℕ) → HasNoFeed bytes
+      → (e.line.items ≡ []) × (e.too_long ≡ false) → MayEnd layout bytes false e.table e1.table
+      → e1.out.items ≡ e.out.items → Stops layout (bytes ++ line_feed ∷ []) w w e e1 Alloc
   stops_in_place w e e1 bytes plain none may same_out start input more read =
       let held =
       more_held read bytes false bytes plain
       (λ line. in_place e.line.items bytes line e.too_long none) in
-      subst (λ xs. IsBegun Alloc start xs w e1.out.items e1.table)
+      subst (λ xs. IsBegun layout Alloc start xs w e1.out.items e1.table)
       (append_assoc input bytes (line_feed ∷ more)
       ∙ ap (λ xs. input ++ xs) (sym (append_assoc bytes (line_feed ∷ []) more)))
-      (subst (λ o. IsBegun Alloc start ((input ++ bytes) ++ (line_feed ∷ [] ++ more)) w o e1.table)
+      (subst (λ o. IsBegun layout Alloc start ((input ++ bytes) ++ (line_feed ∷ [] ++ more)) w o e1.table)
       (sym same_out) (line_broken held e1.table more may))
 
   -- and then its replies go out, or a front of them
-  pub reads_and_out : (bytes : List ℕ) (w w1 w' : Traffic) (e e1 e2 : Engine A)
-      → Reads bytes w w1 e e1 → (w'.bytes ≡ w1.bytes ++ e1.out.items) × (e2.out.items ≡ [])
+  pub reads_and_out : (bytes : List ℕ) (w w1 w' : Traffic) (e e1 e2 : Engine L A W V N G K)
+      → Reads layout bytes w w1 e e1 → (w'.bytes ≡ w1.bytes ++ e1.out.items) × (e2.out.items ≡ [])
       → e2.table ≡ e1.table
-      → (e2.line.items ≡ e1.line.items) × (e2.too_long ≡ e1.too_long) → Reads bytes w w' e e2
+      → (e2.line.items ≡ e1.line.items) × (e2.too_long ≡ e1.too_long) → Reads layout bytes w w' e e2
   reads_and_out bytes w w1 w' e e1 e2 reads out same_windows same_line =
-      subst (λ xs. Reads xs w w' e e2) (append-nil bytes)
+      subst (λ xs. Reads layout xs w w' e e2) (append-nil bytes)
       (reads_on bytes [] w w1 w' e e1 e2 reads (reads_out w1 w' e1 e2 out same_windows same_line))
 
-  pub reads_then_stops : (bytes : List ℕ) (w w1 w' : Traffic) (e e1 e2 : Engine A)
-      → Reads bytes w w1 e e1 → TakesFront e1.out.items w1 w' → e2.out.items ≡ []
-      → e2.table ≡ e1.table → Stops bytes w w' e e2 Write
+  pub reads_then_stops : (bytes : List ℕ) (w w1 w' : Traffic) (e e1 e2 : Engine L A W V N G K)
+      → Reads layout bytes w w1 e e1 → TakesFront e1.out.items w1 w' → e2.out.items ≡ []
+      → e2.table ≡ e1.table → Stops layout bytes w w' e e2 Write
   reads_then_stops bytes w w1 w' e e1 e2 reads front none same =
       stops_later Write bytes bytes [] w w1 w' e e1 e2 (sym (append-nil bytes)) reads
       (stops_out [] w1 w' e1 e2 front none same)
 
   -- whatever has come of some bytes, it stops where a write fails then
   pub fed_then_stops : {T : Type 0} (fed : Result T ScriptError) (bytes : List ℕ)
-      (w w1 w' : Traffic) (e e1 e2 : Engine A) → OnOk fed (Reads bytes w w1 e e1)
-      → IfErr fed (Stops bytes w w1 e e1) → TakesFront e1.out.items w1 w' → e2.out.items ≡ []
-      → e2.table ≡ e1.table → Stops bytes w w' e e2 Write
+      (w w1 w' : Traffic) (e e1 e2 : Engine L A W V N G K) → OnOk fed (Reads layout bytes w w1 e e1)
+      → IfErr fed (Stops layout bytes w w1 e e1) → TakesFront e1.out.items w1 w' → e2.out.items ≡ []
+      → e2.table ≡ e1.table → Stops layout bytes w w' e e2 Write
   fed_then_stops (Ok done) bytes w w1 w' e e1 e2 reads stops front none same =
       reads_then_stops bytes w w1 w' e e1 e2 reads front none same
   fed_then_stops (Err fault) bytes w w1 w' e e1 e2 reads stops front none same =
       stops_and_front fault bytes w w1 w' e e1 e2 stops front none same
 
   -- it stops at the end, before it has written more
-  pub begun_at_end : (fault : ScriptError) (w : Traffic) (e : Engine A) (start input : List ℕ)
-      → HasRead start input w e → IsBegun fault start input w e.out.items e.table
+  pub begun_at_end : (fault : ScriptError) (w : Traffic) (e : Engine L A W V N G K) (start input : List ℕ)
+      → HasRead layout start input w e → IsBegun layout fault start input w e.out.items e.table
   begun_at_end fault w e start input read =
-      subst (λ xs. IsBegun fault start xs w e.out.items e.table) (append-nil input)
+      subst (λ xs. IsBegun layout fault start xs w e.out.items e.table) (append-nil input)
       (still_begun read fault [])
 
   -- it has read a piece in two parts
-  pub reads_whole : (piece front rest : List ℕ) (w w1 w2 : Traffic) (e e1 e2 : Engine A)
-      → piece ≡ front ++ rest → Reads front w w1 e e1 → Reads rest w1 w2 e1 e2
-      → Reads piece w w2 e e2
+  pub reads_whole : (piece front rest : List ℕ) (w w1 w2 : Traffic) (e e1 e2 : Engine L A W V N G K)
+      → piece ≡ front ++ rest → Reads layout front w w1 e e1 → Reads layout rest w1 w2 e1 e2
+      → Reads layout piece w w2 e e2
   reads_whole piece front rest w w1 w2 e e1 e2 parts one other =
-      subst (λ xs. Reads xs w w2 e e2) (sym parts)
+      subst (λ xs. Reads layout xs w w2 e e2) (sym parts)
       (reads_on front rest w w1 w2 e e1 e2 one other)
 
 -- a line, its line feed, and what stands behind them
@@ -240,9 +244,9 @@ more_parts piece front rest line behind parts cut =
     ∙ sym (append_assoc front (line ++ line_feed ∷ []) behind)
 
 -- what was read and what was written go together
-pub exchange_begun : (fault : ScriptError) (r r' w w' : Traffic) (state : ByteState)
-    (input : List ℕ) → r'.bytes ≡ r.bytes ++ input → IsBegun fault w.bytes input w' [] state
-    → Exchanges (IsBrokenOff fault state) r r' w w'
+pub exchange_begun : {layout : ScriptLayout} (fault : ScriptError) (r r' w w' : Traffic) (state : ByteState)
+    (input : List ℕ) → r'.bytes ≡ r.bytes ++ input → IsBegun layout fault w.bytes input w' [] state
+    → Exchanges (IsBrokenOff layout fault state) r r' w w'
 exchange_begun fault r r' w w' state input given b = record {
   input = input;
   text = b.text;
@@ -251,32 +255,33 @@ exchange_begun fault r r' w w' state input given b = record {
   fit = (b.left, b.lacking, b.begins, b.lacks);
 }
 
-module _ {A : Type 0} where
+module _ {layout : ScriptLayout} {L A W V : Type 0} {N : Named.Ghosts L W V}
+    {G : Layout.Ghosts L W} {K : Layout.Ghosts W V} where
   -- a run that stops without reading more
-  pub run_stops_now : (fault : ScriptError) (r r1 r2 w w1 : Traffic) (e : Engine A)
-      → IsRunning r r1 w w1 e → r2.bytes ≡ r1.bytes
-      → Exchanges (IsBrokenOff fault e.table) r r2 w w1
+  pub run_stops_now : (fault : ScriptError) (r r1 r2 w w1 : Traffic) (e : Engine L A W V N G K)
+      → IsRunning layout r r1 w w1 e → r2.bytes ≡ r1.bytes
+      → Exchanges (IsBrokenOff layout fault e.table) r r2 w w1
   run_stops_now fault r r1 r2 w w1 e run same =
       exchange_begun fault r r2 w w1 e.table run.input (same ∙ run.given)
-      (subst (λ o. IsBegun fault w.bytes run.input w1 o e.table) run.none_held
+      (subst (λ o. IsBegun layout fault w.bytes run.input w1 o e.table) run.none_held
       (begun_at_end fault w1 e w.bytes run.input run.read))
 
   -- a run that stops within the bytes that it has read
-  pub run_stops : (fault : ScriptError) (r r1 r2 w w1 w2 : Traffic) (e e1 : Engine A)
-      (bytes : List ℕ) → IsRunning r r1 w w1 e → r2.bytes ≡ r1.bytes ++ bytes
-      → Stops bytes w1 w2 e e1 fault → e1.out.items ≡ []
-      → Exchanges (IsBrokenOff fault e1.table) r r2 w w2
+  pub run_stops : (fault : ScriptError) (r r1 r2 w w1 w2 : Traffic) (e e1 : Engine L A W V N G K)
+      (bytes : List ℕ) → IsRunning layout r r1 w w1 e → r2.bytes ≡ r1.bytes ++ bytes
+      → Stops layout bytes w1 w2 e e1 fault → e1.out.items ≡ []
+      → Exchanges (IsBrokenOff layout fault e1.table) r r2 w w2
   run_stops fault r r1 r2 w w1 w2 e e1 bytes run more stops none =
       exchange_begun fault r r2 w w2 e1.table (run.input ++ bytes)
       (more ∙ ap (λ xs. xs ++ bytes) run.given ∙ append_assoc r.bytes run.input bytes)
-      (subst (λ o. IsBegun fault w.bytes (run.input ++ bytes) w2 o e1.table) none
-      (subst (λ xs. IsBegun fault w.bytes (run.input ++ xs) w2 e1.out.items e1.table)
+      (subst (λ o. IsBegun layout fault w.bytes (run.input ++ bytes) w2 o e1.table) none
+      (subst (λ xs. IsBegun layout fault w.bytes (run.input ++ xs) w2 e1.out.items e1.table)
       (append-nil bytes) (stops w.bytes run.input [] run.read)))
 
   -- a run that goes on
-  pub run_goes_on : (r r1 r2 w w1 w2 : Traffic) (e e1 : Engine A) (bytes : List ℕ)
-      → IsRunning r r1 w w1 e → r2.bytes ≡ r1.bytes ++ bytes → r2.failures ≡ r1.failures
-      → NoFault w1 w2 → Reads bytes w1 w2 e e1 → e1.out.items ≡ [] → IsRunning r r2 w w2 e1
+  pub run_goes_on : (r r1 r2 w w1 w2 : Traffic) (e e1 : Engine L A W V N G K) (bytes : List ℕ)
+      → IsRunning layout r r1 w w1 e → r2.bytes ≡ r1.bytes ++ bytes → r2.failures ≡ r1.failures
+      → NoFault w1 w2 → Reads layout bytes w1 w2 e e1 → e1.out.items ≡ [] → IsRunning layout r r2 w w2 e1
   run_goes_on r r1 r2 w w1 w2 e e1 bytes run more failures clean reads none = record {
     input = run.input ++ bytes;
     given = more ∙ ap (λ xs. xs ++ bytes) run.given ∙ append_assoc r.bytes run.input bytes;
@@ -287,8 +292,8 @@ module _ {A : Type 0} where
   }
 
   -- a run begins with an engine that has read nothing
-  pub run_begins : (r w : Traffic) (e : Engine A) → e.table ≡ empty_state
-      → (e.line.items ≡ []) × (e.too_long ≡ false) → e.out.items ≡ [] → IsRunning r r w w e
+  pub run_begins : (r w : Traffic) (e : Engine L A W V N G K) → e.table ≡ empty_state
+      → (e.line.items ≡ []) × (e.too_long ≡ false) → e.out.items ≡ [] → IsRunning layout r r w w e
   run_begins r w e none_made none_held none_out = record {
     input = [];
     given = sym (append-nil r.bytes);
@@ -302,28 +307,28 @@ module _ {A : Type 0} where
 
   -- whatever has come of the last line, a write fails then
   pub rest_then_stops : {T F : Type 0} (rest : Result T F) (start input : List ℕ) (w w' : Traffic)
-      (e e1 : Engine A) → OnOk rest ((start input : List ℕ) (w : Traffic) → HasRead start input w e
-      → IsAnswered start input w e1.out.items e1.table)
-      → OnErr rest ((start input : List ℕ) (w : Traffic) → HasRead start input w e
-      → IsBegun Alloc start input w e1.out.items e1.table)
-      → HasRead start input w e → TakesFront e1.out.items w w'
-      → IsBegun Write start input w' [] e1.table
+      (e e1 : Engine L A W V N G K) → OnOk rest ((start input : List ℕ) (w : Traffic) → HasRead layout start input w e
+      → IsAnswered layout start input w e1.out.items e1.table)
+      → OnErr rest ((start input : List ℕ) (w : Traffic) → HasRead layout start input w e
+      → IsBegun layout Alloc start input w e1.out.items e1.table)
+      → HasRead layout start input w e → TakesFront e1.out.items w w'
+      → IsBegun layout Write start input w' [] e1.table
   rest_then_stops (Ok done) start input w w' e e1 answered begun read front =
       begun_front (answered_begun Write (answered start input w read)) w' front
   rest_then_stops (Err fault) start input w w' e e1 answered begun read front =
       begun_front (begun start input w read) w' front
 
 -- nothing was read and nothing written
-pub nothing_exchanged : (fault : ScriptError) (r w : Traffic) (state : ByteState)
-    → state ≡ empty_state → Exchanges (IsBrokenOff fault state) r r w w
+pub nothing_exchanged : {layout : ScriptLayout} (fault : ScriptError) (r w : Traffic) (state : ByteState)
+    → state ≡ empty_state → Exchanges (IsBrokenOff layout fault state) r r w w
 nothing_exchanged fault r w state empty =
     exchange_begun fault r r w w state [] (sym (append-nil r.bytes))
     (begun_nothing fault w state empty)
 
 -- a run that has answered all
-pub exchange_answered : (r r' w w' : Traffic) (state : ByteState) (input : List ℕ)
-    → r'.bytes ≡ r.bytes ++ input → IsAnswered w.bytes input w' [] state
-    → Exchanges (IsThrough state) r r' w w'
+pub exchange_answered : {layout : ScriptLayout} (r r' w w' : Traffic) (state : ByteState) (input : List ℕ)
+    → r'.bytes ≡ r.bytes ++ input → IsAnswered layout w.bytes input w' [] state
+    → Exchanges (IsThrough layout state) r r' w w'
 exchange_answered r r' w w' state input given a =
     record { input = input; text = a.text; given = given; taken = a.taken; fit = a.all }
 

@@ -7,3 +7,4 @@ pub mod Going
 pub mod Arguments
 pub mod Devices
 pub mod Rows
+pub mod Layouts

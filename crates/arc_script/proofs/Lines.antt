@@ -1,5 +1,5 @@
 -- Each line has an answer, and each list of lines a run.
-use Rattle.std.proofs.Common.{◌≡◌, ◌≢◌, ℕ, Bool, not, eqb, true, List, [], ◌∷◌, ◌++◌, Option, Some, None, refl, sym, ap, ◌∙◌, append_assoc}
+use Rattle.std.proofs.Common.{◌≡◌, ◌≢◌, ℕ, Bool, not, eqb, true, List, [], ◌∷◌, ◌++◌, Option, Some, None, refl, sym, ap, ◌∙◌, append_assoc, arith}
 use Rattle.std.specs.Prelude.{map}
 use Rattle.std.specs.List.{list_all, AllByRecursion}
 use Rattle.std.proofs.lemmas.Bool.{eqb-false, not-true}
@@ -7,13 +7,13 @@ use Rattle.std.proofs.lemmas.List.{map-append}
 use Rattle.std.proofs.lemmas.List.Concat.{flat_map-append}
 use Rattle.std.proofs.lemmas.List.Elements.{All-contains, recursion_from_All}
 use Rattle.arc_block.specs.Table.{Table, empty_table}
-use Rattle.arc_commands.specs.declared.command.Cmd.{Cmd}
-use Rattle.arc_commands.specs.declared.command.Reply.{Reply}
+use Rattle.arc_forms.specs.Commands.{ByteCmd, ByteReply}
 use Rattle.arc_commands.specs.declared.command.Reply.TheVariants as reply
 use Rattle.arc_commands.specs.RunOf.{RunOf}
-use Rattle.arc_commands.specs.Step.{no_shortage, answer}
+use Rattle.arc_commands.specs.Step.{no_shortage, answer, count_brought}
 use Rattle.arc_forms.specs.Text.{line_feed, Says, answer_text}
-use Rattle.arc_script.specs.Script.{ended, HasNoFeed, AreLines, byte_setting, ByteTable, Answers, BeginsReplyText}
+use Rattle.arc_script.specs.declared.layout.ScriptLayout.{ScriptLayout}
+use Rattle.arc_script.specs.Script.{ended, HasNoFeed, AreLines, script_setting, ByteTable, Answers, BeginsReplyText}
 use Rattle.arc_forms.proofs.Forms.{reading, reading_says, unread_is_none}
 use Rattle.arc_commands.proofs.Answers.{answer_step}
 use Rattle.arc_commands.proofs.Runs.{run_append}
@@ -21,36 +21,39 @@ use Rattle.arc_forms.proofs.Words.{all_by}
 
 -- ---- each line, and each list of lines
 
--- what a line is answered where nothing is short, by what it says
-abbrev pub answered : ByteTable → Option (Cmd (List ℕ) (List ℕ) ℕ) → Option (Reply (List ℕ) (List ℕ)) × ByteTable
-answered old None = (None, old)
-answered old (Some c) =
-    (Some (answer byte_setting no_shortage old c).0, (answer byte_setting no_shortage old c).1)
+module _ (layout : ScriptLayout) where
+  -- what a line is answered where nothing is short, by what it says
+  abbrev pub answered : ByteTable → Option (ByteCmd) → Option ByteReply × ByteTable
+  answered old None = (None, old)
+  answered old (Some c) = (
+    Some (answer (script_setting layout) no_shortage (count_brought c) old c).0,
+    (answer (script_setting layout) no_shortage (count_brought c) old c).1,
+  )
 
-answered_is : (old : ByteTable) (line : List ℕ) (said : Option (Cmd (List ℕ) (List ℕ) ℕ)) → reading line ≡ said → Answers old line (answered old said).0 (answered old said).1
-answered_is old line None e = (unread_is_none line e, refl)
-answered_is old line (Some c) e = (c, reading_says line c e, answer_step byte_setting old c)
+  answered_is : (old : ByteTable) (line : List ℕ) (said : Option (ByteCmd)) → reading line ≡ said → Answers layout old line (answered old said).0 (answered old said).1
+  answered_is old line None e = (unread_is_none line e, refl)
+  answered_is old line (Some c) e = (c, reading_says line c e, answer_step (script_setting layout) (count_brought c) old c (omega arith))
 
-pub line_answered : (old : ByteTable) (line : List ℕ) → Answers old line (answered old (reading line)).0 (answered old (reading line)).1
-line_answered old line = answered_is old line (reading line) refl
+  pub line_answered : (old : ByteTable) (line : List ℕ) → Answers layout old line (answered old (reading line)).0 (answered old (reading line)).1
+  line_answered old line = answered_is old line (reading line) refl
 
-pub answers_exist : (old : ByteTable) (line : List ℕ) → (a : Option (Reply (List ℕ) (List ℕ))) × (new : ByteTable) × Answers old line a new
-answers_exist old line = ((answered old (reading line)).0, (answered old (reading line)).1, line_answered old line)
+  pub answers_exist : (old : ByteTable) (line : List ℕ) → (a : Option ByteReply) × (new : ByteTable) × Answers layout old line a new
+  answers_exist old line = ((answered old (reading line)).0, (answered old (reading line)).1, line_answered old line)
 
--- the replies to lines where nothing is short, and the table after them
-abbrev pub script : ByteTable → List (List ℕ) → List (Option (Reply (List ℕ) (List ℕ))) × ByteTable
-script old [] = ([], old)
-script old (line ∷ lines) =
-    let first = answered old (reading line) in
-    let rest = script first.1 lines in
-    (first.0 ∷ rest.0, rest.1)
+  -- the replies to lines where nothing is short, and the table after them
+  abbrev pub script : ByteTable → List (List ℕ) → List (Option ByteReply) × ByteTable
+  script old [] = ([], old)
+  script old (line ∷ lines) =
+      let first = answered old (reading line) in
+      let rest = script first.1 lines in
+      (first.0 ∷ rest.0, rest.1)
 
-pub script_runs : (old : ByteTable) (lines : List (List ℕ)) → RunOf Answers old lines (script old lines).0 (script old lines).1
-script_runs old [] = refl
-script_runs old (line ∷ lines) = (_, line_answered old line, script_runs (answered old (reading line)).1 lines)
+  pub script_runs : (old : ByteTable) (lines : List (List ℕ)) → RunOf (Answers layout) old lines (script old lines).0 (script old lines).1
+  script_runs old [] = refl
+  script_runs old (line ∷ lines) = (_, line_answered old line, script_runs (answered old (reading line)).1 lines)
 
-pub run_exists : (old : ByteTable) (lines : List (List ℕ)) → (replies : List (Option (Reply (List ℕ) (List ℕ)))) × (new : ByteTable) × RunOf Answers old lines replies new
-run_exists old lines = ((script old lines).0, (script old lines).1, script_runs old lines)
+  pub run_exists : (old : ByteTable) (lines : List (List ℕ)) → (replies : List (Option ByteReply)) × (new : ByteTable) × RunOf (Answers layout) old lines replies new
+  run_exists old lines = ((script old lines).0, (script old lines).1, script_runs old lines)
 
 -- ---- no line feed
 
@@ -65,24 +68,24 @@ no_feeds lines pass = recursion_from_All HasNoFeed lines (all_by is_line HasNoFe
 
 -- ---- a text that goes on
 
-ended_append : (xs ys : List (Option (Reply (List ℕ) (List ℕ)))) → ended (map answer_text (xs ++ ys)) ≡ ended (map answer_text xs) ++ ended (map answer_text ys)
+ended_append : (xs ys : List (Option ByteReply)) → ended (map answer_text (xs ++ ys)) ≡ ended (map answer_text xs) ++ ended (map answer_text ys)
 ended_append xs ys = ap ended (map-append answer_text xs ys) ∙ flat_map-append (λ (line : List ℕ). line ++ line_feed ∷ []) (map answer_text xs) (map answer_text ys)
 
 -- What is written before the replies to some first lines are all written begins what is written for
 -- the input.
-pub begins : (input text more : List ℕ) (lines rest : List (List ℕ)) (replies : List (Option (Reply (List ℕ) (List ℕ)))) (mid : ByteTable)
-    → AreLines input (lines ++ rest) → RunOf Answers empty_table lines replies mid → text ++ more ≡ ended (map answer_text replies) → BeginsReplyText input text
-begins input text more lines rest replies mid cut run written =
-    let others = (script mid rest).0 in
+pub begins : (layout : ScriptLayout) (input text more : List ℕ) (lines rest : List (List ℕ)) (replies : List (Option ByteReply)) (mid : ByteTable)
+    → AreLines input (lines ++ rest) → RunOf (Answers layout) empty_table lines replies mid → text ++ more ≡ ended (map answer_text replies) → BeginsReplyText layout input text
+begins layout input text more lines rest replies mid cut run written =
+    let others = (script layout mid rest).0 in
     let all = replies ++ others in
     record {
       rest = more ++ ended (map answer_text others);
       whole = record {
         lines = lines ++ rest;
         replies = all;
-        after = (script mid rest).1;
+        after = (script layout mid rest).1;
         cut = cut;
-        run = run_append Answers empty_table lines replies mid rest others (script mid rest).1 run (script_runs mid rest);
+        run = run_append (Answers layout) empty_table lines replies mid rest others (script layout mid rest).1 run (script_runs layout mid rest);
         written = sym (append_assoc text more (ended (map answer_text others))) ∙ ap (λ (front : List ℕ). front ++ ended (map answer_text others)) written ∙ sym (ended_append replies others);
       };
     }

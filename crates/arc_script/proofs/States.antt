@@ -4,86 +4,87 @@ use Rattle.std.proofs.Common.{ap, sym, ◌∙◌, subst, inr}
 use Rattle.std.proofs.lemmas.List.{append-nil}
 use Rattle.std.specs.Option.{option_map}
 use Rattle.arc_commands.specs.RunOf.{RunOf}
+use Rattle.arc_script.specs.declared.layout.ScriptLayout.{ScriptLayout}
 use Rattle.arc_script.specs.Script.{AreLines, Answers, IsReplyText, BeginsReplyText}
 use Rattle.arc_forms.specs.Seen.{IsReadAs}
-use Rattle.arc_commands.specs.Seen.{seen_command}
+use Rattle.arc_forms.specs.Seen.{line_command}
 use Rattle.arc_commands.specs.State.{empty_state}
 use Rattle.arc_script.specs.State.{ByteState}
 use Rattle.arc_script.specs.State.{CarriesOutSaid, AnswersLine}
 use Rattle.arc_script.specs.Traffic.{Traffic, Exchanges}
 use Rattle.arc_script.specs.Underway.{IsThrough, IsBrokenOff, Holds, Ends, MayEnd, AnswersInto}
-use Rattle.arc_commands.specs.declared.command.Cmd.{Cmd}
-use Rattle.arc_commands.specs.declared.command.Reply.{Reply}
+use Rattle.arc_forms.specs.Commands.{LineCmd}
+use Rattle.arc_forms.specs.Commands.{ByteReply}
 use Rattle.arc_script.specs.declared.script.ScriptError.{ScriptError}
 use Rattle.std.specs.declared.vec.Vec.{Vec}
 use Rattle.arc_script.proofs.Lines.{begins}
 use Rattle.arc_commands.proofs.Runs.{run_seen}
 
 -- a line that was read is answered
-pub line_carried_out : {A : Type 0} (old : ByteState) (said : Option (Cmd (Vec ℕ A) (List ℕ) ℕ))
-    (answer : Option (Reply (List ℕ) (List ℕ))) (new : ByteState)
-    → CarriesOutSaid old (option_map seen_command said) answer new
-    → (line : List ℕ) → IsReadAs line said → AnswersLine old line answer new
-line_carried_out old None None new same line bad = (bad, same)
-line_carried_out old (Some c) (Some reply) new does line says = (seen_command c, says, does)
-line_carried_out old None (Some reply) new does line read = absurd does
-line_carried_out old (Some c) None new does line read = absurd does
+pub line_carried_out : (layout : ScriptLayout) {C A : Type 0} (old : ByteState) (said : Option (LineCmd C A))
+    (answer : Option ByteReply) (new : ByteState)
+    → CarriesOutSaid layout old (option_map line_command said) answer new
+    → (line : List ℕ) → IsReadAs line said → AnswersLine layout old line answer new
+line_carried_out layout old None None new same line bad = (bad, same)
+line_carried_out layout old (Some c) (Some reply) new does line says = (line_command c, says, does)
+line_carried_out layout old None (Some reply) new does line read = absurd does
+line_carried_out layout old (Some c) None new does line read = absurd does
 
 -- so the line that was held is answered, whichever it was
-pub line_ends : {A : Type 0} (held : List ℕ) (too_long : Bool) (old new : ByteState)
-    (said : Option (Cmd (Vec ℕ A) (List ℕ) ℕ)) (out out' : List ℕ)
+pub line_ends : (layout : ScriptLayout) {C A : Type 0} (held : List ℕ) (too_long : Bool) (old new : ByteState)
+    (said : Option (LineCmd C A)) (out out' : List ℕ)
     → ((line : List ℕ) → Holds held too_long line → IsReadAs line said)
-    → AnswersInto (option_map seen_command said) old new out out'
-    → Ends held too_long old new out out'
-line_ends held too_long old new said out out' read into = record {
+    → AnswersInto layout (option_map line_command said) old new out out'
+    → Ends layout held too_long old new out out'
+line_ends layout held too_long old new said out out' read into = record {
   answer = into.answer;
   answered = λ line holds.
-      line_carried_out old said into.answer new into.does line (read line holds);
+      line_carried_out layout old said into.answer new into.does line (read line holds);
   appended = into.appended;
 }
 
 -- or it is answered, but not in out
-pub line_may_end : {A : Type 0} (held : List ℕ) (too_long : Bool) (old new : ByteState)
-    (said : Option (Cmd (Vec ℕ A) (List ℕ) ℕ))
+pub line_may_end : (layout : ScriptLayout) {C A : Type 0} (held : List ℕ) (too_long : Bool) (old new : ByteState)
+    (said : Option (LineCmd C A))
     → ((line : List ℕ) → Holds held too_long line → IsReadAs line said)
-    → (answer : Option (Reply (List ℕ) (List ℕ)))
-    × CarriesOutSaid old (option_map seen_command said) answer new
-    → MayEnd held too_long old new
-line_may_end held too_long old new said read does = inr (
+    → (answer : Option ByteReply)
+    × CarriesOutSaid layout old (option_map line_command said) answer new
+    → MayEnd layout held too_long old new
+line_may_end layout held too_long old new said read does = inr (
   does.0,
-  λ line holds. line_carried_out old said does.0 new does.1 line (read line holds),
+  λ line holds. line_carried_out layout old said does.0 new does.1 line (read line holds),
 )
 
 -- the tables answer it so, too
-table_answers : (old : ByteState) (line : List ℕ) (answer : Option (Reply (List ℕ) (List ℕ))) (new : ByteState)
-    → AnswersLine old line answer new → Answers old.table line answer new.table
-table_answers old line (Some reply) new does = (does.0, does.1, does.2.rows)
-table_answers old line None new bad = (bad.0, ap (λ (s : ByteState). s.table) bad.1)
+table_answers : (layout : ScriptLayout) (old : ByteState) (line : List ℕ) (answer : Option ByteReply) (new : ByteState)
+    → AnswersLine layout old line answer new → Answers layout old.table line answer new.table
+table_answers layout old line (Some reply) new does = (does.0, does.1, does.2.rows)
+table_answers layout old line None new bad = (bad.0, ap (λ (s : ByteState). s.table) bad.1)
 
-table_run : (old : ByteState) (lines : List (List ℕ)) (replies : List (Option (Reply (List ℕ) (List ℕ))))
-    (new : ByteState) → RunOf AnswersLine old lines replies new
-    → RunOf Answers old.table lines replies new.table
-table_run = run_seen AnswersLine Answers (λ (s : ByteState). s.table) table_answers
+table_run : (layout : ScriptLayout) (old : ByteState) (lines : List (List ℕ)) (replies : List (Option ByteReply))
+    (new : ByteState) → RunOf (AnswersLine layout) old lines replies new
+    → RunOf (Answers layout) old.table lines replies new.table
+table_run layout = run_seen (AnswersLine layout) (Answers layout) (λ (s : ByteState). s.table) (table_answers layout)
 
 -- what a run that went through has written is a reply text
-pub through_text : (state : ByteState) (input text : List ℕ)
-    → IsThrough state input text → IsReplyText input text
-through_text state input text h = record {
+pub through_text : {layout : ScriptLayout} (state : ByteState) (input text : List ℕ)
+    → IsThrough layout state input text → IsReplyText layout input text
+through_text {layout} state input text h = record {
   lines = h.lines;
   replies = h.replies;
   after = state.table;
   cut = subst (AreLines input) (append-nil h.lines) h.cut;
-  run = table_run empty_state h.lines h.replies state h.run;
+  run = table_run layout empty_state h.lines h.replies state h.run;
   written = sym (append-nil text) ∙ h.written;
 }
 
 -- and of one that was broken off, a beginning of one
-pub broken_text : (fault : ScriptError) (state : ByteState) (input text : List ℕ)
-    → IsBrokenOff fault state input text → BeginsReplyText input text
-broken_text fault state input text h =
+pub broken_text : {layout : ScriptLayout} (fault : ScriptError) (state : ByteState) (input text : List ℕ)
+    → IsBrokenOff layout fault state input text → BeginsReplyText layout input text
+broken_text {layout} fault state input text h =
     let run = h.2 in
-    begins input text h.1 run.lines h.0 run.replies state.table run.cut
-    (table_run empty_state run.lines run.replies state run.run) run.written
+    begins layout input text h.1 run.lines h.0 run.replies state.table run.cut
+    (table_run layout empty_state run.lines run.replies state run.run) run.written
 
 -- what goes together, goes together in another way
 pub exchange_as : (P Q : List ℕ → List ℕ → Type 0) (r r' w w' : Traffic)

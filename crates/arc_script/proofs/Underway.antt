@@ -7,6 +7,7 @@ use Rattle.std.specs.List.{AllByRecursion}
 use Rattle.arc_block.specs.Table.{empty_table}
 use Rattle.arc_commands.specs.RunOf.{RunOf}
 use Rattle.arc_commands.specs.State.{empty_state}
+use Rattle.arc_script.specs.declared.layout.ScriptLayout.{ScriptLayout}
 use Rattle.arc_script.specs.State.{AnswersLine, ByteState}
 use Rattle.arc_forms.specs.Text.{line_feed, answer_text}
 use Rattle.arc_script.specs.Script.{HasNoFeed, AreLines, ended, last_line, IsReplyText}
@@ -15,7 +16,7 @@ use Rattle.arc_script.specs.Underway.{AnswersHeld, Holds, IsUnderway, IsAnswered
 use Rattle.arc_script.specs.Underway.{IsBegun, Ends, MayEnd, MayLack}
 use Rattle.arc_script.specs.declared.script.ScriptError.{ScriptError}
 use Rattle.arc_script.specs.declared.script.ScriptError.TheVariants.{Read, Write, Alloc}
-use Rattle.arc_commands.specs.declared.command.Reply.{Reply}
+use Rattle.arc_forms.specs.Commands.{ByteReply}
 use Rattle.arc_commands.proofs.Runs.{run_push}
 use Rattle.arc_script.proofs.Lines.{run_exists}
 use Rattle.arc_script.proofs.Splits.{split_exists, empty_has_no_feed, no_feed-append, all-append}
@@ -25,7 +26,7 @@ ended-append : (xs ys : List (List ℕ)) → ended (xs ++ ys) ≡ ended xs ++ en
 ended-append = flat_map-append (λ line. line ++ line_feed ∷ [])
 
 -- the texts of one answer more stand behind those so far
-texts-push : (xs : List (Option (Reply (List ℕ) (List ℕ)))) (x : Option (Reply (List ℕ) (List ℕ)))
+texts-push : (xs : List (Option ByteReply)) (x : Option ByteReply)
     → ended (map answer_text (xs ++ x ∷ []))
     ≡ ended (map answer_text xs) ++ (answer_text x ++ line_feed ∷ [])
 texts-push xs x =
@@ -73,11 +74,11 @@ none_lacks Read = refl
 none_lacks Write = tt
 none_lacks Alloc = inl refl
 
-module _ {fault : ScriptError} {start input out : List ℕ} {writer : Traffic} {state : ByteState}
-    (b : IsBegun fault start input writer out state) where
+module _ {layout : ScriptLayout} {fault : ScriptError} {start input out : List ℕ} {writer : Traffic} {state : ByteState}
+    (b : IsBegun layout fault start input writer out state) where
   -- after a fault what is held goes out
   pub begun_out : (writer' : Traffic) → writer'.bytes ≡ writer.bytes ++ out
-      → IsBegun fault start input writer' [] state
+      → IsBegun layout fault start input writer' [] state
   begun_out writer' taken = record {
     text = b.text ++ out;
     left = b.left;
@@ -95,7 +96,7 @@ module _ {fault : ScriptError} {start input out : List ℕ} {writer : Traffic} {
 
   -- or a front of it, where a write fails then
   pub begun_front : (writer' : Traffic) → TakesFront out writer writer'
-      → IsBegun Write start input writer' [] state
+      → IsBegun layout Write start input writer' [] state
   begun_front writer' front = record {
     text = b.text ++ front.sent;
     left = b.left;
@@ -118,8 +119,8 @@ module _ {fault : ScriptError} {start input out : List ℕ} {writer : Traffic} {
   }
 
 -- before the first byte
-pub nothing_read : (writer : Traffic) (state : ByteState) → state ≡ empty_state
-    → IsUnderway writer.bytes [] writer [] state [] false
+pub nothing_read : {layout : ScriptLayout} (writer : Traffic) (state : ByteState) → state ≡ empty_state
+    → IsUnderway layout writer.bytes [] writer [] state [] false
 nothing_read writer state empty = record {
   text = [];
   whole = [];
@@ -134,12 +135,12 @@ nothing_read writer state empty = record {
   written = refl;
 }
 
-module _ {start input out held : List ℕ} {writer : Traffic} {state : ByteState} {too_long : Bool}
-    (u : IsUnderway start input writer out state held too_long) where
+module _ {layout : ScriptLayout} {start input out held : List ℕ} {writer : Traffic} {state : ByteState} {too_long : Bool}
+    (u : IsUnderway layout start input writer out state held too_long) where
   -- more of a line has come
   pub more_held : (held' : List ℕ) (too_long' : Bool) (bytes : List ℕ) → HasNoFeed bytes
       → ((line : List ℕ) → Holds held too_long line → Holds held' too_long' (line ++ bytes))
-      → IsUnderway start (input ++ bytes) writer out state held' too_long'
+      → IsUnderway layout start (input ++ bytes) writer out state held' too_long'
   more_held held' too_long' bytes plain holds = record {
     text = u.text;
     whole = u.whole;
@@ -164,7 +165,7 @@ module _ {start input out held : List ℕ} {writer : Traffic} {state : ByteState
   all_ended = all-append HasNoFeed u.whole (u.line ∷ []) u.each (u.last, tt)
 
   -- the replies with one more
-  one_answered : (answer : Option (Reply (List ℕ) (List ℕ)))
+  one_answered : (answer : Option ByteReply)
       → u.text ++ (out ++ (answer_text answer ++ line_feed ∷ []))
       ≡ ended (map answer_text (u.replies ++ answer ∷ []))
   one_answered answer =
@@ -172,16 +173,16 @@ module _ {start input out held : List ℕ} {writer : Traffic} {state : ByteState
       ∙ ap (λ xs. xs ++ (answer_text answer ++ line_feed ∷ [])) u.written
       ∙ sym (texts-push u.replies answer)
 
-  run_on : (answer : Option (Reply (List ℕ) (List ℕ))) (state' : ByteState)
-      → AnswersHeld held too_long state answer state'
-      → RunOf AnswersLine empty_state (u.whole ++ u.line ∷ []) (u.replies ++ answer ∷ []) state'
+  run_on : (answer : Option ByteReply) (state' : ByteState)
+      → AnswersHeld layout held too_long state answer state'
+      → RunOf (AnswersLine layout) empty_state (u.whole ++ u.line ∷ []) (u.replies ++ answer ∷ []) state'
   run_on answer state' answered =
-      run_push AnswersLine empty_state u.whole u.replies state u.line answer state' u.run
+      run_push (AnswersLine layout) empty_state u.whole u.replies state u.line answer state' u.run
       (answered u.line u.holds)
 
   -- the line has ended, and is answered
-  pub line_ended : (state' : ByteState) (out' : List ℕ) → Ends held too_long state state' out out'
-      → IsUnderway start (input ++ line_feed ∷ []) writer out' state' [] false
+  pub line_ended : (state' : ByteState) (out' : List ℕ) → Ends layout held too_long state state' out out'
+      → IsUnderway layout start (input ++ line_feed ∷ []) writer out' state' [] false
   line_ended state' out' ends = record {
     text = u.text;
     whole = u.whole ++ u.line ∷ [];
@@ -198,7 +199,7 @@ module _ {start input out held : List ℕ} {writer : Traffic} {state : ByteState
 
   -- the replies have gone out
   pub went_out : (writer' : Traffic) → writer'.bytes ≡ writer.bytes ++ out
-      → IsUnderway start input writer' [] state held too_long
+      → IsUnderway layout start input writer' [] state held too_long
   went_out writer' taken = record {
     text = u.text ++ out;
     whole = u.whole;
@@ -215,7 +216,7 @@ module _ {start input out held : List ℕ} {writer : Traffic} {state : ByteState
 
   -- whatever is read more, what was written and what is held begins the replies
   pub still_begun : (fault : ScriptError) (more : List ℕ)
-      → IsBegun fault start (input ++ more) writer out state
+      → IsBegun layout fault start (input ++ more) writer out state
   still_begun fault more =
       let cut = cut_behind u.whole u.line more input u.each u.cut in
       record {
@@ -234,10 +235,10 @@ module _ {start input out held : List ℕ} {writer : Traffic} {state : ByteState
       }
 
   -- so also where a line feed has come, and the line isn't answered, or not in out
-  pub line_broken : (state' : ByteState) (more : List ℕ) → MayEnd held too_long state state'
-      → IsBegun Alloc start (input ++ (line_feed ∷ [] ++ more)) writer out state'
+  pub line_broken : (state' : ByteState) (more : List ℕ) → MayEnd layout held too_long state state'
+      → IsBegun layout Alloc start (input ++ (line_feed ∷ [] ++ more)) writer out state'
   line_broken state' more (inl same) =
-      subst (IsBegun Alloc start (input ++ (line_feed ∷ [] ++ more)) writer out) (sym same)
+      subst (IsBegun layout Alloc start (input ++ (line_feed ∷ [] ++ more)) writer out) (sym same)
       (still_begun Alloc (line_feed ∷ [] ++ more))
   line_broken state' more (inr does) =
       let lines = u.whole ++ u.line ∷ [] in
@@ -276,8 +277,8 @@ module _ {start input out held : List ℕ} {writer : Traffic} {state : ByteState
     }
 
     -- it is answered
-    pub last_answered : (state' : ByteState) (out' : List ℕ) → Ends held too_long state state' out out'
-        → IsAnswered start input writer out' state'
+    pub last_answered : (state' : ByteState) (out' : List ℕ) → Ends layout held too_long state state' out out'
+        → IsAnswered layout start input writer out' state'
     last_answered state' out' ends = record {
       text = u.text;
       taken = u.taken;
@@ -291,11 +292,11 @@ module _ {start input out held : List ℕ} {writer : Traffic} {state : ByteState
     }
 
     -- or not, or not in out
-    pub last_broken : (state' : ByteState) → MayEnd held too_long state state'
-        → IsBegun Alloc start input writer out state'
+    pub last_broken : (state' : ByteState) → MayEnd layout held too_long state state'
+        → IsBegun layout Alloc start input writer out state'
     last_broken state' (inl same) =
-        subst (IsBegun Alloc start input writer out) (sym same)
-        (subst (λ xs. IsBegun Alloc start xs writer out state) (append-nil input)
+        subst (IsBegun layout Alloc start input writer out) (sym same)
+        (subst (λ xs. IsBegun layout Alloc start xs writer out state) (append-nil input)
         (still_begun Alloc []))
     last_broken state' (inr does) = record {
       text = u.text;
@@ -313,8 +314,8 @@ module _ {start input out held : List ℕ} {writer : Traffic} {state : ByteState
     }
 
 -- at the end of the input nothing is left of a line
-pub all_answered : {start input out : List ℕ} {writer : Traffic} {state : ByteState}
-    → IsUnderway start input writer out state [] false → IsAnswered start input writer out state
+pub all_answered : {layout : ScriptLayout} {start input out : List ℕ} {writer : Traffic} {state : ByteState}
+    → IsUnderway layout start input writer out state [] false → IsAnswered layout start input writer out state
 all_answered u = record {
   text = u.text;
   taken = u.taken;
@@ -335,10 +336,10 @@ all_answered u = record {
 }
 
 -- the last replies go out, or a front of them
-pub all_out : {start input out : List ℕ} {writer : Traffic} {state : ByteState} (writer' : Traffic)
-    → IsAnswered start input writer out state → writer'.bytes ≡ writer.bytes ++ out
-    → IsAnswered start input writer' [] state
-all_out {start} {input} {out} writer' a taken = record {
+pub all_out : {layout : ScriptLayout} {start input out : List ℕ} {writer : Traffic} {state : ByteState} (writer' : Traffic)
+    → IsAnswered layout start input writer out state → writer'.bytes ≡ writer.bytes ++ out
+    → IsAnswered layout start input writer' [] state
+all_out {layout} {start} {input} {out} writer' a taken = record {
   text = a.text ++ out;
   taken = taken ∙ ap (λ xs. xs ++ out) a.taken ∙ append_assoc start a.text out;
   all = record {
@@ -351,9 +352,9 @@ all_out {start} {input} {out} writer' a taken = record {
 }
 
 -- or a fault comes before that
-pub answered_begun : {start input out : List ℕ} {writer : Traffic} {state : ByteState}
-    (fault : ScriptError) → IsAnswered start input writer out state
-    → IsBegun fault start input writer out state
+pub answered_begun : {layout : ScriptLayout} {start input out : List ℕ} {writer : Traffic} {state : ByteState}
+    (fault : ScriptError) → IsAnswered layout start input writer out state
+    → IsBegun layout fault start input writer out state
 answered_begun {out = out} fault a = record {
   text = a.text;
   left = [];
@@ -370,16 +371,16 @@ answered_begun {out = out} fault a = record {
 }
 
 -- of nothing that was read nothing was written
-pub begun_nothing : (fault : ScriptError) (writer : Traffic) (state : ByteState)
-    → state ≡ empty_state → IsBegun fault writer.bytes [] writer [] state
+pub begun_nothing : {layout : ScriptLayout} (fault : ScriptError) (writer : Traffic) (state : ByteState)
+    → state ≡ empty_state → IsBegun layout fault writer.bytes [] writer [] state
 begun_nothing fault writer state empty = still_begun (nothing_read writer state empty) fault []
 
 -- each input has a reply text
-pub reply_text_exists : (input : List ℕ) → (text : List ℕ) × IsReplyText input text
-reply_text_exists input =
+pub reply_text_exists : (layout : ScriptLayout) (input : List ℕ) → (text : List ℕ) × IsReplyText layout input text
+reply_text_exists layout input =
     let s = split_exists input in
     let lines : List (List ℕ) = s.whole ++ last_line s.rest in
-    let r = run_exists empty_table lines in (
+    let r = run_exists layout empty_table lines in (
       ended (map answer_text r.0),
       record {
         lines = lines;

@@ -8,11 +8,24 @@ use Rattle.arc_forms.specs.Text.{line_feed}
 use Rattle.arc_script.specs.Traffic.{Traffic, Exchanges, NoFault, Tells}
 use Rattle.arc_script.specs.Faults.{IsCause}
 use Rattle.arc_script.specs.declared.script.ScriptError.{ScriptError}
+use Rattle.arc_script.specs.declared.layout.ScriptLayout.{ScriptLayout}
+use Rattle.arc_script.specs.declared.layout.ScriptLayout.TheVariants as under
 use Rattle.arc_script.specs.declared.script.ScriptError.TheVariants.{Read, Write, Alloc}
 
--- the words are the one word `arc`
-abbrev pub IsArc : List (String Global) → Type 0
-IsArc words = map string_bytes words ≡ codes "arc" ∷ []
+-- the word for a layout
+abbrev pub layout_word : ScriptLayout → List ℕ
+layout_word under.Arc = codes "arc"
+layout_word under.Boxed = codes "boxed"
+layout_word under.Vec = codes "vec"
+layout_word under.Raw = codes "raw"
+
+-- the words ask for a script under this layout: they are the one word for it
+abbrev pub AsksFor : ScriptLayout → List (String Global) → Type 0
+AsksFor layout words = map string_bytes words ≡ layout_word layout ∷ []
+
+-- they ask for none
+abbrev pub AsksForNone : List (String Global) → Type 0
+AsksForNone words = (layout : ScriptLayout) → ¬ AsksFor layout words
 
 -- the status of a run
 abbrev pub status_of : Result (Unit {0}) ScriptError → ℕ
@@ -31,33 +44,36 @@ fault_text Write = codes "write failed" ++ line_feed ∷ []
 abbrev pub usage_text : List ℕ
 usage_text = codes "usage: arcs arc|boxed|vec|raw|storm N" ++ line_feed ∷ []
 
--- a run to the end of the input
-pub record IsWhole (reader reader' writer writer' : Traffic) : Type 0 where
-  pub text : Exchanges IsReplyText reader reader' writer writer'
-  pub end : reader.empties < reader'.empties
-  pub failures : reader'.failures ≡ reader.failures
-  pub clean : NoFault writer writer'
+-- under this layout
+module _ (layout : ScriptLayout) where
+  -- a run to the end of the input
+  pub record IsWhole (reader reader' writer writer' : Traffic) : Type 0 where
+    pub text : Exchanges (IsReplyText layout) reader reader' writer writer'
+    pub end : reader.empties < reader'.empties
+    pub failures : reader'.failures ≡ reader.failures
+    pub clean : NoFault writer writer'
 
--- a run that was given up
-pub record IsCut (reader reader' writer writer' : Traffic) (error : ScriptError) : Type 0 where
-  pub text : Exchanges BeginsReplyText reader reader' writer writer'
-  pub cause : IsCause reader reader' writer writer' error
+  -- a run that was given up
+  pub record IsCut (reader reader' writer writer' : Traffic) (error : ScriptError) : Type 0 where
+    pub text : Exchanges (BeginsReplyText layout) reader reader' writer writer'
+    pub cause : IsCause reader reader' writer writer' error
 
--- a run of the script, its status, and what is told of it: nothing, or the line of its fault
-pub record IsRun (reader reader' writer writer' faults faults' : Traffic) (status : ℕ)
-    : Type 0 where
-  pub outcome : Result (Unit {0}) ScriptError
-  pub told : status ≡ status_of outcome
-  pub run : MatchResult outcome
-      (λ done. IsWhole reader reader' writer writer') (IsCut reader reader' writer writer')
-  pub line : MatchResult outcome
-      (λ done. faults' ≡ faults) (λ error. Tells (fault_text error) faults faults')
+  -- a run of the script, its status, and what is told of it: nothing, or the line of its fault
+  pub record IsRun (reader reader' writer writer' faults faults' : Traffic) (status : ℕ)
+      : Type 0 where
+    pub outcome : Result (Unit {0}) ScriptError
+    pub told : status ≡ status_of outcome
+    pub run : MatchResult outcome
+        (λ done. IsWhole reader reader' writer writer') (IsCut reader reader' writer writer')
+    pub line : MatchResult outcome
+        (λ done. faults' ≡ faults) (λ error. Tells (fault_text error) faults faults')
 
 -- what the program does for these words
 pub record Runs (words : List (String Global)) (reader reader' writer writer' : Traffic)
     (faults faults' : Traffic) (status : ℕ) : Type 0 where
-  pub arc : IsArc words → IsRun reader reader' writer writer' faults faults' status
-  pub usage : ¬ IsArc words → (status ≡ 2) × (reader' ≡ reader) × (writer' ≡ writer)
+  pub script : (layout : ScriptLayout) → AsksFor layout words
+      → IsRun layout reader reader' writer writer' faults faults' status
+  pub usage : AsksForNone words → (status ≡ 2) × (reader' ≡ reader) × (writer' ≡ writer)
       × Tells usage_text faults faults'
 
 -- It does so for the words that it was given, or memory was refused for them, before anything was

@@ -1,13 +1,17 @@
 -- Scripts: the lines of an input, what each is answered, and what is written.
-use Rattle.std.specs.Prelude.{◌≡◌, ℕ, true, false, List, [], ◌∷◌, ◌++◌, Option, Some, None, map}
+use Rattle.std.specs.Prelude.{◌≡◌, ℕ, Bool, true, false, List, [], ◌∷◌, ◌++◌, Option, Some}
+use Rattle.std.specs.Prelude.{None, map}
 use Rattle.std.specs.Prelude.{flat_map, Contains}
 use Rattle.std.specs.List.{AllByRecursion}
+use Rattle.arc_block.specs.Block.{Sort}
+use Rattle.arc_block.specs.Layouts.{LayoutFacts, always, clones_want, never, where_full}
 use Rattle.arc_block.specs.Table.{Table, empty_table}
 use Rattle.arc_commands.specs.RunOf.{RunOf}
 use Rattle.arc_commands.specs.Step.{Setting, Step, setting_of}
 use Rattle.arc_forms.specs.Text.{line_feed, Says, IsBad, answer_text}
-use Rattle.arc_commands.specs.declared.command.Cmd.{Cmd}
-use Rattle.arc_commands.specs.declared.command.Reply.{Reply}
+use Rattle.arc_forms.specs.Commands.{ByteCmd, ByteReply}
+use Rattle.arc_script.specs.declared.layout.ScriptLayout.{ScriptLayout}
+use Rattle.arc_script.specs.declared.layout.ScriptLayout.TheVariants as under
 
 -- each line with its line feed
 abbrev pub ended : List (List ℕ) → List ℕ
@@ -30,38 +34,63 @@ pub record AreLines (input : List ℕ) (lines : List (List ℕ)) : Type 0 where
   pub last : HasNoFeed rest
   pub are : lines ≡ whole ++ last_line rest
 
--- a byte window may be cut anywhere, and its layout has static data; a byte is one
-abbrev pub byte_setting : Setting ℕ
-byte_setting = setting_of true (λ sort. false) false (λ items at. true) 1 (Some 0)
+-- A byte window may be cut anywhere; an item is one byte and has a zero, and items are copied,
+-- pushed and put behind others.
+abbrev pub byte_setting : LayoutFacts → (writes_any : Bool) → (clone_wants : Sort → Bool)
+    → Setting ℕ
+byte_setting layout writes_any clone_wants =
+    setting_of layout writes_any clone_wants false (λ items at. true) 1 (Some 0)
+    (record { copies = true; pushes = true; extends = true })
 
--- the script's tables: no window has metadata
+-- static data, and blocks of a caller's making
+abbrev pub of_any : (by_itself : Bool) → (lone : ℕ → ℕ → Bool) → LayoutFacts
+of_any by_itself lone = record {
+  has_static = true;
+  has_any = true;
+  by_itself = by_itself;
+  lone = lone;
+}
+
+-- What a script's tables are run under, by its layout: each has static data, and blocks may be of a
+-- caller's making, for readers and writers. Clones may want memory on vectors, on an `Arc` that is a
+-- block by itself, or on none.
+abbrev pub script_setting : ScriptLayout → Setting ℕ
+script_setting under.Arc = byte_setting (of_any false never) true (λ sort. false)
+script_setting under.Boxed =
+    byte_setting (of_any false where_full) true (clones_want true false)
+script_setting under.Vec = byte_setting (of_any false always) true (clones_want true false)
+script_setting under.Raw = byte_setting (of_any true never) true (clones_want false true)
+
+-- the script's tables: metadata is a number
 abbrev pub ByteTable : Type 0
-ByteTable = Table ℕ (Unit {0})
+ByteTable = Table ℕ ℕ
 
 -- what a line is answered: one step of the command that it says, or None where it says none and
 -- nothing changes
 abbrev pub AnswersBy : {S : Type 0}
-    → (S → Cmd (List ℕ) (List ℕ) ℕ → Reply (List ℕ) (List ℕ) → S → Type 0) → S → List ℕ
-    → Option (Reply (List ℕ) (List ℕ)) → S → Type 0
-AnswersBy step old line (Some reply) new = (c : Cmd (List ℕ) (List ℕ) ℕ) × Says line c
+    → (S → ByteCmd → ByteReply → S → Type 0) → S → List ℕ
+    → Option ByteReply → S → Type 0
+AnswersBy step old line (Some reply) new = (c : ByteCmd) × Says line c
     × step old c reply new
 AnswersBy step old line None new = IsBad line × (new ≡ old)
 
--- of a table
-abbrev pub Answers : ByteTable → List ℕ → Option (Reply (List ℕ) (List ℕ)) → ByteTable → Type 0
-Answers old line answer new = AnswersBy (Step byte_setting) old line answer new
+-- under this layout
+module _ (layout : ScriptLayout) where
+  -- of a table
+  abbrev pub Answers : ByteTable → List ℕ → Option ByteReply → ByteTable → Type 0
+  Answers old line answer new = AnswersBy (Step (script_setting layout)) old line answer new
 
--- what is written for an input: the replies of a run over its lines, from no window on, each with a
--- line feed
-pub record IsReplyText (input text : List ℕ) : Type 0 where
-  pub lines : List (List ℕ)
-  pub replies : List (Option (Reply (List ℕ) (List ℕ)))
-  pub after : ByteTable
-  pub cut : AreLines input lines
-  pub run : RunOf Answers empty_table lines replies after
-  pub written : text ≡ ended (map answer_text replies)
+  -- what is written for an input: the replies of a run over its lines, from no window on, each with
+  -- a line feed
+  pub record IsReplyText (input text : List ℕ) : Type 0 where
+    pub lines : List (List ℕ)
+    pub replies : List (Option ByteReply)
+    pub after : ByteTable
+    pub cut : AreLines input lines
+    pub run : RunOf Answers empty_table lines replies after
+    pub written : text ≡ ended (map answer_text replies)
 
--- a beginning of what is written for an input
-pub record BeginsReplyText (input text : List ℕ) : Type 0 where
-  pub rest : List ℕ
-  pub whole : IsReplyText input (text ++ rest)
+  -- a beginning of what is written for an input
+  pub record BeginsReplyText (input text : List ℕ) : Type 0 where
+    pub rest : List ℕ
+    pub whole : IsReplyText input (text ++ rest)

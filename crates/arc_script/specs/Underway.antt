@@ -9,26 +9,12 @@ use Rattle.arc_commands.specs.RunOf.{RunOf}
 use Rattle.arc_commands.specs.State.{empty_state, EndsWith}
 use Rattle.arc_script.specs.State.{AnswersLine, ByteState, CarriesOutSaid}
 use Rattle.arc_forms.specs.Text.{longest_line, line_feed, answer_text}
-use Rattle.arc_script.specs.Script.{AreLines, HasNoFeed, byte_setting, ended}
+use Rattle.arc_script.specs.Script.{AreLines, HasNoFeed, script_setting, ended}
 use Rattle.arc_script.specs.Traffic.{Traffic}
-use Rattle.arc_commands.specs.declared.command.Cmd.{Cmd}
-use Rattle.arc_commands.specs.declared.command.Reply.{Reply}
+use Rattle.arc_forms.specs.Commands.{ByteCmd, ByteReply}
 use Rattle.arc_script.specs.declared.script.ScriptError.{ScriptError}
+use Rattle.arc_script.specs.declared.layout.ScriptLayout.{ScriptLayout}
 use Rattle.arc_script.specs.declared.script.ScriptError.TheVariants.{Read, Write, Alloc}
-
--- From no window on, a run over the lines of the input, but for those that are left, led to this
--- state. Its replies are the text and what is unwritten.
-pub record HasRun (state : ByteState) (input text : List ℕ) (left : List (List ℕ))
-    (unwritten : List ℕ) : Type 0 where
-  pub lines : List (List ℕ)
-  pub replies : List (Option (Reply (List ℕ) (List ℕ)))
-  pub cut : AreLines input (lines ++ left)
-  pub run : RunOf AnswersLine empty_state lines replies state
-  pub written : text ++ unwritten ≡ ended (map answer_text replies)
-
--- the run went to its end, and all was written
-abbrev pub IsThrough : ByteState → List ℕ → List ℕ → Type 0
-IsThrough state input text = HasRun state input text [] []
 
 -- What a fault may leave unwritten of the replies: nothing where a read failed, one reply at most
 -- where memory was refused, which may have been refused for that reply, and anything where a write
@@ -36,83 +22,99 @@ IsThrough state input text = HasRun state input text [] []
 abbrev pub MayLack : ScriptError → List ℕ → Type 0
 MayLack Read unwritten = unwritten ≡ []
 MayLack Write unwritten = ⊤
-MayLack Alloc unwritten = (unwritten ≡ []) ⊎ ((answer : Option (Reply (List ℕ) (List ℕ)))
+MayLack Alloc unwritten = (unwritten ≡ []) ⊎ ((answer : Option ByteReply)
     × (unwritten ≡ answer_text answer ++ line_feed ∷ []))
-
--- it was broken off by this fault
-abbrev pub IsBrokenOff : ScriptError → ByteState → List ℕ → List ℕ → Type 0
-IsBrokenOff fault state input text = (left : List (List ℕ)) × (unwritten : List ℕ)
-    × HasRun state input text left unwritten × MayLack fault unwritten
-
--- after such a run every window that was left ended, and these are the passes of the blocks
-abbrev pub ThenEnds : (ByteState → List ℕ → List ℕ → Type 0) → List (Pass Whole) → List ℕ → List ℕ
-    → Type 0
-ThenEnds ran passes input text = (state : ByteState) × ran state input text
-    × EndsWith byte_setting state passes
 
 -- what is held of the line that is coming: all of it, or only that it is too long
 abbrev pub Holds : List ℕ → Bool → List ℕ → Type 0
 Holds held false line = held ≡ line
 Holds held true line = longest_line < length line
 
--- Since the writer had taken start, this input was read. Each of its whole lines is answered: the
--- replies were taken, but for those in out. Behind the whole lines stands what came of the next.
-pub record IsUnderway (start input : List ℕ) (writer : Traffic) (out : List ℕ) (state : ByteState)
-    (held : List ℕ) (too_long : Bool) : Type 0 where
-  pub text : List ℕ
-  pub whole : List (List ℕ)
-  pub line : List ℕ
-  pub replies : List (Option (Reply (List ℕ) (List ℕ)))
-  pub taken : writer.bytes ≡ start ++ text
-  pub cut : input ≡ ended whole ++ line
-  pub each : AllByRecursion HasNoFeed whole
-  pub last : HasNoFeed line
-  pub holds : Holds held too_long line
-  pub run : RunOf AnswersLine empty_state whole replies state
-  pub written : text ++ out ≡ ended (map answer_text replies)
+-- under this layout
+module _ (layout : ScriptLayout) where
+  -- From no window on, a run over the lines of the input, but for those that are left, led to this
+  -- state. Its replies are the text and what is unwritten.
+  pub record HasRun (state : ByteState) (input text : List ℕ) (left : List (List ℕ))
+      (unwritten : List ℕ) : Type 0 where
+    pub lines : List (List ℕ)
+    pub replies : List (Option ByteReply)
+    pub cut : AreLines input (lines ++ left)
+    pub run : RunOf (AnswersLine layout) empty_state lines replies state
+    pub written : text ++ unwritten ≡ ended (map answer_text replies)
 
--- Since the writer had taken start, this input was read to its end, and all lines are answered: the
--- replies were taken, but for those in out.
-pub record IsAnswered (start input : List ℕ) (writer : Traffic) (out : List ℕ) (state : ByteState)
-    : Type 0 where
-  pub text : List ℕ
-  pub taken : writer.bytes ≡ start ++ text
-  pub all : HasRun state input text [] out
+  -- the run went to its end, and all was written
+  abbrev pub IsThrough : ByteState → List ℕ → List ℕ → Type 0
+  IsThrough state input text = HasRun state input text [] []
 
--- Since the writer had taken start, this input was read, and some first lines were answered, when
--- this fault came. A beginning of the replies was taken; behind it come those in out, and then what
--- the fault left out of them.
-pub record IsBegun (fault : ScriptError) (start input : List ℕ) (writer : Traffic) (out : List ℕ)
-    (state : ByteState) : Type 0 where
-  pub text : List ℕ
-  pub left : List (List ℕ)
-  pub lacking : List ℕ
-  pub taken : writer.bytes ≡ start ++ text
-  pub begins : HasRun state input text left (out ++ lacking)
-  pub lacks : MayLack fault lacking
+  -- it was broken off by this fault
+  abbrev pub IsBrokenOff : ScriptError → ByteState → List ℕ → List ℕ → Type 0
+  IsBrokenOff fault state input text = (left : List (List ℕ)) × (unwritten : List ℕ)
+      × HasRun state input text left unwritten × MayLack fault unwritten
 
--- whatever line was held, it is answered so
-abbrev pub AnswersHeld : List ℕ → Bool → ByteState → Option (Reply (List ℕ) (List ℕ)) → ByteState
-    → Type 0
-AnswersHeld held too_long old answer new =
-    (line : List ℕ) → Holds held too_long line → AnswersLine old line answer new
+  -- after such a run every window that was left ended, and these are the passes of the blocks
+  abbrev pub ThenEnds : (ByteState → List ℕ → List ℕ → Type 0) → List (Pass Whole) → List ℕ → List ℕ
+      → Type 0
+  ThenEnds ran passes input text = (state : ByteState) × ran state input text
+      × EndsWith (script_setting layout) state passes
 
--- What a line was read as is carried out, and what it is answered stands in out too.
-pub record AnswersInto (said : Option (Cmd (List ℕ) (List ℕ) ℕ)) (old new : ByteState)
-    (out out' : List ℕ) : Type 0 where
-  pub answer : Option (Reply (List ℕ) (List ℕ))
-  pub does : CarriesOutSaid old said answer new
-  pub appended : out' ≡ out ++ (answer_text answer ++ line_feed ∷ [])
+  -- Since the writer had taken start, this input was read. Each of its whole lines is answered: the
+  -- replies were taken, but for those in out. Behind the whole lines stands what came of the next.
+  pub record IsUnderway (start input : List ℕ) (writer : Traffic) (out : List ℕ) (state : ByteState)
+      (held : List ℕ) (too_long : Bool) : Type 0 where
+    pub text : List ℕ
+    pub whole : List (List ℕ)
+    pub line : List ℕ
+    pub replies : List (Option ByteReply)
+    pub taken : writer.bytes ≡ start ++ text
+    pub cut : input ≡ ended whole ++ line
+    pub each : AllByRecursion HasNoFeed whole
+    pub last : HasNoFeed line
+    pub holds : Holds held too_long line
+    pub run : RunOf (AnswersLine layout) empty_state whole replies state
+    pub written : text ++ out ≡ ended (map answer_text replies)
 
--- The line that was held is answered, in out too.
-pub record Ends (held : List ℕ) (too_long : Bool) (old new : ByteState)
-    (out out' : List ℕ) : Type 0 where
-  pub answer : Option (Reply (List ℕ) (List ℕ))
-  pub answered : AnswersHeld held too_long old answer new
-  pub appended : out' ≡ out ++ (answer_text answer ++ line_feed ∷ [])
+  -- Since the writer had taken start, this input was read to its end, and all lines are answered:
+  -- the replies were taken, but for those in out.
+  pub record IsAnswered (start input : List ℕ) (writer : Traffic) (out : List ℕ) (state : ByteState)
+      : Type 0 where
+    pub text : List ℕ
+    pub taken : writer.bytes ≡ start ++ text
+    pub all : HasRun state input text [] out
 
--- The line that was held isn't answered, or is, but not in out.
-abbrev pub MayEnd : List ℕ → Bool → ByteState → ByteState → Type 0
-MayEnd held too_long old new =
-    (new ≡ old) ⊎ ((answer : Option (Reply (List ℕ) (List ℕ)))
-    × AnswersHeld held too_long old answer new)
+  -- Since the writer had taken start, this input was read, and some first lines were answered, when
+  -- this fault came. A beginning of the replies was taken; behind it come those in out, and then
+  -- what the fault left out of them.
+  pub record IsBegun (fault : ScriptError) (start input : List ℕ) (writer : Traffic) (out : List ℕ)
+      (state : ByteState) : Type 0 where
+    pub text : List ℕ
+    pub left : List (List ℕ)
+    pub lacking : List ℕ
+    pub taken : writer.bytes ≡ start ++ text
+    pub begins : HasRun state input text left (out ++ lacking)
+    pub lacks : MayLack fault lacking
+
+  -- whatever line was held, it is answered so
+  abbrev pub AnswersHeld : List ℕ → Bool → ByteState → Option ByteReply → ByteState
+      → Type 0
+  AnswersHeld held too_long old answer new =
+      (line : List ℕ) → Holds held too_long line → AnswersLine layout old line answer new
+
+  -- What a line was read as is carried out, and what it is answered stands in out too.
+  pub record AnswersInto (said : Option (ByteCmd)) (old new : ByteState)
+      (out out' : List ℕ) : Type 0 where
+    pub answer : Option ByteReply
+    pub does : CarriesOutSaid layout old said answer new
+    pub appended : out' ≡ out ++ (answer_text answer ++ line_feed ∷ [])
+
+  -- The line that was held is answered, in out too.
+  pub record Ends (held : List ℕ) (too_long : Bool) (old new : ByteState)
+      (out out' : List ℕ) : Type 0 where
+    pub answer : Option ByteReply
+    pub answered : AnswersHeld held too_long old answer new
+    pub appended : out' ≡ out ++ (answer_text answer ++ line_feed ∷ [])
+
+  -- The line that was held isn't answered, or is, but not in out.
+  abbrev pub MayEnd : List ℕ → Bool → ByteState → ByteState → Type 0
+  MayEnd held too_long old new =
+      (new ≡ old) ⊎ ((answer : Option ByteReply)
+      × AnswersHeld held too_long old answer new)

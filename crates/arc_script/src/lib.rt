@@ -2,5 +2,6 @@
 #![tactic(auto)]
 
 pub mod io;
+pub mod layout;
 pub mod program;
 pub mod script;

@@ -5,11 +5,13 @@ ghost use Rattle.std.specs.declared.alloc.Global.{Global};
 ghost use Rattle.std.specs.declared.env.FillError.TheVariants.{NotPresent};
 ghost use Rattle.arc_script.specs.Arguments.{AreWords, IsTextOf, IsWord};
 ghost use Rattle.arc_script.specs.Traffic.{Gives, GivesAll, Takes, Tells};
-ghost use Rattle.arc_script.specs.Program.{IsArc, IsRun, RunsGiven, fault_text, status_of};
+ghost use Rattle.arc_script.specs.Program.{AsksFor, AsksForNone, IsRun, RunsGiven, fault_text};
+ghost use Rattle.arc_script.specs.Program.{layout_word, status_of};
 ghost use Rattle.arc_script.specs.Program.{usage_text};
 
 use crate::io::{Sink, Source};
-use crate::script::{ScriptError, ScriptLayout, run_script, write_out};
+use crate::layout::ScriptLayout;
+use crate::script::{ScriptError, run_script, write_out};
 use arc_owners::error::AllocError;
 use std::alloc::{Allocator, Global};
 use std::env::FillError;
@@ -80,7 +82,8 @@ fn report<F: Sink>(faults: &mut F, error: ScriptError) -> u8
 
 /// Runs the program on its words, and answers its status.
 ///
-/// For the one word `arc` it runs the script that the reader gives: 0 where all of it was answered,
+/// For one word that stands for a layout, `arc`, `boxed`, `vec` or `raw`, it runs the script that
+/// the reader gives with windows under that: 0 where all of it was answered,
 /// 1 where memory was refused, 3 where a read failed, 4 where a write failed or took nothing; a
 /// fault is told to `faults` in one line. For any other words it tells the usage there, and answers
 /// 2 before any input is read.
@@ -92,8 +95,8 @@ pub fn run_args<R: Source, W: Sink, F: Sink, A: Allocator + Copy>(
     writer: &mut W,
     faults: &mut F,
 ) -> u8
-    ensures arc { IsArc words.now
-        → IsRun (R.traffic reader.old) (R.traffic reader.new) (W.traffic writer.old)
+    ensures script { (layout : ScriptLayout) → AsksFor layout words.now
+        → IsRun layout (R.traffic reader.old) (R.traffic reader.new) (W.traffic writer.old)
         (W.traffic writer.new) (F.traffic faults.old) (F.traffic faults.new) result }
     ensures given { Gives (R.traffic reader.old) (R.traffic reader.new)
         (R.remaining reader.old) (R.remaining reader.new) }
@@ -101,28 +104,61 @@ pub fn run_args<R: Source, W: Sink, F: Sink, A: Allocator + Copy>(
         (W.contents writer.old) (W.contents writer.new) }
     ensures drained { result ≡ 0
         → GivesAll (R.traffic reader.old) (R.traffic reader.new) (R.remaining reader.old) }
-    ensures usage { ¬ IsArc words.now → (result ≡ 2) × (R.traffic reader.new ≡ R.traffic reader.old)
+    ensures usage { AsksForNone words.now → (result ≡ 2)
+        × (R.traffic reader.new ≡ R.traffic reader.old)
         × (W.traffic writer.new ≡ W.traffic writer.old)
         × Tells usage_text (F.traffic faults.old) (F.traffic faults.new) }
 {
-    if !is_arc(words) {
+    let Some(layout) = layout_of(words) else {
         let _ = write_out(faults, b"usage: arcs arc|boxed|vec|raw|storm N\n");
         return 2;
-    }
-    match run_script(rt, alloc, reader, writer, ScriptLayout::Arc) {
+    };
+    match run_script(rt, alloc, reader, writer, layout) {
         Ok(()) => 0,
         Err(error) => report(faults, error),
     }
 }
 
-/// Whether the words are the one word `arc`.
-fn is_arc(words: &[String]) -> bool
-    ensures { IsTrue result ↔ IsArc words.now }
+/// Whether the words are the one word for this layout.
+fn asks_for(words: &[String], layout: ScriptLayout) -> bool
+    ensures { IsTrue result ↔ AsksFor layout words.now }
 {
     match words {
-        [word] => word.as_str() == "arc",
+        [word] => word.as_str() == word_for(layout),
         _ => false,
     }
+}
+
+/// The word for a layout.
+fn word_for(layout: ScriptLayout) -> &'static str
+    ensures { result.now ≡ layout_word layout }
+{
+    match layout {
+        ScriptLayout::Arc => "arc",
+        ScriptLayout::Boxed => "boxed",
+        ScriptLayout::Vec => "vec",
+        ScriptLayout::Raw => "raw",
+    }
+}
+
+/// The layout for which the words ask, `None` where they are no one word for one.
+#[tactic(auto, using(crate::proofs::Layouts::asks_for_none))]
+fn layout_of(words: &[String]) -> Option<ScriptLayout>
+    ensures { MatchOption result (AsksForNone words.now) (λ layout. AsksFor layout words.now) }
+{
+    if asks_for(words, ScriptLayout::Arc) {
+        return Some(ScriptLayout::Arc);
+    }
+    if asks_for(words, ScriptLayout::Boxed) {
+        return Some(ScriptLayout::Boxed);
+    }
+    if asks_for(words, ScriptLayout::Vec) {
+        return Some(ScriptLayout::Vec);
+    }
+    if asks_for(words, ScriptLayout::Raw) {
+        return Some(ScriptLayout::Raw);
+    }
+    None
 }
 
 /// The text of some bytes, empty where they are none.

@@ -7,9 +7,9 @@ ghost use Rattle.arc_script.specs.Script.{AreLines, BeginsReplyText, HasNoFeed, 
 ghost use Rattle.arc_block.specs.Owned.{IsKept};
 ghost use Rattle.arc_block.specs.declared.block.TheConstants.{MAX_OWNERS};
 ghost use Rattle.arc_script.specs.State.{CarriesOutSaid};
-ghost use Rattle.arc_script.specs.Script.{byte_setting};
-ghost use Rattle.arc_commands.specs.Seen.{seen_command};
-ghost use Rattle.arc_commands.specs.declared.command.Reply.{Reply};
+ghost use Rattle.arc_script.specs.Script.{script_setting};
+ghost use Rattle.arc_forms.specs.Seen.{line_command};
+ghost use Rattle.arc_forms.specs.Commands.{ByteReply};
 ghost use Rattle.std.specs.Option.{option_map};
 ghost use Rattle.arc_script.specs.Underway.{AnswersInto, IsBrokenOff, IsThrough, ThenEnds};
 ghost use Rattle.std.specs.Io.KnownBytes.{IsAtEnd};
@@ -20,7 +20,8 @@ ghost use Rattle.arc_forms.specs.declared.parse.TheConstants.{LONGEST_LINE};
 ghost use Rattle.arc_script.specs.declared.script.ScriptError.TheVariants as script_error;
 
 use crate::io::{Sink, Source};
-use arc_block::layout::DefaultLayout;
+use crate::layout::{NamedLayout, ScriptLayout};
+use arc_block::layout::{BoxedSliceLayout, DefaultLayout, LayoutMut, RawLayout, VecLayout};
 use arc_buffer::kinds::Plain;
 use arc_commands::command::Cmd;
 use arc_forms::parse::{Command, LONGEST_LINE, parse};
@@ -59,13 +60,6 @@ impl From<AllocError> for ScriptError {
     }
 }
 
-/// The layouts under which a script may be run.
-#[derive(Clone, Copy, Debug, PartialEq, Eq)]
-pub enum ScriptLayout {
-    /// `ArcLayout<true, true>`.
-    Arc,
-}
-
 /// Writes the bytes, in as many calls as it takes.
 pub fn write_out<W: Sink>(writer: &mut W, bytes: &[u8]) -> Result<(), ScriptError>
     ensures ok { OnOk result
@@ -89,22 +83,24 @@ pub fn write_out<W: Sink>(writer: &mut W, bytes: &[u8]) -> Result<(), ScriptErro
 }
 
 /// The windows of a script, over bytes.
-type ByteTable<A> = Table<Plain<u8>, DefaultLayout, Vec<u8>, (), A>;
+type ByteTable<L, A> = Table<Plain<u8>, L, Vec<u8, A>, u64, A>;
 
 /// Carries out the command that a line was read as, and appends what it is answered; a line that
 /// says none changes nothing else. The items that a `show` is answered go from the window into the
 /// reply's text. `Err` where memory is refused for that text, of which nothing is left then.
-fn answer<A: Allocator + Copy>(
-    table: &mut ByteTable<A>,
+fn answer<L: NamedLayout, A: Allocator + Copy>(
+    table: &mut ByteTable<L, A>,
     rt: &impl Wait,
     said: Option<Command<A>>,
     out: &mut Vec<u8, A>,
 ) -> Result<(), AllocError>
-    ensures ok { OnOk result (AnswersInto (option_map seen_command said) table.old table.new
+where
+    L::Writable: LayoutMut,
+    ensures ok { OnOk result (AnswersInto L.named (option_map line_command said) table.old table.new
         out.old.items out.new.items) }
     ensures err { OnErr result (out.new.items ≡ out.old.items) }
-    ensures broken { OnErr result ((reply : Option (Reply (List ℕ) (List ℕ)))
-        × CarriesOutSaid table.old (option_map seen_command said) reply table.new) }
+    ensures broken { OnErr result ((reply : Option ByteReply)
+        × CarriesOutSaid L.named table.old (option_map line_command said) reply table.new) }
 {
     match said {
         Some(Cmd::Show { window }) => push_answer(out, &table.show_in_place(window)),
@@ -118,8 +114,11 @@ fn answer<A: Allocator + Copy>(
 
 /// A script that is being run: its windows, what has come of a line, and the replies that have not
 /// gone out. It can't be dropped: it ends by `end`, which ends its windows.
-struct Engine<A: Allocator + Copy> {
-    table: ByteTable<A>,
+struct Engine<L: NamedLayout, A: Allocator + Copy>
+where
+    L::Writable: LayoutMut,
+{
+    table: ByteTable<L, A>,
     line: Vec<u8, A>,
     too_long: bool,
     out: Vec<u8, A>,
@@ -127,7 +126,10 @@ struct Engine<A: Allocator + Copy> {
     ghost short: { vec_len line ≤ LONGEST_LINE },
 }
 
-impl<A: Allocator + Copy> Engine<A> {
+impl<L: NamedLayout, A: Allocator + Copy> Engine<L, A>
+where
+    L::Writable: LayoutMut,
+{
     ghost use Rattle.std.specs.Prelude.{◌≡◌};
     ghost use Rattle.arc_block.specs.Owned.{IsKept};
     ghost use Rattle.arc_block.specs.declared.block.TheConstants.{MAX_OWNERS};
@@ -181,12 +183,12 @@ impl<A: Allocator + Copy> Engine<A> {
     /// Answers the line that is held.
     fn end_line(&mut self, rt: &impl Wait) -> Result<(), AllocError>
         ensures ok { OnOk result
-            (Ends self.old.line.items self.old.too_long self.old.table
+            (Ends L.named self.old.line.items self.old.too_long self.old.table
             self.new.table self.old.out.items self.new.out.items) }
         ensures line { OnOk result ((self.new.line.items ≡ []) × (self.new.too_long ≡ false)) }
         ensures err { OnErr result (self.new.out.items ≡ self.old.out.items) }
         ensures broken { OnErr result
-            (MayEnd self.old.line.items self.old.too_long self.old.table
+            (MayEnd L.named self.old.line.items self.old.too_long self.old.table
             self.new.table) }
     {
         let said = self.read_line()?;
@@ -198,12 +200,13 @@ impl<A: Allocator + Copy> Engine<A> {
 
     /// Answers a line where it stands. Of the line that is held nothing changes.
     fn answer_in_place(&mut self, rt: &impl Wait, line: &[u8]) -> Result<(), AllocError>
-        ensures ok { OnOk result (Ends line.now false self.old.table self.new.table
+        ensures ok { OnOk result (Ends L.named line.now false self.old.table self.new.table
             self.old.out.items self.new.out.items) }
         ensures line { (self.new.line.items ≡ self.old.line.items)
             × (self.new.too_long ≡ self.old.too_long) }
         ensures err { OnErr result (self.new.out.items ≡ self.old.out.items) }
-        ensures broken { OnErr result (MayEnd line.now false self.old.table self.new.table) }
+        ensures broken { OnErr result
+            (MayEnd L.named line.now false self.old.table self.new.table) }
     {
         let said = parse(self.alloc, line)?;
         answer(&mut self.table, rt, said, &mut self.out)
@@ -214,10 +217,10 @@ impl<A: Allocator + Copy> Engine<A> {
     fn close_line(&mut self, rt: &impl Wait, bytes: &[u8]) -> Result<(), AllocError>
         requires { HasNoFeed bytes.now }
         ensures ok { OnOk result ((writer : Traffic)
-            → Reads (bytes.now ++ line_feed ∷ []) writer writer self.old self.new) }
+            → Reads L.named (bytes.now ++ line_feed ∷ []) writer writer self.old self.new) }
         ensures out { OnErr result (self.new.out.items ≡ self.old.out.items) }
         ensures err { OnErr result ((writer : Traffic)
-            → Stops (bytes.now ++ line_feed ∷ []) writer writer self.old self.new
+            → Stops L.named (bytes.now ++ line_feed ∷ []) writer writer self.old self.new
             ScriptError.Alloc) }
     {
         if !self.too_long && self.line.is_empty() {
@@ -262,13 +265,13 @@ impl<A: Allocator + Copy> Engine<A> {
         requires { HasNoFeed bytes.now }
         ensures few { length self.old.out.items < PIECE → length self.new.out.items < PIECE }
         ensures ok { OnOk result
-            (Reads (bytes.now ++ line_feed ∷ []) (W.traffic writer.old)
+            (Reads L.named (bytes.now ++ line_feed ∷ []) (W.traffic writer.old)
             (W.traffic writer.new) self.old self.new) }
         ensures taken { Takes (W.traffic writer.old) (W.traffic writer.new)
             (W.contents writer.old) (W.contents writer.new) }
         ensures clean { OnOk result (NoFault (W.traffic writer.old) (W.traffic writer.new)) }
         ensures err { IfErr result
-            (Stops (bytes.now ++ line_feed ∷ []) (W.traffic writer.old)
+            (Stops L.named (bytes.now ++ line_feed ∷ []) (W.traffic writer.old)
             (W.traffic writer.new) self.old self.new) }
         ensures fault { IfErr result (IsWhy (W.traffic writer.old) (W.traffic writer.new)) }
     {
@@ -288,12 +291,14 @@ impl<A: Allocator + Copy> Engine<A> {
     ) -> Result<(), ScriptError>
         ensures few { length self.old.out.items < PIECE → length self.new.out.items < PIECE }
         ensures ok { OnOk result
-            (Reads piece.now (W.traffic writer.old) (W.traffic writer.new) self.old self.new) }
+            (Reads L.named piece.now (W.traffic writer.old) (W.traffic writer.new)
+            self.old self.new) }
         ensures taken { Takes (W.traffic writer.old) (W.traffic writer.new)
             (W.contents writer.old) (W.contents writer.new) }
         ensures clean { OnOk result (NoFault (W.traffic writer.old) (W.traffic writer.new)) }
         ensures err { IfErr result
-            (Stops piece.now (W.traffic writer.old) (W.traffic writer.new) self.old self.new) }
+            (Stops L.named piece.now (W.traffic writer.old) (W.traffic writer.new)
+            self.old self.new) }
         ensures fault { IfErr result (IsWhy (W.traffic writer.old) (W.traffic writer.new)) }
     {
         let mut rest = piece;
@@ -316,8 +321,8 @@ impl<A: Allocator + Copy> Engine<A> {
     ) -> Result<bool, ScriptError>
         requires { 0 < length piece.old }
         ensures ok { OnOk result ((r w : Traffic)
-            → IsRunning r (R.traffic reader.old) w (W.traffic writer.old) self.old
-            → IsRunning r (R.traffic reader.new) w (W.traffic writer.new) self.new) }
+            → IsRunning L.named r (R.traffic reader.old) w (W.traffic writer.old) self.old
+            → IsRunning L.named r (R.traffic reader.new) w (W.traffic writer.new) self.new) }
         ensures end { IfOk result (λ more. more ≡ false
             → (R.traffic reader.old).empties < (R.traffic reader.new).empties) }
         ensures empties { (R.traffic reader.old).empties ≤ (R.traffic reader.new).empties }
@@ -327,8 +332,8 @@ impl<A: Allocator + Copy> Engine<A> {
             (W.contents writer.old) (W.contents writer.new) }
         ensures drained { IfOk result (λ more. more ≡ false → IsAtEnd (R.remaining reader.new)) }
         ensures begun { IfErr result (λ fault. (r w : Traffic)
-            → IsRunning r (R.traffic reader.old) w (W.traffic writer.old) self.old
-            → Exchanges (IsBrokenOff fault self.new.table) r (R.traffic reader.new)
+            → IsRunning L.named r (R.traffic reader.old) w (W.traffic writer.old) self.old
+            → Exchanges (IsBrokenOff L.named fault self.new.table) r (R.traffic reader.new)
             w (W.traffic writer.new)) }
         ensures fault { IfErr result
             (IsCause (R.traffic reader.old) (R.traffic reader.new) (W.traffic writer.old)
@@ -351,11 +356,12 @@ impl<A: Allocator + Copy> Engine<A> {
     /// Answers what stands behind the last line feed, unless it is empty.
     fn answer_rest(&mut self, rt: &impl Wait) -> Result<(), AllocError>
         ensures ok { OnOk result ((start input : List ℕ) (writer : Traffic)
-            → HasRead start input writer self.old
-            → IsAnswered start input writer self.new.out.items self.new.table) }
+            → HasRead L.named start input writer self.old
+            → IsAnswered L.named start input writer self.new.out.items self.new.table) }
         ensures err { OnErr result ((start input : List ℕ) (writer : Traffic)
-            → HasRead start input writer self.old
-            → IsBegun ScriptError.Alloc start input writer self.new.out.items self.new.table) }
+            → HasRead L.named start input writer self.old
+            → IsBegun L.named ScriptError.Alloc start input writer self.new.out.items
+            self.new.table) }
     {
         if !self.too_long && self.line.is_empty() {
             return Ok(());
@@ -368,14 +374,14 @@ impl<A: Allocator + Copy> Engine<A> {
     /// also where memory was refused for that line.
     fn finish<W: Sink>(&mut self, rt: &impl Wait, writer: &mut W) -> Result<(), ScriptError>
         ensures ok { OnOk result ((start input : List ℕ)
-            → HasRead start input (W.traffic writer.old) self.old
-            → IsAnswered start input (W.traffic writer.new) [] self.new.table) }
+            → HasRead L.named start input (W.traffic writer.old) self.old
+            → IsAnswered L.named start input (W.traffic writer.new) [] self.new.table) }
         ensures taken { Takes (W.traffic writer.old) (W.traffic writer.new)
             (W.contents writer.old) (W.contents writer.new) }
         ensures clean { OnOk result (NoFault (W.traffic writer.old) (W.traffic writer.new)) }
         ensures err { IfErr result (λ fault. (start input : List ℕ)
-            → HasRead start input (W.traffic writer.old) self.old
-            → IsBegun fault start input (W.traffic writer.new) [] self.new.table) }
+            → HasRead L.named start input (W.traffic writer.old) self.old
+            → IsBegun L.named fault start input (W.traffic writer.new) [] self.new.table) }
         ensures fault { IfErr result (IsWhy (W.traffic writer.old) (W.traffic writer.new)) }
     {
         let answered = self.answer_rest(rt);
@@ -396,7 +402,7 @@ impl<A: Allocator + Copy> Engine<A> {
         requires line { (self.old.line.items ≡ []) × (self.old.too_long ≡ false) }
         requires out { self.old.out.items ≡ [] }
         ensures ok { OnOk result
-            (Exchanges (IsThrough self.new.table) (R.traffic reader.old)
+            (Exchanges (IsThrough L.named self.new.table) (R.traffic reader.old)
             (R.traffic reader.new) (W.traffic writer.old) (W.traffic writer.new)) }
         ensures end { OnOk result
             ((R.traffic reader.old).empties < (R.traffic reader.new).empties) }
@@ -410,7 +416,7 @@ impl<A: Allocator + Copy> Engine<A> {
             (((R.traffic reader.new).failures ≡ (R.traffic reader.old).failures)
             × NoFault (W.traffic writer.old) (W.traffic writer.new)) }
         ensures begun { IfErr result (λ fault.
-            Exchanges (IsBrokenOff fault self.new.table) (R.traffic reader.old)
+            Exchanges (IsBrokenOff L.named fault self.new.table) (R.traffic reader.old)
             (R.traffic reader.new) (W.traffic writer.old) (W.traffic writer.new)) }
         ensures fault { IfErr result
             (IsCause (R.traffic reader.old) (R.traffic reader.new) (W.traffic writer.old)
@@ -430,7 +436,7 @@ impl<A: Allocator + Copy> Engine<A> {
     fn end(self) -> Passes<A>
         ensures ended { IsKept MAX_OWNERS [] result.of_blocks.items }
         ensures blocks { length result.of_blocks.items ≡ self.table.table.blocks }
-        ensures passes { EndsWith byte_setting self.table result.of_blocks.items }
+        ensures passes { EndsWith (script_setting L.named) self.table result.of_blocks.items }
     {
         let Engine {
             table,
@@ -461,15 +467,18 @@ fn room<A: Allocator>(alloc: A) -> Result<Vec<u8, A>, AllocError>
 
 /// Runs a script as `run_script` says, ends every window that is left, and answers with the result
 /// the passes of the blocks, which tell all that was done to them.
-fn run_to_end<R: Source, W: Sink, A: Allocator + Copy>(
+fn run_to_end<L: NamedLayout, R: Source, W: Sink, A: Allocator + Copy>(
     rt: &impl Wait,
     alloc: A,
     reader: &mut R,
     writer: &mut W,
 ) -> (Result<(), ScriptError>, Passes<A>)
+where
+    L::Writable: LayoutMut,
     ensures ok { OnOk result.0
-        (Exchanges (ThenEnds IsThrough result.1.of_blocks.items) (R.traffic reader.old)
-        (R.traffic reader.new) (W.traffic writer.old) (W.traffic writer.new)) }
+        (Exchanges (ThenEnds L.named (IsThrough L.named) result.1.of_blocks.items)
+        (R.traffic reader.old) (R.traffic reader.new) (W.traffic writer.old)
+        (W.traffic writer.new)) }
     ensures end { OnOk result.0 ((R.traffic reader.old).empties < (R.traffic reader.new).empties) }
     ensures given { Gives (R.traffic reader.old) (R.traffic reader.new)
         (R.remaining reader.old) (R.remaining reader.new) }
@@ -482,15 +491,48 @@ fn run_to_end<R: Source, W: Sink, A: Allocator + Copy>(
         × NoFault (W.traffic writer.old) (W.traffic writer.new)) }
     ensures ended { IsKept MAX_OWNERS [] result.1.of_blocks.items }
     ensures begun { IfErr result.0 (λ fault.
-        Exchanges (ThenEnds (IsBrokenOff fault) result.1.of_blocks.items) (R.traffic reader.old)
-        (R.traffic reader.new) (W.traffic writer.old) (W.traffic writer.new)) }
+        Exchanges (ThenEnds L.named (IsBrokenOff L.named fault) result.1.of_blocks.items)
+        (R.traffic reader.old) (R.traffic reader.new) (W.traffic writer.old)
+        (W.traffic writer.new)) }
     ensures fault { IfErr result.0
         (IsCause (R.traffic reader.old) (R.traffic reader.new) (W.traffic writer.old)
         (W.traffic writer.new)) }
 {
-    let mut engine = Engine::new(alloc);
+    let mut engine: Engine<L, A> = Engine::new(alloc);
     let result = engine.run(rt, reader, writer);
     (result, engine.end())
+}
+
+/// Runs a script as `run_script` says, under the layout `L`.
+fn run_under<L: NamedLayout, R: Source, W: Sink, A: Allocator + Copy>(
+    rt: &impl Wait,
+    alloc: A,
+    reader: &mut R,
+    writer: &mut W,
+) -> Result<(), ScriptError>
+where
+    L::Writable: LayoutMut,
+    ensures ok { OnOk result
+        (Exchanges (IsReplyText L.named) (R.traffic reader.old) (R.traffic reader.new)
+        (W.traffic writer.old) (W.traffic writer.new)) }
+    ensures end { OnOk result ((R.traffic reader.old).empties < (R.traffic reader.new).empties) }
+    ensures given { Gives (R.traffic reader.old) (R.traffic reader.new)
+        (R.remaining reader.old) (R.remaining reader.new) }
+    ensures taken { Takes (W.traffic writer.old) (W.traffic writer.new)
+        (W.contents writer.old) (W.contents writer.new) }
+    ensures drained { OnOk result
+        (GivesAll (R.traffic reader.old) (R.traffic reader.new) (R.remaining reader.old)) }
+    ensures clean { OnOk result (((R.traffic reader.new).failures ≡ (R.traffic reader.old).failures)
+        × NoFault (W.traffic writer.old) (W.traffic writer.new)) }
+    ensures begun { OnErr result
+        (Exchanges (BeginsReplyText L.named) (R.traffic reader.old) (R.traffic reader.new)
+        (W.traffic writer.old) (W.traffic writer.new)) }
+    ensures fault { IfErr result
+        (IsCause (R.traffic reader.old) (R.traffic reader.new) (W.traffic writer.old)
+        (W.traffic writer.new)) }
+{
+    let (result, _) = run_to_end::<L, R, W, A>(rt, alloc, reader, writer);
+    result
 }
 
 /// Runs a script: each line of the input is answered by one line of the output, and the windows go
@@ -510,8 +552,8 @@ pub fn run_script<R: Source, W: Sink, A: Allocator + Copy>(
     layout: ScriptLayout,
 ) -> Result<(), ScriptError>
     ensures ok { OnOk result
-        (Exchanges IsReplyText (R.traffic reader.old) (R.traffic reader.new) (W.traffic writer.old)
-        (W.traffic writer.new)) }
+        (Exchanges (IsReplyText layout) (R.traffic reader.old) (R.traffic reader.new)
+        (W.traffic writer.old) (W.traffic writer.new)) }
     ensures end { OnOk result ((R.traffic reader.old).empties < (R.traffic reader.new).empties) }
     ensures given { Gives (R.traffic reader.old) (R.traffic reader.new)
         (R.remaining reader.old) (R.remaining reader.new) }
@@ -522,20 +564,24 @@ pub fn run_script<R: Source, W: Sink, A: Allocator + Copy>(
     ensures clean { OnOk result (((R.traffic reader.new).failures ≡ (R.traffic reader.old).failures)
         × NoFault (W.traffic writer.old) (W.traffic writer.new)) }
     ensures begun { OnErr result
-        (Exchanges BeginsReplyText (R.traffic reader.old) (R.traffic reader.new)
+        (Exchanges (BeginsReplyText layout) (R.traffic reader.old) (R.traffic reader.new)
         (W.traffic writer.old) (W.traffic writer.new)) }
     ensures fault { IfErr result
         (IsCause (R.traffic reader.old) (R.traffic reader.new) (W.traffic writer.old)
         (W.traffic writer.new)) }
 {
-    let ScriptLayout::Arc = layout;
-    let (result, _) = run_to_end(rt, alloc, reader, writer);
-    result
+    match layout {
+        ScriptLayout::Arc => run_under::<DefaultLayout, _, _, _>(rt, alloc, reader, writer),
+        ScriptLayout::Boxed => run_under::<BoxedSliceLayout, _, _, _>(rt, alloc, reader, writer),
+        ScriptLayout::Vec => run_under::<VecLayout, _, _, _>(rt, alloc, reader, writer),
+        ScriptLayout::Raw => run_under::<RawLayout, _, _, _>(rt, alloc, reader, writer),
+    }
 }
 
 /// Each input has replies, and is cut into lines in one way.
 pub fn every_input_is_answered()
-    ensures answered { (input : List ℕ) → (text : List ℕ) × IsReplyText input text }
+    ensures answered { (layout : ScriptLayout) (input : List ℕ)
+        → (text : List ℕ) × IsReplyText layout input text }
     ensures lines { (input : List ℕ) (lines others : List (List ℕ)) → AreLines input lines
         → AreLines input others → lines ≡ others }
 {}

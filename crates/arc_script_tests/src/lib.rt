@@ -1,9 +1,14 @@
-//! Tests of `arc_script`, which stand in a crate of their own so that the check of the tests
-//! doesn't prove `arc_script` once more. Those of its program stand in `arc_program_tests`, which
-//! uses these devices and rows.
+//! Tests of `arc_forms` and `arc_script`, which stand in a crate of their own so that the check of
+//! the tests doesn't prove those once more.
 #![tactic(auto)]
 
 pub mod devices;
+#[cfg(test)]
+mod lines;
+#[cfg(test)]
+mod program;
+#[cfg(test)]
+mod replies;
 pub mod rows;
 #[cfg(test)]
 mod scripts;

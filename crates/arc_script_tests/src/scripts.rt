@@ -2,7 +2,8 @@
 use crate::devices::{Pieces, Taken, push_digits};
 use crate::rows::{HELLO, HELLO_REPLIES, LEFT, LEFT_REPLIES};
 use arc_script::io::Counted;
-use arc_script::script::{ScriptError, ScriptLayout, run_script};
+use arc_script::layout::ScriptLayout;
+use arc_script::script::{ScriptError, run_script};
 use linked_list_allocator::LocalHeap;
 use std::alloc::{AllocError, Allocator, Global};
 use std::sync::Wait;

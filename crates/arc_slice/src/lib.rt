@@ -19,6 +19,8 @@ pub mod error;
 mod frames;
 pub mod layout;
 #[cfg(test)]
+mod queue;
+#[cfg(test)]
 mod readme;
 mod slice;
 #[cfg(test)]

@@ -1,11 +1,11 @@
 -- What a call by a slot's window adds to the histories of the blocks. Under `Whole` it comes at
 -- once behind all that the block's pass had seen.
-use Rattle.std.proofs.Common.{inl, inr, ◌≡◌, ℕ, Bool, true, false, List, [], ◌∷◌}
-use Rattle.std.proofs.Common.{◌++◌, length, Some, None, refl, sym, ap}
+use Rattle.std.proofs.Common.{inl, inr, ◌≡◌, ℕ, Bool, true, List, [], ◌∷◌}
+use Rattle.std.proofs.Common.{◌++◌, length, Option, Some, None, refl, sym, ap}
 use Rattle.std.proofs.Common.{◌∙◌}
 use Rattle.std.proofs.Common.{subst, IsTrue}
 use Rattle.std.proofs.lemmas.Bool.{false≢true}
-use Rattle.std.proofs.lemmas.List.{map-append, append-nil}
+use Rattle.std.proofs.lemmas.List.{append-nil}
 use Rattle.arc_owners.specs.declared.count.tokens.Pass.{Pass}
 use Rattle.arc_owners.specs.declared.history.entry.Entry.{Entry}
 use Rattle.arc_owners.specs.declared.history.entry.Entry.TheVariants as entry
@@ -137,7 +137,7 @@ module _ {H : Type 0} where
           raised-next o through.before through.after made through.whole through.called,
         )
 
-    pub refuses-at : {M : Type 0} (wants : Sort → Bool) (place : Place ℕ M) (e : OwnerError) (s : Stand)
+    pub refuses-at : {M : Type 0} (wants : Sort → Bool) (place : Place (Option ℕ) M) (e : OwnerError) (s : Stand)
         → RefusesAt wants place s passes passes' e → AddsAt s (refused e) passes passes'
     refuses-at wants place CountFull None why = absurd why
     refuses-at wants place CountFull (Some (n, o)) why =

@@ -1,10 +1,10 @@
 -- What each call of a slot leads to, as what its window is answered to a command.
 use Rattle.std.proofs.Common.{◌≡◌, ℕ, ◌+◌, ◌==◌, ◌&&◌, Bool, true, false, if◌then◌else◌, List, [], ◌∷◌}
 use Rattle.std.proofs.Common.{length, Option, Some, None, Result, Ok, Err, is_some, refl, sym, ap}
-use Rattle.std.proofs.Common.{◌∙◌, subst, inl, inr}
+use Rattle.std.proofs.Common.{◌∙◌, subst, inl, inr, slice_set}
 use Rattle.std.specs.Prelude.{nat_lt}
 use Rattle.std.specs.Result.{result_err}
-use Rattle.std.proofs.lemmas.Bool.{cases_Bool, false≢true}
+use Rattle.std.proofs.lemmas.Bool.{and_parts, cases_Bool, false≢true}
 use Rattle.std.proofs.lemmas.Option.{none-some, same_Some}
 use Rattle.arc_owners.specs.declared.mark.Whole.{Whole}
 use Rattle.arc_owners.specs.declared.count.tokens.Pass.{Pass}
@@ -14,43 +14,59 @@ use Rattle.arc_owners.specs.declared.error.OwnerError.TheVariants.{AllocError, C
 use Rattle.arc_owners.specs.declared.error.TryReserveError.{TryReserveError}
 use Rattle.arc_owners.specs.declared.error.TryReserveError.TheVariants as reserve
 use Rattle.arc_owners.specs.declared.history.entry.Entry.TheVariants as entry
-use Rattle.arc_owners.specs.count.Calls.{Asks}
+use Rattle.arc_owners.specs.count.Calls.{Owner, Asks, TakesBlock}
 use Rattle.arc_buffer.specs.Slice.{edge_answer}
 use Rattle.arc_block.specs.declared.parts.room.Room.{Room}
 use Rattle.arc_block.specs.declared.parts.room.Room.TheVariants as from
-use Rattle.arc_block.specs.Block.{native_facts}
+use Rattle.arc_block.specs.Block.{Sort, BlockInfo, native, vector, buffer, raw}
+use Rattle.arc_block.specs.Layouts.{LayoutFacts}
+use Rattle.arc_block.specs.Moves.{IsRefused, counted_move, layout_move}
+use Rattle.arc_block.specs.declared.parts.moves.Move.{Move}
+use Rattle.arc_block.specs.declared.parts.moves.Move.TheVariants as to
 use Rattle.arc_block.specs.Owned.{Stand}
-use Rattle.arc_block.specs.Place.{nowhere, on_block}
-use Rattle.arc_block.specs.Table.{Row, reader, sole_writer, block_of}
+use Rattle.arc_block.specs.Place.{Place, nowhere, static_data, on_block}
+use Rattle.arc_block.specs.Table.{Row, Role, reader, sole_writer, block_of}
 use Rattle.arc_block.specs.Writers.{new_writer, with_more, with_room, Reclaims, as_reader, as_sole}
 use Rattle.arc_block.specs.Writers.{after_advance, capacity_of}
-use Rattle.arc_commands.specs.Additions.{RowAdds, Joins, Enters, Founds, MayBegin, Stays}
-use Rattle.arc_commands.specs.Additions.{asked as History_asked, refused}
+use Rattle.arc_commands.specs.Additions.{RowAdds, AddsAt, Joins, Enters, Founds, MayBegin, Stays}
+use Rattle.arc_commands.specs.Additions.{AsksIf, AsksInVain, AsksInVainAt, Takes, ended}
+use Rattle.arc_commands.specs.Additions.{asked as History_asked}
 use Rattle.arc_commands.specs.Step.{Setting, Shortage, no_shortage, of_table, of_clones, of_blocks}
 use Rattle.arc_commands.specs.Step.{Around, Change, answer_any, answer_row, asking_block, begun}
-use Rattle.arc_commands.specs.Step.{filled, frozen, in_range, is_for, is_now, made_row, may_write}
+use Rattle.arc_commands.specs.Step.{filled, in_range, is_allowed, is_now, made_row}
+use Rattle.arc_commands.specs.Step.{after_move, is_box_whole, is_free, is_on_block, is_unique}
+use Rattle.arc_commands.specs.Step.{is_unique_at, is_vector_part, is_writable_at, may_write}
+use Rattle.arc_commands.specs.Step.{may_write_at, may_write_sort, of_buffer, taken_as}
 use Rattle.arc_commands.specs.Step.{parted, reclaimed, room_of, shortage, truncated}
 use Rattle.arc_commands.specs.Step.{with_made, gone}
 use Rattle.arc_commands.specs.Blocks.{is_sole}
-use Rattle.arc_commands.specs.declared.command.Cmd.{Cmd}
+use Rattle.arc_commands.specs.Commands.{ListCmd, ListReply}
 use Rattle.arc_commands.specs.declared.command.Cmd.TheVariants as command
-use Rattle.arc_commands.specs.declared.command.Reply.{Reply}
 use Rattle.arc_commands.specs.declared.command.Reply.TheVariants as reply
 use Rattle.arc_commands.proofs.Roles.{sole_each}
 use Rattle.arc_slots.specs.Answers.{Answers, around_in}
-use Rattle.arc_slots.specs.Calls.{Along, Beside, RefusesAt}
+use Rattle.arc_slots.specs.Calls.{Along, AsksPlace, AsksSort, Beside, MayAsk, RefusesAt}
+use Rattle.arc_slots.specs.Calls.{RefusesOut, TakesOut, Through}
 use Rattle.arc_slots.specs.Parts.{is_itself, part_answer, part_command, part_row, rest_of}
 use Rattle.arc_slots.specs.Slots.{SlotView, row_of, stand_of}
 use Rattle.arc_slots.specs.Splits.{IsSplit}
-use Rattle.arc_slots.specs.Stands.{HasPassFor}
-use Rattle.arc_slots.specs.Writing.{Fills, additional_of, is_fresh, items_of, write_command}
+use Rattle.arc_slots.specs.Stands.{HasPassFor, numbered, stand_at}
+use Rattle.arc_slots.specs.Writing.{Fills, FreezesBy, additional_of, can_write, is_fresh, is_new}
+use Rattle.arc_slots.specs.Writing.{items_of}
+use Rattle.arc_slots.specs.Writing.{write_command}
 use Rattle.arc_slots.specs.declared.part.Part.{Part}
 use Rattle.arc_slots.specs.declared.part.Part.TheVariants.{Whole as All, Range, Back, Front}
 use Rattle.arc_slots.specs.declared.slot.Writing.{Writing}
 use Rattle.arc_slots.specs.declared.slot.Writing.TheVariants as writing
-use Rattle.arc_slots.proofs.Adds.{part-adds, part-none, write-adds, write-none}
+use Rattle.arc_slots.proofs.ByForm.{part-adds, part-none, write-adds, write-none}
 use Rattle.arc_slots.proofs.Added.{Ended, asked-comes, ended-comes, enters-along, raises-beside}
 use Rattle.arc_slots.proofs.Added.{refuses-at}
+use Rattle.arc_block.proofs.Lists.{get-set}
+use Rattle.arc_slots.proofs.Filled.{new-moved}
+use Rattle.arc_commands.proofs.FitsRoom.{own-on-buffer}
+use Rattle.arc_commands.specs.Step.{is_buffer_at, unless_buffer}
+use Rattle.arc_slots.proofs.Native.{and_none}
+use Rattle.arc_slots.proofs.Taken.{set-twice}
 use Rattle.arc_slots.proofs.Told.{alone-told, full-told, many_along, many-beside, many-refused}
 use Rattle.arc_slots.proofs.Told.{many-founded, none-stands, room-beside, row-begins, row-block}
 use Rattle.arc_slots.proofs.Told.{stand_block}
@@ -72,37 +88,40 @@ module _ {T M : Type 0} (setting : Setting T) (windows : ℕ) (s : SlotView T M)
   around = around_in windows passes here
 
   abbrev Command : Type 0
-  Command = Cmd (List T) (List T) T
+  Command = ListCmd T M
 
-  abbrev Said : Command → Reply (List T) (List T) → Option (SlotView T M)
+  abbrev Said : Command → ListReply T M → Option (SlotView T M)
       → Option (SlotView T M) → List (Pass Whole) → Type 0
   Said c r new made passes' = Answers setting windows c s passes r new made passes'
 
-  abbrev IsFor : Command → Type 0
-  IsFor c = is_for c s.role ≡ true
+  abbrev allowed : Command → Role → Bool
+  allowed c role = is_allowed setting.calls c role
 
-  for-role : (short : Shortage) (c : Command) → is_for c s.role ≡ true
+  abbrev IsFor : Command → Type 0
+  IsFor c = allowed c s.role ≡ true
+
+  pub for-role : (short : Shortage) (c : Command) → IsFor c
       → answer_any setting short around c row ≡ answer_row setting short around c row
   for-role short c is =
       ap (λ b. if b then answer_row setting short around c row else is_now reply.Kind row) is
 
-  not-for : (short : Shortage) (c : Command) → is_for c s.role ≡ false
+  pub not-for : (short : Shortage) (c : Command) → allowed c s.role ≡ false
       → answer_any setting short around c row ≡ is_now reply.Kind row
   not-for short c is =
       ap (λ b. if b then answer_row setting short around c row else is_now reply.Kind row) is
 
-  reads-for : s.role ≡ reader → (c : Command) → (b : Bool) → is_for c reader ≡ b
-      → is_for c s.role ≡ b
-  reads-for reads c b is = ap (is_for c) reads ∙ is
+  pub reads-for : s.role ≡ reader → (c : Command) → (b : Bool) → allowed c reader ≡ b
+      → allowed c s.role ≡ b
+  reads-for reads c b is = ap (allowed c) reads ∙ is
 
-  writes-for : is_sole s.role ≡ true → (c : Command) (b : Bool)
-      → ((places : ℕ) → is_for c (sole_writer places) ≡ b) → is_for c s.role ≡ b
-  writes-for writes c b each = sole_each (λ role. is_for c role ≡ b) each s.role writes
+  pub writes-for : is_sole s.role ≡ true → (c : Command) (b : Bool)
+      → ((places : ℕ) → allowed c (sole_writer places) ≡ b) → allowed c s.role ≡ b
+  writes-for writes c b each = sole_each (λ role. allowed c role ≡ b) each s.role writes
 
   -- nothing changes
-  pub same : (c : Command) (r : Reply (List T) (List T))
+  pub same : (c : Command) (r : ListReply T M)
       → answer_any setting (shortage r c) around c row ≡ is_now r row
-      → RowAdds here here None passes passes row c r → Said c r (Some s) None passes
+      → RowAdds here here None passes passes setting row c r → Said c r (Some s) None passes
   same c r is adds = record { begins = false; change = is; blocks = refl; adds = adds }
 
   -- ---- a part that is handed out
@@ -115,7 +134,7 @@ module _ {T M : Type 0} (setting : Setting T) (windows : ℕ) (s : SlotView T M)
     out = is_itself row part
 
     abbrev new_part : Row T M
-    new_part = part_row setting.has_static row part
+    new_part = part_row setting.layout.has_static row part
 
     abbrev hands : Shortage → Change T M
     hands short =
@@ -164,13 +183,13 @@ module _ {T M : Type 0} (setting : Setting T) (windows : ℕ) (s : SlotView T M)
         → Said (part_command i part) reply.Alloc (Some s) None passes
     part-alloc part ok =
         same (part_command i part) reply.Alloc (hand-is part of_table ok)
-        (part-none i here passes row part)
+        (part-none setting i here passes row part)
 
     module _ (has : HasPassFor passes here) (passes' : List (Pass Whole)) (part : Part)
         (ok : part_answer setting.boundary s.window.items part ≡ Ok tt) where
       -- an owner more was refused
       pub part-refused : (e : OwnerError)
-          → RefusesAt setting.clone_wants (part_row setting.has_static row part).place here passes
+          → RefusesAt setting.clone_wants (part_row setting.layout.has_static row part).place here passes
           passes' e
           → Said (part_command i part) (reply.Owner e) (Some s) None passes'
       part-refused AllocError why = record {
@@ -186,7 +205,7 @@ module _ {T M : Type 0} (setting : Setting T) (windows : ℕ) (s : SlotView T M)
             many-refused passes passes' setting.clone_wants (new_part i reads part).place here AllocError
             why;
         adds =
-            (part-adds i here passes row part here None passes').1 (
+            (part-adds setting i here passes row part here None passes').1 (
               refl,
               refl,
               refuses-at passes passes' setting.clone_wants (new_part i reads part).place AllocError here
@@ -205,7 +224,7 @@ module _ {T M : Type 0} (setting : Setting T) (windows : ℕ) (s : SlotView T M)
             many-refused passes passes' setting.clone_wants (new_part i reads part).place here CountFull
             why;
         adds =
-            (part-adds i here passes row part here None passes').2 (
+            (part-adds setting i here passes row part here None passes').2 (
               refl,
               refl,
               refuses-at passes passes' setting.clone_wants (new_part i reads part).place CountFull here
@@ -249,7 +268,7 @@ module _ {T M : Type 0} (setting : Setting T) (windows : ℕ) (s : SlotView T M)
                 ∙ ap (with_made around (row_of kept)) (sym made-is);
             blocks = many-beside passes passes' here (stand_of (Some other)) beside;
             adds =
-                (part-adds i here passes row part (stand_of (Some kept))
+                (part-adds setting i here passes row part (stand_of (Some kept))
                 (Some (stand_of (Some made))) passes').0 joins windows;
           }
 
@@ -296,88 +315,6 @@ module _ {T M : Type 0} (setting : Setting T) (windows : ℕ) (s : SlotView T M)
       same (command.To i at) reply.Kind (not-for no_shortage (command.To i at)
       (writes-for writes (command.To i at) false (λ n. refl))) (refl, refl, refl)
 
-  -- ---- whether the window is alone
-
-  module _ (has : HasPassFor passes here) (reads : s.role ≡ reader) (passes' : List (Pass Whole))
-    where
-      abbrev AskedAs : Bool → Type 0
-      AskedAs found = Along here passes passes' (λ o p q. Asks o p q found)
-
-      asked-adds : (found : Bool) → AskedAs found
-          → Enters here here None passes passes' (History_asked found)
-      asked-adds found along = (
-        refl,
-        refl,
-        enters-along passes passes' (λ o p q. Asks o p q found)
-            (History_asked found) (asked-comes found) here along,
-      )
-
-      asked-many : (found : Bool) → AskedAs found → length passes' ≡ length passes
-      asked-many found along = many_along passes passes' here (λ o p q. Asks o p q found) along
-
-      pub uniq : (i : ℕ) (found : Bool) → AskedAs found → (here ≡ None → found ≡ false)
-          → Said (command.Uniq i) (if found then reply.Yes else reply.No) (Some s) None passes'
-      uniq i true along none = record {
-        begins = false;
-        change =
-            for-role no_shortage (command.Uniq i) (reads-for reads (command.Uniq i) true refl)
-            ∙ ap (λ b. is_now (if b then reply.Yes else reply.No) row)
-            (alone-told passes passes' windows true here has along none);
-        blocks = asked-many true along;
-        adds = asked-adds true along;
-      }
-      uniq i false along none = record {
-        begins = false;
-        change =
-            for-role no_shortage (command.Uniq i) (reads-for reads (command.Uniq i) true refl)
-            ∙ ap (λ b. is_now (if b then reply.Yes else reply.No) row)
-            (alone-told passes passes' windows false here has along none);
-        blocks = asked-many false along;
-        adds = asked-adds false along;
-      }
-
-      -- it may be written where it is alone, or stands on nothing without items
-      may-told : (st : Stand) → here ≡ st → (found : Bool) → AskedAs found
-          → (here ≡ None → found ≡ (length row.items == 0)) → may_write around row ≡ found
-      may-told None is found along none =
-          ap (λ b. if is_some b then around.alone else length row.items == 0)
-          (row-block s ∙ ap stand_block is) ∙ sym (none is)
-      may-told (Some at) is found along none =
-          ap (λ b. if is_some b then around.alone else length row.items == 0)
-          (row-block s ∙ ap stand_block is)
-          ∙ alone-told passes passes' windows found here has along
-          (λ e. absurd (none-some at (sym e ∙ is)))
-
-      mut-is : (i : ℕ) (found : Bool) → AskedAs found
-          → (here ≡ None → found ≡ (length row.items == 0))
-          → answer_any setting no_shortage around (command.Mut i) row
-          ≡ (if found then is_now reply.Ok (as_sole setting.drops row) else
-          is_now reply.Refused row)
-      mut-is i found along none =
-          for-role no_shortage (command.Mut i) (reads-for reads (command.Mut i) true refl)
-          ∙ ap (λ b. if b then is_now reply.Ok (as_sole setting.drops row) else
-          is_now reply.Refused row) (may-told here refl found along none)
-
-      pub wrote : (i : ℕ) → AskedAs true → (here ≡ None → true ≡ (length row.items == 0))
-          → (new : SlotView T M) → stand_of (Some new) ≡ here
-          → row_of new ≡ as_sole setting.drops row
-          → Said (command.Mut i) reply.Ok (Some new) None passes'
-      wrote i along none new stays is = record {
-        begins = false;
-        change = mut-is i true along none ∙ ap (is_now reply.Ok) (sym is);
-        blocks = asked-many true along;
-        adds = let adds = asked-adds true along in (stays, refl, adds.2);
-      }
-
-      pub unwritten : (i : ℕ) → AskedAs false → (here ≡ None → false ≡ (length row.items == 0))
-          → Said (command.Mut i) reply.Refused (Some s) None passes'
-      unwritten i along none = record {
-        begins = false;
-        change = mut-is i false along none;
-        blocks = asked-many false along;
-        adds = asked-adds false along;
-      }
-
   -- ---- the end of the window
 
   pub dropped : (i : ℕ) (passes' : List (Pass Whole)) → IsFor (command.Drop i)
@@ -395,7 +332,16 @@ module _ {T M : Type 0} (setting : Setting T) (windows : ℕ) (s : SlotView T M)
     );
   }
 
-  pub taken : (i : ℕ) → s.role ≡ reader → is_some (block_of row.place) ≡ false
+  -- where it stands on no block, no owner stands
+  off-none : (b : Option ℕ) (place : Place (Option Owner) M)
+      → is_on_block (numbered b place) ≡ false → stand_at b place ≡ None
+  off-none b nowhere off = refl
+  off-none b static_data off = refl
+  off-none b (on_block None offset info) off = refl
+  off-none None (on_block (Some o) offset info) off = refl
+  off-none (Some n) (on_block (Some o) offset info) off = absurd (false≢true (sym off))
+
+  pub taken : (i : ℕ) → s.role ≡ reader → is_on_block row.place ≡ false
       → Said (command.TakeStatic i) (reply.Static s.window.items) None None passes
   taken i reads off = record {
     begins = false;
@@ -404,10 +350,10 @@ module _ {T M : Type 0} (setting : Setting T) (windows : ℕ) (s : SlotView T M)
         (reads-for reads (command.TakeStatic i) true refl)
         ∙ ap (λ b. if b then is_now reply.Refused row else gone (reply.Static row.items)) off;
     blocks = refl;
-    adds = (none-stands here (ap is_some (sym (row-block s)) ∙ off), refl, refl, refl);
+    adds = (off-none s.block s.window.place off, refl, refl, refl);
   }
 
-  pub untaken : (i : ℕ) → s.role ≡ reader → is_some (block_of row.place) ≡ true
+  pub untaken : (i : ℕ) → s.role ≡ reader → is_on_block row.place ≡ true
       → Said (command.TakeStatic i) reply.Refused (Some s) None passes
   untaken i reads on =
       same (command.TakeStatic i) reply.Refused (for-role no_shortage (command.TakeStatic i)
@@ -422,9 +368,9 @@ module _ {T M : Type 0} (setting : Setting T) (windows : ℕ) (s : SlotView T M)
   stays-there None there is = subst (λ x. Founds x passes passes) (sym is) refl
   stays-there (Some at) there is = (is, refl)
 
-  changes : (c : Command) (r : Reply (List T) (List T)) (new : SlotView T M)
+  changes : (c : Command) (r : ListReply T M) (new : SlotView T M)
       → answer_any setting (shortage r c) around c row ≡ is_now r (row_of new)
-      → RowAdds here (stand_of (Some new)) None passes passes row c r
+      → RowAdds here (stand_of (Some new)) None passes passes setting row c r
       → Said c r (Some new) None passes
   changes c r new is adds = record { begins = false; change = is; blocks = refl; adds = adds }
 
@@ -482,7 +428,7 @@ module _ {T M : Type 0} (setting : Setting T) (windows : ℕ) (s : SlotView T M)
 
   -- what is for a reader and for each sole writer is for a slot's window
   pub for-each : (is_sole s.role ≡ false → s.role ≡ reader) → (c : Command)
-      → is_for c reader ≡ true → ((places : ℕ) → is_for c (sole_writer places) ≡ true) → IsFor c
+      → allowed c reader ≡ true → ((places : ℕ) → allowed c (sole_writer places) ≡ true) → IsFor c
   for-each role c reads writes = elim (cases_Bool (is_sole s.role)) [
     | inl sole ↦ writes-for sole c true writes
     | inr other ↦ reads-for (role other) c true reads
@@ -543,26 +489,63 @@ module _ {T M : Type 0} (setting : Setting T) (windows : ℕ) (s : SlotView T M)
       abbrev outcome : Shortage → Room → Change T M
       outcome short room = filled setting short around row (items_of what) room
 
-    write-is : (what : Writing (List T) T) (short : Shortage) (room : Room)
+    -- a writer in a caller's buffer is answered that his kind lacks the call
+    in-buffer : is_buffer_at row.place ≡ true → (change : Change T M)
+        → unless_buffer row change ≡ is_now reply.Kind row
+    in-buffer lent change = ap (λ b. if b then is_now reply.Kind row else change) lent
+
+    in-memory : is_buffer_at row.place ≡ false → (change : Change T M)
+        → unless_buffer row change ≡ change
+    in-memory memory change = ap (λ b. if b then is_now reply.Kind row else change) memory
+
+    write-is : (what : Writing (List T) T) → can_write setting.calls what ≡ true
+        → is_buffer_at row.place ≡ false → (short : Shortage) (room : Room)
         → room ≡ room_of setting row (additional_of what)
         → answer_any setting short around (write_command i what) row ≡ outcome what short room
-    write-is (writing.Nothing additional) short room is =
+    write-is (writing.Nothing additional) can memory short room is =
         for-role short (command.Res i additional)
         (writes-for writes (command.Res i additional) true (λ n. refl))
-        ∙ ap (outcome (writing.Nothing additional) short) (sym is)
-    write-is (writing.Item item) short room is =
+        ∙ in-memory memory _ ∙ ap (outcome (writing.Nothing additional) short) (sym is)
+    write-is (writing.Item item) can memory short room is =
         for-role short (command.Push i item)
-        (writes-for writes (command.Push i item) true (λ n. refl))
-        ∙ ap (outcome (writing.Item item) short) (sym is)
-    write-is (writing.Items items) short room is =
+        (writes-for writes (command.Push i item) true (λ n. can))
+        ∙ in-memory memory _ ∙ ap (outcome (writing.Item item) short) (sym is)
+    write-is (writing.Items items) can memory short room is =
         for-role short (command.Ext i items)
-        (writes-for writes (command.Ext i items) true (λ n. refl))
-        ∙ ap (outcome (writing.Items items) short) (sym is)
+        (writes-for writes (command.Ext i items) true (λ n. can))
+        ∙ in-memory memory _ ∙ ap (outcome (writing.Items items) short) (sym is)
+
+    pub buffer-kind : (what : Writing (List T) T) → can_write setting.calls what ≡ true
+        → is_buffer_at row.place ≡ true
+        → Said (write_command i what) reply.Kind (Some s) None passes
+    buffer-kind (writing.Nothing additional) can lent =
+        same (command.Res i additional) reply.Kind
+        (for-role no_shortage (command.Res i additional)
+        (writes-for writes (command.Res i additional) true (λ n. refl)) ∙ in-buffer lent _)
+        (refl, refl, refl)
+    buffer-kind (writing.Item item) can lent =
+        same (command.Push i item) reply.Kind
+        (for-role no_shortage (command.Push i item)
+        (writes-for writes (command.Push i item) true (λ n. can)) ∙ in-buffer lent _)
+        (refl, refl, refl)
+    buffer-kind (writing.Items items) can lent =
+        same (command.Ext i items) reply.Kind
+        (for-role no_shortage (command.Ext i items)
+        (writes-for writes (command.Ext i items) true (λ n. can)) ∙ in-buffer lent _)
+        (refl, refl, refl)
+
+    pub reclaim-kind : (k : ℕ) → is_buffer_at row.place ≡ true
+        → Said (command.Rec i k) reply.Kind (Some s) None passes
+    reclaim-kind k lent =
+        same (command.Rec i k) reply.Kind
+        (for-role no_shortage (command.Rec i k)
+        (writes-for writes (command.Rec i k) true (λ n. refl)) ∙ in-buffer lent _)
+        (refl, refl, refl)
 
     begins-as : (c : Command) (new : SlotView T M) (r : Row T M) (passes' : List (Pass Whole))
         → answer_any setting no_shortage around c row ≡ begun r
         → ((there : Stand) → Stays here there None passes passes'
-        → RowAdds here there None passes passes' row c reply.Ok)
+        → RowAdds here there None passes passes' setting row c reply.Ok)
         → here ≡ None → Founds (stand_of (Some new)) passes passes' → row_of new ≡ r
         → Said c reply.Ok (Some new) None passes'
     begins-as c new r passes' is adds none founds row-is = record {
@@ -586,7 +569,8 @@ module _ {T M : Type 0} (setting : Setting T) (windows : ℕ) (s : SlotView T M)
           (subst (λ st. MayBegin st (stand_of (Some new)) passes passes') (sym none) founds, refl);
     }
 
-    module _ (what : Writing (List T) T) where
+    module _ (what : Writing (List T) T) (can : can_write setting.calls what ≡ true)
+        (memory : is_buffer_at row.place ≡ false) where
       put-in : (room : Room) → room ≡ room_of setting row (additional_of what)
           → (new : SlotView T M) (passes' : List (Pass Whole))
           → outcome what no_shortage room
@@ -596,9 +580,9 @@ module _ {T M : Type 0} (setting : Setting T) (windows : ℕ) (s : SlotView T M)
           → Said (w what) reply.Ok (Some new) None passes'
       put-in room is new passes' does did =
           subst (λ ps. Said (w what) reply.Ok (Some new) None ps) (sym did.2)
-          (changes (w what) reply.Ok new (write-is what no_shortage room is ∙ does
+          (changes (w what) reply.Ok new (write-is what can memory no_shortage room is ∙ does
           ∙ ap (is_now reply.Ok) (sym did.0))
-          (write-adds i here passes row what (stand_of (Some new)) passes
+          (write-adds setting i here passes row what (stand_of (Some new)) passes
           (stays-there here (stand_of (Some new)) did.1, refl)))
 
       -- what was written stands in the window
@@ -609,9 +593,12 @@ module _ {T M : Type 0} (setting : Setting T) (windows : ℕ) (s : SlotView T M)
           → Said (w what) reply.Ok (Some new) None passes'
       wrote-in (from.Fresh places) is none new passes' did =
           begins-as (w what) new
-          (with_more (items_of what) (new_writer setting.drops (length passes) [] places)) passes'
-          (write-is what no_shortage (from.Fresh places) is)
-          (λ there. write-adds i here passes row what there passes') (none refl) did.1 did.0
+          (with_more (items_of what) (new_writer setting.drops (Some (length passes)) [] places)) passes'
+          (write-is what can memory no_shortage (from.Fresh places) is)
+          (λ there. write-adds setting i here passes row what there passes') (none refl) did.1 did.0
+      wrote-in (from.Own additional) is none new passes' did =
+          absurd (false≢true (sym memory ∙ own-on-buffer setting.drops _ setting.item_size row
+          (additional_of what) additional (sym is)))
       wrote-in (from.Refused e) is none new passes' did =
           let fine : ◌≡◌ {A = Result (Unit {0}) TryReserveError} (Ok tt) (Err e) = did.0 in
           absurd (cc)
@@ -631,7 +618,7 @@ module _ {T M : Type 0} (setting : Setting T) (windows : ℕ) (s : SlotView T M)
       unwrote e new passes' is stays all =
           subst (λ x. Said (w what) (reply.Reserve e) (Some x) None passes') (sym stays)
           (subst (λ ps. Said (w what) (reply.Reserve e) (Some s) None ps) (sym all)
-          (same (w what) (reply.Reserve e) is (write-none i here passes row what e)))
+          (same (w what) (reply.Reserve e) is (write-none setting i here passes row what e)))
 
       -- memory was refused for it
       short-of : (room : Room) → room ≡ room_of setting row (additional_of what)
@@ -641,7 +628,7 @@ module _ {T M : Type 0} (setting : Setting T) (windows : ℕ) (s : SlotView T M)
           ≡ is_now (reply.Reserve e) row
       short-of room is e short does =
           subst (λ x. answer_any setting (shortage (reply.Reserve x) (w what)) around (w what) row
-          ≡ is_now (reply.Reserve x) row) (sym short) (write-is what of_blocks room is ∙ does)
+          ≡ is_now (reply.Reserve x) row) (sym short) (write-is what can memory of_blocks room is ∙ does)
 
       -- it was refused, and nothing changed
       pub unwritten-in : (room : Room) → room ≡ room_of setting row (additional_of what)
@@ -652,10 +639,13 @@ module _ {T M : Type 0} (setting : Setting T) (windows : ℕ) (s : SlotView T M)
           unwrote e new passes' (short-of (from.Fresh places) is e did.0 refl) did.1.0 did.1.1
       unwritten-in (from.Growth places) is e new passes' did =
           unwrote e new passes' (short-of (from.Growth places) is e did.0 refl) did.1.0 did.1.1
+      unwritten-in (from.Own additional) is e new passes' did =
+          absurd (false≢true (sym memory ∙ own-on-buffer setting.drops _ setting.item_size row
+          (additional_of what) additional (sym is)))
       unwritten-in (from.Refused refusal) is e new passes' did =
           let alike : e ≡ refusal = refused-same e refusal did.0 in
           unwrote e new passes'
-          (write-is what (shortage (reply.Reserve e) (w what)) (from.Refused refusal) is
+          (write-is what can memory (shortage (reply.Reserve e) (w what)) (from.Refused refusal) is
           ∙ ap (λ x. is_now (reply.Reserve x) row) (sym alike)) did.1.0 did.1.1
       unwritten-in from.Spare is e new passes' did =
           let fine : ◌≡◌ {A = Result (Unit {0}) TryReserveError} (Err e) (Ok tt) = did.0 in
@@ -673,12 +663,13 @@ module _ {T M : Type 0} (setting : Setting T) (windows : ℕ) (s : SlotView T M)
           → Said (w what) (reply.Reserve reserve.AllocError) (Some s) None passes
       no-pass room is fresh =
           same (w what) (reply.Reserve reserve.AllocError)
-          (write-is what of_blocks room is ∙ short room fresh)
-          (write-none i here passes row what reserve.AllocError)
+          (write-is what can memory of_blocks room is ∙ short room fresh)
+          (write-none setting i here passes row what reserve.AllocError)
         where
           short : (x : Room) → is_fresh x ≡ true
               → outcome what of_blocks x ≡ is_now (reply.Reserve reserve.AllocError) row
           short (from.Fresh places) some = refl
+          short (from.Own additional) some = absurd (false≢true some)
           short (from.Refused e) some = absurd (false≢true some)
           short from.Spare some = absurd (false≢true some)
           short from.Behind some = absurd (false≢true some)
@@ -687,7 +678,8 @@ module _ {T M : Type 0} (setting : Setting T) (windows : ℕ) (s : SlotView T M)
 
     -- ---- room without memory
 
-    module _ (k : ℕ) (new : SlotView T M) (stays : stand_of (Some new) ≡ here) where
+    module _ (k : ℕ) (memory : is_buffer_at row.place ≡ false) (new : SlotView T M)
+        (stays : stand_of (Some new) ≡ here) where
       abbrev rec : Command
       rec = command.Rec i k
 
@@ -695,6 +687,7 @@ module _ {T M : Type 0} (setting : Setting T) (windows : ℕ) (s : SlotView T M)
           → answer_any setting no_shortage around rec row ≡ reclaimed row room
       room-is room is =
           for-role no_shortage rec (writes-for writes rec true (λ n. refl))
+          ∙ in-memory memory (reclaimed row (room_of setting row k))
           ∙ ap (reclaimed row) (sym is)
 
       has-room : (room : Room) → row_of new ≡ with_room room row
@@ -713,6 +706,7 @@ module _ {T M : Type 0} (setting : Setting T) (windows : ℕ) (s : SlotView T M)
           → Reclaims room row (row_of new) true → Said rec reply.Yes (Some new) None passes
       has (from.Fresh places) is did = absurd (false≢true (sym did.0))
       has (from.Growth places) is did = absurd (false≢true (sym did.0))
+      has (from.Own additional) is did = absurd (false≢true (sym did.0))
       has (from.Refused e) is did = absurd (false≢true (sym did.0))
       has from.Spare is did = has-room from.Spare did.1 (room-is from.Spare is)
       has from.Behind is did = has-room from.Behind did.1 (room-is from.Behind is)
@@ -723,6 +717,7 @@ module _ {T M : Type 0} (setting : Setting T) (windows : ℕ) (s : SlotView T M)
           → Said rec reply.No (Some new) None passes
       has-none (from.Fresh places) is did alike = lacks alike (room-is (from.Fresh places) is)
       has-none (from.Growth places) is did alike = lacks alike (room-is (from.Growth places) is)
+      has-none (from.Own additional) is did alike = lacks alike (room-is (from.Own additional) is)
       has-none (from.Refused e) is did alike = lacks alike (room-is (from.Refused e) is)
       has-none from.Spare is did alike = absurd (false≢true did.0)
       has-none from.Behind is did alike = absurd (false≢true did.0)
@@ -733,56 +728,69 @@ module _ {T M : Type 0} (setting : Setting T) (windows : ℕ) (s : SlotView T M)
     abbrev freeze : Command
     freeze = command.Freeze i
 
-    abbrev made : Row T M
-    made = made_row setting.has_static setting.drops (length passes) row.items
+    abbrev goes_to : Move
+    goes_to = layout_move setting.layout row.place
 
-    abbrev frozen_as : Shortage → (on new : Bool) → Change T M
-    frozen_as short on new =
-        if on then is_now reply.Ok (as_reader row) else
-        if new then asking_block short reply.Refused row (begun made) else begun made
-
-    frozen-is : (short : Shortage) (on new : Bool) → is_some (block_of row.place) ≡ on
-        → is_some (block_of made.place) ≡ new
-        → answer_any setting short around freeze row ≡ frozen_as short on new
-    frozen-is short on new is so =
+    frozen-is : (short : Shortage) (move : Move) → goes_to ≡ move
+        → answer_any setting short around freeze row ≡ after_move setting short around row move
+    frozen-is short move is =
         for-role short freeze (writes-for writes freeze true (λ n. refl))
-        ∙ ap (λ b. frozen_as short b (is_some (block_of made.place))) is
-        ∙ ap (λ b. frozen_as short on b) so
+        ∙ ap (after_move setting short around row) is
 
-    begun-either : (new : Bool) → frozen_as no_shortage false new ≡ begun made
-    begun-either true = refl
-    begun-either false = refl
-
-    off-block : is_some (block_of row.place) ≡ false → here ≡ None
-    off-block off = none-stands here (ap is_some (sym (row-block s)) ∙ off)
+    -- a first block is made where no owner stands
+    new-none : (layout : LayoutFacts) (b : Option ℕ) (place : Place (Option Owner) M)
+        → is_new (layout_move layout (numbered b place)) ≡ true → stand_at b place ≡ None
+    new-none layout b nowhere new = refl
+    new-none layout b static_data new = refl
+    new-none layout b (on_block None offset info) new = refl
+    new-none layout None (on_block (Some o) offset info) new = refl
+    new-none layout (Some n) (on_block (Some o) offset info) new =
+        absurd (false≢true (sym (new-moved layout info.sort) ∙ new))
 
     -- it was frozen
-    pub froze : (new : SlotView T M) (passes' : List (Pass Whole)) (on : Bool)
-        → is_some (block_of row.place) ≡ on
-        → (is_some (block_of row.place) ≡ true → (row_of new ≡ as_reader row)
-        × (stand_of (Some new) ≡ here) × (passes' ≡ passes))
-        → (is_some (block_of row.place) ≡ false
-        → (row_of new ≡ made_row setting.has_static setting.drops (length passes) s.window.items)
-        × Founds (stand_of (Some new)) passes passes')
+    pub froze : (new : SlotView T M) (passes' : List (Pass Whole))
+        → FreezesBy (layout_move setting.layout row.place) setting.drops s new
+        passes passes'
         → Said freeze reply.Ok (Some new) None passes'
-    froze new passes' true is stays makes =
-        let did = stays is in
-        subst (λ ps. Said freeze reply.Ok (Some new) None ps) (sym did.2)
-        (changes freeze reply.Ok new
-        (frozen-is no_shortage true _ is refl ∙ ap (is_now reply.Ok) (sym did.0))
-        (stays-there here (stand_of (Some new)) did.1, refl))
-    froze new passes' false is stays makes =
-        let did = makes is in
-        begins-as freeze new made passes'
-        (frozen-is no_shortage false _ is refl ∙ begun-either (is_some (block_of made.place)))
-        (λ there adds. adds) (off-block is) did.1 did.0
+    froze new passes' did = by goes_to refl did
+      where
+        by : (move : Move) → goes_to ≡ move → FreezesBy move setting.drops s new passes passes'
+            → Said freeze reply.Ok (Some new) None passes'
+        by to.Stays is did =
+            subst (λ ps. Said freeze reply.Ok (Some new) None ps) (sym did.2)
+            (changes freeze reply.Ok new
+            (frozen-is no_shortage to.Stays is ∙ ap (is_now reply.Ok) (sym did.0))
+            (stays-there here (stand_of (Some new)) did.1, refl))
+        by to.HandedBack is did = absurd did
+        by to.NewCount is did = absurd did
+        by to.LeavesCount is did = absurd did
+        by to.NewEmpty is did =
+            begins-as freeze new (made_row false setting.drops (length passes) row.items) passes'
+            (frozen-is no_shortage to.NewEmpty is) (λ there adds. adds)
+            (new-none setting.layout s.block s.window.place (ap is_new is))
+            did.1 did.0
 
-    -- memory for its block was refused
-    pub unfrozen : is_some (block_of row.place) ≡ false
-        → (setting.has_static && (length row.items == 0)) ≡ false
+    -- it was refused
+    pub unfrozen : IsRefused (layout_move setting.layout row.place)
         → Said freeze reply.Refused (Some s) None passes
-    unfrozen off some =
-        same freeze reply.Refused (frozen-is of_blocks false true off
-        (ap (λ b. is_some (block_of {M = M} (if b then nowhere else
-        on_block (length passes) (0 + 0) (native_facts setting.drops (length row.items))))) some))
-        (refl, refl, refl)
+    unfrozen refused = by goes_to refl refused
+      where
+        by : (move : Move) → goes_to ≡ move → IsRefused move
+            → Said freeze reply.Refused (Some s) None passes
+        by to.Stays is none = absurd none
+        by to.HandedBack is none =
+            same freeze reply.Refused (frozen-is of_blocks to.HandedBack is) (refl, refl, refl)
+        by to.NewCount is none =
+            same freeze reply.Refused (frozen-is of_blocks to.NewCount is) (refl, refl, refl)
+        by to.LeavesCount is none =
+            same freeze reply.Refused (frozen-is of_blocks to.LeavesCount is) (refl, refl, refl)
+        by to.NewEmpty is none =
+            same freeze reply.Refused (frozen-is of_blocks to.NewEmpty is) (refl, refl, refl)
+
+-- where a first block is wanted, memory for it may be refused
+pub refused-new : (move : Move) → is_new move ≡ true → IsRefused move
+refused-new to.Stays new = absurd (false≢true new)
+refused-new to.HandedBack new = absurd (false≢true new)
+refused-new to.NewCount new = absurd (false≢true new)
+refused-new to.LeavesCount new = absurd (false≢true new)
+refused-new to.NewEmpty new = tt

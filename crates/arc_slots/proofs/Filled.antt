@@ -4,8 +4,8 @@ use Rattle.std.proofs.Common.{◌≡◌, ℕ, ◌-◌, ◌==◌, ◌&&◌, not, 
 use Rattle.std.proofs.Common.{if◌then◌else◌, List, [], ◌∷◌, ◌++◌, length, Option, Some, None}
 use Rattle.std.proofs.Common.{Result, Ok, Err, is_some, refl, sym, ap, ◌∙◌, subst}
 use Rattle.std.specs.Result.{OnOk}
-use Rattle.arc_block.proofs.Writers.{nothing_more}
-use Rattle.std.specs.Prelude.{nat_lt, ◌+◌}
+use Rattle.arc_block.proofs.More.{more_none}
+use Rattle.std.specs.Prelude.{nat_lt, ◌+◌, ◌≤◌, ◌↔◌, IsTrue}
 use Rattle.std.proofs.lemmas.Bool.{false≢true, and_parts}
 use Rattle.arc_owners.specs.declared.mark.Whole.{Whole}
 use Rattle.arc_owners.specs.declared.count.tokens.Pass.{Pass}
@@ -14,24 +14,29 @@ use Rattle.arc_owners.specs.declared.error.TryReserveError.TheVariants.{Unsuppor
 use Rattle.arc_owners.specs.declared.error.TryReserveError.TheVariants.{CapacityOverflow}
 use Rattle.arc_owners.specs.count.Calls.{Owner, IsFirst, IsFreshPass}
 use Rattle.arc_block.specs.declared.block.TheConstants.{MAX_OWNERS}
-use Rattle.arc_block.specs.Block.{BlockInfo, native_facts}
-use Rattle.arc_block.specs.Place.{Place, nowhere, static_data, on_block, IsOnBlock}
+use Rattle.arc_block.specs.Block.{Sort, native, vector, buffer, raw, BlockInfo, native_facts}
+use Rattle.arc_block.specs.Block.{IsBuffer, IsWritable}
+use Rattle.arc_block.specs.Layouts.{LayoutFacts}
+use Rattle.arc_block.specs.Place.{Place, nowhere, static_data, on_block}
 use Rattle.arc_block.specs.Place.{at_owner}
 use Rattle.arc_block.specs.Room.{ends_full, growth, room_in}
+use Rattle.arc_block.specs.Moves.{Moves, counted_move, layout_move}
+use Rattle.arc_block.specs.declared.parts.moves.Move.{Move}
+use Rattle.arc_block.specs.declared.parts.moves.Move.TheVariants as to
 use Rattle.arc_block.specs.Table.{Row, Role, reader, sole_writer}
-use Rattle.arc_block.specs.Table.{block_of}
-use Rattle.arc_block.specs.Window.{Window, PartsView, window_of, parts_of}
+use Rattle.arc_block.specs.Window.{IsOfBuffer, Window, PartsView, window_of, parts_of}
 use Rattle.arc_block.specs.Writers.{capacity_of, room, room_at, with_room, with_more, with_full}
-use Rattle.arc_block.specs.Writers.{new_writer, MakesRoom, Pushes, Freezes, Reclaims, as_reader}
+use Rattle.arc_block.specs.Writers.{new_writer, MakesRoom, Pushes, Reclaims, as_reader}
+use Rattle.arc_block.specs.Writers.{Freezes, IsWriterPlace, offset_at}
 use Rattle.arc_block.specs.declared.parts.room.Room.{Room}
 use Rattle.arc_block.specs.declared.parts.room.Room.TheVariants.{Spare, Fresh, Behind, Front}
-use Rattle.arc_block.specs.declared.parts.room.Room.TheVariants.{Growth, Refused}
+use Rattle.arc_block.specs.declared.parts.room.Room.TheVariants.{Growth, Own, Refused}
 use Rattle.arc_commands.specs.Additions.{Founds}
 use Rattle.arc_commands.specs.Blocks.{is_sole}
 use Rattle.arc_slots.specs.Slots.{SlotView, held, role_fits, row_of, stand_of, writer_slot}
 use Rattle.arc_slots.specs.Stands.{numbered, is_numbered, stand_at, TakenOut, put_back}
-use Rattle.arc_commands.specs.Step.{made_row}
-use Rattle.arc_slots.specs.Writing.{is_fresh, Fills}
+use Rattle.arc_commands.specs.Step.{is_buffer, is_buffer_at, made_row}
+use Rattle.arc_slots.specs.Writing.{is_fresh, is_new, Fills, FreezesBy}
 use Rattle.arc_slots.specs.declared.slot.Held.{Held}
 use Rattle.arc_slots.specs.declared.slot.Held.TheVariants.{Read, Write}
 use Rattle.arc_commands.proofs.Roles.{sole_each}
@@ -41,7 +46,7 @@ use Rattle.arc_slots.proofs.Taken.{back-same}
 pub nothing-written : {T M : Type 0} (drops : Bool) (x : Room) (w v : PartsView T M)
     (p q : Pass Whole) (r : Result (Unit {0}) TryReserveError) → MakesRoom drops true x w v p q r
     → OnOk r (Pushes drops true x [] w v p q)
-nothing-written drops x w v p q (Ok done) made = (v, made, nothing_more v)
+nothing-written drops x w v p q (Ok done) made = (v, made, sym (more_none v))
 nothing-written drops x w v p q (Err e) made = tt
 
 -- where a window stands, by its owner
@@ -50,18 +55,22 @@ At M = Place (Option Owner) M
 
 -- what holds of each place that fits its block's number
 numbered_each : {M : Type 0} (P : Option ℕ → At M → Type 0) → P None nowhere
-    → P None static_data → ((n : ℕ) (o : Owner) (offset : ℕ) (info : BlockInfo M)
+    → P None static_data
+    → ((offset : ℕ) (info : BlockInfo M) → P None (on_block None offset info))
+    → ((n : ℕ) (o : Owner) (offset : ℕ) (info : BlockInfo M)
     → P (Some n) (on_block (Some o) offset info)) → (b : Option ℕ) (place : At M)
     → is_numbered b place ≡ true → P b place
-numbered_each P none static block None nowhere fits = none
-numbered_each P none static block None static_data fits = static
-numbered_each P none static block None (on_block owner offset info) fits =
+numbered_each P none static uncounted block None nowhere fits = none
+numbered_each P none static uncounted block None static_data fits = static
+numbered_each P none static uncounted block None (on_block None offset info) fits =
+    uncounted offset info
+numbered_each P none static uncounted block None (on_block (Some o) offset info) fits =
     absurd (false≢true fits)
-numbered_each P none static block (Some n) nowhere fits = absurd (false≢true fits)
-numbered_each P none static block (Some n) static_data fits = absurd (false≢true fits)
-numbered_each P none static block (Some n) (on_block None offset info) fits =
+numbered_each P none static uncounted block (Some n) nowhere fits = absurd (false≢true fits)
+numbered_each P none static uncounted block (Some n) static_data fits = absurd (false≢true fits)
+numbered_each P none static uncounted block (Some n) (on_block None offset info) fits =
     absurd (false≢true fits)
-numbered_each P none static block (Some n) (on_block (Some o) offset info) fits =
+numbered_each P none static uncounted block (Some n) (on_block (Some o) offset info) fits =
     block n o offset info
 
 -- a slot whose window is written
@@ -76,6 +85,28 @@ module _ {T M : Type 0} (h : Held (Window T M) (PartsView T M)) (w : PartsView T
   pub writes-sole : role_fits h ≡ true → is_sole w.role ≡ true
   writes-sole sole = ap role_fits (sym is) ∙ sole
 
+-- whether a writer stands on a caller's buffer, by what the window answers
+said-no : (r : Bool) → (IsTrue r ↔ ⊥) → r ≡ false
+said-no true told = absurd (told.0 refl)
+said-no false told = refl
+
+said-yes : (r : Bool) → (IsTrue r ↔ Unit {0}) → r ≡ true
+said-yes true told = refl
+said-yes false told = absurd (false≢true (told.1 tt))
+
+buffer-sort : (sort : Sort) (r : Bool) → (IsTrue r ↔ IsBuffer sort) → r ≡ is_buffer sort
+buffer-sort native r told = said-no r told
+buffer-sort vector r told = said-no r told
+buffer-sort (buffer writable) r told = said-yes r told
+buffer-sort raw r told = said-no r told
+
+pub buffer-seen : {M : Type 0} (b : Option ℕ) (place : At M) → is_numbered b place ≡ true
+    → (r : Bool) → (IsTrue r ↔ IsOfBuffer place) → r ≡ is_buffer_at (numbered b place)
+buffer-seen b place fits r =
+    numbered_each (λ n there. (IsTrue r ↔ IsOfBuffer there) → r ≡ is_buffer_at (numbered n there))
+    (said-no r) (said-no r) (λ offset info. buffer-sort info.sort r)
+    (λ n o offset info. buffer-sort info.sort r) b place fits
+
 -- a first block is made only where there is none
 fresh-in : {M : Type 0} (drops : Bool) (size : ℕ) (info : BlockInfo M) (offset len k : ℕ)
     → is_fresh (room_in drops size info offset len k) ≡ false
@@ -87,21 +118,27 @@ fresh-in drops size info offset len k =
     grown true places = refl
     grown false places = refl
 
+    grows : (sort : Sort) → is_fresh (growth sort size info.size (offset + len) k) ≡ false
+    grows native = grown _ _
+    grows vector = grown _ _
+    grows (buffer writable) = refl
+    grows raw = refl
+
     third : (b : Bool) → is_fresh (if b then Front else
-        growth size info.size (offset + len + k)) ≡ false
+        growth info.sort size info.size (offset + len) k) ≡ false
     third true = refl
-    third false = grown _ _
+    third false = grows info.sort
 
     second : (b : Bool) → is_fresh (if b then Behind else
         if not drops && not (nat_lt offset len) && not (nat_lt (info.size - len) k) then Front else
-        growth size info.size (offset + len + k)) ≡ false
+        growth info.sort size info.size (offset + len) k) ≡ false
     second true = refl
     second false = third (not drops && not (nat_lt offset len) && not (nat_lt (info.size - len) k))
 
     first : (b : Bool) → is_fresh (if b then Refused Unsupported else
         if not (nat_lt (info.size - offset - len) k) then Behind else
         if not drops && not (nat_lt offset len) && not (nat_lt (info.size - len) k) then Front else
-        growth size info.size (offset + len + k)) ≡ false
+        growth info.sort size info.size (offset + len) k) ≡ false
     first true = refl
     first false = second (not (nat_lt (info.size - offset - len) k))
 
@@ -118,7 +155,8 @@ module _ {T M : Type 0} (b : Option ℕ) (w : PartsView T M) (fits : is_numbered
         let len = length w.items in
         ap (λ r. if not (nat_lt (capacity_of w.role - len) k) then Spare else r)
         (numbered_each (λ n place. room_at drops first size (numbered n place) len k
-        ≡ room_at drops first size place len k) refl refl (λ n o offset info. refl) b w.place fits)
+        ≡ room_at drops first size place len k) refl refl (λ offset info. refl) (λ n o offset info. refl) b w.place
+        fits)
 
     none-fresh : (drops : Bool) (first size k : ℕ)
         → is_fresh (room drops first size w k) ≡ true → b ≡ None
@@ -130,7 +168,8 @@ module _ {T M : Type 0} (b : Option ℕ) (w : PartsView T M) (fits : is_numbered
         either true fresh = absurd (false≢true fresh)
         either false fresh =
             numbered_each (λ n place. is_fresh (room_at drops first size place (length w.items) k)
-            ≡ true → n ≡ None) (λ fresh. refl) (λ fresh. refl) (λ n o offset info fresh. absurd
+            ≡ true → n ≡ None) (λ fresh. refl) (λ fresh. refl) (λ offset info fresh. refl)
+            (λ n o offset info fresh. absurd
             (false≢true (sym (fresh-in drops size info offset (length w.items) k) ∙ fresh)))
             b w.place fits fresh
 
@@ -153,22 +192,32 @@ roomed_each : {T M : Type 0} (r : Room) (items : List T) (places : ℕ) (b : Opt
     (place : At M) → is_numbered b place ≡ true → Roomed r items places b place
 roomed_each {T} {M} Spare items places =
     numbered_each (Roomed {T = T} {M = M} Spare items places) (refl, refl, refl, refl)
-    (refl, refl, refl, refl) (λ n o offset info. (refl, refl, refl, refl))
+    (refl, refl, refl, refl) (λ offset info. (refl, refl, refl, refl))
+    (λ n o offset info. (refl, refl, refl, refl))
 roomed_each {T} {M} (Fresh n) items places =
     numbered_each (Roomed {T = T} {M = M} (Fresh n) items places) (refl, refl, refl, refl)
-    (refl, refl, refl, refl) (λ n o offset info. (refl, refl, refl, refl))
+    (refl, refl, refl, refl) (λ offset info. (refl, refl, refl, refl))
+    (λ n o offset info. (refl, refl, refl, refl))
 roomed_each {T} {M} Behind items places =
     numbered_each (Roomed {T = T} {M = M} Behind items places) (refl, refl, refl, refl)
-    (refl, refl, refl, refl) (λ n o offset info. (refl, refl, refl, refl))
+    (refl, refl, refl, refl) (λ offset info. (refl, refl, refl, refl))
+    (λ n o offset info. (refl, refl, refl, refl))
 roomed_each {T} {M} Front items places =
     numbered_each (Roomed {T = T} {M = M} Front items places) (refl, refl, refl, refl)
-    (refl, refl, refl, refl) (λ n o offset info. (refl, refl, refl, refl))
+    (refl, refl, refl, refl) (λ offset info. (refl, refl, refl, refl))
+    (λ n o offset info. (refl, refl, refl, refl))
 roomed_each {T} {M} (Growth n) items places =
     numbered_each (Roomed {T = T} {M = M} (Growth n) items places) (refl, refl, refl, refl)
-    (refl, refl, refl, refl) (λ n o offset info. (refl, refl, refl, refl))
+    (refl, refl, refl, refl) (λ offset info. (refl, refl, refl, refl))
+    (λ n o offset info. (refl, refl, refl, refl))
+roomed_each {T} {M} (Own n) items places =
+    numbered_each (Roomed {T = T} {M = M} (Own n) items places) (refl, refl, refl, refl)
+    (refl, refl, refl, refl) (λ offset info. (refl, refl, refl, refl))
+    (λ n o offset info. (refl, refl, refl, refl))
 roomed_each {T} {M} (Refused e) items places =
     numbered_each (Roomed {T = T} {M = M} (Refused e) items places) (refl, refl, refl, refl)
-    (refl, refl, refl, refl) (λ n o offset info. (refl, refl, refl, refl))
+    (refl, refl, refl, refl) (λ offset info. (refl, refl, refl, refl))
+    (λ n o offset info. (refl, refl, refl, refl))
 
 module _ {T M : Type 0} (b : Option ℕ) (w : PartsView T M) (fits : is_numbered b w.place ≡ true)
     (sole : is_sole w.role ≡ true) where
@@ -187,21 +236,23 @@ module _ {T M : Type 0} (b : Option ℕ) (w : PartsView T M) (fits : is_numbered
       (with_more items (row_of (writer_slot w b)))
   filled-with items =
       let k = length items in
+      let len = length w.items in
       record {
         numbers =
-            numbered_each (λ n place. is_numbered n (with_full k place) ≡ true) refl refl
-            (λ n o offset info. refl) b w.place fits;
+            numbered_each (λ n place. is_numbered n (with_full len k place) ≡ true) refl refl
+            (λ offset info. refl) (λ n o offset info. refl) b w.place fits;
         writes = sole;
         row_is =
             ap {B = Row T M} (λ place. record {
               items = w.items ++ items;
               place = place;
               role = w.role;
-            }) (numbered_each (λ n place. numbered n (with_full k place)
-            ≡ with_full k (numbered n place)) refl refl (λ n o offset info. refl) b w.place fits);
+            }) (numbered_each (λ n place. numbered n (with_full len k place)
+            ≡ with_full len k (numbered n place)) refl refl (λ offset info. refl)
+            (λ n o offset info. refl) b w.place fits);
         stand =
-            numbered_each (λ n place. stand_at n (with_full k place) ≡ stand_at n place) refl refl
-            (λ n o offset info. refl) b w.place fits;
+            numbered_each (λ n place. stand_at n (with_full len k place) ≡ stand_at n place) refl refl
+            (λ offset info. refl) (λ n o offset info. refl) b w.place fits;
       }
 
 module _ {T M : Type 0} (b : Option ℕ) (w : PartsView T M) (fits : is_numbered b w.place ≡ true)
@@ -248,6 +299,19 @@ module _ {T M : Type 0} (b : Option ℕ) (w : PartsView T M) (fits : is_numbered
         λ none. absurd (false≢true (sym none ∙ did.0)),
       )
 
+  -- or has it already
+  stays-as : (v : PartsView T M) (found : Bool) → (found ≡ true) × (v ≡ w)
+      → ((found ≡ true) × (row_of (writer_slot v b) ≡ row_of (writer_slot w b)))
+      × (is_numbered b v.place ≡ true) × (is_sole v.role ≡ true)
+      × (stand_at b v.place ≡ stand_at b w.place) × (found ≡ false → v ≡ w)
+  stays-as v found did = (
+    (did.0, ap (λ u. row_of (writer_slot u b)) did.1),
+    ap (λ (u : PartsView T M). is_numbered b u.place) did.1 ∙ fits,
+    ap (λ (u : PartsView T M). is_sole u.role) did.1 ∙ sole,
+    ap (λ (u : PartsView T M). stand_at b u.place) did.1,
+    λ none. did.1,
+  )
+
   -- room without memory
   pub reclaims : (r : Room) (v : PartsView T M) (found : Bool) → Reclaims r w v found
       → Reclaims r (row_of (writer_slot w b)) (row_of (writer_slot v b)) found
@@ -255,8 +319,9 @@ module _ {T M : Type 0} (b : Option ℕ) (w : PartsView T M) (fits : is_numbered
       × (stand_at b v.place ≡ stand_at b w.place) × (found ≡ false → v ≡ w)
   reclaims (Fresh n) v found did = unchanged (Fresh n) v found did
   reclaims (Growth n) v found did = unchanged (Growth n) v found did
+  reclaims (Own n) v found did = unchanged (Own n) v found did
   reclaims (Refused e) v found did = unchanged (Refused e) v found did
-  reclaims Spare v found did = became Spare v found did
+  reclaims Spare v found did = stays-as v found did
   reclaims Behind v found did = became Behind v found did
   reclaims Front v found did = became Front v found did
 
@@ -330,6 +395,23 @@ module _ {T M : Type 0} (b : Option ℕ) (w : PartsView T M) (fits : is_numbered
     fills Front is v n passes' pushed same new =
         stayed Front v n passes' (pushed.2 ∙ ap (with_more items) pushed.1.1) (same refl).0
         (same refl).1 pushed.1.2
+    fills (Own additional) is v n passes' pushed same new =
+        let made = pushed.1 in
+        let done =
+        stayed (Growth made.0) v n passes' (pushed.2 ∙ ap (with_more items) made.2)
+        (same refl).0 (same refl).1 made.3 in
+        let enough =
+        numbered_each (λ m place. offset_at (numbered m place) ≡ offset_at place) refl refl
+        (λ offset info. refl) (λ m o offset info. refl) b w.place fits in (
+          (
+            made.0,
+            subst (λ o. o + length w.items + additional ≤ made.0) (sym enough) made.1,
+            done.0.1,
+            done.0.2,
+            done.0.3,
+          ),
+          done.1,
+        )
     fills (Growth places) is v n passes' pushed same new =
         stayed (Growth places) v n passes' (pushed.2 ∙ ap (with_more items) pushed.1.1)
         (same refl).0 (same refl).1 pushed.1.2
@@ -354,6 +436,8 @@ module _ {T M : Type 0} (b : Option ℕ) (w : PartsView T M) (fits : is_numbered
     unfilled (Fresh places) e v passes' made back =
         let same = still v passes' made.1 back made.2 in ((made.0, same.0), same.1)
     unfilled (Growth places) e v passes' made back =
+        let same = still v passes' made.1 back made.2 in ((made.0, same.0), same.1)
+    unfilled (Own additional) e v passes' made back =
         let same = still v passes' made.1 back made.2 in ((made.0, same.0), same.1)
     unfilled (Refused refusal) e v passes' made back =
         let same = still v passes' made.1 back made.2 in ((made.0, same.0), same.1)
@@ -459,181 +543,177 @@ module _ {T M : Type 0} (h : Held (Window T M) (PartsView T M)) (w : PartsView T
 
 -- ---- a writer that reads from now on
 
--- a slot whose window is read
 abbrev read_slot : {T M : Type 0} → Window T M → Option ℕ → SlotView T M
 read_slot v n = held (Read v) n
 
-module _ {T M : Type 0} (has_static drops : Bool) (items : List T) (role : Role)
+new-if : (holds : Bool) → is_new (if holds then to.Stays else to.HandedBack) ≡ false
+new-if true = refl
+new-if false = refl
+
+new-leaves : (by_itself holds : Bool)
+    → is_new (if by_itself then to.LeavesCount else if holds then to.Stays else to.HandedBack) ≡ false
+new-leaves true holds = refl
+new-leaves false holds = new-if holds
+
+-- no first block is made for who stands on one
+pub new-moved : (layout : LayoutFacts) (sort : Sort) → is_new (counted_move layout sort) ≡ false
+new-moved layout native = refl
+new-moved layout vector = new-if layout.has_any
+new-moved layout (buffer writable) = new-if layout.has_any
+new-moved layout raw = new-leaves layout.by_itself layout.has_any
+
+module _ {M : Type 0} (layout : LayoutFacts) where
+  -- a first block is made for a writer on none, where the layout has no static data
+  pub new_is : (b : Option ℕ) (place : At M) → is_numbered b place ≡ true → IsWriterPlace place
+      → is_new (layout_move layout (numbered b place))
+      ≡ (not (is_some b) && not layout.has_static)
+  new_is None nowhere fits writes = by layout.has_static
+    where
+      by : (x : Bool) → is_new (if x then to.Stays else to.NewEmpty) ≡ (true && not x)
+      by true = refl
+      by false = refl
+  new_is None static_data fits writes = absurd writes
+  new_is None (on_block None offset info) fits writes = absurd writes
+  new_is None (on_block (Some o) offset info) fits writes = absurd (false≢true fits)
+  new_is (Some n) nowhere fits writes = absurd (false≢true fits)
+  new_is (Some n) static_data fits writes = absurd (false≢true fits)
+  new_is (Some n) (on_block None offset info) fits writes = absurd writes
+  new_is (Some n) (on_block (Some o) offset info) fits writes = new-moved layout info.sort
+
+module _ {T M : Type 0} (layout : LayoutFacts) (drops : Bool) (items : List T) (role : Role)
     (passes left : List (Pass Whole)) (p q : Pass Whole) (v : Window T M) (n : Option ℕ)
-    (passes' : List (Pass Whole)) (begins : Bool) where
+    (passes' : List (Pass Whole)) where
   abbrev writer_at : At M → PartsView T M
   writer_at place = record { items = items; place = place; role = role }
 
-  -- it stands where it stood, or is what is made of its items
-  abbrev FrozenAt : Option ℕ → At M → Type 0
-  FrozenAt b place =
-      (is_some (block_of (numbered b place)) ≡ true
-      → (row_of (read_slot v n) ≡ as_reader (row_of (writer_slot (writer_at place) b)))
-      × (stand_of (Some (read_slot v n)) ≡ stand_of (Some (writer_slot (writer_at place) b)))
-      × (passes' ≡ passes))
-      × (is_some (block_of (numbered b place)) ≡ false
-      → (row_of (read_slot v n) ≡ made_row has_static drops (length passes) items)
-      × Founds (stand_of (Some (read_slot v n))) passes passes')
+  -- it stays where it stood
+  stayed-there : (b : Option ℕ) (place : At M) → TakenOut passes b p left
+      → (parts_of v ≡ as_reader (writer_at place)) × (q ≡ p)
+      → (n ≡ b) × (passes' ≡ put_back left b q)
+      → FreezesBy to.Stays drops (writer_slot (writer_at place) b) (read_slot v n) passes passes'
+  stayed-there b place took did kept = (
+    ap (λ m. row_of (read_slot v m)) kept.0
+        ∙ ap (λ (x : PartsView T M). row_of (read_slot (window_of x) b)) did.0,
+    ap (λ m. stand_of (Some (read_slot v m))) kept.0
+        ∙ ap (λ (x : PartsView T M). stand_at b x.place) did.0,
+    kept.1 ∙ back-same passes left p b took q did.1,
+  )
 
-  -- where the writer is seen to be frozen so
-  abbrev Frozen : Option ℕ → At M → Type 0
-  Frozen b place = TakenOut passes b p left
-      → Freezes has_static drops true (writer_at place) (parts_of v) p q
-      → begins ≡ (not (is_some (block_of (numbered b place)))
-      && not (has_static && (length items == 0)))
-      → (begins ≡ false → (n ≡ b) × (passes' ≡ put_back left b q))
-      → (begins ≡ true → (n ≡ Some (length left)) × (passes' ≡ left ++ q ∷ []))
-      → FrozenAt b place
-
-  -- the place of what is made of the items
-  abbrev place_if : Owner → Bool → At M
-  place_if o nothing =
-      if nothing then nowhere else on_block (Some o) (0 + 0) (native_facts drops (length items))
-
-  abbrev made_if : Owner → Bool → Window T M
-  made_if o nothing = record { items = items; place = place_if o nothing }
-
-  abbrev row_if : ℕ → Bool → Row T M
-  row_if block nothing = record {
+  abbrev made_by : Owner → Window T M
+  made_by o = record {
     items = items;
-    place = if nothing then nowhere else on_block block (0 + 0) (native_facts drops (length items));
-    role = reader;
+    place = on_block (Some o) (0 + 0) (native_facts drops (length items));
   }
 
-  founded : (nothing : Bool) → (has_static && (length items == 0)) ≡ nothing
-      → left ≡ passes → (o : Owner) → v ≡ made_if o nothing
-      → at_owner (place_if o nothing) (Unit {0}) (λ x. IsFirst MAX_OWNERS true x)
-      → at_owner (place_if o nothing) (q ≡ p) (λ x. IsFreshPass x q)
-      → (not nothing ≡ false → (n ≡ None) × (passes' ≡ left))
-      → (not nothing ≡ true → (n ≡ Some (length left)) × (passes' ≡ left ++ q ∷ []))
-      → (row_of (read_slot v n) ≡ made_row has_static drops (length passes) items)
+  -- or is what is made of its items, on a block more
+  founded : left ≡ passes → (o : Owner) → v ≡ made_by o → IsFirst MAX_OWNERS true o
+      → IsFreshPass o q → (n ≡ Some (length left)) × (passes' ≡ left ++ q ∷ [])
+      → (row_of (read_slot v n) ≡ made_row false drops (length passes) items)
       × Founds (stand_of (Some (read_slot v n))) passes passes'
-  founded true is all o made first fresh same new = (
-    ap (λ x. row_of (read_slot x n)) made ∙ ap (λ m. row_of (read_slot (made_if o true) m))
-        (same refl).0 ∙ ap (row_if (length passes)) (sym is),
-    subst (λ x. Founds (stand_of (Some (read_slot x n))) passes passes') (sym made)
-        (subst (λ m. Founds (stand_of (Some (read_slot (made_if o true) m))) passes passes')
-        (sym (same refl).0) ((same refl).1 ∙ all)),
-  )
-  founded false is all o made first fresh same new =
+  founded all o made first fresh new =
       let number : n ≡ Some (length passes) =
-      (new refl).0 ∙ ap (λ (ps : List (Pass Whole)). Some (length ps)) all in
-      let after : passes' ≡ passes ++ q ∷ [] =
-      (new refl).1 ∙ ap (λ ps. ps ++ q ∷ []) all in (
-        ap (λ x. row_of (read_slot x n)) made
-            ∙ ap (λ m. row_of (read_slot (made_if o false) m)) number
-            ∙ ap (row_if (length passes)) (sym is),
+      new.0 ∙ ap (λ (ps : List (Pass Whole)). Some (length ps)) all in
+      let after : passes' ≡ passes ++ q ∷ [] = new.1 ∙ ap (λ ps. ps ++ q ∷ []) all in (
+        ap (λ x. row_of (read_slot x n)) made ∙ ap (λ m. row_of (read_slot (made_by o) m)) number,
         subst (λ x. Founds (stand_of (Some (read_slot x n))) passes passes') (sym made)
-            (subst (λ m. Founds (stand_of (Some (read_slot (made_if o false) m))) passes passes')
+            (subst (λ m. Founds (stand_of (Some (read_slot (made_by o) m))) passes passes')
             (sym number) (refl, first, q, fresh, after)),
       )
 
-  -- on no block
-  abbrev IsFounded : At M → Type 0
-  IsFounded place = TakenOut passes None p left
-      → ¬ IsOnBlock place → Freezes has_static drops true (writer_at place) (parts_of v) p q
-      → begins ≡ not (has_static && (length items == 0))
-      → (begins ≡ false → (n ≡ None) × (passes' ≡ left))
-      → (begins ≡ true → (n ≡ Some (length left)) × (passes' ≡ left ++ q ∷ []))
-      → (row_of (read_slot v n) ≡ made_row has_static drops (length passes) items)
-      × Founds (stand_of (Some (read_slot v n))) passes passes'
+  -- by where its window went
+  module _ (begins : Bool) where
+    abbrev Frozen : Option ℕ → At M → Move → Type 0
+    Frozen b place move = TakenOut passes b p left
+        → Moves move drops true (as_reader (writer_at place)) (parts_of v) p q
+        → begins ≡ is_new move
+        → (begins ≡ false → (n ≡ b) × (passes' ≡ put_back left b q))
+        → (begins ≡ true → (n ≡ Some (length left)) × (passes' ≡ left ++ q ∷ []))
+        → FreezesBy move drops (writer_slot (writer_at place) b) (read_slot v n) passes passes'
 
-  founded-here : (place : At M) → IsFounded place
-  founded-here place took off frozen begun same new =
-      let made = frozen.made off in
-      let nothing = has_static && (length items == 0) in
-      let o = made.0.owner in
-      founded nothing refl took.1 o made.0.made
-      (subst (λ (x : Window T M). at_owner x.place (Unit {0}) (λ y. IsFirst MAX_OWNERS true y))
-      made.0.made made.0.first)
-      (subst (λ (x : Window T M). at_owner x.place (q ≡ p) (λ y. IsFreshPass y q))
-      made.0.made made.1)
-      (λ old. same (begun ∙ old)) (λ fresh. new (begun ∙ fresh))
+    from-nowhere : (x : Bool) → Frozen None nowhere (if x then to.Stays else to.NewEmpty)
+    from-nowhere true took moved begun same new =
+        stayed-there None nowhere took moved (same begun)
+    from-nowhere false took moved begun same new =
+        let made = moved.0 in
+        founded took.1 made.owner made.made
+        (subst (λ (x : Window T M). at_owner x.place (Unit {0}) (λ y. IsFirst MAX_OWNERS true y))
+        made.made made.first)
+        (subst (λ (x : Window T M). at_owner x.place (q ≡ p) (λ y. IsFreshPass y q)) made.made
+        moved.1) (new begun)
 
-  frozen_each : (b : Option ℕ) (place : At M) → is_numbered b place ≡ true → Frozen b place
-  frozen_each =
-      numbered_each Frozen
-      (λ took frozen begun same new. (
-        λ (on : false ≡ true). absurd (false≢true on),
-        λ off. founded-here nowhere took (λ x. x) frozen begun same new,
-      ))
-      (λ took frozen begun same new. (
-        λ (on : false ≡ true). absurd (false≢true on),
-        λ off. founded-here static_data took (λ x. x) frozen begun same new,
-      ))
-      (λ k o offset info took frozen begun same new.
-      let stays = frozen.stays tt in
-      let kept = same begun in (
-        λ on. (
-          ap (λ m. row_of (read_slot v m)) kept.0
-              ∙ ap (λ (x : PartsView T M). row_of (read_slot (window_of x) (Some k))) stays.0,
-          ap (λ m. stand_of (Some (read_slot v m))) kept.0
-              ∙ ap (λ (x : PartsView T M). stand_at (Some k) x.place) stays.0,
-          kept.1 ∙ back-same passes left p (Some k) took q stays.1,
-        ),
-        λ (off : true ≡ false). absurd (false≢true (sym off)),
-      ))
+    from-if : (holds : Bool) (b : Option ℕ) (place : At M)
+        → Frozen b place (if holds then to.Stays else to.HandedBack)
+    from-if true b place took moved begun same new =
+        stayed-there b place took moved (same begun)
+    from-if false b place took moved begun same new = absurd moved
+
+    -- a writer stands on no `Arc`
+    from-block : (sort : Sort) → IsWritable sort → (b : Option ℕ) (place : At M)
+        → Frozen b place (counted_move layout sort)
+    from-block native writes b place = from-if true b place
+    from-block vector writes b place = from-if layout.has_any b place
+    from-block (buffer writable) writes b place = from-if layout.has_any b place
+    from-block raw writes b place = absurd writes
+
+    frozen_each : (b : Option ℕ) (place : At M) → is_numbered b place ≡ true
+        → IsWriterPlace place → TakenOut passes b p left
+        → Moves (layout_move layout place) drops true (as_reader (writer_at place))
+        (parts_of v) p q
+        → begins ≡ is_new (layout_move layout (numbered b place))
+        → (begins ≡ false → (n ≡ b) × (passes' ≡ put_back left b q))
+        → (begins ≡ true → (n ≡ Some (length left)) × (passes' ≡ left ++ q ∷ []))
+        → FreezesBy (layout_move layout (numbered b place)) drops
+        (writer_slot (writer_at place) b) (read_slot v n) passes passes'
+    frozen_each None nowhere fits writes = from-nowhere layout.has_static
+    frozen_each None static_data fits writes = absurd writes
+    frozen_each None (on_block None offset info) fits writes = absurd writes
+    frozen_each None (on_block (Some o) offset info) fits writes = absurd (false≢true fits)
+    frozen_each (Some k) nowhere fits writes = absurd (false≢true fits)
+    frozen_each (Some k) static_data fits writes = absurd (false≢true fits)
+    frozen_each (Some k) (on_block None offset info) fits writes = absurd writes
+    frozen_each (Some k) (on_block (Some o) offset info) fits writes =
+        from-block info.sort writes (Some k) (on_block (Some o) offset info)
 
 module _ {T M : Type 0} (h : Held (Window T M) (PartsView T M)) (w : PartsView T M)
     (b : Option ℕ) (is : h ≡ Write w) (s : SlotView T M) (view : held h b ≡ s)
-    (fits : is_numbered b (held h b).window.place ≡ true) where
-  pub slot-frozen : (has_static drops : Bool) (passes left : List (Pass Whole)) (p q : Pass Whole)
-      (v : Window T M) (n : Option ℕ) (passes' : List (Pass Whole)) (begins : Bool)
-      → TakenOut passes b p left → Freezes has_static drops true w (parts_of v) p q
-      → begins ≡ (not (is_some (block_of (row_of s).place))
-      && not (has_static && (length s.window.items == 0)))
+    (fits : is_numbered b (held h b).window.place ≡ true) (layout : LayoutFacts) where
+  seen-slot : writer_slot w b ≡ s
+  seen-slot = sym (writes-view h w b is) ∙ view
+
+  pub slot-frozen : IsWriterPlace w.place → (drops : Bool) (passes left : List (Pass Whole))
+      (p q : Pass Whole) (v : Window T M) (n : Option ℕ) (passes' : List (Pass Whole))
+      (begins : Bool) → TakenOut passes b p left
+      → Freezes layout drops true w (parts_of v) p q
+      → begins ≡ is_new (layout_move layout (row_of s).place)
       → (begins ≡ false → (n ≡ b) × (passes' ≡ put_back left b q))
       → (begins ≡ true → (n ≡ Some (length left)) × (passes' ≡ left ++ q ∷ []))
-      → (is_some (block_of (row_of s).place) ≡ true
-      → (row_of (read_slot v n) ≡ as_reader (row_of s))
-      × (stand_of (Some (read_slot v n)) ≡ stand_of (Some s)) × (passes' ≡ passes))
-      × (is_some (block_of (row_of s).place) ≡ false
-      → (row_of (read_slot v n) ≡ made_row has_static drops (length passes) s.window.items)
-      × Founds (stand_of (Some (read_slot v n))) passes passes')
-  slot-frozen has_static drops passes left p q v n passes' begins took frozen begun same new =
-      let seen : writer_slot w b ≡ s = sym (writes-view h w b is) ∙ view in
-      let all : begins ≡ (not (is_some (block_of (numbered b w.place)))
-      && not (has_static && (length w.items == 0))) =
-      begun ∙ ap (λ (t : SlotView T M). not (is_some (block_of (row_of t).place))
-      && not (has_static && (length t.window.items == 0))) (sym seen) in
-      subst (λ (t : SlotView T M). (is_some (block_of (row_of t).place) ≡ true
-      → (row_of (read_slot v n) ≡ as_reader (row_of t))
-      × (stand_of (Some (read_slot v n)) ≡ stand_of (Some t)) × (passes' ≡ passes))
-      × (is_some (block_of (row_of t).place) ≡ false
-      → (row_of (read_slot v n) ≡ made_row has_static drops (length passes) t.window.items)
-      × Founds (stand_of (Some (read_slot v n))) passes passes')) seen
-      (frozen_each has_static drops w.items w.role passes left p q v n passes' begins b w.place
-      (writes-fits h w b is fits) took frozen all same new)
+      → FreezesBy (layout_move layout (row_of s).place) drops s (read_slot v n) passes
+      passes'
+  slot-frozen writes drops passes left p q v n passes' begins took frozen begun same new =
+      subst (λ (t : SlotView T M). FreezesBy (layout_move layout (row_of t).place) drops t
+      (read_slot v n) passes passes') seen-slot
+      (frozen_each layout drops w.items w.role passes left p q v n passes' begins b
+      w.place (writes-fits h w b is fits) writes took frozen
+      (begun ∙ ap (λ (t : SlotView T M). is_new (layout_move layout (row_of t).place))
+      (sym seen-slot)) same new)
 
   -- there is room for a first block's pass
-  pub room-to-read : (has_static : Bool) (passes left : List (Pass Whole)) (p : Pass Whole) (m : ℕ)
-      → TakenOut passes b p left
-      → (is_some (block_of (row_of s).place) ≡ false
-      → (has_static && (length s.window.items == 0)) ≡ false → length passes < m)
-      → (not (is_some (block_of (row_of s).place))
-      && not (has_static && (length s.window.items == 0))) ≡ true → length left < m
-  room-to-read has_static passes left p m took room begins =
-      let seen : writer_slot w b ≡ s = sym (writes-view h w b is) ∙ view in
-      let both = and_parts (not (is_some (block_of (row_of s).place)))
-      (not (has_static && (length s.window.items == 0))) begins in
-      let off : is_some (block_of (row_of s).place) ≡ false = not-true _ both.0 in
-      let none : b ≡ None =
-      numbered_each (λ n place. is_some (block_of (numbered n place)) ≡ false → n ≡ None)
-      (λ x. refl) (λ x. refl) (λ n o offset info x. absurd (false≢true (sym x))) b w.place
-      (writes-fits h w b is fits)
-      (ap (λ (t : SlotView T M). is_some (block_of (row_of t).place)) seen ∙ off) in
+  pub room-to-read : IsWriterPlace w.place → (passes left : List (Pass Whole)) (p : Pass Whole)
+      (m : ℕ) → TakenOut passes b p left
+      → (is_new (layout_move layout (row_of s).place) ≡ true → length passes < m)
+      → is_new (layout_move layout (row_of s).place) ≡ true → length left < m
+  room-to-read writes passes left p m took room begins =
+      let told : (not (is_some b) && not layout.has_static) ≡ true =
+      sym (new_is layout b w.place (writes-fits h w b is fits) writes)
+      ∙ ap (λ (t : SlotView T M). is_new (layout_move layout (row_of t).place)) seen-slot
+      ∙ begins in
+      let none : b ≡ None = none-is b (and_parts (not (is_some b)) (not layout.has_static) told).0 in
       let all : left ≡ passes = (subst (λ c. TakenOut passes c p left) none took).1 in
-      subst (λ (ps : List (Pass Whole)). length ps < m) (sym all)
-      (room off (not-true _ both.1))
+      subst (λ (ps : List (Pass Whole)). length ps < m) (sym all) (room begins)
     where
-      not-true : (x : Bool) → not x ≡ true → x ≡ false
-      not-true true is = absurd (false≢true is)
-      not-true false is = refl
+      none-is : (x : Option ℕ) → not (is_some x) ≡ true → x ≡ None
+      none-is None is = refl
+      none-is (Some n) is = absurd (false≢true is)
 
 -- ---- where a first block is made
 

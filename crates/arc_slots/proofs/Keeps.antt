@@ -4,8 +4,8 @@ use Rattle.std.proofs.Common.{inl, inr, ◌≡◌, ℕ, ◌==◌, Bool, true, fa
 use Rattle.std.proofs.Common.{◌++◌, length, Option, Some, None, slice_get, slice_set, refl, sym, ap}
 use Rattle.std.proofs.Common.{◌∙◌, subst, arith}
 use Rattle.std.specs.Option.{option_map_or}
-use Rattle.std.proofs.lemmas.Bool.{cases_Bool, eq-eqb, eqb-true}
-use Rattle.std.proofs.lemmas.Option.{none-some, slice_get_cases}
+use Rattle.std.proofs.lemmas.Bool.{eq-eqb, eqb-true}
+use Rattle.std.proofs.lemmas.Option.{slice_get_cases}
 use Rattle.std.proofs.lemmas.List.Sorted.{length_permutation, list_any-IsPermutation}
 use Rattle.arc_owners.specs.declared.count.tokens.Pass.{Pass}
 use Rattle.arc_owners.specs.declared.error.OwnerError.{OwnerError}
@@ -13,21 +13,24 @@ use Rattle.arc_owners.specs.declared.error.OwnerError.TheVariants.{AllocError, C
 use Rattle.arc_owners.specs.declared.history.entry.Entry.TheVariants as entry
 use Rattle.arc_owners.specs.history.Histories.{is_counted, is_in, live_owners}
 use Rattle.arc_owners.specs.count.Invariant.{BlockId}
-use Rattle.arc_owners.specs.count.Calls.{Owner, Appends, Asks, FindsFull, MakesAnother, seen}
+use Rattle.arc_owners.specs.count.Calls.{Owner, Appends, seen}
 use Rattle.arc_owners.specs.count.Calls.{history_of}
 use Rattle.arc_owners.proofs.Steps.{one_is}
 use Rattle.arc_owners.proofs.Wholes.{may-stand}
 use Rattle.arc_block.specs.declared.block.TheConstants.{MAX_OWNERS}
 use Rattle.arc_block.specs.Owned.{Stand, IsKept, number_on, owners_on}
+use Rattle.arc_block.specs.Block.{Sort, native, vector, buffer, raw}
+use Rattle.arc_block.specs.Place.{Place, nowhere, static_data, on_block}
 use Rattle.arc_block.specs.Table.{Row}
 use Rattle.arc_block.proofs.Lists.{filter_map-in}
 use Rattle.arc_block.proofs.Owned.{kept-asked, kept-begun, kept-full, kept-gone, kept-gone-nowhere}
 use Rattle.arc_block.proofs.Owned.{kept-new, kept-nowhere, kept-same, kept-shared, kept-turned}
 use Rattle.arc_commands.specs.Additions.{AddsAt, Enters, Founds, Goes, Joins, MayBegin, Raises}
-use Rattle.arc_commands.specs.Additions.{RowAdds, asked, refused, with_stand}
-use Rattle.arc_commands.specs.declared.command.Cmd.{Cmd}
+use Rattle.arc_commands.specs.Additions.{AsksIf, AsksInVain, AsksInVainAt, RowAdds, Takes, asked}
+use Rattle.arc_commands.specs.Additions.{ended, refused, with_stand}
+use Rattle.arc_commands.specs.Step.{Setting, is_box_whole, is_vector_part, is_writable_at}
+use Rattle.arc_commands.specs.Commands.{ListCmd, ListReply}
 use Rattle.arc_commands.specs.declared.command.Cmd.TheVariants as command
-use Rattle.arc_commands.specs.declared.command.Reply.{Reply}
 use Rattle.arc_commands.specs.declared.command.Reply.TheVariants as reply
 use Rattle.arc_slots.specs.Answers.{live_on}
 use Rattle.arc_slots.specs.Stands.{HasPassFor}
@@ -36,6 +39,7 @@ use Rattle.arc_slots.proofs.Taken.{set-back}
 number_here : (n : ℕ) (o : Owner) → number_on n (Some (n, o)) ≡ Some o.number
 number_here n o = ap (λ b. if b then Some o.number else None) (eq-eqb n n refl)
 
+-- an owner that is there lives, and where it ends the others stay
 module _ {H : Type 0} (stands : List Stand) (passes : List (Pass H))
     (k : IsKept MAX_OWNERS stands passes) (i : ℕ) where
   -- an owner that stands here lives
@@ -45,6 +49,26 @@ module _ {H : Type 0} (stands : List Stand) (passes : List (Pass H))
       list_any-IsPermutation (λ m. m == o.number) _ _ (k.live n p was)
       ∙ filter_map-in (number_on n) stands i (Some (n, o)) o.number at (number_here n o)
 
+  gone-at : (here : Stand) → slice_get stands i ≡ Some here → (passes' : List (Pass H))
+      → AddsAt here ended passes passes'
+      → IsKept MAX_OWNERS (slice_set stands i None) passes'
+  gone-at None at passes' adds =
+      subst (λ ps. IsKept MAX_OWNERS (slice_set stands i None) ps) (sym adds)
+      (kept-gone-nowhere i k at)
+  gone-at (Some (n, o)) at passes' adds =
+      let xs = live_owners (seen adds.before) in
+      subst (λ ps. IsKept MAX_OWNERS (slice_set stands i None) ps) (sym adds.others)
+      (kept-gone i n k at adds.was {last = length xs == 1} (record {
+        before = history_of adds.before;
+        added = adds.added;
+        exact = (
+          λ one. one_is xs o.number (lives n o at adds.before adds.was) (eqb-true (length xs) 1 one),
+          λ alone. eq-eqb (length xs) 1 (ap length alone),
+        );
+      }))
+
+module _ {H : Type 0} (stands : List Stand) (passes : List (Pass H))
+    (k : IsKept MAX_OWNERS stands passes) (i : ℕ) where
   pub known-pass : (s : Stand) → slice_get stands i ≡ Some s → HasPassFor passes s
   known-pass None at = tt
   known-pass (Some (n, o)) at =
@@ -56,7 +80,7 @@ module _ {H : Type 0} (stands : List Stand) (passes : List (Pass H))
               has,
               ap (λ (t : BlockId). t.whole) (sym is) ∙ fits.whole,
               ap (λ (t : BlockId). t.most) (sym is) ∙ fits.most,
-              lives n o at,
+              lives stands passes k i n o at,
             ))
         | inr past ↦ absurd (omega (arith, has.0, past.0))
       ]
@@ -144,24 +168,6 @@ module _ {H : Type 0} (stands : List Stand) (passes : List (Pass H))
         made = adds.2;
       })))
 
-  gone-at : (here : Stand) → slice_get stands i ≡ Some here → (passes' : List (Pass H))
-      → AddsAt here (λ o history. entry.Down o.number ∷ []) passes passes'
-      → IsKept MAX_OWNERS (slice_set stands i None) passes'
-  gone-at None at passes' adds =
-      subst (λ ps. IsKept MAX_OWNERS (slice_set stands i None) ps) (sym adds)
-      (kept-gone-nowhere i k at)
-  gone-at (Some (n, o)) at passes' adds =
-      let xs = live_owners (seen adds.before) in
-      subst (λ ps. IsKept MAX_OWNERS (slice_set stands i None) ps) (sym adds.others)
-      (kept-gone i n k at adds.was {last = length xs == 1} (record {
-        before = history_of adds.before;
-        added = adds.added;
-        exact = (
-          λ one. one_is xs o.number (lives n o at adds.before adds.was) (eqb-true (length xs) 1 one),
-          λ alone. eq-eqb (length xs) 1 (ap length alone),
-        );
-      }))
-
   begins-at : (here there : Stand) → slice_get stands i ≡ Some here → (passes' : List (Pass H))
       → MayBegin here there passes passes' → IsKept MAX_OWNERS (slice_set stands i there) passes'
   begins-at (Some here) there at passes' adds =
@@ -222,46 +228,80 @@ module _ {H : Type 0} (stands : List Stand) (passes : List (Pass H))
         subst (λ m. IsKept MAX_OWNERS (with_stand (slice_set stands i there) m) passes')
         (sym adds.1) (begins-at here there at passes' adds.0)
 
-    goes-kept : Goes here there made passes passes' (λ o history. entry.Down o.number ∷ []) → Kept
+    goes-kept : Goes here there made passes passes' ended → Kept
     goes-kept adds =
         subst (λ m. IsKept MAX_OWNERS (with_stand (slice_set stands i there) m) passes')
         (sym adds.1)
         (subst (λ st. IsKept MAX_OWNERS (slice_set stands i st) passes') (sym adds.0)
-        (gone-at here at passes' adds.2))
+        (gone-at stands passes k i here at passes' adds.2))
+
+    -- what it stood on was taken out
+    takes-kept : Takes here there made passes passes' → Kept
+    takes-kept adds =
+        subst (λ m. IsKept MAX_OWNERS (with_stand (slice_set stands i there) m) passes')
+        (sym adds.1)
+        (subst (λ st. IsKept MAX_OWNERS (slice_set stands i st) passes') (sym adds.0)
+        (gone-at stands adds.2 (asked-at here at true adds.2 adds.3) i here at passes' adds.4))
+
+    -- where only the count could decide
+    asks-kept : (asks : Bool) → AsksIf here there made passes passes' asks → Kept
+    asks-kept true adds =
+        enters-kept (asked false) (asked-at here at false passes' adds.2) adds
+    asks-kept false adds = none-kept adds
+
+    vain-kept : (sort : Sort) → AsksInVain here there made passes passes' sort → Kept
+    vain-kept native adds =
+        enters-kept (asked false) (asked-at here at false passes' adds.2) adds
+    vain-kept vector adds =
+        enters-kept (asked false) (asked-at here at false passes' adds.2) adds
+    vain-kept (buffer writable) adds =
+        enters-kept (asked adds.0) (asked-at here at adds.0 passes' adds.1.2) adds.1
+    vain-kept raw adds = none-kept adds
+
+    in-vain-kept : {M : Type 0} (place : Place (Option ℕ) M)
+        → AsksInVainAt here there made passes passes' place → Kept
+    in-vain-kept nowhere adds = none-kept adds
+    in-vain-kept static_data adds = none-kept adds
+    in-vain-kept (on_block block offset info) adds = vain-kept info.sort adds
 
     -- the slice under a window that stood on nothing was taken
     taken-kept : (here ≡ None) × (there ≡ None) × (made ≡ None) × (passes' ≡ passes) → Kept
     taken-kept adds = none-kept (adds.1 ∙ sym adds.0, adds.2, adds.3)
 
     -- what a command on a row adds keeps them together
-    pub row-kept : {T M : Type 0} (row : Row T M) (c : Cmd (List T) (List T) T)
-        (r : Reply (List T) (List T)) → RowAdds here there made passes passes' row c r → Kept
-    row-kept row (command.Clone i) (reply.New number) adds = joins-kept false adds
-    row-kept row (command.Sub i start end) (reply.New number) adds = joins-kept false adds
-    row-kept row (command.Off i at) (reply.New number) adds = joins-kept (at == 0) adds
-    row-kept row (command.To i at) (reply.New number) adds =
+    pub row-kept : {T M : Type 0} (setting : Setting T) (row : Row T M) (c : ListCmd T M)
+        (r : ListReply T M) → RowAdds here there made passes passes' setting row c r → Kept
+    row-kept setting row (command.Clone i) (reply.New number) adds = joins-kept false adds
+    row-kept setting row (command.Sub i start end) (reply.New number) adds = joins-kept false adds
+    row-kept setting row (command.Off i at) (reply.New number) adds = joins-kept (at == 0) adds
+    row-kept setting row (command.To i at) (reply.New number) adds =
         joins-kept (at == length row.items) adds
-    row-kept row (command.Clone i) (reply.Owner e) adds =
+    row-kept setting row (command.Clone i) (reply.Owner e) adds =
         enters-kept (refused e) (refused-at here at e passes' adds.2) adds
-    row-kept row (command.Sub i start end) (reply.Owner e) adds =
+    row-kept setting row (command.Sub i start end) (reply.Owner e) adds =
         enters-kept (refused e) (refused-at here at e passes' adds.2) adds
-    row-kept row (command.Off i place) (reply.Owner e) adds =
+    row-kept setting row (command.Off i place) (reply.Owner e) adds =
         enters-kept (refused e) (refused-at here at e passes' adds.2) adds
-    row-kept row (command.To i place) (reply.Owner e) adds =
+    row-kept setting row (command.To i place) (reply.Owner e) adds =
         enters-kept (refused e) (refused-at here at e passes' adds.2) adds
-    row-kept row (command.Uniq i) reply.Yes adds =
+    row-kept setting row (command.Uniq i) reply.Yes adds =
         enters-kept (asked true) (asked-at here at true passes' adds.2) adds
-    row-kept row (command.Uniq i) reply.No adds =
-        enters-kept (asked false) (asked-at here at false passes' adds.2) adds
-    row-kept row (command.Mut i) reply.Ok adds =
+    row-kept setting row (command.Uniq i) reply.No adds = in-vain-kept row.place adds
+    row-kept setting row (command.Mut i) reply.Ok adds =
         enters-kept (asked true) (asked-at here at true passes' adds.2) adds
-    row-kept row (command.Mut i) reply.Refused adds =
-        enters-kept (asked false) (asked-at here at false passes' adds.2) adds
-    row-kept row (command.Res i additional) reply.Ok adds = stays-kept adds
-    row-kept row (command.Push i item) reply.Ok adds = stays-kept adds
-    row-kept row (command.Ext i items) reply.Ok adds = stays-kept adds
-    row-kept row (command.Freeze i) reply.Ok adds = stays-kept adds
-    row-kept row (command.Drop i) reply.Ok adds = goes-kept adds
-    row-kept row (command.TakeStatic i) (reply.Static items) adds =
+    row-kept setting row (command.Mut i) reply.Refused adds =
+        asks-kept (is_writable_at setting.writes_any row.place) adds
+    row-kept setting row (command.Res i additional) reply.Ok adds = stays-kept adds
+    row-kept setting row (command.Push i item) reply.Ok adds = stays-kept adds
+    row-kept setting row (command.Ext i items) reply.Ok adds = stays-kept adds
+    row-kept setting row (command.Freeze i) reply.Ok adds = stays-kept adds
+    row-kept setting row (command.Drop i) reply.Ok adds = goes-kept adds
+    row-kept setting row (command.Take i) (reply.Vec items) adds = takes-kept adds
+    row-kept setting row (command.TakeBox i) (reply.Boxed items) adds = takes-kept adds
+    row-kept setting row (command.Take i) reply.Refused adds =
+        asks-kept (is_vector_part setting.drops row.place (length row.items)) adds
+    row-kept setting row (command.TakeBox i) reply.Refused adds =
+        asks-kept (is_box_whole row.place (length row.items)) adds
+    row-kept setting row (command.TakeStatic i) (reply.Static items) adds =
         taken-kept adds
-    row-kept row c r adds = none-kept adds
+    row-kept setting row c r adds = none-kept adds

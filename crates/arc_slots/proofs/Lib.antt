@@ -1,11 +1,15 @@
 pub mod Taken
 pub mod Slots
+pub mod Native
+pub mod Takes
+pub mod Index
 pub mod Splits
 pub mod Filled
 pub mod Ended
 pub mod Added
-pub mod Adds
+pub mod ByForm
 pub mod Told
 pub mod Answered
+pub mod Asked
 pub mod Keeps
 pub mod Made

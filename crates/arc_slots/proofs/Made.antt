@@ -1,6 +1,6 @@
 -- A writer that was made, by its own items.
-use Rattle.std.proofs.Common.{inl, inr, ◌≡◌, ℕ, ◌≤◌, Bool, true, List, [], length, Option, Some, None}
-use Rattle.std.proofs.Common.{sym, ap, ◌∙◌, subst, ◌⊎◌}
+use Rattle.std.proofs.Common.{inl, inr, ◌≡◌, ℕ, Bool, true, List, []}
+use Rattle.std.proofs.Common.{sym, ap, ◌∙◌, subst}
 use Rattle.arc_owners.specs.declared.mark.Whole.{Whole}
 use Rattle.arc_owners.specs.declared.count.tokens.Pass.{Pass}
 use Rattle.arc_block.specs.Window.{PartsView}

@@ -68,7 +68,8 @@ moved-fits : {M : Type 0} (b : Option ℕ) (start : ℕ) (place : At M)
     → is_numbered b (moved start place) ≡ is_numbered b place
 moved-fits None start nowhere = refl
 moved-fits None start static_data = refl
-moved-fits None start (on_block owner offset facts) = refl
+moved-fits None start (on_block None offset facts) = refl
+moved-fits None start (on_block (Some owner) offset facts) = refl
 moved-fits (Some n) start nowhere = refl
 moved-fits (Some n) start static_data = refl
 moved-fits (Some n) start (on_block None offset facts) = refl
@@ -92,10 +93,10 @@ shares-numbered p new (Some n) (on_block (Some o) offset facts) there made =
     ap (numbered (Some n)) made.2
 
 -- a row that is read
-abbrev read_row : {T M : Type 0} → List T → Place ℕ M → Row T M
+abbrev read_row : {T M : Type 0} → List T → Place (Option ℕ) M → Row T M
 read_row items place = record { items = items; place = place; role = reader }
 
-pub same-reader : {T M : Type 0} {items items' : List T} {place place' : Place ℕ M}
+pub same-reader : {T M : Type 0} {items items' : List T} {place place' : Place (Option ℕ) M}
     → items' ≡ items → place' ≡ place → read_row items' place' ≡ read_row items place
 same-reader {items = items} {place' = place'} same there =
     ap (λ xs. read_row xs place') same ∙ ap (read_row items) there
@@ -106,7 +107,8 @@ pub sole-numbered : {T M : Type 0} (drops : Bool) (b : Option ℕ) (items : List
     → row_of (writer_slot (sole_at drops items place) b) ≡ sole_at drops items (numbered b place)
 sole-numbered drops b items nowhere fits = refl
 sole-numbered drops b items static_data fits = refl
-sole-numbered drops None items (on_block owner offset facts) fits = absurd (false≢true fits)
+sole-numbered drops None items (on_block None offset facts) fits = refl
+sole-numbered drops None items (on_block (Some o) offset facts) fits = absurd (false≢true fits)
 sole-numbered drops (Some n) items (on_block None offset facts) fits = absurd (false≢true fits)
 sole-numbered drops (Some n) items (on_block (Some o) offset facts) fits = refl
 
@@ -139,7 +141,8 @@ module _ {M H : Type 0} (passes : List (Pass H)) where
         → HasPassFor passes (stand_at b place) → TakenOut passes b p left → IsPassAt place p
     window-pass None nowhere fits has took = took.0
     window-pass None static_data fits has took = took.0
-    window-pass None (on_block owner offset facts) fits has took = absurd (false≢true fits)
+    window-pass None (on_block None offset facts) fits has took = took.0
+    window-pass None (on_block (Some o) offset facts) fits has took = absurd (false≢true fits)
     window-pass (Some n) nowhere fits has took = absurd (false≢true fits)
     window-pass (Some n) static_data fits has took = absurd (false≢true fits)
     window-pass (Some n) (on_block None offset facts) fits has took = absurd (false≢true fits)
@@ -160,7 +163,9 @@ module _ {M H : Type 0} (passes : List (Pass H)) where
           back-same passes left p b took new (same called)
       along none call b static_data fits has took same called =
           back-same passes left p b took new (same called)
-      along none call None (on_block owner offset facts) fits has took same called =
+      along none call None (on_block None offset facts) fits has took same called =
+          back-same passes left p None took new (same called)
+      along none call None (on_block (Some o) offset facts) fits has took same called =
           absurd (false≢true fits)
       along none call (Some n) (on_block None offset facts) fits has took same called =
           absurd (false≢true fits)
@@ -178,7 +183,10 @@ module _ {M H : Type 0} (passes : List (Pass H)) where
       shares b static_data there fits has took made =
           subst (λ q. Beside None passes (put_back left b new) (stand_at b q)) (sym made.0)
           (back-same passes left p b took new made.1)
-      shares None (on_block owner offset facts) there fits has took made =
+      shares None (on_block None offset facts) there fits has took made =
+          subst (λ q. Beside None passes (put_back left None new) (stand_at None q)) (sym made.0)
+          (back-same passes left p None took new made.1)
+      shares None (on_block (Some o) offset facts) there fits has took made =
           absurd (false≢true fits)
       shares (Some n) (on_block None offset facts) there fits has took made =
           absurd (false≢true fits)
@@ -197,13 +205,16 @@ module _ {M H : Type 0} (passes : List (Pass H)) where
           → RefusesAt wants (numbered b place) (stand_at b place) passes (put_back left b new) e
       refuses wants e b nowhere fits has took why = absurd why
       refuses wants e b static_data fits has took why = absurd why
-      refuses wants CountFull None (on_block owner offset facts) fits has took why =
+      refuses wants CountFull None (on_block None offset facts) fits has took why = absurd why
+      refuses wants CountFull None (on_block (Some o) offset facts) fits has took why =
           absurd (false≢true fits)
       refuses wants CountFull (Some n) (on_block None offset facts) fits has took why =
           absurd (false≢true fits)
       refuses wants CountFull (Some n) (on_block (Some owner) offset facts) fits has took why =
           (refl, through passes left p new n owner FindsFull has took why)
-      refuses wants AllocError None (on_block owner offset facts) fits has took why =
+      refuses wants AllocError None (on_block None offset facts) fits has took why =
+          (why.0, back-same passes left p None took new why.1)
+      refuses wants AllocError None (on_block (Some o) offset facts) fits has took why =
           absurd (false≢true fits)
       refuses wants AllocError (Some n) (on_block None offset facts) fits has took why =
           absurd (false≢true fits)
@@ -246,7 +257,7 @@ module _ {M H : Type 0} (p new : Pass H) where
       → is_numbered b (on_block (Some owner) offset facts) ≡ true
       → is_numbered b (on_block (Some other) offset facts) ≡ true
   for-fits None owner other offset facts fits = fits
-  for-fits (Some n) owner other offset facts fits = refl
+  for-fits (Some n) owner other offset facts fits = fits
 
   pub shares-fits : (b : Option ℕ) (place there : At M) → is_numbered b place ≡ true
       → Shares place p new there → is_numbered b there ≡ true

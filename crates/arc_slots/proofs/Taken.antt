@@ -4,7 +4,8 @@ use Rattle.std.proofs.Common.{slice_get, slice_set, slice_index_or, refl, sym, a
 use Rattle.std.proofs.lemmas.Option.{same_Some, slice_get_read}
 use Rattle.std.proofs.lemmas.List.{length-set}
 use Rattle.arc_owners.specs.declared.count.tokens.Pass.{Pass}
-use Rattle.arc_slots.specs.Stands.{TakenOut, put_back, HasNumber}
+use Rattle.arc_block.specs.Owned.{Stand}
+use Rattle.arc_slots.specs.Stands.{HasBlockPass, HasNumber, HasPassFor, LivesOn, TakenOut, put_back}
 
 pub set-back : {X : Type 0} (xs : List X) (n : ℕ) (x : X) → slice_get xs n ≡ Some x
     → slice_set xs n x ≡ xs
@@ -49,3 +50,17 @@ module _ {H : Type 0} (passes left : List (Pass H)) (p : Pass H) where
   left-number None took has = tt
   left-number (Some n) took has =
       omega (arith, has, sym (length-set left n p) ∙ ap length (took.1 p) ∙ length-set passes n p)
+
+-- both are one
+module _ {H : Type 0} (passes : List (Pass H)) where
+  pub has_both : (s : Stand) → HasBlockPass passes s → LivesOn passes s → HasPassFor passes s
+  has_both None has lives = tt
+  has_both (Some (n, o)) has lives = (has.0, has.1, has.2, lives)
+
+  pub has_block : (s : Stand) → HasPassFor passes s → HasBlockPass passes s
+  has_block None has = tt
+  has_block (Some (n, o)) has = (has.0, has.1, has.2)
+
+  pub has_life : (s : Stand) → HasPassFor passes s → LivesOn passes s
+  has_life None has = tt
+  has_life (Some (n, o)) has = has.3

@@ -1,5 +1,5 @@
 -- What the pass of a window's block tells of the rest of its table.
-use Rattle.std.proofs.Common.{inl, inr, ◌≡◌, ℕ, ◌==◌, ◌&&◌, Bool, true, false, List, length}
+use Rattle.std.proofs.Common.{inl, inr, ◌≡◌, ℕ, ◌&&◌, Bool, true, false, List, length}
 use Rattle.std.proofs.Common.{[], ◌∷◌}
 use Rattle.std.proofs.Common.{Option, Some, None, is_some, refl, sym, ap, ◌∙◌, arith, slice_get}
 use Rattle.std.specs.Option.{option_map, option_map_or}
@@ -80,7 +80,7 @@ module _ {H : Type 0} (passes passes' : List (Pass H)) where
   many-beside (Some (n, o)) (Some made) joins =
       ap length joins.1.others ∙ length-set passes n joins.1.after
 
-  pub many-refused : {M : Type 0} (wants : Sort → Bool) (place : Place ℕ M) (s : Stand)
+  pub many-refused : {M : Type 0} (wants : Sort → Bool) (place : Place (Option ℕ) M) (s : Stand)
       (e : OwnerError) → RefusesAt wants place s passes passes' e
       → length passes' ≡ length passes
   many-refused wants place None CountFull why = absurd why

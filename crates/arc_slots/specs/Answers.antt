@@ -9,8 +9,7 @@ use Rattle.arc_block.specs.declared.block.TheConstants.{MAX_OWNERS}
 use Rattle.arc_block.specs.Owned.{Stand}
 use Rattle.arc_commands.specs.Additions.{RowAdds}
 use Rattle.arc_commands.specs.Step.{Setting, Around, answer_any, shortage, with_block}
-use Rattle.arc_commands.specs.declared.command.Cmd.{Cmd}
-use Rattle.arc_commands.specs.declared.command.Reply.{Reply}
+use Rattle.arc_commands.specs.Commands.{ListCmd, ListReply}
 use Rattle.arc_slots.specs.Slots.{SlotView, row_of, stand_of}
 
 module _ {H : Type 0} where
@@ -32,8 +31,8 @@ module _ {H : Type 0} where
 -- A command on a slot's window, of so many, was answered as its row answers it; then the window is
 -- the new one, if it hasn't gone, and one was made beside it, if one was; and what that command and
 -- that reply add was added.
-pub record Answers {T M : Type 0} (setting : Setting T) (windows : ℕ) (c : Cmd (List T) (List T) T)
-    (old : SlotView T M) (before : List (Pass Whole)) (r : Reply (List T) (List T))
+pub record Answers {T M : Type 0} (setting : Setting T) (windows : ℕ) (c : ListCmd T M)
+    (old : SlotView T M) (before : List (Pass Whole)) (r : ListReply T M)
     (new made : Option (SlotView T M)) (after : List (Pass Whole)) : Type 0 where
   pub begins : Bool
   pub change : answer_any setting (shortage r c)
@@ -46,4 +45,4 @@ pub record Answers {T M : Type 0} (setting : Setting T) (windows : ℕ) (c : Cmd
       }
   pub blocks : length after ≡ with_block begins (length before)
   pub adds : RowAdds (stand_of (Some old)) (stand_of new)
-      (option_map (λ s. stand_of (Some s)) made) before after (row_of old) c r
+      (option_map (λ s. stand_of (Some s)) made) before after setting (row_of old) c r

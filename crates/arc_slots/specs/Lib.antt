@@ -1,8 +1,10 @@
 pub mod Stands
 pub mod Slots
+pub mod Index
 pub mod Calls
 pub mod Parts
 pub mod Splits
 pub mod Writing
 pub mod Answers
 pub mod Makers
+pub mod Taking

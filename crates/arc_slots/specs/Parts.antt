@@ -5,14 +5,14 @@ use Rattle.arc_owners.specs.declared.error.RangeError.{RangeError}
 use Rattle.arc_buffer.specs.Slice.{IsEdge, IsRange, range_answer, edge_answer}
 use Rattle.arc_block.specs.Table.{Row}
 use Rattle.arc_commands.specs.Step.{cut_row, off_part, part_of, to_part}
-use Rattle.arc_commands.specs.declared.command.Cmd.{Cmd}
+use Rattle.arc_commands.specs.Commands.{ListCmd}
 use Rattle.arc_commands.specs.declared.command.Cmd.TheVariants as command
 use Rattle.arc_slots.specs.declared.part.Part.{Part}
 use Rattle.arc_slots.specs.declared.part.Part.TheVariants.{Whole, Range, Back, Front}
 
 module _ {T : Type 0} where
   -- the command to hand out this part of the window with this number
-  abbrev pub part_command : ℕ → Part → Cmd (List T) (List T) T
+  abbrev pub part_command : {M : Type 0} → ℕ → Part → ListCmd T M
   part_command i Whole = command.Clone i
   part_command i (Range start end) = command.Sub i start end
   part_command i (Back at) = command.Off i at

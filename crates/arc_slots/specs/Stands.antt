@@ -9,21 +9,20 @@ use Rattle.arc_block.specs.Owned.{Stand, HasPass}
 use Rattle.arc_block.specs.Place.{Place, nowhere, static_data, on_block}
 
 module _ {M : Type 0} where
-  -- a place, on the block with this number. No window of a table stands on a block that counts no
-  -- owners
-  abbrev pub numbered : Option ℕ → Place (Option Owner) M → Place ℕ M
+  -- a place, on the block with this number; a block that counts no owners has none
+  abbrev pub numbered : Option ℕ → Place (Option Owner) M → Place (Option ℕ) M
   numbered number nowhere = nowhere
   numbered number static_data = static_data
-  numbered number (on_block None offset facts) = nowhere
-  numbered None (on_block (Some owner) offset facts) = nowhere
-  numbered (Some number) (on_block (Some owner) offset facts) = on_block number offset facts
+  numbered number (on_block None offset facts) = on_block None offset facts
+  numbered number (on_block (Some owner) offset facts) = on_block number offset facts
 
-  -- whether a window at this place is an owner of a block that has this number, or stands on no
-  -- block and has none
+  -- whether a window at this place is an owner of a block that has this number, or stands where no
+  -- owners are counted and has none
   abbrev pub is_numbered : Option ℕ → Place (Option Owner) M → Bool
   is_numbered None nowhere = true
   is_numbered None static_data = true
-  is_numbered None (on_block owner offset facts) = false
+  is_numbered None (on_block None offset facts) = true
+  is_numbered None (on_block (Some owner) offset facts) = false
   is_numbered (Some number) nowhere = false
   is_numbered (Some number) static_data = false
   is_numbered (Some number) (on_block None offset facts) = false
@@ -46,6 +45,17 @@ module _ {H : Type 0} where
       × (owner.block.whole ≡ true) × (owner.block.most ≡ MAX_OWNERS)
       × ((p : Pass H) → slice_get passes number ≡ Some p
       → is_in owner.number (live_owners (seen p)) ≡ true)
+
+  -- the same in two: the block has its one pass, and that has seen that this owner lives
+  abbrev pub HasBlockPass : List (Pass H) → Stand → Type 0
+  HasBlockPass passes None = Unit {0}
+  HasBlockPass passes (Some (number, owner)) = HasPass passes number owner
+      × (owner.block.whole ≡ true) × (owner.block.most ≡ MAX_OWNERS)
+
+  abbrev pub LivesOn : List (Pass H) → Stand → Type 0
+  LivesOn passes None = Unit {0}
+  LivesOn passes (Some (number, owner)) = (p : Pass H) → slice_get passes number ≡ Some p
+      → is_in owner.number (live_owners (seen p)) ≡ true
 
   -- the pass with this number was taken out of these, or one of no block was made
   abbrev pub TakenOut : List (Pass H) → Option ℕ → Pass H → List (Pass H) → Type 0

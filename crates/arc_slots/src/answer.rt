@@ -1,20 +1,28 @@
 //! What the window of a slot is answered to a command: each call of its window, with the tests that
 //! come before it.
 ghost use Rattle.std.specs.Mem.{FitsInMemory, type_size};
+ghost use Rattle.arc_block.specs.LayoutFacts.{layout_facts};
 
-use crate::kinds::Commands;
+use crate::kinds::{CallsOf, Commands, TableReply};
 use crate::part::Part;
 use crate::passes::Passes;
 use crate::slot::{Slot, Writing};
 use arc_block::layout::{Layout, LayoutMut};
-use arc_commands::command::{Reply, TableReply};
+use arc_buffer::buffer::BufferMut;
+use arc_buffer::kinds::Slice;
+use arc_commands::command::Reply;
 use arc_owners::error::TryReserveError;
 use std::alloc::Allocator;
 use std::sync::Wait;
 
-impl<S: Commands, L: Layout, B, M, A: Allocator + Copy> Slot<S, L, B, M, A>
+impl<S: Commands<A>, L: Layout, B: BufferMut<S::Item> + Drop, M: Drop, A: Allocator + Copy> Slot<
+    S,
+    L,
+    B,
+    M,
+    A,
+>
 where
-    S::Item: Copy,
     L::Writable: LayoutMut,
 {
     ghost use Rattle.std.specs.Prelude.{◌≡◌, ℕ, None, Some, true, is_some, length, IfOk};
@@ -25,7 +33,7 @@ where
     ghost use Rattle.arc_slots.specs.Parts.{part_command};
     ghost use Rattle.arc_slots.specs.Slots.{stand_of};
     ghost use Rattle.arc_slots.specs.Stands.{HasPassFor};
-    ghost use Rattle.arc_slots.specs.Writing.{seen_writing, write_command};
+    ghost use Rattle.arc_slots.specs.Writing.{can_write, seen_writing, write_command};
 
     /// Hands out a part of the window under the next number, if there is room for it.
     pub(crate) fn hand_out(
@@ -35,11 +43,13 @@ where
         next: usize,
         has_room: bool,
         passes: &mut Passes<A>,
-    ) -> (TableReply<S::Item, A>, Option<Self>)
+    ) -> (TableReply<S, B, M, A>, Option<Self>)
         requires { HasPassFor passes.old.of_blocks.items (stand_of (Some self.old)) }
-        ensures answer { (i : ℕ) → Answers (setting_of L.STATIC L.clone_wants S.DROPS S.boundary
-            (type_size S.Item.row) S.Zero.zero) next (part_command i part)
-            self.old passes.old.of_blocks.items (seen_reply result.0)
+        ensures answer { (i : ℕ) → Answers (setting_of (layout_facts L.Layout) L.Writable.ANY
+            L.clone_wants S.DROPS S.boundary
+            (type_size S.Item.row) S.Zero.zero S.Calls.calls) next (part_command i part)
+            self.old passes.old.of_blocks.items (seen_reply S.items_in S.items_in_box B.list
+            result.0)
             (Some self.new) result.1 passes.new.of_blocks.items }
         ensures room { is_some result.1 ≡ true → has_room ≡ true }
     {
@@ -59,11 +69,12 @@ where
     }
 
     /// Whether the window is the only owner of its block.
-    pub(crate) fn uniq(&self, passes: &mut Passes<A>) -> TableReply<S::Item, A>
+    pub(crate) fn uniq(&self, passes: &mut Passes<A>) -> TableReply<S, B, M, A>
         requires { HasPassFor passes.old.of_blocks.items (stand_of (Some self.now)) }
-        ensures { (next i : ℕ) → Answers (setting_of L.STATIC L.clone_wants S.DROPS S.boundary
-            (type_size S.Item.row) S.Zero.zero) next (command.Uniq i)
-            self.now passes.old.of_blocks.items (seen_reply result)
+        ensures { (next i : ℕ) → Answers (setting_of (layout_facts L.Layout) L.Writable.ANY
+            L.clone_wants S.DROPS S.boundary
+            (type_size S.Item.row) S.Zero.zero S.Calls.calls) next (command.Uniq i)
+            self.now passes.old.of_blocks.items (seen_reply S.items_in S.items_in_box B.list result)
             (Some self.now) None passes.new.of_blocks.items }
     {
         if self.is_written() {
@@ -75,26 +86,34 @@ where
         Reply::No
     }
 
-    /// The items of the window, in a vector.
-    pub(crate) fn show(&self, alloc: A, passes: &Passes<A>) -> TableReply<S::Item, A>
-        ensures { (next i : ℕ) → Answers (setting_of L.STATIC L.clone_wants S.DROPS S.boundary
-            (type_size S.Item.row) S.Zero.zero) next (command.Show i)
-            self.now passes.now.of_blocks.items (seen_reply result)
+    /// The items of the window, in a vector, if its kind has items that are copied.
+    pub(crate) fn show(&self, alloc: A, passes: &Passes<A>) -> TableReply<S, B, M, A>
+        ensures { (next i : ℕ) → Answers (setting_of (layout_facts L.Layout) L.Writable.ANY
+            L.clone_wants S.DROPS S.boundary
+            (type_size S.Item.row) S.Zero.zero S.Calls.calls) next (command.Show i)
+            self.now passes.now.of_blocks.items (seen_reply S.items_in S.items_in_box B.list result)
             (Some self.now) None passes.now.of_blocks.items }
     {
         let _ = passes;
         self.known_role();
-        match Vec::from_slice(alloc, self.as_slice()) {
+        if !S::Calls::copies() {
+            return Reply::Kind;
+        }
+        let Some(copy) = S::Calls::try_copy(alloc, self.as_slice()) else {
+            unreachable!()
+        };
+        match copy {
             Ok(items) => Reply::Items(items),
             Err(_) => Reply::Alloc,
         }
     }
 
     /// How many items the window has.
-    pub(crate) fn count(&self, passes: &Passes<A>) -> TableReply<S::Item, A>
-        ensures { (next i : ℕ) → Answers (setting_of L.STATIC L.clone_wants S.DROPS S.boundary
-            (type_size S.Item.row) S.Zero.zero) next (command.Len i)
-            self.now passes.now.of_blocks.items (seen_reply result)
+    pub(crate) fn count(&self, passes: &Passes<A>) -> TableReply<S, B, M, A>
+        ensures { (next i : ℕ) → Answers (setting_of (layout_facts L.Layout) L.Writable.ANY
+            L.clone_wants S.DROPS S.boundary
+            (type_size S.Item.row) S.Zero.zero S.Calls.calls) next (command.Len i)
+            self.now passes.now.of_blocks.items (seen_reply S.items_in S.items_in_box B.list result)
             (Some self.now) None passes.now.of_blocks.items }
     {
         let _ = passes;
@@ -103,10 +122,11 @@ where
     }
 
     /// How many places the window has, if it is one that is written.
-    pub(crate) fn room(&self, passes: &Passes<A>) -> TableReply<S::Item, A>
-        ensures { (next i : ℕ) → Answers (setting_of L.STATIC L.clone_wants S.DROPS S.boundary
-            (type_size S.Item.row) S.Zero.zero) next (command.Room i)
-            self.now passes.now.of_blocks.items (seen_reply result)
+    pub(crate) fn room(&self, passes: &Passes<A>) -> TableReply<S, B, M, A>
+        ensures { (next i : ℕ) → Answers (setting_of (layout_facts L.Layout) L.Writable.ANY
+            L.clone_wants S.DROPS S.boundary
+            (type_size S.Item.row) S.Zero.zero S.Calls.calls) next (command.Room i)
+            self.now passes.now.of_blocks.items (seen_reply S.items_in S.items_in_box B.list result)
             (Some self.now) None passes.now.of_blocks.items }
     {
         let _ = passes;
@@ -116,21 +136,40 @@ where
         }
     }
 
+    /// Whether the window's kind has the call that writes this.
+    fn may_write(what: &Writing<Vec<S::Item, A>, S::Item>) -> bool
+        ensures { result ≡ can_write S.Calls.calls (seen_writing what.now) }
+    {
+        match what {
+            Writing::Nothing(_) => true,
+            Writing::Item(_) => S::Calls::pushes(),
+            Writing::Items(_) => S::Calls::extends(),
+        }
+    }
+
     /// Writes into the window: room is made, and what is written goes behind its items. Refused, it
     /// is let go.
     pub(crate) fn fill(
         &mut self,
         what: Writing<Vec<S::Item, A>, S::Item>,
         passes: &mut Passes<A>,
-    ) -> TableReply<S::Item, A>
+    ) -> TableReply<S, B, M, A>
         requires item { FitsInMemory S.Item.row }
         requires pass { HasPassFor passes.old.of_blocks.items (stand_of (Some self.old)) }
-        ensures { (next i : ℕ) → Answers (setting_of L.STATIC L.clone_wants S.DROPS S.boundary
-            (type_size S.Item.row) S.Zero.zero) next (write_command i (seen_writing what))
-            self.old passes.old.of_blocks.items (seen_reply result)
+        ensures { (next i : ℕ) → Answers (setting_of (layout_facts L.Layout) L.Writable.ANY
+            L.clone_wants S.DROPS S.boundary
+            (type_size S.Item.row) S.Zero.zero S.Calls.calls) next
+            (write_command i (seen_writing what))
+            self.old passes.old.of_blocks.items (seen_reply S.items_in S.items_in_box B.list result)
             (Some self.new) None passes.new.of_blocks.items }
     {
         if !self.is_written() {
+            return Reply::Kind;
+        }
+        if !Self::may_write(&what) {
+            return Reply::Kind;
+        }
+        if self.is_on_buffer() {
             return Reply::Kind;
         }
         let begins = self.wants_block(what.additional());
@@ -148,15 +187,19 @@ where
         &mut self,
         additional: usize,
         passes: &Passes<A>,
-    ) -> TableReply<S::Item, A>
+    ) -> TableReply<S, B, M, A>
         requires { FitsInMemory S.Item.row }
-        ensures { (next i : ℕ) → Answers (setting_of L.STATIC L.clone_wants S.DROPS S.boundary
-            (type_size S.Item.row) S.Zero.zero) next (command.Rec i additional)
-            self.old passes.now.of_blocks.items (seen_reply result)
+        ensures { (next i : ℕ) → Answers (setting_of (layout_facts L.Layout) L.Writable.ANY
+            L.clone_wants S.DROPS S.boundary
+            (type_size S.Item.row) S.Zero.zero S.Calls.calls) next (command.Rec i additional)
+            self.old passes.now.of_blocks.items (seen_reply S.items_in S.items_in_box B.list result)
             (Some self.new) None passes.now.of_blocks.items }
     {
         let _ = passes;
         if !self.is_written() {
+            return Reply::Kind;
+        }
+        if self.is_on_buffer() {
             return Reply::Kind;
         }
         if self.try_reclaim(additional) {
@@ -166,10 +209,11 @@ where
     }
 
     /// Takes the first `by` items off the window.
-    pub(crate) fn skip(&mut self, by: usize, passes: &Passes<A>) -> TableReply<S::Item, A>
-        ensures { (next i : ℕ) → Answers (setting_of L.STATIC L.clone_wants S.DROPS S.boundary
-            (type_size S.Item.row) S.Zero.zero) next (command.Adv i by)
-            self.old passes.now.of_blocks.items (seen_reply result)
+    pub(crate) fn skip(&mut self, by: usize, passes: &Passes<A>) -> TableReply<S, B, M, A>
+        ensures { (next i : ℕ) → Answers (setting_of (layout_facts L.Layout) L.Writable.ANY
+            L.clone_wants S.DROPS S.boundary
+            (type_size S.Item.row) S.Zero.zero S.Calls.calls) next (command.Adv i by)
+            self.old passes.now.of_blocks.items (seen_reply S.items_in S.items_in_box B.list result)
             (Some self.new) None passes.now.of_blocks.items }
     {
         let _ = passes;
@@ -182,10 +226,11 @@ where
     }
 
     /// Leaves the window's first `len` items, or all where it has no more.
-    pub(crate) fn cut(&mut self, len: usize, passes: &Passes<A>) -> TableReply<S::Item, A>
-        ensures { (next i : ℕ) → Answers (setting_of L.STATIC L.clone_wants S.DROPS S.boundary
-            (type_size S.Item.row) S.Zero.zero) next (command.Trunc i len)
-            self.old passes.now.of_blocks.items (seen_reply result)
+    pub(crate) fn cut(&mut self, len: usize, passes: &Passes<A>) -> TableReply<S, B, M, A>
+        ensures { (next i : ℕ) → Answers (setting_of (layout_facts L.Layout) L.Writable.ANY
+            L.clone_wants S.DROPS S.boundary
+            (type_size S.Item.row) S.Zero.zero S.Calls.calls) next (command.Trunc i len)
+            self.old passes.now.of_blocks.items (seen_reply S.items_in S.items_in_box B.list result)
             (Some self.new) None passes.now.of_blocks.items }
     {
         let _ = passes;
@@ -201,11 +246,12 @@ where
     }
 
     /// Makes the window, which is written, one that is read.
-    pub(crate) fn freeze(self, passes: &mut Passes<A>) -> (TableReply<S::Item, A>, Self)
+    pub(crate) fn freeze(self, passes: &mut Passes<A>) -> (TableReply<S, B, M, A>, Self)
         requires { HasPassFor passes.old.of_blocks.items (stand_of (Some self)) }
-        ensures { (next i : ℕ) → Answers (setting_of L.STATIC L.clone_wants S.DROPS S.boundary
-            (type_size S.Item.row) S.Zero.zero) next (command.Freeze i)
-            self passes.old.of_blocks.items (seen_reply result.0)
+        ensures { (next i : ℕ) → Answers (setting_of (layout_facts L.Layout) L.Writable.ANY
+            L.clone_wants S.DROPS S.boundary
+            (type_size S.Item.row) S.Zero.zero S.Calls.calls) next (command.Freeze i)
+            self passes.old.of_blocks.items (seen_reply S.items_in S.items_in_box B.list result.0)
             (Some result.1) None passes.new.of_blocks.items }
     {
         if !self.is_written() {
@@ -222,11 +268,12 @@ where
     }
 
     /// Makes the window, which is read, one that is written, if it is alone.
-    pub(crate) fn make_mut(self, passes: &mut Passes<A>) -> (TableReply<S::Item, A>, Self)
+    pub(crate) fn make_mut(self, passes: &mut Passes<A>) -> (TableReply<S, B, M, A>, Self)
         requires { HasPassFor passes.old.of_blocks.items (stand_of (Some self)) }
-        ensures { (next i : ℕ) → Answers (setting_of L.STATIC L.clone_wants S.DROPS S.boundary
-            (type_size S.Item.row) S.Zero.zero) next (command.Mut i)
-            self passes.old.of_blocks.items (seen_reply result.0)
+        ensures { (next i : ℕ) → Answers (setting_of (layout_facts L.Layout) L.Writable.ANY
+            L.clone_wants S.DROPS S.boundary
+            (type_size S.Item.row) S.Zero.zero S.Calls.calls) next (command.Mut i)
+            self passes.old.of_blocks.items (seen_reply S.items_in S.items_in_box B.list result.0)
             (Some result.1) None passes.new.of_blocks.items }
     {
         if self.is_written() {
@@ -237,36 +284,36 @@ where
             Err(slot) => (Reply::Refused, slot),
         }
     }
+}
 
-    /// Ends the window.
+impl<S: Slice, L: Layout, B: BufferMut<S::Item> + Drop, M: Drop, A: Allocator + Copy> Slot<
+    S,
+    L,
+    B,
+    M,
+    A,
+>
+where
+    L::Writable: LayoutMut,
+{
+    ghost use Rattle.std.specs.Prelude.{◌≡◌, ℕ, None, Some, length};
+    ghost use Rattle.arc_commands.specs.Step.{Setting};
+    ghost use Rattle.arc_commands.specs.declared.command.Cmd.TheVariants as command;
+    ghost use Rattle.arc_commands.specs.declared.command.Reply.TheVariants as reply;
+    ghost use Rattle.arc_slots.specs.Answers.{Answers};
+    ghost use Rattle.arc_slots.specs.Slots.{stand_of};
+    ghost use Rattle.arc_slots.specs.Stands.{HasPassFor};
+
+    /// Ends the window, whatever the table is run under.
     #[tactic(auto, using(crate::proofs::Told::many_along))]
-    pub(crate) fn drop_window(self, passes: &mut Passes<A>) -> TableReply<S::Item, A>
+    pub(crate) fn drop_window(self, passes: &mut Passes<A>)
         requires { HasPassFor passes.old.of_blocks.items (stand_of (Some self)) }
         ensures many { length passes.new.of_blocks.items ≡ length passes.old.of_blocks.items }
-        ensures answer { (next i : ℕ) → Answers (setting_of L.STATIC L.clone_wants S.DROPS
-            S.boundary (type_size S.Item.row) S.Zero.zero) next (command.Drop i)
-            self passes.old.of_blocks.items (seen_reply result)
+        ensures answer { (setting : Setting S.Item) (next i : ℕ) → Answers setting next
+            (command.Drop i) self passes.old.of_blocks.items reply.Ok
             None None passes.new.of_blocks.items }
     {
         self.known_role();
         self.release(passes);
-        Reply::Ok
-    }
-
-    /// The items of the window, which ends, if it is read and stands on no block.
-    pub(crate) fn take_static(self, passes: &Passes<A>) -> (TableReply<S::Item, A>, Option<Self>)
-        ensures { (next i : ℕ) → Answers (setting_of L.STATIC L.clone_wants S.DROPS S.boundary
-            (type_size S.Item.row) S.Zero.zero) next (command.TakeStatic i)
-            self passes.now.of_blocks.items (seen_reply result.0)
-            result.1 None passes.now.of_blocks.items }
-    {
-        let _ = passes;
-        if self.is_written() {
-            return (Reply::Kind, Some(self));
-        }
-        if self.is_on_block() {
-            return (Reply::Refused, Some(self));
-        }
-        (Reply::Static(self.into_static()), None)
     }
 }

@@ -1,37 +1,42 @@
 //! A command on the window under one number of a table.
 ghost use Rattle.std.specs.Prelude.{◌≡◌, ℕ, None, Some, true, is_some, length, IfSome};
+ghost use Rattle.arc_block.specs.LayoutFacts.{layout_facts};
 ghost use Rattle.std.specs.Mem.{FitsInMemory, type_size};
-ghost use Rattle.arc_commands.specs.Seen.{seen_command, seen_reply};
-ghost use Rattle.arc_commands.specs.Step.{setting_of};
+ghost use Rattle.arc_commands.specs.Seen.{map_command, seen_reply};
+ghost use Rattle.arc_commands.specs.Step.{Setting, setting_of};
 ghost use Rattle.arc_commands.specs.declared.command.Cmd.TheVariants as command;
 ghost use Rattle.arc_commands.specs.declared.command.Reply.TheVariants as reply;
 ghost use Rattle.arc_slots.specs.Answers.{Answers};
 ghost use Rattle.arc_slots.specs.Slots.{stand_of};
-ghost use Rattle.arc_slots.specs.Stands.{HasPassFor};
+ghost use Rattle.arc_slots.specs.Stands.{HasBlockPass, HasPassFor, LivesOn};
+ghost use Rattle.arc_slots.specs.Taking.{take_command};
 
-use crate::kinds::Commands;
+use crate::kinds::{Commands, TableCmd, TableReply, vec_of};
 use crate::list::set_slot;
 use crate::part::Part;
 use crate::passes::Passes;
 use crate::slot::{Slot, Writing};
+use crate::take::Taking;
 use arc_block::layout::{Layout, LayoutMut};
-use arc_commands::command::{Cmd, Reply, TableCmd, TableReply};
+use arc_buffer::buffer::BufferMut;
+use arc_buffer::kinds::Slice;
+use arc_commands::command::{Cmd, Given, Reply};
 use std::alloc::Allocator;
 use std::mem;
 use std::sync::Wait;
 
 /// The window is read from now on, if it was written.
-fn freeze_at<S: Commands, L: Layout, B, M, A: Allocator + Copy>(
+fn freeze_at<S: Commands<A>, L: Layout, B: BufferMut<S::Item> + Drop, M: Drop, A: Allocator + Copy>(
     place: &mut Option<Slot<S, L, B, M, A>>,
     passes: &mut Passes<A>,
-) -> TableReply<S::Item, A>
+) -> TableReply<S, B, M, A>
 where
-    S::Item: Copy,
     L::Writable: LayoutMut,
     requires { HasPassFor passes.old.of_blocks.items (stand_of place.old) }
-    ensures { IfSome place.old (λ s. (next i : ℕ) → Answers (setting_of L.STATIC L.clone_wants
-        S.DROPS S.boundary (type_size S.Item.row) S.Zero.zero) next (command.Freeze i)
-        s passes.old.of_blocks.items (seen_reply result)
+    ensures { IfSome place.old (λ s. (next i : ℕ) → Answers (setting_of (layout_facts L.Layout)
+        L.Writable.ANY L.clone_wants
+        S.DROPS S.boundary (type_size S.Item.row) S.Zero.zero S.Calls.calls) next (command.Freeze i)
+        s passes.old.of_blocks.items (seen_reply S.items_in S.items_in_box B.list result)
         place.new None passes.new.of_blocks.items) }
 {
     let Some(slot) = mem::replace(place, None) else {
@@ -43,17 +48,17 @@ where
 }
 
 /// The window is written from now on, if it was read and is alone.
-fn mut_at<S: Commands, L: Layout, B, M, A: Allocator + Copy>(
+fn mut_at<S: Commands<A>, L: Layout, B: BufferMut<S::Item> + Drop, M: Drop, A: Allocator + Copy>(
     place: &mut Option<Slot<S, L, B, M, A>>,
     passes: &mut Passes<A>,
-) -> TableReply<S::Item, A>
+) -> TableReply<S, B, M, A>
 where
-    S::Item: Copy,
     L::Writable: LayoutMut,
     requires { HasPassFor passes.old.of_blocks.items (stand_of place.old) }
-    ensures { IfSome place.old (λ s. (next i : ℕ) → Answers (setting_of L.STATIC L.clone_wants
-        S.DROPS S.boundary (type_size S.Item.row) S.Zero.zero) next (command.Mut i)
-        s passes.old.of_blocks.items (seen_reply result)
+    ensures { IfSome place.old (λ s. (next i : ℕ) → Answers (setting_of (layout_facts L.Layout)
+        L.Writable.ANY L.clone_wants
+        S.DROPS S.boundary (type_size S.Item.row) S.Zero.zero S.Calls.calls) next (command.Mut i)
+        s passes.old.of_blocks.items (seen_reply S.items_in S.items_in_box B.list result)
         place.new None passes.new.of_blocks.items) }
 {
     let Some(slot) = mem::replace(place, None) else {
@@ -64,19 +69,24 @@ where
     reply
 }
 
-/// The window ends, if there is one. Takes no memory.
-pub fn drop_at<S: Commands, L: Layout, B, M, A: Allocator + Copy>(
-    place: &mut Option<Slot<S, L, B, M, A>>,
-    passes: &mut Passes<A>,
-) -> TableReply<S::Item, A>
+/// The window ends, if there is one, whatever the table is run under. Takes no memory.
+#[tactic(auto, using(crate::proofs::Taken::has_both))]
+pub fn drop_at<
+    S: Slice,
+    L: Layout,
+    B: BufferMut<S::Item> + Drop,
+    M: Drop,
+    A: Allocator + Copy,
+    G: Given,
+>(place: &mut Option<Slot<S, L, B, M, A>>, passes: &mut Passes<A>) -> Reply<G>
 where
-    S::Item: Copy,
     L::Writable: LayoutMut,
-    requires { HasPassFor passes.old.of_blocks.items (stand_of place.old) }
-    ensures dropped { IfSome place.old (λ s. (next i : ℕ) → Answers (setting_of L.STATIC
-        L.clone_wants S.DROPS S.boundary (type_size S.Item.row) S.Zero.zero) next (command.Drop i)
-        s passes.old.of_blocks.items (seen_reply result)
+    requires pass { HasBlockPass passes.old.of_blocks.items (stand_of place.old) }
+    requires lives { LivesOn passes.old.of_blocks.items (stand_of place.old) }
+    ensures dropped { IfSome place.old (λ s. (setting : Setting S.Item) (next i : ℕ)
+        → Answers setting next (command.Drop i) s passes.old.of_blocks.items reply.Ok
         place.new None passes.new.of_blocks.items) }
+    ensures some { IfSome place.old (λ s. result ≡ reply.Ok) }
     ensures none { place.old ≡ None → (result ≡ reply.NoWindow)
         × (passes.new.of_blocks.items ≡ passes.old.of_blocks.items) }
     ensures gone { place.new ≡ None }
@@ -85,50 +95,61 @@ where
     let Some(slot) = mem::replace(place, None) else {
         return Reply::NoWindow;
     };
-    slot.drop_window(passes)
+    slot.drop_window(passes);
+    Reply::Ok
 }
 
-/// The window ends and leaves its items, if it stands on no block.
-fn take_at<S: Commands, L: Layout, B, M, A: Allocator + Copy>(
+/// What the window stands on is taken out, if it can be had; then the window is gone.
+fn take_at<S: Commands<A>, L: Layout, B: BufferMut<S::Item> + Drop, M: Drop, A: Allocator + Copy>(
     place: &mut Option<Slot<S, L, B, M, A>>,
+    what: Taking,
     passes: &mut Passes<A>,
-) -> TableReply<S::Item, A>
+) -> TableReply<S, B, M, A>
 where
-    S::Item: Copy,
     L::Writable: LayoutMut,
     requires { HasPassFor passes.old.of_blocks.items (stand_of place.old) }
-    ensures { IfSome place.old (λ s. (next i : ℕ) → Answers (setting_of L.STATIC L.clone_wants
-        S.DROPS S.boundary (type_size S.Item.row) S.Zero.zero) next (command.TakeStatic i)
-        s passes.old.of_blocks.items (seen_reply result)
+    ensures { IfSome place.old (λ s. (next i : ℕ) → Answers (setting_of (layout_facts L.Layout)
+        L.Writable.ANY L.clone_wants
+        S.DROPS S.boundary (type_size S.Item.row) S.Zero.zero S.Calls.calls) next
+        (take_command i what)
+        s passes.old.of_blocks.items (seen_reply S.items_in S.items_in_box B.list result)
         place.new None passes.new.of_blocks.items) }
 {
     let Some(slot) = mem::replace(place, None) else {
         return Reply::NoWindow;
     };
-    let (reply, slot) = slot.take_static(passes);
+    let (reply, slot) = slot.take(what, passes);
     set_slot(place, slot);
     reply
 }
 
 /// Carries out a command on the window that is here, if there is one: its reply, and the window
 /// that was made beside it, if one was. That goes under the next number, where there is room.
-pub fn answer<S: Commands, L: Layout, B, M, A: Allocator + Copy>(
+#[tactic(auto, using(crate::proofs::Taken::has_block, crate::proofs::Taken::has_life))]
+pub fn answer<
+    S: Commands<A>,
+    L: Layout,
+    B: BufferMut<S::Item> + Drop,
+    M: Drop,
+    A: Allocator + Copy,
+>(
     place: &mut Option<Slot<S, L, B, M, A>>,
     rt: &impl Wait,
     alloc: A,
-    command: TableCmd<S::Item, A>,
+    command: TableCmd<S, B, M, A>,
     next: usize,
     has_room: bool,
     passes: &mut Passes<A>,
-) -> (TableReply<S::Item, A>, Option<Slot<S, L, B, M, A>>)
+) -> (TableReply<S, B, M, A>, Option<Slot<S, L, B, M, A>>)
 where
-    S::Item: Copy,
     L::Writable: LayoutMut,
     requires item { FitsInMemory S.Item.row }
     requires pass { HasPassFor passes.old.of_blocks.items (stand_of place.old) }
-    ensures there { IfSome place.old (λ s. Answers (setting_of L.STATIC L.clone_wants S.DROPS
-        S.boundary (type_size S.Item.row) S.Zero.zero) next (seen_command command)
-        s passes.old.of_blocks.items (seen_reply result.0)
+    ensures there { IfSome place.old (λ s. Answers (setting_of (layout_facts L.Layout)
+        L.Writable.ANY L.clone_wants S.DROPS
+        S.boundary (type_size S.Item.row) S.Zero.zero S.Calls.calls) next
+        (map_command S.items_in S.static_in B.list command)
+        s passes.old.of_blocks.items (seen_reply S.items_in S.items_in_box B.list result.0)
         place.new result.1 passes.new.of_blocks.items) }
     ensures none { place.old ≡ None
         → (result.0 ≡ reply.NoWindow) × (result.1 ≡ None) × (place.new ≡ None)
@@ -151,17 +172,30 @@ where
         Cmd::Room { .. } => (slot.room(passes), None),
         Cmd::Res { additional, .. } => (slot.fill(Writing::Nothing(additional), passes), None),
         Cmd::Push { item, .. } => (slot.fill(Writing::Item(item), passes), None),
-        Cmd::Ext { items, .. } => (slot.fill(Writing::Items(items), passes), None),
+        Cmd::Ext { items, .. } => (
+            slot.fill(Writing::Items(vec_of::<S, A>(items)), passes),
+            None,
+        ),
         Cmd::Rec { additional, .. } => (slot.reclaim(additional, passes), None),
         Cmd::Adv { by, .. } => (slot.skip(by, passes), None),
         Cmd::Trunc { len, .. } => (slot.cut(len, passes), None),
         Cmd::Freeze { .. } => (freeze_at(place, passes), None),
         Cmd::Mut { .. } => (mut_at(place, passes), None),
         Cmd::Drop { .. } => (drop_at(place, passes), None),
-        Cmd::TakeStatic { .. } => (take_at(place, passes), None),
+        Cmd::Take { .. } => (take_at(place, Taking::Vector, passes), None),
+        Cmd::TakeBox { .. } => (take_at(place, Taking::Boxed, passes), None),
+        Cmd::TakeStatic { .. } => (take_at(place, Taking::Static, passes), None),
+        // These are answered so far as where the kind has no such call.
+        Cmd::Meta { .. } => (Reply::Kind, None),
+        Cmd::TakeBuf { .. } => (Reply::Kind, None),
+        Cmd::TakeRaw { .. } => (Reply::Kind, None),
         // These are on no window.
         Cmd::Slice(_) => (Reply::Kind, None),
+        Cmd::Vec(_) => (Reply::Kind, None),
         Cmd::Static(_) => (Reply::Kind, None),
+        Cmd::Raw(_) => (Reply::Kind, None),
+        Cmd::Buf { .. } => (Reply::Kind, None),
+        Cmd::MBuf { .. } => (Reply::Kind, None),
         Cmd::New => (Reply::Kind, None),
         Cmd::Cap { .. } => (Reply::Kind, None),
         Cmd::Zero { .. } => (Reply::Kind, None),

@@ -1,23 +1,144 @@
 //! What a table's commands may ask of a kind, beside what all its kinds have.
-ghost use Rattle.std.specs.Prelude.{◌≡◌, ◌≤◌, Bool, true, false, Option, Some, None, is_some};
-ghost use Rattle.std.specs.Prelude.{replicate, IfNone, IfOk, IfSome, OnErr};
+ghost use Rattle.std.specs.Prelude.{◌≡◌, ◌≤◌, List, Option, Some, None, true, is_some, replicate};
+ghost use Rattle.std.specs.Prelude.{IfNone, IfOk, IfSome, OnErr};
+ghost use Rattle.std.specs.Vec.{vec_items};
+ghost use Rattle.std.specs.String.{string_bytes};
+ghost use Rattle.std.specs.declared.vec.Vec.{Vec};
+ghost use Rattle.std.specs.Box.{boxed_slice_items, boxed_str_bytes};
+ghost use Rattle.std.specs.declared.boxed.BoxedSlice.{BoxedSlice};
+ghost use Rattle.std.proofs.Common.{ap};
+ghost use Rattle.std.proofs.lemmas.Str.{IsUtf8-had};
 ghost use Rattle.arc_owners.specs.count.Calls.{IsPassOfNone};
 ghost use Rattle.arc_block.specs.Writers.{MakesWriter};
 
 use arc_block::layout::LayoutMut;
+use arc_block::static_slice::StaticSlice;
+use arc_buffer::buffer::BufferMut;
 use arc_buffer::kinds::{
-    ByteText, CopySlice, Emptyable, Extendable, Plain, Slice, Subsliceable, Zeroable,
+    ByteText, Emptyable, Owned, Plain, Slice, Subsliceable, Text, Wraps, Zeroable,
 };
+use arc_commands::command::{Carries, Cmd, Gives, Reply};
 use arc_owners::error::AllocError;
 use arc_owners::mark::Whole;
 use arc_owners::owners::Pass;
 use arc_write::slice_mut::ArcSliceMut;
+pub use calls::{AllCalls, CallsOf, OwnedCalls, TextCalls};
 use std::alloc::Allocator;
+use std::boxed::{BoxedSlice, BoxedStr};
+use std::sync::Arc;
 
-/// The Copy kinds as a table has them: what its commands ask of each, and whether there are zeros.
-pub trait Commands: CopySlice + Emptyable + Extendable + Subsliceable {
+/// The kinds as a table over A has them: what its commands bring, and which of the calls that not
+/// all kinds have each has.
+pub trait Commands<A: Allocator>: Emptyable + Subsliceable {
+    /// A list that a command brings, and a vector that is taken back: a `String` of `Text`, a `Vec`
+    /// of the others.
+    type Items: Wraps<Vec<Self::Item, A>> + Drop;
+
+    /// A box that is taken back: a `BoxedStr` of `Text`, a `BoxedSlice` of the others.
+    type Boxed: Wraps<BoxedSlice<Self::Item, A>> + Drop;
+
+    /// A slice that is there for good: a `&'static str` of `Text`, a `StaticSlice` of the others.
+    type Static: Drop;
+
     /// `HasZero` where the kind has a zero, else `NoZero`.
     type Zero: ZeroOf<Self>;
+
+    /// Its calls.
+    type Calls: CallsOf<Self>;
+
+    /// The items of a list that a command brings.
+    ghost items_in: { Self.Items → List Self.Item };
+
+    /// The items of a box.
+    ghost items_in_box: { Self.Boxed → List Self.Item };
+
+    /// The items of a slice that is there for good.
+    ghost static_in: { Self.Static → List Self.Item };
+
+    /// A slice that is there for good, as one of items.
+    fn lasting(items: Self::Static) -> StaticSlice<Self::Item>
+        ensures list { result ≡ static_in items }
+        ensures legal { ∥ Self.is_legal result ∥₁ };
+
+    /// A list has the items of the vector that it wraps.
+    ghost items_are: { (items : Self.Items) (inner : Vec Self.Item A)
+        → Self.Items.wraps items inner → inner.items ≡ items_in items };
+
+    /// It wraps none but of a legal list.
+    ghost items_legal: { (inner : Vec Self.Item A)
+        → Self.Items.may_wrap inner → Self.is_legal inner.items };
+
+    /// And it may wrap each of those.
+    ghost items_wrap: { (inner : Vec Self.Item A)
+        → Self.is_legal inner.items → Self.Items.may_wrap inner };
+
+    /// A box has the items of the one that it wraps.
+    ghost box_items_are: { (items : Self.Boxed) (inner : BoxedSlice Self.Item A)
+        → Self.Boxed.wraps items inner → boxed_slice_items inner ≡ items_in_box items };
+
+    /// It may wrap each of a legal list.
+    ghost box_wraps: { (inner : BoxedSlice Self.Item A)
+        → Self.is_legal (boxed_slice_items inner) → Self.Boxed.may_wrap inner };
+
+    /// That a list is legal is a fact: it says no more than that it holds.
+    ghost legal_is_fact: { (xs : List Self.Item) → ∥ Self.is_legal xs ∥₁ → Self.is_legal xs };
+}
+
+/// What a table of windows of kind S is asked, with callers' buffers B, metadata M, and A for
+/// vectors.
+pub type TableCmd<S, B, M, A> = Cmd<
+    Carries<<S as Commands<A>>::Items, <S as Commands<A>>::Static, B, M, <S as Slice>::Item>,
+>;
+
+/// What a table of windows of kind S answers, with callers' buffers B, metadata M, and A for
+/// vectors and boxes.
+pub type TableReply<S, B, M, A> = Reply<
+    Gives<
+        Vec<<S as Slice>::Item, A>,
+        <S as Commands<A>>::Items,
+        <S as Commands<A>>::Boxed,
+        B,
+        Arc<B, A>,
+        StaticSlice<<S as Slice>::Item>,
+        M,
+    >,
+>;
+
+/// What such a table answers that lends what it shows.
+pub type LentReply<'a, S, B, M, A> = Reply<
+    Gives<
+        &'a [<S as Slice>::Item],
+        <S as Commands<A>>::Items,
+        <S as Commands<A>>::Boxed,
+        B,
+        Arc<B, A>,
+        StaticSlice<<S as Slice>::Item>,
+        M,
+    >,
+>;
+
+/// The vector of a list that a command brings. Takes no memory.
+pub(crate) fn vec_of<S: Commands<A>, A: Allocator>(items: S::Items) -> Vec<S::Item, A>
+    ensures list { result.items ≡ S.items_in items }
+    ensures legal { ∥ S.is_legal result.items ∥₁ }
+{
+    items.into_inner()
+}
+
+/// A vector that is taken back, of a legal list. Takes no memory.
+pub(crate) fn items_of<S: Commands<A>, A: Allocator>(items: Vec<S::Item, A>) -> S::Items
+    requires { ∥ S.is_legal items.items ∥₁ }
+    ensures { S.items_in result ≡ items.items }
+{
+    S::Items::from_inner(items)
+}
+
+/// A vector of a legal list as a box that is taken back.
+pub(crate) fn box_of<S: Commands<A>, A: Allocator>(items: Vec<S::Item, A>) -> S::Boxed
+    requires { ∥ S.is_legal items.items ∥₁ }
+    ensures { S.items_in_box result ≡ items.items }
+{
+    S::Boxed::from_inner(items.into_boxed_slice())
 }
 
 /// Items of plain data that a table may have. A type whose items have no zero is one by
@@ -50,7 +171,7 @@ pub trait ZeroOf<S: Slice> {
     /// # History
     ///
     /// The block's begins: the window is owner 0.
-    fn try_zeroed_as<L: LayoutMut, B, M, A: Allocator + Copy>(
+    fn try_zeroed_as<L: LayoutMut, B: BufferMut<S::Item> + Drop, M: Drop, A: Allocator + Copy>(
         alloc: A,
         count: usize,
         pass: &mut Pass<Whole>,
@@ -77,7 +198,7 @@ impl<S: Slice> ZeroOf<S> for NoZero {
         false
     }
 
-    fn try_zeroed_as<L: LayoutMut, B, M, A: Allocator + Copy>(
+    fn try_zeroed_as<L: LayoutMut, B: BufferMut<S::Item> + Drop, M: Drop, A: Allocator + Copy>(
         alloc: A,
         count: usize,
         pass: &mut Pass<Whole>,
@@ -99,7 +220,7 @@ where
         true
     }
 
-    fn try_zeroed_as<L: LayoutMut, B, M, A: Allocator + Copy>(
+    fn try_zeroed_as<L: LayoutMut, B: BufferMut<S::Item> + Drop, M: Drop, A: Allocator + Copy>(
         alloc: A,
         count: usize,
         pass: &mut Pass<Whole>,
@@ -108,12 +229,140 @@ where
     }
 }
 
-impl<T: TableItem> Commands for Plain<T> {
+impl<T: TableItem, A: Allocator> Commands<A> for Plain<T> {
+    type Items = Vec<T, A>;
+
+    type Boxed = BoxedSlice<T, A>;
+
+    type Static = StaticSlice<T>;
+
     type Zero = T::Zero;
+
+    type Calls = AllCalls;
+
+    ghost items_in = { vec_items };
+
+    ghost items_in_box = { boxed_slice_items };
+
+    ghost static_in = { λ items. items };
+
+    fn lasting(items: StaticSlice<T>) -> StaticSlice<T> {
+        items
+    }
+
+    ghost items_are = { λ _ _ same. ap vec_items same };
+
+    ghost items_legal = { λ _ legal. legal };
+
+    ghost items_wrap = { λ _ legal. legal };
+
+    ghost box_items_are = { λ _ _ same. ap boxed_slice_items same };
+
+    ghost box_wraps = { λ _ legal. legal };
+
+    ghost legal_is_fact = { λ _ _. tt };
 }
 
-impl Commands for ByteText {
+impl<A: Allocator> Commands<A> for ByteText {
+    type Items = Vec<u8, A>;
+
+    type Boxed = BoxedSlice<u8, A>;
+
+    type Static = StaticSlice<u8>;
+
     type Zero = HasZero;
+
+    type Calls = AllCalls;
+
+    ghost items_in = { vec_items };
+
+    ghost items_in_box = { boxed_slice_items };
+
+    ghost static_in = { λ items. items };
+
+    fn lasting(items: StaticSlice<u8>) -> StaticSlice<u8> {
+        items
+    }
+
+    ghost items_are = { λ _ _ same. ap vec_items same };
+
+    ghost items_legal = { λ _ legal. legal };
+
+    ghost items_wrap = { λ _ legal. legal };
+
+    ghost box_items_are = { λ _ _ same. ap boxed_slice_items same };
+
+    ghost box_wraps = { λ _ legal. legal };
+
+    ghost legal_is_fact = { λ _ _. tt };
+}
+
+impl<A: Allocator> Commands<A> for Text {
+    type Items = String<A>;
+
+    type Boxed = BoxedStr<A>;
+
+    type Static = &'static str;
+
+    type Zero = HasZero;
+
+    type Calls = TextCalls;
+
+    ghost items_in = { string_bytes };
+
+    ghost items_in_box = { boxed_str_bytes };
+
+    ghost static_in = { λ text. text.now };
+
+    fn lasting(items: &'static str) -> StaticSlice<u8> {
+        StaticSlice::new(items.as_bytes())
+    }
+
+    ghost items_are = { λ _ _ same. ap vec_items same };
+
+    ghost items_legal = { λ _ legal. legal };
+
+    ghost items_wrap = { λ _ legal. legal };
+
+    ghost box_items_are = { λ _ _ same. same };
+
+    ghost box_wraps = { λ _ legal. legal };
+
+    ghost legal_is_fact = { λ xs had. IsUtf8-had xs had };
+}
+
+impl<T: Drop, A: Allocator> Commands<A> for Owned<T> {
+    type Items = Vec<T, A>;
+
+    type Boxed = BoxedSlice<T, A>;
+
+    type Static = StaticSlice<T>;
+
+    type Zero = NoZero;
+
+    type Calls = OwnedCalls;
+
+    ghost items_in = { vec_items };
+
+    ghost items_in_box = { boxed_slice_items };
+
+    ghost static_in = { λ items. items };
+
+    fn lasting(items: StaticSlice<T>) -> StaticSlice<T> {
+        items
+    }
+
+    ghost items_are = { λ _ _ same. ap vec_items same };
+
+    ghost items_legal = { λ _ legal. legal };
+
+    ghost items_wrap = { λ _ legal. legal };
+
+    ghost box_items_are = { λ _ _ same. ap boxed_slice_items same };
+
+    ghost box_wraps = { λ _ legal. legal };
+
+    ghost legal_is_fact = { λ _ _. tt };
 }
 
 impl TableItem for () {
@@ -140,4 +389,5 @@ impl<T: TableItem, const N: usize> TableItem for [T; N] {
     type Zero = NoZero;
 }
 
+mod calls;
 mod numbers;

@@ -9,3 +9,4 @@ pub mod maker;
 pub mod part;
 pub mod passes;
 pub mod slot;
+pub mod take;

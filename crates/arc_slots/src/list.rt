@@ -1,19 +1,195 @@
-//! What a table does with its slots, as a list.
-ghost use Rattle.std.specs.Prelude.{◌≡◌, ◌<◌, ℕ, true, Some, None, length, is_some};
-ghost use Rattle.std.specs.Prelude.{MatchOption, slice_get};
+//! The windows of a table under their numbers.
+ghost use Rattle.std.specs.Prelude.{◌≡◌, ◌<◌, ◌++◌, ◌∷◌, ℕ, [], true, Some, None, length, is_some};
+ghost use Rattle.std.specs.Prelude.{IfSome, MatchOption, slice_get};
 ghost use Rattle.std.specs.Option.{option_flatten};
 ghost use Rattle.std.specs.Vec.{vec_capacity};
+ghost use Rattle.arc_slots.specs.Index.{IsIndexed, windows_of};
 ghost use Rattle.arc_slots.specs.Slots.{with_slot};
 
 use std::alloc::Allocator;
 use std::mem;
 
-/// The slot with this number, if its window was made and hasn't gone.
-pub fn slot_at<X>(slots: &[Option<X>], i: usize) -> Option<&X>
-    ensures { MatchOption result (option_flatten (slice_get slots.now i) ≡ None) (λ slot.
-        slice_get slots.now i ≡ Some (Some slot.now)) }
-{
-    slots.get(i)?.as_ref()
+/// Windows under their numbers. A number keeps eight bytes, for good, which say at which place its
+/// window lies; a place says whose it is, and serves another number when that window has gone.
+pub struct Slots<X, A: Allocator> {
+    /// Of each number, the place of its window.
+    pub index: Vec<usize, A>,
+    /// Of each place, the number to which it was given last.
+    pub numbers: Vec<usize, A>,
+    /// The windows at their places, `None` where one has gone.
+    pub places: Vec<Option<X>, A>,
+    /// Places whose windows have gone: each is looked at before it is given again.
+    pub free: Vec<usize, A>,
+}
+
+impl<X, A: Allocator> Slots<X, A> {
+    /// The place of the window with this number, if it was made and hasn't gone.
+    pub fn place_of(&self, number: usize) -> Option<usize>
+        requires { IsIndexed self.now.index.items self.now.numbers.items self.now.places.items }
+        ensures told { IfSome result (λ p. slice_get self.now.index.items number ≡ Some p) }
+        ensures whose { IfSome result (λ p. slice_get self.now.numbers.items p ≡ Some number) }
+        ensures within { IfSome result (λ p. p < length self.now.places.items) }
+        ensures none { result ≡ None → option_flatten (slice_get (windows_of self.now.index.items
+            self.now.numbers.items self.now.places.items) number) ≡ None }
+    {
+        if number >= self.index.len() {
+            return None;
+        }
+        let place = self.index[number];
+        if place >= self.numbers.len() {
+            return None;
+        }
+        if self.numbers[place] != number {
+            return None;
+        }
+        if self.places[place].is_none() {
+            return None;
+        }
+        Some(place)
+    }
+
+    /// The window with this number, if it was made and hasn't gone.
+    pub fn get(&self, number: usize) -> Option<&X>
+        requires { IsIndexed self.now.index.items self.now.numbers.items self.now.places.items }
+        ensures { MatchOption result (option_flatten (slice_get (windows_of self.now.index.items
+            self.now.numbers.items self.now.places.items) number) ≡ None) (λ window.
+            slice_get (windows_of self.now.index.items self.now.numbers.items
+            self.now.places.items) number ≡ Some (Some window.now)) }
+    {
+        let Some(place) = self.place_of(number) else {
+            return None;
+        };
+        self.places[place].as_ref()
+    }
+
+    /// Whether there is room for a window more, where it is wanted. Takes memory for it there, and
+    /// so that its place can be given again.
+    pub fn room_if(&mut self, wanted: bool) -> bool
+        ensures index { self.new.index.items ≡ self.old.index.items }
+        ensures numbers { self.new.numbers.items ≡ self.old.numbers.items }
+        ensures places { self.new.places.items ≡ self.old.places.items }
+        ensures room { result ≡ true → length self.new.index.items < vec_capacity self.new.index }
+        ensures more { result ≡ true
+            → length self.new.numbers.items < vec_capacity self.new.numbers }
+        ensures further { result ≡ true
+            → length self.new.places.items < vec_capacity self.new.places }
+    {
+        if !wanted {
+            return false;
+        }
+        if self.index.reserve(1).is_err() {
+            return false;
+        }
+        if self.numbers.reserve(1).is_err() {
+            return false;
+        }
+        if self.places.reserve(1).is_err() {
+            return false;
+        }
+        let all = self.places.len().saturating_add(1);
+        let listed = all.saturating_sub(self.free.len());
+        self.free.reserve(listed).is_ok()
+    }
+
+    /// A place without a window, if one is listed.
+    fn free_place(&mut self) -> Option<usize>
+        ensures index { self.new.index ≡ self.old.index }
+        ensures numbers { self.new.numbers ≡ self.old.numbers }
+        ensures places { self.new.places ≡ self.old.places }
+        ensures free { IfSome result (λ p. slice_get self.old.places.items p ≡ Some None) }
+    {
+        let Some(place) = self.free.pop() else {
+            return None;
+        };
+        if place >= self.places.len() {
+            return None;
+        }
+        if self.places[place].is_some() {
+            return None;
+        }
+        Some(place)
+    }
+
+    /// Gives the place of a window that has gone, if it is one, to the list of places to be given
+    /// again.
+    pub fn settle(&mut self, place: usize)
+        ensures index { self.new.index.items ≡ self.old.index.items }
+        ensures numbers { self.new.numbers.items ≡ self.old.numbers.items }
+        ensures places { self.new.places.items ≡ self.old.places.items }
+    {
+        if place >= self.places.len() {
+            return;
+        }
+        if self.places[place].is_some() {
+            return;
+        }
+        if self.free.len() < self.free.capacity() {
+            self.free.push_reserved(place);
+        }
+    }
+
+    /// Puts a window under the next number, at a place that has none.
+    fn put_at(&mut self, place: usize, window: X)
+        requires empty { slice_get self.old.places.items place ≡ Some None }
+        requires indexed { IsIndexed self.old.index.items self.old.numbers.items
+            self.old.places.items }
+        requires room { length self.old.index.items < vec_capacity self.old.index }
+        ensures windows { windows_of self.new.index.items self.new.numbers.items
+            self.new.places.items ≡ windows_of self.old.index.items self.old.numbers.items
+            self.old.places.items ++ Some window ∷ [] }
+        ensures indexed { IsIndexed self.new.index.items self.new.numbers.items
+            self.new.places.items }
+    {
+        let number = self.index.len();
+        self.index.push_reserved(place);
+        self.numbers[place] = number;
+        set_slot(&mut self.places[place], Some(window));
+    }
+
+    /// Puts a window under the next number, at a place more.
+    fn put_behind(&mut self, window: X)
+        requires indexed { IsIndexed self.old.index.items self.old.numbers.items
+            self.old.places.items }
+        requires room { length self.old.index.items < vec_capacity self.old.index }
+        requires more { length self.old.numbers.items < vec_capacity self.old.numbers }
+        requires further { length self.old.places.items < vec_capacity self.old.places }
+        ensures windows { windows_of self.new.index.items self.new.numbers.items
+            self.new.places.items ≡ windows_of self.old.index.items self.old.numbers.items
+            self.old.places.items ++ Some window ∷ [] }
+        ensures indexed { IsIndexed self.new.index.items self.new.numbers.items
+            self.new.places.items }
+    {
+        let number = self.index.len();
+        self.index.push_reserved(self.places.len());
+        self.numbers.push_reserved(number);
+        self.places.push_reserved(Some(window));
+    }
+
+    /// Puts a window that was made, if one was, under the next number.
+    pub fn push_made(&mut self, made: Option<X>)
+        requires indexed { IsIndexed self.old.index.items self.old.numbers.items
+            self.old.places.items }
+        requires room { is_some made ≡ true
+            → length self.old.index.items < vec_capacity self.old.index }
+        requires more { is_some made ≡ true
+            → length self.old.numbers.items < vec_capacity self.old.numbers }
+        requires further { is_some made ≡ true
+            → length self.old.places.items < vec_capacity self.old.places }
+        ensures windows { windows_of self.new.index.items self.new.numbers.items
+            self.new.places.items ≡ with_slot (windows_of self.old.index.items
+            self.old.numbers.items self.old.places.items) made }
+        ensures indexed { IsIndexed self.new.index.items self.new.numbers.items
+            self.new.places.items }
+    {
+        let Some(window) = made else {
+            return;
+        };
+        if let Some(place) = self.free_place() {
+            self.put_at(place, window);
+            return;
+        }
+        self.put_behind(window);
+    }
 }
 
 /// Puts a slot, if there is one, where there is none.
@@ -25,28 +201,7 @@ pub(crate) fn set_slot<X>(place: &mut Option<X>, slot: Option<X>)
     let None = left else { unreachable!() };
 }
 
-/// Whether there is room for a window more, where it is wanted. Takes memory for it there.
-pub fn room_if<X, A: Allocator>(slots: &mut Vec<X, A>, wanted: bool) -> bool
-    ensures slots { slots.new.items ≡ slots.old.items }
-    ensures room { result ≡ true → length slots.new.items < vec_capacity slots.new }
-{
-    if !wanted {
-        return false;
-    }
-    slots.reserve(1).is_ok()
-}
-
-/// Puts a window that was made, if one was, behind the others.
-pub fn push_made<X, A: Allocator>(slots: &mut Vec<Option<X>, A>, made: Option<X>)
-    requires { is_some made ≡ true → length slots.old.items < vec_capacity slots.old }
-    ensures { slots.new.items ≡ with_slot slots.old.items made }
-{
-    if let Some(slot) = made {
-        slots.push_reserved(Some(slot));
-    }
-}
-
-/// Gives back the memory of slots whose windows have all gone.
+/// Gives back the memory of places whose windows have all gone.
 pub fn end_slots<X, A: Allocator>(mut slots: Vec<Option<X>, A>)
     requires { (i : ℕ) → option_flatten (slice_get slots.items i) ≡ None }
 {

@@ -1,21 +1,23 @@
 //! A window that a command makes of what it brings.
 ghost use Rattle.std.specs.Prelude.{◌≡◌, ◌<◌, ◌≤◌, IfErr, IfOk, Some, true, is_some, length};
+ghost use Rattle.arc_block.specs.LayoutFacts.{layout_facts};
 ghost use Rattle.std.specs.Mem.{type_size};
 ghost use Rattle.std.specs.Vec.{vec_capacity};
 ghost use Rattle.arc_block.specs.Writers.{IsNewWriter, idle_writer};
 ghost use Rattle.arc_commands.specs.Additions.{Founds};
-ghost use Rattle.arc_commands.specs.Seen.{seen_command, seen_reply};
-ghost use Rattle.arc_commands.specs.Step.{made_row, setting_of, writer_row};
+ghost use Rattle.arc_commands.specs.Seen.{map_command, seen_reply};
+ghost use Rattle.arc_commands.specs.Step.{made_row, setting_of, vector_row, writer_row};
 ghost use Rattle.arc_commands.specs.declared.command.Cmd.TheVariants as command;
 ghost use Rattle.arc_slots.specs.Makers.{Makes};
 ghost use Rattle.arc_slots.specs.Slots.{row_of, stand_of};
 
-use crate::kinds::{Commands, ZeroOf};
+use crate::kinds::{CallsOf, Commands, TableCmd, TableReply, ZeroOf, vec_of};
 use crate::passes::Passes;
 use crate::slot::{Held, Slot};
 use arc_block::layout::{Layout, LayoutMut, stands_on_nothing};
-use arc_block::static_slice::StaticSlice;
-use arc_commands::command::{Cmd, Reply, TableCmd, TableReply};
+use arc_block::parts::Parts;
+use arc_buffer::buffer::BufferMut;
+use arc_commands::command::{Cmd, Reply};
 use arc_owners::error::AllocError;
 use arc_owners::mark::Whole;
 use arc_owners::owners::Pass;
@@ -24,7 +26,7 @@ use arc_write::slice_mut::ArcSliceMut;
 use std::alloc::Allocator;
 
 /// A writer's slot, on nothing, or as the first owner of a block more, which keeps its pass.
-fn writer<S: Commands, L: Layout, B, M, A: Allocator + Copy>(
+fn writer<S: Commands<A>, L: Layout, B: BufferMut<S::Item> + Drop, M: Drop, A: Allocator + Copy>(
     window: ArcSliceMut<S, L::Writable, 1, B, M, A, Whole>,
     places: usize,
     pass: Pass<Whole>,
@@ -49,15 +51,16 @@ where
 }
 
 /// A reader's slot, of a window that was made of this many items.
-fn reader<S: Commands, L: Layout, B, M, A: Allocator + Copy>(
+fn reader<S: Commands<A>, L: Layout, B: BufferMut<S::Item> + Drop, M: Drop, A: Allocator + Copy>(
     alloc: A,
     items: &[S::Item],
     passes: &mut Passes<A>,
 ) -> Result<Slot<S, L, B, M, A>, AllocError>
 where
-    S::Item: Copy,
     L::Writable: LayoutMut,
-    requires { length passes.old.of_blocks.items < vec_capacity passes.old.of_blocks }
+    requires call { S.Calls.calls.copies ≡ true }
+    requires legal { ∥ S.is_legal items.now ∥₁ }
+    requires room { length passes.old.of_blocks.items < vec_capacity passes.old.of_blocks }
     ensures row { IfOk result (λ slot. row_of slot
         ≡ made_row L.STATIC S.DROPS (length passes.old.of_blocks.items) items.now) }
     ensures stand { IfOk result (λ slot. Founds (stand_of (Some slot)) passes.old.of_blocks.items
@@ -65,7 +68,10 @@ where
     ensures refused { IfErr result (λ _. passes.new.of_blocks.items ≡ passes.old.of_blocks.items) }
 {
     let mut pass = Pass::none();
-    let window = match ArcSlice::try_from_slice_as(alloc, items, &mut pass) {
+    let Some(made) = S::Calls::try_read_as(alloc, items, &mut pass) else {
+        unreachable!()
+    };
+    let window = match made {
         Ok(window) => window,
         Err(e) => return Err(e),
     };
@@ -83,47 +89,125 @@ where
 }
 
 /// A window that is read, over a copy of the items.
-fn over_copy<S: Commands, L: Layout, B, M, A: Allocator + Copy>(
+fn over_copy<S: Commands<A>, L: Layout, B: BufferMut<S::Item> + Drop, M: Drop, A: Allocator + Copy>(
     alloc: A,
-    items: Vec<S::Item, A>,
+    items: S::Items,
     next: usize,
     has_room: bool,
     passes: &mut Passes<A>,
-) -> (TableReply<S::Item, A>, Option<Slot<S, L, B, M, A>>)
+) -> (TableReply<S, B, M, A>, Option<Slot<S, L, B, M, A>>)
 where
-    S::Item: Copy,
     L::Writable: LayoutMut,
-    ensures made { Makes (setting_of L.STATIC L.clone_wants S.DROPS S.boundary
-        (type_size S.Item.row) S.Zero.zero) next (command.Slice items.items)
-        passes.old.of_blocks.items (seen_reply result.0) result.1 passes.new.of_blocks.items }
+    ensures made { Makes (setting_of (layout_facts L.Layout) L.Writable.ANY L.clone_wants S.DROPS
+        S.boundary
+        (type_size S.Item.row) S.Zero.zero S.Calls.calls) next (command.Slice (S.items_in items))
+        passes.old.of_blocks.items (seen_reply S.items_in S.items_in_box B.list result.0) result.1
+        passes.new.of_blocks.items }
     ensures room { is_some result.1 ≡ true → has_room ≡ true }
 {
+    if !S::Calls::copies() {
+        return (Reply::Kind, None);
+    }
     if !has_room {
         return (Reply::Alloc, None);
     }
     if passes.reserve_for(true).is_err() {
         return (Reply::Alloc, None);
     }
+    let items = vec_of::<S, A>(items);
     match reader(alloc, &items, passes) {
         Ok(slot) => (Reply::New(next), Some(slot)),
         Err(_) => (Reply::Alloc, None),
     }
 }
 
-/// A window that is read, over a slice that is there for good.
-fn over_static<S: Commands, L: Layout, B, M, A: Allocator + Copy>(
+/// A reader's slot, of a window that was made of a vector with so many places.
+fn vector<S: Commands<A>, L: Layout, B: BufferMut<S::Item> + Drop, M: Drop, A: Allocator + Copy>(
     alloc: A,
-    items: StaticSlice<S::Item>,
+    items: Vec<S::Item, A>,
+    passes: &mut Passes<A>,
+) -> Result<Slot<S, L, B, M, A>, AllocError>
+where
+    L::Writable: LayoutMut,
+    requires layout { L.ANY ≡ true }
+    requires legal { ∥ S.is_legal items.items ∥₁ }
+    requires room { length passes.old.of_blocks.items < vec_capacity passes.old.of_blocks }
+    ensures row { IfOk result (λ slot. row_of slot ≡ vector_row L.STATIC S.DROPS
+        (length passes.old.of_blocks.items) items.items (vec_capacity items)) }
+    ensures enough { length items.items ≤ vec_capacity items }
+    ensures stand { IfOk result (λ slot. Founds (stand_of (Some slot)) passes.old.of_blocks.items
+        passes.new.of_blocks.items) }
+    ensures refused { IfErr result (λ _. passes.new.of_blocks.items ≡ passes.old.of_blocks.items) }
+{
+    let places = items.capacity();
+    let mut pass = Pass::none();
+    let Ok(parts) = Parts::try_from_vec_as::<L>(alloc, items, &mut pass) else {
+        return Err(AllocError);
+    };
+    let window = Held::Read(ArcSlice::from_parts(parts));
+    if stands_on_nothing::<L>(places) {
+        return Ok(Slot {
+            window,
+            block: None,
+        });
+    }
+    let block = passes.keep(None, true, pass);
+    Ok(Slot { window, block })
+}
+
+/// A window that is read, over a vector.
+fn over_vec<S: Commands<A>, L: Layout, B: BufferMut<S::Item> + Drop, M: Drop, A: Allocator + Copy>(
+    alloc: A,
+    items: S::Items,
     next: usize,
     has_room: bool,
     passes: &mut Passes<A>,
-) -> (TableReply<S::Item, A>, Option<Slot<S, L, B, M, A>>)
+) -> (TableReply<S, B, M, A>, Option<Slot<S, L, B, M, A>>)
 where
-    S::Item: Copy,
     L::Writable: LayoutMut,
-    ensures made { Makes (setting_of L.STATIC L.clone_wants S.DROPS S.boundary
-        (type_size S.Item.row) S.Zero.zero) next (command.Static items)
-        passes.old.of_blocks.items (seen_reply result.0) result.1 passes.new.of_blocks.items }
+    ensures made { Makes (setting_of (layout_facts L.Layout) L.Writable.ANY L.clone_wants S.DROPS
+        S.boundary
+        (type_size S.Item.row) S.Zero.zero S.Calls.calls) next (command.Vec (S.items_in items))
+        passes.old.of_blocks.items (seen_reply S.items_in S.items_in_box B.list result.0)
+        result.1 passes.new.of_blocks.items }
+    ensures room { is_some result.1 ≡ true → has_room ≡ true }
+{
+    if !L::ANY {
+        return (Reply::Kind, None);
+    }
+    if !has_room {
+        return (Reply::Alloc, None);
+    }
+    if passes.reserve_for(true).is_err() {
+        return (Reply::Alloc, None);
+    }
+    match vector(alloc, vec_of::<S, A>(items), passes) {
+        Ok(slot) => (Reply::New(next), Some(slot)),
+        Err(_) => (Reply::Alloc, None),
+    }
+}
+
+/// A window that is read, over a slice that is there for good.
+fn over_static<
+    S: Commands<A>,
+    L: Layout,
+    B: BufferMut<S::Item> + Drop,
+    M: Drop,
+    A: Allocator + Copy,
+>(
+    alloc: A,
+    items: S::Static,
+    next: usize,
+    has_room: bool,
+    passes: &mut Passes<A>,
+) -> (TableReply<S, B, M, A>, Option<Slot<S, L, B, M, A>>)
+where
+    L::Writable: LayoutMut,
+    ensures made { Makes (setting_of (layout_facts L.Layout) L.Writable.ANY L.clone_wants S.DROPS
+        S.boundary
+        (type_size S.Item.row) S.Zero.zero S.Calls.calls) next (command.Static (S.static_in items))
+        passes.old.of_blocks.items (seen_reply S.items_in S.items_in_box B.list result.0) result.1
+        passes.new.of_blocks.items }
     ensures room { is_some result.1 ≡ true → has_room ≡ true }
 {
     let _ = passes;
@@ -133,23 +217,27 @@ where
     if !has_room {
         return (Reply::Alloc, None);
     }
-    (Reply::New(next), Some(Slot::on_static(alloc, items)))
+    (
+        Reply::New(next),
+        Some(Slot::on_static(alloc, S::lasting(items))),
+    )
 }
 
 /// A window that is written, on nothing.
 #[tactic(auto, using(crate::proofs::Made::own_items, crate::proofs::Made::made_so))]
-fn idle<S: Commands, L: Layout, B, M, A: Allocator + Copy>(
+fn idle<S: Commands<A>, L: Layout, B: BufferMut<S::Item> + Drop, M: Drop, A: Allocator + Copy>(
     alloc: A,
     next: usize,
     has_room: bool,
     passes: &mut Passes<A>,
-) -> (TableReply<S::Item, A>, Option<Slot<S, L, B, M, A>>)
+) -> (TableReply<S, B, M, A>, Option<Slot<S, L, B, M, A>>)
 where
-    S::Item: Copy,
     L::Writable: LayoutMut,
-    ensures made { Makes (setting_of L.STATIC L.clone_wants S.DROPS S.boundary
-        (type_size S.Item.row) S.Zero.zero) next command.New
-        passes.old.of_blocks.items (seen_reply result.0) result.1 passes.new.of_blocks.items }
+    ensures made { Makes (setting_of (layout_facts L.Layout) L.Writable.ANY L.clone_wants S.DROPS
+        S.boundary
+        (type_size S.Item.row) S.Zero.zero S.Calls.calls) next command.New
+        passes.old.of_blocks.items (seen_reply S.items_in S.items_in_box B.list result.0) result.1
+        passes.new.of_blocks.items }
     ensures room { is_some result.1 ≡ true → has_room ≡ true }
 {
     if !has_room {
@@ -164,19 +252,26 @@ where
 
 /// A window that is written, with no items and so many places.
 #[tactic(auto, using(crate::proofs::Made::own_items, crate::proofs::Made::made_so))]
-fn with_places<S: Commands, L: Layout, B, M, A: Allocator + Copy>(
+fn with_places<
+    S: Commands<A>,
+    L: Layout,
+    B: BufferMut<S::Item> + Drop,
+    M: Drop,
+    A: Allocator + Copy,
+>(
     alloc: A,
     places: usize,
     next: usize,
     has_room: bool,
     passes: &mut Passes<A>,
-) -> (TableReply<S::Item, A>, Option<Slot<S, L, B, M, A>>)
+) -> (TableReply<S, B, M, A>, Option<Slot<S, L, B, M, A>>)
 where
-    S::Item: Copy,
     L::Writable: LayoutMut,
-    ensures made { Makes (setting_of L.STATIC L.clone_wants S.DROPS S.boundary
-        (type_size S.Item.row) S.Zero.zero) next (command.Cap places)
-        passes.old.of_blocks.items (seen_reply result.0) result.1 passes.new.of_blocks.items }
+    ensures made { Makes (setting_of (layout_facts L.Layout) L.Writable.ANY L.clone_wants S.DROPS
+        S.boundary
+        (type_size S.Item.row) S.Zero.zero S.Calls.calls) next (command.Cap places)
+        passes.old.of_blocks.items (seen_reply S.items_in S.items_in_box B.list result.0) result.1
+        passes.new.of_blocks.items }
     ensures room { is_some result.1 ≡ true → has_room ≡ true }
 {
     if !has_room {
@@ -194,19 +289,26 @@ where
 
 /// A window that is written, over so many zeros.
 #[tactic(auto, using(crate::proofs::Made::own_items, crate::proofs::Made::made_so))]
-fn over_zeros<S: Commands, L: Layout, B, M, A: Allocator + Copy>(
+fn over_zeros<
+    S: Commands<A>,
+    L: Layout,
+    B: BufferMut<S::Item> + Drop,
+    M: Drop,
+    A: Allocator + Copy,
+>(
     alloc: A,
     count: usize,
     next: usize,
     has_room: bool,
     passes: &mut Passes<A>,
-) -> (TableReply<S::Item, A>, Option<Slot<S, L, B, M, A>>)
+) -> (TableReply<S, B, M, A>, Option<Slot<S, L, B, M, A>>)
 where
-    S::Item: Copy,
     L::Writable: LayoutMut,
-    ensures made { Makes (setting_of L.STATIC L.clone_wants S.DROPS S.boundary
-        (type_size S.Item.row) S.Zero.zero) next (command.Zero count)
-        passes.old.of_blocks.items (seen_reply result.0) result.1 passes.new.of_blocks.items }
+    ensures made { Makes (setting_of (layout_facts L.Layout) L.Writable.ANY L.clone_wants S.DROPS
+        S.boundary
+        (type_size S.Item.row) S.Zero.zero S.Calls.calls) next (command.Zero count)
+        passes.old.of_blocks.items (seen_reply S.items_in S.items_in_box B.list result.0) result.1
+        passes.new.of_blocks.items }
     ensures room { is_some result.1 ≡ true → has_room ≡ true }
 {
     if !S::Zero::has_zero() {
@@ -230,29 +332,43 @@ where
 
 /// A window that is written, over a copy of the items.
 #[tactic(auto, using(crate::proofs::Made::own_items, crate::proofs::Made::made_so))]
-fn over_written_copy<S: Commands, L: Layout, B, M, A: Allocator + Copy>(
+fn over_written_copy<
+    S: Commands<A>,
+    L: Layout,
+    B: BufferMut<S::Item> + Drop,
+    M: Drop,
+    A: Allocator + Copy,
+>(
     alloc: A,
-    items: Vec<S::Item, A>,
+    items: S::Items,
     next: usize,
     has_room: bool,
     passes: &mut Passes<A>,
-) -> (TableReply<S::Item, A>, Option<Slot<S, L, B, M, A>>)
+) -> (TableReply<S, B, M, A>, Option<Slot<S, L, B, M, A>>)
 where
-    S::Item: Copy,
     L::Writable: LayoutMut,
-    ensures made { Makes (setting_of L.STATIC L.clone_wants S.DROPS S.boundary
-        (type_size S.Item.row) S.Zero.zero) next (command.MSlice items.items)
-        passes.old.of_blocks.items (seen_reply result.0) result.1 passes.new.of_blocks.items }
+    ensures made { Makes (setting_of (layout_facts L.Layout) L.Writable.ANY L.clone_wants S.DROPS
+        S.boundary
+        (type_size S.Item.row) S.Zero.zero S.Calls.calls) next (command.MSlice (S.items_in items))
+        passes.old.of_blocks.items (seen_reply S.items_in S.items_in_box B.list result.0) result.1
+        passes.new.of_blocks.items }
     ensures room { is_some result.1 ≡ true → has_room ≡ true }
 {
+    if !S::Calls::copies() {
+        return (Reply::Kind, None);
+    }
     if !has_room {
         return (Reply::Alloc, None);
     }
     if passes.reserve_for(true).is_err() {
         return (Reply::Alloc, None);
     }
+    let items = vec_of::<S, A>(items);
     let mut pass = Pass::none();
-    let Ok(window) = ArcSliceMut::try_from_slice_as(alloc, &items, &mut pass) else {
+    let Some(made) = S::Calls::try_written_as(alloc, &items, &mut pass) else {
+        unreachable!()
+    };
+    let Ok(window) = made else {
         return (Reply::Alloc, None);
     };
     (
@@ -263,28 +379,35 @@ where
 
 /// Makes the window of a command that brings what it is made of: the reply, and the window, if it
 /// was made. That goes under the next number, where there is room for it.
-pub fn make<S: Commands, L: Layout, B, M, A: Allocator + Copy>(
+pub fn make<S: Commands<A>, L: Layout, B: BufferMut<S::Item> + Drop, M: Drop, A: Allocator + Copy>(
     alloc: A,
-    command: TableCmd<S::Item, A>,
+    command: TableCmd<S, B, M, A>,
     next: usize,
     has_room: bool,
     passes: &mut Passes<A>,
-) -> (TableReply<S::Item, A>, Option<Slot<S, L, B, M, A>>)
+) -> (TableReply<S, B, M, A>, Option<Slot<S, L, B, M, A>>)
 where
-    S::Item: Copy,
     L::Writable: LayoutMut,
-    ensures made { Makes (setting_of L.STATIC L.clone_wants S.DROPS S.boundary
-        (type_size S.Item.row) S.Zero.zero) next (seen_command command)
-        passes.old.of_blocks.items (seen_reply result.0) result.1 passes.new.of_blocks.items }
+    ensures made { Makes (setting_of (layout_facts L.Layout) L.Writable.ANY L.clone_wants S.DROPS
+        S.boundary
+        (type_size S.Item.row) S.Zero.zero S.Calls.calls) next
+        (map_command S.items_in S.static_in B.list command)
+        passes.old.of_blocks.items (seen_reply S.items_in S.items_in_box B.list result.0) result.1
+        passes.new.of_blocks.items }
     ensures room { is_some result.1 ≡ true → has_room ≡ true }
 {
     match command {
         Cmd::Slice(items) => over_copy(alloc, items, next, has_room, passes),
+        Cmd::Vec(items) => over_vec(alloc, items, next, has_room, passes),
         Cmd::Static(items) => over_static(alloc, items, next, has_room, passes),
         Cmd::New => idle(alloc, next, has_room, passes),
         Cmd::Cap { places } => with_places(alloc, places, next, has_room, passes),
         Cmd::Zero { count } => over_zeros(alloc, count, next, has_room, passes),
         Cmd::MSlice(items) => over_written_copy(alloc, items, next, has_room, passes),
+        // These are answered so far as where the layout holds no such block.
+        Cmd::Raw(_) => (Reply::Kind, None),
+        Cmd::Buf { .. } => (Reply::Kind, None),
+        Cmd::MBuf { .. } => (Reply::Kind, None),
         // These are on a window.
         Cmd::Clone { .. } => (Reply::Kind, None),
         Cmd::Sub { .. } => (Reply::Kind, None),
@@ -303,6 +426,11 @@ where
         Cmd::Adv { .. } => (Reply::Kind, None),
         Cmd::Trunc { .. } => (Reply::Kind, None),
         Cmd::Drop { .. } => (Reply::Kind, None),
+        Cmd::Meta { .. } => (Reply::Kind, None),
+        Cmd::Take { .. } => (Reply::Kind, None),
+        Cmd::TakeBox { .. } => (Reply::Kind, None),
+        Cmd::TakeBuf { .. } => (Reply::Kind, None),
+        Cmd::TakeRaw { .. } => (Reply::Kind, None),
         Cmd::TakeStatic { .. } => (Reply::Kind, None),
     }
 }

@@ -4,6 +4,7 @@ ghost use Rattle.std.specs.Prelude.{◌≡◌, IsOk};
 use crate::passes::Passes;
 use crate::slot::Slot;
 use arc_block::layout::{Layout, LayoutMut};
+use arc_buffer::buffer::BufferMut;
 use arc_buffer::kinds::{Slice, Subsliceable};
 use arc_owners::error::{OwnerError, RangeError};
 use std::alloc::Allocator;
@@ -22,7 +23,13 @@ pub enum Part {
     Front(usize),
 }
 
-impl<S: Subsliceable, L: Layout, B, M, A: Allocator + Copy> Slot<S, L, B, M, A>
+impl<S: Subsliceable, L: Layout, B: BufferMut<S::Item> + Drop, M: Drop, A: Allocator + Copy> Slot<
+    S,
+    L,
+    B,
+    M,
+    A,
+>
 where
     L::Writable: LayoutMut,
 {

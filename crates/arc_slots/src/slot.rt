@@ -1,5 +1,6 @@
 //! One window of a table.
 ghost use Rattle.std.specs.Prelude.{◌≡◌, ◌==◌, ◌&&◌, if◌then◌else◌, Bool, None, true, IfErr, OnOk};
+ghost use Rattle.arc_block.specs.LayoutFacts.{layout_facts};
 ghost use Rattle.std.specs.Prelude.{Err};
 ghost use Rattle.std.specs.Mem.{FitsInMemory, type_size};
 ghost use Rattle.arc_owners.specs.count.Calls.{Leaves};
@@ -7,13 +8,15 @@ ghost use Rattle.arc_block.specs.Place.{at_owner};
 ghost use Rattle.arc_block.specs.Steps.{IsPassAt};
 ghost use Rattle.arc_block.specs.Writers.{room_for, MakesRoom, Pushes};
 ghost use Rattle.arc_slots.specs.Slots.{held};
-ghost use Rattle.arc_slots.specs.Writing.{seen_writing, items_of, additional_of};
+ghost use Rattle.arc_slots.specs.Writing.{can_write, seen_writing, items_of, additional_of};
 
+use crate::kinds::{CallsOf, Commands};
 use crate::passes::Passes;
 use arc_block::layout::{Layout, LayoutMut, stands_on_nothing};
 use arc_block::parts::Parts;
 use arc_block::static_slice::StaticSlice;
-use arc_buffer::kinds::{AnyItems, CopySlice, Extendable, Slice, Subsliceable};
+use arc_buffer::buffer::BufferMut;
+use arc_buffer::kinds::{Slice, Subsliceable};
 use arc_owners::error::{OwnerError, RangeError, TryReserveError};
 use arc_owners::mark::Whole;
 use arc_owners::owners::Pass;
@@ -32,7 +35,7 @@ pub enum Held<R, W> {
 /// A window, and the number of the block that it stands on, if it stands on one. It can't be
 /// dropped: each ends by `release`, since a window that is dropped would stay an owner of its block
 /// for good.
-pub struct Slot<S: Slice, L: Layout, B, M, A: Allocator + Copy>
+pub struct Slot<S: Slice, L: Layout, B: BufferMut<S::Item> + Drop, M: Drop, A: Allocator + Copy>
 where
     L::Writable: LayoutMut,
 {
@@ -43,7 +46,8 @@ where
     pub block: Option<usize>,
 }
 
-impl<S: Slice, L: Layout, B, M, A: Allocator + Copy> Model for Slot<S, L, B, M, A>
+impl<S: Slice, L: Layout, B: BufferMut<S::Item> + Drop, M: Drop, A: Allocator + Copy> Model
+    for Slot<S, L, B, M, A>
 where
     L::Writable: LayoutMut,
 {
@@ -85,15 +89,20 @@ impl<T, A: Allocator> Writing<Vec<T, A>, T> {
     }
 }
 
-/// Writes into a window: room is made, and the items are put behind the others. Refused, nothing
-/// changes, and what was to be written is let go.
-fn write_as<S: CopySlice + Extendable, K: LayoutMut, B, M, A: Allocator + Copy>(
+/// Writes into a window, by a call that its kind has: room is made, and the items are put behind
+/// the others. Refused, nothing changes, and what was to be written is let go.
+fn write_as<
+    S: Commands<A>,
+    K: LayoutMut,
+    B: BufferMut<S::Item> + Drop,
+    M: Drop,
+    A: Allocator + Copy,
+>(
     window: &mut ArcSliceMut<S, K, 1, B, M, A, Whole>,
     what: Writing<Vec<S::Item, A>, S::Item>,
     pass: &mut Pass<Whole>,
 ) -> Result<(), TryReserveError>
-where
-    S::Item: Copy,
+    requires call { can_write S.Calls.calls (seen_writing what) ≡ true }
     requires item { FitsInMemory S.Item.row }
     requires pass { IsPassAt window.old.place pass.old }
     ensures written { OnOk result (Pushes S.DROPS true
@@ -105,11 +114,14 @@ where
 {
     match what {
         Writing::Nothing(additional) => window.try_reserve_as(additional, pass),
-        Writing::Item(item) => match window.try_push_as(item, pass) {
-            Ok(()) => Ok(()),
-            Err((e, _)) => Err(e),
+        Writing::Item(item) => match S::Calls::try_push_as(window, item, pass) {
+            Some(pushed) => pushed,
+            None => unreachable!(),
         },
-        Writing::Items(items) => window.try_extend_from_slice_as(&items, pass),
+        Writing::Items(items) => match S::Calls::try_extend_as(window, &items, pass) {
+            Some(extended) => extended,
+            None => unreachable!(),
+        },
     }
 }
 
@@ -124,7 +136,14 @@ fn part_block<L: Layout>(block: Option<usize>, len: usize) -> Option<usize>
 }
 
 /// Ends a window.
-fn end_window<S: Slice, L: Layout, K: LayoutMut, B, M, A: Allocator + Copy>(
+fn end_window<
+    S: Slice,
+    L: Layout,
+    K: LayoutMut,
+    B: BufferMut<S::Item> + Drop,
+    M: Drop,
+    A: Allocator + Copy,
+>(
     window: Held<ArcSlice<S, L, B, M, A, Whole>, ArcSliceMut<S, K, 1, B, M, A, Whole>>,
     pass: &mut Pass<Whole>,
 )
@@ -138,7 +157,13 @@ fn end_window<S: Slice, L: Layout, K: LayoutMut, B, M, A: Allocator + Copy>(
     }
 }
 
-impl<S: Slice, L: Layout, B, M, A: Allocator + Copy> Slot<S, L, B, M, A>
+impl<S: Slice, L: Layout, B: BufferMut<S::Item> + Drop, M: Drop, A: Allocator + Copy> Slot<
+    S,
+    L,
+    B,
+    M,
+    A,
+>
 where
     L::Writable: LayoutMut,
 {
@@ -146,29 +171,28 @@ where
     ghost use Rattle.std.specs.Prelude.{IfOk, IfErr, IsOk, take, drop, true, is_some, MatchOption};
     ghost use Rattle.arc_buffer.specs.Slice.{IsRange, IsEdge, sub, range_answer, edge_answer};
     ghost use Rattle.arc_block.specs.Place.{part_place};
-    ghost use Rattle.arc_block.specs.Table.{block_of, reader};
+    ghost use Rattle.arc_block.specs.Table.{reader};
     ghost use Rattle.arc_block.specs.Window.{window_of};
-    ghost use Rattle.arc_block.specs.Writers.{after_advance, as_reader, as_sole, capacity_of};
+    ghost use Rattle.arc_block.specs.Writers.{after_advance, as_sole, capacity_of};
     ghost use Rattle.arc_block.specs.Place.{static_data};
-    ghost use Rattle.std.specs.Prelude.{not};
-    ghost use Rattle.arc_owners.specs.count.Calls.{Asks, Leaves};
+    ghost use Rattle.arc_owners.specs.count.Calls.{Leaves};
     ghost use Rattle.arc_slots.specs.Stands.{HasPassFor, is_numbered};
-    ghost use Rattle.arc_slots.specs.Calls.{Along, Beside, RefusesAt};
+    ghost use Rattle.arc_slots.specs.Calls.{Along, AsksPlace, Beside, MayAsk, RefusesAt};
     ghost use Rattle.arc_commands.specs.Step.{cut_row, off_part, to_part};
-    ghost use Rattle.arc_commands.specs.Step.{truncated, made_row};
-    ghost use Rattle.arc_commands.specs.Additions.{Founds};
+    ghost use Rattle.arc_commands.specs.Step.{is_on_block, is_writable_at, may_write_at, truncated};
+    ghost use Rattle.arc_block.specs.Moves.{IsRefused, layout_move};
     ghost use Rattle.arc_slots.specs.Splits.{IsSplit};
     ghost use Rattle.arc_commands.specs.Blocks.{is_sole};
+    ghost use Rattle.arc_commands.specs.Step.{is_buffer_at};
     ghost use Rattle.arc_slots.specs.Slots.{row_of, stand_of};
-    ghost use Rattle.arc_slots.specs.Writing.{Fills, is_fresh};
+    ghost use Rattle.arc_slots.specs.Writing.{Fills, FreezesBy, is_fresh, is_new};
     ghost use Rattle.arc_block.specs.Writers.{Reclaims};
     ghost use Rattle.std.specs.Vec.{vec_capacity};
 
-    /// A window over a slice that is there for good, under a layout with static data.
+    /// A window over a slice that is there for good and legal, under a layout with static data.
     pub fn on_static(alloc: A, items: StaticSlice<S::Item>) -> Self
-    where
-        S: AnyItems,
-        requires { L.STATIC ≡ true }
+        requires layout { L.STATIC ≡ true }
+        requires legal { ∥ S.is_legal items ∥₁ }
         ensures { result ≡ record {
           window = record { items = items; place = static_data };
           role = reader;
@@ -211,6 +235,17 @@ where
         }
     }
 
+    /// Whether the window, which is one that is written, stands on a caller's buffer.
+    pub fn is_on_buffer(&self) -> bool
+        requires { is_sole self.now.role ≡ true }
+        ensures { result ≡ is_buffer_at (row_of self.now).place }
+    {
+        let Held::Write(window) = &self.window else {
+            unreachable!()
+        };
+        window.is_on_buffer()
+    }
+
     /// A window is read, or it is its block's only owner's, who writes. Does nothing: its contract
     /// is the law.
     pub fn known_role(&self)
@@ -230,29 +265,6 @@ where
         match &self.window {
             Held::Read(_) => None,
             Held::Write(window) => Some(window.capacity()),
-        }
-    }
-
-    /// Whether the window stands on a block.
-    pub fn is_on_block(&self) -> bool
-        ensures { result ≡ is_some (block_of (row_of self.now).place) }
-    {
-        self.block.is_some()
-    }
-
-    /// The items of a window that stands on no block, for good. Takes no memory.
-    pub fn into_static(self) -> StaticSlice<S::Item>
-        requires reads { self.role ≡ reader }
-        requires nowhere { is_some (block_of (row_of self).place) ≡ false }
-        ensures { result ≡ self.window.items }
-    {
-        let Slot { window, block: _ } = self;
-        let Held::Read(window) = window else {
-            unreachable!()
-        };
-        match window.into_parts().try_into_static() {
-            Ok(items) => items,
-            Err(_) => unreachable!(),
         }
     }
 
@@ -546,30 +558,35 @@ where
         Ok(Slot { window, block })
     }
 
-    /// The window as one that is written, where no other owner of its block lives, or where it has
-    /// no items and stands on none. Takes no memory.
+    /// The window as one that is written, where its block may be written and no other owner of that
+    /// lives, or where it has no items and stands on none. Takes no memory.
     ///
     /// # Errors
     ///
-    /// The window itself: on a block beside another owner, on none with items.
+    /// The window itself: on a block that may not be written, or beside another owner, on none with
+    /// items.
     ///
     /// # History
     ///
-    /// On a block Alone, which says whether it is.
+    /// On a block that may be written Alone, which says whether it is.
     pub fn try_into_mut(self, passes: &mut Passes<A>) -> Result<Self, Self>
         requires reads { self.role ≡ reader }
         requires pass { HasPassFor passes.old.of_blocks.items (stand_of (Some self)) }
         ensures row { IfOk result (λ slot. row_of slot ≡ as_sole S.DROPS (row_of self)) }
         ensures stand { IfOk result (λ slot. stand_of (Some slot) ≡ stand_of (Some self)) }
-        ensures alone { IfOk result (λ _. Along (stand_of (Some self)) passes.old.of_blocks.items
-            passes.new.of_blocks.items (λ o p q. Asks o p q true)) }
-        ensures empty { IfOk result (λ _. stand_of (Some self) ≡ None
-            → length self.window.items ≡ 0) }
+        ensures alone { IfOk result (λ _. MayAsk
+            (is_writable_at L.Writable.ANY (row_of self).place) (stand_of (Some self))
+            passes.old.of_blocks.items passes.new.of_blocks.items true) }
+        ensures may { IfOk result (λ _. may_write_at L.Writable.ANY true (row_of self).place
+            (length self.window.items) ≡ true) }
+        ensures owner { IfOk result (λ _. is_on_block (row_of self).place ≡ true
+            → is_some (stand_of (Some self)) ≡ true) }
         ensures back { IfErr result (λ slot. slot ≡ self) }
-        ensures beside { IfErr result (λ _. Along (stand_of (Some self)) passes.old.of_blocks.items
-            passes.new.of_blocks.items (λ o p q. Asks o p q false)) }
-        ensures items { IfErr result (λ _. stand_of (Some self) ≡ None
-            → 1 ≤ length self.window.items) }
+        ensures beside { IfErr result (λ _. MayAsk
+            (is_writable_at L.Writable.ANY (row_of self).place) (stand_of (Some self))
+            passes.old.of_blocks.items passes.new.of_blocks.items false) }
+        ensures may_not { IfErr result (λ _. may_write_at L.Writable.ANY false (row_of self).place
+            (length self.window.items) ≡ false) }
     {
         let Slot { window, block } = self;
         let Held::Read(window) = window else {
@@ -596,11 +613,12 @@ where
         let Held::Write(window) = &self.window else {
             unreachable!()
         };
+        window.known_place();
         self.block.is_none() && window.capacity().saturating_sub(window.len()) < additional
     }
 
-    /// Writes into the window, which is one that is written: `what` goes behind its items. Refused,
-    /// nothing changes, and what was to be written is let go.
+    /// Writes into the window, which is one that is written, by a call that its kind has: `what`
+    /// goes behind its items. Refused, nothing changes, and what was to be written is let go.
     ///
     /// # Errors
     ///
@@ -619,8 +637,8 @@ where
         passes: &mut Passes<A>,
     ) -> Result<(), TryReserveError>
     where
-        S: CopySlice + Extendable,
-        S::Item: Copy,
+        S: Commands<A>,
+        requires call { can_write S.Calls.calls (seen_writing what) ≡ true }
         requires item { FitsInMemory S.Item.row }
         requires writes { is_sole self.old.role ≡ true }
         requires room { is_fresh (room_for S.DROPS (type_size S.Item.row) (row_of self.old)
@@ -666,22 +684,27 @@ where
         window.try_reclaim(additional)
     }
 
-    /// Whether a first block has to be made for the window to be read: it stands on none, and
-    /// under the layout what is made of its items stands on one.
+    /// Whether a first block has to be made for the window, which is written, to be read: it stands
+    /// on none, and the layout has no static data.
+    #[tactic(auto, using(crate::proofs::Filled::new_is))]
     pub fn wants_block_to_read(&self) -> bool
-        ensures { result ≡ (not (is_some (block_of (row_of self.now).place))
-            && not (L.STATIC && (length self.now.window.items == 0))) }
+        requires { is_sole self.now.role ≡ true }
+        ensures { result ≡ is_new (layout_move (layout_facts L.Layout) (row_of self.now).place) }
     {
-        self.block.is_none() && !stands_on_nothing::<L>(self.len())
+        let Held::Write(window) = &self.window else {
+            unreachable!()
+        };
+        window.known_place();
+        self.block.is_none() && !L::STATIC
     }
 
-    /// The window, which is one that is written, as one that is read: where it stands, or on no
-    /// block as what is made of its items.
+    /// The window, which is one that is written, as one that is read: where it stands, or on a
+    /// block of no places.
     ///
     /// # Errors
     ///
-    /// The window itself, on no block under a layout without static data, where memory for a block
-    /// is refused.
+    /// The window itself, on a block that the layout doesn't hold, and on none under a layout
+    /// without static data, where memory for a block is refused.
     ///
     /// # Allocates
     ///
@@ -693,28 +716,22 @@ where
     pub fn try_freeze(self, passes: &mut Passes<A>) -> Result<Self, Self>
         requires writes { is_sole self.role ≡ true }
         requires pass { HasPassFor passes.old.of_blocks.items (stand_of (Some self)) }
-        requires room { is_some (block_of (row_of self).place) ≡ false
-            → (L.STATIC && (length self.window.items == 0)) ≡ false
+        requires room { is_new (layout_move (layout_facts L.Layout) (row_of self).place) ≡ true
             → length passes.old.of_blocks.items < vec_capacity passes.old.of_blocks }
-        ensures stays { IfOk result (λ slot. is_some (block_of (row_of self).place) ≡ true
-            → (row_of slot ≡ as_reader (row_of self))
-            × (stand_of (Some slot) ≡ stand_of (Some self))
-            × (passes.new.of_blocks.items ≡ passes.old.of_blocks.items)) }
-        ensures made { IfOk result (λ slot. is_some (block_of (row_of self).place) ≡ false
-            → (row_of slot ≡ made_row L.STATIC S.DROPS (length passes.old.of_blocks.items)
-            self.window.items)
-            × Founds (stand_of (Some slot)) passes.old.of_blocks.items
-            passes.new.of_blocks.items) }
+        ensures frozen { IfOk result (λ slot. FreezesBy
+            (layout_move (layout_facts L.Layout) (row_of self).place) S.DROPS self slot
+            passes.old.of_blocks.items passes.new.of_blocks.items) }
         ensures back { IfErr result (λ slot. (slot ≡ self)
             × (passes.new.of_blocks.items ≡ passes.old.of_blocks.items)) }
-        ensures refused { IfErr result (λ _. (is_some (block_of (row_of self).place) ≡ false)
-            × (L.STATIC ≡ false)) }
+        ensures refused { IfErr result (λ _.
+            IsRefused (layout_move (layout_facts L.Layout) (row_of self).place)) }
     {
         let begins = self.wants_block_to_read();
         let Slot { window, block } = self;
         let Held::Write(window) = window else {
             unreachable!()
         };
+        window.known_place();
         let mut pass = passes.lend(block);
         match window.try_freeze_as::<L>(&mut pass) {
             Ok(window) => {
@@ -734,18 +751,17 @@ where
         }
     }
 
-    /// Whether no other owner of the window's block lives. `false` on no block. Takes no memory.
+    /// Whether nobody else has a part of what the window stands on: on a block the count is asked,
+    /// and a caller's buffer after it. `false` on no block, and of an `Arc`. Takes no memory.
     ///
     /// # History
     ///
-    /// On a block Alone, which says what is answered.
+    /// On a block, but for an `Arc`, Alone with what the count says.
     pub fn is_unique(&self, passes: &mut Passes<A>) -> bool
         requires reads { self.now.role ≡ reader }
         requires pass { HasPassFor passes.old.of_blocks.items (stand_of (Some self.now)) }
-        ensures asked { Along (stand_of (Some self.now)) passes.old.of_blocks.items
-            passes.new.of_blocks.items (λ o p q.
-            Asks o p q result) }
-        ensures nowhere { stand_of (Some self.now) ≡ None → result ≡ false }
+        ensures { AsksPlace (row_of self.now).place (stand_of (Some self.now))
+            passes.old.of_blocks.items passes.new.of_blocks.items result }
     {
         let Held::Read(window) = &self.window else {
             unreachable!()

@@ -1,6 +1,6 @@
 -- What a command did to a table, as its methods have to show it: the fact of the type, the step of
 -- the rows, and what was added to the histories, all at once.
-use Rattle.std.proofs.Common.{◌≡◌, List, [], Option, Some, refl, sym, subst}
+use Rattle.std.proofs.Common.{◌≡◌, List, [], Option, Some, sym, subst}
 use Rattle.std.proofs.lemmas.Option.{none-some}
 use Rattle.arc_owners.specs.declared.mark.Whole.{Whole}
 use Rattle.arc_owners.specs.declared.count.tokens.Pass.{Pass}
@@ -10,8 +10,7 @@ use Rattle.arc_commands.specs.Additions.{Adds}
 use Rattle.arc_commands.specs.Blocks.{RowsAgree}
 use Rattle.arc_commands.specs.State.{State}
 use Rattle.arc_commands.specs.Step.{Setting, Step}
-use Rattle.arc_commands.specs.declared.command.Cmd.{Cmd}
-use Rattle.arc_commands.specs.declared.command.Reply.{Reply}
+use Rattle.arc_commands.specs.Commands.{ListCmd, ListReply}
 use Rattle.arc_commands.proofs.Blocks.{step_agrees}
 use Rattle.arc_slots.specs.Slots.{SlotView, state_of, stands_of}
 
@@ -20,12 +19,12 @@ abbrev pub Fact : {T M : Type 0} → List (Option (SlotView T M)) → List (Pass
 Fact slots passes = IsKept MAX_OWNERS (stands_of slots) passes
     × RowsAgree (state_of slots passes).table
 
-pub record Done {T M : Type 0} (setting : Setting T) (old : State T M) (c : Cmd (List T) (List T) T)
-    (r : Reply (List T) (List T)) (slots : List (Option (SlotView T M))) (passes : List (Pass Whole))
+pub record Done {T M : Type 0} (setting : Setting T) (old : State T M) (c : ListCmd T M)
+    (r : ListReply T M) (slots : List (Option (SlotView T M))) (passes : List (Pass Whole))
     : Type 0 where
   pub kept : Fact slots passes
   pub rows : Step setting old.table c r (state_of slots passes).table
-  pub passes_are : Adds old.table old.standing c r (state_of slots passes).standing
+  pub passes_are : Adds setting old.table old.standing c r (state_of slots passes).standing
 
 -- it stays where the lists are the same
 pub same-fact : {T M : Type 0} {slots slots' : List (Option (SlotView T M))}
@@ -54,11 +53,11 @@ empty-fact {T} {M} none_there none_made =
     same-fact none none_there none_made
 
 -- the fact of the type follows of the owners, and of the step
-pub done : {T M : Type 0} {setting : Setting T} {old : State T M} {c : Cmd (List T) (List T) T}
-    {r : Reply (List T) (List T)} {slots : List (Option (SlotView T M))} {passes : List (Pass Whole)}
+pub done : {T M : Type 0} {setting : Setting T} {old : State T M} {c : ListCmd T M}
+    {r : ListReply T M} {slots : List (Option (SlotView T M))} {passes : List (Pass Whole)}
     → RowsAgree old.table → IsKept MAX_OWNERS (stands_of slots) passes
     → Step setting old.table c r (state_of slots passes).table
-    → Adds old.table old.standing c r (state_of slots passes).standing
+    → Adds setting old.table old.standing c r (state_of slots passes).standing
     → Done setting old c r slots passes
 done {setting = setting} {old = old} {c = c} {r = r} {slots = slots} {passes = passes} agree kept
     rows adds = record {

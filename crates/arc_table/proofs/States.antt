@@ -5,13 +5,13 @@ use Rattle.arc_commands.specs.RunOf.{RunOf}
 use Rattle.arc_commands.specs.State.{State, CarriesOut, drops}
 use Rattle.arc_commands.specs.Step.{Setting}
 use Rattle.arc_commands.specs.declared.command.Cmd.TheVariants.{Drop}
-use Rattle.arc_commands.specs.declared.command.Reply.{Reply}
+use Rattle.arc_commands.specs.Commands.{ListReply}
 use Rattle.arc_commands.proofs.Runs.{run_push}
 
 -- one window more has ended
 pub dropped_more : {T M : Type 0} (setting : Setting T) (old : State T M) (n : ℕ)
-    (replies : List (Reply (List T) (List T))) (mid : State T M)
-    (reply : Reply (List T) (List T)) (new : State T M)
+    (replies : List (ListReply T M)) (mid : State T M)
+    (reply : ListReply T M) (new : State T M)
     → RunOf (CarriesOut setting) old (drops n) replies mid
     → CarriesOut setting mid (Drop n) reply new
     → RunOf (CarriesOut setting) old (drops (n + 1)) (replies ++ reply ∷ []) new

@@ -6,31 +6,31 @@ use Rattle.std.proofs.Common.{◌<◌, ◌≤◌}
 use Rattle.std.specs.Prelude.{MatchOption, IfSome}
 use Rattle.std.specs.Option.{option_map, option_map_or, option_flatten}
 use Rattle.std.proofs.lemmas.List.{map-append, length-append, length-map}
+use Rattle.std.proofs.lemmas.Bool.{cases_Bool}
 use Rattle.std.proofs.lemmas.Option.{none-some, same_Some, slice_get-map, slice_get_cases}
 use Rattle.std.proofs.lemmas.Option.{slice_get_read}
 use Rattle.arc_owners.specs.declared.mark.Whole.{Whole}
 use Rattle.arc_owners.specs.declared.count.tokens.Pass.{Pass}
 use Rattle.arc_block.specs.declared.block.TheConstants.{MAX_OWNERS}
-use Rattle.arc_block.specs.Owned.{Stand, IsKept, owners_on}
+use Rattle.arc_block.specs.Owned.{Stand, IsKept}
 use Rattle.arc_block.specs.Place.{Place, nowhere, static_data, on_block}
 use Rattle.arc_block.specs.Table.{Row, Table, block_of, is_alone, owners, reader, row_at}
 use Rattle.arc_commands.specs.Blocks.{is_sole}
-use Rattle.arc_commands.specs.Additions.{AddsBy, Founds, MakerAdds, RowAdds, Standing, stand_in}
+use Rattle.arc_commands.specs.Additions.{AddsBy, Founds, MakerAdds, RowAdds, stand_in}
 use Rattle.arc_commands.specs.Additions.{with_stand}
 use Rattle.arc_commands.specs.State.{State}
-use Rattle.arc_commands.specs.Step.{Setting, Shortage, Around, around_of, answer_any, answer_by}
-use Rattle.arc_commands.specs.Step.{changed, founded, is_full, no_shortage, of_table, row_by}
+use Rattle.arc_commands.specs.Step.{Setting, Around, around_of, answer_any, answer_by}
+use Rattle.arc_commands.specs.Step.{changed, count_brought, founded, is_full, no_shortage, of_table, row_by}
 use Rattle.arc_commands.specs.Step.{shortage, static_row, window_of, with_block, with_row}
-use Rattle.arc_commands.specs.declared.command.Cmd.{Cmd}
+use Rattle.arc_commands.specs.Commands.{ListCmd, ListReply}
 use Rattle.arc_commands.specs.declared.command.Cmd.TheVariants as command
-use Rattle.arc_commands.specs.declared.command.Reply.{Reply}
 use Rattle.arc_commands.specs.declared.command.Reply.TheVariants as reply
 use Rattle.arc_slots.specs.Answers.{Answers, around_in, live_on}
 use Rattle.arc_slots.specs.Makers.{Makes}
 use Rattle.arc_slots.specs.Slots.{SlotView, row_of, stand_of, stands_of, state_of, with_slot}
 use Rattle.arc_slots.proofs.Keeps.{founded-kept, known-pass, many-live, row-kept}
 use Rattle.arc_slots.specs.Stands.{HasPassFor}
-use Rattle.arc_slots.proofs.Answered.{for-each, shown}
+use Rattle.arc_slots.proofs.Answered.{for-each, not-for, reads-for, same, shown, writes-for}
 use Rattle.arc_slots.proofs.Taken.{set-back}
 use Rattle.arc_slots.proofs.Told.{none-stands, row-block, stand_block}
 use Rattle.arc_table.proofs.Done.{Done, Fact, done}
@@ -44,12 +44,9 @@ map-slice_set f (y ∷ ys) zero x = refl
 map-slice_set f (y ∷ ys) (suc i) x = ap (λ zs. f y ∷ zs) (map-slice_set f ys i x)
 
 -- a row is alone, and its block full, by how many rows stand there; never on no block
-alone-at : {T M : Type 0} (t : Table T M) (place : Place ℕ M) (b : Option ℕ)
+alone-at : {T M : Type 0} (t : Table T M) (place : Place (Option ℕ) M) (b : Option ℕ)
     → block_of place ≡ b → is_alone t place ≡ option_map_or (λ n. owners t n == 1) b false
-alone-at t nowhere b is = ap (λ x. option_map_or (λ n. owners t n == 1) x false) is
-alone-at t static_data b is = ap (λ x. option_map_or (λ n. owners t n == 1) x false) is
-alone-at t (on_block n offset facts) b is =
-    ap (λ x. option_map_or (λ n. owners t n == 1) x false) is
+alone-at t place b is = ap (λ x. option_map_or (λ n. owners t n == 1) x false) is
 
 module _ {T M : Type 0} where
   -- the rows, and the stands, of slots of which one changed and to which one was added
@@ -88,7 +85,7 @@ module _ {T M : Type 0} (setting : Setting T) (slots : List (Option (SlotView T 
   t = old.table
 
   abbrev Command : Type 0
-  Command = Cmd (List T) (List T) T
+  Command = ListCmd T M
 
   -- ---- a command on a window
 
@@ -145,7 +142,7 @@ module _ {T M : Type 0} (setting : Setting T) (slots : List (Option (SlotView T 
           windows = n;
         }) (sym (length-map slots (option_map row_of)))
 
-    pub answered : (c : Command) → window_of c ≡ Some i → (r : Reply (List T) (List T))
+    pub answered : (c : Command) → window_of c ≡ Some i → (r : ListReply T M)
         (new made : Option (SlotView T M)) (passes' : List (Pass Whole))
         → Answers setting (length slots) c s passes r new made passes'
         → Done setting old c r (with_slot (slice_set slots i new) made) passes'
@@ -164,27 +161,31 @@ module _ {T M : Type 0} (setting : Setting T) (slots : List (Option (SlotView T 
         done fact.1
         (subst (λ ss. IsKept MAX_OWNERS ss passes') (sym stands)
         (row-kept (stands_of slots) passes fact.0 i here stand-at passes' (stand_of new)
-        (option_map (λ s. stand_of (Some s)) made) (row_of s) c r said.adds))
-        (ap (answer_by setting (shortage r c) t c) on
-        ∙ ap (λ x. option_map_or (λ row.
-        changed t i (answer_any setting (shortage r c) (around_of t row) c row)) x
-        (reply.NoWindow, t)) row-there
-        ∙ ap (λ a. changed t i (answer_any setting (shortage r c) a c (row_of s))) (sym around-is)
-        ∙ ap (changed t i) said.change
-        ∙ ap (λ rs. (r, record { rows = rs; blocks = with_block said.begins (length passes) })) rows
-        ∙ ap (λ n. (r, record { rows = map (option_map row_of) slots'; blocks = n }))
-        (sym said.blocks))
-        (subst (AddsBy t old.standing c r (state_of slots' passes').standing) (sym on)
+        (option_map (λ s. stand_of (Some s)) made) setting (row_of s) c r said.adds))
+        (record {
+          places = count_brought c;
+          enough = omega arith;
+          answered = ap (answer_by setting (shortage r c) (count_brought c) t c) on
+              ∙ ap (λ x. option_map_or (λ row.
+              changed t i (answer_any setting (shortage r c) (around_of t row) c row)) x
+              (reply.NoWindow, t)) row-there
+              ∙ ap (λ a. changed t i (answer_any setting (shortage r c) a c (row_of s))) (sym around-is)
+              ∙ ap (changed t i) said.change
+              ∙ ap (λ rs. (r, record { rows = rs; blocks = with_block said.begins (length passes) })) rows
+              ∙ ap (λ n. (r, record { rows = map (option_map row_of) slots'; blocks = n }))
+              (sym said.blocks);
+        })
+        (subst (AddsBy setting t old.standing c r (state_of slots' passes').standing) (sym on)
         (subst (λ x. MatchOption x
         ((state_of slots' passes').standing ≡ old.standing) (λ row.
         (there : Stand) × (made : Option Stand)
-        × RowAdds (stand_in old.standing i) there made passes passes' row c r
+        × RowAdds (stand_in old.standing i) there made passes passes' setting row c r
         × (stands_of slots' ≡ with_stand (slice_set (stands_of slots) i there) made)))
         (sym row-there) (
           stand_of new,
           option_map (λ s. stand_of (Some s)) made,
           subst (λ st. RowAdds st (stand_of new) (option_map (λ s. stand_of (Some s)) made) passes
-              passes' (row_of s) c r) (sym stand-is) said.adds,
+              passes' setting (row_of s) c r) (sym stand-is) said.adds,
           stands,
         )))
 
@@ -196,14 +197,18 @@ module _ {T M : Type 0} (setting : Setting T) (slots : List (Option (SlotView T 
       ap option_flatten (slice_get-map (option_map row_of) slots i)
       ∙ no-row (slice_get slots i) none in
       done fact.1 fact.0
-      (ap (answer_by setting no_shortage t c) on
-      ∙ ap (λ x. option_map_or (λ row.
-      changed t i (answer_any setting no_shortage (around_of t row) c row)) x
-      (reply.NoWindow, t)) row)
-      (subst (AddsBy t old.standing c reply.NoWindow old.standing) (sym on)
+      (record {
+        places = count_brought c;
+        enough = omega arith;
+        answered = ap (answer_by setting no_shortage (count_brought c) t c) on
+            ∙ ap (λ x. option_map_or (λ row.
+            changed t i (answer_any setting no_shortage (around_of t row) c row)) x
+            (reply.NoWindow, t)) row;
+      })
+      (subst (AddsBy setting t old.standing c reply.NoWindow old.standing) (sym on)
       (subst (λ x. MatchOption x (old.standing ≡ old.standing) (λ row.
       (there : Stand) × (made : Option Stand)
-      × RowAdds (stand_in old.standing i) there made passes passes row c reply.NoWindow
+      × RowAdds (stand_in old.standing i) there made passes passes setting row c reply.NoWindow
       × (stands_of slots ≡ with_stand (slice_set (stands_of slots) i there) made)))
       (sym row) refl))
 
@@ -224,27 +229,37 @@ module _ {T M : Type 0} (setting : Setting T) (slots : List (Option (SlotView T 
       ap length founds.4 ∙ length-append passes (founds.2 ∷ [])
 
   -- none was made
-  unmade : (c : Command) → window_of c ≡ None → (r : Reply (List T) (List T))
-      → MatchOption (row_by {M = M} setting (length passes) c) (r ≡ reply.Kind)
+  unmade : (c : Command) → window_of c ≡ None → (places : ℕ) → count_brought c ≤ places
+      → (r : ListReply T M)
+      → MatchOption (row_by {M = M} setting places (length passes) c) (r ≡ reply.Kind)
       (λ row. r ≡ reply.Alloc) → Done setting old c r slots passes
-  unmade c on r why = at (row_by setting (length passes) c) refl why
+  unmade c on places enough r why =
+      at (row_by setting places (length passes) c) refl why
     where
-      at : (x : Option (Row T M)) → row_by setting (length passes) c ≡ x
+      at : (x : Option (Row T M)) → row_by setting places (length passes) c ≡ x
           → MatchOption x (r ≡ reply.Kind) (λ row. r ≡ reply.Alloc)
           → Done setting old c r slots passes
       at None is why =
           subst (λ r. Done setting old c r slots passes) (sym why)
           (done fact.1 fact.0
-          (ap (answer_by setting no_shortage t c) on
-          ∙ ap (λ x. option_map_or (founded no_shortage t) x (reply.Kind, t)) is)
-          (subst (AddsBy t old.standing c reply.Kind old.standing) (sym on)
+          (record {
+            places = places;
+            enough = enough;
+            answered = ap (answer_by setting no_shortage places t c) on
+                ∙ ap (λ x. option_map_or (founded no_shortage t) x (reply.Kind, t)) is;
+          })
+          (subst (AddsBy setting t old.standing c reply.Kind old.standing) (sym on)
           (None, maker-kind c, refl)))
       at (Some row) is why =
           subst (λ r. Done setting old c r slots passes) (sym why)
           (done fact.1 fact.0
-          (ap (answer_by setting of_table t c) on
-          ∙ ap (λ x. option_map_or (founded of_table t) x (reply.Kind, t)) is)
-          (subst (AddsBy t old.standing c reply.Alloc old.standing) (sym on)
+          (record {
+            places = places;
+            enough = enough;
+            answered = ap (answer_by setting of_table places t c) on
+                ∙ ap (λ x. option_map_or (founded of_table t) x (reply.Kind, t)) is;
+          })
+          (subst (AddsBy setting t old.standing c reply.Alloc old.standing) (sym on)
           (None, maker-alloc c, refl)))
 
   module _ (s : SlotView T M) (passes' : List (Pass Whole))
@@ -259,18 +274,20 @@ module _ {T M : Type 0} (setting : Setting T) (slots : List (Option (SlotView T 
         ∙ ap (λ (r : Row T M). is_some (block_of r.place)) (sym (same_Some _ _ is)))
     static-stand false items is = absurd (none-some (row_of s) is)
 
-    maker-adds : (c : Command) → row_by setting (length passes) c ≡ Some (row_of s) → (n : ℕ)
+    maker-adds : (c : Command) (places : ℕ)
+        → row_by setting places (length passes) c ≡ Some (row_of s) → (n : ℕ)
         → MakerAdds c (reply.New n) (Some stand) passes passes'
-    maker-adds (command.Static items) is n =
-        let none = static-stand setting.has_static items is in
+    maker-adds (command.Static items) places is n =
+        let none = static-stand setting.layout.has_static items is in
         (ap Some none, subst (λ st. Founds st passes passes') none founds)
-    maker-adds other is n = (stand, refl, founds)
+    maker-adds other places is n = (stand, refl, founds)
 
     -- it was made
     founds-row : (c : Command) → window_of c ≡ None
-        → row_by setting (length passes) c ≡ Some (row_of s)
+        → (places : ℕ) → count_brought c ≤ places
+        → row_by setting places (length passes) c ≡ Some (row_of s)
         → Done setting old c (reply.New (length slots)) (slots ++ Some s ∷ []) passes'
-    founds-row c on is =
+    founds-row c on places enough is =
         let slots' = slots ++ Some s ∷ [] in
         let stands : stands_of slots' ≡ stands_of slots ++ stand ∷ [] =
         map-append stand_of slots (Some s ∷ []) in
@@ -281,39 +298,44 @@ module _ {T M : Type 0} (setting : Setting T) (slots : List (Option (SlotView T 
         done fact.1
         (subst (λ ss. IsKept MAX_OWNERS ss passes') (sym stands)
         (founded-kept (stands_of slots) passes fact.0 0 stand passes' founds))
-        (ap (answer_by setting no_shortage t c) on
-        ∙ ap (λ x. option_map_or (founded no_shortage t) x (reply.Kind, t)) is
-        ∙ ap (λ n. (
-          reply.New n,
-          record {
-            rows = t.rows ++ Some (row_of s) ∷ [];
-            blocks = with_block (is_some (block_of (row_of s).place)) (length passes);
-          },
-        )) (length-map slots (option_map row_of))
-        ∙ ap (λ rs. (
-          reply.New (length slots),
-          record {
-            rows = rs;
-            blocks = with_block (is_some (block_of (row_of s).place)) (length passes);
-          },
-        )) (sym (map-append (option_map row_of) slots (Some s ∷ [])))
-        ∙ ap (λ n. (
-          reply.New (length slots),
-          record { rows = map (option_map row_of) slots'; blocks = n },
-        )) many)
-        (subst (AddsBy t old.standing c (reply.New (length slots))
+        (record {
+          places = places;
+          enough = enough;
+          answered = ap (answer_by setting no_shortage places t c) on
+              ∙ ap (λ x. option_map_or (founded no_shortage t) x (reply.Kind, t)) is
+              ∙ ap (λ n. (
+                reply.New n,
+                record {
+                  rows = t.rows ++ Some (row_of s) ∷ [];
+                  blocks = with_block (is_some (block_of (row_of s).place)) (length passes);
+                },
+              )) (length-map slots (option_map row_of))
+              ∙ ap (λ rs. (
+                reply.New (length slots),
+                record {
+                  rows = rs;
+                  blocks = with_block (is_some (block_of (row_of s).place)) (length passes);
+                },
+              )) (sym (map-append (option_map row_of) slots (Some s ∷ [])))
+              ∙ ap (λ n. (
+                reply.New (length slots),
+                record { rows = map (option_map row_of) slots'; blocks = n },
+              )) many;
+        })
+        (subst (AddsBy setting t old.standing c (reply.New (length slots))
         (state_of slots' passes').standing) (sym on)
-        (Some stand, maker-adds c is (length slots), stands))
+        (Some stand, maker-adds c places is (length slots), stands))
 
-  pub made-window : (c : Command) → window_of c ≡ None → (r : Reply (List T) (List T))
+  pub made-window : (c : Command) → window_of c ≡ None → (r : ListReply T M)
       (made : Option (SlotView T M)) (passes' : List (Pass Whole))
       → Makes setting (length slots) c passes r made passes'
       → Done setting old c r (with_slot slots made) passes'
   made-window c on r None passes' makes =
-      subst (Done setting old c r slots) (sym makes.said.0) (unmade c on r makes.said.1)
+      subst (Done setting old c r slots) (sym makes.said.0)
+      (unmade c on makes.places makes.enough r makes.said.1)
   made-window c on r (Some s) passes' makes =
       subst (λ r. Done setting old c r (slots ++ Some s ∷ []) passes') (sym makes.said.1)
-      (founds-row s passes' makes.said.2 c on makes.said.0)
+      (founds-row s passes' makes.said.2 c on makes.places makes.enough makes.said.0)
 
   -- what stands under a number was carried out on, if it is a window
   module _ (i : ℕ) (place : Option (SlotView T M)) (at : slice_get slots i ≡ Some place) where
@@ -322,7 +344,7 @@ module _ {T M : Type 0} (setting : Setting T) (slots : List (Option (SlotView T 
         known-pass (stands_of slots) passes fact.0 i (stand_of place)
         (slice_get-map stand_of slots i ∙ ap (option_map stand_of) at)
 
-    pub carried : (c : Command) → window_of c ≡ Some i → (r : Reply (List T) (List T))
+    pub carried : (c : Command) → window_of c ≡ Some i → (r : ListReply T M)
         (new made : Option (SlotView T M)) (passes' : List (Pass Whole))
         → IfSome place (λ s. Answers setting (length slots) c s passes r new made passes')
         → (place ≡ None → (r ≡ reply.NoWindow) × (made ≡ None) × (new ≡ None)
@@ -344,26 +366,52 @@ module _ {T M : Type 0} (setting : Setting T) (slots : List (Option (SlotView T 
             (subst (λ r. Done setting old c r slots passes) (sym so.0)
             (unanswered i (ap option_flatten (at ∙ ap Some is)) c on)))
 
-  -- what is said of each count of windows is said of this one
-  pub ended : (i : ℕ) (place : Option (SlotView T M)) (r : Reply (List T) (List T))
+  -- what is said of each setting and count of windows is said of these
+  pub ended : (i : ℕ) (place : Option (SlotView T M)) (r : ListReply T M)
       (new : Option (SlotView T M)) (passes' : List (Pass Whole))
-      → IfSome place (λ s. (next j : ℕ) → Answers setting next (command.Drop j) s passes r new None
-      passes')
+      → IfSome place (λ s. (any : Setting T) (next j : ℕ) → Answers any next (command.Drop j) s passes
+      reply.Ok new None passes')
+      → IfSome place (λ s. r ≡ reply.Ok)
       → IfSome place (λ s. Answers setting (length slots) (command.Drop i) s passes r new None
       passes')
-  ended i None r new passes' said = said
-  ended i (Some s) r new passes' said = said (length slots) i
+  ended i None r new passes' said told = said
+  ended i (Some s) r new passes' said told =
+      subst (λ x. Answers setting (length slots) (command.Drop i) s passes x new None passes')
+      (sym told) (said setting (length slots) i)
 
   -- a window that is shown stays
   pub shown-there : (i : ℕ) (s : SlotView T M) → slice_get slots i ≡ Some (Some s)
-      → (is_sole s.role ≡ false → s.role ≡ reader)
+      → (is_sole s.role ≡ false → s.role ≡ reader) → setting.calls.copies ≡ true
       → Done setting old (command.Show i) (reply.Items s.window.items) slots passes
-  shown-there i s there role =
+  shown-there i s there role copies =
       subst (λ ss. Done setting old (command.Show i) (reply.Items s.window.items) ss passes)
       (set-back slots i (Some s) there)
       (answered i s there (command.Show i) refl (reply.Items s.window.items) (Some s) None passes
       (shown setting (length slots) s passes i
-      (for-each setting (length slots) s passes role (command.Show i) refl (λ n. refl))))
+      (for-each setting (length slots) s passes role (command.Show i) copies (λ n. copies))))
+
+  -- and so does one of a kind without copies
+  pub unshown-there : (i : ℕ) (s : SlotView T M) → slice_get slots i ≡ Some (Some s)
+      → (is_sole s.role ≡ false → s.role ≡ reader) → setting.calls.copies ≡ false
+      → Done setting old (command.Show i) reply.Kind slots passes
+  unshown-there i s there role none =
+      subst (λ ss. Done setting old (command.Show i) reply.Kind ss passes)
+      (set-back slots i (Some s) there)
+      (answered i s there (command.Show i) refl reply.Kind (Some s) None passes
+      (same setting (length slots) s passes (command.Show i) reply.Kind
+      (not-for setting (length slots) s passes no_shortage (command.Show i)
+      (elim (cases_Bool (is_sole s.role)) [
+        | inl sole ↦
+            writes-for setting (length slots) s passes sole (command.Show i) false (λ n. none)
+        | inr other ↦
+            reads-for setting (length slots) s passes (role other) (command.Show i) false none
+      ])) (refl, refl, refl)))
+
+-- what is the same is seen as the same
+pub seen-so : {S X Y : Type 0} (f : X → Y) (x y : X) (place : Option S)
+    → IfSome place (λ s. x ≡ y) → IfSome place (λ s. f x ≡ f y)
+seen-so f x y None is = is
+seen-so f x y (Some s) is = ap f is
 
 -- what stands at a place within a list
 pub at-place : {X : Type 0} (xs : List X) (i : ℕ) (x : X) → i < length xs

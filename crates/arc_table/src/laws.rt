@@ -6,8 +6,7 @@ ghost use Rattle.arc_commands.specs.Fits.{RowsFit};
 ghost use Rattle.arc_commands.specs.RunOf.{RunOf};
 ghost use Rattle.arc_commands.specs.State.{CarriesOut, State};
 ghost use Rattle.arc_commands.specs.Step.{Run, Setting, Step};
-ghost use Rattle.arc_commands.specs.declared.command.Cmd.{Cmd};
-ghost use Rattle.arc_commands.specs.declared.command.Reply.{Reply};
+ghost use Rattle.arc_commands.specs.Commands.{ListCmd, ListReply};
 
 /// The rows that stand on one block agree about it, in every table that comes of the empty one: no
 /// row of that stands on a block, each step keeps the agreement, and so does each run, also one of
@@ -15,15 +14,15 @@ ghost use Rattle.arc_commands.specs.declared.command.Reply.{Reply};
 /// metadata of any type.
 pub fn rows_agree<T, M>()
     ensures empty { RowsAgree {T = T} {M = M} empty_table }
-    ensures step { (setting : Setting T) (old : Table T M) (command : Cmd (List T) (List T) T)
-        (reply : Reply (List T) (List T)) (new : Table T M) → Step setting old command reply new
+    ensures step { (setting : Setting T) (old : Table T M) (command : ListCmd T M)
+        (reply : ListReply T M) (new : Table T M) → Step setting old command reply new
         → RowsAgree old → RowsAgree new }
     ensures run { (setting : Setting T) (old : Table T M)
-        (commands : List (Cmd (List T) (List T) T))
-        (replies : List (Reply (List T) (List T))) (new : Table T M)
+        (commands : List (ListCmd T M))
+        (replies : List (ListReply T M)) (new : Table T M)
         → Run setting old commands replies new → RowsAgree old → RowsAgree new }
     ensures carried_out { (setting : Setting T) (old : State T M)
-        (commands : List (Cmd (List T) (List T) T)) (replies : List (Reply (List T) (List T)))
+        (commands : List (ListCmd T M)) (replies : List (ListReply T M))
         (new : State T M)
         → RunOf (CarriesOut setting) old commands replies new
         → RowsAgree old.table → RowsAgree new.table }
@@ -35,16 +34,16 @@ pub fn rows_agree<T, M>()
 /// run. Does nothing: its contract is the law, for items and metadata of any type.
 pub fn rows_fit<T, M>()
     ensures empty { (drops : Bool) → RowsFit {T = T} {M = M} drops empty_table }
-    ensures step { (setting : Setting T) (old : Table T M) (command : Cmd (List T) (List T) T)
-        (reply : Reply (List T) (List T)) (new : Table T M) → Step setting old command reply new
+    ensures step { (setting : Setting T) (old : Table T M) (command : ListCmd T M)
+        (reply : ListReply T M) (new : Table T M) → Step setting old command reply new
         → RowsFit setting.drops old → RowsFit setting.drops new }
     ensures run { (setting : Setting T) (old : Table T M)
-        (commands : List (Cmd (List T) (List T) T))
-        (replies : List (Reply (List T) (List T))) (new : Table T M)
+        (commands : List (ListCmd T M))
+        (replies : List (ListReply T M)) (new : Table T M)
         → Run setting old commands replies new → RowsFit setting.drops old
         → RowsFit setting.drops new }
     ensures carried_out { (setting : Setting T) (old : State T M)
-        (commands : List (Cmd (List T) (List T) T)) (replies : List (Reply (List T) (List T)))
+        (commands : List (ListCmd T M)) (replies : List (ListReply T M))
         (new : State T M) → RunOf (CarriesOut setting) old commands replies new
         → RowsFit setting.drops old.table → RowsFit setting.drops new.table }
 {}

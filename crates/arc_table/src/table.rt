@@ -1,13 +1,14 @@
 //! `Table`, windows by number.
 ghost use Rattle.std.specs.Mem.{FitsInMemory, type_size};
+ghost use Rattle.arc_block.specs.LayoutFacts.{layout_facts};
 
 use arc_block::layout::{DefaultLayout, Layout, LayoutMut};
-use arc_block::static_slice::StaticSlice;
+use arc_buffer::buffer::BufferMut;
 use arc_buffer::kinds::Slice;
-use arc_commands::command::{Reply, TableCmd, TableReply};
+use arc_commands::command::Reply;
 use arc_slots::command::{answer, drop_at};
-use arc_slots::kinds::Commands;
-use arc_slots::list::{end_slots, push_made, room_if, slot_at};
+use arc_slots::kinds::{CallsOf, Commands, LentReply, TableCmd, TableReply};
+use arc_slots::list::{Slots, end_slots};
 use arc_slots::maker::make;
 use arc_slots::passes::Passes;
 use arc_slots::slot::Slot;
@@ -24,19 +25,20 @@ use std::sync::Wait;
 pub struct Table<
     S: Slice,
     L: Layout = DefaultLayout,
-    B = Vec<<S as Slice>::Item>,
-    M = (),
+    B: BufferMut<<S as Slice>::Item> + Drop = Vec<<S as Slice>::Item>,
+    M: Drop = (),
     A: Allocator + Copy = Global,
 >
 where
     L::Writable: LayoutMut,
 {
-    slots: Vec<Option<Slot<S, L, B, M, A>>, A>,
+    slots: Slots<Slot<S, L, B, M, A>, A>,
     passes: Passes<A>,
     alloc: A,
 }
 
-impl<S: Slice, L: Layout, B, M, A: Allocator + Copy> Model for Table<S, L, B, M, A>
+impl<S: Slice, L: Layout, B: BufferMut<S::Item> + Drop, M: Drop, A: Allocator + Copy> Model
+    for Table<S, L, B, M, A>
 where
     L::Writable: LayoutMut,
 {
@@ -46,26 +48,35 @@ where
     ghost use Rattle.arc_slots.specs.Slots.{stands_of};
     ghost use Rattle.arc_commands.specs.State.{State};
     ghost use Rattle.arc_slots.specs.Slots.{state_of};
+    ghost use Rattle.arc_slots.specs.Index.{IsIndexed, windows_of};
 
     ghost Value = { State S.Item M };
 
-    ghost view = { λ t. state_of t.slots.items t.passes.of_blocks.items };
+    ghost view = { λ t. state_of (windows_of t.slots.index.items t.slots.numbers.items
+        t.slots.places.items) t.passes.of_blocks.items };
 
-    ghost invariant = { λ t.
-        IsKept MAX_OWNERS (stands_of t.slots.items) t.passes.of_blocks.items
-        × RowsAgree (state_of t.slots.items t.passes.of_blocks.items).table };
+    ghost invariant = { λ t. (IsKept MAX_OWNERS (stands_of (windows_of t.slots.index.items
+        t.slots.numbers.items t.slots.places.items)) t.passes.of_blocks.items
+        × RowsAgree (state_of (windows_of t.slots.index.items t.slots.numbers.items
+        t.slots.places.items) t.passes.of_blocks.items).table)
+        × IsIndexed t.slots.index.items t.slots.numbers.items t.slots.places.items };
 }
 
-impl<S: Commands, L: Layout, B, M, A: Allocator + Copy> Table<S, L, B, M, A>
+impl<S: Commands<A>, L: Layout, B: BufferMut<S::Item> + Drop, M: Drop, A: Allocator + Copy> Table<
+    S,
+    L,
+    B,
+    M,
+    A,
+>
 where
-    S::Item: Copy,
     L::Writable: LayoutMut,
 {
     ghost use Rattle.std.specs.Prelude.{◌≡◌, [], None, Some, length, slice_set};
     ghost use Rattle.arc_block.specs.declared.block.TheConstants.{MAX_OWNERS};
     ghost use Rattle.arc_block.specs.Owned.{IsKept};
     ghost use Rattle.arc_commands.specs.Step.{Step, no_shortage, setting_of, shortage, window_of};
-    ghost use Rattle.arc_commands.specs.Seen.{map_reply, seen_command, seen_reply};
+    ghost use Rattle.arc_commands.specs.Seen.{map_command, seen_by, seen_reply};
     ghost use Rattle.arc_commands.specs.Additions.{Adds};
     ghost use Rattle.arc_commands.specs.Blocks.{RowsAgree};
     ghost use Rattle.arc_commands.specs.State.{Agrees, CarriesOut, EndsAll, EndsWith, empty_state};
@@ -76,7 +87,12 @@ where
         ensures { result ≡ empty_state }
     {
         Table {
-            slots: Vec::new(alloc),
+            slots: Slots {
+                index: Vec::new(alloc),
+                numbers: Vec::new(alloc),
+                places: Vec::new(alloc),
+                free: Vec::new(alloc),
+            },
             passes: Passes {
                 of_blocks: Vec::new(alloc),
             },
@@ -103,30 +119,42 @@ where
     /// # History
     ///
     /// What `Adds` says of the command and its reply.
-    pub fn step(&mut self, rt: &impl Wait, command: TableCmd<S::Item, A>) -> TableReply<S::Item, A>
+    pub fn step(&mut self, rt: &impl Wait, command: TableCmd<S, B, M, A>) -> TableReply<S, B, M, A>
         requires item { FitsInMemory S.Item.row }
-        ensures { CarriesOut (setting_of L.STATIC L.clone_wants S.DROPS S.boundary
-            (type_size S.Item.row) S.Zero.zero) self.old
-            (seen_command command) (seen_reply result) self.new }
+        ensures { CarriesOut (setting_of (layout_facts L.Layout) L.Writable.ANY L.clone_wants
+            S.DROPS S.boundary
+            (type_size S.Item.row) S.Zero.zero S.Calls.calls) self.old
+            (map_command S.items_in S.static_in B.list command) (seen_reply S.items_in
+            S.items_in_box B.list result) self.new }
     {
         let reply = self.answer(rt, command);
         self.agree();
         reply
     }
 
-    /// The reply to one command: on the window under its number, or of what it brings.
-    fn answer(&mut self, rt: &impl Wait, command: TableCmd<S::Item, A>) -> TableReply<S::Item, A>
+    /// The reply to one command: on the window under its number; or the window is made of what it
+    /// brings.
+    fn answer(&mut self, rt: &impl Wait, command: TableCmd<S, B, M, A>) -> TableReply<S, B, M, A>
         requires item { FitsInMemory S.Item.row }
-        ensures rows { Step (setting_of L.STATIC L.clone_wants S.DROPS S.boundary
-            (type_size S.Item.row) S.Zero.zero) self.old.table
-            (seen_command command) (seen_reply result) self.new.table }
-        ensures passes { Adds self.old.table self.old.standing (seen_command command)
-            (seen_reply result) self.new.standing }
+        ensures rows { Step (setting_of (layout_facts L.Layout) L.Writable.ANY L.clone_wants S.DROPS
+            S.boundary
+            (type_size S.Item.row) S.Zero.zero S.Calls.calls) self.old.table
+            (map_command S.items_in S.static_in B.list command) (seen_reply S.items_in
+            S.items_in_box B.list result) self.new.table }
+        ensures passes { Adds (setting_of (layout_facts L.Layout) L.Writable.ANY L.clone_wants
+            S.DROPS S.boundary
+            (type_size S.Item.row) S.Zero.zero S.Calls.calls) self.old.table self.old.standing
+            (map_command S.items_in S.static_in B.list command)
+            (seen_reply S.items_in S.items_in_box B.list result) self.new.standing }
     {
-        match command.window() {
-            Some(i) => self.on_window(rt, i, command),
-            None => self.make(command),
+        if let Some(i) = command.window() {
+            return self.on_window(rt, i, command);
         }
+        let has_room = self.slots.room_if(true);
+        let next = self.slots.index.len();
+        let (reply, made) = make(self.alloc, command, next, has_room, &mut self.passes);
+        self.slots.push_made(made);
+        reply
     }
 
     /// Carries out a command on the window under this number. Room for a window that it makes is
@@ -135,41 +163,31 @@ where
         &mut self,
         rt: &impl Wait,
         i: usize,
-        command: TableCmd<S::Item, A>,
-    ) -> TableReply<S::Item, A>
+        command: TableCmd<S, B, M, A>,
+    ) -> TableReply<S, B, M, A>
         requires item { FitsInMemory S.Item.row }
-        requires on { window_of (seen_command command) ≡ Some i }
-        ensures rows { Step (setting_of L.STATIC L.clone_wants S.DROPS S.boundary
-            (type_size S.Item.row) S.Zero.zero) self.old.table
-            (seen_command command) (seen_reply result) self.new.table }
-        ensures passes { Adds self.old.table self.old.standing (seen_command command)
-            (seen_reply result) self.new.standing }
+        requires on { window_of (map_command S.items_in S.static_in B.list command) ≡ Some i }
+        ensures rows { Step (setting_of (layout_facts L.Layout) L.Writable.ANY L.clone_wants S.DROPS
+            S.boundary
+            (type_size S.Item.row) S.Zero.zero S.Calls.calls) self.old.table
+            (map_command S.items_in S.static_in B.list command) (seen_reply S.items_in
+            S.items_in_box B.list result) self.new.table }
+        ensures passes { Adds (setting_of (layout_facts L.Layout) L.Writable.ANY L.clone_wants
+            S.DROPS S.boundary
+            (type_size S.Item.row) S.Zero.zero S.Calls.calls) self.old.table self.old.standing
+            (map_command S.items_in S.static_in B.list command)
+            (seen_reply S.items_in S.items_in_box B.list result) self.new.standing }
     {
-        let has_room = room_if(&mut self.slots, command.makes_beside());
-        let next = self.slots.len();
-        if i >= next {
+        let has_room = self.slots.room_if(command.makes_beside());
+        let next = self.slots.index.len();
+        let Some(place) = self.slots.place_of(i) else {
             return Reply::NoWindow;
-        }
-        let place = &mut self.slots[i];
+        };
+        let slot = &mut self.slots.places[place];
         let passes = &mut self.passes;
-        let (reply, made) = answer(place, rt, self.alloc, command, next, has_room, passes);
-        push_made(&mut self.slots, made);
-        reply
-    }
-
-    /// Makes the window of a command that brings what it is made of.
-    fn make(&mut self, command: TableCmd<S::Item, A>) -> TableReply<S::Item, A>
-        requires { window_of (seen_command command) ≡ None }
-        ensures rows { Step (setting_of L.STATIC L.clone_wants S.DROPS S.boundary
-            (type_size S.Item.row) S.Zero.zero) self.old.table
-            (seen_command command) (seen_reply result) self.new.table }
-        ensures passes { Adds self.old.table self.old.standing (seen_command command)
-            (seen_reply result) self.new.standing }
-    {
-        let has_room = room_if(&mut self.slots, true);
-        let next = self.slots.len();
-        let (reply, made) = make(self.alloc, command, next, has_room, &mut self.passes);
-        push_made(&mut self.slots, made);
+        let (reply, made) = answer(slot, rt, self.alloc, command, next, has_room, passes);
+        self.slots.push_made(made);
+        self.slots.settle(place);
         reply
     }
 
@@ -188,8 +206,9 @@ where
     pub fn end(mut self) -> Passes<A>
         ensures ended { IsKept MAX_OWNERS [] result.of_blocks.items }
         ensures blocks { length result.of_blocks.items ≡ self.table.blocks }
-        ensures passes { EndsWith (setting_of L.STATIC L.clone_wants S.DROPS S.boundary
-            (type_size S.Item.row) S.Zero.zero) self
+        ensures passes { EndsWith (setting_of (layout_facts L.Layout) L.Writable.ANY L.clone_wants
+            S.DROPS S.boundary
+            (type_size S.Item.row) S.Zero.zero S.Calls.calls) self
             result.of_blocks.items }
     {
         self.release_all();
@@ -198,18 +217,25 @@ where
             passes,
             alloc: _,
         } = self;
-        end_slots(slots);
+        let Slots {
+            index: _,
+            numbers: _,
+            places,
+            free: _,
+        } = slots;
+        end_slots(places);
         passes
     }
 
     /// Releases every window that is left, in the order of their numbers.
     fn release_all(&mut self)
-        ensures passes { EndsAll (setting_of L.STATIC L.clone_wants S.DROPS S.boundary
-            (type_size S.Item.row) S.Zero.zero) self.old
+        ensures passes { EndsAll (setting_of (layout_facts L.Layout) L.Writable.ANY L.clone_wants
+            S.DROPS S.boundary
+            (type_size S.Item.row) S.Zero.zero S.Calls.calls) self.old
             self.new }
         ensures blocks { self.new.table.blocks ≡ self.old.table.blocks }
     {
-        for i in 0..self.slots.len() {
+        for i in 0..self.slots.index.len() {
             let _ = self.release(i);
             self.agree();
         }
@@ -217,17 +243,23 @@ where
 
     /// Carries out a `Cmd::Show`, and answers with the items where they stand in the window. Takes
     /// no memory.
-    pub fn show_in_place(&self, i: usize) -> Reply<&[S::Item], StaticSlice<S::Item>>
-        ensures carried { CarriesOut (setting_of L.STATIC L.clone_wants S.DROPS S.boundary
-            (type_size S.Item.row) S.Zero.zero) self.now
-            (command.Show i) (map_reply (λ items. items.now) result) self.now }
-        ensures lent { shortage {T = S.Item} (map_reply (λ items. items.now) result)
+    pub fn show_in_place(&self, i: usize) -> LentReply<'_, S, B, M, A>
+        ensures carried { CarriesOut (setting_of (layout_facts L.Layout) L.Writable.ANY
+            L.clone_wants S.DROPS S.boundary
+            (type_size S.Item.row) S.Zero.zero S.Calls.calls) self.now
+            (command.Show i) (seen_by (λ items. items.now) S.items_in S.items_in_box B.list result)
+            self.now }
+        ensures lent { shortage {T = S.Item} {M = M} (seen_by (λ items. items.now) S.items_in
+            S.items_in_box B.list result)
             (command.Show i) ≡ no_shortage }
     {
         self.agree();
-        match slot_at(&self.slots, i) {
+        match self.slots.get(i) {
             Some(slot) => {
                 slot.known_role();
+                if !S::Calls::copies() {
+                    return Reply::Kind;
+                }
                 Reply::Items(slot.as_slice())
             }
             None => Reply::NoWindow,
@@ -235,19 +267,27 @@ where
     }
 
     /// The end of a window, if one has this number.
-    fn release(&mut self, i: usize) -> TableReply<S::Item, A>
-        ensures rows { Step (setting_of L.STATIC L.clone_wants S.DROPS S.boundary
-            (type_size S.Item.row) S.Zero.zero) self.old.table
-            (command.Drop i) (seen_reply result) self.new.table }
-        ensures passes { Adds self.old.table self.old.standing (command.Drop i) (seen_reply result)
+    fn release(&mut self, i: usize) -> TableReply<S, B, M, A>
+        ensures rows { Step (setting_of (layout_facts L.Layout) L.Writable.ANY L.clone_wants S.DROPS
+            S.boundary
+            (type_size S.Item.row) S.Zero.zero S.Calls.calls) self.old.table
+            (command.Drop i) (seen_reply S.items_in S.items_in_box B.list result) self.new.table }
+        ensures passes { Adds (setting_of (layout_facts L.Layout) L.Writable.ANY L.clone_wants
+            S.DROPS S.boundary
+            (type_size S.Item.row) S.Zero.zero S.Calls.calls) self.old.table self.old.standing
+            (command.Drop i) (seen_reply S.items_in S.items_in_box B.list result)
             self.new.standing }
         ensures gone { self.new.table.rows ≡ slice_set self.old.table.rows i None }
         ensures blocks { self.new.table.blocks ≡ self.old.table.blocks }
     {
-        if i >= self.slots.len() {
+        let Some(place) = self.slots.place_of(i) else {
             return Reply::NoWindow;
-        }
-        drop_at(&mut self.slots[i], &mut self.passes)
+        };
+        let window = &mut self.slots.places[place];
+        let passes = &mut self.passes;
+        let reply = drop_at(window, passes);
+        self.slots.settle(place);
+        reply
     }
 }
 

@@ -6,7 +6,8 @@ use arc_block::layout::{ArcLayout, DefaultLayout};
 use arc_block::static_slice::StaticSlice;
 use arc_buffer::kinds::Plain;
 use arc_owners::error;
-use arc_table::command::{Cmd, Reply, TableCmd, TableReply};
+use arc_table::command::{Cmd, Given, Reply};
+use arc_table::kinds::{TableCmd, TableReply};
 use arc_table::table::Table;
 use linked_list_allocator::LocalHeap;
 use std::alloc::{AllocError, Allocator};
@@ -14,7 +15,7 @@ use std::sync::Wait;
 use std::test::Fail;
 
 /// Whether a reply is a static slice with these bytes.
-fn is_slice<A: Allocator>(reply: &TableReply<u8, A>, items: &[u8]) -> bool {
+fn is_slice<G: Given<Static = StaticSlice<u8>>>(reply: &Reply<G>, items: &[u8]) -> bool {
     match reply {
         Reply::Static(slice) => slice.as_slice() == items,
         _ => false,
@@ -39,7 +40,9 @@ fn hello(rt: HostRuntime) {
 }
 
 /// The commands of `hello`, in a list.
-fn hello_commands<A: Allocator + Copy>(alloc: A) -> Result<Vec<TableCmd<u8, A>, A>, AllocError> {
+fn hello_commands<A: Allocator + Copy>(
+    alloc: A,
+) -> Result<Vec<TableCmd<Plain<u8>, Vec<u8>, (), A>, A>, AllocError> {
     let items = Vec::from_slice(alloc, b"Hello world")?;
     let mut commands = Vec::with_capacity(alloc, 3)?;
     commands.push_reserved(Cmd::Slice(items));
@@ -53,7 +56,7 @@ fn hello_commands<A: Allocator + Copy>(alloc: A) -> Result<Vec<TableCmd<u8, A>, 
 }
 
 /// Whether these are the commands of `hello`.
-fn are_hello<A: Allocator>(commands: &[TableCmd<u8, A>]) -> bool {
+fn are_hello<A: Allocator>(commands: &[TableCmd<Plain<u8>, Vec<u8>, (), A>]) -> bool {
     match commands {
         [
             Cmd::Slice(items),
@@ -86,7 +89,13 @@ enum Ran {
 /// What comes of the commands of `hello`: of a table's first ones, or beside a window that is too
 /// short to be cut so.
 fn which<A: Allocator>(
-    answered: Result<Vec<TableReply<u8, A>, A>, (Vec<TableCmd<u8, A>, A>, error::AllocError)>,
+    answered: Result<
+        Vec<TableReply<Plain<u8>, Vec<u8>, (), A>, A>,
+        (
+            Vec<TableCmd<Plain<u8>, Vec<u8>, (), A>, A>,
+            error::AllocError,
+        ),
+    >,
 ) -> Ran {
     match answered {
         Err((commands, _)) => {
@@ -181,17 +190,23 @@ fn no_static_data(rt: HostRuntime) {
     assert!(rt; [made, taken] == [Said::Kind, Said::NoWindow]);
 }
 
-/// The commands of `hello`, over a table with a window.
-fn listed(rt: &impl Wait, heap: &LocalHeap) -> Ran {
-    let Ok(commands) = hello_commands(heap) else {
+/// The commands of `hello`, carried out by a table.
+fn carried_out<A: Allocator + Copy>(rt: &impl Wait, table: &mut ByteTable<A>, alloc: A) -> Ran {
+    let Ok(commands) = hello_commands(alloc) else {
         return Ran::Other;
     };
+    which(table.run(rt, commands))
+}
+
+/// The commands of `hello`, over a table with a window. Where they come back, and are dropped, the
+/// table and the heap are as before.
+fn listed(rt: &impl Wait, heap: &LocalHeap) -> Ran {
     let mut table = table_of(rt, heap, b"A");
     let before = (shows_a(&table), heap.used());
-    let answered = table.run(rt, commands);
+    let ran = carried_out(rt, &mut table, heap);
     let after = (shows_a(&table), heap.used());
     let _ = table.end();
-    match which(answered) {
+    match ran {
         Ran::Back if before != after => Ran::Wrong,
         Ran::Whole if !before.0 => Ran::Other,
         ran => ran,

@@ -1,8 +1,17 @@
 //! Tests of the public functions of `arc_table`, which stand in a crate of their own so that the
-//! check of the tests doesn't prove `arc_table` once more. Those of windows that are written stand
-//! in `arc_table_writers_tests`.
+//! check of the tests doesn't prove `arc_table` once more.
 #![tactic(auto)]
 
 #[cfg(test)]
 mod commands;
+#[cfg(test)]
+mod kinds;
+#[cfg(test)]
+mod needs;
 pub mod tables;
+#[cfg(test)]
+mod vectors;
+#[cfg(test)]
+mod writers;
+#[cfg(test)]
+mod zeros;

@@ -2,7 +2,7 @@
 use arc_block::layout::DefaultLayout;
 use arc_buffer::kinds::Plain;
 use arc_owners::error::{OwnerError, RangeError, TryReserveError};
-use arc_table::command::{Cmd, Reply, TableReply};
+use arc_table::command::{Cmd, Given, Reply};
 use arc_table::table::Table;
 use std::alloc::Allocator;
 use std::sync::Wait;
@@ -18,8 +18,14 @@ pub enum Said {
     Yes,
     No,
     Items,
+    Vec,
+    Boxed,
+    Buffer,
+    Raw,
     Static,
     Number(usize),
+    Meta,
+    None,
     NoWindow,
     Kind,
     Refused,
@@ -30,13 +36,28 @@ pub enum Said {
 }
 
 /// What a reply says. The items that it hands out are dropped.
-pub fn told<T: Drop, A: Allocator>(reply: TableReply<T, A>) -> Said {
+pub fn told<G: Given>(reply: Reply<G>) -> Said
+where
+    G::Shown: Drop,
+    G::Vector: Drop,
+    G::Boxed: Drop,
+    G::Buffer: Drop,
+    G::Raw: Drop,
+    G::Static: Drop,
+    G::Meta: Drop,
+{
     match reply {
         Reply::New(window) => Said::New(window),
         Reply::Ok => Said::Ok,
         Reply::Yes => Said::Yes,
         Reply::No => Said::No,
         Reply::Items(_) => Said::Items,
+        Reply::Vec(_) => Said::Vec,
+        Reply::Boxed(_) => Said::Boxed,
+        Reply::Buffer(_) => Said::Buffer,
+        Reply::Raw(_) => Said::Raw,
+        Reply::Meta(_) => Said::Meta,
+        Reply::None => Said::None,
         Reply::Static(_) => Said::Static,
         Reply::Number(number) => Said::Number(number),
         Reply::NoWindow => Said::NoWindow,
@@ -50,7 +71,10 @@ pub fn told<T: Drop, A: Allocator>(reply: TableReply<T, A>) -> Said {
 }
 
 /// Whether a reply has these bytes as its items.
-pub fn has_items<A: Allocator>(reply: &TableReply<u8, A>, items: &[u8]) -> bool {
+pub fn has_items<A: Allocator, G: Given<Shown = Vec<u8, A>>>(
+    reply: &Reply<G>,
+    items: &[u8],
+) -> bool {
     match reply {
         Reply::Items(shown) => shown.as_slice() == items,
         _ => false,

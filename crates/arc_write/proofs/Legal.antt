@@ -10,12 +10,14 @@ use Rattle.arc_owners.specs.declared.error.TryReserveError.{TryReserveError}
 use Rattle.arc_owners.specs.declared.count.tokens.Pass.{Pass}
 use Rattle.arc_block.specs.declared.parts.room.Room.{Room}
 use Rattle.arc_block.specs.declared.parts.room.Room.TheVariants.{Spare, Fresh, Behind, Front}
-use Rattle.arc_block.specs.declared.parts.room.Room.TheVariants.{Growth, Refused}
+use Rattle.arc_block.specs.declared.parts.room.Room.TheVariants.{Growth, Own, Refused}
 use Rattle.arc_owners.specs.count.Calls.{Owner}
 use Rattle.arc_buffer.specs.Slice.{sub, IsEdge, IsRange}
-use Rattle.arc_block.specs.Place.{Place, nowhere, static_data, on_block, at_owner}
+use Rattle.arc_block.specs.Place.{Place, nowhere, static_data, on_block}
 use Rattle.arc_block.specs.Window.{PartsView}
-use Rattle.arc_block.specs.Writers.{MakesRoom, Reclaims, as_sole, sole_at, after_advance, after_truncate, with_capacity}
+use Rattle.arc_block.specs.Writers.{MakesRoom, Reclaims, as_sole, sole_at}
+use Rattle.arc_block.specs.Writers.{after_advance, after_truncate, with_capacity}
+use Rattle.arc_block.specs.Writers.{BecomesSole, BecomesSoleAt}
 
 yes : (b : Bool) → b ≡ true → T b
 yes true e = tt
@@ -60,6 +62,7 @@ module _ {T M : Type 0} (legal : List T → Type 0) where
   refused-items drops one_pass Front old new before after e r = ap (λ w. w.items) r.1
   refused-items drops one_pass (Fresh places) old new before after e r = ap (λ w. w.items) r.1
   refused-items drops one_pass (Growth places) old new before after e r = ap (λ w. w.items) r.1
+  refused-items drops one_pass (Own additional) old new before after e r = ap (λ w. w.items) r.1
   refused-items drops one_pass (Refused refusal) old new before after e r = ap (λ w. w.items) r.1
 
   -- room that is had without memory keeps a list legal
@@ -70,6 +73,7 @@ module _ {T M : Type 0} (legal : List T → Type 0) where
   reclaimed_legal Front old new found r l = same legal (ap (λ w. w.items) r.1) l
   reclaimed_legal (Fresh places) old new found r l = same legal (ap (λ w. w.items) r.1) l
   reclaimed_legal (Growth places) old new found r l = same legal (ap (λ w. w.items) r.1) l
+  reclaimed_legal (Own additional) old new found r l = same legal (ap (λ w. w.items) r.1) l
   reclaimed_legal (Refused e) old new found r l = same legal (ap (λ w. w.items) r.1) l
 
   -- the first items of a legal list, and those behind them, where it may be cut there
@@ -106,16 +110,22 @@ module _ {T M : Type 0} (legal : List T → Type 0) where
       let first : (b : Bool) → nat_lt n (length old.items) ≡ b → ∥ legal (if b then shorter else old.items) ∥₁ = λ b e. by_test legal boundary part ends old.items n edge l b e in
       subst (λ zs. ∥ legal zs ∥₁) (sym (ap (λ w. w.items) is ∙ items_of drops n old (nat_lt n (length old.items)))) (first (nat_lt n (length old.items)) refl)
 
-  sole-at-legal : (Q : Owner → Type 0) (R : Type 0) (drops : Bool) (xs : List T) (place : Place (Option Owner) M) (v : PartsView T M) → v ≡ sole_at drops xs place
-      → at_owner place ((length xs ≡ 0) × R) Q → ∥ legal xs ∥₁ → ∥ legal v.items ∥₁
-  sole-at-legal Q R drops xs nowhere v is none l = subst (λ zs. ∥ legal zs ∥₁) (no-items xs none.0 ∙ sym (ap (λ w. w.items) is)) l
-  sole-at-legal Q R drops xs static_data v is none l = subst (λ zs. ∥ legal zs ∥₁) (no-items xs none.0 ∙ sym (ap (λ w. w.items) is)) l
-  sole-at-legal Q R drops xs (on_block owner offset info) v is asked l = subst (λ zs. ∥ legal zs ∥₁) (sym (ap (λ w. w.items) is)) l
+  sole-at-legal : {H : Type 0} (has_any drops : Bool) (xs : List T) (place : Place (Option Owner) M)
+      (v : PartsView T M) (before after : Pass H) → v ≡ sole_at drops xs place
+      → BecomesSoleAt has_any place (length xs) before after → ∥ legal xs ∥₁ → ∥ legal v.items ∥₁
+  sole-at-legal has_any drops xs nowhere v before after is none l =
+      subst (λ zs. ∥ legal zs ∥₁) (no-items xs none.0 ∙ sym (ap (λ w. w.items) is)) l
+  sole-at-legal has_any drops xs static_data v before after is none l =
+      subst (λ zs. ∥ legal zs ∥₁) (no-items xs none.0 ∙ sym (ap (λ w. w.items) is)) l
+  sole-at-legal has_any drops xs (on_block owner offset info) v before after is asked l =
+      subst (λ zs. ∥ legal zs ∥₁) (sym (ap (λ w. w.items) is)) l
 
   -- what becomes a sole writer's
-  pub sole_legal : (Q : Owner → Type 0) (R : Type 0) (drops : Bool) (w v : PartsView T M) → v ≡ as_sole drops w
-      → at_owner w.place ((length w.items ≡ 0) × R) Q → ∥ legal w.items ∥₁ → ∥ legal v.items ∥₁
-  sole_legal Q R drops w v is asked l = sole-at-legal Q R drops w.items w.place v is asked l
+  pub sole_legal : {H : Type 0} (has_any drops : Bool) (w v : PartsView T M) (before after : Pass H)
+      → v ≡ as_sole drops w → BecomesSole has_any w before after
+      → ∥ legal w.items ∥₁ → ∥ legal v.items ∥₁
+  sole_legal has_any drops w v before after is asked l =
+      sole-at-legal has_any drops w.items w.place v before after is asked l
 
   -- whether a list was pushed or refused, what is there is legal
   pub extend_legal : {E H : Type 0} → (drops one_pass : Bool) (room : Room) (xs : List T)

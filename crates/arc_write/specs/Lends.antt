@@ -3,6 +3,8 @@ use Rattle.std.specs.Prelude.{List}
 use Rattle.std.specs.Borrow.{Lends, Fml, RattleType, MutBor, Array}
 use Rattle.std.specs.declared.alloc.Allocator as allocator
 use Rattle.arc_owners.specs.declared.mark.Mark as mark
+use Rattle.arc_buffer.specs.declared.buffer.Buffer as buffer
+use Rattle.arc_buffer.specs.declared.buffer.BufferMut as buffer_mut
 use Rattle.arc_buffer.specs.declared.kinds.Slice as kind
 use Rattle.arc_block.specs.declared.layout.Layout as layout
 use Rattle.arc_block.specs.Window.{PartsView}
@@ -12,10 +14,12 @@ use denote.Param.{number}
 
 module _ (S L B M A H Item Error Writable : RattleType)
     (s : kind.Ghosts S.Denot Item.Denot Error.Denot) (l : layout.Ghosts L.Denot Writable.Denot)
-    (a : allocator.Ghosts A.Denot) (h : mark.Ghosts H.Denot)
+    (m : buffer_mut.Ghosts B.Denot Item.Denot) (b : buffer.Ghosts B.Denot Item.Denot)
+    (a : allocator.Ghosts A.Denot)
+    (h : mark.Ghosts H.Denot)
     (window : MutBor (PartsView Item.Denot M.Denot)) where
   -- once the borrow r ends, the items are those that r shows last
   abbrev pub lends_items : MutBor (List Item.Denot) → Fml
   lends_items r =
-      Lends (the_row S L (number 1) B M A H Item Error Writable s l a h) (Array Item 0) window r
-      (with_items window.now)
+      Lends (the_row S L (number 1) B M A H Item Error Writable s l m b a h) (Array Item 0)
+      window r (with_items window.now)

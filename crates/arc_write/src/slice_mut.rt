@@ -1,10 +1,11 @@
 //! `ArcSliceMut`, a window that is written.
 ghost use Rattle.std.specs.Prelude.{◌≡◌, false};
 ghost use Rattle.arc_block.specs.Steps.{EndsShownAt};
-ghost use Rattle.arc_block.specs.Writers.{idle_writer};
+ghost use Rattle.arc_block.specs.Writers.{IsWriterPlace, idle_writer};
 
 use arc_block::layout::{DefaultLayoutMut, LayoutMut};
 use arc_block::parts::SoleParts;
+use arc_buffer::buffer::BufferMut;
 use arc_buffer::kinds::{Emptyable, Plain, Slice, Text};
 use arc_owners::mark::{Mark, Open};
 pub use into_mut::IntoMut;
@@ -15,7 +16,7 @@ use std::marker::{Model, PhantomData};
 /// stands on nothing, with no items and no places.
 ///
 /// `UNIQUE` is 1: the window is its block's only owner. `B` is the type of callers' buffers and
-/// `M` that of their metadata. No window is made of a buffer yet.
+/// `M` that of their metadata.
 ///
 /// Each call that makes a block, makes room in it or leaves it has a form that ends in `_as` and
 /// takes a pass of the block, in which contracts read what was added to the block's history; a
@@ -27,8 +28,8 @@ pub struct ArcSliceMut<
     S: Slice,
     L: LayoutMut,
     const UNIQUE: u8,
-    B = Vec<<S as Slice>::Item>,
-    M = (),
+    B: BufferMut<<S as Slice>::Item> + Drop = Vec<<S as Slice>::Item>,
+    M: Drop = (),
     A: Allocator + Copy = Global,
     H: Mark = Open,
 > {
@@ -58,8 +59,15 @@ pub type ArcStrMut<L = DefaultLayoutMut, B = Vec<u8>, M = (), A = Global, H = Op
     H,
 >;
 
-impl<S: Slice, L: LayoutMut, const UNIQUE: u8, B, M, A: Allocator + Copy, H: Mark> Model
-    for ArcSliceMut<S, L, UNIQUE, B, M, A, H> {
+impl<
+    S: Slice,
+    L: LayoutMut,
+    const UNIQUE: u8,
+    B: BufferMut<S::Item> + Drop,
+    M: Drop,
+    A: Allocator + Copy,
+    H: Mark,
+> Model for ArcSliceMut<S, L, UNIQUE, B, M, A, H> {
     ghost use Rattle.arc_block.specs.Window.{PartsView};
 
     ghost Value = { PartsView S.Item M };
@@ -69,8 +77,15 @@ impl<S: Slice, L: LayoutMut, const UNIQUE: u8, B, M, A: Allocator + Copy, H: Mar
     ghost invariant = { λ w. ∥ S.is_legal w.parts.items ∥₁ };
 }
 
-impl<S: Slice, L: LayoutMut, const UNIQUE: u8, B, M, A: Allocator + Copy, H: Mark> Drop
-    for ArcSliceMut<S, L, UNIQUE, B, M, A, H> {
+impl<
+    S: Slice,
+    L: LayoutMut,
+    const UNIQUE: u8,
+    B: BufferMut<S::Item> + Drop,
+    M: Drop,
+    A: Allocator + Copy,
+    H: Mark,
+> Drop for ArcSliceMut<S, L, UNIQUE, B, M, A, H> {
     #[inline(always)]
     fn drop(self)
         ensures ended { H.whole ≡ false → EndsShownAt H H.real self.place }
@@ -80,7 +95,14 @@ impl<S: Slice, L: LayoutMut, const UNIQUE: u8, B, M, A: Allocator + Copy, H: Mar
     }
 }
 
-impl<S: Slice, L: LayoutMut, B, M, A: Allocator + Copy, H: Mark> ArcSliceMut<S, L, 1, B, M, A, H> {
+impl<
+    S: Slice,
+    L: LayoutMut,
+    B: BufferMut<S::Item> + Drop,
+    M: Drop,
+    A: Allocator + Copy,
+    H: Mark,
+> ArcSliceMut<S, L, 1, B, M, A, H> {
     /// A window with no items and no places, which stands on nothing.
     pub fn new(alloc: A) -> Self
     where
@@ -102,6 +124,14 @@ impl<S: Slice, L: LayoutMut, B, M, A: Allocator + Copy, H: Mark> ArcSliceMut<S, 
         }
     }
 
+    /// The window stands on nothing, or on a block that counts its owners and may be written. Does
+    /// nothing: its contract is the law.
+    pub fn known_place(&self)
+        ensures { IsWriterPlace self.now.place }
+    {
+        self.parts.known_place();
+    }
+
     /// What the window is made of. It adds nothing.
     #[inline(always)]
     pub fn into_parts(self) -> SoleParts<S, B, M, A, H>
@@ -113,6 +143,7 @@ impl<S: Slice, L: LayoutMut, B, M, A: Allocator + Copy, H: Mark> ArcSliceMut<S, 
     }
 }
 
+mod buffers;
 mod change;
 mod cuts;
 mod into_mut;
@@ -122,4 +153,5 @@ mod own;
 mod plain;
 mod read;
 mod text;
+mod vectors;
 mod write;

@@ -5,23 +5,25 @@
 ghost use Rattle.std.specs.Prelude.{◌≡◌, ◌≤◌, true, false, is_ok, IfOk, IfErr};
 ghost use Rattle.arc_owners.specs.count.Calls.{IsFirst, IsPassFor, IsFreshPass, Asks};
 ghost use Rattle.arc_owners.specs.count.Calls.{IsPassOfNone, EndsByItself};
-ghost use Rattle.arc_owners.specs.memory.SoleBoxes.{sole_in};
-ghost use Rattle.arc_block.specs.Block.{held_as, IsLimited};
+ghost use Rattle.arc_owners.specs.memory.SoleBoxes.{sole_in, sole_value};
+ghost use Rattle.arc_block.specs.Block.{memory_sort, held_as, IsLimited, IsMemory};
+ghost use Rattle.arc_block.specs.Contents.{content_sort, held_in};
 
-use super::{Base, Block};
+use super::{Block, Content};
+use arc_buffer::buffer::Buffer;
 use arc_buffer::kinds::Slice;
 use arc_memory::Native;
 use arc_owners::error::AllocError;
 use arc_owners::mark::Mark;
 use arc_owners::owners::{Pass, SoleBox};
 use std::alloc::Allocator;
-use std::marker::PhantomData;
 use std::mem;
 
 /// The count of a block, with its only owner, who has the block's items elsewhere.
-pub(crate) type SoleCount<T, A, const MAX: u64, H> = SoleBox<Native<T, A>, A, MAX, H>;
+pub(crate) type SoleCount<T, B, M, A, const MAX: u64, H> = SoleBox<Content<T, B, M, A>, A, MAX, H>;
 
-/// The only owner of a new block, with a pass of it. `MAX` is at least 2.
+/// The only owner of a new block, a vector or a native one, with a pass of it, who has its items
+/// elsewhere. `MAX` is at least 2.
 ///
 /// # Errors
 ///
@@ -30,15 +32,17 @@ pub(crate) type SoleCount<T, A, const MAX: u64, H> = SoleBox<Native<T, A>, A, MA
 /// # Allocates
 ///
 /// Once.
-pub(crate) fn new_count<T: Drop, A: Allocator + Copy, const MAX: u64, H: Mark>(
+pub(crate) fn new_count<T: Drop, B: Drop, M: Drop, A: Allocator + Copy, const MAX: u64, H: Mark>(
     alloc: A,
-) -> Result<(SoleCount<T, A, MAX, H>, Pass<H>), AllocError>
+    is_vector: bool,
+) -> Result<(SoleCount<T, B, M, A, MAX, H>, Pass<H>), AllocError>
     requires { 2 ≤ MAX }
-    ensures made { IfOk result (λ r. IsFirst MAX H.whole (sole_in r.0)) }
+    ensures made { IfOk result (λ r. IsFirst MAX H.whole (sole_in r.0)
+        × (content_sort (sole_value r.0) ≡ memory_sort is_vector)) }
     ensures pass { IfOk result (λ r. IsFreshPass (sole_in r.0) r.1) }
 {
     let (_, empty) = Native::of(Vec::new(alloc));
-    match SoleBox::new(alloc, empty) {
+    match SoleBox::new(alloc, Content::of_memory(is_vector, empty)) {
         Ok(made) => Ok(made),
         Err(empty) => {
             drop(empty);
@@ -50,8 +54,8 @@ pub(crate) fn new_count<T: Drop, A: Allocator + Copy, const MAX: u64, H: Mark>(
 /// What a drop does: under `Open` the owner ends with a new pass, and its items are dropped; under
 /// `Whole` it is forgotten, and so are its items, which stay where they are. The pass is the one
 /// that the owner ended with; under `Whole` it is of no block.
-pub(crate) fn end_sole<T: Drop, A: Allocator + Copy, const MAX: u64, H: Mark>(
-    count: SoleCount<T, A, MAX, H>,
+pub(crate) fn end_sole<T: Drop, B: Drop, M: Drop, A: Allocator + Copy, const MAX: u64, H: Mark>(
+    count: SoleCount<T, B, M, A, MAX, H>,
     items: Vec<T, A>,
 ) -> Pass<H>
     ensures forgotten { H.whole ≡ true → IsPassOfNone result }
@@ -66,21 +70,30 @@ pub(crate) fn end_sole<T: Drop, A: Allocator + Copy, const MAX: u64, H: Mark>(
     pass
 }
 
-impl<S: Slice, B, M, A: Allocator + Copy, const MAX: u64, H: Mark> Block<S, B, M, A, MAX, H> {
+impl<
+    S: Slice,
+    B: Buffer<S::Item> + Drop,
+    M: Drop,
+    A: Allocator + Copy,
+    const MAX: u64,
+    H: Mark,
+> Block<S, B, M, A, MAX, H> {
     /// The same owner of the same block, which may be shared from now on. It adds no entry and
     /// takes no memory.
-    pub(crate) fn of_sole(count: SoleCount<S::Item, A, MAX, H>, items: Vec<S::Item, A>) -> Self
-        requires { IsLimited MAX H.whole (sole_in count) }
-        ensures { result ≡ held_as S.DROPS (sole_in count) items }
+    pub(crate) fn of_sole(
+        count: SoleCount<S::Item, B, M, A, MAX, H>,
+        items: Vec<S::Item, A>,
+    ) -> Self
+        requires limited { IsLimited MAX H.whole (sole_in count) }
+        requires memory { IsMemory (content_sort (sole_value count)) }
+        ensures { result
+            ≡ held_as (content_sort (sole_value count)) S.DROPS (sole_in count) items }
     {
         let mut count = count;
-        let (at, native) = Native::of(items);
-        drop(mem::replace(count.get_mut(), native));
-        Block {
-            piece: count.lend(),
-            base: Base { at },
-            of: PhantomData,
-        }
+        let (_, memory) = Native::of(items);
+        let content = count.get().with_memory(memory);
+        drop(mem::replace(count.get_mut(), content));
+        Block::over(count.lend())
     }
 
     /// The only owner of the same block, and its items, where no other one lives. Else the block is
@@ -93,21 +106,58 @@ impl<S: Slice, B, M, A: Allocator + Copy, const MAX: u64, H: Mark> Block<S, B, M
         self,
         alloc: A,
         pass: &mut Pass<H>,
-    ) -> Result<(SoleCount<S::Item, A, MAX, H>, Vec<S::Item, A>), Self>
+    ) -> Result<(SoleCount<S::Item, B, M, A, MAX, H>, Vec<S::Item, A>), Self>
         requires pass { IsPassFor self.owner pass.old }
+        requires memory { IsMemory self.facts.sort }
         ensures entry { Asks self.owner pass.old pass.new (is_ok result) }
-        ensures sole { IfOk result (λ r. (held_as S.DROPS (sole_in r.0) r.1 ≡ self)
+        ensures sole { IfOk result (λ r.
+            (held_as (content_sort (sole_value r.0)) S.DROPS (sole_in r.0) r.1 ≡ self)
             × IsLimited MAX H.whole (sole_in r.0)) }
         ensures others { IfErr result (λ back. back ≡ self) }
     {
-        let Block { piece, base, of } = self;
+        let Block { piece, base, shown } = self;
         match piece.try_into_sole_as(pass) {
             Ok(mut count) => {
                 let (_, empty) = Native::of(Vec::new(alloc));
-                let items = mem::replace(count.get_mut(), empty).into_vec();
+                let empty = count.get().with_memory(empty);
+                let items = mem::replace(count.get_mut(), empty).into_memory();
                 Ok((count, items))
             }
-            Err(piece) => Err(Block { piece, base, of }),
+            Err(piece) => Err(Block { piece, base, shown }),
+        }
+    }
+
+    /// The same owner of the same block, a caller's buffer, which may be shared from now on. It
+    /// adds no entry and takes no memory.
+    pub(crate) fn of_sole_buffer(count: SoleCount<S::Item, B, M, A, MAX, H>) -> Self
+        requires { IsLimited MAX H.whole (sole_in count) }
+        ensures { result
+            ≡ held_in B.list B.places S.DROPS (sole_in count) (sole_value count) }
+    {
+        Block::over(count.lend())
+    }
+
+    /// The only owner of the same block, which keeps its items, where no other one lives. Else the
+    /// block is handed back. Takes no memory.
+    ///
+    /// # History
+    ///
+    /// Alone with the answer.
+    pub(crate) fn try_into_sole_buffer_as(
+        self,
+        pass: &mut Pass<H>,
+    ) -> Result<SoleCount<S::Item, B, M, A, MAX, H>, Self>
+        requires pass { IsPassFor self.owner pass.old }
+        ensures entry { Asks self.owner pass.old pass.new (is_ok result) }
+        ensures sole { IfOk result (λ count.
+            (held_in B.list B.places S.DROPS (sole_in count) (sole_value count) ≡ self)
+            × IsLimited MAX H.whole (sole_in count)) }
+        ensures others { IfErr result (λ back. back ≡ self) }
+    {
+        let Block { piece, base, shown } = self;
+        match piece.try_into_sole_as(pass) {
+            Ok(count) => Ok(count),
+            Err(piece) => Err(Block { piece, base, shown }),
         }
     }
 }

@@ -9,18 +9,25 @@ ghost use Rattle.arc_block.specs.Steps.{IsPassAt, RefusesArray, EndsAt};
 use super::Parts;
 use super::storage::Storage;
 use crate::static_slice::StaticSlice;
+use arc_buffer::buffer::Buffer;
 use arc_buffer::kinds::Slice;
 use arc_owners::mark::Mark;
 use arc_owners::owners::Pass;
 use std::alloc::Allocator;
 
-impl<S: Slice, B, M, A: Allocator + Copy, H: Mark> Parts<S, B, M, A, H> {
+impl<S: Slice, B: Buffer<S::Item> + Drop, M: Drop, A: Allocator + Copy, H: Mark> Parts<
+    S,
+    B,
+    M,
+    A,
+    H,
+> {
     /// Whether there are `n` items, which are all places of a native block.
     fn is_whole(&self, n: usize) -> bool
         ensures { IsTrue result ↔ IsWholeOf n (window_of self.now) }
     {
         match &self.on {
-            Storage::Block(block) => block.is_native() && block.size() == n && self.len() == n,
+            Storage::Block(block) => block.is_native_of(n) && self.len() == n,
             _ => false,
         }
     }
@@ -58,8 +65,8 @@ impl<S: Slice, B, M, A: Allocator + Copy, H: Mark> Parts<S, B, M, A, H> {
         let Storage::Block(block) = on else {
             unreachable!()
         };
-        match block.try_into_items_as(pass) {
-            Ok(items) => match <[S::Item; N]>::try_from(items) {
+        match block.try_into_content_as(pass) {
+            Ok(content) => match <[S::Item; N]>::try_from(content.into_memory()) {
                 Ok(array) => Ok(array),
                 Err(_) => unreachable!(),
             },
@@ -137,8 +144,8 @@ impl<S: Slice, B, M, A: Allocator + Copy, H: Mark> Parts<S, B, M, A, H> {
             alloc: _,
         } = self;
         if let Storage::Block(block) = on {
-            match block.try_into_items_as(pass) {
-                Ok(items) => drop(items),
+            match block.try_into_content_as(pass) {
+                Ok(content) => drop(content),
                 Err(shared) => {
                     let _ = shared.release_as(pass);
                 }
@@ -161,6 +168,7 @@ impl<S: Slice, B, M, A: Allocator + Copy, H: Mark> Parts<S, B, M, A, H> {
             Storage::Block(block) => Storage::Block(block.into_kind()),
             Storage::Static(items) => Storage::Static(items),
             Storage::Nothing(items) => Storage::Nothing(items),
+            Storage::Raw(shared) => Storage::Raw(shared),
         };
         Parts {
             on,
@@ -182,7 +190,7 @@ impl<S: Slice, B, M, A: Allocator + Copy, H: Mark> Parts<S, B, M, A, H> {
         ensures refused { IfErr result (λ parts. (parts ≡ self) × IsOnBlock self.place) }
     {
         match &self.on {
-            Storage::Block(_) => Err(self),
+            Storage::Block(_) | Storage::Raw(_) => Err(self),
             Storage::Static(items) => Ok(StaticSlice {
                 items: items.again(),
                 start: self.start,

@@ -1,16 +1,20 @@
 //! Owners of the block on which parts stand: another one, and what is seen of all.
 ghost use Rattle.std.specs.Prelude.{◌≡◌, ◌≤◌, false, length, IfOk, IfErr, IfSome, IfNone};
 ghost use Rattle.arc_buffer.specs.Slice.{sub};
-ghost use Rattle.arc_owners.specs.count.Calls.{Asks, IsNewPass, IsPassOfNone, Learns};
+ghost use Rattle.arc_owners.specs.count.Calls.{IsNewPass, IsPassOfNone, Learns};
 ghost use Rattle.arc_block.specs.Block.{IsLimited};
+ghost use Rattle.arc_block.specs.LayoutFacts.{layout_facts};
 ghost use Rattle.arc_block.specs.Place.{at_owner, part_place};
 ghost use Rattle.arc_block.specs.Table.{reader};
 ghost use Rattle.arc_block.specs.Steps.{IsPassAt, Shares, Refuses};
+ghost use Rattle.arc_block.specs.Unique.{AsksUniqueAt};
+ghost use Rattle.arc_block.specs.Window.{IsHeld};
 
 use super::Parts;
 use super::storage::Storage;
 use crate::block::max_owners;
 use crate::layout::{Layout, stands_on_nothing};
+use arc_buffer::buffer::Buffer;
 use arc_buffer::kinds::Slice;
 use arc_owners::error::OwnerError;
 use arc_owners::leave::RaiseLeave;
@@ -18,18 +22,25 @@ use arc_owners::mark::{Mark, Stepping};
 use arc_owners::owners::Pass;
 use std::alloc::Allocator;
 
-impl<S: Slice, B, M, A: Allocator + Copy, H: Mark> Parts<S, B, M, A, H> {
+impl<S: Slice, B: Buffer<S::Item> + Drop, M: Drop, A: Allocator + Copy, H: Mark> Parts<
+    S,
+    B,
+    M,
+    A,
+    H,
+> {
     /// One attempt to make another owner of the same items at the same place: nothing where another
     /// thread's step came between, which only a block's owner can meet, and then no entry is added.
     ///
     /// # Errors
     ///
     /// On a block `CountFull`, exactly where `MAX_OWNERS` owners live, and `AllocError`, only where
-    /// the layout's clones may want memory on a block of its sort.
+    /// the layout's clones may want memory on a block of its sort: of an `Arc` that is a block by
+    /// itself where it has as many owners as it may have.
     ///
     /// # History
     ///
-    /// On a block Up, or Full where refused.
+    /// On a block that counts its owners Up, or Full where refused.
     #[inline(always)]
     pub fn try_clone_once_as<L: Layout>(
         &self,
@@ -37,6 +48,7 @@ impl<S: Slice, B, M, A: Allocator + Copy, H: Mark> Parts<S, B, M, A, H> {
         pass: &mut Pass<H>,
     ) -> Option<Result<Self, OwnerError>>
         requires role { self.now.role ≡ reader }
+        requires held { IsHeld (layout_facts L.Layout) self.now.place }
         requires pass { IsPassAt self.now.place pass.old }
         ensures items { IfSome result (λ r. IfOk r (λ parts. parts.items ≡ self.now.items)) }
         ensures place { IfSome result (λ r. IfOk r (λ parts.
@@ -54,6 +66,10 @@ impl<S: Slice, B, M, A: Allocator + Copy, H: Mark> Parts<S, B, M, A, H> {
             },
             Storage::Static(items) => Storage::Static(items.again()),
             Storage::Nothing(items) => Storage::Nothing(items.again()),
+            Storage::Raw(shared) => match shared.try_clone() {
+                Ok(shared) => Storage::Raw(shared),
+                Err(_) => return Some(Err(OwnerError::AllocError)),
+            },
         };
         Some(Ok(Parts {
             on,
@@ -73,7 +89,7 @@ impl<S: Slice, B, M, A: Allocator + Copy, H: Mark> Parts<S, B, M, A, H> {
     ///
     /// # History
     ///
-    /// Where the part stands on a block Up, or Full where refused.
+    /// Where the part stands on a block that counts its owners Up, or Full where refused.
     #[inline(always)]
     pub fn try_part_once_as<L: Layout>(
         &self,
@@ -84,6 +100,7 @@ impl<S: Slice, B, M, A: Allocator + Copy, H: Mark> Parts<S, B, M, A, H> {
     ) -> Option<Result<Self, OwnerError>>
         requires range { (start ≤ end) × (end ≤ length self.now.items) }
         requires role { self.now.role ≡ reader }
+        requires held { IsHeld (layout_facts L.Layout) self.now.place }
         requires pass { IsPassAt self.now.place pass.old }
         ensures items { IfSome result (λ r.
             IfOk r (λ part. part.items ≡ sub self.now.items start end)) }
@@ -103,40 +120,53 @@ impl<S: Slice, B, M, A: Allocator + Copy, H: Mark> Parts<S, B, M, A, H> {
         if stands_on_nothing::<L>(end - start) {
             return Some(Ok(Self::on_nothing(self.alloc)));
         }
+        // It is read, so that it is known to be a number of 64 bits.
+        let _last = self.end;
+        let (from, to) = (self.start + start, self.start + end);
         match &self.on {
             Storage::Block(block) => match block.try_share_once_as(leave, pass)? {
                 Ok(block) => Some(Ok(Parts {
                     on: Storage::Block(block),
-                    start: self.start + start,
-                    end: self.start + end,
+                    start: from,
+                    end: to,
                     alloc: self.alloc,
                 })),
                 Err(e) => Some(Err(e.into())),
             },
             Storage::Static(items) => Some(Ok(Parts {
                 on: Storage::Static(items.again()),
-                start: self.start + start,
-                end: self.start + end,
+                start: from,
+                end: to,
                 alloc: self.alloc,
             })),
             Storage::Nothing(_) => Some(Ok(Self::on_nothing(self.alloc))),
+            Storage::Raw(shared) => match shared.try_clone() {
+                Ok(shared) => Some(Ok(Parts {
+                    on: Storage::Raw(shared),
+                    start: from,
+                    end: to,
+                    alloc: self.alloc,
+                })),
+                Err(_) => Some(Err(OwnerError::AllocError)),
+            },
         }
     }
 
-    /// Whether no other owner of the block lives, by one load. `false` on no block.
+    /// Whether nobody else has a part of what the parts stand on: on a block the count is asked, by
+    /// one load, and of a caller's buffer the buffer after it. `false` on no block, and of an
+    /// `Arc`.
     ///
     /// # History
     ///
-    /// On a block Alone with the answer.
+    /// On a block, but for an `Arc`, Alone with what the count says.
     #[inline(always)]
     pub fn is_unique_as(&self, pass: &mut Pass<H>) -> bool
         requires role { self.now.role ≡ reader }
         requires pass { IsPassAt self.now.place pass.old }
-        ensures entry { at_owner self.now.place ((result ≡ false)
-            × (pass.new ≡ pass.old)) (λ o. Asks o pass.old pass.new result) }
+        ensures entry { AsksUniqueAt self.now.place pass.old pass.new result }
     {
         match &self.on {
-            Storage::Block(block) => block.is_unique_as(pass),
+            Storage::Block(block) => block.is_unique_by_sort_as(pass),
             _ => false,
         }
     }
@@ -166,7 +196,13 @@ impl<S: Slice, B, M, A: Allocator + Copy, H: Mark> Parts<S, B, M, A, H> {
     }
 }
 
-impl<S: Slice, B, M, A: Allocator + Copy, H: Stepping> Parts<S, B, M, A, H> {
+impl<S: Slice, B: Buffer<S::Item> + Drop, M: Drop, A: Allocator + Copy, H: Stepping> Parts<
+    S,
+    B,
+    M,
+    A,
+    H,
+> {
     /// A new pass of the block, which has seen at least how this owner became one, and made
     /// nothing; on no block a pass of none. It adds nothing.
     pub fn pass(&self) -> Pass<H>

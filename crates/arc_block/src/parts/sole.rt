@@ -1,30 +1,37 @@
 //! Parts of a window that writes as the only owner of its block.
-ghost use Rattle.std.specs.Prelude.{◌≡◌, ◌≤◌, ◌<◌, ◌+◌, ◌-◌, ◌^◌, ◌++◌, ◌∷◌};
-ghost use Rattle.std.specs.Prelude.{[], length, replicate, false, IfOk, IfErr, OnOk, OnErr};
+ghost use Rattle.std.specs.Prelude.{◌≡◌, ◌≤◌, ◌+◌, [], length, replicate, false};
+ghost use Rattle.std.specs.Prelude.{IfOk, IfErr, OnOk, OnErr};
 ghost use Rattle.std.specs.Mem.{FitsInMemory, type_size};
-ghost use Rattle.std.specs.Vec.{vec_capacity, vec_len};
 ghost use Rattle.arc_owners.specs.count.Calls.{IsPassOfNone};
-ghost use Rattle.arc_owners.specs.memory.SoleBoxes.{sole_in};
-ghost use Rattle.arc_block.specs.declared.block.TheConstants.{MAX_OWNERS};
-ghost use Rattle.arc_block.specs.declared.parts.room.Room.TheVariants.{Front, Growth};
-ghost use Rattle.arc_block.specs.Block.{IsLimited};
 ghost use Rattle.arc_block.specs.Place.{nowhere};
-ghost use Rattle.arc_block.specs.Room.{IfSpare, IfFresh, IfBehind, IfGrowth, IfFront};
 ghost use Rattle.arc_block.specs.Steps.{IsPassAt, EndsShownAt};
 ghost use Rattle.arc_block.specs.Table.{sole_writer};
-ghost use Rattle.arc_block.specs.Writers.{capacity_of, room_for, sole_part, with_room};
-ghost use Rattle.arc_block.specs.Writers.{IsNewWriter, MakesWriter, MakesRoom, CanGrow};
-ghost use Rattle.arc_block.specs.Writers.{size_at, offset_at};
+ghost use Rattle.arc_block.specs.Writers.{capacity_of, room_for, MakesWriter, MakesRoom};
+ghost use Rattle.arc_block.specs.Writers.{IsWriterPlace};
+ghost use Rattle.std.specs.Prelude.{IsTrue};
+ghost use Rattle.std.specs.Prelude.{◌↔◌};
+ghost use Rattle.arc_block.specs.Window.{IsOfBuffer};
 
-use super::room::{Room, room_in};
-use crate::block::{MAX_OWNERS, SoleCount, array_of, copied, end_sole, filled, moved, new_count};
+use arc_buffer::buffer::BufferMut;
 use arc_buffer::kinds::{Slice, Zeroable};
 use arc_owners::error::{AllocError, TryReserveError};
 use arc_owners::mark::{Mark, Open};
 use arc_owners::owners::Pass;
+use buffer::SoleBuffer;
+use memory::SoleMemory;
 use std::alloc::{Allocator, Global};
-use std::cmp::max;
-use std::marker::{Model, PhantomData};
+use std::marker::Model;
+
+/// What a sole writer's parts are: items in memory of ours, or in a caller's buffer.
+///
+/// This tag tells which, so that nothing of the block is read for it.
+#[derive(Drop)]
+pub(crate) enum SoleStorage<M, B> {
+    /// A native block's memory, a vector's, or none.
+    Memory(M),
+    /// A caller's buffer.
+    Buffer(B),
+}
 
 /// A row of the table of lists that its only owner writes: the items, where they stand, and how
 /// many places they have.
@@ -32,66 +39,87 @@ use std::marker::{Model, PhantomData};
 /// Dropped, they end as a window does.
 pub struct SoleParts<
     S: Slice,
-    B = Vec<<S as Slice>::Item>,
-    M = (),
+    B: BufferMut<<S as Slice>::Item> + Drop = Vec<<S as Slice>::Item>,
+    M: Drop = (),
     A: Allocator + Copy = Global,
     H: Mark = Open,
 > {
-    // None where they stand on nothing: then the vector is empty.
-    count: Option<SoleCount<S::Item, A, MAX_OWNERS, H>>,
-    items: Vec<S::Item, A>,
-    start: usize,
-    end: usize,
-    alloc: A,
-    of: PhantomData<(B, M)>,
+    on: SoleStorage<SoleMemory<S, B, M, A, H>, SoleBuffer<S, B, M, A, H>>,
 }
 
-impl<S: Slice, B, M, A: Allocator + Copy, H: Mark> Model for SoleParts<S, B, M, A, H> {
+impl<S: Slice, B: BufferMut<S::Item> + Drop, M: Drop, A: Allocator + Copy, H: Mark> Model
+    for SoleParts<S, B, M, A, H> {
     ghost use Rattle.arc_block.specs.Window.{PartsView};
-    ghost use Rattle.arc_block.specs.Writers.{sole_seen, IsSoleWithin};
-    ghost use Rattle.std.specs.Option.{option_map};
-    ghost use Rattle.arc_owners.specs.memory.SoleBoxes.{sole_in};
+    ghost use Rattle.arc_block.specs.Writers.{sole_on};
 
     ghost Value = { PartsView S.Item M };
 
-    ghost view = { λ p. sole_seen S.DROPS (option_map sole_in p.count) p.items p.start p.end };
-
-    ghost invariant = { λ p.
-        IsSoleWithin S.DROPS H.whole (option_map sole_in p.count) p.items p.start p.end };
+    ghost view = { λ p. sole_on p.on };
 }
 
-impl<S: Slice, B, M, A: Allocator + Copy, H: Mark> Drop for SoleParts<S, B, M, A, H> {
+impl<S: Slice, B: BufferMut<S::Item> + Drop, M: Drop, A: Allocator + Copy, H: Mark> Drop
+    for SoleParts<S, B, M, A, H> {
     fn drop(self)
         ensures ended { H.whole ≡ false → EndsShownAt H H.real self.place }
     {
-        let SoleParts {
-            count,
-            items,
-            start: _,
-            end: _,
-            alloc,
-            of: _,
-        } = self;
-        match count {
-            Some(count) => end_sole(count, items).show(),
-            None => drop(items),
+        let SoleParts { on } = self;
+        match on {
+            SoleStorage::Memory(parts) => drop(parts),
+            SoleStorage::Buffer(parts) => drop(parts),
         }
-        drop(alloc);
     }
 }
 
-impl<S: Slice, B, M, A: Allocator + Copy, H: Mark> SoleParts<S, B, M, A, H> {
+impl<S: Slice, B: BufferMut<S::Item> + Drop, M: Drop, A: Allocator + Copy, H: Mark> SoleParts<
+    S,
+    B,
+    M,
+    A,
+    H,
+> {
+    /// Items in memory of ours.
+    pub(crate) fn in_memory(parts: SoleMemory<S, B, M, A, H>) -> Self
+        ensures { result ≡ parts }
+    {
+        SoleParts {
+            on: SoleStorage::Memory(parts),
+        }
+    }
+
+    /// Items in a caller's buffer.
+    pub(crate) fn in_buffer(parts: SoleBuffer<S, B, M, A, H>) -> Self
+        ensures { result ≡ parts }
+    {
+        SoleParts {
+            on: SoleStorage::Buffer(parts),
+        }
+    }
+
     /// No items and no places, on nothing.
     pub fn on_nothing(alloc: A) -> Self
         ensures { result ≡ record { items = []; place = nowhere; role = sole_writer 0 } }
     {
-        SoleParts {
-            count: None,
-            items: Vec::new(alloc),
-            start: 0,
-            end: 0,
-            alloc,
-            of: PhantomData,
+        Self::in_memory(SoleMemory::on_nothing(alloc))
+    }
+
+    /// Whether they stand on a caller's buffer.
+    pub fn is_on_buffer(&self) -> bool
+        ensures { IsTrue result ↔ IsOfBuffer self.now.place }
+    {
+        match &self.on {
+            SoleStorage::Memory(parts) => parts.is_on_buffer(),
+            SoleStorage::Buffer(parts) => parts.is_on_buffer(),
+        }
+    }
+
+    /// They stand on nothing, or on a block that counts its owners and may be written. Does
+    /// nothing: its contract is the law.
+    pub fn known_place(&self)
+        ensures { IsWriterPlace self.now.place }
+    {
+        match &self.on {
+            SoleStorage::Memory(parts) => parts.known_place(),
+            SoleStorage::Buffer(parts) => parts.known_place(),
         }
     }
 
@@ -100,7 +128,10 @@ impl<S: Slice, B, M, A: Allocator + Copy, H: Mark> SoleParts<S, B, M, A, H> {
     pub fn len(&self) -> usize
         ensures { result ≡ length self.now.items }
     {
-        self.end - self.start
+        match &self.on {
+            SoleStorage::Memory(parts) => parts.len(),
+            SoleStorage::Buffer(parts) => parts.len(),
+        }
     }
 
     /// The items.
@@ -108,7 +139,10 @@ impl<S: Slice, B, M, A: Allocator + Copy, H: Mark> SoleParts<S, B, M, A, H> {
     pub fn as_slice(&self) -> &[S::Item]
         ensures { result.now ≡ self.now.items }
     {
-        &self.items.as_slice()[self.start..self.end]
+        match &self.on {
+            SoleStorage::Memory(parts) => parts.as_slice(),
+            SoleStorage::Buffer(parts) => parts.as_slice(),
+        }
     }
 
     /// How many places there are for items, from the first of them on.
@@ -117,45 +151,10 @@ impl<S: Slice, B, M, A: Allocator + Copy, H: Mark> SoleParts<S, B, M, A, H> {
         ensures capacity { result ≡ capacity_of self.now.role }
         ensures enough { length self.now.items ≤ result }
     {
-        self.len() + self.spare()
-    }
-
-    /// How many places there are behind the items.
-    #[inline(always)]
-    fn spare(&self) -> usize
-        ensures spare { result ≡ capacity_of self.now.role - length self.now.items }
-        ensures places { length self.now.items + result ≡ capacity_of self.now.role }
-        ensures fits { length self.now.items + result < 2 ^ 64 }
-    {
-        if S::DROPS && self.end != self.items.len() {
-            return 0;
+        match &self.on {
+            SoleStorage::Memory(parts) => parts.capacity(),
+            SoleStorage::Buffer(parts) => parts.capacity(),
         }
-        self.items.capacity() - self.items.len()
-    }
-
-    /// Where there is room for so many items more.
-    pub fn room(&self, additional: usize) -> Room
-        requires item { FitsInMemory S.Item.row }
-        ensures room { result ≡ room_for S.DROPS (type_size S.Item.row) self.now additional }
-        ensures fresh { IfFresh result (λ places. (self.now.place ≡ nowhere)
-            × (length self.now.items ≡ 0) × (1 ≤ places) × (additional ≤ places)) }
-        ensures behind { IfBehind result ⊥ }
-        ensures grows { IfGrowth result (λ places. CanGrow self.now places
-            × (length self.now.items + additional ≤ places - offset_at self.now.place)) }
-        ensures front { IfFront result (S.DROPS ≡ false) }
-        ensures shift { IfFront result
-            (length self.now.items + additional ≤ size_at self.now.place) }
-        ensures spare { IfSpare result
-            (length self.now.items + additional ≤ capacity_of self.now.role) }
-    {
-        if additional <= self.spare() {
-            return Room::Spare;
-        }
-        if self.count.is_none() {
-            return Room::Fresh(max(S::first(), additional));
-        }
-        let (size, full) = (self.items.capacity(), self.items.len());
-        room_in::<S>(size, full, self.start, self.end - self.start, additional)
     }
 
     /// No items, with so many places: for none on nothing, else on a new native block. The pass,
@@ -178,15 +177,9 @@ impl<S: Slice, B, M, A: Allocator + Copy, H: Mark> SoleParts<S, B, M, A, H> {
             MakesWriter S.DROPS H.whole [] capacity parts pass.old pass.new) }
         ensures refused { OnErr result ((1 ≤ capacity) × (pass.new ≡ pass.old)) }
     {
-        if capacity == 0 {
-            return Ok(Self::on_nothing(alloc));
-        }
-        match Vec::with_capacity(alloc, capacity) {
-            Ok(items) => match Self::try_over(alloc, items, pass) {
-                Ok(parts) => Ok(parts),
-                Err(_) => Err(AllocError),
-            },
-            Err(_) => Err(AllocError),
+        match SoleMemory::try_with_capacity_as(alloc, capacity, pass) {
+            Ok(parts) => Ok(Self::in_memory(parts)),
+            Err(e) => Err(e),
         }
     }
 
@@ -212,15 +205,9 @@ impl<S: Slice, B, M, A: Allocator + Copy, H: Mark> SoleParts<S, B, M, A, H> {
             MakesWriter S.DROPS H.whole items.now (length items.now) parts pass.old pass.new) }
         ensures refused { OnErr result ((1 ≤ length items.now) × (pass.new ≡ pass.old)) }
     {
-        if items.is_empty() {
-            return Ok(Self::on_nothing(alloc));
-        }
-        match copied(alloc, items) {
-            Ok(items) => match Self::try_over(alloc, items, pass) {
-                Ok(parts) => Ok(parts),
-                Err(_) => Err(AllocError),
-            },
-            Err(AllocError) => Err(AllocError),
+        match SoleMemory::try_from_slice_as(alloc, items, pass) {
+            Ok(parts) => Ok(Self::in_memory(parts)),
+            Err(e) => Err(e),
         }
     }
 
@@ -243,15 +230,9 @@ impl<S: Slice, B, M, A: Allocator + Copy, H: Mark> SoleParts<S, B, M, A, H> {
             (replicate count S.zero_item) count parts pass.old pass.new) }
         ensures refused { OnErr result ((1 ≤ count) × (pass.new ≡ pass.old)) }
     {
-        if count == 0 {
-            return Ok(Self::on_nothing(alloc));
-        }
-        match filled(alloc, S::zero(), count) {
-            Ok(items) => match Self::try_over(alloc, items, pass) {
-                Ok(parts) => Ok(parts),
-                Err(_) => Err(AllocError),
-            },
-            Err(AllocError) => Err(AllocError),
+        match SoleMemory::try_zeroed_as(alloc, count, pass) {
+            Ok(parts) => Ok(Self::in_memory(parts)),
+            Err(e) => Err(e),
         }
     }
 
@@ -275,72 +256,9 @@ impl<S: Slice, B, M, A: Allocator + Copy, H: Mark> SoleParts<S, B, M, A, H> {
         ensures refused { IfErr result (λ back. (back ≡ array) × (1 ≤ length array)
             × (pass.new ≡ pass.old)) }
     {
-        if array.as_slice().is_empty() {
-            drop(array);
-            return Ok(Self::on_nothing(alloc));
-        }
-        let items = moved(alloc, array)?;
-        match Self::try_over(alloc, items, pass) {
-            Ok(parts) => Ok(parts),
-            Err(items) => Err(array_of(items)),
-        }
-    }
-
-    /// All items of a vector, which becomes a native block's memory; the pass becomes the block's.
-    ///
-    /// # Errors
-    ///
-    /// The vector comes back where memory for the count is refused; the pass is then as before.
-    fn try_over(
-        alloc: A,
-        items: Vec<S::Item, A>,
-        pass: &mut Pass<H>,
-    ) -> Result<Self, Vec<S::Item, A>>
-        ensures made { IfOk result (λ parts.
-            IsNewWriter S.DROPS H.whole items.items (vec_capacity items) parts pass.new) }
-        ensures refused { IfErr result (λ back. (back ≡ items) × (pass.new ≡ pass.old)) }
-    {
-        let end = items.len();
-        match new_count(alloc) {
-            Ok((count, new)) => {
-                *pass = new;
-                Ok(SoleParts {
-                    count: Some(count),
-                    items,
-                    start: 0,
-                    end,
-                    alloc,
-                    of: PhantomData,
-                })
-            }
-            Err(AllocError) => Err(items),
-        }
-    }
-
-    /// Items from start to end of a block's memory, whose only owner this is. Those behind them are
-    /// let go, but for items that are dropped one by one, which stay.
-    fn over(
-        alloc: A,
-        count: SoleCount<S::Item, A, MAX_OWNERS, H>,
-        items: Vec<S::Item, A>,
-        start: usize,
-        end: usize,
-    ) -> Self
-        requires count { IsLimited MAX_OWNERS H.whole (sole_in count) }
-        requires range { (start ≤ end) × (end ≤ vec_len items) }
-        ensures { result ≡ sole_part S.DROPS (sole_in count) items start end }
-    {
-        let mut items = items;
-        if !S::DROPS {
-            items.truncate(end);
-        }
-        SoleParts {
-            count: Some(count),
-            items,
-            start,
-            end,
-            alloc,
-            of: PhantomData,
+        match SoleMemory::try_from_array_as::<N>(alloc, array, pass) {
+            Ok(parts) => Ok(Self::in_memory(parts)),
+            Err(e) => Err(e),
         }
     }
 
@@ -381,88 +299,16 @@ impl<S: Slice, B, M, A: Allocator + Copy, H: Mark> SoleParts<S, B, M, A, H> {
         ensures enough { OnOk result
             (length self.new.items + additional ≤ capacity_of self.new.role) }
     {
-        if additional <= self.spare() {
-            return Ok(());
+        match &mut self.on {
+            SoleStorage::Memory(parts) => parts.try_reserve_as(additional, pass),
+            SoleStorage::Buffer(parts) => parts.try_reserve_as(additional, pass),
         }
-        self.try_make_room(additional, pass)
-    }
-
-    /// `try_reserve_as` where there may be no room yet, apart so that the test is inlined alone.
-    #[cold]
-    #[inline(never)]
-    fn try_make_room(
-        &mut self,
-        additional: usize,
-        pass: &mut Pass<H>,
-    ) -> Result<(), TryReserveError>
-        requires item { FitsInMemory S.Item.row }
-        requires pass { IsPassAt self.old.place pass.old }
-        ensures room { MakesRoom S.DROPS H.whole
-            (room_for S.DROPS (type_size S.Item.row) self.old additional)
-            self.old self.new pass.old pass.new result }
-        ensures items { self.new.items ≡ self.old.items }
-        ensures enough { OnOk result
-            (length self.new.items + additional ≤ capacity_of self.new.role) }
-    {
-        match self.room(additional) {
-            Room::Spare => Ok(()),
-            // A sole writer's places go up to the end of the block.
-            Room::Behind => unreachable!(),
-            Room::Refused(e) => Err(e),
-            Room::Fresh(places) => match self.try_fresh(places, pass) {
-                Ok(()) => Ok(()),
-                Err(AllocError) => Err(TryReserveError::AllocError),
-            },
-            Room::Front => {
-                self.to_front();
-                Ok(())
-            }
-            Room::Growth(places) => match self.try_grow(places) {
-                Ok(()) => Ok(()),
-                Err(AllocError) => Err(TryReserveError::AllocError),
-            },
-        }
-    }
-
-    /// Stands on a new block of so many places instead.
-    fn try_fresh(&mut self, places: usize, pass: &mut Pass<H>) -> Result<(), AllocError>
-        requires places { 1 ≤ places }
-        requires pass { IsPassOfNone pass.old }
-        ensures made { OnOk result
-            (IsNewWriter S.DROPS H.whole [] places self.new pass.new) }
-        ensures refused { OnErr result ((self.new ≡ self.old) × (pass.new ≡ pass.old)) }
-    {
-        *self = Self::try_with_capacity_as(self.alloc, places, pass)?;
-        Ok(())
-    }
-
-    /// Makes the block one of so many places.
-    fn try_grow(&mut self, places: usize) -> Result<(), AllocError>
-        requires { CanGrow self.old places }
-        ensures grown { OnOk result (self.new ≡ with_room (Growth places) self.old) }
-        ensures room { OnOk result ((length self.new.items ≡ length self.old.items)
-            × (capacity_of self.new.role ≡ places - offset_at self.old.place)) }
-        ensures refused { OnErr result (self.new ≡ self.old) }
-    {
-        match self.items.reserve_exact(places - self.items.len()) {
-            Ok(()) => Ok(()),
-            Err(_) => Err(AllocError),
-        }
-    }
-
-    /// Moves the items to the front of their memory; those before them are dropped.
-    fn to_front(&mut self)
-        requires { S.DROPS ≡ false }
-        ensures shifted { self.new ≡ with_room Front self.old }
-        ensures room { (length self.new.items ≡ length self.old.items)
-            × (size_at self.old.place ≤ capacity_of self.new.role) }
-    {
-        self.items.rotate_left(self.start);
-        self.items.truncate(self.end - self.start);
-        self.end = self.end - self.start;
-        self.start = 0;
     }
 }
 
+mod buffer;
+mod buffers;
 mod ends;
+mod memory;
+mod vectors;
 mod write;

@@ -1,14 +1,16 @@
 //! What parts stand on.
 use crate::static_slice::StaticItems;
 
-/// What a window stands on: nothing, a slice that is there for good, or a block as one of its
-/// owners.
+/// What a window stands on: nothing, a slice that is there for good, a block as one of its owners,
+/// or an `Arc` of a caller's buffer that is a block by itself.
 ///
 /// Each variant begins with where items begin, also where there are none: so a read is the same
-/// sum and difference whatever a window stands on, and the compiler makes one of the three.
+/// sum and difference whatever a window stands on, and the compiler makes one of the four. The
+/// items of an `Arc` are read in another way.
 #[derive(Drop)]
-pub(crate) enum Storage<T, B> {
+pub(crate) enum Storage<T, B, R> {
     Nothing(StaticItems<T>),
     Static(StaticItems<T>),
     Block(B),
+    Raw(R),
 }

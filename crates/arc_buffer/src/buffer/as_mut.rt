@@ -2,7 +2,7 @@
 ghost use Rattle.std.specs.Prelude.{◌≡◌, false, length, Err};
 ghost use Rattle.std.proofs.Common.{ap, ◌∙◌};
 ghost use Rattle.arc_owners.specs.declared.error.TryReserveError.TheVariants.{Unsupported};
-ghost use Rattle.arc_buffer.specs.Buffers.{unsupported_names_no_owner};
+ghost use Rattle.arc_buffer.specs.Buffers.{unsupported_names_no_owner, written_long};
 
 use super::{BorrowMetadata, Buffer, BufferMut, LendMut};
 use arc_owners::error::TryReserveError;
@@ -60,6 +60,12 @@ impl<T, B: LendMut<T>> BufferMut<T> for AsMutBuffer<B> {
         self.inner.lend_mut()
     }
 
+    ghost with_part = { B.with_lent_part };
+
+    fn as_mut_part(&mut self, start: usize, end: usize) -> &mut [T] {
+        self.inner.lend_mut_part(start, end)
+    }
+
     fn capacity(&self) -> usize {
         self.inner.lend().len()
     }
@@ -93,6 +99,11 @@ impl<T, B: LendMut<T>> BufferMut<T> for AsMutBuffer<B> {
 
     ghost keeps = { λ b xs same.
         (B.agrees b xs same, ap length (B.agrees b xs same) ∙ same) };
+
+    ghost keeps_part = { λ b start xs. (
+      B.agrees_part b start xs,
+      ap length (B.agrees_part b start xs) ∙ written_long (B.lent b) start xs,
+    ) };
 
     ghost names_no_owner = { λ _ _. unsupported_names_no_owner };
 }

@@ -1,10 +1,10 @@
 //! Vectors as buffers.
 ghost use Rattle.std.specs.Prelude.{◌≡◌, ◌≤◌, ◌<◌, ◌+◌, ◌++◌, ◌∷◌, [], length, refl, true, OnOk};
 ghost use Rattle.std.specs.Prelude.{OnErr, IfErr};
-ghost use Rattle.std.specs.Vec.{vec_items, vec_capacity, with_items};
+ghost use Rattle.std.specs.Vec.{vec_items, vec_capacity, with_items, with_items_from};
 ghost use Rattle.std.proofs.Common.{sym, ◌∙◌};
 ghost use Rattle.std.proofs.lemmas.List.{with_items_is};
-ghost use Rattle.arc_buffer.specs.Buffers.{vec_refusal, vec_names_no_owner};
+ghost use Rattle.arc_buffer.specs.Buffers.{vec_refusal, vec_names_no_owner, vec_written};
 
 use super::{Buffer, BufferMut};
 use arc_owners::error::TryReserveError;
@@ -32,6 +32,12 @@ impl<T, A: Allocator> BufferMut<T> for Vec<T, A> {
 
     fn as_mut_slice(&mut self) -> &mut [T] {
         Vec::as_mut_slice(self)
+    }
+
+    ghost with_part = { with_items_from };
+
+    fn as_mut_part(&mut self, start: usize, end: usize) -> &mut [T] {
+        self.slice_mut(start..end)
     }
 
     fn capacity(&self) -> usize {
@@ -67,6 +73,8 @@ impl<T, A: Allocator> BufferMut<T> for Vec<T, A> {
     }
 
     ghost keeps = { λ v xs same. (with_items_is v xs (same ∙ sym v.ok.0), refl) };
+
+    ghost keeps_part = { λ v start xs. (vec_written v start xs, refl) };
 
     ghost names_no_owner = { λ v additional refused.
         vec_names_no_owner (length (vec_items v) + additional) refused.1 };

@@ -6,6 +6,7 @@ ghost use Rattle.std.specs.declared.vec.Vec.{Vec};
 ghost use Rattle.std.specs.declared.boxed.BoxedSlice.{BoxedSlice};
 ghost use Rattle.std.specs.Vec.{vec_items};
 ghost use Rattle.std.proofs.Common.{ap};
+ghost use Rattle.std.proofs.lemmas.Str.{IsUtf8-had};
 ghost use Rattle.bstr.specs.Owned.{bstring_bytes};
 
 use super::{ByteText, Owned, Plain, Slice, Text, Wraps};
@@ -43,6 +44,9 @@ pub trait VecIn<A: Allocator>: Slice {
     /// It may wrap one exactly where that has a legal list.
     ghost boxed_legal: { (inner : BoxedSlice Self.Item A)
         → Self.Boxed.may_wrap inner ↔ Self.is_legal (boxed_slice_items inner) };
+
+    /// That a list is legal is a fact: it says no more than that it holds.
+    ghost legal_is_fact: { (xs : List Self.Item) → ∥ Self.is_legal xs ∥₁ → Self.is_legal xs };
 }
 
 impl<T: Copy + Drop, A: Allocator> VecIn<A> for Plain<T> {
@@ -61,6 +65,8 @@ impl<T: Copy + Drop, A: Allocator> VecIn<A> for Plain<T> {
     ghost boxed_list = { λ _ _ same. ap boxed_slice_items same };
 
     ghost boxed_legal = { λ _. (λ legal. legal, λ legal. legal) };
+
+    ghost legal_is_fact = { λ _ _. tt };
 }
 
 impl<T: Drop, A: Allocator> VecIn<A> for Owned<T> {
@@ -79,6 +85,8 @@ impl<T: Drop, A: Allocator> VecIn<A> for Owned<T> {
     ghost boxed_list = { λ _ _ same. ap boxed_slice_items same };
 
     ghost boxed_legal = { λ _. (λ legal. legal, λ legal. legal) };
+
+    ghost legal_is_fact = { λ _ _. tt };
 }
 
 impl<A: Allocator> VecIn<A> for Text {
@@ -97,6 +105,8 @@ impl<A: Allocator> VecIn<A> for Text {
     ghost boxed_list = { λ _ _ same. same };
 
     ghost boxed_legal = { λ _. (λ legal. legal, λ legal. legal) };
+
+    ghost legal_is_fact = { λ xs had. IsUtf8-had xs had };
 }
 
 impl VecIn<Global> for ByteText {
@@ -115,4 +125,6 @@ impl VecIn<Global> for ByteText {
     ghost boxed_list = { λ _ _ same. ap boxed_slice_items same };
 
     ghost boxed_legal = { λ _. (λ legal. legal, λ legal. legal) };
+
+    ghost legal_is_fact = { λ _ _. tt };
 }

@@ -6,6 +6,9 @@ use super::counted_box_without_lifetime::CountedBoxWithoutLifetime;
 use super::inner::Inner;
 use super::lent_box::LentBox;
 use super::lent_value::LentValue;
+use super::shared_borrow::SharedBorrow;
+use super::shown::Shown;
+use super::shows::Shows;
 use super::sole_box::SoleBox;
 use crate::count::tokens::{LifetimeEnd, Owners, Pass, Release, Share};
 use crate::count::word::WordBorrow;
@@ -34,6 +37,28 @@ impl<V: Drop, A: Allocator + Copy> Housed<V, A> {
         ensures value { result.now ≡ self.old.value }
     {
         &mut self.value
+    }
+}
+
+impl<V: Drop, A: Allocator + Copy> Inner<Housed<V, A>> {
+    /// Where the value lies in a block's memory, and that it lies there for as long as all of the
+    /// memory is lent. Reads no memory.
+    #[inline(always)]
+    pub(crate) fn value_place(
+        at: *const Inner<Housed<V, A>>,
+        lent: &SharedBorrow<Inner<Housed<V, A>>>,
+    ) -> (*const V, SharedBorrow<V>)
+        requires { lent.now.at ≡ at }
+        ensures { (result.1.value ≡ lent.now.value.value.value) × (result.1.at ≡ result.0)
+            × (result.1.lifetime ≡ lent.now.lifetime) }
+    {
+        let place = unsafe { &raw const (*at).value.value };
+        (
+            place,
+            SharedBorrow {
+                marker: PhantomData,
+            },
+        )
     }
 }
 
@@ -86,7 +111,7 @@ const _: () = prove!(size_of::<CountedBox<u64, Global, 3>>() == 8);
 
 impl<V: Drop, A: Allocator + Copy, const MAX: u64, H: Mark> CountedBox<V, A, MAX, H> {
     ghost use Rattle.std.specs.Prelude.{◌≡◌, ◌≤◌, IfOk, IfErr, IfSome, is_some, is_ok, true, false};
-    ghost use Rattle.std.specs.Prelude.{None};
+    ghost use Rattle.std.specs.Prelude.{None, length, take, drop};
     ghost use Rattle.arc_owners.specs.count.Calls.{IsPassFor, IsPassOfNone, IsFirst, IsFreshPass};
     ghost use Rattle.arc_owners.specs.count.Calls.{IsNewPass, Learns, Asks, FindsFull};
     ghost use Rattle.arc_owners.specs.count.Calls.{MakesAnother, Leaves, TakesBlock, EndsByItself};
@@ -139,6 +164,37 @@ impl<V: Drop, A: Allocator + Copy, const MAX: u64, H: Mark> CountedBox<V, A, MAX
         ensures { result.now ≡ value_of self.now }
     {
         &self.memory.get(&self.share).value.value
+    }
+
+    /// Asks the value for its slice, once: where its items begin, and that they lie there for as
+    /// long as the value is lent, whatever owner reads them. It adds no entry and takes no memory.
+    pub fn show<T>(&self) -> (*const T, Shown<T, V>)
+    where
+        V: Shows<T>,
+        ensures items { result.1.items ≡ V.shown (value_of self.now) }
+        ensures place { result.1.at ≡ result.0 }
+        ensures lifetime { result.1.lifetime ≡ lifetime_in self.now }
+    {
+        let (place, borrow) = Inner::value_place(self.memory.at, &self.memory.borrow);
+        unsafe { borrow.show(place, &self.share.right) }
+    }
+
+    /// Of the slice that the value showed the items from `start` to before `end`. `base` is where
+    /// all begin. Reads no memory.
+    #[inline(always)]
+    pub fn range<'a, T>(
+        &'a self,
+        base: *const T,
+        shown: &'a Shown<T, V>,
+        start: usize,
+        end: usize,
+    ) -> &'a [T]
+        requires place { base ≡ shown.now.at }
+        requires lifetime { shown.now.lifetime ≡ lifetime_in self.now }
+        requires range { (start ≤ end) × (end ≤ length shown.now.items) }
+        ensures { result.now ≡ drop start (take end shown.now.items) }
+    {
+        shown.range(base, &self.share, start, end)
     }
 
     /// The owner without its share of the lifetime for which the value is lent, and that share. It

@@ -5,6 +5,8 @@ use super::box_parts::BoxParts;
 use super::inheritance::Inheritance;
 use super::lent_box::LentBox;
 use super::shared_borrow::SharedBorrow;
+use super::shown::Shown;
+use super::shows::Shows;
 use crate::count::tokens::{LifetimeEnd, Share};
 use crate::lifetime::EndedLifetime;
 use crate::mark::Mark;
@@ -58,6 +60,19 @@ impl<T: Drop, A: Allocator> LentValue<T, A> {
         ensures { result.now ≡ lent_value self.now }
     {
         unsafe { self.borrow.get(self.at, &by.right) }
+    }
+
+    /// Asks what is lent for its slice, once: where its items begin, and that they lie there for as
+    /// long as it is lent, whatever owner reads them.
+    pub fn show<X, H: Mark>(&self, by: &Share<H>) -> (*const X, Shown<X, T>)
+    where
+        T: Shows<X>,
+        requires { IsLentTo self.now by.now }
+        ensures items { result.1.items ≡ T.shown (lent_value self.now) }
+        ensures place { result.1.at ≡ result.0 }
+        ensures lifetime { result.1.lifetime ≡ (lease_in self.now).lifetime }
+    {
+        unsafe { self.borrow.show(self.at, &by.right) }
     }
 
     /// The box back, with its allocator, for the end of the lease.

@@ -5,12 +5,14 @@ ghost use Rattle.bytes.specs.Unread.{IsChunkOf};
 
 use crate::slice::ArcSlice;
 use arc_block::layout::Layout;
+use arc_buffer::buffer::Buffer;
 use arc_buffer::kinds::{ByteText, Plain};
 use arc_owners::mark::Mark;
 use bytes::Buf;
 use std::alloc::Allocator;
 
-impl<L: Layout, B, M, A: Allocator + Copy, H: Mark> Buf for ArcSlice<Plain<u8>, L, B, M, A, H> {
+impl<L: Layout, B: Buffer<u8> + Drop, M: Drop, A: Allocator + Copy, H: Mark> Buf
+    for ArcSlice<Plain<u8>, L, B, M, A, H> {
     ghost unread = { λ w. w.items };
 
     fn remaining(&self) -> usize {
@@ -34,7 +36,8 @@ impl<L: Layout, B, M, A: Allocator + Copy, H: Mark> Buf for ArcSlice<Plain<u8>, 
     }
 }
 
-impl<L: Layout, B, M, A: Allocator + Copy, H: Mark> Buf for ArcSlice<ByteText, L, B, M, A, H> {
+impl<L: Layout, B: Buffer<u8> + Drop, M: Drop, A: Allocator + Copy, H: Mark> Buf
+    for ArcSlice<ByteText, L, B, M, A, H> {
     ghost unread = { λ w. w.items };
 
     fn remaining(&self) -> usize {

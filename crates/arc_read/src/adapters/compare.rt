@@ -7,14 +7,21 @@ ghost use Rattle.std.specs.Cmp.Lexicographic.{lists_ties, lists_total};
 
 use crate::slice::ArcSlice;
 use arc_block::layout::Layout;
+use arc_buffer::buffer::Buffer;
 use arc_buffer::compare::{equal, order, partial_order};
 use arc_buffer::kinds::{Slice, Text};
 use arc_owners::mark::Mark;
 use std::alloc::Allocator;
 use std::cmp::Ordering;
 
-impl<S: Slice, L: Layout, B, M, A: Allocator + Copy, H: Mark> PartialEq
-    for ArcSlice<S, L, B, M, A, H>
+impl<
+    S: Slice,
+    L: Layout,
+    B: Buffer<S::Item> + Drop,
+    M: Drop,
+    A: Allocator + Copy,
+    H: Mark,
+> PartialEq for ArcSlice<S, L, B, M, A, H>
 where
     S::Item: PartialEq,
 {
@@ -27,15 +34,22 @@ where
     }
 }
 
-impl<S: Slice, L: Layout, B, M, A: Allocator + Copy, H: Mark> Eq for ArcSlice<S, L, B, M, A, H>
+impl<S: Slice, L: Layout, B: Buffer<S::Item> + Drop, M: Drop, A: Allocator + Copy, H: Mark> Eq
+    for ArcSlice<S, L, B, M, A, H>
 where
     S::Item: Eq,
 {
     ghost laws = { on_equiv (λ x. x.items) (lists_equiv S.Item.Eq.laws) };
 }
 
-impl<S: Slice, L: Layout, B, M, A: Allocator + Copy, H: Mark> PartialOrd
-    for ArcSlice<S, L, B, M, A, H>
+impl<
+    S: Slice,
+    L: Layout,
+    B: Buffer<S::Item> + Drop,
+    M: Drop,
+    A: Allocator + Copy,
+    H: Mark,
+> PartialOrd for ArcSlice<S, L, B, M, A, H>
 where
     S::Item: PartialOrd,
 {
@@ -48,7 +62,8 @@ where
     }
 }
 
-impl<S: Slice, L: Layout, B, M, A: Allocator + Copy, H: Mark> Ord for ArcSlice<S, L, B, M, A, H>
+impl<S: Slice, L: Layout, B: Buffer<S::Item> + Drop, M: Drop, A: Allocator + Copy, H: Mark> Ord
+    for ArcSlice<S, L, B, M, A, H>
 where
     S::Item: Ord,
 {
@@ -65,7 +80,14 @@ where
     }
 }
 
-impl<S: Slice, L: Layout, B, M, A: Allocator + Copy, H: Mark> ArcSlice<S, L, B, M, A, H> {
+impl<
+    S: Slice,
+    L: Layout,
+    B: Buffer<S::Item> + Drop,
+    M: Drop,
+    A: Allocator + Copy,
+    H: Mark,
+> ArcSlice<S, L, B, M, A, H> {
     /// Whether the window's items are those of the slice.
     pub fn eq_slice(&self, other: &[S::Item]) -> bool
     where
@@ -76,7 +98,14 @@ impl<S: Slice, L: Layout, B, M, A: Allocator + Copy, H: Mark> ArcSlice<S, L, B, 
     }
 }
 
-impl<L: Layout, B, M, A: Allocator + Copy, H: Mark> ArcSlice<Text, L, B, M, A, H> {
+impl<L: Layout, B: Buffer<u8> + Drop, M: Drop, A: Allocator + Copy, H: Mark> ArcSlice<
+    Text,
+    L,
+    B,
+    M,
+    A,
+    H,
+> {
     /// Whether the window's text is this one.
     pub fn eq_str(&self, other: &str) -> bool
         ensures { result ≡ pointwise nat_eq self.now.items other.now }

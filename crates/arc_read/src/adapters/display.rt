@@ -5,13 +5,15 @@ ghost use Rattle.bstr.specs.Utf8.{lossy_chars};
 
 use crate::slice::ArcSlice;
 use arc_block::layout::Layout;
+use arc_buffer::buffer::Buffer;
 use arc_buffer::kinds::{ByteText, Text};
 use arc_owners::mark::Mark;
 use bstr::BStr;
 use std::alloc::Allocator;
 use std::fmt;
 
-impl<L: Layout, B, M, A: Allocator + Copy, H: Mark> fmt::Display for ArcSlice<Text, L, B, M, A, H> {
+impl<L: Layout, B: Buffer<u8> + Drop, M: Drop, A: Allocator + Copy, H: Mark> fmt::Display
+    for ArcSlice<Text, L, B, M, A, H> {
     ghost output = { λ w. Some w.items };
 
     ghost styled_output = { λ w spec. Some (styled_text spec w.items) };
@@ -21,7 +23,7 @@ impl<L: Layout, B, M, A: Allocator + Copy, H: Mark> fmt::Display for ArcSlice<Te
     }
 }
 
-impl<L: Layout, B, M, A: Allocator + Copy, H: Mark> fmt::Display
+impl<L: Layout, B: Buffer<u8> + Drop, M: Drop, A: Allocator + Copy, H: Mark> fmt::Display
     for ArcSlice<ByteText, L, B, M, A, H> {
     ghost output = { λ w. Some (encode_utf8_all (lossy_chars w.items)) };
 

@@ -4,12 +4,14 @@ ghost use Rattle.std.specs.Hash.{items_Alike, on_Alike};
 
 use crate::slice::ArcSlice;
 use arc_block::layout::Layout;
+use arc_buffer::buffer::Buffer;
 use arc_buffer::kinds::Slice;
 use arc_owners::mark::Mark;
 use std::alloc::Allocator;
 use std::hash::{Hash, Hasher};
 
-impl<S: Slice, L: Layout, B, M, A: Allocator + Copy, H: Mark> Hash for ArcSlice<S, L, B, M, A, H>
+impl<S: Slice, L: Layout, B: Buffer<S::Item> + Drop, M: Drop, A: Allocator + Copy, H: Mark> Hash
+    for ArcSlice<S, L, B, M, A, H>
 where
     S::Item: Hash,
 {

@@ -5,14 +5,21 @@ ghost use Rattle.arc_buffer.specs.Printed.{hex_bytes};
 
 use crate::slice::ArcSlice;
 use arc_block::layout::Layout;
+use arc_buffer::buffer::Buffer;
 use arc_buffer::kinds::Slice;
 use arc_buffer::print::write_hex;
 use arc_owners::mark::Mark;
 use std::alloc::Allocator;
 use std::fmt;
 
-impl<S: Slice<Item = u8>, L: Layout, B, M, A: Allocator + Copy, H: Mark> fmt::LowerHex
-    for ArcSlice<S, L, B, M, A, H> {
+impl<
+    S: Slice<Item = u8>,
+    L: Layout,
+    B: Buffer<u8> + Drop,
+    M: Drop,
+    A: Allocator + Copy,
+    H: Mark,
+> fmt::LowerHex for ArcSlice<S, L, B, M, A, H> {
     fn fmt<W: fmt::Write>(&self, f: &mut fmt::Formatter<W>) -> fmt::Result
         ensures { WritesOnOk W.write_str_gives f.old result (hex_bytes false self.now.items) f.new }
     {
@@ -20,8 +27,14 @@ impl<S: Slice<Item = u8>, L: Layout, B, M, A: Allocator + Copy, H: Mark> fmt::Lo
     }
 }
 
-impl<S: Slice<Item = u8>, L: Layout, B, M, A: Allocator + Copy, H: Mark> fmt::UpperHex
-    for ArcSlice<S, L, B, M, A, H> {
+impl<
+    S: Slice<Item = u8>,
+    L: Layout,
+    B: Buffer<u8> + Drop,
+    M: Drop,
+    A: Allocator + Copy,
+    H: Mark,
+> fmt::UpperHex for ArcSlice<S, L, B, M, A, H> {
     fn fmt<W: fmt::Write>(&self, f: &mut fmt::Formatter<W>) -> fmt::Result
         ensures { WritesOnOk W.write_str_gives f.old result (hex_bytes true self.now.items) f.new }
     {

@@ -8,13 +8,14 @@ ghost use Rattle.arc_block.specs.Place.{moved};
 
 use crate::slice::ArcSlice;
 use arc_block::layout::Layout;
+use arc_buffer::buffer::Buffer;
 use arc_buffer::kinds::Plain;
 use arc_owners::mark::Mark;
 use std::alloc::Allocator;
 use std::io;
 use std::io::ErrorKind;
 
-impl<L: Layout, B, M, A: Allocator + Copy, H: Mark> io::Read
+impl<L: Layout, B: Buffer<u8> + Drop, M: Drop, A: Allocator + Copy, H: Mark> io::Read
     for ArcSlice<Plain<u8>, L, B, M, A, H> {
     ghost remaining = { λ w. Some w.items };
 

@@ -5,6 +5,7 @@ ghost use Rattle.std.specs.Slice.Iter.{iter_rest, iter_steps};
 
 use crate::slice::ArcSlice;
 use arc_block::layout::Layout;
+use arc_buffer::buffer::Buffer;
 use arc_buffer::kinds::{Slice, Text};
 use arc_owners::mark::Mark;
 use std::alloc::Allocator;
@@ -13,8 +14,9 @@ use std::iter::IntoIterator;
 use std::ops::DerefSlice;
 use std::slice::Iter;
 
-impl<S: Slice, L: Layout, B, M, A: Allocator + Copy, H: Mark> AsSlice<S::Item>
-    for ArcSlice<S, L, B, M, A, H> {
+impl<S: Slice, L: Layout, B: Buffer<S::Item> + Drop, M: Drop, A: Allocator + Copy, H: Mark> AsSlice<
+    S::Item,
+> for ArcSlice<S, L, B, M, A, H> {
     ghost items = { λ w. w.items };
 
     fn as_slice(&self) -> &[S::Item] {
@@ -22,7 +24,8 @@ impl<S: Slice, L: Layout, B, M, A: Allocator + Copy, H: Mark> AsSlice<S::Item>
     }
 }
 
-impl<L: Layout, B, M, A: Allocator + Copy, H: Mark> AsStr for ArcSlice<Text, L, B, M, A, H> {
+impl<L: Layout, B: Buffer<u8> + Drop, M: Drop, A: Allocator + Copy, H: Mark> AsStr
+    for ArcSlice<Text, L, B, M, A, H> {
     ghost text = { λ w. w.items };
 
     fn as_str(&self) -> &str {
@@ -30,8 +33,14 @@ impl<L: Layout, B, M, A: Allocator + Copy, H: Mark> AsStr for ArcSlice<Text, L, 
     }
 }
 
-impl<S: Slice, L: Layout, B, M, A: Allocator + Copy, H: Mark> DerefSlice
-    for ArcSlice<S, L, B, M, A, H> {
+impl<
+    S: Slice,
+    L: Layout,
+    B: Buffer<S::Item> + Drop,
+    M: Drop,
+    A: Allocator + Copy,
+    H: Mark,
+> DerefSlice for ArcSlice<S, L, B, M, A, H> {
     type Elem = S::Item;
 
     ghost deref_gives = { λ w xs. xs ≡ w.items };
@@ -46,8 +55,8 @@ impl<
     T: Drop + 'a,
     S: Slice<Item = T>,
     L: Layout,
-    B,
-    M,
+    B: Buffer<T> + Drop,
+    M: Drop,
     A: Allocator + Copy,
     H: Mark,
 > IntoIterator for &'a ArcSlice<S, L, B, M, A, H> {

@@ -9,6 +9,7 @@ ghost use Rattle.arc_read.specs.Steps.{WithNewPass};
 use super::ArcSliceBorrow;
 use crate::slice::ArcSlice;
 use arc_block::layout::Layout;
+use arc_buffer::buffer::Buffer;
 use arc_buffer::kinds::{Subsliceable, Text};
 use arc_owners::error::{OwnerError, RangeError};
 use arc_owners::mark::{Mark, Stepping};
@@ -17,7 +18,14 @@ use std::alloc::Allocator;
 use std::str;
 use std::sync::Wait;
 
-impl<S: Subsliceable, L: Layout, B, M, A: Allocator + Copy, H: Mark> ArcSlice<S, L, B, M, A, H> {
+impl<
+    S: Subsliceable,
+    L: Layout,
+    B: Buffer<S::Item> + Drop,
+    M: Drop,
+    A: Allocator + Copy,
+    H: Mark,
+> ArcSlice<S, L, B, M, A, H> {
     /// The items from `start` to `end`, borrowed. No owner is made, and nothing is added.
     #[inline(always)]
     pub fn borrow(&self, start: usize, end: usize) -> ArcSliceBorrow<'_, S, L, B, M, A, H>
@@ -32,15 +40,15 @@ impl<S: Subsliceable, L: Layout, B, M, A: Allocator + Copy, H: Mark> ArcSlice<S,
     }
 }
 
-impl<'a, S: Subsliceable, L: Layout, B, M, A: Allocator + Copy, H: Mark> ArcSliceBorrow<
+impl<
     'a,
-    S,
-    L,
-    B,
-    M,
-    A,
-    H,
-> {
+    S: Subsliceable,
+    L: Layout,
+    B: Buffer<S::Item> + Drop,
+    M: Drop,
+    A: Allocator + Copy,
+    H: Mark,
+> ArcSliceBorrow<'a, S, L, B, M, A, H> {
     /// The items.
     #[inline(always)]
     pub fn as_slice(&self) -> &'a [S::Item]
@@ -131,15 +139,15 @@ impl<'a, S: Subsliceable, L: Layout, B, M, A: Allocator + Copy, H: Mark> ArcSlic
     }
 }
 
-impl<'a, S: Subsliceable, L: Layout, B, M, A: Allocator + Copy, H: Stepping> ArcSliceBorrow<
+impl<
     'a,
-    S,
-    L,
-    B,
-    M,
-    A,
-    H,
-> {
+    S: Subsliceable,
+    L: Layout,
+    B: Buffer<S::Item> + Drop,
+    M: Drop,
+    A: Allocator + Copy,
+    H: Stepping,
+> ArcSliceBorrow<'a, S, L, B, M, A, H> {
     /// A window over the part: `try_clone_arc_as` with a new pass of the window's block.
     ///
     /// # Errors
@@ -163,7 +171,15 @@ impl<'a, S: Subsliceable, L: Layout, B, M, A: Allocator + Copy, H: Stepping> Arc
     }
 }
 
-impl<'a, L: Layout, B, M, A: Allocator + Copy, H: Mark> ArcSliceBorrow<'a, Text, L, B, M, A, H> {
+impl<'a, L: Layout, B: Buffer<u8> + Drop, M: Drop, A: Allocator + Copy, H: Mark> ArcSliceBorrow<
+    'a,
+    Text,
+    L,
+    B,
+    M,
+    A,
+    H,
+> {
     /// The text.
     pub fn as_str(&self) -> &'a str
         ensures { result.now ≡ (borrowed_part self.now).items }

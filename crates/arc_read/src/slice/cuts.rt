@@ -8,6 +8,7 @@ ghost use Rattle.arc_read.specs.Cuts.{sub_place};
 
 use super::ArcSlice;
 use arc_block::layout::Layout;
+use arc_buffer::buffer::Buffer;
 use arc_buffer::kinds::{Slice, Subsliceable};
 use arc_owners::error::OwnerError;
 use arc_owners::leave::RaiseLeave;
@@ -16,7 +17,14 @@ use arc_owners::owners::Pass;
 use std::alloc::Allocator;
 use std::sync::Wait;
 
-impl<S: Slice, L: Layout, B, M, A: Allocator + Copy, H: Mark> ArcSlice<S, L, B, M, A, H> {
+impl<
+    S: Slice,
+    L: Layout,
+    B: Buffer<S::Item> + Drop,
+    M: Drop,
+    A: Allocator + Copy,
+    H: Mark,
+> ArcSlice<S, L, B, M, A, H> {
     /// One attempt of `try_clone_as`: nothing where another thread's step came between, which only
     /// a block's owner can meet, and then no entry is added.
     #[tactic(auto, using(arc_block::proofs::Held::shared_held))]
@@ -48,7 +56,8 @@ impl<S: Slice, L: Layout, B, M, A: Allocator + Copy, H: Mark> ArcSlice<S, L, B, 
     /// # Errors
     ///
     /// On a block `CountFull`, exactly where `MAX_OWNERS` owners live, and `AllocError`, only where
-    /// the layout's clones may want memory on a block of its sort.
+    /// the layout's clones may want memory on a block of its sort: where an `Arc` is a block by
+    /// itself and can't be cloned.
     ///
     /// # Allocates
     ///
@@ -56,7 +65,7 @@ impl<S: Slice, L: Layout, B, M, A: Allocator + Copy, H: Mark> ArcSlice<S, L, B, 
     ///
     /// # History
     ///
-    /// On a block Up, or Full where refused.
+    /// On a block that counts its owners Up, or Full where refused.
     #[inline(always)]
     pub fn try_clone_as(&self, rt: &impl Wait, pass: &mut Pass<H>) -> Result<Self, OwnerError>
         requires pass { IsPassAt self.now.place pass.old }
@@ -124,7 +133,7 @@ impl<S: Slice, L: Layout, B, M, A: Allocator + Copy, H: Mark> ArcSlice<S, L, B, 
     ///
     /// # History
     ///
-    /// Where the part stands on a block Up, or Full where refused.
+    /// Where the part stands on a block that counts its owners Up, or Full where refused.
     #[inline(always)]
     pub fn try_subslice_as(
         &self,
@@ -157,7 +166,14 @@ impl<S: Slice, L: Layout, B, M, A: Allocator + Copy, H: Mark> ArcSlice<S, L, B, 
     }
 }
 
-impl<S: Subsliceable, L: Layout, B, M, A: Allocator + Copy, H: Mark> ArcSlice<S, L, B, M, A, H> {
+impl<
+    S: Subsliceable,
+    L: Layout,
+    B: Buffer<S::Item> + Drop,
+    M: Drop,
+    A: Allocator + Copy,
+    H: Mark,
+> ArcSlice<S, L, B, M, A, H> {
     /// Takes the first `n` items off the window, which stays on its block, also with no items. It
     /// adds nothing.
     pub fn advance(&mut self, n: usize)

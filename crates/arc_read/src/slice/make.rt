@@ -10,13 +10,21 @@ use super::ArcSlice;
 use arc_block::layout::{Layout, StaticLayout};
 use arc_block::parts::Parts;
 use arc_block::static_slice::StaticSlice;
+use arc_buffer::buffer::Buffer;
 use arc_buffer::kinds::{AnyItems, CopySlice, Slice};
 use arc_owners::error::AllocError;
 use arc_owners::mark::{Mark, Stepping};
 use arc_owners::owners::Pass;
 use std::alloc::Allocator;
 
-impl<S: Slice, L: Layout, B, M, A: Allocator + Copy, H: Mark> ArcSlice<S, L, B, M, A, H> {
+impl<
+    S: Slice,
+    L: Layout,
+    B: Buffer<S::Item> + Drop,
+    M: Drop,
+    A: Allocator + Copy,
+    H: Mark,
+> ArcSlice<S, L, B, M, A, H> {
     /// A window over a copy of the items, which are legal.
     #[tactic(auto, using(arc_block::proofs::Held::made_held))]
     pub(super) fn try_from_legal_slice_as(
@@ -95,7 +103,14 @@ impl<S: Slice, L: Layout, B, M, A: Allocator + Copy, H: Mark> ArcSlice<S, L, B, 
     }
 }
 
-impl<S: AnyItems, L: StaticLayout, B, M, A: Allocator + Copy, H: Mark> ArcSlice<S, L, B, M, A, H> {
+impl<
+    S: AnyItems,
+    L: StaticLayout,
+    B: Buffer<S::Item> + Drop,
+    M: Drop,
+    A: Allocator + Copy,
+    H: Mark,
+> ArcSlice<S, L, B, M, A, H> {
     /// A window over a slice that is there for good. It is no owner: its clones and cuts add
     /// nothing and are never refused.
     pub fn from_static(alloc: A, items: &'static [S::Item]) -> Self
@@ -110,7 +125,14 @@ impl<S: AnyItems, L: StaticLayout, B, M, A: Allocator + Copy, H: Mark> ArcSlice<
 // The plain forms. They are generic over the marks under which a block has many passes, which
 // `Open` alone is: so a body can show a pass only by one that is there (`Pass::show`), and none
 // that it made up.
-impl<S: Slice, L: Layout, B, M, A: Allocator + Copy, H: Stepping> ArcSlice<S, L, B, M, A, H> {
+impl<
+    S: Slice,
+    L: Layout,
+    B: Buffer<S::Item> + Drop,
+    M: Drop,
+    A: Allocator + Copy,
+    H: Stepping,
+> ArcSlice<S, L, B, M, A, H> {
     /// A window over a copy of the items: `try_from_slice_as` with a new pass.
     ///
     /// # Errors

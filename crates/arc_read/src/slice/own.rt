@@ -4,27 +4,37 @@ ghost use Rattle.arc_block.specs.Block.{IsLimited};
 ghost use Rattle.arc_block.specs.Place.{IsOnBlock, at_owner};
 ghost use Rattle.arc_block.specs.Window.{IsWholeOf};
 ghost use Rattle.arc_block.specs.Steps.{IsPassAt, RefusesArray, EndsAt};
-ghost use Rattle.arc_owners.specs.count.Calls.{IsPassOfNone, IsNewPass, Learns, Asks, Leaves};
+ghost use Rattle.arc_block.specs.Unique.{AsksUniqueAt};
+ghost use Rattle.arc_owners.specs.count.Calls.{IsPassOfNone, IsNewPass, Learns, Leaves};
 ghost use Rattle.arc_owners.specs.count.Calls.{TakesBlock, AsksAndLeaves};
 
 use super::ArcSlice;
 use arc_block::layout::Layout;
+use arc_buffer::buffer::Buffer;
 use arc_buffer::kinds::Slice;
 use arc_owners::mark::{Mark, Stepping};
 use arc_owners::owners::Pass;
 use std::alloc::Allocator;
 
-impl<S: Slice, L: Layout, B, M, A: Allocator + Copy, H: Mark> ArcSlice<S, L, B, M, A, H> {
-    /// Whether no other owner of the block lives, by one load. `false` on no block.
+impl<
+    S: Slice,
+    L: Layout,
+    B: Buffer<S::Item> + Drop,
+    M: Drop,
+    A: Allocator + Copy,
+    H: Mark,
+> ArcSlice<S, L, B, M, A, H> {
+    /// Whether nobody else has a part of what the window stands on: on a block the count is asked,
+    /// by one load, and of a caller's buffer the buffer after it. `false` on no block, and of an
+    /// `Arc`.
     ///
     /// # History
     ///
-    /// On a block Alone with the answer.
+    /// On a block, but for an `Arc`, Alone with what the count says.
     #[inline(always)]
     pub fn is_unique_as(&self, pass: &mut Pass<H>) -> bool
         requires pass { IsPassAt self.now.place pass.old }
-        ensures entry { at_owner self.now.place ((result ≡ false)
-            × (pass.new ≡ pass.old)) (λ o. Asks o pass.old pass.new result) }
+        ensures entry { AsksUniqueAt self.now.place pass.old pass.new result }
     {
         self.parts.is_unique_as(pass)
     }
@@ -135,7 +145,14 @@ impl<S: Slice, L: Layout, B, M, A: Allocator + Copy, H: Mark> ArcSlice<S, L, B, 
     }
 }
 
-impl<S: Slice, L: Layout, B, M, A: Allocator + Copy, H: Mark> ArcSlice<S, L, B, M, A, H> {
+impl<
+    S: Slice,
+    L: Layout,
+    B: Buffer<S::Item> + Drop,
+    M: Drop,
+    A: Allocator + Copy,
+    H: Mark,
+> ArcSlice<S, L, B, M, A, H> {
     /// How many owners the window's block may have at once, and under which mark it is.
     pub fn max_owners(&self) -> u64
         ensures answer { result ≡ 9223372036854775807 }
@@ -146,7 +163,14 @@ impl<S: Slice, L: Layout, B, M, A: Allocator + Copy, H: Mark> ArcSlice<S, L, B, 
     }
 }
 
-impl<S: Slice, L: Layout, B, M, A: Allocator + Copy, H: Stepping> ArcSlice<S, L, B, M, A, H> {
+impl<
+    S: Slice,
+    L: Layout,
+    B: Buffer<S::Item> + Drop,
+    M: Drop,
+    A: Allocator + Copy,
+    H: Stepping,
+> ArcSlice<S, L, B, M, A, H> {
     /// A new pass of the window's block, which has seen at least how the window became an owner,
     /// and made nothing; on no block a pass of none. It adds nothing.
     pub fn pass(&self) -> Pass<H>

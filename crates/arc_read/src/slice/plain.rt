@@ -1,15 +1,17 @@
 //! The plain forms: calls with a new pass.
-ghost use Rattle.std.specs.Prelude.{◌≡◌, false, slice_range, IfOk, IfErr};
+ghost use Rattle.std.specs.Prelude.{◌≡◌, slice_range, IfOk, IfErr};
 ghost use Rattle.arc_buffer.specs.Slice.{IsRange, sub};
 ghost use Rattle.arc_block.specs.Place.{at_owner};
 ghost use Rattle.arc_block.specs.Window.{IsWholeOf};
 ghost use Rattle.arc_block.specs.Steps.{Shares, Refuses, RefusesArray};
-ghost use Rattle.arc_owners.specs.count.Calls.{Asks, TakesBlock, AsksAndLeaves};
+ghost use Rattle.arc_block.specs.Unique.{AsksUniqueAt};
+ghost use Rattle.arc_owners.specs.count.Calls.{TakesBlock, AsksAndLeaves};
 ghost use Rattle.arc_read.specs.Steps.{WithNewPass};
 ghost use Rattle.arc_read.specs.Cuts.{sub_place};
 
 use super::ArcSlice;
 use arc_block::layout::Layout;
+use arc_buffer::buffer::Buffer;
 use arc_buffer::kinds::{Slice, Subsliceable};
 use arc_owners::error::OwnerError;
 use arc_owners::leave::RaiseLeave;
@@ -20,17 +22,23 @@ use std::sync::Wait;
 // The plain forms. They are generic over the marks under which a block has many passes, which
 // `Open` alone is: so a body can show a pass only by one that is there (`Pass::show`), and none
 // that it made up.
-impl<S: Slice, L: Layout, B, M, A: Allocator + Copy, H: Stepping> ArcSlice<S, L, B, M, A, H> {
-    /// Whether no other owner of the block lives: `is_unique_as` with a new pass. `false` on no
-    /// block.
+impl<
+    S: Slice,
+    L: Layout,
+    B: Buffer<S::Item> + Drop,
+    M: Drop,
+    A: Allocator + Copy,
+    H: Stepping,
+> ArcSlice<S, L, B, M, A, H> {
+    /// Whether nobody else has a part of what the window stands on: `is_unique_as` with a new pass.
     ///
     /// # History
     ///
     /// That of `is_unique_as`.
     #[inline(always)]
     pub fn is_unique(&self) -> bool
-        ensures entry { WithNewPass {H = H} H.real self.now.place (λ first last. at_owner
-            self.now.place ((result ≡ false) × (last ≡ first)) (λ o. Asks o first last result)) }
+        ensures entry { WithNewPass {H = H} H.real self.now.place (λ first last.
+            AsksUniqueAt self.now.place first last result) }
     {
         let mut pass = self.pass();
         let found = self.is_unique_as(&mut pass);

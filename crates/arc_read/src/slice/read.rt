@@ -4,12 +4,20 @@ ghost use Rattle.arc_buffer.specs.Slice.{IsEdge, IsRange, edge_answer, range_ans
 
 use super::ArcSlice;
 use arc_block::layout::Layout;
+use arc_buffer::buffer::Buffer;
 use arc_buffer::kinds::{Slice, Subsliceable};
 use arc_owners::error::RangeError;
 use arc_owners::mark::Mark;
 use std::alloc::Allocator;
 
-impl<S: Slice, L: Layout, B, M, A: Allocator + Copy, H: Mark> ArcSlice<S, L, B, M, A, H> {
+impl<
+    S: Slice,
+    L: Layout,
+    B: Buffer<S::Item> + Drop,
+    M: Drop,
+    A: Allocator + Copy,
+    H: Mark,
+> ArcSlice<S, L, B, M, A, H> {
     /// How many items the window has.
     #[inline(always)]
     pub fn len(&self) -> usize
@@ -31,7 +39,7 @@ impl<S: Slice, L: Layout, B, M, A: Allocator + Copy, H: Mark> ArcSlice<S, L, B, 
     pub fn as_slice(&self) -> &[S::Item]
         ensures { result.now ≡ self.now.items }
     {
-        self.parts.as_slice()
+        self.parts.as_slice::<L>()
     }
 
     /// The items, which are a legal list of the kind.
@@ -39,11 +47,18 @@ impl<S: Slice, L: Layout, B, M, A: Allocator + Copy, H: Mark> ArcSlice<S, L, B, 
         ensures items { result.now ≡ self.now.items }
         ensures legal { ∥ S.is_legal result.now ∥₁ }
     {
-        self.parts.as_slice()
+        self.parts.as_slice::<L>()
     }
 }
 
-impl<S: Subsliceable, L: Layout, B, M, A: Allocator + Copy, H: Mark> ArcSlice<S, L, B, M, A, H> {
+impl<
+    S: Subsliceable,
+    L: Layout,
+    B: Buffer<S::Item> + Drop,
+    M: Drop,
+    A: Allocator + Copy,
+    H: Mark,
+> ArcSlice<S, L, B, M, A, H> {
     /// Whether `start` to `end` is a range of the window.
     ///
     /// # Errors

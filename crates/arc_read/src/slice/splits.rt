@@ -7,6 +7,7 @@ ghost use Rattle.arc_read.specs.Cuts.{SplitsOff, SplitsTo, off_place, to_place};
 
 use super::ArcSlice;
 use arc_block::layout::Layout;
+use arc_buffer::buffer::Buffer;
 use arc_buffer::kinds::Subsliceable;
 use arc_owners::error::OwnerError;
 use arc_owners::mark::{Mark, Stepping};
@@ -15,7 +16,14 @@ use std::alloc::Allocator;
 use std::mem;
 use std::sync::Wait;
 
-impl<S: Subsliceable, L: Layout, B, M, A: Allocator + Copy, H: Mark> ArcSlice<S, L, B, M, A, H> {
+impl<
+    S: Subsliceable,
+    L: Layout,
+    B: Buffer<S::Item> + Drop,
+    M: Drop,
+    A: Allocator + Copy,
+    H: Mark,
+> ArcSlice<S, L, B, M, A, H> {
     /// Both ends of a window are places at which it may be cut.
     fn has_edges(&self)
         ensures start { IsEdge S.boundary self.now.items 0 }
@@ -114,14 +122,14 @@ impl<S: Subsliceable, L: Layout, B, M, A: Allocator + Copy, H: Mark> ArcSlice<S,
     }
 }
 
-impl<S: Subsliceable, L: Layout, B, M, A: Allocator + Copy, H: Stepping> ArcSlice<
-    S,
-    L,
-    B,
-    M,
-    A,
-    H,
-> {
+impl<
+    S: Subsliceable,
+    L: Layout,
+    B: Buffer<S::Item> + Drop,
+    M: Drop,
+    A: Allocator + Copy,
+    H: Stepping,
+> ArcSlice<S, L, B, M, A, H> {
     /// Splits the window at `at` and hands out the back: `try_split_off_as` with a new pass.
     ///
     /// Copies no item.

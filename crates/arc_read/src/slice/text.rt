@@ -12,6 +12,7 @@ use super::ArcSlice;
 use arc_block::layout::{Layout, StaticLayout};
 use arc_block::parts::Parts;
 use arc_block::static_slice::StaticSlice;
+use arc_buffer::buffer::Buffer;
 use arc_buffer::kinds::{ByteText, Plain, Slice, Text};
 use arc_owners::error::AllocError;
 use arc_owners::mark::{Mark, Stepping};
@@ -21,7 +22,14 @@ use std::convert::Infallible;
 use std::str;
 use std::str::Utf8Error;
 
-impl<L: Layout, B, M, A: Allocator + Copy, H: Mark> ArcSlice<Text, L, B, M, A, H> {
+impl<L: Layout, B: Buffer<u8> + Drop, M: Drop, A: Allocator + Copy, H: Mark> ArcSlice<
+    Text,
+    L,
+    B,
+    M,
+    A,
+    H,
+> {
     /// A window over a copy of the text: no text stands on nothing where the layout has static
     /// data, else it stands on a new native block with exactly a place for each byte. The pass,
     /// which is of no block, becomes the block's; the window is owner 0.
@@ -77,7 +85,14 @@ impl<L: Layout, B, M, A: Allocator + Copy, H: Mark> ArcSlice<Text, L, B, M, A, H
     }
 }
 
-impl<L: StaticLayout, B, M, A: Allocator + Copy, H: Mark> ArcSlice<Text, L, B, M, A, H> {
+impl<L: StaticLayout, B: Buffer<u8> + Drop, M: Drop, A: Allocator + Copy, H: Mark> ArcSlice<
+    Text,
+    L,
+    B,
+    M,
+    A,
+    H,
+> {
     /// A window over a text that is there for good, as `from_static` of items.
     pub fn from_static_str(alloc: A, text: &'static str) -> Self
         ensures { result ≡ record { items = text.now; place = static_data } }
@@ -87,7 +102,14 @@ impl<L: StaticLayout, B, M, A: Allocator + Copy, H: Mark> ArcSlice<Text, L, B, M
 }
 
 // It is generic over the marks under which a block has many passes, as the other plain forms are.
-impl<L: Layout, B, M, A: Allocator + Copy, H: Stepping> ArcSlice<Text, L, B, M, A, H> {
+impl<L: Layout, B: Buffer<u8> + Drop, M: Drop, A: Allocator + Copy, H: Stepping> ArcSlice<
+    Text,
+    L,
+    B,
+    M,
+    A,
+    H,
+> {
     /// A window over a copy of the text: `try_from_str_as` with a new pass.
     ///
     /// # Errors
@@ -110,7 +132,14 @@ impl<L: Layout, B, M, A: Allocator + Copy, H: Stepping> ArcSlice<Text, L, B, M, 
     }
 }
 
-impl<L: Layout, B, M, A: Allocator + Copy, H: Mark> ArcSlice<ByteText, L, B, M, A, H> {
+impl<L: Layout, B: Buffer<u8> + Drop, M: Drop, A: Allocator + Copy, H: Mark> ArcSlice<
+    ByteText,
+    L,
+    B,
+    M,
+    A,
+    H,
+> {
     /// The same window, over bytes. It adds nothing.
     pub fn into_arc_slice(self) -> ArcSlice<Plain<u8>, L, B, M, A, H>
         ensures { result ≡ self }

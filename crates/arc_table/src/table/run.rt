@@ -1,23 +1,29 @@
 //! A list of commands, carried out one after another.
 ghost use Rattle.std.specs.Prelude.{◌≡◌, map, IfOk, IfErr, IsOk};
+ghost use Rattle.arc_block.specs.LayoutFacts.{layout_facts};
 ghost use Rattle.std.specs.Mem.{FitsInMemory, type_size};
 ghost use Rattle.std.specs.Vec.{vec_len};
 
 use super::Table;
 use arc_block::layout::{Layout, LayoutMut};
-use arc_commands::command::{TableCmd, TableReply};
+use arc_buffer::buffer::BufferMut;
 use arc_owners::error::AllocError;
-use arc_slots::kinds::Commands;
+use arc_slots::kinds::{Commands, TableCmd, TableReply};
 use std::alloc::Allocator;
 use std::sync::Wait;
 
-impl<S: Commands, L: Layout, B, M, A: Allocator + Copy> Table<S, L, B, M, A>
+impl<S: Commands<A>, L: Layout, B: BufferMut<S::Item> + Drop, M: Drop, A: Allocator + Copy> Table<
+    S,
+    L,
+    B,
+    M,
+    A,
+>
 where
-    S::Item: Copy,
     L::Writable: LayoutMut,
 {
     ghost use Rattle.arc_commands.specs.RunOf.{RunOf};
-    ghost use Rattle.arc_commands.specs.Seen.{seen_command, seen_reply};
+    ghost use Rattle.arc_commands.specs.Seen.{map_command, seen_reply};
     ghost use Rattle.arc_commands.specs.State.{CarriesOut};
     ghost use Rattle.arc_commands.specs.Step.{setting_of};
 
@@ -40,13 +46,16 @@ where
     pub fn run(
         &mut self,
         rt: &impl Wait,
-        commands: Vec<TableCmd<S::Item, A>, A>,
-    ) -> Result<Vec<TableReply<S::Item, A>, A>, (Vec<TableCmd<S::Item, A>, A>, AllocError)>
+        commands: Vec<TableCmd<S, B, M, A>, A>,
+    ) -> Result<Vec<TableReply<S, B, M, A>, A>, (Vec<TableCmd<S, B, M, A>, A>, AllocError)>
         requires item { FitsInMemory S.Item.row }
         ensures run { IfOk result (λ replies.
-            RunOf (CarriesOut (setting_of L.STATIC L.clone_wants S.DROPS S.boundary
-            (type_size S.Item.row) S.Zero.zero)) self.old
-            (map seen_command commands.items) (map seen_reply replies.items) self.new) }
+            RunOf (CarriesOut (setting_of (layout_facts L.Layout) L.Writable.ANY L.clone_wants
+            S.DROPS S.boundary
+            (type_size S.Item.row) S.Zero.zero S.Calls.calls)) self.old
+            (map (map_command S.items_in S.static_in B.list) commands.items)
+            (map (seen_reply S.items_in S.items_in_box B.list) replies.items)
+            self.new) }
         ensures many { IfOk result (λ replies. vec_len replies ≡ vec_len commands) }
         ensures succeeds { vec_len commands ≡ 0 → IsOk result }
         ensures back { IfErr result (λ refused. refused.0 ≡ commands) }

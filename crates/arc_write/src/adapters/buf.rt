@@ -7,12 +7,13 @@ ghost use Rattle.bytes.specs.Unread.{IsChunkOf};
 
 use crate::slice_mut::ArcSliceMut;
 use arc_block::layout::LayoutMut;
+use arc_buffer::buffer::BufferMut;
 use arc_buffer::kinds::{ByteText, Plain};
 use arc_owners::mark::Mark;
 use bytes::Buf;
 use std::alloc::Allocator;
 
-impl<L: LayoutMut, B, M, A: Allocator + Copy, H: Mark> Buf
+impl<L: LayoutMut, B: BufferMut<u8> + Drop, M: Drop, A: Allocator + Copy, H: Mark> Buf
     for ArcSliceMut<Plain<u8>, L, 1, B, M, A, H> {
     ghost unread = { λ w. w.items };
 
@@ -40,7 +41,7 @@ impl<L: LayoutMut, B, M, A: Allocator + Copy, H: Mark> Buf
     }
 }
 
-impl<L: LayoutMut, B, M, A: Allocator + Copy, H: Mark> Buf
+impl<L: LayoutMut, B: BufferMut<u8> + Drop, M: Drop, A: Allocator + Copy, H: Mark> Buf
     for ArcSliceMut<ByteText, L, 1, B, M, A, H> {
     ghost unread = { λ w. w.items };
 

@@ -8,13 +8,20 @@ ghost use Rattle.bytes.specs.Filled.{KeepsMaxSpare, MakesSpare, UsesMaxSpare, Us
 
 use crate::slice_mut::ArcSliceMut;
 use arc_block::layout::LayoutMut;
+use arc_buffer::buffer::BufferMut;
 use arc_buffer::kinds::CopySlice;
 use arc_owners::mark::Mark;
 use bytes::BufMut;
 use std::alloc::{AllocError, Allocator};
 
-impl<S: CopySlice<Item = u8>, L: LayoutMut, B, M, A: Allocator + Copy, H: Mark> BufMut
-    for ArcSliceMut<S, L, 1, B, M, A, H> {
+impl<
+    S: CopySlice<Item = u8>,
+    L: LayoutMut,
+    B: BufferMut<u8> + Drop,
+    M: Drop,
+    A: Allocator + Copy,
+    H: Mark,
+> BufMut for ArcSliceMut<S, L, 1, B, M, A, H> {
     ghost written = { λ w. w.items };
 
     ghost spare = { spare_places };
@@ -106,15 +113,14 @@ impl<S: CopySlice<Item = u8>, L: LayoutMut, B, M, A: Allocator + Copy, H: Mark> 
     }
 }
 
-impl<S: CopySlice<Item = u8>, L: LayoutMut, B, M, A: Allocator + Copy, H: Mark> ArcSliceMut<
-    S,
-    L,
-    1,
-    B,
-    M,
-    A,
-    H,
-> {
+impl<
+    S: CopySlice<Item = u8>,
+    L: LayoutMut,
+    B: BufferMut<u8> + Drop,
+    M: Drop,
+    A: Allocator + Copy,
+    H: Mark,
+> ArcSliceMut<S, L, 1, B, M, A, H> {
     /// So many bytes of one value more, where the window has places for them.
     #[tactic(auto, using(crate::proofs::More::more_none, crate::proofs::More::one_more_alike))]
     fn fill(&mut self, byte: u8, count: usize)

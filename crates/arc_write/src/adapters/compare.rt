@@ -7,14 +7,21 @@ ghost use Rattle.std.specs.Cmp.Lexicographic.{lists_ties, lists_total};
 
 use crate::slice_mut::ArcSliceMut;
 use arc_block::layout::LayoutMut;
+use arc_buffer::buffer::BufferMut;
 use arc_buffer::compare::{equal, order, partial_order};
 use arc_buffer::kinds::{Slice, Text};
 use arc_owners::mark::Mark;
 use std::alloc::Allocator;
 use std::cmp::Ordering;
 
-impl<S: Slice, L: LayoutMut, B, M, A: Allocator + Copy, H: Mark> PartialEq
-    for ArcSliceMut<S, L, 1, B, M, A, H>
+impl<
+    S: Slice,
+    L: LayoutMut,
+    B: BufferMut<S::Item> + Drop,
+    M: Drop,
+    A: Allocator + Copy,
+    H: Mark,
+> PartialEq for ArcSliceMut<S, L, 1, B, M, A, H>
 where
     S::Item: PartialEq,
 {
@@ -27,7 +34,7 @@ where
     }
 }
 
-impl<S: Slice, L: LayoutMut, B, M, A: Allocator + Copy, H: Mark> Eq
+impl<S: Slice, L: LayoutMut, B: BufferMut<S::Item> + Drop, M: Drop, A: Allocator + Copy, H: Mark> Eq
     for ArcSliceMut<S, L, 1, B, M, A, H>
 where
     S::Item: Eq,
@@ -35,8 +42,14 @@ where
     ghost laws = { on_equiv (λ x. x.items) (lists_equiv S.Item.Eq.laws) };
 }
 
-impl<S: Slice, L: LayoutMut, B, M, A: Allocator + Copy, H: Mark> PartialOrd
-    for ArcSliceMut<S, L, 1, B, M, A, H>
+impl<
+    S: Slice,
+    L: LayoutMut,
+    B: BufferMut<S::Item> + Drop,
+    M: Drop,
+    A: Allocator + Copy,
+    H: Mark,
+> PartialOrd for ArcSliceMut<S, L, 1, B, M, A, H>
 where
     S::Item: PartialOrd,
 {
@@ -49,8 +62,14 @@ where
     }
 }
 
-impl<S: Slice, L: LayoutMut, B, M, A: Allocator + Copy, H: Mark> Ord
-    for ArcSliceMut<S, L, 1, B, M, A, H>
+impl<
+    S: Slice,
+    L: LayoutMut,
+    B: BufferMut<S::Item> + Drop,
+    M: Drop,
+    A: Allocator + Copy,
+    H: Mark,
+> Ord for ArcSliceMut<S, L, 1, B, M, A, H>
 where
     S::Item: Ord,
 {
@@ -67,7 +86,14 @@ where
     }
 }
 
-impl<S: Slice, L: LayoutMut, B, M, A: Allocator + Copy, H: Mark> ArcSliceMut<S, L, 1, B, M, A, H> {
+impl<
+    S: Slice,
+    L: LayoutMut,
+    B: BufferMut<S::Item> + Drop,
+    M: Drop,
+    A: Allocator + Copy,
+    H: Mark,
+> ArcSliceMut<S, L, 1, B, M, A, H> {
     /// Whether the window's items are those of the slice.
     pub fn eq_slice(&self, other: &[S::Item]) -> bool
     where
@@ -78,7 +104,15 @@ impl<S: Slice, L: LayoutMut, B, M, A: Allocator + Copy, H: Mark> ArcSliceMut<S, 
     }
 }
 
-impl<L: LayoutMut, B, M, A: Allocator + Copy, H: Mark> ArcSliceMut<Text, L, 1, B, M, A, H> {
+impl<L: LayoutMut, B: BufferMut<u8> + Drop, M: Drop, A: Allocator + Copy, H: Mark> ArcSliceMut<
+    Text,
+    L,
+    1,
+    B,
+    M,
+    A,
+    H,
+> {
     /// Whether the window's text is this one.
     pub fn eq_str(&self, other: &str) -> bool
         ensures { result ≡ pointwise nat_eq self.now.items other.now }

@@ -5,13 +5,14 @@ ghost use Rattle.bstr.specs.Utf8.{lossy_chars};
 
 use crate::slice_mut::ArcSliceMut;
 use arc_block::layout::LayoutMut;
+use arc_buffer::buffer::BufferMut;
 use arc_buffer::kinds::{ByteText, Text};
 use arc_owners::mark::Mark;
 use bstr::BStr;
 use std::alloc::Allocator;
 use std::fmt;
 
-impl<L: LayoutMut, B, M, A: Allocator + Copy, H: Mark> fmt::Display
+impl<L: LayoutMut, B: BufferMut<u8> + Drop, M: Drop, A: Allocator + Copy, H: Mark> fmt::Display
     for ArcSliceMut<Text, L, 1, B, M, A, H> {
     ghost output = { λ w. Some w.items };
 
@@ -22,7 +23,7 @@ impl<L: LayoutMut, B, M, A: Allocator + Copy, H: Mark> fmt::Display
     }
 }
 
-impl<L: LayoutMut, B, M, A: Allocator + Copy, H: Mark> fmt::Display
+impl<L: LayoutMut, B: BufferMut<u8> + Drop, M: Drop, A: Allocator + Copy, H: Mark> fmt::Display
     for ArcSliceMut<ByteText, L, 1, B, M, A, H> {
     ghost output = { λ w. Some (encode_utf8_all (lossy_chars w.items)) };
 

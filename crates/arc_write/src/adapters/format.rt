@@ -6,12 +6,13 @@ ghost use Rattle.arc_read.specs.Steps.{WithNewPass};
 
 use crate::slice_mut::ArcSliceMut;
 use arc_block::layout::LayoutMut;
+use arc_buffer::buffer::BufferMut;
 use arc_buffer::kinds::{ByteText, Plain, Text};
 use arc_owners::mark::Stepping;
 use std::alloc::Allocator;
 use std::fmt;
 
-impl<L: LayoutMut, B, M, A: Allocator + Copy, H: Stepping> fmt::Write
+impl<L: LayoutMut, B: BufferMut<u8> + Drop, M: Drop, A: Allocator + Copy, H: Stepping> fmt::Write
     for ArcSliceMut<Text, L, 1, B, M, A, H> {
     ghost write_str_gives = { λ w text v. v.items ≡ w.items ++ text };
 
@@ -45,7 +46,7 @@ impl<L: LayoutMut, B, M, A: Allocator + Copy, H: Stepping> fmt::Write
     }
 }
 
-impl<L: LayoutMut, B, M, A: Allocator + Copy, H: Stepping> fmt::Write
+impl<L: LayoutMut, B: BufferMut<u8> + Drop, M: Drop, A: Allocator + Copy, H: Stepping> fmt::Write
     for ArcSliceMut<ByteText, L, 1, B, M, A, H> {
     ghost write_str_gives = { λ w text v. v.items ≡ w.items ++ text };
 
@@ -79,7 +80,7 @@ impl<L: LayoutMut, B, M, A: Allocator + Copy, H: Stepping> fmt::Write
     }
 }
 
-impl<L: LayoutMut, B, M, A: Allocator + Copy, H: Stepping> fmt::Write
+impl<L: LayoutMut, B: BufferMut<u8> + Drop, M: Drop, A: Allocator + Copy, H: Stepping> fmt::Write
     for ArcSliceMut<Plain<u8>, L, 1, B, M, A, H> {
     ghost write_str_gives = { λ w text v. v.items ≡ w.items ++ text };
 

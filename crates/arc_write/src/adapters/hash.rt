@@ -4,13 +4,20 @@ ghost use Rattle.std.specs.Hash.{items_Alike, on_Alike};
 
 use crate::slice_mut::ArcSliceMut;
 use arc_block::layout::LayoutMut;
+use arc_buffer::buffer::BufferMut;
 use arc_buffer::kinds::Slice;
 use arc_owners::mark::Mark;
 use std::alloc::Allocator;
 use std::hash::{Hash, Hasher};
 
-impl<S: Slice, L: LayoutMut, B, M, A: Allocator + Copy, H: Mark> Hash
-    for ArcSliceMut<S, L, 1, B, M, A, H>
+impl<
+    S: Slice,
+    L: LayoutMut,
+    B: BufferMut<S::Item> + Drop,
+    M: Drop,
+    A: Allocator + Copy,
+    H: Mark,
+> Hash for ArcSliceMut<S, L, 1, B, M, A, H>
 where
     S::Item: Hash,
 {

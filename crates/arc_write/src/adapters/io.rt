@@ -9,13 +9,14 @@ ghost use Rattle.arc_write.specs.Within.{after_write, spare_places, taken};
 
 use crate::slice_mut::ArcSliceMut;
 use arc_block::layout::LayoutMut;
+use arc_buffer::buffer::BufferMut;
 use arc_buffer::kinds::Plain;
 use arc_owners::mark::Mark;
 use std::alloc::Allocator;
 use std::io;
 use std::io::ErrorKind;
 
-impl<L: LayoutMut, B, M, A: Allocator + Copy, H: Mark> io::Read
+impl<L: LayoutMut, B: BufferMut<u8> + Drop, M: Drop, A: Allocator + Copy, H: Mark> io::Read
     for ArcSliceMut<Plain<u8>, L, 1, B, M, A, H> {
     ghost remaining = { λ w. Some w.items };
 
@@ -62,7 +63,7 @@ impl<L: LayoutMut, B, M, A: Allocator + Copy, H: Mark> io::Read
     }
 }
 
-impl<L: LayoutMut, B, M, A: Allocator + Copy, H: Mark> io::Write
+impl<L: LayoutMut, B: BufferMut<u8> + Drop, M: Drop, A: Allocator + Copy, H: Mark> io::Write
     for ArcSliceMut<Plain<u8>, L, 1, B, M, A, H> {
     ghost contents = { λ w. Some w.items };
 

@@ -6,6 +6,7 @@ ghost use Rattle.std.specs.Slice.Iter.{iter_rest, iter_steps};
 
 use crate::slice_mut::ArcSliceMut;
 use arc_block::layout::LayoutMut;
+use arc_buffer::buffer::BufferMut;
 use arc_buffer::kinds::{AnyItems, Slice, Text};
 use arc_owners::mark::Mark;
 use std::alloc::Allocator;
@@ -14,8 +15,14 @@ use std::iter::IntoIterator;
 use std::ops::{DerefSlice, DerefSliceMut};
 use std::slice::Iter;
 
-impl<S: Slice, L: LayoutMut, B, M, A: Allocator + Copy, H: Mark> AsSlice<S::Item>
-    for ArcSliceMut<S, L, 1, B, M, A, H> {
+impl<
+    S: Slice,
+    L: LayoutMut,
+    B: BufferMut<S::Item> + Drop,
+    M: Drop,
+    A: Allocator + Copy,
+    H: Mark,
+> AsSlice<S::Item> for ArcSliceMut<S, L, 1, B, M, A, H> {
     ghost items = { λ w. w.items };
 
     fn as_slice(&self) -> &[S::Item] {
@@ -23,7 +30,7 @@ impl<S: Slice, L: LayoutMut, B, M, A: Allocator + Copy, H: Mark> AsSlice<S::Item
     }
 }
 
-impl<L: LayoutMut, B, M, A: Allocator + Copy, H: Mark> AsStr
+impl<L: LayoutMut, B: BufferMut<u8> + Drop, M: Drop, A: Allocator + Copy, H: Mark> AsStr
     for ArcSliceMut<Text, L, 1, B, M, A, H> {
     ghost text = { λ w. w.items };
 
@@ -32,8 +39,14 @@ impl<L: LayoutMut, B, M, A: Allocator + Copy, H: Mark> AsStr
     }
 }
 
-impl<S: Slice, L: LayoutMut, B, M, A: Allocator + Copy, H: Mark> DerefSlice
-    for ArcSliceMut<S, L, 1, B, M, A, H> {
+impl<
+    S: Slice,
+    L: LayoutMut,
+    B: BufferMut<S::Item> + Drop,
+    M: Drop,
+    A: Allocator + Copy,
+    H: Mark,
+> DerefSlice for ArcSliceMut<S, L, 1, B, M, A, H> {
     type Elem = S::Item;
 
     ghost deref_gives = { λ w xs. xs ≡ w.items };
@@ -43,14 +56,21 @@ impl<S: Slice, L: LayoutMut, B, M, A: Allocator + Copy, H: Mark> DerefSlice
     }
 }
 
-impl<S: AnyItems, L: LayoutMut, B, M, A: Allocator + Copy, H: Mark> DerefSliceMut
-    for ArcSliceMut<S, L, 1, B, M, A, H> {
+impl<
+    S: AnyItems,
+    L: LayoutMut,
+    B: BufferMut<S::Item> + Drop,
+    M: Drop,
+    A: Allocator + Copy,
+    H: Mark,
+> DerefSliceMut for ArcSliceMut<S, L, 1, B, M, A, H> {
     ghost use Rattle.arc_write.specs.Lends.{lends_items};
 
     fn deref_mut(&mut self) -> &mut [S::Item]
         ensures* writes_back { sem 𝓛 (lends_items S.row L.row B.row M.row A.row H.row S.Item.row
-            S.TryFromSliceError.row L.Writable.row S.Slice L.Layout A.Allocator H.Mark
-            self.entry result) }
+            S.TryFromSliceError.row L.Writable.row S.Slice L.Layout
+            (record { with_list = B.with_list; with_part = B.with_part; refuses = B.refuses })
+            B.Buffer A.Allocator H.Mark self.entry result) }
         ensures value { result.now ≡ self.old.items }
     {
         self.as_mut_slice()
@@ -62,8 +82,8 @@ impl<
     T: Drop + 'a,
     S: Slice<Item = T>,
     L: LayoutMut,
-    B,
-    M,
+    B: BufferMut<T> + Drop,
+    M: Drop,
     A: Allocator + Copy,
     H: Mark,
 > IntoIterator for &'a ArcSliceMut<S, L, 1, B, M, A, H> {

@@ -1,14 +1,17 @@
 //! From a window that is written to one that is read, or over another kind.
-ghost use Rattle.std.specs.Prelude.{◌≡◌, false, drop, IfOk, IfErr};
+ghost use Rattle.std.specs.Prelude.{◌≡◌, drop, IfOk, IfErr};
 ghost use Rattle.std.specs.Str.{IsUtf8, valid_up_to, error_len};
 ghost use Rattle.std.specs.Str.Lossy.{utf8_valid_len, utf8_error_len};
+ghost use Rattle.arc_block.specs.LayoutFacts.{layout_facts};
+ghost use Rattle.arc_block.specs.Moves.{IsRefused, layout_move};
+ghost use Rattle.arc_block.specs.Window.{parts_of, IsBlockHeld};
 ghost use Rattle.arc_block.specs.Place.{IsOnBlock};
-ghost use Rattle.arc_block.specs.Window.{parts_of};
-ghost use Rattle.arc_block.specs.Steps.{IsPassAt};
-ghost use Rattle.arc_block.specs.Writers.{Freezes};
+ghost use Rattle.arc_block.specs.Steps.{IsPassAt, Makes, Begins};
+ghost use Rattle.arc_block.specs.Writers.{Freezes, as_reader};
 
 use super::ArcSliceMut;
 use arc_block::layout::{Layout, LayoutMut};
+use arc_buffer::buffer::BufferMut;
 use arc_buffer::kinds::{ByteText, Plain, Slice, Text};
 use arc_owners::mark::Mark;
 use arc_owners::owners::Pass;
@@ -17,14 +20,22 @@ use std::alloc::Allocator;
 use std::convert::Infallible;
 use std::str::Utf8Error;
 
-impl<S: Slice, L: LayoutMut, B, M, A: Allocator + Copy, H: Mark> ArcSliceMut<S, L, 1, B, M, A, H> {
+impl<
+    S: Slice,
+    L: LayoutMut,
+    B: BufferMut<S::Item> + Drop,
+    M: Drop,
+    A: Allocator + Copy,
+    H: Mark,
+> ArcSliceMut<S, L, 1, B, M, A, H> {
     /// The same items at the same place, which others may read from now on. A window on nothing
     /// becomes what no items are made of under the layout: a window on nothing, or on a native
     /// block of no places, of which the pass becomes one.
     ///
     /// # Errors
     ///
-    /// The window, where memory for that block is refused; the pass is then as before.
+    /// The window, where the layout doesn't hold its block, and where memory for one of no places
+    /// is refused; the pass is then as before.
     ///
     /// # Allocates
     ///
@@ -35,15 +46,59 @@ impl<S: Slice, L: LayoutMut, B, M, A: Allocator + Copy, H: Mark> ArcSliceMut<S, 
     ) -> Result<ArcSlice<S, K, B, M, A, H>, Self>
         requires pass { IsPassAt self.place pass.old }
         ensures frozen { IfOk result (λ window.
-            Freezes K.STATIC S.DROPS H.whole self (parts_of window) pass.old pass.new) }
+            Freezes (layout_facts K.Layout) S.DROPS H.whole self (parts_of window)
+            pass.old pass.new) }
+        ensures stays { IfOk result (λ window. IsOnBlock self.place
+            → (parts_of window ≡ as_reader self) × (pass.new ≡ pass.old)) }
+        ensures made { IfOk result (λ window. (¬ IsOnBlock self.place)
+            → Makes K.STATIC S.DROPS H.whole self.items window
+            × Begins window pass.old pass.new) }
         ensures items { IfOk result (λ window. window.items ≡ self.items) }
-        ensures refused { IfErr result (λ back. (back ≡ self) × (¬ IsOnBlock self.place)
-            × (K.STATIC ≡ false) × (pass.new ≡ pass.old)) }
+        ensures refused { IfErr result (λ back. (back ≡ self)
+            × IsRefused (layout_move (layout_facts K.Layout) self.place) × (pass.new ≡ pass.old)) }
     {
         match self.into_parts().try_freeze_as::<K>(pass) {
             Ok(parts) => Ok(ArcSlice::from_parts(parts)),
             Err(parts) => Err(Self::from_parts(parts)),
         }
+    }
+
+    /// The same window, under the layout `K`, where that holds its block. It adds nothing and takes
+    /// no memory.
+    ///
+    /// # Errors
+    ///
+    /// The window, exactly where it stands on a block that the layout doesn't hold.
+    pub fn try_with_layout<K: LayoutMut>(self) -> Result<ArcSliceMut<S, K, 1, B, M, A, H>, Self>
+        ensures moved { IfOk result (λ window. (window ≡ self)
+            × IsBlockHeld (layout_facts K.Layout) self.place) }
+        ensures refused { IfErr result (λ back. (back ≡ self)
+            × (¬ IsBlockHeld (layout_facts K.Layout) self.place)) }
+    {
+        match self.into_parts().try_with_layout::<K>() {
+            Ok(parts) => Ok(ArcSliceMut::from_parts(parts)),
+            Err(parts) => Err(Self::from_parts(parts)),
+        }
+    }
+
+    /// `try_with_layout`, with a pass, which stays as it is.
+    ///
+    /// # Errors
+    ///
+    /// Those of `try_with_layout`.
+    pub fn try_with_layout_as<K: LayoutMut>(
+        self,
+        pass: &mut Pass<H>,
+    ) -> Result<ArcSliceMut<S, K, 1, B, M, A, H>, Self>
+        requires pass { IsPassAt self.place pass.old }
+        ensures moved { IfOk result (λ window. (window ≡ self)
+            × IsBlockHeld (layout_facts K.Layout) self.place) }
+        ensures refused { IfErr result (λ back. (back ≡ self)
+            × (¬ IsBlockHeld (layout_facts K.Layout) self.place)) }
+        ensures pass { pass.new ≡ pass.old }
+    {
+        let _ = pass;
+        self.try_with_layout()
     }
 
     /// The same window, of items of another kind, for which its list is legal.
@@ -56,7 +111,15 @@ impl<S: Slice, L: LayoutMut, B, M, A: Allocator + Copy, H: Mark> ArcSliceMut<S, 
     }
 }
 
-impl<L: LayoutMut, B, M, A: Allocator + Copy, H: Mark> ArcSliceMut<Text, L, 1, B, M, A, H> {
+impl<L: LayoutMut, B: BufferMut<u8> + Drop, M: Drop, A: Allocator + Copy, H: Mark> ArcSliceMut<
+    Text,
+    L,
+    1,
+    B,
+    M,
+    A,
+    H,
+> {
     /// The same window, over bytes. It adds nothing.
     pub fn into_arc_slice_mut(self) -> ArcSliceMut<Plain<u8>, L, 1, B, M, A, H>
         ensures { result ≡ self }
@@ -84,7 +147,15 @@ impl<L: LayoutMut, B, M, A: Allocator + Copy, H: Mark> ArcSliceMut<Text, L, 1, B
     }
 }
 
-impl<L: LayoutMut, B, M, A: Allocator + Copy, H: Mark> ArcSliceMut<ByteText, L, 1, B, M, A, H> {
+impl<L: LayoutMut, B: BufferMut<u8> + Drop, M: Drop, A: Allocator + Copy, H: Mark> ArcSliceMut<
+    ByteText,
+    L,
+    1,
+    B,
+    M,
+    A,
+    H,
+> {
     /// The same window, over bytes. It adds nothing.
     pub fn into_arc_slice_mut(self) -> ArcSliceMut<Plain<u8>, L, 1, B, M, A, H>
         ensures { result ≡ self }

@@ -5,19 +5,19 @@ ghost use Rattle.arc_block.specs.Writers.{after_advance, after_truncate};
 
 use super::ArcSliceMut;
 use arc_block::layout::LayoutMut;
+use arc_buffer::buffer::BufferMut;
 use arc_buffer::kinds::Subsliceable;
 use arc_owners::mark::Mark;
 use std::alloc::Allocator;
 
-impl<S: Subsliceable, L: LayoutMut, B, M, A: Allocator + Copy, H: Mark> ArcSliceMut<
-    S,
-    L,
-    1,
-    B,
-    M,
-    A,
-    H,
-> {
+impl<
+    S: Subsliceable,
+    L: LayoutMut,
+    B: BufferMut<S::Item> + Drop,
+    M: Drop,
+    A: Allocator + Copy,
+    H: Mark,
+> ArcSliceMut<S, L, 1, B, M, A, H> {
     /// Takes the first `n` items and their places off the window, which stays on its block, also
     /// with no items. It adds nothing.
     pub fn advance(&mut self, n: usize)

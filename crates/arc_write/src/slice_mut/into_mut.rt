@@ -1,14 +1,13 @@
 //! From a window that is read to one that is written.
-ghost use Rattle.std.specs.Prelude.{◌≡◌, ◌≤◌, true, false, length, IfOk, IfErr};
-ghost use Rattle.arc_owners.specs.count.Calls.{Asks};
-ghost use Rattle.arc_block.specs.Place.{at_owner};
+ghost use Rattle.std.specs.Prelude.{◌≡◌, IfOk, IfErr};
 ghost use Rattle.arc_block.specs.Window.{Window, parts_of};
 ghost use Rattle.arc_block.specs.Steps.{IsPassAt};
-ghost use Rattle.arc_block.specs.Writers.{as_sole};
+ghost use Rattle.arc_block.specs.Writers.{as_sole, BecomesSole, RefusesSole};
 ghost use Rattle.arc_read.specs.Steps.{WithNewPass};
 
 use super::ArcSliceMut;
 use arc_block::layout::{Layout, LayoutMut};
+use arc_buffer::buffer::BufferMut;
 use arc_buffer::kinds::Slice;
 use arc_owners::mark::{Mark, Stepping};
 use arc_owners::owners::Pass;
@@ -23,10 +22,10 @@ pub trait IntoMut: Sized {
     type Kind: Slice;
 
     /// The type of callers' buffers.
-    type Buffer;
+    type Buffer: BufferMut<<Self::Kind as Slice>::Item> + Drop;
 
     /// The type of their metadata.
-    type Metadata;
+    type Metadata: Drop;
 
     /// The allocator.
     type Alloc: Allocator + Copy;
@@ -37,16 +36,19 @@ pub trait IntoMut: Sized {
     // The window's items, and where it stands.
     ghost seen: { Self → Window Self.Kind.Item Self.Metadata };
 
-    /// The same items at the same place, as their only writer, where the window stands on a block
-    /// that no other owner has, or where it has none and stands on no block.
+    /// The same items at the same place, as their only writer under the layout `K`, where the
+    /// window stands on a block that may be written and that the layout holds, and that no other
+    /// owner has, or where it has none and stands on no block. A native block may be written, and a
+    /// vector; a caller's buffer that was made a window to be read may not, nor an `Arc`.
     ///
     /// # Errors
     ///
-    /// The window, where another owner lives, or where it has items of a static slice.
+    /// The window, where the block may not be written, or isn't held, or another owner lives, or
+    /// where it has items of a static slice.
     ///
     /// # History
     ///
-    /// On a block Alone with the answer.
+    /// On a block that may be written Alone with the answer.
     fn try_into_mut_as<K: LayoutMut>(
         self,
         pass: &mut Pass<Self::Mark>,
@@ -56,11 +58,9 @@ pub trait IntoMut: Sized {
     >
         requires pass { IsPassAt (seen self).place pass.old }
         ensures sole { IfOk result (λ sole. (sole ≡ as_sole Self.Kind.DROPS (parts_of (seen self)))
-            × at_owner (seen self).place ((length (seen self).items ≡ 0) × (pass.new ≡ pass.old))
-            (λ o. Asks o pass.old pass.new true)) }
+            × BecomesSole K.ANY (parts_of (seen self)) pass.old pass.new) }
         ensures refused { IfErr result (λ back. (back ≡ self)
-            × at_owner (seen self).place ((1 ≤ length (seen self).items) × (pass.new ≡ pass.old))
-            (λ o. Asks o pass.old pass.new false)) };
+            × RefusesSole K.ANY (parts_of (seen self)) pass.old pass.new) };
 
     /// The same items at the same place, as their only writer: `try_into_mut_as` with a new pass.
     ///
@@ -81,16 +81,20 @@ pub trait IntoMut: Sized {
         Self::Mark: Stepping,
         ensures sole { IfOk result (λ sole. (sole ≡ as_sole Self.Kind.DROPS (parts_of (seen self)))
             × WithNewPass {H = Self.Mark} Self.Mark.real (seen self).place (λ first last.
-            at_owner (seen self).place ((length (seen self).items ≡ 0) × (last ≡ first))
-            (λ o. Asks o first last true))) }
+            BecomesSole K.ANY (parts_of (seen self)) first last)) }
         ensures refused { IfErr result (λ back. (back ≡ self)
             × WithNewPass {H = Self.Mark} Self.Mark.real (seen self).place (λ first last.
-            at_owner (seen self).place ((1 ≤ length (seen self).items) × (last ≡ first))
-            (λ o. Asks o first last false))) };
+            RefusesSole K.ANY (parts_of (seen self)) first last)) };
 }
 
-impl<S: Slice, L: Layout, B, M, A: Allocator + Copy, H: Mark> IntoMut
-    for ArcSlice<S, L, B, M, A, H> {
+impl<
+    S: Slice,
+    L: Layout,
+    B: BufferMut<S::Item> + Drop,
+    M: Drop,
+    A: Allocator + Copy,
+    H: Mark,
+> IntoMut for ArcSlice<S, L, B, M, A, H> {
     type Kind = S;
 
     type Buffer = B;
@@ -109,13 +113,11 @@ impl<S: Slice, L: Layout, B, M, A: Allocator + Copy, H: Mark> IntoMut
     ) -> Result<ArcSliceMut<S, K, 1, B, M, A, H>, Self>
         requires pass { IsPassAt self.place pass.old }
         ensures sole { IfOk result (λ sole. (sole ≡ as_sole S.DROPS (parts_of self))
-            × at_owner self.place ((length self.items ≡ 0) × (pass.new ≡ pass.old))
-            (λ o. Asks o pass.old pass.new true)) }
+            × BecomesSole K.ANY (parts_of self) pass.old pass.new) }
         ensures refused { IfErr result (λ back. (back ≡ self)
-            × at_owner self.place ((1 ≤ length self.items) × (pass.new ≡ pass.old))
-            (λ o. Asks o pass.old pass.new false)) }
+            × RefusesSole K.ANY (parts_of self) pass.old pass.new) }
     {
-        match self.into_parts().try_into_sole_as(pass) {
+        match self.into_parts().try_into_sole_as::<K>(pass) {
             Ok(parts) => Ok(ArcSliceMut::from_parts(parts)),
             Err(parts) => Err(ArcSlice::from_parts(parts)),
         }

@@ -9,20 +9,20 @@ ghost use Rattle.arc_write.specs.Extend.{PushesEach, RefusesOne};
 
 use super::ArcSliceMut;
 use arc_block::layout::LayoutMut;
+use arc_buffer::buffer::BufferMut;
 use arc_buffer::kinds::{Emptyable, Extendable};
 use arc_owners::error::TryReserveError;
 use arc_owners::mark::Stepping;
 use std::alloc::Allocator;
 
-impl<S: Extendable, L: LayoutMut, B, M, A: Allocator + Copy, H: Stepping> ArcSliceMut<
-    S,
-    L,
-    1,
-    B,
-    M,
-    A,
-    H,
-> {
+impl<
+    S: Extendable,
+    L: LayoutMut,
+    B: BufferMut<S::Item> + Drop,
+    M: Drop,
+    A: Allocator + Copy,
+    H: Stepping,
+> ArcSliceMut<S, L, 1, B, M, A, H> {
     /// The items that come, each behind the others by `try_push`, so each with a new pass.
     ///
     /// # Errors

@@ -6,13 +6,21 @@ ghost use Rattle.arc_block.specs.Writers.{MakesWriter};
 use super::ArcSliceMut;
 use arc_block::layout::LayoutMut;
 use arc_block::parts::SoleParts;
+use arc_buffer::buffer::BufferMut;
 use arc_buffer::kinds::{AnyItems, CopySlice, Emptyable, Slice, Zeroable};
 use arc_owners::error::AllocError;
 use arc_owners::mark::Mark;
 use arc_owners::owners::Pass;
 use std::alloc::Allocator;
 
-impl<S: Slice, L: LayoutMut, B, M, A: Allocator + Copy, H: Mark> ArcSliceMut<S, L, 1, B, M, A, H> {
+impl<
+    S: Slice,
+    L: LayoutMut,
+    B: BufferMut<S::Item> + Drop,
+    M: Drop,
+    A: Allocator + Copy,
+    H: Mark,
+> ArcSliceMut<S, L, 1, B, M, A, H> {
     /// A window with no items, and with so many places: for none on nothing, else on a new native
     /// block. The pass, which is of no block, becomes the block's; the window is owner 0.
     ///

@@ -3,7 +3,9 @@ ghost use Rattle.std.specs.Prelude.{◌≡◌, ◌≤◌, ◌+◌, ◌++◌, ◌
 ghost use Rattle.std.specs.Prelude.{length, replicate, IfOk, IfErr, OnOk, OnErr, Err};
 ghost use Rattle.std.specs.Mem.{FitsInMemory, type_size};
 ghost use Rattle.arc_owners.specs.count.Calls.{Leaves};
-ghost use Rattle.arc_block.specs.Place.{nowhere, at_owner, IsOnBlock};
+ghost use Rattle.arc_block.specs.LayoutFacts.{layout_facts};
+ghost use Rattle.arc_block.specs.Moves.{IsRefused, layout_move};
+ghost use Rattle.arc_block.specs.Place.{nowhere, at_owner};
 ghost use Rattle.arc_block.specs.Window.{parts_of};
 ghost use Rattle.arc_block.specs.Writers.{capacity_of, room_for, MakesWriter, MakesRoom};
 ghost use Rattle.arc_block.specs.Writers.{Pushes};
@@ -12,6 +14,7 @@ ghost use Rattle.arc_read.specs.Steps.{WithNewPass};
 
 use super::ArcSliceMut;
 use arc_block::layout::{Layout, LayoutMut};
+use arc_buffer::buffer::BufferMut;
 use arc_buffer::kinds::{AnyItems, CopySlice, Emptyable, Extendable, Slice, Text, Zeroable};
 use arc_owners::error::{AllocError, TryReserveError};
 use arc_owners::mark::Stepping;
@@ -21,15 +24,14 @@ use std::alloc::Allocator;
 
 // They are generic over the marks under which a block has many passes, which `Open` alone is: so a
 // body can show a pass only by one that is there (`Pass::show`), and none that it made up.
-impl<S: Slice, L: LayoutMut, B, M, A: Allocator + Copy, H: Stepping> ArcSliceMut<
-    S,
-    L,
-    1,
-    B,
-    M,
-    A,
-    H,
-> {
+impl<
+    S: Slice,
+    L: LayoutMut,
+    B: BufferMut<S::Item> + Drop,
+    M: Drop,
+    A: Allocator + Copy,
+    H: Stepping,
+> ArcSliceMut<S, L, 1, B, M, A, H> {
     /// A window with no items, and with so many places: `try_with_capacity_as` with a new pass.
     ///
     /// # Errors
@@ -132,17 +134,18 @@ impl<S: Slice, L: LayoutMut, B, M, A: Allocator + Copy, H: Stepping> ArcSliceMut
     ///
     /// # Errors
     ///
-    /// The window, where memory for a block of no places is refused.
+    /// The window, where the layout doesn't hold its block, and where memory for one of no places
+    /// is refused.
     ///
     /// # Allocates
     ///
     /// On nothing, where the layout has no static data.
     pub fn try_freeze<K: Layout>(self) -> Result<ArcSlice<S, K, B, M, A, H>, Self>
         ensures frozen { IfOk result (λ window. WithNewPass {H = H} H.real self.place (λ first last.
-            Freezes K.STATIC S.DROPS H.whole self (parts_of window) first last)) }
+            Freezes (layout_facts K.Layout) S.DROPS H.whole self (parts_of window) first last)) }
         ensures items { IfOk result (λ window. window.items ≡ self.items) }
-        ensures refused { IfErr result (λ back. (back ≡ self) × (¬ IsOnBlock self.place)
-            × (K.STATIC ≡ false)) }
+        ensures refused { IfErr result (λ back. (back ≡ self)
+            × IsRefused (layout_move (layout_facts K.Layout) self.place)) }
     {
         let mut pass = self.pass();
         let frozen = self.try_freeze_as(&mut pass);
@@ -282,7 +285,15 @@ impl<S: Slice, L: LayoutMut, B, M, A: Allocator + Copy, H: Stepping> ArcSliceMut
     }
 }
 
-impl<L: LayoutMut, B, M, A: Allocator + Copy, H: Stepping> ArcSliceMut<Text, L, 1, B, M, A, H> {
+impl<L: LayoutMut, B: BufferMut<u8> + Drop, M: Drop, A: Allocator + Copy, H: Stepping> ArcSliceMut<
+    Text,
+    L,
+    1,
+    B,
+    M,
+    A,
+    H,
+> {
     /// A window over a copy of the text: `try_from_str_as` with a new pass.
     ///
     /// # Errors

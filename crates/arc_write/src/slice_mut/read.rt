@@ -6,12 +6,20 @@ ghost use Rattle.arc_write.specs.Splits.{split_answer};
 
 use super::ArcSliceMut;
 use arc_block::layout::LayoutMut;
+use arc_buffer::buffer::BufferMut;
 use arc_buffer::kinds::{Slice, Subsliceable};
 use arc_owners::error::RangeError;
 use arc_owners::mark::Mark;
 use std::alloc::Allocator;
 
-impl<S: Slice, L: LayoutMut, B, M, A: Allocator + Copy, H: Mark> ArcSliceMut<S, L, 1, B, M, A, H> {
+impl<
+    S: Slice,
+    L: LayoutMut,
+    B: BufferMut<S::Item> + Drop,
+    M: Drop,
+    A: Allocator + Copy,
+    H: Mark,
+> ArcSliceMut<S, L, 1, B, M, A, H> {
     /// How many items the window has.
     #[inline(always)]
     pub fn len(&self) -> usize

@@ -8,6 +8,7 @@ ghost use Rattle.arc_block.specs.Writers.{MakesWriter, MakesRoom, Pushes, room_f
 use super::ArcSliceMut;
 use arc_block::layout::LayoutMut;
 use arc_block::parts::SoleParts;
+use arc_buffer::buffer::BufferMut;
 use arc_buffer::kinds::Text;
 use arc_owners::error::{AllocError, TryReserveError};
 use arc_owners::mark::Mark;
@@ -15,7 +16,15 @@ use arc_owners::owners::Pass;
 use std::alloc::Allocator;
 use std::str;
 
-impl<L: LayoutMut, B, M, A: Allocator + Copy, H: Mark> ArcSliceMut<Text, L, 1, B, M, A, H> {
+impl<L: LayoutMut, B: BufferMut<u8> + Drop, M: Drop, A: Allocator + Copy, H: Mark> ArcSliceMut<
+    Text,
+    L,
+    1,
+    B,
+    M,
+    A,
+    H,
+> {
     /// A window over a copy of the text: no text stands on nothing, else it stands on a new native
     /// block with exactly a place for each byte. The pass, which is of no block, becomes the
     /// block's; the window is owner 0.

@@ -9,13 +9,21 @@ ghost use Rattle.arc_block.specs.Writers.{MakesRoom, Pushes, Reclaims};
 
 use super::ArcSliceMut;
 use arc_block::layout::LayoutMut;
+use arc_buffer::buffer::BufferMut;
 use arc_buffer::kinds::{AnyItems, CopySlice, Extendable, Slice};
 use arc_owners::error::TryReserveError;
 use arc_owners::mark::Mark;
 use arc_owners::owners::Pass;
 use std::alloc::Allocator;
 
-impl<S: Slice, L: LayoutMut, B, M, A: Allocator + Copy, H: Mark> ArcSliceMut<S, L, 1, B, M, A, H> {
+impl<
+    S: Slice,
+    L: LayoutMut,
+    B: BufferMut<S::Item> + Drop,
+    M: Drop,
+    A: Allocator + Copy,
+    H: Mark,
+> ArcSliceMut<S, L, 1, B, M, A, H> {
     ghost use Rattle.arc_write.specs.Lends.{lends_items};
 
     /// The items, to be changed in their places: what is written there they are afterwards. It
@@ -25,8 +33,9 @@ impl<S: Slice, L: LayoutMut, B, M, A: Allocator + Copy, H: Mark> ArcSliceMut<S, 
     where
         S: AnyItems,
         ensures* writes_back { sem 𝓛 (lends_items S.row L.row B.row M.row A.row H.row S.Item.row
-            S.TryFromSliceError.row L.Writable.row S.Slice L.Layout A.Allocator H.Mark
-            self.entry result) }
+            S.TryFromSliceError.row L.Writable.row S.Slice L.Layout
+            (record { with_list = B.with_list; with_part = B.with_part; refuses = B.refuses })
+            B.Buffer A.Allocator H.Mark self.entry result) }
         ensures value { result.now ≡ self.old.items }
     {
         self.parts.as_mut_slice()

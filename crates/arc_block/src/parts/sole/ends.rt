@@ -1,48 +1,83 @@
 //! How a sole writer's parts end, and what they become.
-ghost use Rattle.std.specs.Prelude.{◌≡◌, ◌≤◌, ◌↔◌, true, false, length, IfOk, IfErr, IsTrue};
+ghost use Rattle.std.specs.Prelude.{◌≡◌, ◌≤◌, ◌↔◌, true, false, length, IfOk, IfErr, IsTrue, is_ok};
 ghost use Rattle.arc_owners.specs.count.Calls.{Asks, Leaves, Learns, IsNewPass, IsPassOfNone};
-ghost use Rattle.arc_owners.specs.count.Calls.{SeesAlone};
+ghost use Rattle.arc_block.specs.LayoutFacts.{layout_facts};
+ghost use Rattle.arc_owners.specs.count.Calls.{SeesAlone, IsPassFor};
+ghost use Rattle.arc_block.specs.declared.parts.storage.Storage.TheVariants.{Block as In};
+ghost use Rattle.arc_block.specs.Block.{IsWritable};
 ghost use Rattle.arc_block.specs.Place.{at_owner, IsOnBlock};
 ghost use Rattle.arc_block.specs.Table.{reader};
-ghost use Rattle.arc_block.specs.Steps.{IsPassAt, EndsAt};
+ghost use Rattle.arc_block.specs.Steps.{IsPassAt, EndsAt, Makes, Begins};
 ghost use Rattle.arc_block.specs.Writers.{as_reader, as_sole, Freezes, IsWholeWriter};
+ghost use Rattle.arc_block.specs.Writers.{BecomesSole, RefusesSole};
+ghost use Rattle.arc_block.specs.Window.{IsHeld, IsBlockHeld, window_of};
+ghost use Rattle.arc_block.specs.Window.{IsWithin, parts_of, window_seen};
+ghost use Rattle.arc_block.specs.Moves.{IsRefused, layout_move};
 
-use super::SoleParts;
-use crate::block::{Block, array_of, end_sole};
+use super::buffer::SoleBuffer;
+use super::memory::SoleMemory;
+use super::{SoleParts, SoleStorage};
+use crate::block::{Block, MAX_OWNERS};
 use crate::layout::Layout;
 use crate::parts::Parts;
 use crate::parts::storage::Storage;
+use arc_buffer::buffer::BufferMut;
 use arc_buffer::kinds::Slice;
 use arc_owners::mark::{Mark, Stepping};
 use arc_owners::owners::Pass;
 use std::alloc::Allocator;
-use std::marker::PhantomData;
 
-impl<S: Slice, B, M, A: Allocator + Copy, H: Mark> SoleParts<S, B, M, A, H> {
+impl<S: Slice, B: BufferMut<S::Item> + Drop, M: Drop, A: Allocator + Copy, H: Mark> SoleParts<
+    S,
+    B,
+    M,
+    A,
+    H,
+> {
+    /// The items from `start` to before `end` of a block that may be written, as their only
+    /// writer, where no other owner lives. Else the block comes back.
+    ///
+    /// # History
+    ///
+    /// Alone with the answer.
+    fn try_of_block_as(
+        alloc: A,
+        block: Block<S, B, M, A, MAX_OWNERS, H>,
+        start: usize,
+        end: usize,
+        pass: &mut Pass<H>,
+    ) -> Result<Self, Block<S, B, M, A, MAX_OWNERS, H>>
+        requires pass { IsPassFor block.owner pass.old }
+        requires within { IsWithin {T = S.Item} {M = M} (In block) start end }
+        requires writable { IsWritable block.facts.sort }
+        ensures entry { Asks block.owner pass.old pass.new (is_ok result) }
+        ensures sole { IfOk result (λ sole.
+            sole ≡ as_sole S.DROPS (parts_of (window_seen (In block) start end))) }
+        ensures others { IfErr result (λ back. back ≡ block) }
+    {
+        if block.is_in_memory() {
+            return match block.try_into_sole_as(alloc, pass) {
+                Ok((count, items)) => {
+                    Ok(Self::in_memory(SoleMemory::over(alloc, count, items, start, end)))
+                }
+                Err(block) => Err(block),
+            };
+        }
+        match block.try_into_sole_buffer_as(pass) {
+            Ok(count) => Ok(Self::in_buffer(SoleBuffer::over(alloc, count, start, end))),
+            Err(block) => Err(block),
+        }
+    }
+
     /// The same items and places, which others may read from now on. It adds nothing and takes no
     /// memory.
     pub fn freeze(self) -> Parts<S, B, M, A, H>
         ensures { result ≡ as_reader self }
     {
-        let SoleParts {
-            count,
-            items,
-            start,
-            end,
-            alloc,
-            of: _,
-        } = self;
-        match count {
-            Some(count) => Parts {
-                on: Storage::Block(Block::of_sole(count, items)),
-                start,
-                end,
-                alloc,
-            },
-            None => {
-                drop(items);
-                Parts::on_nothing(alloc)
-            }
+        let SoleParts { on } = self;
+        match on {
+            SoleStorage::Memory(parts) => parts.freeze(),
+            SoleStorage::Buffer(parts) => parts.freeze(),
         }
     }
 
@@ -52,7 +87,8 @@ impl<S: Slice, B, M, A: Allocator + Copy, H: Mark> SoleParts<S, B, M, A, H> {
     ///
     /// # Errors
     ///
-    /// The parts, where memory for that block is refused; the pass is then as before.
+    /// The parts, where the layout doesn't hold the block, or where memory for one of no places is
+    /// refused; the pass is then as before.
     ///
     /// # Allocates
     ///
@@ -60,25 +96,39 @@ impl<S: Slice, B, M, A: Allocator + Copy, H: Mark> SoleParts<S, B, M, A, H> {
     pub fn try_freeze_as<L: Layout>(self, pass: &mut Pass<H>) -> Result<Parts<S, B, M, A, H>, Self>
         requires pass { IsPassAt self.place pass.old }
         ensures frozen { IfOk result (λ parts.
-            Freezes L.STATIC S.DROPS H.whole self parts pass.old pass.new) }
+            Freezes (layout_facts L.Layout) S.DROPS H.whole self parts pass.old pass.new) }
+        ensures stays { IfOk result (λ parts. IsOnBlock self.place
+            → (parts ≡ as_reader self) × (pass.new ≡ pass.old)) }
+        ensures made { IfOk result (λ parts. (¬ IsOnBlock self.place)
+            → Makes L.STATIC S.DROPS H.whole self.items (window_of parts)
+            × Begins (window_of parts) pass.old pass.new) }
         ensures items { IfOk result (λ parts. parts.items ≡ self.items) }
-        ensures refused { IfErr result (λ back. (back ≡ self) × (¬ IsOnBlock self.place)
-            × (L.STATIC ≡ false) × (pass.new ≡ pass.old)) }
+        ensures role { IfOk result (λ parts. parts.role ≡ reader) }
+        ensures held { IfOk result (λ parts. IsHeld (layout_facts L.Layout) parts.place) }
+        ensures refused { IfErr result (λ back. (back ≡ self)
+            × IsRefused (layout_move (layout_facts L.Layout) self.place) × (pass.new ≡ pass.old)) }
     {
-        match &self.count {
-            Some(_) => Ok(self.freeze()),
-            None => match Parts::try_from_array_as::<L, 0>(self.alloc, [], pass) {
+        let SoleParts { on } = self;
+        match on {
+            SoleStorage::Memory(parts) => match parts.try_freeze_as::<L>(pass) {
                 Ok(parts) => Ok(parts),
-                Err(_) => Err(self),
+                Err(back) => Err(Self::in_memory(back)),
+            },
+            SoleStorage::Buffer(parts) => match parts.try_freeze_as::<L>(pass) {
+                Ok(parts) => Ok(parts),
+                Err(back) => Err(Self::in_buffer(back)),
             },
         }
     }
 
-    /// Whether there are `n` items, which on a block are all places of a native one.
-    fn is_whole(&self, n: usize) -> bool
-        ensures { IsTrue result ↔ IsWholeWriter n self.now }
+    /// Whether a layout holds the block, where there is one.
+    pub(crate) fn is_held<L: Layout>(&self) -> bool
+        ensures { IsTrue result ↔ IsBlockHeld (layout_facts L.Layout) self.now.place }
     {
-        self.len() == n && (self.count.is_none() || self.items.capacity() == n)
+        match &self.on {
+            SoleStorage::Memory(parts) => parts.is_held::<L>(),
+            SoleStorage::Buffer(parts) => parts.is_held::<L>(),
+        }
     }
 
     /// The items as an array, where there are `N` of them, which on a block are all places of a
@@ -99,21 +149,14 @@ impl<S: Slice, B, M, A: Allocator + Copy, H: Mark> SoleParts<S, B, M, A, H> {
         ensures refused { IfErr result (λ back. (back ≡ self) × (¬ IsWholeWriter N self)
             × (pass.new ≡ pass.old)) }
     {
-        if !self.is_whole(N) {
-            return Err(self);
+        let SoleParts { on } = self;
+        match on {
+            SoleStorage::Memory(parts) => match parts.try_into_array_as::<N>(pass) {
+                Ok(array) => Ok(array),
+                Err(back) => Err(Self::in_memory(back)),
+            },
+            SoleStorage::Buffer(parts) => Err(Self::in_buffer(parts.not_memory())),
         }
-        let SoleParts {
-            count,
-            items,
-            start: _,
-            end: _,
-            alloc: _,
-            of: _,
-        } = self;
-        if let Some(count) = count {
-            drop(count.into_value_as(pass));
-        }
-        Ok(array_of(items))
     }
 
     /// The same parts, of items of another kind. It adds nothing.
@@ -121,21 +164,10 @@ impl<S: Slice, B, M, A: Allocator + Copy, H: Mark> SoleParts<S, B, M, A, H> {
         requires { K.DROPS ≡ S.DROPS }
         ensures { result ≡ self }
     {
-        let SoleParts {
-            count,
-            items,
-            start,
-            end,
-            alloc,
-            of: _,
-        } = self;
-        SoleParts {
-            count,
-            items,
-            start,
-            end,
-            alloc,
-            of: PhantomData,
+        let SoleParts { on } = self;
+        match on {
+            SoleStorage::Memory(parts) => SoleParts::in_memory(parts.into_kind()),
+            SoleStorage::Buffer(parts) => SoleParts::in_buffer(parts.into_kind()),
         }
     }
 
@@ -149,18 +181,11 @@ impl<S: Slice, B, M, A: Allocator + Copy, H: Mark> SoleParts<S, B, M, A, H> {
         ensures entry { at_owner self.place (pass.new ≡ pass.old) (λ o.
             Leaves o pass.old pass.new true) }
     {
-        let SoleParts {
-            count,
-            items,
-            start: _,
-            end: _,
-            alloc: _,
-            of: _,
-        } = self;
-        if let Some(count) = count {
-            drop(count.into_value_as(pass));
+        let SoleParts { on } = self;
+        match on {
+            SoleStorage::Memory(parts) => parts.release_as(pass),
+            SoleStorage::Buffer(parts) => parts.release_as(pass),
         }
-        drop(items);
     }
 
     /// What a drop does: under `Open` the owner ends with a new pass, and the block is given back
@@ -174,20 +199,10 @@ impl<S: Slice, B, M, A: Allocator + Copy, H: Mark> SoleParts<S, B, M, A, H> {
         ensures forgotten { H.whole ≡ true → IsPassOfNone result }
         ensures ended { H.whole ≡ false → EndsAt self.place result }
     {
-        let SoleParts {
-            count,
-            items,
-            start: _,
-            end: _,
-            alloc: _,
-            of: _,
-        } = self;
-        match count {
-            Some(count) => end_sole(count, items),
-            None => {
-                drop(items);
-                Pass::none()
-            }
+        let SoleParts { on } = self;
+        match on {
+            SoleStorage::Memory(parts) => parts.let_go(),
+            SoleStorage::Buffer(parts) => parts.let_go(),
         }
     }
 
@@ -198,8 +213,9 @@ impl<S: Slice, B, M, A: Allocator + Copy, H: Mark> SoleParts<S, B, M, A, H> {
         ensures { at_owner self.now.place (pass.new ≡ pass.old) (λ o.
             SeesAlone o pass.old pass.new) }
     {
-        if let Some(count) = &self.count {
-            count.only(pass);
+        match &self.on {
+            SoleStorage::Memory(parts) => parts.only(pass),
+            SoleStorage::Buffer(parts) => parts.only(pass),
         }
     }
 
@@ -210,45 +226,62 @@ impl<S: Slice, B, M, A: Allocator + Copy, H: Mark> SoleParts<S, B, M, A, H> {
         ensures { at_owner self.now.place (pass.new ≡ pass.old) (λ o.
             Learns o.block pass.old other.now pass.new) }
     {
-        if let Some(count) = &self.count {
-            count.learn(pass, other);
+        match &self.on {
+            SoleStorage::Memory(parts) => parts.learn(pass, other),
+            SoleStorage::Buffer(parts) => parts.learn(pass, other),
         }
     }
 }
 
-impl<S: Slice, B, M, A: Allocator + Copy, H: Stepping> SoleParts<S, B, M, A, H> {
+impl<S: Slice, B: BufferMut<S::Item> + Drop, M: Drop, A: Allocator + Copy, H: Stepping> SoleParts<
+    S,
+    B,
+    M,
+    A,
+    H,
+> {
     /// A new pass of the block, which has seen at least how this owner became one, and made
     /// nothing; on no block a pass of none. It adds nothing.
     pub fn pass(&self) -> Pass<H>
         ensures { at_owner self.now.place (IsPassOfNone result) (λ o. IsNewPass o result) }
     {
-        match &self.count {
-            Some(count) => count.pass(),
-            None => Pass::none(),
+        match &self.on {
+            SoleStorage::Memory(parts) => parts.pass(),
+            SoleStorage::Buffer(parts) => parts.pass(),
         }
     }
 }
 
-impl<S: Slice, B, M, A: Allocator + Copy, H: Mark> Parts<S, B, M, A, H> {
-    /// The same items at the same place, as their only writer, where they stand on a block that no
-    /// other owner has, or where there are none and they stand on no block.
+impl<S: Slice, B: BufferMut<S::Item> + Drop, M: Drop, A: Allocator + Copy, H: Mark> Parts<
+    S,
+    B,
+    M,
+    A,
+    H,
+> {
+    /// The same items at the same place, as their only writer under the layout `L`, where they
+    /// stand on a block that may be written and that the layout holds, and that no other owner has,
+    /// or where there are none and they stand on no block.
     ///
     /// # Errors
     ///
-    /// The parts, where another owner lives, or where there are items of a static slice.
+    /// The parts, where the block's sort may not be written, or isn't held, or another owner lives,
+    /// or where there are items of a static slice.
     ///
     /// # History
     ///
-    /// On a block Alone with the answer.
-    pub fn try_into_sole_as(self, pass: &mut Pass<H>) -> Result<SoleParts<S, B, M, A, H>, Self>
+    /// On a block that may be written Alone with the answer.
+    pub fn try_into_sole_as<L: Layout>(
+        self,
+        pass: &mut Pass<H>,
+    ) -> Result<SoleParts<S, B, M, A, H>, Self>
         requires role { self.role ≡ reader }
         requires pass { IsPassAt self.place pass.old }
         ensures sole { IfOk result (λ sole. (sole ≡ as_sole S.DROPS self)
-            × at_owner self.place ((length self.items ≡ 0) × (pass.new ≡ pass.old))
-            (λ o. Asks o pass.old pass.new true)) }
+            × BecomesSole L.ANY self pass.old pass.new) }
         ensures refused { IfErr result (λ back. (back ≡ self)
-            × at_owner self.place ((1 ≤ length self.items) × (pass.new ≡ pass.old))
-            (λ o. Asks o pass.old pass.new false)) }
+            × RefusesSole L.ANY self pass.old pass.new) }
+        ensures held { IfOk result (λ sole. IsBlockHeld (layout_facts L.Layout) sole.place) }
     {
         let Parts {
             on,
@@ -257,17 +290,31 @@ impl<S: Slice, B, M, A: Allocator + Copy, H: Mark> Parts<S, B, M, A, H> {
             alloc,
         } = self;
         match on {
-            Storage::Block(block) => match block.try_into_sole_as(alloc, pass) {
-                Ok((count, items)) => Ok(SoleParts::over(alloc, count, items, start, end)),
-                Err(block) => Err(Parts {
-                    on: Storage::Block(block),
-                    start,
-                    end,
-                    alloc,
-                }),
-            },
+            Storage::Block(block) if !block.may_write(L::ANY) => Err(Parts {
+                on: Storage::Block(block),
+                start,
+                end,
+                alloc,
+            }),
+            Storage::Block(block) => {
+                match SoleParts::try_of_block_as(alloc, block, start, end, pass) {
+                    Ok(sole) => Ok(sole),
+                    Err(block) => Err(Parts {
+                        on: Storage::Block(block),
+                        start,
+                        end,
+                        alloc,
+                    }),
+                }
+            }
             Storage::Static(items) if start < end => Err(Parts {
                 on: Storage::Static(items),
+                start,
+                end,
+                alloc,
+            }),
+            Storage::Raw(shared) => Err(Parts {
+                on: Storage::Raw(shared),
                 start,
                 end,
                 alloc,

@@ -3,31 +3,40 @@ ghost use Rattle.std.specs.Prelude.{◌≡◌, ◌≤◌, ◌+◌, ◌++◌, ◌
 ghost use Rattle.std.specs.Prelude.{IfOk, IfErr, OnOk, OnErr, Ok, Err};
 ghost use Rattle.std.specs.Borrow.{sem};
 ghost use Rattle.std.specs.Mem.{FitsInMemory, type_size};
-ghost use Rattle.std.specs.Vec.{vec_len, vec_capacity};
 ghost use Rattle.arc_block.specs.Steps.{IsPassAt};
 ghost use Rattle.arc_block.specs.Writers.{capacity_of, room_for, MakesRoom, Pushes, Reclaims};
 ghost use Rattle.arc_block.specs.Writers.{with_more, after_advance, after_truncate};
 
-use super::SoleParts;
-use crate::parts::room::Room;
+use super::{SoleParts, SoleStorage};
+use arc_buffer::buffer::BufferMut;
 use arc_buffer::kinds::Slice;
 use arc_owners::error::TryReserveError;
 use arc_owners::mark::Mark;
 use arc_owners::owners::Pass;
 use std::alloc::Allocator;
-use std::mem;
 
-impl<S: Slice, B, M, A: Allocator + Copy, H: Mark> SoleParts<S, B, M, A, H> {
+impl<S: Slice, B: BufferMut<S::Item> + Drop, M: Drop, A: Allocator + Copy, H: Mark> SoleParts<
+    S,
+    B,
+    M,
+    A,
+    H,
+> {
     ghost use Rattle.arc_block.specs.Lends.{lends_items};
 
     /// The items, to be changed in their places: what is written there they are afterwards.
     #[inline(always)]
     pub fn as_mut_slice(&mut self) -> &mut [S::Item]
         ensures* writes_back { sem 𝓛 (lends_items S.row B.row M.row A.row H.row S.Item.row
-            S.TryFromSliceError.row H.Mark S.Slice A.Allocator self.entry result) }
+            S.TryFromSliceError.row H.Mark S.Slice
+            (record { with_list = B.with_list; with_part = B.with_part; refuses = B.refuses })
+            B.Buffer A.Allocator self.entry result) }
         ensures value { result.now ≡ self.old.items }
     {
-        self.items.slice_mut(self.start..self.end)
+        match &mut self.on {
+            SoleStorage::Memory(parts) => parts.as_mut_slice(),
+            SoleStorage::Buffer(parts) => parts.as_mut_slice(),
+        }
     }
 
     /// Whether there is room for so many items more without memory; then it is made.
@@ -36,14 +45,9 @@ impl<S: Slice, B, M, A: Allocator + Copy, H: Mark> SoleParts<S, B, M, A, H> {
         ensures { Reclaims (room_for S.DROPS (type_size S.Item.row) self.old additional)
             self.old self.new result }
     {
-        match self.room(additional) {
-            Room::Spare => true,
-            Room::Front => {
-                self.to_front();
-                true
-            }
-            Room::Behind => unreachable!(),
-            _ => false,
+        match &mut self.on {
+            SoleStorage::Memory(parts) => parts.try_reclaim(additional),
+            SoleStorage::Buffer(parts) => parts.try_reclaim(additional),
         }
     }
 
@@ -76,24 +80,10 @@ impl<S: Slice, B, M, A: Allocator + Copy, H: Mark> SoleParts<S, B, M, A, H> {
             (room_for S.DROPS (type_size S.Item.row) self.old 1)
             self.old self.new pass.old pass.new (Err r.0)) }
     {
-        match self.try_reserve_as(1, pass) {
-            Ok(()) => {
-                self.push_reserved(item);
-                Ok(())
-            }
-            Err(e) => Err((e, item)),
+        match &mut self.on {
+            SoleStorage::Memory(parts) => parts.try_push_as(item, pass),
+            SoleStorage::Buffer(parts) => parts.try_push_as(item, pass),
         }
-    }
-
-    /// An item more, behind the others, where there is a place for it.
-    #[inline(always)]
-    fn push_reserved(&mut self, item: S::Item)
-        requires { length self.old.items + 1 ≤ capacity_of self.old.role }
-        ensures { self.new ≡ with_more (item ∷ []) self.old }
-    {
-        self.items.push_reserved(item);
-        // Where there was a place behind them, they end where the vector does.
-        self.end = self.items.len();
     }
 
     /// Takes so many items off the front; their places are none of the window's any more.
@@ -102,24 +92,30 @@ impl<S: Slice, B, M, A: Allocator + Copy, H: Mark> SoleParts<S, B, M, A, H> {
         requires { count ≤ length self.old.items }
         ensures { self.new ≡ after_advance count self.old }
     {
-        self.start += count;
+        match &mut self.on {
+            SoleStorage::Memory(parts) => parts.advance(count),
+            SoleStorage::Buffer(parts) => parts.advance(count),
+        }
     }
 
     /// Leaves the first so many items, if there are more.
     pub fn truncate(&mut self, len: usize)
         ensures { self.new ≡ after_truncate S.DROPS len self.old }
     {
-        if self.end - self.start <= len {
-            return;
-        }
-        self.end = self.start + len;
-        if !S::DROPS {
-            self.items.truncate(self.end);
+        match &mut self.on {
+            SoleStorage::Memory(parts) => parts.truncate(len),
+            SoleStorage::Buffer(parts) => parts.truncate(len),
         }
     }
 }
 
-impl<S: Slice, B, M, A: Allocator + Copy, H: Mark> SoleParts<S, B, M, A, H>
+impl<S: Slice, B: BufferMut<S::Item> + Drop, M: Drop, A: Allocator + Copy, H: Mark> SoleParts<
+    S,
+    B,
+    M,
+    A,
+    H,
+>
 where
     S::Item: Copy,
 {
@@ -151,12 +147,9 @@ where
             (room_for S.DROPS (type_size S.Item.row) self.old (length items.now))
             self.old self.new pass.old pass.new (Err e)) }
     {
-        match self.try_reserve_as(items.len(), pass) {
-            Ok(()) => {
-                self.extend_reserved(items);
-                Ok(())
-            }
-            Err(e) => Err(e),
+        match &mut self.on {
+            SoleStorage::Memory(parts) => parts.try_extend_from_slice_as(items, pass),
+            SoleStorage::Buffer(parts) => parts.try_extend_from_slice_as(items, pass),
         }
     }
 
@@ -165,25 +158,9 @@ where
         requires { length self.old.items + length items.now ≤ capacity_of self.old.role }
         ensures { self.new ≡ with_more items.now self.old }
     {
-        if items.is_empty() {
-            return;
+        match &mut self.on {
+            SoleStorage::Memory(parts) => parts.extend_reserved(items),
+            SoleStorage::Buffer(parts) => parts.extend_reserved(items),
         }
-        let vec = mem::replace(&mut self.items, Vec::new(self.alloc));
-        self.items = with_all(vec, items);
-        self.end += items.len();
     }
-}
-
-/// A vector with a copy of the items behind its own, for which it has places. It is taken by value,
-/// so that the loop writes nothing but items, and can become vector code.
-fn with_all<T: Copy + Drop, A: Allocator>(vec: Vec<T, A>, items: &[T]) -> Vec<T, A>
-    requires { vec_len vec + length items.now ≤ vec_capacity vec }
-    ensures items { result.items ≡ vec.items ++ items.now }
-    ensures capacity { vec_capacity result ≡ vec_capacity vec }
-{
-    let mut vec = vec;
-    for item in items {
-        vec.push_reserved(*item);
-    }
-    vec
 }

@@ -13,7 +13,7 @@ returns-in-Ok-clause-ran g c =
       c.deref.result.now,
       words,
       record {
-        arc = c.run_args.ensures.arc;
+        script = c.run_args.ensures.script;
         usage = c.run_args.ensures.usage;
       },
     )

@@ -8,7 +8,8 @@ pub returns-clause-ok : goal.returns-clause-ok
 returns-clause-ok g c =
     let state = c.run-result.new.self.table in
     on_ok_then c.run-result.result c.run-result.ensures.ok
-    (exchange_as (IsThrough state) (ThenEnds IsThrough c.end.result.of_blocks.items) _ _ _ _
+    (exchange_as (IsThrough g.L.NamedLayout.named state)
+    (ThenEnds g.L.NamedLayout.named (IsThrough g.L.NamedLayout.named) c.end.result.of_blocks.items) _ _ _ _
     (λ input text ran. (state, ran, c.end.ensures.passes)))
 
 pub returns-clause-begun : goal.returns-clause-begun
@@ -16,5 +17,6 @@ returns-clause-begun g c =
     let state = c.run-result.new.self.table in
     let passes = c.end.result.of_blocks.items in
     if_err_then c.run-result.result c.run-result.ensures.begun (λ fault.
-    exchange_as (IsBrokenOff fault state) (ThenEnds (IsBrokenOff fault) passes) _ _ _ _
+    exchange_as (IsBrokenOff g.L.NamedLayout.named fault state)
+    (ThenEnds g.L.NamedLayout.named (IsBrokenOff g.L.NamedLayout.named fault) passes) _ _ _ _
     (λ input text ran. (state, ran, c.end.ensures.passes)))

@@ -5,7 +5,7 @@ use Rattle.arc_owners.specs.count.Calls.{EndsByItself}
 use Rattle.arc_block.proofs.block.Block.let_go.Goals as goal
 
 pub returns-clause-ended : goal.returns-clause-ended
-returns-clause-ended g c many = let found = c.let_go-native in (
+returns-clause-ended g c many = let found = c.let_go-content in (
   is_some found.result.0,
   subst (λ b. EndsByItself b.owner found.result.1 (is_some found.result.0)) c.self.view_is
       (found.ensures.ended many),

@@ -1,6 +1,5 @@
 -- The parts are all of the new block.
-use Rattle.std.proofs.Common.{sym, ap, ◌∙◌, subst}
-use Rattle.arc_block.specs.Block.{BlockView}
+use Rattle.std.proofs.Common.{sym, subst}
 use Rattle.arc_block.specs.declared.parts.storage.Storage.TheVariants.{Block}
 use Rattle.arc_block.specs.Window.{parts_of, window_of, window_seen}
 use Rattle.arc_block.specs.Steps.{Makes}
@@ -12,5 +11,5 @@ returns-clause-made g c =
     let made = c.requires.made in
     let static = g.L.Layout.STATIC in let drops = g.S.Slice.DROPS in let whole = g.H.Mark.whole in
     subst (λ n. Makes static drops whole c.args.block.items (window_of (parts_of (window_seen (Block c.args.block) 0 n))))
-    (sym (c.size-end.ensures ∙ ap (λ (b : BlockView g.row.S-Item.Denot g.row.M.Denot). b.facts.size) made.0))
+    (sym c.requires.all)
     (made_on_block static drops whole c.args.block.items c.args.block made.0 made.1 c.requires.stands)

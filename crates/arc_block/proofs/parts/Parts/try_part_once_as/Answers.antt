@@ -2,6 +2,9 @@
 use Rattle.std.proofs.Common.{Fits, ◌≡◌, sym, ap, ◌∙◌, subst, rules, IfOk}
 use mir.Syntax.{w64}
 use Rattle.arc_owners.specs.count.Calls.{MakesAnother}
+use Rattle.arc_block.specs.Block.{raw}
+use Rattle.arc_block.specs.LayoutFacts.{layout_facts}
+use Rattle.arc_block.proofs.Raws.{raw_items, raw_refuses}
 use Rattle.arc_block.proofs.Windows.{part_items, part_shares, part_within}
 use Rattle.arc_block.proofs.Windows.{slice_items, slice_shares, slice_within, places_fit}
 use Rattle.arc_block.proofs.Windows.{none_there, none_on_nothing}
@@ -51,29 +54,17 @@ invariant_of-result-in-Static g c =
     slice_within _ _ _ c.args.self.now _ c.self.view_is c.in-Static.is c.self.invariant
     c.args.start c.args.end c.requires.range.0 c.requires.range.1 _ c.again.ensures
 
-pub overflow_add-result-in-Ok : goal.overflow_add-result-in-Ok
-overflow_add-result-in-Ok g c =
+pub overflow_add-to : goal.overflow_add-to
+overflow_add-to g c =
     let last : Fits w64 c.self.inside.end = search rules in
     (places_fit _ _ _ c.args.self.now c.self.view_is c.self.invariant last
     c.args.start c.args.end c.requires.range.0 c.requires.range.1).1
 
-pub overflow_add-result : goal.overflow_add-result
-overflow_add-result g c =
+pub overflow_add-from : goal.overflow_add-from
+overflow_add-from g c =
     let last : Fits w64 c.self.inside.end = search rules in
     (places_fit _ _ _ c.args.self.now c.self.view_is c.self.invariant last
     c.args.start c.args.end c.requires.range.0 c.requires.range.1).0
-
-pub overflow_add-result-in-Static : goal.overflow_add-result-in-Static
-overflow_add-result-in-Static g c =
-    let last : Fits w64 c.self.inside.end = search rules in
-    (places_fit _ _ _ c.args.self.now c.self.view_is c.self.invariant last
-    c.args.start c.args.end c.requires.range.0 c.requires.range.1).0
-
-pub overflow_add-result-in-Static-2 : goal.overflow_add-result-in-Static-2
-overflow_add-result-in-Static-2 g c =
-    let last : Fits w64 c.self.inside.end = search rules in
-    (places_fit _ _ _ c.args.self.now c.self.view_is c.self.invariant last
-    c.args.start c.args.end c.requires.range.0 c.requires.range.1).1
 
 pub returns-then-stands_on_nothing-clause-items : goal.returns-then-stands_on_nothing-clause-items
 returns-then-stands_on_nothing-clause-items g c =
@@ -86,3 +77,15 @@ returns-in-Nothing-clause-items g c =
     ap (λ p. p.items) c.on_nothing-in-Nothing.ensures
     ∙ none_on_nothing _ _ _ c.args.self.now _ c.self.view_is c.in-Nothing.is
     c.args.start c.args.end c.requires.range.0 c.requires.range.1
+
+pub returns-in-Ok-try_clone-clause-items : goal.returns-in-Ok-try_clone-clause-items
+returns-in-Ok-try_clone-clause-items g c =
+    raw_items _ _ _ c.args.self.now _ c.self.view_is c.in-Raw.is c.self.invariant
+    c.args.start c.args.end c.requires.range.0 c.requires.range.1 _ c.in-Ok-try_clone.ensures
+
+pub returns-in-Err-try_clone-clause-refused : goal.returns-in-Err-try_clone-clause-refused
+returns-in-Err-try_clone-clause-refused g c =
+    raw_refuses _ _ _ c.args.self.now _ c.self.view_is c.in-Raw.is c.self.invariant
+    c.args.start c.args.end c.requires.range.0 c.requires.range.1 g.L.Layout.STATIC
+    (sym c.if-stands_on_nothing.ensures) (layout_facts g.L.Layout) c.requires.held
+    g.L.Layout.clone_wants (g.L.Layout.wants raw) c.args.pass.now

@@ -1,7 +1,7 @@
 use Rattle.std.proofs.Common.{[]}
 use denote.RattleType.{RattleType}
 use denote.Param.Send.{IsSend, IsSync}
-use Rattle.arc_block.proofs.StaticSlices.{lent_keyless}
+use Rattle.arc_owners.proofs.LentSlices.{lent_keyless}
 use Rattle.arc_block.specs.contracts.static_slice.StaticShare.{the_row}
 
 pub send : (T : RattleType) → IsSync T → IsSend (the_row T)

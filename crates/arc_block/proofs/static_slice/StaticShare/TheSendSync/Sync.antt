@@ -3,7 +3,7 @@ use denote.RattleType.{RattleType}
 use denote.Param.Send.{IsSync, sendable}
 use denote.Struct.Struct.{Struct}
 use denote.Struct.Owning.{shape, to}
-use Rattle.arc_block.proofs.StaticSlices.{lent_keyless}
+use Rattle.arc_owners.proofs.LentSlices.{lent_keyless}
 use Rattle.arc_block.specs.contracts.static_slice.StaticShare.{the_row, the_type}
 
 pub sync : (T : RattleType) → IsSync T → IsSync (the_row T)

@@ -27,7 +27,7 @@ use denote.Struct.Struct.{Struct}
 use denote.Triple.Walked.{Stays, stay_dropped, walk_of, Goes-dropped}
 use Rattle.std.specs.contracts.marker.PhantomData as marker
 use Rattle.std.proofs.raw_atomic.Walks.{proved, leaves}
-use Rattle.arc_block.specs.StaticSlices.{slice_lent}
+use Rattle.arc_owners.specs.memory.LentSlices.{slice_lent}
 use Rattle.arc_block.proofs.StaticSlices.{token, share_made}
 use Rattle.arc_block.specs.contracts.static_slice.StaticShare as StaticShare
 use Rattle.arc_block.specs.contracts.static_slice.StaticShare.again as f

@@ -23,7 +23,7 @@ use denote.Steps.{nothing, heard}
 use denote.Param.{param, layouts}
 use denote.Triple.Walked.{Stays, stay_dropped, walk_of, Goes-dropped}
 use Rattle.std.proofs.raw_atomic.Walks.{proved, leaves}
-use Rattle.arc_block.specs.StaticSlices.{slice_lent}
+use Rattle.arc_owners.specs.memory.LentSlices.{slice_lent}
 use Rattle.arc_block.proofs.StaticSlices.{token, share_made, none_lent}
 use Rattle.arc_block.specs.contracts.static_slice.StaticShare as StaticShare
 use Rattle.arc_block.specs.contracts.static_slice.StaticShare.of_none as f

@@ -33,8 +33,9 @@ use denote.Triple.Walked.{Stays, stay_dropped, walk_of, Goes-dropped}
 use Rattle.std.specs.contracts.marker.PhantomData as marker
 use Rattle.std.proofs.VecSteps.Shapes.{after}
 use Rattle.std.proofs.raw_atomic.Walks.{proved, leaves}
-use Rattle.arc_block.specs.StaticSlices.{slice_lent}
-use Rattle.arc_block.proofs.StaticSlices.{start_of, kept_for, prefix_seen}
+use Rattle.arc_owners.specs.memory.LentSlices.{slice_lent}
+use Rattle.arc_owners.proofs.LentSlices.{start_of, prefix_seen}
+use Rattle.arc_block.proofs.StaticSlices.{kept_for}
 use Rattle.arc_block.specs.contracts.static_slice.StaticShare as StaticShare
 use Rattle.arc_block.specs.contracts.static_slice.StaticShare.prefix as f
 use Rattle.arc_block.proofs.static_slice.StaticShare.prefix.Statement.{statement}

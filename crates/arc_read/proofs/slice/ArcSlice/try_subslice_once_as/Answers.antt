@@ -1,6 +1,7 @@
 -- The part is held by the layout, and its list is legal.
 use Rattle.std.proofs.Common.{◌≡◌, sym, subst, IfOk}
 use Rattle.arc_buffer.specs.Slice.{sub, IsRange}
+use Rattle.arc_block.specs.LayoutFacts.{layout_facts}
 use Rattle.arc_block.specs.Place.{part_place}
 use Rattle.arc_block.specs.Window.{Window}
 use Rattle.arc_block.specs.Steps.{Shares}
@@ -23,5 +24,5 @@ from_parts-requires-clause-held g c =
     let static = g.L.Layout.STATIC in
     let place = part_place static (sub p.items c.args.start c.args.end) c.args.start p.place in
     let shares = subst (λ r. IfOk r (λ part. Shares place c.args.pass.now c.try_part_once_as.new.pass part.place)) c.in-Ok.is c.in_ok-parts.ensures.place in
-    shared_held static g.L.Layout.ANY place c.in-Ok.parts.place c.args.pass.now c.try_part_once_as.new.pass shares
-    (part_held static g.L.Layout.ANY (sub p.items c.args.start c.args.end) c.args.start p.place c.self.invariant.1)
+    shared_held (layout_facts g.L.Layout) place c.in-Ok.parts.place c.args.pass.now c.try_part_once_as.new.pass shares
+    (part_held (layout_facts g.L.Layout) (sub p.items c.args.start c.args.end) c.args.start p.place c.self.invariant.1)

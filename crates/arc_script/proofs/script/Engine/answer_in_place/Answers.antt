@@ -8,11 +8,11 @@ use Rattle.arc_script.proofs.script.Engine.answer_in_place.Goals as goal
 pub returns-clause-ok : goal.returns-clause-ok
 returns-clause-ok g c =
     on_ok_then c.answer.result c.answer.ensures.ok
-    (line_ends c.args.line.now false _ _ c.in_ok-said.said _ _
+    (line_ends _ c.args.line.now false _ _ c.in_ok-said.said _ _
     (λ line holds. subst (λ xs. IsReadAs xs c.in_ok-said.said) holds c.in_ok-said.ensures.ok))
 
 pub returns-clause-broken : goal.returns-clause-broken
 returns-clause-broken g c =
     on_err_then c.answer.result c.answer.ensures.broken
-    (line_may_end c.args.line.now false _ _ c.in_ok-said.said
+    (line_may_end _ c.args.line.now false _ _ c.in_ok-said.said
     (λ line holds. subst (λ xs. IsReadAs xs c.in_ok-said.said) holds c.in_ok-said.ensures.ok))

@@ -20,7 +20,7 @@ returns-in_err-end_line-clause-err g c =
     ] in
     let end = c.in_err-end_line.ensures in
     on_err c.from_residual.result (λ start input writer read.
-    subst (λ o. IsBegun Alloc start input writer o c.end_line.new.self.table) (sym end.err)
+    subst (λ o. IsBegun g.L.NamedLayout.named Alloc start input writer o c.end_line.new.self.table) (sym end.err)
     (last_broken read some c.end_line.new.self.table end.broken))
 
 pub returns-clause-ok : goal.returns-clause-ok

@@ -12,7 +12,7 @@ invariant-lines g l =
     record {
       front :
           (front : List ℕ) × (l.piece ≡ front ++ l.rest)
-          × Reads front (told l.fn.writer) (told l.writer) l.fn.self l.self;
+          × Reads g.L.NamedLayout.named front (told l.fn.writer) (told l.writer) l.fn.self l.self;
       few : length l.fn.self.out.items < PIECE → length l.self.out.items < PIECE;
       clean : NoFault (told l.fn.writer) (told l.writer);
       taken : Takes (told l.fn.writer) (told l.writer) (held l.fn.writer) (held l.writer);

@@ -1,3 +1,4 @@
+use Rattle.arc_block.specs.LayoutFacts.{layout_facts}
 use Rattle.std.specs.Mem.{type_size}
 use Rattle.arc_commands.specs.Step.{Setting, setting_of}
 use Rattle.std.proofs.Common.{refl, sym, subst, Some, None}
@@ -10,8 +11,8 @@ use Rattle.arc_slots.proofs.slot.Slot.count.Goals as goal
 
 abbrev setting : (g : Over) → Setting g.row.S-Item.Denot
 setting g =
-    setting_of g.L.Layout.STATIC g.L.Layout.clone_wants g.S.Slice.DROPS g.S.Subsliceable.boundary
-    (type_size g.row.S-Item) g.S.Zero.ZeroOf.zero
+    setting_of (layout_facts g.L.Layout) g.L.Writable.Layout.ANY g.L.Layout.clone_wants g.S.Slice.DROPS g.S.Subsliceable.boundary
+    (type_size g.row.S-Item) g.S.Zero.ZeroOf.zero g.S.Calls.CallsOf.calls
 
 pub returns : goal.returns
 returns g c next i =

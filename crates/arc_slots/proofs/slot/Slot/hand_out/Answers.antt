@@ -1,6 +1,7 @@
+use Rattle.arc_block.specs.LayoutFacts.{layout_facts}
 use Rattle.std.specs.Mem.{type_size}
 use Rattle.arc_commands.specs.Step.{Setting, setting_of}
-use Rattle.std.proofs.Common.{Ok, Err, Some, None, inl, inr, sym, subst, ◌∙◌}
+use Rattle.std.proofs.Common.{Some, None, inl, inr, sym, subst, ◌∙◌}
 use Rattle.std.proofs.lemmas.Bool.{cases_Bool}
 use Rattle.arc_slots.specs.Answers.{Answers}
 use Rattle.arc_slots.specs.Parts.{is_itself, part_command}
@@ -12,8 +13,8 @@ use Rattle.arc_slots.proofs.slot.Slot.hand_out.Goals as goal
 
 abbrev setting : (g : Over) → Setting g.row.S-Item.Denot
 setting g =
-    setting_of g.L.Layout.STATIC g.L.Layout.clone_wants g.S.Slice.DROPS g.S.Subsliceable.boundary
-    (type_size g.row.S-Item) g.S.Zero.ZeroOf.zero
+    setting_of (layout_facts g.L.Layout) g.L.Writable.Layout.ANY g.L.Layout.clone_wants g.S.Slice.DROPS g.S.Subsliceable.boundary
+    (type_size g.row.S-Item) g.S.Zero.ZeroOf.zero g.S.Calls.CallsOf.calls
 
 pub returns-in-Ok-clause-answer : goal.returns-in-Ok-clause-answer
 returns-in-Ok-clause-answer g c i =

@@ -1,10 +1,13 @@
 -- The window stands where it stood, or is what is made of its items, on a block more or on none.
-use Rattle.std.proofs.Common.{Some, ◌<◌, length, sym, ◌∙◌, subst}
+use Rattle.arc_block.specs.LayoutFacts.{layout_facts}
+use Rattle.std.proofs.Common.{Some, ◌<◌, length, sym, ap, ◌∙◌, subst}
 use Rattle.std.specs.Vec.{vec_capacity}
-use Rattle.arc_slots.specs.Slots.{stand_of}
+use Rattle.arc_slots.specs.Slots.{held, stand_of}
 use Rattle.arc_slots.specs.Stands.{HasPassFor}
 use Rattle.arc_slots.proofs.Filled.{slot-frozen, room-to-read, writes-view, writes-fits}
+use Rattle.arc_slots.specs.declared.slot.Held.TheVariants.{Write}
 use Rattle.arc_slots.proofs.Slots.{still-number}
+use Rattle.arc_slots.proofs.Taken.{back-same}
 use Rattle.arc_slots.proofs.slot.Slot.try_freeze.Goals as goal
 
 pub keep-block-requires-clause-number : goal.keep-block-requires-clause-number
@@ -22,29 +25,45 @@ keep-block-requires-clause-number g c =
 pub keep-block-requires-clause-room : goal.keep-block-requires-clause-room
 keep-block-requires-clause-room g c begins =
     room-to-read c.self.inside.window c.in-Write.window c.self.inside.block c.in-Write.is c.args.self
-    c.self.view_is c.self.invariant.0 g.L.Layout.STATIC c.args.passes.now.of_blocks.items
+    c.self.view_is c.self.invariant.0 (layout_facts g.L.Layout)
+    c.known_place.ensures c.args.passes.now.of_blocks.items
     c.lend-pass.new.self.of_blocks.items c.lend-pass.result
-    (vec_capacity c.lend-pass.new.self.of_blocks) c.lend-pass.ensures.taken (λ off some.
+    (vec_capacity c.lend-pass.new.self.of_blocks) c.lend-pass.ensures.taken (λ new.
     subst (λ n. length c.args.passes.now.of_blocks.items < n) (sym c.lend-pass.ensures.room)
-    (c.requires.room off some))
+    (c.requires.room new))
     (sym c.wants_block_to_read-begins.ensures ∙ begins)
 
-pub returns-in-Ok-clause-stays : goal.returns-in-Ok-clause-stays
-returns-in-Ok-clause-stays g c =
-    (slot-frozen c.self.inside.window c.in-Write.window c.self.inside.block c.in-Write.is c.args.self
-    c.self.view_is c.self.invariant.0 g.L.Layout.STATIC g.S.Slice.DROPS
+pub returns-in-Ok-clause-frozen : goal.returns-in-Ok-clause-frozen
+returns-in-Ok-clause-frozen g c =
+    slot-frozen c.self.inside.window c.in-Write.window c.self.inside.block c.in-Write.is c.args.self
+    c.self.view_is c.self.invariant.0 (layout_facts g.L.Layout)
+    c.known_place.ensures g.S.Slice.DROPS
     c.args.passes.now.of_blocks.items c.lend-pass.new.self.of_blocks.items c.lend-pass.result
     c.try_freeze_as.new.pass c.in-Ok.window c.keep-block.result
     c.keep-block.new.self.of_blocks.items c.wants_block_to_read-begins.result c.lend-pass.ensures.taken
     c.in-Ok.ensures.frozen c.wants_block_to_read-begins.ensures c.keep-block.ensures.same
-    c.keep-block.ensures.new).0
+    c.keep-block.ensures.new
 
-pub returns-in-Ok-clause-made : goal.returns-in-Ok-clause-made
-returns-in-Ok-clause-made g c =
-    (slot-frozen c.self.inside.window c.in-Write.window c.self.inside.block c.in-Write.is c.args.self
-    c.self.view_is c.self.invariant.0 g.L.Layout.STATIC g.S.Slice.DROPS
-    c.args.passes.now.of_blocks.items c.lend-pass.new.self.of_blocks.items c.lend-pass.result
-    c.try_freeze_as.new.pass c.in-Ok.window c.keep-block.result
-    c.keep-block.new.self.of_blocks.items c.wants_block_to_read-begins.result c.lend-pass.ensures.taken
-    c.in-Ok.ensures.frozen c.wants_block_to_read-begins.ensures c.keep-block.ensures.same
-    c.keep-block.ensures.new).1
+pub give_back-requires : goal.give_back-requires
+give_back-requires g c =
+    let b = c.self.inside.block in
+    let w = c.in-Write.window in
+    let h = c.self.inside.window in
+    let passes = c.args.passes.now.of_blocks.items in
+    still-number passes c.lend-pass.new.self.of_blocks.items c.lend-pass.result b w.place
+    (writes-fits h w b c.in-Write.is c.self.invariant.0)
+    (subst (λ s. HasPassFor passes (stand_of (Some s)))
+    (sym (sym (writes-view h w b c.in-Write.is) ∙ c.self.view_is)) c.requires.pass)
+    c.lend-pass.ensures.taken
+
+pub returns-in-Err-clause-back : goal.returns-in-Err-clause-back
+returns-in-Err-clause-back g c =
+    let b = c.self.inside.block in
+    let w = c.in-Write.window in (
+      ap (λ u. held (Write u) b) c.in-Err.ensures.refused.0
+          ∙ sym (writes-view c.self.inside.window w b c.in-Write.is) ∙ c.self.view_is,
+      c.give_back.ensures
+          ∙ back-same c.args.passes.now.of_blocks.items c.lend-pass.new.self.of_blocks.items
+          c.lend-pass.result b c.lend-pass.ensures.taken c.try_freeze_as.new.pass
+          c.in-Err.ensures.refused.2,
+    )

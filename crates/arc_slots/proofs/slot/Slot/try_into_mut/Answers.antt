@@ -1,12 +1,13 @@
 -- What asking adds to the pass that was lent for it, it adds to the passes.
-use Rattle.std.proofs.Common.{◌≡◌, Some, true, length, sym, ap, subst, ◌∙◌}
-use Rattle.arc_owners.specs.count.Calls.{Asks}
+use Rattle.std.proofs.Common.{◌≡◌, Some, true, false, is_some, length, sym, ap, subst, ◌∙◌}
 use Rattle.arc_block.specs.Window.{PartsView}
 use Rattle.arc_block.specs.Writers.{as_sole}
-use Rattle.arc_slots.specs.Calls.{Along}
+use Rattle.arc_commands.specs.Step.{is_on_block, is_writable_at, may_write_at}
+use Rattle.arc_slots.specs.Calls.{MayAsk}
 use Rattle.arc_slots.specs.Slots.{SlotView, row_of, stand_of, writer_slot}
-use Rattle.arc_slots.specs.Stands.{HasPassFor, stand_at}
-use Rattle.arc_slots.proofs.Slots.{along, still-number, reads-view, reads-fits, sole-numbered}
+use Rattle.arc_slots.specs.Stands.{HasPassFor, numbered, stand_at}
+use Rattle.arc_slots.proofs.Native.{becomes, refuses-sole}
+use Rattle.arc_slots.proofs.Slots.{still-number, reads-view, reads-fits, sole-numbered}
 use Rattle.arc_slots.proofs.slot.Slot.try_into_mut.Goals as goal
 
 pub give_back-requires : goal.give_back-requires
@@ -32,18 +33,94 @@ returns-in-Ok-clause-alone g c =
     let fits =
     reads-fits c.self.inside.window w b c.in-Read.is c.self.invariant.0 in
     let passes = c.args.passes.now.of_blocks.items in
-    let p = c.lend-pass.result in
-    let new = c.try_into_mut_as-asked.new.pass in
     let has =
     subst (λ s. HasPassFor passes (stand_of (Some s))) (sym view) c.requires.pass in
-    let at =
-    along passes c.lend-pass.new.self.of_blocks.items p new
-    ((length w.items ≡ 0) × (new ≡ p)) (λ o q r. Asks o q r true) b w.place fits has
-    c.lend-pass.ensures.taken (λ n. n.1) c.in-Ok.ensures.sole.1 in
-    subst (λ s. Along (stand_of (Some s)) passes c.give_back.new.self.of_blocks.items (λ o q r.
-    Asks o q r true)) view
-    (subst (λ ps. Along (stand_at b w.place) passes ps (λ o q r. Asks o q r true))
-    (sym c.give_back.ensures) at)
+    let all =
+    becomes passes c.lend-pass.new.self.of_blocks.items c.lend-pass.result
+    c.try_into_mut_as-asked.new.pass g.L.Writable.Layout.ANY b w.place fits has
+    c.lend-pass.ensures.taken (length w.items) c.in-Ok.ensures.sole.1 in
+    subst (λ (s : SlotView g.row.S-Item.Denot g.row.M.Denot).
+    MayAsk (is_writable_at g.L.Writable.Layout.ANY (row_of s).place) (stand_of (Some s)) passes
+    c.give_back.new.self.of_blocks.items true) view
+    (subst (λ ps. MayAsk (is_writable_at g.L.Writable.Layout.ANY (numbered b w.place))
+    (stand_at b w.place) passes ps true) (sym c.give_back.ensures) all.0)
+
+pub returns-in-Ok-clause-may : goal.returns-in-Ok-clause-may
+returns-in-Ok-clause-may g c =
+    let b = c.self.inside.block in
+    let w = c.in-Read.window in
+    let view =
+    sym (reads-view c.self.inside.window w b c.in-Read.is) ∙ c.self.view_is in
+    let fits =
+    reads-fits c.self.inside.window w b c.in-Read.is c.self.invariant.0 in
+    let passes = c.args.passes.now.of_blocks.items in
+    let has =
+    subst (λ s. HasPassFor passes (stand_of (Some s))) (sym view) c.requires.pass in
+    let all =
+    becomes passes c.lend-pass.new.self.of_blocks.items c.lend-pass.result
+    c.try_into_mut_as-asked.new.pass g.L.Writable.Layout.ANY b w.place fits has
+    c.lend-pass.ensures.taken (length w.items) c.in-Ok.ensures.sole.1 in
+    subst (λ (s : SlotView g.row.S-Item.Denot g.row.M.Denot).
+    may_write_at g.L.Writable.Layout.ANY true (row_of s).place (length s.window.items) ≡ true) view
+    all.1
+
+pub returns-in-Ok-clause-owner : goal.returns-in-Ok-clause-owner
+returns-in-Ok-clause-owner g c =
+    let b = c.self.inside.block in
+    let w = c.in-Read.window in
+    let view =
+    sym (reads-view c.self.inside.window w b c.in-Read.is) ∙ c.self.view_is in
+    let fits =
+    reads-fits c.self.inside.window w b c.in-Read.is c.self.invariant.0 in
+    let passes = c.args.passes.now.of_blocks.items in
+    let has =
+    subst (λ s. HasPassFor passes (stand_of (Some s))) (sym view) c.requires.pass in
+    let all =
+    becomes passes c.lend-pass.new.self.of_blocks.items c.lend-pass.result
+    c.try_into_mut_as-asked.new.pass g.L.Writable.Layout.ANY b w.place fits has
+    c.lend-pass.ensures.taken (length w.items) c.in-Ok.ensures.sole.1 in
+    subst (λ (s : SlotView g.row.S-Item.Denot g.row.M.Denot).
+    is_on_block (row_of s).place ≡ true → is_some (stand_of (Some s)) ≡ true) view all.2
+
+pub returns-in-Err-clause-beside : goal.returns-in-Err-clause-beside
+returns-in-Err-clause-beside g c =
+    let b = c.self.inside.block in
+    let w = c.in-Read.window in
+    let view =
+    sym (reads-view c.self.inside.window w b c.in-Read.is) ∙ c.self.view_is in
+    let fits =
+    reads-fits c.self.inside.window w b c.in-Read.is c.self.invariant.0 in
+    let passes = c.args.passes.now.of_blocks.items in
+    let has =
+    subst (λ s. HasPassFor passes (stand_of (Some s))) (sym view) c.requires.pass in
+    let all =
+    refuses-sole passes c.lend-pass.new.self.of_blocks.items c.lend-pass.result
+    c.try_into_mut_as-asked.new.pass g.L.Writable.Layout.ANY b w.place fits has
+    c.lend-pass.ensures.taken (length w.items) c.in-Err.ensures.refused.1 in
+    subst (λ (s : SlotView g.row.S-Item.Denot g.row.M.Denot).
+    MayAsk (is_writable_at g.L.Writable.Layout.ANY (row_of s).place) (stand_of (Some s)) passes
+    c.give_back.new.self.of_blocks.items false) view
+    (subst (λ ps. MayAsk (is_writable_at g.L.Writable.Layout.ANY (numbered b w.place))
+    (stand_at b w.place) passes ps false) (sym c.give_back.ensures) all.0)
+
+pub returns-in-Err-clause-may_not : goal.returns-in-Err-clause-may_not
+returns-in-Err-clause-may_not g c =
+    let b = c.self.inside.block in
+    let w = c.in-Read.window in
+    let view =
+    sym (reads-view c.self.inside.window w b c.in-Read.is) ∙ c.self.view_is in
+    let fits =
+    reads-fits c.self.inside.window w b c.in-Read.is c.self.invariant.0 in
+    let passes = c.args.passes.now.of_blocks.items in
+    let has =
+    subst (λ s. HasPassFor passes (stand_of (Some s))) (sym view) c.requires.pass in
+    let all =
+    refuses-sole passes c.lend-pass.new.self.of_blocks.items c.lend-pass.result
+    c.try_into_mut_as-asked.new.pass g.L.Writable.Layout.ANY b w.place fits has
+    c.lend-pass.ensures.taken (length w.items) c.in-Err.ensures.refused.1 in
+    subst (λ (s : SlotView g.row.S-Item.Denot g.row.M.Denot).
+    may_write_at g.L.Writable.Layout.ANY false (row_of s).place (length s.window.items) ≡ false) view
+    all.1
 
 pub returns-in-Ok-clause-row : goal.returns-in-Ok-clause-row
 returns-in-Ok-clause-row g c =

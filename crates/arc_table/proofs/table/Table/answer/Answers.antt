@@ -1,13 +1,100 @@
--- The command is on the window that it names.
-use Rattle.std.proofs.Common.{◌∙◌, sym}
-use Rattle.std.specs.Vec.{vec_items}
+-- The command is on the window that it names, or what it made is put behind the others.
+use Rattle.arc_block.specs.LayoutFacts.{layout_facts}
+use Rattle.std.specs.Mem.{type_size}
+use Rattle.arc_commands.specs.State.{State}
+use Rattle.arc_commands.specs.Step.{Setting, setting_of, window_of}
 use Rattle.arc_commands.proofs.Windows.{window-seen}
+use Rattle.arc_slots.specs.Slots.{state_of}
+use Rattle.arc_table.proofs.Done.{Done}
+use Rattle.std.proofs.Common.{◌≡◌, None, length, sym, ap, ◌∙◌, subst}
+use Rattle.arc_commands.specs.Seen.{map_command, seen_reply}
+use Rattle.arc_slots.specs.Makers.{Makes}
+use Rattle.arc_slots.proofs.Index.{many-windows, same-indexed, same-parts}
+use Rattle.arc_slots.specs.Index.{windows_of}
+use Rattle.arc_slots.specs.Slots.{with_slot}
+use Rattle.arc_table.proofs.Stepped.{made-window}
+use Rattle.arc_table.proofs.table.Table.answer.Given.{Over}
+use Rattle.arc_table.proofs.table.Table.answer.Goals.{After-push_made}
 use Rattle.arc_table.proofs.table.Table.answer.Goals as goal
+
+abbrev setting : (g : Over) → Setting g.row.S-Item.Denot
+setting g =
+    setting_of (layout_facts g.L.Layout) g.L.Writable.Layout.ANY g.L.Layout.clone_wants g.S.Slice.DROPS g.S.Subsliceable.boundary
+    (type_size g.row.S-Item) g.S.Zero.ZeroOf.zero g.S.Calls.CallsOf.calls
+
+on_none : (g : Over) (c : After-push_made g)
+    → window_of (map_command g.S.Commands.items_in g.S.Commands.static_in g.B.Buffer.list c.args.command) ≡ None
+on_none g c =
+    window-seen g.S.Commands.items_in g.S.Commands.static_in g.B.Buffer.list c.args.command
+    ∙ sym c.window.ensures ∙ c.in_default.is
+
+did : (g : Over) (c : After-push_made g)
+    → Done (setting g) c.args.self.now
+    (map_command g.S.Commands.items_in g.S.Commands.static_in g.B.Buffer.list c.args.command)
+    (seen_reply g.S.Commands.items_in g.S.Commands.items_in_box
+    g.B.Buffer.list c.make-reply.result.0) (windows_of c.push_made.new.self.index.items
+    c.push_made.new.self.numbers.items c.push_made.new.self.places.items)
+    c.make-reply.new.passes.of_blocks.items
+did g c =
+    let s = c.self.inside.slots in
+    let slots = windows_of s.index.items s.numbers.items s.places.items in
+    let passes = c.self.inside.passes.of_blocks.items in
+    let mid = c.room_if-has_room.new.self in
+    let kept = c.room_if-has_room.ensures in
+    let same =
+    same-parts mid.index.items s.index.items mid.numbers.items s.numbers.items mid.places.items
+    s.places.items kept.index kept.numbers kept.places in
+    let after = c.make-reply.new.passes.of_blocks.items in
+    let command = map_command g.S.Commands.items_in g.S.Commands.static_in g.B.Buffer.list c.args.command in
+    let reply = seen_reply g.S.Commands.items_in g.S.Commands.items_in_box g.B.Buffer.list
+    c.make-reply.result.0 in
+    let next =
+    c.len-next.ensures ∙ mid.index.ok.0 ∙ ap length kept.index
+    ∙ sym (many-windows s.index.items s.numbers.items s.places.items) in
+    subst (λ (o : State g.row.S-Item.Denot g.row.M.Denot). Done (setting g) o command reply
+    (windows_of c.push_made.new.self.index.items c.push_made.new.self.numbers.items
+    c.push_made.new.self.places.items) after) c.self.view_is
+    (subst (λ ss. Done (setting g) (state_of slots passes) command reply ss after)
+    (ap (λ ss. with_slot ss c.make-reply.result.1) (sym same)
+    ∙ sym c.push_made.ensures.windows)
+    (made-window (setting g) slots passes c.self.invariant.0 command (on_none g c) reply
+    c.make-reply.result.1 after
+    (subst (λ n. Makes (setting g) n command passes reply c.make-reply.result.1 after) next
+    c.make-reply.ensures.made)))
+
+pub push_made-requires-clause-indexed : goal.push_made-requires-clause-indexed
+push_made-requires-clause-indexed g c =
+    let s = c.self.inside.slots in
+    let mid = c.room_if-has_room.new.self in
+    let kept = c.room_if-has_room.ensures in
+    same-indexed mid.index.items s.index.items mid.numbers.items s.numbers.items mid.places.items
+    s.places.items kept.index kept.numbers kept.places c.self.invariant.1
+
+pub push_made-requires-clause-room : goal.push_made-requires-clause-room
+push_made-requires-clause-room g c some =
+    c.room_if-has_room.ensures.room (c.make-reply.ensures.room some)
+
+pub push_made-requires-clause-more : goal.push_made-requires-clause-more
+push_made-requires-clause-more g c some =
+    c.room_if-has_room.ensures.more (c.make-reply.ensures.room some)
+
+pub push_made-requires-clause-further : goal.push_made-requires-clause-further
+push_made-requires-clause-further g c some =
+    c.room_if-has_room.ensures.further (c.make-reply.ensures.room some)
+
+pub invariant_of-self : goal.invariant_of-self
+invariant_of-self g c = (
+  (did g (goal.at.invariant_of-self g c).After-push_made).kept,
+  c.push_made.ensures.indexed,
+)
+
+pub returns-clause-rows : goal.returns-clause-rows
+returns-clause-rows g c = (did g (goal.at.returns-clause-rows g c).After-push_made).rows
+
+pub returns-clause-passes : goal.returns-clause-passes
+returns-clause-passes g c = (did g (goal.at.returns-clause-passes g c).After-push_made).passes_are
 
 pub on_window-requires-clause-on : goal.on_window-requires-clause-on
 on_window-requires-clause-on g c =
-    window-seen vec_items c.args.command ∙ sym c.window.ensures ∙ c.in-Some.is
-
-pub make-requires : goal.make-requires
-make-requires g c =
-    window-seen vec_items c.args.command ∙ sym c.window.ensures ∙ c.in-None.is
+    window-seen g.S.Commands.items_in g.S.Commands.static_in g.B.Buffer.list c.args.command
+    ∙ sym c.window.ensures ∙ c.in-Some.is

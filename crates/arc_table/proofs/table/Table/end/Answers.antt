@@ -3,6 +3,8 @@ use Rattle.std.proofs.Common.{◌≡◌, ℕ, None, ap, sym, subst}
 use Rattle.arc_block.specs.declared.block.TheConstants.{MAX_OWNERS}
 use Rattle.arc_block.specs.Table.{row_at}
 use Rattle.arc_commands.specs.State.{State}
+use Rattle.arc_slots.proofs.Index.{places-gone}
+use Rattle.arc_slots.specs.Index.{windows_of}
 use Rattle.arc_slots.proofs.Ended.{slots-gone, kept-gone-all}
 use Rattle.arc_table.proofs.table.Table.end.Goals as goal
 
@@ -12,7 +14,9 @@ end_slots-requires g c =
     subst (λ (o : State g.row.S-Item.Denot g.row.M.Denot). (i : ℕ) → row_at o.table i ≡ None)
     (sym c.self.view_is)
     c.release_all.ensures.passes.none_left in
-    slots-gone c.self.inside.slots.items none
+    places-gone c.self.inside.slots.index.items c.self.inside.slots.numbers.items
+    c.self.inside.slots.places.items c.self.invariant.1 (slots-gone (windows_of c.self.inside.slots.index.items c.self.inside.slots.numbers.items
+    c.self.inside.slots.places.items) none)
 
 pub returns-clause-ended : goal.returns-clause-ended
 returns-clause-ended g c =
@@ -20,8 +24,10 @@ returns-clause-ended g c =
     subst (λ (o : State g.row.S-Item.Denot g.row.M.Denot). (i : ℕ) → row_at o.table i ≡ None)
     (sym c.self.view_is)
     c.release_all.ensures.passes.none_left in
-    kept-gone-all MAX_OWNERS c.self.inside.slots.items c.self.inside.passes.of_blocks.items
-    c.self.invariant.0 (slots-gone c.self.inside.slots.items none)
+    kept-gone-all MAX_OWNERS (windows_of c.self.inside.slots.index.items c.self.inside.slots.numbers.items
+    c.self.inside.slots.places.items) c.self.inside.passes.of_blocks.items
+    c.self.invariant.0.0 (slots-gone (windows_of c.self.inside.slots.index.items c.self.inside.slots.numbers.items
+    c.self.inside.slots.places.items) none)
 
 pub returns-clause-passes : goal.returns-clause-passes
 returns-clause-passes g c = (

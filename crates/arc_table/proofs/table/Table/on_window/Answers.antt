@@ -1,115 +1,190 @@
 -- The window under the number is answered, and what it made is put behind the others.
+use Rattle.arc_block.specs.LayoutFacts.{layout_facts}
 use Rattle.std.specs.Mem.{type_size}
 use Rattle.arc_commands.specs.State.{State}
 use Rattle.arc_commands.specs.Step.{Setting, setting_of}
+use Rattle.arc_slots.specs.Index.{IsIndexed, windows_of}
 use Rattle.arc_slots.specs.Slots.{state_of}
 use Rattle.arc_table.proofs.Done.{Done}
 use Rattle.std.proofs.Common.{◌≡◌, ◌<◌, Some, None, length, slice_get, slice_set, sym, ap, ◌∙◌, subst}
-use Rattle.std.proofs.Common.{arith}
+use Rattle.std.proofs.Common.{arith, refl}
 use Rattle.std.specs.Prelude.{IfSome}
+use Rattle.std.specs.Option.{option_flatten}
 use Rattle.std.proofs.lemmas.List.{length-set}
-use Rattle.arc_commands.specs.Seen.{seen_command, seen_reply}
+use Rattle.arc_commands.specs.Seen.{map_command, seen_reply}
 use Rattle.arc_commands.specs.declared.command.Reply.TheVariants as reply
 use Rattle.arc_slots.specs.Answers.{Answers}
 use Rattle.arc_slots.specs.Slots.{with_slot}
-use Rattle.arc_table.proofs.Stepped.{at-place, carried, known, past-end, unanswered}
+use Rattle.arc_slots.proofs.Index.{many-windows, same-indexed, same-parts, set-indexed, set-window}
+use Rattle.arc_slots.proofs.Index.{window-there}
+use Rattle.arc_table.proofs.Stepped.{at-place, carried, known, unanswered}
 use Rattle.arc_table.proofs.table.Table.on_window.Given.{Over}
-use Rattle.arc_table.proofs.table.Table.on_window.Goals.{After-push_made, Then-i-next}
+use Rattle.arc_table.proofs.table.Table.on_window.Goals.{After-settle, In_default}
 use Rattle.arc_table.proofs.table.Table.on_window.Goals as goal
 
 abbrev setting : (g : Over) → Setting g.row.S-Item.Denot
 setting g =
-    setting_of g.L.Layout.STATIC g.L.Layout.clone_wants g.S.Slice.DROPS g.S.Subsliceable.boundary
-    (type_size g.row.S-Item) g.S.Zero.ZeroOf.zero
+    setting_of (layout_facts g.L.Layout) g.L.Writable.Layout.ANY g.L.Layout.clone_wants g.S.Slice.DROPS g.S.Subsliceable.boundary
+    (type_size g.row.S-Item) g.S.Zero.ZeroOf.zero g.S.Calls.CallsOf.calls
 
-did : (g : Over) (c : After-push_made g)
-    → Done (setting g) c.args.self.now (seen_command c.args.command)
-    (seen_reply c.answer-reply.result.0) c.push_made.new.slots.items
+pub place_of-requires : goal.place_of-requires
+place_of-requires g c =
+    let s = c.self.inside.slots in
+    let mid = c.room_if-has_room.new.self in
+    let kept = c.room_if-has_room.ensures in
+    same-indexed mid.index.items s.index.items mid.numbers.items s.numbers.items mid.places.items
+    s.places.items kept.index kept.numbers kept.places c.self.invariant.1
+
+did : (g : Over) (c : After-settle g)
+    → Done (setting g) c.args.self.now
+    (map_command g.S.Commands.items_in g.S.Commands.static_in g.B.Buffer.list c.args.command)
+    (seen_reply g.S.Commands.items_in g.S.Commands.items_in_box
+    g.B.Buffer.list c.answer-reply.result.0) (windows_of c.settle.new.self.index.items
+    c.settle.new.self.numbers.items c.settle.new.self.places.items)
     c.answer-reply.new.passes.of_blocks.items
 did g c =
-    let mid = c.room_if-has_room.new.slots.items in
-    let stood : slice_get c.self.inside.slots.items c.args.i ≡ Some c.index_mut-place.result.now =
-    ap (λ ss. slice_get ss c.args.i) (sym c.room_if-has_room.ensures.slots)
-    ∙ at-place mid c.args.i c.index_mut-place.result.now
-    (omega (arith, c.if-i-next.false, c.len-next.ensures, c.room_if-has_room.new.slots.ok.0))
-    c.index_mut-place.ensures.value in
-    let slots = c.self.inside.slots.items in
+    let s = c.self.inside.slots in
+    let mid = c.room_if-has_room.new.self in
+    let kept = c.room_if-has_room.ensures in
+    let old = c.index_mut-slot.result.now in
+    let stands =
+    at-place mid.places.items c.in-Some.place old c.in-Some.ensures.within
+    c.index_mut-slot.ensures.value in
+    let same =
+    same-parts mid.index.items s.index.items mid.numbers.items s.numbers.items mid.places.items
+    s.places.items kept.index kept.numbers kept.places in
+    let stood =
+    ap (λ ws. slice_get ws c.args.i) (sym same)
+    ∙ window-there mid.index.items mid.numbers.items mid.places.items c.args.i c.in-Some.place
+    c.in-Some.ensures.told c.in-Some.ensures.whose old stands in
+    let slots = windows_of s.index.items s.numbers.items s.places.items in
     let passes = c.self.inside.passes.of_blocks.items in
-    let same = c.room_if-has_room.ensures.slots in
     let i = c.args.i in
     let after = c.answer-reply.new.passes.of_blocks.items in
-    let command = seen_command c.args.command in
-    let reply = seen_reply c.answer-reply.result.0 in
+    let command = map_command g.S.Commands.items_in g.S.Commands.static_in g.B.Buffer.list c.args.command in
+    let reply = seen_reply g.S.Commands.items_in g.S.Commands.items_in_box g.B.Buffer.list
+    c.answer-reply.result.0 in
     let new = c.answer-reply.new.place in
     let made = c.answer-reply.result.1 in
-    let place = c.index_mut-place.result.now in
-    let next = c.len-next.ensures ∙ c.room_if-has_room.new.slots.ok.0 ∙ ap length same in
+    let put = c.push_made.new.self in
+    let end = c.settle.new.self in
+    let next =
+    c.len-next.ensures ∙ mid.index.ok.0 ∙ ap length c.room_if-has_room.ensures.index
+    ∙ sym (many-windows s.index.items s.numbers.items s.places.items) in
+    let ends =
+    same-parts end.index.items put.index.items end.numbers.items put.numbers.items
+    end.places.items put.places.items c.settle.ensures.index c.settle.ensures.numbers
+    c.settle.ensures.places
+    ∙ c.push_made.ensures.windows
+    ∙ ap (λ ws. with_slot ws made) (set-window mid.index.items mid.numbers.items mid.places.items i
+    c.in-Some.place c.in-Some.ensures.told c.in-Some.ensures.whose old stands new)
+    ∙ ap (λ ws. with_slot (slice_set ws i new) made) same in
     subst (λ (o : State g.row.S-Item.Denot g.row.M.Denot). Done (setting g) o command reply
-    c.push_made.new.slots.items after) c.self.view_is
-    (subst (λ ss. Done (setting g) (state_of slots passes) command reply ss after)
-    (ap (λ ss. with_slot (slice_set ss i new) made) (sym same) ∙ sym c.push_made.ensures)
-    (carried (setting g) slots passes c.self.invariant i place
-    stood command c.requires.on reply new made after
-    (subst (λ n. IfSome place (λ s. Answers (setting g) n command s passes reply new made after))
+    (windows_of end.index.items end.numbers.items end.places.items) after) c.self.view_is
+    (subst (λ ss. Done (setting g) (state_of slots passes) command reply ss after) (sym ends)
+    (carried (setting g) slots passes c.self.invariant.0 i old stood command c.requires.on
+    reply new made after
+    (subst (λ n. IfSome old (λ s. Answers (setting g) n command s passes reply new made after))
     next c.answer-reply.ensures.there)
     (λ none. let so = c.answer-reply.ensures.none none in
-    (ap seen_reply so.0, so.1, so.2, so.3))))
+    (ap (seen_reply g.S.Commands.items_in g.S.Commands.items_in_box g.B.Buffer.list) so.0, so.1, so.2, so.3))))
 
 pub answer-reply-requires-clause-pass : goal.answer-reply-requires-clause-pass
 answer-reply-requires-clause-pass g c =
-    let mid = c.room_if-has_room.new.slots.items in
-    let stood : slice_get c.self.inside.slots.items c.args.i ≡ Some c.index_mut-place.result.now =
-    ap (λ ss. slice_get ss c.args.i) (sym c.room_if-has_room.ensures.slots)
-    ∙ at-place mid c.args.i c.index_mut-place.result.now
-    (omega (arith, c.if-i-next.false, c.len-next.ensures, c.room_if-has_room.new.slots.ok.0))
-    c.index_mut-place.ensures.value in
-    known (setting g) c.self.inside.slots.items c.self.inside.passes.of_blocks.items
-    c.self.invariant c.args.i c.index_mut-place.result.now stood
+    let s = c.self.inside.slots in
+    let mid = c.room_if-has_room.new.self in
+    let kept = c.room_if-has_room.ensures in
+    let old = c.index_mut-slot.result.now in
+    let stands =
+    at-place mid.places.items c.in-Some.place old c.in-Some.ensures.within
+    c.index_mut-slot.ensures.value in
+    let same =
+    same-parts mid.index.items s.index.items mid.numbers.items s.numbers.items mid.places.items
+    s.places.items kept.index kept.numbers kept.places in
+    let stood =
+    ap (λ ws. slice_get ws c.args.i) (sym same)
+    ∙ window-there mid.index.items mid.numbers.items mid.places.items c.args.i c.in-Some.place
+    c.in-Some.ensures.told c.in-Some.ensures.whose old stands in
+    known (setting g) (windows_of s.index.items s.numbers.items s.places.items)
+    c.self.inside.passes.of_blocks.items c.self.invariant.0 c.args.i old stood
 
-pub push_made-requires : goal.push_made-requires
-push_made-requires g c some =
-    let room = c.room_if-has_room.ensures.room (c.answer-reply.ensures.room some) in
+pub push_made-requires-clause-indexed : goal.push_made-requires-clause-indexed
+push_made-requires-clause-indexed g c =
+    let s = c.self.inside.slots in
+    let mid = c.room_if-has_room.new.self in
+    let kept = c.room_if-has_room.ensures in
+    let old = c.index_mut-slot.result.now in
+    let stands =
+    at-place mid.places.items c.in-Some.place old c.in-Some.ensures.within
+    c.index_mut-slot.ensures.value in
+    set-indexed mid.index.items mid.numbers.items mid.places.items c.args.i c.in-Some.place
+    c.in-Some.ensures.told c.in-Some.ensures.whose old stands c.answer-reply.new.place
+    (same-indexed mid.index.items s.index.items mid.numbers.items s.numbers.items mid.places.items
+    s.places.items kept.index kept.numbers kept.places c.self.invariant.1)
+
+pub push_made-requires-clause-room : goal.push_made-requires-clause-room
+push_made-requires-clause-room g c some =
+    c.room_if-has_room.ensures.room (c.answer-reply.ensures.room some)
+
+pub push_made-requires-clause-more : goal.push_made-requires-clause-more
+push_made-requires-clause-more g c some =
+    c.room_if-has_room.ensures.more (c.answer-reply.ensures.room some)
+
+pub push_made-requires-clause-further : goal.push_made-requires-clause-further
+push_made-requires-clause-further g c some =
+    let room = c.room_if-has_room.ensures.further (c.answer-reply.ensures.room some) in
     omega (
       arith,
       room,
-      length-set c.room_if-has_room.new.slots.items c.args.i
+      length-set c.room_if-has_room.new.self.places.items c.in-Some.place
           c.answer-reply.new.place,
     )
 
 pub invariant_of-self-2 : goal.invariant_of-self-2
-invariant_of-self-2 g c = (did g (goal.at.invariant_of-self-2 g c).After-push_made).kept
+invariant_of-self-2 g c =
+    let put = c.push_made.new.self in
+    let end = c.settle.new.self in (
+      (did g (goal.at.invariant_of-self-2 g c).After-settle).kept,
+      same-indexed end.index.items put.index.items end.numbers.items put.numbers.items
+          end.places.items put.places.items c.settle.ensures.index c.settle.ensures.numbers
+          c.settle.ensures.places c.push_made.ensures.indexed,
+    )
 
 pub returns-clause-rows : goal.returns-clause-rows
-returns-clause-rows g c = (did g (goal.at.returns-clause-rows g c).After-push_made).rows
+returns-clause-rows g c = (did g (goal.at.returns-clause-rows g c).After-settle).rows
 
 pub returns-clause-passes : goal.returns-clause-passes
-returns-clause-passes g c = (did g (goal.at.returns-clause-passes g c).After-push_made).passes_are
+returns-clause-passes g c = (did g (goal.at.returns-clause-passes g c).After-settle).passes_are
 
-none : (g : Over) (c : Then-i-next g)
-    → Done (setting g) c.args.self.now (seen_command c.args.command) reply.NoWindow
-    c.room_if-has_room.new.slots.items c.self.inside.passes.of_blocks.items
+-- no window has the number
+none : (g : Over) (c : In_default g)
+    → Done (setting g) c.args.self.now
+    (map_command g.S.Commands.items_in g.S.Commands.static_in g.B.Buffer.list c.args.command) reply.NoWindow
+    (windows_of c.room_if-has_room.new.self.index.items
+    c.room_if-has_room.new.self.numbers.items c.room_if-has_room.new.self.places.items)
+    c.self.inside.passes.of_blocks.items
 none g c =
-    let slots = c.self.inside.slots.items in
+    let s = c.self.inside.slots in
+    let mid = c.room_if-has_room.new.self in
+    let kept = c.room_if-has_room.ensures in
+    let slots = windows_of s.index.items s.numbers.items s.places.items in
     let passes = c.self.inside.passes.of_blocks.items in
-    let same = c.room_if-has_room.ensures.slots in
-    let command = seen_command c.args.command in
+    let same =
+    same-parts mid.index.items s.index.items mid.numbers.items s.numbers.items mid.places.items
+    s.places.items kept.index kept.numbers kept.places in
+    let command = map_command g.S.Commands.items_in g.S.Commands.static_in g.B.Buffer.list c.args.command in
     subst (λ (o : State g.row.S-Item.Denot g.row.M.Denot). Done (setting g) o command reply.NoWindow
-    c.room_if-has_room.new.slots.items passes) c.self.view_is
+    (windows_of mid.index.items mid.numbers.items mid.places.items) passes) c.self.view_is
     (subst (λ ss. Done (setting g) (state_of slots passes) command reply.NoWindow ss passes)
     (sym same)
-    (unanswered (setting g) slots passes c.self.invariant c.args.i
-    (past-end slots c.args.i (omega (
-      arith,
-      c.if-i-next.true,
-      c.len-next.ensures,
-      c.room_if-has_room.new.slots.ok.0,
-      ap length same,
-    ))) command c.requires.on))
+    (unanswered (setting g) slots passes c.self.invariant.0 c.args.i
+    (ap (λ ws. option_flatten (slice_get ws c.args.i)) (sym same)
+    ∙ c.place_of.ensures.none c.in_default.is) command c.requires.on))
 
-pub returns-then-i-next-clause-rows : goal.returns-then-i-next-clause-rows
-returns-then-i-next-clause-rows g c =
-    (none g (goal.at.returns-then-i-next-clause-rows g c).Then-i-next).rows
+pub returns-in_default-clause-rows : goal.returns-in_default-clause-rows
+returns-in_default-clause-rows g c =
+    (none g (goal.at.returns-in_default-clause-rows g c).In_default).rows
 
-pub returns-then-i-next-clause-passes : goal.returns-then-i-next-clause-passes
-returns-then-i-next-clause-passes g c =
-    (none g (goal.at.returns-then-i-next-clause-passes g c).Then-i-next).passes_are
+pub returns-in_default-clause-passes : goal.returns-in_default-clause-passes
+returns-in_default-clause-passes g c =
+    (none g (goal.at.returns-in_default-clause-passes g c).In_default).passes_are

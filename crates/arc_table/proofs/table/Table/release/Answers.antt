@@ -1,69 +1,189 @@
 -- The window under the number ends, if there is one.
+use Rattle.arc_block.specs.LayoutFacts.{layout_facts}
 use Rattle.std.specs.Mem.{type_size}
-use Rattle.std.proofs.Common.{◌≡◌, Some, None, map, slice_set, refl, sym, ap, ◌∙◌}
-use Rattle.std.proofs.Common.{subst, arith}
+use Rattle.std.proofs.Common.{◌≡◌, None, map, slice_set, refl, sym, ap, ◌∙◌, subst}
 use Rattle.std.specs.Option.{option_map}
 use Rattle.arc_commands.specs.Seen.{seen_reply}
 use Rattle.arc_commands.specs.State.{State}
-use Rattle.arc_commands.specs.Step.{Setting, setting_of}
+use Rattle.arc_commands.specs.Additions.{Adds}
+use Rattle.arc_commands.specs.Step.{Setting, Step, setting_of}
 use Rattle.arc_commands.specs.declared.command.Cmd.TheVariants as command
 use Rattle.arc_commands.specs.declared.command.Reply.TheVariants as reply
-use Rattle.arc_slots.specs.Slots.{row_of, state_of}
+use Rattle.arc_slots.specs.Slots.{row_of, stand_of, state_of}
+use Rattle.arc_slots.specs.Index.{windows_of}
+use Rattle.arc_slots.proofs.Index.{same-indexed, same-parts, set-indexed, set-window, unset}
+use Rattle.arc_slots.proofs.Index.{window-there}
+use Rattle.arc_slots.proofs.Taken.{has_block, has_life}
 use Rattle.arc_table.proofs.Done.{Done}
-use Rattle.arc_table.proofs.Stepped.{at-place, carried, ended, gone-rows, known}
+use Rattle.arc_table.proofs.Stepped.{at-place, carried, ended, gone-rows, known, seen-so}
+use Rattle.arc_table.proofs.Stepped.{unanswered}
 use Rattle.arc_table.proofs.table.Table.release.Given.{Over}
-use Rattle.arc_table.proofs.table.Table.release.Goals.{After-drop_at}
+use Rattle.arc_table.proofs.table.Table.release.Goals.{After-settle, In_default}
 use Rattle.arc_table.proofs.table.Table.release.Goals as goal
 
 abbrev setting : (g : Over) → Setting g.row.S-Item.Denot
 setting g =
-    setting_of g.L.Layout.STATIC g.L.Layout.clone_wants g.S.Slice.DROPS g.S.Subsliceable.boundary
-    (type_size g.row.S-Item) g.S.Zero.ZeroOf.zero
+    setting_of (layout_facts g.L.Layout) g.L.Writable.Layout.ANY g.L.Layout.clone_wants g.S.Slice.DROPS g.S.Subsliceable.boundary
+    (type_size g.row.S-Item) g.S.Zero.ZeroOf.zero g.S.Calls.CallsOf.calls
 
-did : (g : Over) (c : After-drop_at g)
-    → Done (setting g) c.args.self.now (command.Drop c.args.i) (seen_reply c.drop_at.result)
-    (slice_set c.self.inside.slots.items c.args.i c.drop_at.new.place)
-    c.drop_at.new.passes.of_blocks.items
+did : (g : Over) (c : After-settle g)
+    → Done (setting g) c.args.self.now (command.Drop c.args.i) (seen_reply g.S.Commands.items_in g.S.Commands.items_in_box
+    g.B.Buffer.list c.drop_at-reply.result)
+    (windows_of c.settle.new.self.index.items c.settle.new.self.numbers.items
+    c.settle.new.self.places.items) c.drop_at-reply.new.passes.of_blocks.items
 did g c =
-    let slots = c.self.inside.slots.items in
+    let s = c.self.inside.slots in
+    let slots = windows_of s.index.items s.numbers.items s.places.items in
     let passes = c.self.inside.passes.of_blocks.items in
     let i = c.args.i in
-    let after = c.drop_at.new.passes.of_blocks.items in
-    let reply = seen_reply c.drop_at.result in
-    let new = c.drop_at.new.place in
-    let place = c.index_mut.result.now in
+    let old = c.index_mut-window.result.now in
+    let stands =
+    at-place s.places.items c.in-Some.place old c.in-Some.ensures.within
+    c.index_mut-window.ensures.value in
     let stood =
-    at-place slots i place (omega (arith, c.if-i-len.false, c.len.ensures, c.self.inside.slots.ok.0))
-    c.index_mut.ensures.value in
-    subst (λ (o : State g.row.S-Item.Denot g.row.M.Denot). Done (setting g) o (command.Drop i) reply (slice_set slots i new) after)
-    c.self.view_is
-    (carried (setting g) slots passes c.self.invariant i place stood (command.Drop i) refl reply new
-    None after (ended (setting g) slots passes c.self.invariant i place reply new after c.drop_at.ensures.dropped)
-    (λ none. let so = c.drop_at.ensures.none none in
-    (ap seen_reply so.0, refl, c.drop_at.ensures.gone, so.1)))
+    window-there s.index.items s.numbers.items s.places.items i c.in-Some.place
+    c.in-Some.ensures.told c.in-Some.ensures.whose old stands in
+    let end = c.settle.new.self in
+    let new = c.drop_at-reply.new.place in
+    let ends =
+    same-parts end.index.items s.index.items end.numbers.items s.numbers.items end.places.items
+    (slice_set s.places.items c.in-Some.place new) c.settle.ensures.index c.settle.ensures.numbers
+    c.settle.ensures.places
+    ∙ set-window s.index.items s.numbers.items s.places.items i c.in-Some.place
+    c.in-Some.ensures.told c.in-Some.ensures.whose old stands new in
+    let after = c.drop_at-reply.new.passes.of_blocks.items in
+    let told = seen_reply g.S.Commands.items_in g.S.Commands.items_in_box g.B.Buffer.list
+    c.drop_at-reply.result in
+    subst (λ (o : State g.row.S-Item.Denot g.row.M.Denot). Done (setting g) o (command.Drop i) told
+    (windows_of end.index.items end.numbers.items end.places.items) after) c.self.view_is
+    (subst (λ ss. Done (setting g) (state_of slots passes) (command.Drop i) told ss after)
+    (sym ends)
+    (carried (setting g) slots passes c.self.invariant.0 i old stood (command.Drop i) refl told new
+    None after (ended (setting g) slots passes c.self.invariant.0 i old told new after
+    c.drop_at-reply.ensures.dropped
+    (seen-so (seen_reply g.S.Commands.items_in g.S.Commands.items_in_box g.B.Buffer.list)
+    c.drop_at-reply.result reply.Ok old c.drop_at-reply.ensures.some))
+    (λ none. let so = c.drop_at-reply.ensures.none none in
+    (ap (seen_reply g.S.Commands.items_in g.S.Commands.items_in_box g.B.Buffer.list) so.0, refl, c.drop_at-reply.ensures.gone, so.1))))
 
-pub drop_at-requires : goal.drop_at-requires
-drop_at-requires g c =
-    let slots = c.self.inside.slots.items in
-    let place = c.index_mut.result.now in
-    known (setting g) slots c.self.inside.passes.of_blocks.items c.self.invariant c.args.i place
-    (at-place slots c.args.i place
-    (omega (arith, c.if-i-len.false, c.len.ensures, c.self.inside.slots.ok.0))
-    c.index_mut.ensures.value)
+pub place_of-requires : goal.place_of-requires
+place_of-requires g c = c.self.invariant.1
+
+pub drop_at-reply-requires-clause-pass : goal.drop_at-reply-requires-clause-pass
+drop_at-reply-requires-clause-pass g c =
+    let s = c.self.inside.slots in
+    let slots = windows_of s.index.items s.numbers.items s.places.items in
+    let passes = c.self.inside.passes.of_blocks.items in
+    let i = c.args.i in
+    let old = c.index_mut-window.result.now in
+    let stands =
+    at-place s.places.items c.in-Some.place old c.in-Some.ensures.within
+    c.index_mut-window.ensures.value in
+    let stood =
+    window-there s.index.items s.numbers.items s.places.items i c.in-Some.place
+    c.in-Some.ensures.told c.in-Some.ensures.whose old stands in
+    has_block passes (stand_of old) (known (setting g) slots passes c.self.invariant.0 i old stood)
+
+pub drop_at-reply-requires-clause-lives : goal.drop_at-reply-requires-clause-lives
+drop_at-reply-requires-clause-lives g c =
+    let s = c.self.inside.slots in
+    let slots = windows_of s.index.items s.numbers.items s.places.items in
+    let passes = c.self.inside.passes.of_blocks.items in
+    let i = c.args.i in
+    let old = c.index_mut-window.result.now in
+    let stands =
+    at-place s.places.items c.in-Some.place old c.in-Some.ensures.within
+    c.index_mut-window.ensures.value in
+    let stood =
+    window-there s.index.items s.numbers.items s.places.items i c.in-Some.place
+    c.in-Some.ensures.told c.in-Some.ensures.whose old stands in
+    has_life passes (stand_of old) (known (setting g) slots passes c.self.invariant.0 i old stood)
 
 pub invariant_of-self : goal.invariant_of-self
-invariant_of-self g c = (did g (goal.at.invariant_of-self g c).After-drop_at).kept
+invariant_of-self g c =
+    let s = c.self.inside.slots in
+    let slots = windows_of s.index.items s.numbers.items s.places.items in
+    let passes = c.self.inside.passes.of_blocks.items in
+    let i = c.args.i in
+    let old = c.index_mut-window.result.now in
+    let stands =
+    at-place s.places.items c.in-Some.place old c.in-Some.ensures.within
+    c.index_mut-window.ensures.value in
+    let stood =
+    window-there s.index.items s.numbers.items s.places.items i c.in-Some.place
+    c.in-Some.ensures.told c.in-Some.ensures.whose old stands in
+    let end = c.settle.new.self in
+    let new = c.drop_at-reply.new.place in (
+      (did g (goal.at.invariant_of-self g c).After-settle).kept,
+      same-indexed end.index.items s.index.items end.numbers.items s.numbers.items
+          end.places.items (slice_set s.places.items c.in-Some.place new) c.settle.ensures.index
+          c.settle.ensures.numbers c.settle.ensures.places
+          (set-indexed s.index.items s.numbers.items s.places.items i c.in-Some.place
+          c.in-Some.ensures.told c.in-Some.ensures.whose old stands new c.self.invariant.1),
+    )
 
 pub returns-clause-rows : goal.returns-clause-rows
-returns-clause-rows g c = (did g (goal.at.returns-clause-rows g c).After-drop_at).rows
+returns-clause-rows g c = (did g (goal.at.returns-clause-rows g c).After-settle).rows
 
 pub returns-clause-passes : goal.returns-clause-passes
-returns-clause-passes g c = (did g (goal.at.returns-clause-passes g c).After-drop_at).passes_are
+returns-clause-passes g c = (did g (goal.at.returns-clause-passes g c).After-settle).passes_are
 
 pub returns-clause-gone : goal.returns-clause-gone
 returns-clause-gone g c =
-    let slots = c.self.inside.slots.items in
-    let new = c.drop_at.new.place in
+    let s = c.self.inside.slots in
+    let slots = windows_of s.index.items s.numbers.items s.places.items in
+    let passes = c.self.inside.passes.of_blocks.items in
+    let i = c.args.i in
+    let old = c.index_mut-window.result.now in
+    let stands =
+    at-place s.places.items c.in-Some.place old c.in-Some.ensures.within
+    c.index_mut-window.ensures.value in
+    let stood =
+    window-there s.index.items s.numbers.items s.places.items i c.in-Some.place
+    c.in-Some.ensures.told c.in-Some.ensures.whose old stands in
+    let end = c.settle.new.self in
+    let new = c.drop_at-reply.new.place in
+    let ends =
+    same-parts end.index.items s.index.items end.numbers.items s.numbers.items end.places.items
+    (slice_set s.places.items c.in-Some.place new) c.settle.ensures.index c.settle.ensures.numbers
+    c.settle.ensures.places
+    ∙ set-window s.index.items s.numbers.items s.places.items i c.in-Some.place
+    c.in-Some.ensures.told c.in-Some.ensures.whose old stands new in
     subst (λ (o : State g.row.S-Item.Denot g.row.M.Denot).
-    map (option_map row_of) (slice_set slots c.args.i new) ≡ slice_set o.table.rows c.args.i None)
-    c.self.view_is (gone-rows slots c.args.i new c.drop_at.ensures.gone)
+    map (option_map row_of) (windows_of end.index.items end.numbers.items end.places.items)
+    ≡ slice_set o.table.rows i None) c.self.view_is
+    (ap (map (option_map row_of)) ends ∙ gone-rows slots i new c.drop_at-reply.ensures.gone)
+
+-- no window has the number
+none : (g : Over) (c : In_default g)
+    → Done (setting g) (state_of (windows_of c.self.inside.slots.index.items
+    c.self.inside.slots.numbers.items c.self.inside.slots.places.items)
+    c.self.inside.passes.of_blocks.items) (command.Drop c.args.i) reply.NoWindow
+    (windows_of c.self.inside.slots.index.items c.self.inside.slots.numbers.items
+    c.self.inside.slots.places.items) c.self.inside.passes.of_blocks.items
+none g c =
+    let s = c.self.inside.slots in
+    unanswered (setting g) (windows_of s.index.items s.numbers.items s.places.items)
+    c.self.inside.passes.of_blocks.items c.self.invariant.0 c.args.i
+    (c.place_of.ensures.none c.in_default.is) (command.Drop c.args.i) refl
+
+pub returns-in_default-clause-rows : goal.returns-in_default-clause-rows
+returns-in_default-clause-rows g c =
+    subst (λ (o : State g.row.S-Item.Denot g.row.M.Denot).
+    Step (setting g) o.table (command.Drop c.args.i) reply.NoWindow o.table) c.self.view_is
+    (none g (goal.at.returns-in_default-clause-rows g c).In_default).rows
+
+pub returns-in_default-clause-passes : goal.returns-in_default-clause-passes
+returns-in_default-clause-passes g c =
+    subst (λ (o : State g.row.S-Item.Denot g.row.M.Denot).
+    Adds (setting g) o.table o.standing (command.Drop c.args.i) reply.NoWindow o.standing) c.self.view_is
+    (none g (goal.at.returns-in_default-clause-passes g c).In_default).passes_are
+
+pub returns-in_default-clause-gone : goal.returns-in_default-clause-gone
+returns-in_default-clause-gone g c =
+    let s = c.self.inside.slots in
+    let slots = windows_of s.index.items s.numbers.items s.places.items in
+    subst (λ (o : State g.row.S-Item.Denot g.row.M.Denot). o.table.rows
+    ≡ slice_set o.table.rows c.args.i None) c.self.view_is
+    (sym (sym (gone-rows slots c.args.i None refl)
+    ∙ ap (map (option_map row_of)) (unset slots c.args.i (c.place_of.ensures.none c.in_default.is))))

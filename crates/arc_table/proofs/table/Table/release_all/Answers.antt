@@ -1,4 +1,5 @@
 -- One window more has ended.
+use Rattle.arc_block.specs.LayoutFacts.{layout_facts}
 use Rattle.std.specs.Mem.{type_size}
 use Rattle.std.proofs.Common.{◌≡◌, ◌++◌, ◌∷◌, [], length, None, refl, sym, ap, ◌∙◌, subst, arith}
 use Rattle.std.proofs.lemmas.List.{length-map, length-set}
@@ -6,6 +7,8 @@ use Rattle.std.specs.Option.{option_map}
 use Rattle.arc_commands.specs.RunOf.{RunOf}
 use Rattle.arc_commands.specs.Seen.{seen_reply}
 use Rattle.arc_slots.specs.Slots.{row_of}
+use Rattle.arc_slots.proofs.Index.{many-windows}
+use Rattle.arc_slots.specs.Index.{windows_of}
 use Rattle.arc_commands.specs.State.{State, CarriesOut, drops}
 use Rattle.arc_commands.specs.Step.{Setting, setting_of}
 use Rattle.arc_commands.proofs.Lists.{gone-below, all-gone}
@@ -17,8 +20,11 @@ loop-i-init g c = record {
   gone = λ j below. absurd (omega (arith, below));
   rows =
       sym (ap (λ (o : State g.row.S-Item.Denot g.row.M.Denot). length o.table.rows) c.self.view_is)
-      ∙ length-map c.self.inside.slots.items (option_map row_of)
-      ∙ (omega (arith, c.len-i-end.ensures, c.self.inside.slots.ok.0));
+      ∙ length-map (windows_of c.self.inside.slots.index.items c.self.inside.slots.numbers.items
+      c.self.inside.slots.places.items) (option_map row_of)
+      ∙ many-windows c.self.inside.slots.index.items c.self.inside.slots.numbers.items
+      c.self.inside.slots.places.items
+      ∙ (omega (arith, c.len-i-end.ensures, c.self.inside.slots.index.ok.0));
   blocks = refl;
   passes = ([], refl);
 }
@@ -26,13 +32,16 @@ loop-i-init g c = record {
 pub loop-i-preserved : goal.loop-i-preserved
 loop-i-preserved g c =
     let setting : Setting g.row.S-Item.Denot =
-    setting_of g.L.Layout.STATIC g.L.Layout.clone_wants g.S.Slice.DROPS g.S.Subsliceable.boundary (type_size g.row.S-Item) g.S.Zero.ZeroOf.zero in
+    setting_of (layout_facts g.L.Layout) g.L.Writable.Layout.ANY g.L.Layout.clone_wants g.S.Slice.DROPS
+    g.S.Subsliceable.boundary (type_size g.row.S-Item)
+    g.S.Zero.ZeroOf.zero g.S.Calls.CallsOf.calls in
     let old = c.loop-i.self in
     let new = c.release.new.self in
     let i = c.loop-i.i in
     let said = c.loop-i.invariant in
     let did = c.release.ensures in
-    let reply = seen_reply c.release.result in
+    let reply = seen_reply g.S.Commands.items_in g.S.Commands.items_in_box g.B.Buffer.list
+    c.release.result in
     record {
       gone = gone-below old.table.rows new.table.rows i did.gone said.gone;
       rows = ap length did.gone ∙ length-set old.table.rows i None ∙ said.rows;
@@ -47,13 +56,18 @@ loop-i-preserved g c =
 pub returns-clause-passes : goal.returns-clause-passes
 returns-clause-passes g c =
     let setting : Setting g.row.S-Item.Denot =
-    setting_of g.L.Layout.STATIC g.L.Layout.clone_wants g.S.Slice.DROPS g.S.Subsliceable.boundary (type_size g.row.S-Item) g.S.Zero.ZeroOf.zero in
+    setting_of (layout_facts g.L.Layout) g.L.Writable.Layout.ANY g.L.Layout.clone_wants g.S.Slice.DROPS
+    g.S.Subsliceable.boundary (type_size g.row.S-Item)
+    g.S.Zero.ZeroOf.zero g.S.Calls.CallsOf.calls in
     let old = c.args.self.now in
     let new = c.loop-i.self in
     let said = c.loop-i.invariant in
     let many : length old.table.rows ≡ c.loop-i.i =
     sym (ap (λ (o : State g.row.S-Item.Denot g.row.M.Denot). length o.table.rows) c.self.view_is)
-    ∙ length-map c.self.inside.slots.items (option_map row_of)
+    ∙ length-map (windows_of c.self.inside.slots.index.items c.self.inside.slots.numbers.items
+    c.self.inside.slots.places.items) (option_map row_of)
+    ∙ many-windows c.self.inside.slots.index.items c.self.inside.slots.numbers.items
+    c.self.inside.slots.places.items
     ∙ (omega (arith, c.len-i-end.ensures, c.loop-i.auto.i-end, c.loop-i-test.false)) in
     record {
       replies = said.passes.0;

@@ -1,11 +1,12 @@
 -- One command more is carried out, until none is left.
+use Rattle.arc_block.specs.LayoutFacts.{layout_facts}
 use Rattle.std.specs.Mem.{type_size}
 use Rattle.std.proofs.Common.{◌≡◌, [], ◌∷◌, ◌++◌, length, map, sym, ap, subst, ◌∙◌}
 use Rattle.std.proofs.Common.{append_assoc, append-nil, arith}
 use Rattle.std.proofs.lemmas.List.{nil_from_length}
 use Rattle.std.specs.Vec.Iter.{into_iter_items}
 use Rattle.arc_commands.specs.RunOf.{RunOf}
-use Rattle.arc_commands.specs.Seen.{seen_command, seen_reply}
+use Rattle.arc_commands.specs.Seen.{map_command, seen_reply}
 use Rattle.arc_commands.specs.State.{CarriesOut}
 use Rattle.arc_commands.specs.Step.{Setting, setting_of}
 use Rattle.arc_commands.proofs.Runs.{run_push_seen}
@@ -14,7 +15,10 @@ use Rattle.arc_table.proofs.table.Table.run.Goals as goal
 pub loop-command-preserved : goal.loop-command-preserved
 loop-command-preserved g c =
     let setting : Setting g.row.S-Item.Denot =
-    setting_of g.L.Layout.STATIC g.L.Layout.clone_wants g.S.Slice.DROPS g.S.Subsliceable.boundary (type_size g.row.S-Item) g.S.Zero.ZeroOf.zero in
+    setting_of (layout_facts g.L.Layout) g.L.Writable.Layout.ANY g.L.Layout.clone_wants g.S.Slice.DROPS
+    g.S.Subsliceable.boundary (type_size g.row.S-Item)
+    g.S.Zero.ZeroOf.zero g.S.Calls.CallsOf.calls in
+    let said_by = map_command g.S.Commands.items_in g.S.Commands.static_in g.B.Buffer.list in
     let at = c.loop-command in
     let said = at.invariant in
     let command = c.in-Some.command in
@@ -25,9 +29,9 @@ loop-command-preserved g c =
       left = omega (arith, said.left, c.in-Some.ensures.steps.1, ap length next);
       run =
           subst (λ rs. RunOf (CarriesOut setting) c.args.self.now
-          (map seen_command (at.yielded ++ command ∷ [])) (map seen_reply rs) c.step.new.self)
+          (map said_by (at.yielded ++ command ∷ [])) (map (seen_reply g.S.Commands.items_in g.S.Commands.items_in_box g.B.Buffer.list) rs) c.step.new.self)
           (sym c.push_reserved.ensures.items)
-          (run_push_seen (CarriesOut setting) seen_command seen_reply c.args.self.now at.yielded
+          (run_push_seen (CarriesOut setting) said_by (seen_reply g.S.Commands.items_in g.S.Commands.items_in_box g.B.Buffer.list) c.args.self.now at.yielded
           at.replies.items at.self command c.step.result c.step.new.self said.run c.step.ensures);
       many =
           omega (arith, said.many, c.in-Some.ensures.steps.1, c.push_reserved.ensures.len);
@@ -37,7 +41,10 @@ loop-command-preserved g c =
 pub returns-clause-run : goal.returns-clause-run
 returns-clause-run g c =
     let setting : Setting g.row.S-Item.Denot =
-    setting_of g.L.Layout.STATIC g.L.Layout.clone_wants g.S.Slice.DROPS g.S.Subsliceable.boundary (type_size g.row.S-Item) g.S.Zero.ZeroOf.zero in
+    setting_of (layout_facts g.L.Layout) g.L.Writable.Layout.ANY g.L.Layout.clone_wants g.S.Slice.DROPS
+    g.S.Subsliceable.boundary (type_size g.row.S-Item)
+    g.S.Zero.ZeroOf.zero g.S.Calls.CallsOf.calls in
+    let said_by = map_command g.S.Commands.items_in g.S.Commands.static_in g.B.Buffer.list in
     let at = c.loop-command in
     let said = at.invariant in
     let none : into_iter_items at.command-iterator ≡ [] =
@@ -45,5 +52,5 @@ returns-clause-run g c =
     (sym said.left ∙ c.in-None.ensures.steps.0) in
     let all : at.yielded ≡ c.args.commands.items =
     sym (append-nil at.yielded) ∙ rw none at said.commands in
-    subst (λ cs. RunOf (CarriesOut setting) c.args.self.now (map seen_command cs)
-    (map seen_reply at.replies.items) at.self) all said.run
+    subst (λ cs. RunOf (CarriesOut setting) c.args.self.now (map said_by cs)
+    (map (seen_reply g.S.Commands.items_in g.S.Commands.items_in_box g.B.Buffer.list) at.replies.items) at.self) all said.run

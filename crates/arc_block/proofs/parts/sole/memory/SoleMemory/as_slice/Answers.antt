@@ -1,0 +1,12 @@
+-- The slice is the writer's items, also on nothing.
+use Rattle.std.proofs.Common.{◌-◌, take, drop, ap, ◌∙◌}
+use Rattle.std.specs.Option.{option_map}
+use Rattle.arc_block.specs.Contents.{sole_of}
+use Rattle.arc_block.proofs.Lent.{slice_seen}
+use Rattle.arc_block.proofs.parts.sole.memory.SoleMemory.as_slice.Goals as goal
+
+pub returns : goal.returns
+returns g c =
+    let start = c.self.inside.start in let end = c.self.inside.end in
+    ap (λ xs. take (end - start) (drop start xs)) c.as_slice.ensures.value
+    ∙ slice_seen g.S.Slice.DROPS g.H.Mark.whole (option_map sole_of c.self.inside.count) c.self.inside.items start end c.args.self.now c.self.view_is c.self.invariant

@@ -1,0 +1,362 @@
+//! Read windows over a caller's buffer, or over an `Arc` of one: made of them, and taken back.
+ghost use Rattle.std.specs.Prelude.{◌≡◌, false, length, Some, None};
+ghost use Rattle.std.specs.Prelude.{IfOk, IfErr, IfSome, IfNone};
+ghost use Rattle.std.specs.Arc.{arc_value};
+ghost use Rattle.arc_owners.specs.count.Calls.{IsPassOfNone};
+ghost use Rattle.arc_block.specs.Block.{buffer_info};
+ghost use Rattle.arc_block.specs.Metadata.{IsMetadataAt, IsOnCallers};
+ghost use Rattle.arc_block.specs.Place.{nowhere, metadata_at};
+ghost use Rattle.arc_block.specs.Window.{IsBufferWhole, IsRawWhole};
+ghost use Rattle.arc_block.specs.Writers.{size_at};
+ghost use Rattle.arc_block.specs.Steps.{IsPassAt, MakesOver, MakesOverRaw, Begins};
+ghost use Rattle.arc_block.specs.Steps.{TakesAt, RefusesTaking};
+ghost use Rattle.arc_read.specs.Steps.{WithNewPass};
+
+use super::ArcSlice;
+use arc_block::layout::{AnyBufferLayout, Layout};
+use arc_block::parts::Parts;
+use arc_buffer::buffer::{BorrowMetadata, Buffer};
+use arc_buffer::kinds::{AnyItems, Slice};
+use arc_owners::mark::{Mark, Stepping};
+use arc_owners::owners::Pass;
+use std::alloc::Allocator;
+use std::sync::Arc;
+
+impl<
+    S: AnyItems,
+    L: AnyBufferLayout,
+    B: Buffer<S::Item> + Drop,
+    M: Drop,
+    A: Allocator + Copy,
+    H: Mark,
+> ArcSlice<S, L, B, M, A, H> {
+    /// A window over all items of a caller's buffer, on a block that keeps the buffer, with its
+    /// metadata where there is some.
+    fn try_from_held_buffer_as(
+        alloc: A,
+        buffer: B,
+        metadata: Option<M>,
+        pass: &mut Pass<H>,
+    ) -> Result<Self, (B, Option<M>)>
+        requires pass { IsPassOfNone pass.old }
+        ensures made { IfOk result (λ window. MakesOver H.whole
+            (buffer_info false (B.places buffer) (length (B.list buffer)) metadata)
+            (B.list buffer) window) }
+        ensures pass { IfOk result (λ window. Begins window pass.old pass.new) }
+        ensures refused { IfErr result (λ back. (back.0 ≡ buffer) × (back.1 ≡ metadata)
+            × (pass.new ≡ pass.old)) }
+    {
+        match Parts::try_from_buffer_as(alloc, buffer, metadata, pass) {
+            Ok(parts) => Ok(Self::from_parts(parts)),
+            Err(back) => Err(back),
+        }
+    }
+
+    /// A window over all items of a caller's buffer, on a block that keeps the buffer, to be read:
+    /// no item is copied. It has no metadata. The pass, which is of no block, becomes the block's;
+    /// the window is owner 0.
+    ///
+    /// # Errors
+    ///
+    /// The buffer comes back where memory for the block is refused; the pass is then as before.
+    ///
+    /// # Allocates
+    ///
+    /// Once.
+    pub fn try_from_buffer_as(alloc: A, buffer: B, pass: &mut Pass<H>) -> Result<Self, B>
+        requires pass { IsPassOfNone pass.old }
+        ensures made { IfOk result (λ window. MakesOver H.whole
+            (buffer_info false (B.places buffer) (length (B.list buffer)) None)
+            (B.list buffer) window) }
+        ensures pass { IfOk result (λ window. Begins window pass.old pass.new) }
+        ensures refused { IfErr result (λ back. (back ≡ buffer) × (pass.new ≡ pass.old)) }
+    {
+        match Self::try_from_held_buffer_as(alloc, buffer, None, pass) {
+            Ok(window) => Ok(window),
+            Err((buffer, _)) => Err(buffer),
+        }
+    }
+
+    /// A window over a caller's buffer as by `try_from_buffer_as`, with metadata, which is one for
+    /// all windows of the block.
+    ///
+    /// # Errors
+    ///
+    /// Buffer and metadata come back where memory for the block is refused; the pass is then as
+    /// before.
+    ///
+    /// # Allocates
+    ///
+    /// Once.
+    pub fn try_from_buffer_with_metadata_as(
+        alloc: A,
+        buffer: B,
+        metadata: M,
+        pass: &mut Pass<H>,
+    ) -> Result<Self, (B, M)>
+        requires pass { IsPassOfNone pass.old }
+        ensures made { IfOk result (λ window. MakesOver H.whole
+            (buffer_info false (B.places buffer) (length (B.list buffer)) (Some metadata))
+            (B.list buffer) window) }
+        ensures pass { IfOk result (λ window. Begins window pass.old pass.new) }
+        ensures refused { IfErr result (λ back. (back.0 ≡ buffer) × (back.1 ≡ metadata)
+            × (pass.new ≡ pass.old)) }
+    {
+        match Self::try_from_held_buffer_as(alloc, buffer, Some(metadata), pass) {
+            Ok(window) => Ok(window),
+            Err((buffer, held)) => match held {
+                Some(metadata) => Err((buffer, metadata)),
+                None => unreachable!(),
+            },
+        }
+    }
+
+    /// A window over all items of a caller's buffer behind an `Arc`: no item is copied. Where the
+    /// layout has an `Arc` as a block by itself it stands on that: nothing is counted or added, and
+    /// the pass stays of no block. Else it stands on a block that keeps the `Arc` and counts its
+    /// own owners: the pass, which is of no block, becomes the block's, and the window is owner 0.
+    ///
+    /// # Errors
+    ///
+    /// The `Arc` comes back where memory for the block is refused; the pass is then as before.
+    ///
+    /// # Allocates
+    ///
+    /// Once, unless the `Arc` is a block by itself.
+    #[tactic(auto, using(arc_block::proofs::Held::raw_held))]
+    pub fn try_from_raw_buffer_as(
+        alloc: A,
+        shared: Arc<B, A>,
+        pass: &mut Pass<H>,
+    ) -> Result<Self, Arc<B, A>>
+        requires pass { IsPassOfNone pass.old }
+        ensures made { IfOk result (λ window. MakesOverRaw L.RAW H.whole
+            (B.list (arc_value shared)) window) }
+        ensures pass { IfOk result (λ window. Begins window pass.old pass.new) }
+        ensures refused { IfErr result (λ back. (back ≡ shared) × (L.RAW ≡ false)
+            × (pass.new ≡ pass.old)) }
+    {
+        match Parts::try_from_raw_as::<L>(alloc, shared, pass) {
+            Ok(parts) => Ok(Self::from_parts(parts)),
+            Err(back) => Err(back),
+        }
+    }
+}
+
+impl<
+    S: Slice,
+    L: Layout,
+    B: Buffer<S::Item> + Drop,
+    M: Drop,
+    A: Allocator + Copy,
+    H: Mark,
+> ArcSlice<S, L, B, M, A, H> {
+    /// The metadata of the block, where it was made with some.
+    pub fn metadata(&self) -> Option<&M>
+        ensures some { IfSome result (λ m. metadata_at self.now.place ≡ Some m.now) }
+        ensures none { IfNone result (metadata_at self.now.place ≡ None) }
+    {
+        self.parts.metadata()
+    }
+
+    /// The metadata of the caller's buffer on which the window stands, behind an `Arc` or not.
+    pub fn borrowed_metadata(&self) -> Option<&B::Metadata>
+    where
+        B: BorrowMetadata,
+        ensures some { IfSome result (λ m.
+            IsMetadataAt B.list B.metadata self.now.place self.now.items m.now) }
+        ensures none { IfNone result (¬ IsOnCallers self.now.place) }
+    {
+        self.parts.borrowed_metadata()
+    }
+
+    /// The caller's buffer on which the window stands, where the items are all of it, and no other
+    /// owner lives. Its metadata is dropped.
+    ///
+    /// # Errors
+    ///
+    /// The window, on another block or none, where another owner lives, and where the items are a
+    /// part alone.
+    ///
+    /// # History
+    ///
+    /// Taken, Alone and Down. Refused, Alone with no where only the count could decide, and else
+    /// nothing.
+    pub fn try_into_buffer_as(self, pass: &mut Pass<H>) -> Result<B, Self>
+        requires pass { IsPassAt self.place pass.old }
+        ensures taken { IfOk result (λ buffer. IsBufferWhole self.items self.place
+            × (B.list buffer ≡ self.items) × (B.places buffer ≡ size_at self.place)) }
+        ensures entries { IfOk result (λ _. TakesAt self.place pass.old pass.new) }
+        ensures refused { IfErr result (λ window. (window ≡ self) × RefusesTaking
+            (IsBufferWhole self.items self.place) self.place pass.old pass.new) }
+    {
+        match self.into_parts().try_into_buffer_as(pass) {
+            Ok(buffer) => Ok(buffer),
+            Err(parts) => Err(Self::from_parts(parts)),
+        }
+    }
+
+    /// The `Arc` of a caller's buffer on which the window stands, where the items are all of that,
+    /// and no other owner of the block lives.
+    ///
+    /// # Errors
+    ///
+    /// The window, on another block or none, where another owner lives, and where the items are a
+    /// part alone.
+    ///
+    /// # History
+    ///
+    /// Taken, Alone and Down. Refused, Alone with no where only the count could decide, and else
+    /// nothing.
+    pub fn try_into_raw_buffer_as(self, pass: &mut Pass<H>) -> Result<Arc<B, A>, Self>
+        requires pass { IsPassAt self.place pass.old }
+        ensures taken { IfOk result (λ shared. IsRawWhole self.items self.place
+            × (B.list (arc_value shared) ≡ self.items)) }
+        ensures entries { IfOk result (λ _. TakesAt self.place pass.old pass.new) }
+        ensures refused { IfErr result (λ window. (window ≡ self) × RefusesTaking
+            (IsRawWhole self.items self.place) self.place pass.old pass.new) }
+    {
+        match self.into_parts().try_into_raw_as(pass) {
+            Ok(shared) => Ok(shared),
+            Err(parts) => Err(Self::from_parts(parts)),
+        }
+    }
+}
+
+// The plain forms. They are generic over the marks under which a block has many passes, as the
+// other plain forms are.
+impl<
+    S: AnyItems,
+    L: AnyBufferLayout,
+    B: Buffer<S::Item> + Drop,
+    M: Drop,
+    A: Allocator + Copy,
+    H: Stepping,
+> ArcSlice<S, L, B, M, A, H> {
+    /// A window over all items of a caller's buffer: `try_from_buffer_as` with a new pass.
+    ///
+    /// # Errors
+    ///
+    /// The buffer comes back where memory for the block is refused.
+    ///
+    /// # Allocates
+    ///
+    /// Once.
+    pub fn try_from_buffer(alloc: A, buffer: B) -> Result<Self, B>
+        ensures made { IfOk result (λ window. MakesOver H.whole
+            (buffer_info false (B.places buffer) (length (B.list buffer)) None)
+            (B.list buffer) window) }
+        ensures pass { IfOk result (λ window.
+            WithNewPass {M = M} {H = H} H.real nowhere (λ first last. Begins window first last)) }
+        ensures refused { IfErr result (λ back. back ≡ buffer) }
+    {
+        let mut pass = Pass::none();
+        let made = Self::try_from_buffer_as(alloc, buffer, &mut pass);
+        pass.show();
+        made
+    }
+
+    /// A window over a caller's buffer, with metadata: `try_from_buffer_with_metadata_as` with a
+    /// new pass.
+    ///
+    /// # Errors
+    ///
+    /// Buffer and metadata come back where memory for the block is refused.
+    ///
+    /// # Allocates
+    ///
+    /// Once.
+    pub fn try_from_buffer_with_metadata(alloc: A, buffer: B, metadata: M) -> Result<Self, (B, M)>
+        ensures made { IfOk result (λ window. MakesOver H.whole
+            (buffer_info false (B.places buffer) (length (B.list buffer)) (Some metadata))
+            (B.list buffer) window) }
+        ensures pass { IfOk result (λ window.
+            WithNewPass {M = M} {H = H} H.real nowhere (λ first last. Begins window first last)) }
+        ensures refused { IfErr result (λ back. (back.0 ≡ buffer) × (back.1 ≡ metadata)) }
+    {
+        let mut pass = Pass::none();
+        let made = Self::try_from_buffer_with_metadata_as(alloc, buffer, metadata, &mut pass);
+        pass.show();
+        made
+    }
+
+    /// A window over all items of a caller's buffer behind an `Arc`: `try_from_raw_buffer_as` with
+    /// a new pass.
+    ///
+    /// # Errors
+    ///
+    /// The `Arc` comes back where memory for the block is refused.
+    ///
+    /// # Allocates
+    ///
+    /// Once, unless the `Arc` is a block by itself.
+    pub fn try_from_raw_buffer(alloc: A, shared: Arc<B, A>) -> Result<Self, Arc<B, A>>
+        ensures made { IfOk result (λ window. MakesOverRaw L.RAW H.whole
+            (B.list (arc_value shared)) window) }
+        ensures pass { IfOk result (λ window.
+            WithNewPass {M = M} {H = H} H.real nowhere (λ first last. Begins window first last)) }
+        ensures refused { IfErr result (λ back. (back ≡ shared) × (L.RAW ≡ false)) }
+    {
+        let mut pass = Pass::none();
+        let made = Self::try_from_raw_buffer_as(alloc, shared, &mut pass);
+        pass.show();
+        made
+    }
+}
+
+impl<
+    S: Slice,
+    L: Layout,
+    B: Buffer<S::Item> + Drop,
+    M: Drop,
+    A: Allocator + Copy,
+    H: Stepping,
+> ArcSlice<S, L, B, M, A, H> {
+    /// The caller's buffer: `try_into_buffer_as` with a new pass.
+    ///
+    /// # Errors
+    ///
+    /// Those of `try_into_buffer_as`.
+    ///
+    /// # History
+    ///
+    /// That of `try_into_buffer_as`.
+    pub fn try_into_buffer(self) -> Result<B, Self>
+        ensures taken { IfOk result (λ buffer. IsBufferWhole self.items self.place
+            × (B.list buffer ≡ self.items) × (B.places buffer ≡ size_at self.place)) }
+        ensures entries { IfOk result (λ _. WithNewPass {H = H} H.real self.place (λ first last.
+            TakesAt self.place first last)) }
+        ensures refused { IfErr result (λ window. window ≡ self) }
+        ensures asked { IfErr result (λ _. WithNewPass {H = H} H.real self.place (λ first last.
+            RefusesTaking (IsBufferWhole self.items self.place) self.place first last)) }
+    {
+        let mut pass = self.pass();
+        let taken = self.try_into_buffer_as(&mut pass);
+        pass.show();
+        taken
+    }
+
+    /// The `Arc` of the caller's buffer: `try_into_raw_buffer_as` with a new pass.
+    ///
+    /// # Errors
+    ///
+    /// Those of `try_into_raw_buffer_as`.
+    ///
+    /// # History
+    ///
+    /// That of `try_into_raw_buffer_as`.
+    pub fn try_into_raw_buffer(self) -> Result<Arc<B, A>, Self>
+        ensures taken { IfOk result (λ shared. IsRawWhole self.items self.place
+            × (B.list (arc_value shared) ≡ self.items)) }
+        ensures entries { IfOk result (λ _. WithNewPass {H = H} H.real self.place (λ first last.
+            TakesAt self.place first last)) }
+        ensures refused { IfErr result (λ window. window ≡ self) }
+        ensures asked { IfErr result (λ _. WithNewPass {H = H} H.real self.place (λ first last.
+            RefusesTaking (IsRawWhole self.items self.place) self.place first last)) }
+    {
+        let mut pass = self.pass();
+        let taken = self.try_into_raw_buffer_as(&mut pass);
+        pass.show();
+        taken
+    }
+}

@@ -1,0 +1,101 @@
+//! Read windows that become those of another layout.
+ghost use Rattle.std.specs.Prelude.{◌≡◌, IfOk, IfErr};
+ghost use Rattle.arc_block.specs.LayoutFacts.{layout_facts};
+ghost use Rattle.arc_block.specs.Moves.{Moves, IsRefused, layout_move};
+ghost use Rattle.arc_block.specs.Steps.{IsPassAt};
+ghost use Rattle.arc_block.specs.Window.{parts_of};
+ghost use Rattle.arc_read.specs.Steps.{WithNewPass};
+
+use super::ArcSlice;
+use arc_block::layout::Layout;
+use arc_buffer::buffer::Buffer;
+use arc_buffer::kinds::Slice;
+use arc_owners::mark::{Mark, Stepping};
+use arc_owners::owners::Pass;
+use std::alloc::Allocator;
+
+impl<
+    S: Slice,
+    L: Layout,
+    B: Buffer<S::Item> + Drop,
+    M: Drop,
+    A: Allocator + Copy,
+    H: Mark,
+> ArcSlice<S, L, B, M, A, H> {
+    /// The same items, as a window under the layout `K`. It stays where it stands, where that
+    /// layout holds it, and nothing is added. With no items, on nothing, it gets a native block of
+    /// no places where the layout has no static data. On an `Arc` that was a block by itself it
+    /// gets a block that keeps the `Arc` and counts its owners, where the layout counts them: the
+    /// pass is the new block's afterwards. On a block that counts an `Arc` it leaves that for a
+    /// clone of the `Arc`, where the layout has one as a block by itself.
+    ///
+    /// # Errors
+    ///
+    /// The window, where the layout holds neither its block nor its static data, where memory for a
+    /// new block is refused, and where the `Arc` refuses to be cloned. The pass is then as before.
+    ///
+    /// # Allocates
+    ///
+    /// For a new block.
+    ///
+    /// # History
+    ///
+    /// Down where the window leaves a block that counts an `Arc`, and else nothing.
+    pub fn try_with_layout_as<K: Layout>(
+        self,
+        pass: &mut Pass<H>,
+    ) -> Result<ArcSlice<S, K, B, M, A, H>, Self>
+        requires pass { IsPassAt self.place pass.old }
+        ensures moved { IfOk result (λ window.
+            Moves (layout_move (layout_facts K.Layout) self.place)
+            S.DROPS H.whole (parts_of self) (parts_of window) pass.old pass.new) }
+        ensures items { IfOk result (λ window. window.items ≡ self.items) }
+        ensures refused { IfErr result (λ back. (back ≡ self)
+            × IsRefused (layout_move (layout_facts K.Layout) self.place)
+            × (pass.new ≡ pass.old)) }
+    {
+        match self.into_parts().try_with_layout_as::<K>(pass) {
+            Ok(parts) => Ok(ArcSlice::from_parts(parts)),
+            Err(parts) => Err(Self::from_parts(parts)),
+        }
+    }
+}
+
+// The plain form. It is generic over the marks under which a block has many passes, as the other
+// plain forms are.
+impl<
+    S: Slice,
+    L: Layout,
+    B: Buffer<S::Item> + Drop,
+    M: Drop,
+    A: Allocator + Copy,
+    H: Stepping,
+> ArcSlice<S, L, B, M, A, H> {
+    /// The same items, as a window under the layout `K`: `try_with_layout_as` with a new pass.
+    ///
+    /// # Errors
+    ///
+    /// Those of `try_with_layout_as`.
+    ///
+    /// # Allocates
+    ///
+    /// Where `try_with_layout_as` does.
+    ///
+    /// # History
+    ///
+    /// That of `try_with_layout_as`.
+    pub fn try_with_layout<K: Layout>(self) -> Result<ArcSlice<S, K, B, M, A, H>, Self>
+        ensures moved { IfOk result (λ window. WithNewPass {H = H} H.real self.place (λ first last.
+            Moves (layout_move (layout_facts K.Layout) self.place)
+            S.DROPS H.whole (parts_of self) (parts_of window) first last)) }
+        ensures items { IfOk result (λ window. window.items ≡ self.items) }
+        ensures refused { IfErr result (λ back. (back ≡ self)
+            × IsRefused (layout_move (layout_facts K.Layout) self.place)
+            × WithNewPass {H = H} H.real self.place (λ first last. last ≡ first)) }
+    {
+        let mut pass = self.pass();
+        let moved = self.try_with_layout_as(&mut pass);
+        pass.show();
+        moved
+    }
+}

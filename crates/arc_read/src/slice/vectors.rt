@@ -1,0 +1,309 @@
+//! Read windows over vectors and boxes: made of them, and taken back as them.
+ghost use Rattle.std.specs.Prelude.{◌≡◌, length, IfOk, IfErr};
+ghost use Rattle.std.specs.Vec.{vec_capacity};
+ghost use Rattle.std.specs.declared.vec.Vec.{Vec};
+ghost use Rattle.arc_owners.specs.count.Calls.{IsPassOfNone};
+ghost use Rattle.arc_block.specs.Place.{nowhere};
+ghost use Rattle.arc_block.specs.Window.{IsVecPart, IsBoxWhole};
+ghost use Rattle.arc_block.specs.Writers.{size_at};
+ghost use Rattle.arc_block.specs.Steps.{IsPassAt, MakesOfVec, NeedsVecBlock, Begins};
+ghost use Rattle.arc_block.specs.Steps.{TakesAt, RefusesTaking};
+ghost use Rattle.arc_read.specs.Steps.{WithNewPass};
+
+use super::ArcSlice;
+use arc_block::block::exact;
+use arc_block::layout::{AnyBufferLayout, Layout};
+use arc_block::parts::Parts;
+use arc_buffer::buffer::Buffer;
+use arc_buffer::kinds::{Slice, VecIn, Wraps};
+use arc_owners::mark::{Mark, Stepping};
+use arc_owners::owners::Pass;
+use std::alloc::Allocator;
+use std::boxed::BoxedSlice;
+
+impl<
+    S: Slice,
+    L: AnyBufferLayout,
+    B: Buffer<S::Item> + Drop,
+    M: Drop,
+    A: Allocator + Copy,
+    H: Mark,
+> ArcSlice<S, L, B, M, A, H> {
+    /// A window over all items of a vector, which are legal.
+    fn try_from_legal_vec_as(
+        alloc: A,
+        items: Vec<S::Item, A>,
+        pass: &mut Pass<H>,
+    ) -> Result<Self, Vec<S::Item, A>>
+        requires legal { S.is_legal items.items }
+        requires pass { IsPassOfNone pass.old }
+        ensures made { IfOk result (λ window. MakesOfVec L.STATIC S.DROPS H.whole items.items
+            (vec_capacity items) window) }
+        ensures pass { IfOk result (λ window. Begins window pass.old pass.new) }
+        ensures refused { IfErr result (λ back. (back ≡ items)
+            × NeedsVecBlock L.STATIC (vec_capacity items) × (pass.new ≡ pass.old)) }
+    {
+        match Parts::try_from_vec_as::<L>(alloc, items, pass) {
+            Ok(parts) => Ok(Self::from_parts(parts)),
+            Err(back) => Err(back),
+        }
+    }
+
+    /// A window over all items of a vector, on a block that is the vector, with its places: no item
+    /// is copied. One without places is as a list of no items, which stands on nothing where the
+    /// layout has static data, else on a native block of no places. The pass, which is of no block,
+    /// becomes the block's; the window is owner 0.
+    ///
+    /// # Errors
+    ///
+    /// The vector comes back where memory for the count is refused; the pass is then as before.
+    ///
+    /// # Allocates
+    ///
+    /// Once, where a block is needed.
+    pub fn try_from_vec_as(alloc: A, items: S::Vec, pass: &mut Pass<H>) -> Result<Self, S::Vec>
+    where
+        S: VecIn<A>,
+        requires pass { IsPassOfNone pass.old }
+        ensures made { IfOk result (λ window. (inner : Vec S.Item A) × S.Vec.wraps items inner
+            × MakesOfVec L.STATIC S.DROPS H.whole (S.list_in_vec items) (vec_capacity inner)
+            window) }
+        ensures pass { IfOk result (λ window. Begins window pass.old pass.new) }
+        ensures refused { IfErr result (λ back. (inner : Vec S.Item A) × S.Vec.wraps items inner
+            × S.Vec.wraps back inner × NeedsVecBlock L.STATIC (vec_capacity inner)
+            × (pass.new ≡ pass.old)) }
+    {
+        match Self::try_from_legal_vec_as(alloc, items.into_inner(), pass) {
+            Ok(window) => Ok(window),
+            Err(back) => Err(S::Vec::from_inner(back)),
+        }
+    }
+
+    /// A window over all items of a box, on a block that is the box as a vector with exactly a
+    /// place for each. No item is copied, but from a box whose memory has spare places, which is
+    /// cut to its items first, by one copy. No items are as those of `try_from_vec_as` without
+    /// places. The pass, which is of no block, becomes the block's; the window is owner 0.
+    ///
+    /// # Errors
+    ///
+    /// A box of the same items comes back where memory for the count, or for that copy, is refused;
+    /// the pass is then as before.
+    ///
+    /// # Allocates
+    ///
+    /// Once, where a block is needed, and once more for that copy.
+    pub fn try_from_boxed_as(
+        alloc: A,
+        items: S::Boxed,
+        pass: &mut Pass<H>,
+    ) -> Result<Self, S::Boxed>
+    where
+        S: VecIn<A>,
+        requires pass { IsPassOfNone pass.old }
+        ensures made { IfOk result (λ window. MakesOfVec L.STATIC S.DROPS H.whole
+            (S.list_in_boxed items) (length (S.list_in_boxed items)) window) }
+        ensures pass { IfOk result (λ window. Begins window pass.old pass.new) }
+        ensures refused { IfErr result (λ back. (S.list_in_boxed back ≡ S.list_in_boxed items)
+            × NeedsVecBlock L.STATIC (length (S.list_in_boxed items)) × (pass.new ≡ pass.old)) }
+    {
+        match exact(alloc, items.into_inner().into_vec()) {
+            Ok(inner) => match Self::try_from_legal_vec_as(alloc, inner, pass) {
+                Ok(window) => Ok(window),
+                Err(back) => Err(S::Boxed::from_inner(back.into_boxed_slice())),
+            },
+            Err(back) => Err(S::Boxed::from_inner(back.into_boxed_slice())),
+        }
+    }
+}
+
+impl<
+    S: Slice,
+    L: Layout,
+    B: Buffer<S::Item> + Drop,
+    M: Drop,
+    A: Allocator + Copy,
+    H: Mark,
+> ArcSlice<S, L, B, M, A, H> {
+    /// The items as their block's vector, moved to its front, where the block is a vector and no
+    /// other owner lives. Items that are dropped one by one have to be all of the vector.
+    ///
+    /// # Errors
+    ///
+    /// The window, on another block or none, where another owner lives, and where items that are
+    /// dropped one by one are a part alone.
+    ///
+    /// # History
+    ///
+    /// Taken, Alone and Down. Refused, Alone with no where only the count could decide, and else
+    /// nothing.
+    pub fn try_into_vec_as(self, pass: &mut Pass<H>) -> Result<S::Vec, Self>
+    where
+        S: VecIn<A>,
+        requires pass { IsPassAt self.place pass.old }
+        ensures taken { IfOk result (λ v. IsVecPart S.DROPS self.items self.place
+            × (S.list_in_vec v ≡ self.items)) }
+        ensures places { IfOk result (λ v. (inner : Vec S.Item A) × S.Vec.wraps v inner
+            × (vec_capacity inner ≡ size_at self.place)) }
+        ensures entries { IfOk result (λ _. TakesAt self.place pass.old pass.new) }
+        ensures refused { IfErr result (λ window. (window ≡ self) × RefusesTaking
+            (IsVecPart S.DROPS self.items self.place) self.place pass.old pass.new) }
+    {
+        match self.into_parts().try_into_vec_as(pass) {
+            Ok(inner) => Ok(S::Vec::from_inner(inner)),
+            Err(parts) => Err(Self::from_parts(parts)),
+        }
+    }
+
+    /// The items as a box, where they are all of a vector that has no places more, and no other
+    /// owner lives. No item is copied.
+    ///
+    /// # Errors
+    ///
+    /// The window, on another block or none, where another owner lives, and where the items are a
+    /// part of the vector's places alone.
+    ///
+    /// # History
+    ///
+    /// Taken, Alone and Down. Refused, Alone with no where only the count could decide, and else
+    /// nothing.
+    pub fn try_into_boxed_as(self, pass: &mut Pass<H>) -> Result<S::Boxed, Self>
+    where
+        S: VecIn<A>,
+        requires pass { IsPassAt self.place pass.old }
+        ensures taken { IfOk result (λ b. IsBoxWhole self.items self.place
+            × (S.list_in_boxed b ≡ self.items)) }
+        ensures entries { IfOk result (λ _. TakesAt self.place pass.old pass.new) }
+        ensures refused { IfErr result (λ window. (window ≡ self) × RefusesTaking
+            (IsBoxWhole self.items self.place) self.place pass.old pass.new) }
+    {
+        match self.into_parts().try_into_box_vec_as(pass) {
+            Ok(inner) => Ok(S::Boxed::from_inner(inner.into_boxed_slice())),
+            Err(parts) => Err(Self::from_parts(parts)),
+        }
+    }
+}
+
+// The plain forms. They are generic over the marks under which a block has many passes, as the
+// other plain forms are.
+impl<
+    S: Slice,
+    L: AnyBufferLayout,
+    B: Buffer<S::Item> + Drop,
+    M: Drop,
+    A: Allocator + Copy,
+    H: Stepping,
+> ArcSlice<S, L, B, M, A, H> {
+    /// A window over all items of a vector: `try_from_vec_as` with a new pass.
+    ///
+    /// # Errors
+    ///
+    /// The vector comes back where memory for the count is refused.
+    ///
+    /// # Allocates
+    ///
+    /// Once, where a block is needed.
+    pub fn try_from_vec(alloc: A, items: S::Vec) -> Result<Self, S::Vec>
+    where
+        S: VecIn<A>,
+        ensures made { IfOk result (λ window. (inner : Vec S.Item A) × S.Vec.wraps items inner
+            × MakesOfVec L.STATIC S.DROPS H.whole (S.list_in_vec items) (vec_capacity inner)
+            window) }
+        ensures pass { IfOk result (λ window.
+            WithNewPass {M = M} {H = H} H.real nowhere (λ first last. Begins window first last)) }
+        ensures refused { IfErr result (λ back. (inner : Vec S.Item A) × S.Vec.wraps items inner
+            × S.Vec.wraps back inner × NeedsVecBlock L.STATIC (vec_capacity inner)) }
+    {
+        let mut pass = Pass::none();
+        let made = Self::try_from_vec_as(alloc, items, &mut pass);
+        pass.show();
+        made
+    }
+
+    /// A window over all items of a box: `try_from_boxed_as` with a new pass.
+    ///
+    /// # Errors
+    ///
+    /// A box of the same items comes back where memory is refused.
+    ///
+    /// # Allocates
+    ///
+    /// That of `try_from_boxed_as`.
+    pub fn try_from_boxed(alloc: A, items: S::Boxed) -> Result<Self, S::Boxed>
+    where
+        S: VecIn<A>,
+        ensures made { IfOk result (λ window. MakesOfVec L.STATIC S.DROPS H.whole
+            (S.list_in_boxed items) (length (S.list_in_boxed items)) window) }
+        ensures pass { IfOk result (λ window.
+            WithNewPass {M = M} {H = H} H.real nowhere (λ first last. Begins window first last)) }
+        ensures refused { IfErr result (λ back. (S.list_in_boxed back ≡ S.list_in_boxed items)
+            × NeedsVecBlock L.STATIC (length (S.list_in_boxed items))) }
+    {
+        let mut pass = Pass::none();
+        let made = Self::try_from_boxed_as(alloc, items, &mut pass);
+        pass.show();
+        made
+    }
+}
+
+impl<
+    S: Slice,
+    L: Layout,
+    B: Buffer<S::Item> + Drop,
+    M: Drop,
+    A: Allocator + Copy,
+    H: Stepping,
+> ArcSlice<S, L, B, M, A, H> {
+    /// The items as their block's vector: `try_into_vec_as` with a new pass.
+    ///
+    /// # Errors
+    ///
+    /// Those of `try_into_vec_as`.
+    ///
+    /// # History
+    ///
+    /// That of `try_into_vec_as`.
+    pub fn try_into_vec(self) -> Result<S::Vec, Self>
+    where
+        S: VecIn<A>,
+        ensures taken { IfOk result (λ v. IsVecPart S.DROPS self.items self.place
+            × (S.list_in_vec v ≡ self.items)) }
+        ensures places { IfOk result (λ v. (inner : Vec S.Item A) × S.Vec.wraps v inner
+            × (vec_capacity inner ≡ size_at self.place)) }
+        ensures entries { IfOk result (λ _. WithNewPass {H = H} H.real self.place (λ first last.
+            TakesAt self.place first last)) }
+        ensures refused { IfErr result (λ window. window ≡ self) }
+        ensures asked { IfErr result (λ _. WithNewPass {H = H} H.real self.place (λ first last.
+            RefusesTaking (IsVecPart S.DROPS self.items self.place) self.place first last)) }
+    {
+        let mut pass = self.pass();
+        let taken = self.try_into_vec_as(&mut pass);
+        pass.show();
+        taken
+    }
+
+    /// The items as a box: `try_into_boxed_as` with a new pass.
+    ///
+    /// # Errors
+    ///
+    /// Those of `try_into_boxed_as`.
+    ///
+    /// # History
+    ///
+    /// That of `try_into_boxed_as`.
+    pub fn try_into_boxed(self) -> Result<S::Boxed, Self>
+    where
+        S: VecIn<A>,
+        ensures taken { IfOk result (λ b. IsBoxWhole self.items self.place
+            × (S.list_in_boxed b ≡ self.items)) }
+        ensures entries { IfOk result (λ _. WithNewPass {H = H} H.real self.place (λ first last.
+            TakesAt self.place first last)) }
+        ensures refused { IfErr result (λ window. window ≡ self) }
+        ensures asked { IfErr result (λ _. WithNewPass {H = H} H.real self.place (λ first last.
+            RefusesTaking (IsBoxWhole self.items self.place) self.place first last)) }
+    {
+        let mut pass = self.pass();
+        let taken = self.try_into_boxed_as(&mut pass);
+        pass.show();
+        taken
+    }
+}

@@ -1,0 +1,510 @@
+-- What a slot's window is answered that asks whether it is alone, is written from now on, or is taken
+-- out: by the sort of its block.
+use Rattle.std.proofs.Common.{◌≡◌, ℕ, ◌+◌, ◌==◌, ◌&&◌, Bool, true, false, if◌then◌else◌, List, [], ◌∷◌}
+use Rattle.std.proofs.Common.{length, Option, Some, None, Result, Ok, Err, is_some, refl, sym, ap}
+use Rattle.std.proofs.Common.{◌∙◌, subst, inl, inr, slice_set}
+use Rattle.std.specs.Prelude.{nat_lt}
+use Rattle.std.specs.Result.{result_err}
+use Rattle.std.proofs.lemmas.Bool.{and_parts, cases_Bool, false≢true}
+use Rattle.std.proofs.lemmas.Option.{none-some, same_Some}
+use Rattle.arc_owners.specs.declared.mark.Whole.{Whole}
+use Rattle.arc_owners.specs.declared.count.tokens.Pass.{Pass}
+use Rattle.arc_owners.specs.declared.error.RangeError.{RangeError}
+use Rattle.arc_owners.specs.declared.error.OwnerError.{OwnerError}
+use Rattle.arc_owners.specs.declared.error.OwnerError.TheVariants.{AllocError, CountFull}
+use Rattle.arc_owners.specs.declared.error.TryReserveError.{TryReserveError}
+use Rattle.arc_owners.specs.declared.error.TryReserveError.TheVariants as reserve
+use Rattle.arc_owners.specs.declared.history.entry.Entry.TheVariants as entry
+use Rattle.arc_owners.specs.count.Calls.{Owner, Asks, TakesBlock}
+use Rattle.arc_buffer.specs.Slice.{edge_answer}
+use Rattle.arc_block.specs.declared.parts.room.Room.{Room}
+use Rattle.arc_block.specs.declared.parts.room.Room.TheVariants as from
+use Rattle.arc_block.specs.Block.{Sort, BlockInfo, native, vector, buffer, raw}
+use Rattle.arc_block.specs.Layouts.{LayoutFacts}
+use Rattle.arc_block.specs.Moves.{IsRefused, counted_move, layout_move}
+use Rattle.arc_block.specs.declared.parts.moves.Move.{Move}
+use Rattle.arc_block.specs.declared.parts.moves.Move.TheVariants as to
+use Rattle.arc_block.specs.Owned.{Stand}
+use Rattle.arc_block.specs.Place.{Place, nowhere, static_data, on_block}
+use Rattle.arc_block.specs.Table.{Row, Role, reader, sole_writer, block_of}
+use Rattle.arc_block.specs.Writers.{new_writer, with_more, with_room, Reclaims, as_reader, as_sole}
+use Rattle.arc_block.specs.Writers.{after_advance, capacity_of}
+use Rattle.arc_commands.specs.Additions.{RowAdds, AddsAt, Joins, Enters, Founds, MayBegin, Stays}
+use Rattle.arc_commands.specs.Additions.{AsksIf, AsksInVain, AsksInVainAt, Takes, ended}
+use Rattle.arc_commands.specs.Additions.{asked as History_asked}
+use Rattle.arc_commands.specs.Step.{Setting, Shortage, no_shortage, of_table, of_clones, of_blocks}
+use Rattle.arc_commands.specs.Step.{Around, Change, answer_any, answer_row, asking_block, begun}
+use Rattle.arc_commands.specs.Step.{filled, in_range, is_allowed, is_now, made_row}
+use Rattle.arc_commands.specs.Step.{after_move, is_box_whole, is_free, is_on_block, is_unique}
+use Rattle.arc_commands.specs.Step.{is_unique_at, is_vector_part, is_writable_at, may_write}
+use Rattle.arc_commands.specs.Step.{may_write_at, may_write_sort, of_buffer, taken_as}
+use Rattle.arc_commands.specs.Step.{parted, reclaimed, room_of, shortage, truncated}
+use Rattle.arc_commands.specs.Step.{with_made, gone}
+use Rattle.arc_commands.specs.Blocks.{is_sole}
+use Rattle.arc_commands.specs.Commands.{ListCmd, ListReply}
+use Rattle.arc_commands.specs.declared.command.Cmd.TheVariants as command
+use Rattle.arc_commands.specs.declared.command.Reply.TheVariants as reply
+use Rattle.arc_commands.proofs.Roles.{sole_each}
+use Rattle.arc_slots.specs.Answers.{Answers, around_in}
+use Rattle.arc_slots.specs.Calls.{Along, AsksPlace, AsksSort, Beside, MayAsk, RefusesAt}
+use Rattle.arc_slots.specs.Calls.{RefusesOut, TakesOut, Through}
+use Rattle.arc_slots.specs.Parts.{is_itself, part_answer, part_command, part_row, rest_of}
+use Rattle.arc_slots.specs.Slots.{SlotView, row_of, stand_of}
+use Rattle.arc_slots.specs.Splits.{IsSplit}
+use Rattle.arc_slots.specs.Stands.{HasPassFor, numbered, stand_at}
+use Rattle.arc_slots.specs.Writing.{Fills, FreezesBy, additional_of, can_write, is_fresh, is_new}
+use Rattle.arc_slots.specs.Writing.{items_of}
+use Rattle.arc_slots.specs.Writing.{write_command}
+use Rattle.arc_slots.specs.declared.part.Part.{Part}
+use Rattle.arc_slots.specs.declared.part.Part.TheVariants.{Whole as All, Range, Back, Front}
+use Rattle.arc_slots.specs.declared.slot.Writing.{Writing}
+use Rattle.arc_slots.specs.declared.slot.Writing.TheVariants as writing
+use Rattle.arc_slots.proofs.ByForm.{part-adds, part-none, write-adds, write-none}
+use Rattle.arc_slots.proofs.Added.{Ended, asked-comes, ended-comes, enters-along, raises-beside}
+use Rattle.arc_slots.proofs.Added.{refuses-at}
+use Rattle.arc_block.proofs.Lists.{get-set}
+use Rattle.arc_slots.proofs.Filled.{new-moved}
+use Rattle.arc_slots.proofs.Native.{and_none}
+use Rattle.arc_slots.proofs.Taken.{set-twice}
+use Rattle.arc_slots.proofs.Told.{alone-told, full-told, many_along, many-beside, many-refused}
+use Rattle.arc_slots.proofs.Told.{many-founded, none-stands, room-beside, row-begins, row-block}
+use Rattle.arc_slots.proofs.Told.{stand_block}
+use Rattle.arc_slots.proofs.Answered.{for-role, reads-for}
+
+module _ {T M : Type 0} (setting : Setting T) (windows : ℕ) (s : SlotView T M)
+    (passes : List (Pass Whole)) where
+  abbrev here : Stand
+  here = stand_of (Some s)
+
+  abbrev row : Row T M
+  row = row_of s
+
+  abbrev around : Around
+  around = around_in windows passes here
+
+  abbrev Command : Type 0
+  Command = ListCmd T M
+
+  abbrev Said : Command → ListReply T M → Option (SlotView T M) → Option (SlotView T M)
+      → List (Pass Whole) → Type 0
+  Said c r new made passes' = Answers setting windows c s passes r new made passes'
+
+  -- ---- whether the window is alone
+
+  module _ (passes' : List (Pass Whole)) where
+    abbrev AskedAs : Stand → Bool → Type 0
+    AskedAs st found = Along st passes passes' (λ o p q. Asks o p q found)
+
+    asked-adds : (st : Stand) (found : Bool) → AskedAs st found
+        → Enters st st None passes passes' (History_asked found)
+    asked-adds st found along = (
+      refl,
+      refl,
+      enters-along passes passes' (λ o p q. Asks o p q found)
+          (History_asked found) (asked-comes found) st along,
+    )
+
+    many-may : (asks : Bool) (st : Stand) (found : Bool) → MayAsk asks st passes passes' found
+        → length passes' ≡ length passes
+    many-may true st found along =
+        many_along passes passes' st (λ o p q. Asks o p q found) along
+    many-may false st found same = ap length same
+
+    -- where only the count decides
+    asks-if : (asks : Bool) (st : Stand) → MayAsk asks st passes passes' false
+        → AsksIf st st None passes passes' asks
+    asks-if true st along = asked-adds st false along
+    asks-if false st same = (refl, refl, same)
+
+    abbrev alone_at : Stand → Bool
+    alone_at st = (around_in windows passes st).alone
+
+    -- what a yes or a no to the question tells
+    abbrev says-short : Bool → Shortage
+    says-short true = no_shortage
+    says-short false = of_buffer
+
+    abbrev UniqAdds : Bool → Stand → Place (Option ℕ) M → Type 0
+    UniqAdds true st place = Enters st st None passes passes' (History_asked true)
+    UniqAdds false st place = AsksInVainAt st st None passes passes' place
+
+    abbrev UniqTold : Bool → Stand → Place (Option ℕ) M → Type 0
+    UniqTold found st place =
+        (is_unique_at (says-short found) (alone_at st) place ≡ found)
+        × (length passes' ≡ length passes) × UniqAdds found st place
+
+    not-unique : (sort : Sort) → is_unique of_buffer false sort ≡ false
+    not-unique native = refl
+    not-unique vector = refl
+    not-unique (buffer writable) = refl
+    not-unique raw = refl
+
+    vain-none : (sort : Sort) → passes' ≡ passes → AsksInVain None None None passes passes' sort
+    vain-none native same = (refl, refl, same)
+    vain-none vector same = (refl, refl, same)
+    vain-none (buffer writable) same = (false, (refl, refl, same))
+    vain-none raw same = (refl, refl, same)
+
+    -- nobody was asked
+    uniq-none : (found : Bool) (place : Place (Option ℕ) M)
+        → is_unique_at of_buffer false place ≡ false
+        → AsksInVainAt None None None passes passes' place
+        → (found ≡ false) × (passes' ≡ passes) → UniqTold found None place
+    uniq-none true place un vain asks = absurd (false≢true (sym asks.0))
+    uniq-none false place un vain asks = (un, ap length asks.1, vain)
+
+    module _ (n : ℕ) (o : Owner) (has : HasPassFor passes (Some (n, o))) where
+      abbrev at : Stand
+      at = Some (n, o)
+
+      told-alone : (found : Bool) → AskedAs at found → alone_at at ≡ found
+      told-alone found along =
+          alone-told passes passes' windows found at has along (λ e. absurd (none-some (n, o) (sym e)))
+
+      uniq-sort : (found : Bool) (sort : Sort) → AsksSort sort at passes passes' found
+          → (is_unique (says-short found) (alone_at at) sort ≡ found)
+          × (length passes' ≡ length passes)
+          × (found ≡ true → Enters at at None passes passes' (History_asked true))
+          × (found ≡ false → AsksInVain at at None passes passes' sort)
+      uniq-sort found native asks = (
+        told-alone found asks,
+        many_along passes passes' at (λ o p q. Asks o p q found) asks,
+        λ so. asked-adds at true (subst (AskedAs at) so asks),
+        λ un. asked-adds at false (subst (AskedAs at) un asks),
+      )
+      uniq-sort found vector asks = (
+        told-alone found asks,
+        many_along passes passes' at (λ o p q. Asks o p q found) asks,
+        λ so. asked-adds at true (subst (AskedAs at) so asks),
+        λ un. asked-adds at false (subst (AskedAs at) un asks),
+      )
+      uniq-sort true (buffer writable) asks = (
+        told-alone asks.0 asks.1 ∙ asks.2 refl,
+        many_along passes passes' at (λ o p q. Asks o p q asks.0) asks.1,
+        λ so. asked-adds at true (subst (AskedAs at) (asks.2 refl) asks.1),
+        λ un. absurd (false≢true (sym un)),
+      )
+      uniq-sort false (buffer writable) asks = (
+        refl,
+        many_along passes passes' at (λ o p q. Asks o p q asks.0) asks.1,
+        λ so. absurd (false≢true so),
+        λ un. (asks.0, asked-adds at asks.0 asks.1),
+      )
+      uniq-sort true raw asks = absurd (false≢true (sym asks.0))
+      uniq-sort false raw asks = (
+        refl,
+        ap length asks.1,
+        λ so. absurd (false≢true so),
+        λ un. (refl, refl, asks.1),
+      )
+
+      uniq-block : (found : Bool) (offset : ℕ) (info : BlockInfo M)
+          → AsksSort info.sort at passes passes' found
+          → UniqTold found at (on_block (Some n) offset info)
+      uniq-block true offset info asks =
+          let all = uniq-sort true info.sort asks in (all.0, all.1, all.2 refl)
+      uniq-block false offset info asks =
+          let all = uniq-sort false info.sort asks in (all.0, all.1, all.3 refl)
+
+    uniq-told : (found : Bool) (b : Option ℕ) (place : Place (Option Owner) M)
+        → HasPassFor passes (stand_at b place)
+        → AsksPlace (numbered b place) (stand_at b place) passes passes' found
+        → UniqTold found (stand_at b place) (numbered b place)
+    uniq-told found b nowhere has asks = uniq-none found nowhere refl (refl, refl, asks.1) asks
+    uniq-told found b static_data has asks =
+        uniq-none found static_data refl (refl, refl, asks.1) asks
+    uniq-told found b (on_block None offset info) has asks =
+        uniq-none found (on_block None offset info) (not-unique info.sort)
+        (vain-none info.sort asks.1) asks
+    uniq-told found None (on_block (Some o) offset info) has asks =
+        uniq-none found (on_block None offset info) (not-unique info.sort)
+        (vain-none info.sort asks.1) asks
+    uniq-told found (Some n) (on_block (Some o) offset info) has asks =
+        uniq-block n o has found offset info asks
+
+    module _ (has : HasPassFor passes here) (reads : s.role ≡ reader) where
+      uniq-says : (i : ℕ) (found : Bool) → UniqTold found here row.place
+          → answer_any setting (says-short found) around (command.Uniq i) row
+          ≡ is_now (if found then reply.Yes else reply.No) row
+      uniq-says i found told =
+          for-role setting windows s passes (says-short found) (command.Uniq i) (reads-for setting windows s passes reads (command.Uniq i) true refl)
+          ∙ ap (λ b. is_now (if b then reply.Yes else reply.No) row) told.0
+
+      pub uniq : (i : ℕ) (found : Bool) → AsksPlace row.place here passes passes' found
+          → Said (command.Uniq i) (if found then reply.Yes else reply.No) (Some s) None passes'
+      uniq i true asks =
+          let told = uniq-told true s.block s.window.place has asks in
+          record {
+            begins = false;
+            change = uniq-says i true told;
+            blocks = told.1;
+            adds = told.2;
+          }
+      uniq i false asks =
+          let told = uniq-told false s.block s.window.place has asks in
+          record {
+            begins = false;
+            change = uniq-says i false told;
+            blocks = told.1;
+            adds = told.2;
+          }
+
+    -- it may be written where it is alone, or stands on nothing without items
+    module _ (any : Bool) (len : ℕ) where
+      abbrev MayTold : Bool → Stand → Place (Option ℕ) M → Type 0
+      MayTold found st place = may_write_at any (alone_at st) place len ≡ found
+
+      may-block : (found w : Bool) (n : ℕ) (o : Owner) → HasPassFor passes (Some (n, o))
+          → MayAsk w (Some (n, o)) passes passes' found → (w && found) ≡ found
+          → (w && alone_at (Some (n, o))) ≡ found
+      may-block found true n o has asks decides =
+          ap (λ b. true && b) (told-alone n o has found asks) ∙ decides
+      may-block found false n o has asks decides = decides
+
+      may-none : (found w : Bool) → (found ≡ true → false ≡ true) → (w && false) ≡ found
+      may-none true w off = absurd (false≢true (off refl))
+      may-none false w off = and_none w
+
+      may-told : (found : Bool) (b : Option ℕ) (place : Place (Option Owner) M)
+          → HasPassFor passes (stand_at b place)
+          → MayAsk (is_writable_at any (numbered b place)) (stand_at b place) passes passes' found
+          → may_write_at any found (numbered b place) len ≡ found
+          → (found ≡ true → is_on_block (numbered b place) ≡ true
+          → is_some (stand_at b place) ≡ true)
+          → MayTold found (stand_at b place) (numbered b place)
+      may-told found b nowhere has asks decides owner = decides
+      may-told found b static_data has asks decides owner = decides
+      may-told found b (on_block None offset info) has asks decides owner =
+          may-none found (may_write_sort any info.sort) (λ so. owner so refl)
+      may-told found None (on_block (Some o) offset info) has asks decides owner =
+          may-none found (may_write_sort any info.sort) (λ so. owner so refl)
+      may-told found (Some n) (on_block (Some o) offset info) has asks decides owner =
+          may-block found (may_write_sort any info.sort) n o has asks decides
+
+      -- what it adds that it is written from now on
+      wrote-adds : (b : Option ℕ) (place : Place (Option Owner) M)
+          → MayAsk (is_writable_at any (numbered b place)) (stand_at b place) passes passes' true
+          → may_write_at any true (numbered b place) len ≡ true
+          → (is_on_block (numbered b place) ≡ true → is_some (stand_at b place) ≡ true)
+          → AddsAt (stand_at b place) (History_asked true) passes passes'
+      wrote-adds b nowhere asks decides owner = asks
+      wrote-adds b static_data asks decides owner = asks
+      wrote-adds b (on_block None offset info) asks decides owner =
+          absurd (false≢true (owner refl))
+      wrote-adds None (on_block (Some o) offset info) asks decides owner =
+          absurd (false≢true (owner refl))
+      wrote-adds (Some n) (on_block (Some o) offset info) asks decides owner =
+          by (may_write_sort any info.sort) asks (and_parts (may_write_sort any info.sort) true decides).0
+        where
+          by : (w : Bool) → MayAsk w (Some (n, o)) passes passes' true → w ≡ true
+              → AddsAt (Some (n, o)) (History_asked true) passes passes'
+          by true along may = (asked-adds (Some (n, o)) true along).2
+          by false same may = absurd (false≢true may)
+
+    module _ (has : HasPassFor passes here) (reads : s.role ≡ reader) where
+      mut-is : (i : ℕ) (found : Bool) → may_write setting around row ≡ found
+          → answer_any setting no_shortage around (command.Mut i) row
+          ≡ (if found then is_now reply.Ok (as_sole setting.drops row) else
+          is_now reply.Refused row)
+      mut-is i found may =
+          for-role setting windows s passes no_shortage (command.Mut i) (reads-for setting windows s passes reads (command.Mut i) true refl)
+          ∙ ap (λ b. if b then is_now reply.Ok (as_sole setting.drops row) else
+          is_now reply.Refused row) may
+
+      pub wrote : (i : ℕ) → MayAsk (is_writable_at setting.writes_any row.place) here passes passes' true
+          → may_write_at setting.writes_any true row.place (length row.items) ≡ true
+          → (is_on_block row.place ≡ true → is_some here ≡ true)
+          → (new : SlotView T M) → stand_of (Some new) ≡ here
+          → row_of new ≡ as_sole setting.drops row
+          → Said (command.Mut i) reply.Ok (Some new) None passes'
+      wrote i asks decides owner new stays is = record {
+        begins = false;
+        change =
+            mut-is i true (may-told setting.writes_any (length row.items) true s.block s.window.place
+            has asks decides (λ so. owner)) ∙ ap (is_now reply.Ok) (sym is);
+        blocks = many-may (is_writable_at setting.writes_any row.place) here true asks;
+        adds = (
+          stays,
+          refl,
+          wrote-adds setting.writes_any (length row.items) s.block s.window.place asks decides
+              owner,
+        );
+      }
+
+      pub unwritten : (i : ℕ)
+          → MayAsk (is_writable_at setting.writes_any row.place) here passes passes' false
+          → may_write_at setting.writes_any false row.place (length row.items) ≡ false
+          → Said (command.Mut i) reply.Refused (Some s) None passes'
+      unwritten i asks decides = record {
+        begins = false;
+        change =
+            mut-is i false (may-told setting.writes_any (length row.items) false s.block
+            s.window.place has asks decides (λ so. absurd (false≢true so)));
+        blocks = many-may (is_writable_at setting.writes_any row.place) here false asks;
+        adds = asks-if (is_writable_at setting.writes_any row.place) here asks;
+      }
+
+    -- ---- what the window stands on, taken out
+
+    abbrev TookAs : Stand → Type 0
+    TookAs st = Along st passes passes' TakesBlock
+
+    -- who took it was alone, where owners are counted
+    module _ (n : ℕ) (o : Owner) (took : TookAs (Some (n, o))) where
+      abbrev between : List (Pass Whole)
+      between = slice_set passes n took.called.middle
+
+      asked-first : Through n o passes between (λ o p q. Asks o p q true)
+      asked-first = record {
+        before = took.before;
+        after = took.called.middle;
+        was = took.was;
+        pass = took.pass;
+        whole = took.whole;
+        called = took.called.asked;
+        others = refl;
+      }
+
+      left-then : Through n o between passes' Ended
+      left-then = record {
+        before = took.called.middle;
+        after = took.after;
+        was = get-set passes n took.before took.called.middle took.was;
+        pass = took.called.asked.added.same.0;
+        whole = took.whole;
+        called = (true, took.called.left);
+        others =
+            took.others
+            ∙ sym (set-twice passes n took.called.middle took.after);
+      }
+
+    takes-adds : (st : Stand) → TookAs st
+        → (mid : List (Pass Whole)) × AddsAt st (History_asked true) passes mid
+        × AddsAt st ended mid passes'
+    takes-adds None same = (passes, refl, same)
+    takes-adds (Some (n, o)) took = (
+      between n o took,
+      enters-along passes (between n o took) (λ o p q. Asks o p q true) (History_asked true)
+          (asked-comes true) (Some (n, o)) (asked-first n o took),
+      enters-along (between n o took) passes' Ended ended ended-comes (Some (n, o))
+          (left-then n o took),
+    )
+
+    free-told : (b : Option ℕ) (place : Place (Option Owner) M)
+        → HasPassFor passes (stand_at b place) → TookAs (stand_at b place)
+        → is_on_block (numbered b place) ≡ true
+        → is_free (alone_at (stand_at b place)) (numbered b place) ≡ true
+    free-told b nowhere has took on = on
+    free-told b static_data has took on = on
+    free-told b (on_block None offset info) has took on = refl
+    free-told None (on_block (Some o) offset info) has took on = refl
+    free-told (Some n) (on_block (Some o) offset info) has took on =
+        alone-told passes (between n o took) windows true (Some (n, o)) has (asked-first n o took)
+        (λ e. absurd (none-some (n, o) (sym e)))
+
+    not-free : (b : Option ℕ) (place : Place (Option Owner) M)
+        → HasPassFor passes (stand_at b place)
+        → MayAsk true (stand_at b place) passes passes' false
+        → (stand_at b place ≡ None → true ≡ false)
+        → is_free (alone_at (stand_at b place)) (numbered b place) ≡ false
+    not-free b nowhere has asks counted = refl
+    not-free b static_data has asks counted = refl
+    not-free b (on_block None offset info) has asks counted = counted refl
+    not-free None (on_block (Some o) offset info) has asks counted = counted refl
+    not-free (Some n) (on_block (Some o) offset info) has asks counted =
+        told-alone n o has false asks
+
+    module _ (has : HasPassFor passes here) (c : Command) (wanted : Bool)
+        (answer : ListReply T M)
+        (is : (short : Shortage) → answer_any setting short around c row
+        ≡ taken_as wanted around row answer) where
+      pub took-out : (wanted ≡ true → is_on_block row.place ≡ true)
+          → (Takes here None None passes passes' → RowAdds here None None passes passes' setting row c answer)
+          → TakesOut wanted here passes passes' → Said c answer None None passes'
+      took-out on adds took = record {
+        begins = false;
+        change =
+            is (shortage answer c)
+            ∙ ap (λ b. if b && is_free around.alone row.place then gone answer else
+            is_now reply.Refused row) took.0
+            ∙ ap (λ b. if true && b then gone answer else is_now reply.Refused row)
+            (free-told s.block s.window.place has took.1 (on took.0));
+        blocks = many_along passes passes' here TakesBlock took.1;
+        adds =
+            let mid = takes-adds here took.1 in adds (refl, refl, mid.0, mid.1, mid.2);
+      }
+
+      wanted-not : (w : Bool) → MayAsk w here passes passes' false → (here ≡ None → w ≡ false)
+          → (w && is_free around.alone row.place) ≡ false
+      wanted-not true asks counted = not-free s.block s.window.place has asks counted
+      wanted-not false asks counted = refl
+
+      pub refused-out :
+          (AsksIf here here None passes passes' wanted
+          → RowAdds here here None passes passes' setting row c reply.Refused)
+          → RefusesOut wanted here passes passes' → Said c reply.Refused (Some s) None passes'
+      refused-out adds refuses = record {
+        begins = false;
+        change =
+            is (shortage reply.Refused c)
+            ∙ ap (λ b. if b then gone answer else is_now reply.Refused row)
+            (wanted-not wanted refuses.asked refuses.counted);
+        blocks = many-may wanted here false refuses.asked;
+        adds = adds (asks-if wanted here refuses.asked);
+      }
+
+  -- ---- each way of taking
+
+  module _ (has : HasPassFor passes here) (reads : s.role ≡ reader) (i : ℕ)
+      (passes' : List (Pass Whole)) where
+    vector-on : (drops : Bool) (place : Place (Option ℕ) M) (len : ℕ)
+        → is_vector_part drops place len ≡ true → is_on_block place ≡ true
+    vector-on drops nowhere len is = is
+    vector-on drops static_data len is = is
+    vector-on drops (on_block block offset info) len is = refl
+
+    box-on : (place : Place (Option ℕ) M) (len : ℕ) → is_box_whole place len ≡ true
+        → is_on_block place ≡ true
+    box-on nowhere len is = is
+    box-on static_data len is = is
+    box-on (on_block block offset info) len is = refl
+
+    abbrev vector_wanted : Bool
+    vector_wanted = is_vector_part setting.drops row.place (length row.items)
+
+    take-is : (short : Shortage) → answer_any setting short around (command.Take i) row
+        ≡ taken_as vector_wanted around row (reply.Vec row.items)
+    take-is short =
+        for-role setting windows s passes short (command.Take i) (reads-for setting windows s passes reads (command.Take i) true refl)
+
+    pub took-vec : TakesOut vector_wanted here passes passes'
+        → Said (command.Take i) (reply.Vec s.window.items) None None passes'
+    took-vec =
+        took-out passes' has (command.Take i) vector_wanted (reply.Vec row.items) take-is
+        (vector-on setting.drops row.place (length row.items)) (λ takes. takes)
+
+    pub untook-vec : RefusesOut vector_wanted here passes passes'
+        → Said (command.Take i) reply.Refused (Some s) None passes'
+    untook-vec =
+        refused-out passes' has (command.Take i) vector_wanted (reply.Vec row.items) take-is
+        (λ asks. asks)
+
+    abbrev box_wanted : Bool
+    box_wanted = is_box_whole row.place (length row.items)
+
+    take_box-is : (short : Shortage) → answer_any setting short around (command.TakeBox i) row
+        ≡ taken_as box_wanted around row (reply.Boxed row.items)
+    take_box-is short =
+        for-role setting windows s passes short (command.TakeBox i) (reads-for setting windows s passes reads (command.TakeBox i) true refl)
+
+    pub took-box : TakesOut box_wanted here passes passes'
+        → Said (command.TakeBox i) (reply.Boxed s.window.items) None None passes'
+    took-box =
+        took-out passes' has (command.TakeBox i) box_wanted (reply.Boxed row.items) take_box-is
+        (box-on row.place (length row.items)) (λ takes. takes)
+
+    pub untook-box : RefusesOut box_wanted here passes passes'
+        → Said (command.TakeBox i) reply.Refused (Some s) None passes'
+    untook-box =
+        refused-out passes' has (command.TakeBox i) box_wanted (reply.Boxed row.items) take_box-is
+        (λ asks. asks)

@@ -1,0 +1,59 @@
+-- What is taken out by the pass that was lent for it is taken out of the table.
+use Rattle.std.proofs.Common.{sym, ◌∙◌}
+use Rattle.arc_block.specs.Window.{IsBoxWhole}
+use Rattle.arc_commands.specs.Step.{is_box_whole}
+use Rattle.arc_slots.proofs.Native.{box-is, box-numbered, box-says}
+use Rattle.arc_slots.proofs.Slots.{reads-fits, reads-view}
+use Rattle.arc_slots.proofs.Takes.{parts-number, parts-pass, slot-refuses, slot-takes}
+use Rattle.arc_slots.proofs.slot.Slot.try_into_box.Goals as goal
+
+pub try_into_box_vec_as-taken-requires-clause-pass : goal.try_into_box_vec_as-taken-requires-clause-pass
+try_into_box_vec_as-taken-requires-clause-pass g c =
+    let b = c.self.inside.block in
+    let w = c.in-Read.window in
+    parts-pass w b c.args.self
+    (sym (reads-view c.self.inside.window w b c.in-Read.is) ∙ c.self.view_is)
+    (reads-fits c.self.inside.window w b c.in-Read.is c.self.invariant.0) c.into_parts.result
+    c.into_parts.ensures.parts c.args.passes.now.of_blocks.items
+    c.lend-pass.new.self.of_blocks.items c.lend-pass.result c.requires.pass
+    c.lend-pass.ensures.taken
+
+pub give_back-requires : goal.give_back-requires
+give_back-requires g c =
+    let b = c.self.inside.block in
+    let w = c.in-Read.window in
+    parts-number w b c.args.self
+    (sym (reads-view c.self.inside.window w b c.in-Read.is) ∙ c.self.view_is)
+    (reads-fits c.self.inside.window w b c.in-Read.is c.self.invariant.0) c.into_parts.result
+    c.into_parts.ensures.parts c.args.passes.now.of_blocks.items
+    c.lend-pass.new.self.of_blocks.items c.lend-pass.result c.requires.pass
+    c.lend-pass.ensures.taken
+
+pub returns-in-Ok-clause-taken : goal.returns-in-Ok-clause-taken
+returns-in-Ok-clause-taken g c =
+    let b = c.self.inside.block in
+    let w = c.in-Read.window in
+    let q = c.into_parts.result in
+    slot-takes w b c.args.self
+    (sym (reads-view c.self.inside.window w b c.in-Read.is) ∙ c.self.view_is)
+    (reads-fits c.self.inside.window w b c.in-Read.is c.self.invariant.0) q
+    c.into_parts.ensures.parts c.args.passes.now.of_blocks.items
+    c.lend-pass.new.self.of_blocks.items c.lend-pass.result c.requires.pass
+    c.lend-pass.ensures.taken (is_box_whole) (is_box_whole) (box-numbered b) (IsBoxWhole q.items q.place)
+    (box-is q.items q.place) (box-says q.items q.place) c.try_into_box_vec_as-taken.new.pass
+    c.give_back.new.self.of_blocks.items c.give_back.ensures c.in-Ok.ensures.taken.0
+    c.in-Ok.ensures.entries
+
+pub returns-in-Err-clause-refused : goal.returns-in-Err-clause-refused
+returns-in-Err-clause-refused g c =
+    let b = c.self.inside.block in
+    let w = c.in-Read.window in
+    let q = c.into_parts.result in
+    slot-refuses w b c.args.self
+    (sym (reads-view c.self.inside.window w b c.in-Read.is) ∙ c.self.view_is)
+    (reads-fits c.self.inside.window w b c.in-Read.is c.self.invariant.0) q
+    c.into_parts.ensures.parts c.args.passes.now.of_blocks.items
+    c.lend-pass.new.self.of_blocks.items c.lend-pass.result c.requires.pass
+    c.lend-pass.ensures.taken (is_box_whole) (is_box_whole) (box-numbered b) (IsBoxWhole q.items q.place)
+    (box-is q.items q.place) (box-says q.items q.place) c.try_into_box_vec_as-taken.new.pass
+    c.give_back.new.self.of_blocks.items c.give_back.ensures c.in-Err.ensures.refused.1

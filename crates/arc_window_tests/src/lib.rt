@@ -1,0 +1,33 @@
+//! Tests of `arc_read` and `arc_write` which rows can't say: memory that is counted or refused,
+//! items that are dropped, threads, passes, and printed text. All else stands in rows of
+//! `arc_window_rows`.
+#![tactic(auto)]
+
+#[cfg(test)]
+mod borrows;
+#[cfg(test)]
+mod callers;
+#[cfg(test)]
+mod extend;
+#[cfg(test)]
+mod items;
+#[cfg(test)]
+mod layouts;
+#[cfg(test)]
+mod owned;
+#[cfg(test)]
+mod reader_adapters;
+#[cfg(test)]
+mod readers;
+#[cfg(test)]
+mod static_readers;
+#[cfg(test)]
+mod taken_back;
+#[cfg(test)]
+mod threads;
+#[cfg(test)]
+mod writer_adapters;
+#[cfg(test)]
+mod writers;
+#[cfg(test)]
+mod written_buffers;

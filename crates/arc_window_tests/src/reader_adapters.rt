@@ -1,0 +1,298 @@
+//! Read windows compared, hashed, printed, lent, and read from.
+use arc_block::layout::{ArcLayout, BoxedSliceLayout, DefaultLayout, Layout, RawLayout, VecLayout};
+use arc_buffer::kinds::{ByteText, CopySlice, DebugSlice, Plain, Text};
+use arc_read::slice::ArcSlice;
+use bytes::Buf;
+use std::alloc::Global;
+use std::collections::{BTreeMap, HashMap};
+use std::convert::{AsSlice, AsStr};
+use std::fmt;
+use std::hash::{DefaultHasher, Hash, Hasher};
+use std::io::{ErrorKind, Read};
+use std::test::Fail;
+
+/// Whether a window over these bytes is written so, in lower case digits and in upper case ones.
+fn in_hex(alloc: Global, bytes: &[u8], lower: &str, upper: &str) -> Option<[bool; 2]> {
+    let window: ArcSlice<Plain<u8>> = ArcSlice::try_from_slice(alloc, bytes).ok()?;
+    let mut small = fmt::Formatter::new(String::new(alloc));
+    fmt::LowerHex::fmt(&window, &mut small).ok()?;
+    let mut large = fmt::Formatter::new(String::new(alloc));
+    fmt::UpperHex::fmt(&window, &mut large).ok()?;
+    let (small, large) = (small.into_inner(), large.into_inner());
+    Some([small.as_str() == lower, large.as_str() == upper])
+}
+
+/// Whether `{:?}` of a window over these items is this text.
+fn debugs<S: CopySlice + DebugSlice>(alloc: Global, items: &[S::Item], text: &str) -> Option<bool>
+where
+    S::Item: Copy,
+{
+    let window: ArcSlice<S> = ArcSlice::try_from_slice(alloc, items).ok()?;
+    let written = format!(in alloc; "{window:?}").ok()?;
+    Some(written.as_str() == text)
+}
+
+#[test]
+fn bytes_printed(rt: HostRuntime) -> Result<(), Fail> {
+    let alloc = rt.alloc();
+    assert!(rt; in_hex(alloc, &[10, 255], "0aff", "0AFF") == Some([true; 2]));
+    assert!(rt; in_hex(alloc, &[], "", "") == Some([true; 2]));
+    Ok(())
+}
+
+#[test]
+fn other_items_printed(rt: HostRuntime) -> Result<(), Fail> {
+    let alloc = rt.alloc();
+    let told = [
+        debugs::<Plain<u16>>(alloc, &[1, 20], "[1, 20]"),
+        debugs::<Plain<i64>>(alloc, &[-1], "[-1]"),
+        debugs::<Plain<bool>>(alloc, &[true, false], "[true, false]"),
+        debugs::<Plain<char>>(alloc, &['a'], "['a']"),
+        debugs::<Plain<Option<u8>>>(alloc, &[None, Some(1)], "[None, Some(1)]"),
+    ];
+    assert!(rt; told == [Some(true); 5]);
+    Ok(())
+}
+
+/// Whether `{:?}`, `{}` and `{}` in a column of a window over this text are these.
+fn text_prints(alloc: Global, text: &str, debug: &str, wide: &str) -> Option<[bool; 3]> {
+    let window: ArcSlice<Text> = ArcSlice::try_from_str(alloc, text).ok()?;
+    let debugged = format!(in alloc; "{window:?}").ok()?;
+    let displayed = format!(in alloc; "{window}").ok()?;
+    let padded = format!(in alloc; "{window:>5}").ok()?;
+    Some([
+        debugged.as_str() == debug,
+        displayed.as_str() == text,
+        padded.as_str() == wide,
+    ])
+}
+
+/// Whether `{}` of a window over this byte text is that text, and in columns of five, without and
+/// with an alignment, these.
+fn byte_text_prints(alloc: Global, bytes: &[u8], texts: [&str; 4]) -> Option<[bool; 4]> {
+    let window: ArcSlice<ByteText> = ArcSlice::try_from_slice(alloc, bytes).ok()?;
+    let displayed = format!(in alloc; "{window}").ok()?;
+    let wide = format!(in alloc; "{window:5}").ok()?;
+    let right = format!(in alloc; "{window:>5}").ok()?;
+    let middle = format!(in alloc; "{window:-^5}").ok()?;
+    Some([
+        displayed.as_str() == texts[0],
+        wide.as_str() == texts[1],
+        right.as_str() == texts[2],
+        middle.as_str() == texts[3],
+    ])
+}
+
+#[test]
+fn texts_printed(rt: HostRuntime) -> Result<(), Fail> {
+    let alloc = rt.alloc();
+    let told = text_prints(alloc, "aéb", "\"aéb\"", "  aéb");
+    assert!(rt; told == Some([true; 3]));
+    let told = text_prints(alloc, "a\n\"c", "\"a\\n\\\"c\"", " a\n\"c");
+    assert!(rt; told == Some([true; 3]));
+    let texts = ["aé\u{fffd}", "aé\u{fffd}", "  aé\u{fffd}", "-aé\u{fffd}-"];
+    assert!(rt; byte_text_prints(alloc, b"a\xc3\xa9\xff", texts) == Some([true; 4]));
+    Ok(())
+}
+
+/// What a hasher says of a value.
+fn hash_of<T: Hash>(value: &T) -> u64 {
+    let mut state = DefaultHasher::new();
+    value.hash(&mut state);
+    state.finish()
+}
+
+/// What a hasher says of a window over these bytes under a layout.
+fn hash_under<L: Layout>(alloc: Global, bytes: &[u8]) -> Option<u64> {
+    let window: ArcSlice<Plain<u8>, L> = ArcSlice::try_from_slice(alloc, bytes).ok()?;
+    Some(hash_of(&window))
+}
+
+#[test]
+fn hashed_alike_under_each_layout(rt: HostRuntime) -> Result<(), Fail> {
+    let hash = hash_under::<DefaultLayout>(rt.alloc(), b"abc");
+    let told = [
+        hash_under::<ArcLayout<false, false>>(rt.alloc(), b"abc"),
+        hash_under::<BoxedSliceLayout>(rt.alloc(), b"abc"),
+        hash_under::<VecLayout>(rt.alloc(), b"abc"),
+        hash_under::<RawLayout>(rt.alloc(), b"abc"),
+    ];
+    assert!(rt; hash.is_some() && told == [hash; 4]);
+    Ok(())
+}
+
+/// A window over text beside two texts.
+fn beside_texts(alloc: Global, text: &str, same: &str, other: &str) -> Option<[bool; 3]> {
+    let window: ArcSlice<Text> = ArcSlice::try_from_str(alloc, text).ok()?;
+    Some([
+        window.eq_str(same),
+        window.eq_str(other),
+        AsStr::as_str(&window) == same,
+    ])
+}
+
+#[test]
+fn text_compared(rt: HostRuntime) -> Result<(), Fail> {
+    let told = beside_texts(rt.alloc(), "aéb", "aéb", "aeb");
+    assert!(rt; told == Some([true, false, true]));
+    Ok(())
+}
+
+/// A window of three bytes is read into two places, three times: the counts, what came and what is
+/// left.
+fn read_thrice(alloc: Global) -> Option<([usize; 3], [u8; 2], [usize; 3])> {
+    let mut window: ArcSlice<Plain<u8>> = ArcSlice::try_from_slice(alloc, &[1, 2, 3]).ok()?;
+    let mut places = [0; 2];
+    let first = window.read(&mut places).ok()?;
+    let left = window.len();
+    let second = window.read(&mut places).ok()?;
+    let after = window.len();
+    let third = window.read(&mut places).ok()?;
+    Some(([first, second, third], places, [left, after, window.len()]))
+}
+
+#[test]
+fn read_from(rt: HostRuntime) -> Result<(), Fail> {
+    assert!(rt; read_thrice(rt.alloc()) == Some(([2, 1, 0], [3, 2], [1, 0, 0])));
+    Ok(())
+}
+
+/// A window of three bytes fills two places, and then has too few for them: whether that is said to
+/// be the end, what stands in the places, and what is left after each.
+fn read_exactly(alloc: Global) -> Option<(bool, [u8; 2], [usize; 2])> {
+    let mut window: ArcSlice<Plain<u8>> = ArcSlice::try_from_slice(alloc, &[1, 2, 3]).ok()?;
+    let mut places = [0; 2];
+    window.read_exact(&mut places).ok()?;
+    let left = window.len();
+    let error = window.read_exact(&mut places).err()?;
+    let is_end = error.kind() == ErrorKind::UnexpectedEof;
+    Some((is_end, places, [left, window.len()]))
+}
+
+#[test]
+fn read_to_the_end(rt: HostRuntime) -> Result<(), Fail> {
+    assert!(rt; read_exactly(rt.alloc()) == Some((true, [3, 2], [1, 0])));
+    Ok(())
+}
+
+/// Two numbers of two bytes each, and a byte that is passed over between them; what is left.
+fn numbers(alloc: Global, bytes: &[u8]) -> Option<([u16; 2], usize)> {
+    let mut window: ArcSlice<Plain<u8>> = ArcSlice::try_from_slice(alloc, bytes).ok()?;
+    if window.remaining() < 5 {
+        return None;
+    }
+    let first = window.get_u16();
+    Buf::advance(&mut window, 1);
+    let second = window.get_u16();
+    Some(([first, second], window.chunk().len()))
+}
+
+/// The same of byte text, whose first byte is read.
+fn first_byte(alloc: Global, bytes: &[u8]) -> Option<(u8, usize)> {
+    let mut window: ArcSlice<ByteText> = ArcSlice::try_from_slice(alloc, bytes).ok()?;
+    if window.remaining() < 1 {
+        return None;
+    }
+    let byte = window.get_u8();
+    Some((byte, window.chunk().len()))
+}
+
+#[test]
+fn numbers_read(rt: HostRuntime) -> Result<(), Fail> {
+    let told = numbers(rt.alloc(), &[1, 2, 9, 3, 4, 5]);
+    assert!(rt; told == Some(([0x0102, 0x0304], 1)));
+    assert!(rt; numbers(rt.alloc(), &[1, 2, 9, 3]) == None);
+    assert!(rt; first_byte(rt.alloc(), b"ab") == Some((97, 1)));
+    Ok(())
+}
+
+/// Of a window over these numbers: their sum by a loop, the second of them, how many are lent, and
+/// the greatest that an iterator finds.
+fn lent(alloc: Global, numbers: &[u32]) -> Option<(u64, [Option<u32>; 2], usize)> {
+    let window: ArcSlice<Plain<u32>> = ArcSlice::try_from_slice(alloc, numbers).ok()?;
+    let mut sum = 0u64;
+    for number in &window {
+        sum = sum.wrapping_add(*number as u64);
+    }
+    let second = window.get(1).copied();
+    let most = window.iter().copied().max();
+    Some((sum, [second, most], AsSlice::as_slice(&window).len()))
+}
+
+#[test]
+fn items_lent(rt: HostRuntime) -> Result<(), Fail> {
+    assert!(rt; lent(rt.alloc(), &[4, 7, 5]) == Some((16, [Some(7), Some(7)], 3)));
+    assert!(rt; lent(rt.alloc(), &[]) == Some((0, [None, None], 0)));
+    Ok(())
+}
+
+/// What two maps have under a window of this text, where they have a number under that one.
+fn looked_up(alloc: Global, key: &[u8], asked: &[u8]) -> Option<[Option<u32>; 2]> {
+    let one: ArcSlice<Plain<u8>> = ArcSlice::try_from_slice(alloc, key).ok()?;
+    let two: ArcSlice<Plain<u8>> = ArcSlice::try_from_slice(alloc, key).ok()?;
+    let asked: ArcSlice<Plain<u8>> = ArcSlice::try_from_slice(alloc, asked).ok()?;
+    let mut ordered = BTreeMap::new(alloc);
+    ordered.insert(one, 5u32).ok()?;
+    let mut hashed = HashMap::new(alloc);
+    hashed.insert(two, 6u32).ok()?;
+    Some([ordered.get(&asked).copied(), hashed.get(&asked).copied()])
+}
+
+#[test]
+fn keys_of_maps(rt: HostRuntime) -> Result<(), Fail> {
+    assert!(rt; looked_up(rt.alloc(), b"key", b"key") == Some([Some(5), Some(6)]));
+    assert!(rt; looked_up(rt.alloc(), b"key", b"kex") == Some([None; 2]));
+    Ok(())
+}
+
+/// What a caller's struct gets of a window in it.
+#[derive(Debug, PartialEq, Eq, PartialOrd, Ord, Hash, Drop)]
+struct Frame {
+    number: u8,
+    body: ArcSlice<Plain<u8>>,
+}
+
+/// Two frames: whether they are equal, whether their hashes are, and whether the first prints so.
+fn frames(alloc: Global, one: &[u8], two: &[u8], text: &str) -> Option<[bool; 3]> {
+    let one = Frame {
+        number: 1,
+        body: ArcSlice::try_from_slice(alloc, one).ok()?,
+    };
+    let two = Frame {
+        number: 1,
+        body: ArcSlice::try_from_slice(alloc, two).ok()?,
+    };
+    let written = format!(in alloc; "{one:?}").ok()?;
+    Some([
+        one == two,
+        hash_of(&one) == hash_of(&two),
+        written.as_str() == text,
+    ])
+}
+
+#[test]
+fn derived_over_a_window(rt: HostRuntime) -> Result<(), Fail> {
+    let text = "Frame { number: 1, body: b\"ab\" }";
+    assert!(rt; frames(rt.alloc(), b"ab", b"ab", text) == Some([true; 3]));
+    assert!(rt; frames(rt.alloc(), b"ab", b"ac", text) == Some([false, false, true]));
+    Ok(())
+}
+
+/// Whether `{:#?}` of a window over these bytes, and of a frame with it, are these.
+fn laid_out(alloc: Global, bytes: &[u8], text: &str, framed: &str) -> Option<[bool; 2]> {
+    let window: ArcSlice<Plain<u8>> = ArcSlice::try_from_slice(alloc, bytes).ok()?;
+    let one = format!(in alloc; "{window:#?}").ok()?;
+    let frame = Frame {
+        number: 1,
+        body: window,
+    };
+    let two = format!(in alloc; "{frame:#?}").ok()?;
+    Some([one.as_str() == text, two.as_str() == framed])
+}
+
+#[test]
+fn printed_on_lines(rt: HostRuntime) -> Result<(), Fail> {
+    let framed = "Frame {\n    number: 1,\n    body: b\"ab\",\n}";
+    assert!(rt; laid_out(rt.alloc(), b"ab", "b\"ab\"", framed) == Some([true; 2]));
+    Ok(())
+}
