@@ -6,7 +6,7 @@ use Rattle.std.proofs.Common.{None, Result, Ok, Err, refl, length, slice_set, �
 use Rattle.std.proofs.Common.{slice_get}
 use Rattle.std.proofs.Common.{◌&&◌, ap, sym, ◌∙◌, subst}
 use Rattle.std.specs.Prelude.{◌≤◌}
-use Rattle.std.specs.Prelude.{nat_lt, is_some, ◌-◌, replicate}
+use Rattle.std.specs.Prelude.{nat_lt, is_some, ◌-◌, ◌+◌, ◌||◌, max, replicate}
 use Rattle.std.proofs.Common.{arith}
 use Rattle.std.proofs.lemmas.List.{length-replicate}
 use Rattle.std.proofs.lemmas.Bool.{false≢true, and_parts, eqb-true, ltb-true}
@@ -15,16 +15,16 @@ use Rattle.arc_owners.specs.declared.error.RangeError.{RangeError}
 use Rattle.arc_owners.specs.declared.error.OwnerError.TheVariants.{AllocError, CountFull}
 use Rattle.arc_buffer.specs.Slice.{sub, range_answer, edge_answer}
 use Rattle.arc_block.specs.Block.{Sort, BlockInfo, native_facts, partly_full, memory_info}
-use Rattle.arc_block.specs.Block.{native, vector, buffer, raw}
+use Rattle.arc_block.specs.Block.{native, vector, buffer, raw, buffer_info, raw_info}
 use Rattle.arc_block.specs.Moves.{layout_move}
 use Rattle.arc_block.specs.declared.parts.moves.Move.{Move}
 use Rattle.arc_block.specs.declared.parts.moves.Move.TheVariants as to
-use Rattle.arc_block.specs.Place.{Place, nowhere, static_data, on_block, moved}
+use Rattle.arc_block.specs.Place.{Place, nowhere, static_data, on_block, moved, metadata_at}
 use Rattle.arc_block.specs.Table.{Row, Table, Role, row_at, block_of, is_alone}
 use Rattle.arc_commands.proofs.Lists.{set-there, there}
 use Rattle.arc_block.specs.Table.{reader, sole_writer, one_writer_of_several, inline, forgotten}
 use Rattle.arc_block.specs.Writers.{with_capacity, capacity_of, as_sole, after_advance}
-use Rattle.arc_block.specs.Writers.{with_room, with_more, as_reader}
+use Rattle.arc_block.specs.Writers.{with_room, with_more, as_reader, offset_at}
 use Rattle.arc_block.specs.declared.parts.room.Room.{Room as RoomFrom}
 use Rattle.arc_block.specs.declared.parts.room.Room.TheVariants as from
 use Rattle.arc_owners.specs.declared.error.TryReserveError.TheVariants as reserve
@@ -32,13 +32,17 @@ use Rattle.arc_block.proofs.More.{more_none}
 use Rattle.arc_commands.proofs.FitsRoom.{never-short}
 use Rattle.arc_owners.specs.declared.error.TryReserveError.{TryReserveError}
 use Rattle.arc_commands.proofs.FitsRoom.{IsMade, room-fits, room-alone-fits, room-enough, fresh-fits}
+use Rattle.arc_commands.proofs.FitsRoom.{own-fits}
 use Rattle.arc_commands.specs.Blocks.{is_sole}
 use Rattle.arc_commands.specs.Fits.{RowFits}
 use Rattle.arc_commands.proofs.Fits.{in-edge, in-range, advance-fits, truncate-fits, founded-fits}
-use Rattle.arc_commands.proofs.Fits.{writer-fits, vector-fits, part-fits, cut-fits, off-fits, to-fits, reads-fit}
+use Rattle.arc_commands.proofs.Fits.{writer-fits, vector-fits, part-fits, cut-fits, off-fits, to-fits}
+use Rattle.arc_commands.proofs.Fits.{reads-fit, buffer-fits, raw-fits, written-fits}
 use Rattle.arc_commands.specs.Step.{Setting, Shortage, no_shortage, of_table, of_clones, of_blocks}
 use Rattle.arc_commands.specs.Step.{of_buffer, is_unique_at, is_on_block, is_free, taken_as, after_move}
-use Rattle.arc_commands.specs.Step.{vector_row, count_brought, is_buffer_at, unless_buffer}
+use Rattle.arc_commands.specs.Step.{vector_row, count_brought, room_made, of_growth}
+use Rattle.arc_commands.specs.Step.{is_buffer_whole, is_raw_whole, is_vector_part, is_box_whole}
+use Rattle.arc_commands.specs.Step.{buffer_row, written_buffer_row, raw_row}
 use Rattle.arc_commands.specs.Step.{shortage, asking_block, filled, reclaimed, made_row}
 use Rattle.arc_commands.specs.Step.{begun, room_of, Around, around_of, Change, is_now, with_made}
 use Rattle.arc_commands.specs.Step.{gone, parted, split, answer_row, answer_any, row_by, window_of}
@@ -52,6 +56,7 @@ use Rattle.arc_commands.specs.declared.command.Cmd.TheVariants.{Off, To, Adv, Tr
 use Rattle.arc_commands.specs.declared.command.Cmd.TheVariants.{Static, TakeStatic, MSlice}
 use Rattle.arc_commands.specs.declared.command.Cmd.TheVariants.{New, Cap, Zero, Room, Mut, Res, Push, Ext}
 use Rattle.arc_commands.specs.declared.command.Cmd.TheVariants.{Rec, Freeze, Vec, Take, TakeBox}
+use Rattle.arc_commands.specs.declared.command.Cmd.TheVariants.{Raw, Buf, MBuf, Meta, TakeBuf, TakeRaw}
 use Rattle.arc_commands.specs.declared.command.Reply.TheVariants as reply
 
 -- a part stands on the block on which the whole does, or on none
@@ -118,9 +123,15 @@ writers-only c none several small (one_writer_of_several places) is =
 writers-only c none several small inline is = absurd (false≢true (sym small ∙ is))
 writers-only c none several small forgotten is = absurd (false≢true is)
 
+-- a command that writes
+pub data Writes {T M : Type 0} : ListCmd T M → Type 0 where
+  reserves : (i additional : ℕ) → Writes (Res i additional)
+  pushes : (i : ℕ) (item : T) → Writes (Push i item)
+  extends : (i : ℕ) (items : List T) → Writes (Ext i items)
+
 -- what some commands are answered tells of a shortage that need not be
 abbrev pub MayTellMore : {T M : Type 0} → ListCmd T M → Type 0
-MayTellMore c = (i : ℕ) × ((c ≡ Uniq i) ⊎ (c ≡ Freeze i))
+MayTellMore c = ((i : ℕ) × ((c ≡ Uniq i) ⊎ (c ≡ Freeze i))) ⊎ Writes c
 
 -- in answer to this command no shortage is told, or this one, or one that need not be
 abbrev pub MayTell : {T M : Type 0} → Shortage → ListCmd T M → ListReply T M → Type 0
@@ -191,6 +202,7 @@ module _ {T M : Type 0} (setting : Setting T) (short : Shortage) (around : Aroun
   asking_each of_clones is outcome after = after
   asking_each of_blocks is outcome after = after
   asking_each of_buffer is outcome after = after
+  asking_each (of_growth e) is outcome after = after
 
   asking_block_each : (s : Shortage) → s ≡ short → (answer : ListReply T M)
       → shortage answer this ≡ of_blocks → (outcome : Outcome) → Holds outcome
@@ -200,6 +212,7 @@ module _ {T M : Type 0} (setting : Setting T) (short : Shortage) (around : Aroun
   asking_block_each of_clones is answer told outcome after = after
   asking_block_each of_blocks is answer told outcome after = same answer (inr (inl (told ∙ is)))
   asking_block_each of_buffer is answer told outcome after = after
+  asking_block_each (of_growth e) is answer told outcome after = after
 
   wanting_each : (s : Shortage) → s ≡ short → (wants : Sort → Bool) (place : Place (Option ℕ) M)
       (outcome : Outcome) → Holds outcome
@@ -208,6 +221,7 @@ module _ {T M : Type 0} (setting : Setting T) (short : Shortage) (around : Aroun
   wanting_each of_table is wants place outcome after = after
   wanting_each of_blocks is wants place outcome after = after
   wanting_each of_buffer is wants place outcome after = after
+  wanting_each (of_growth e) is wants place outcome after = after
   wanting_each of_clones is wants place outcome after =
       either (is_wanting of_clones wants place) (is_now (reply.Owner AllocError) row) outcome
       (same (reply.Owner AllocError) (inr (inl is))) after
@@ -263,19 +277,13 @@ module _ {T M : Type 0} (setting : Setting T) (short : Shortage) (around : Aroun
       one-is (at == length row.items) (part_of setting.layout.has_static row at at)
       (part_of setting.layout.has_static row 0 at) (part_is at at) (part_is 0 at)
 
-  -- a refusal for want of room may tell want of memory, and that was so then
-  no-room : (e : TryReserveError) → ¬ (e ≡ reserve.AllocError)
+  -- a refusal for want of room tells of no memory that was refused
+  no-room : (e : TryReserveError) → ¬ (e ≡ reserve.AllocError) → Writes this
       → MayTell short this (reply.Reserve e)
-  no-room reserve.AllocError fine = absurd (fine refl)
-  no-room reserve.NotUnique fine = inl refl
-  no-room reserve.Unsupported fine = inl refl
-  no-room reserve.CapacityOverflow fine = inl refl
-
-  -- a writer in a caller's buffer stays as he is
-  unless_each : (change : Change T M) → Holds change → Holds (unless_buffer row change)
-  unless_each change holds =
-      either (is_buffer_at row.place) (is_now reply.Kind row) change (same reply.Kind (inl refl))
-      holds
+  no-room reserve.AllocError fine writes = absurd (fine refl)
+  no-room reserve.NotUnique fine writes = inl refl
+  no-room reserve.Unsupported fine writes = inr (inr (inr writes))
+  no-room reserve.CapacityOverflow fine writes = inr (inr (inr writes))
 
   module _ (sole : is_sole row.role ≡ true) where
     -- the row has room on its own block, and these items behind its others
@@ -313,7 +321,7 @@ module _ {T M : Type 0} (setting : Setting T) (short : Shortage) (around : Aroun
         ap (λ (x : Row T M). block_of x.place) (sym (more_none (with_room r row)))
         ∙ stays-put r [] row.place row.role
 
-    module _ (items : List T) (k : ℕ) (enough : length items ≤ k) where
+    module _ (items : List T) (k : ℕ) (enough : length items ≤ k) (writing : Writes this) where
       on-block : (r : RoomFrom) → r ≡ room_of setting row k → IsMade r
           → Holds (is_now reply.Ok (with_more items (with_room r row)))
       on-block r is made =
@@ -323,12 +331,40 @@ module _ {T M : Type 0} (setting : Setting T) (short : Shortage) (around : Aroun
           (room-fits setting.drops _ setting.item_size row items k enough sole f
           (subst IsMade is made)))
 
+      -- what a caller's buffer says of its room
+      said : (e : TryReserveError) → MayTell short this (reply.Reserve e)
+      said reserve.AllocError = inr (inr (inr writing))
+      said reserve.NotUnique = inr (inr (inr writing))
+      said reserve.Unsupported = inr (inr (inr writing))
+      said reserve.CapacityOverflow = inr (inr (inr writing))
+
+      by-itself : (j : ℕ) → from.Own j ≡ room_of setting row k
+          → let wanted = offset_at row.place + length row.items + j in
+          Holds (is_now reply.Ok
+          (with_more items (with_room (from.Growth (max wanted around.places)) row)))
+      by-itself j is =
+          let wanted = offset_at row.place + length row.items + j in
+          let made = max wanted around.places in
+          refits (with_more items (with_room (from.Growth made) row)) reply.Ok (inl refl) sole
+          (stays-put (from.Growth made) items row.place row.role)
+          (λ f. own-fits setting.drops _ setting.item_size row items k j made enough sole f
+          (sym is) (omega arith))
+
+      made-itself : (j : ℕ) (s : Shortage) → s ≡ short → from.Own j ≡ room_of setting row k
+          → Holds (room_made s around row items j)
+      made-itself j of_blocks told is = same (reply.Reserve reserve.AllocError) (said reserve.AllocError)
+      made-itself j (of_growth e) told is = same (reply.Reserve e) (said e)
+      made-itself j no_shortage told is = by-itself j is
+      made-itself j of_table told is = by-itself j is
+      made-itself j of_clones told is = by-itself j is
+      made-itself j of_buffer told is = by-itself j is
+
       filled_each : (r : RoomFrom) → r ≡ room_of setting row k
           → Holds (filled setting short around row items r)
       filled_each (from.Refused e) is =
           same (reply.Reserve e) (no-room e (never-short setting.drops _ setting.item_size row k e
-          (sym is)))
-      filled_each (from.Own additional) is = same reply.Kind (inl refl)
+          (sym is)) writing)
+      filled_each (from.Own additional) is = made-itself additional short refl is
       filled_each (from.Fresh places) is =
           asking_block_each short refl (reply.Reserve reserve.AllocError) refl _
           (begins items (sole_writer places) false _
@@ -380,8 +416,12 @@ module _ {T M : Type 0} (setting : Setting T) (short : Shortage) (around : Aroun
   taken_each : (wanted : Bool) (answer : ListReply T M) → MayTell short this reply.Refused
       → MayTell short this answer → Holds (taken_as wanted around row answer)
   taken_each wanted answer refused tells =
-      either (wanted && is_free around.alone row.place) (gone answer) (is_now reply.Refused row) (goes answer tells)
-      (same reply.Refused refused)
+      either (wanted && (is_sole row.role || is_free around.alone row.place)) (gone answer)
+      (is_now reply.Refused row) (goes answer tells) (same reply.Refused refused)
+
+  meta_each : (x : Option M) → Holds (is_now (option_map_or reply.Meta x reply.None) row)
+  meta_each None = same reply.None (inl refl)
+  meta_each (Some metadata) = same (reply.Meta metadata) (inl refl)
 
   row_each : (c : Command) → c ≡ this → IsFor c → Holds (answer_row setting short around c row)
   row_each (Clone i) e is =
@@ -412,7 +452,7 @@ module _ {T M : Type 0} (setting : Setting T) (short : Shortage) (around : Aroun
       (λ f. to-fits setting row shares f at within))
   row_each (Uniq i) e is =
       same (if is_unique_at short around.alone row.place then reply.Yes else reply.No)
-      (inr (inr (i, inl (sym e))))
+      (inr (inr (inl (i, inl (sym e)))))
   row_each (Show i) e is =
       asking_each short refl (is_now (reply.Items row.items) row)
       (same (reply.Items row.items) (inl refl))
@@ -423,24 +463,20 @@ module _ {T M : Type 0} (setting : Setting T) (short : Shortage) (around : Aroun
       (is_now reply.Refused row) writes
       (same reply.Refused (inl (sym (ap (λ d. shortage reply.Refused d) e))))
   row_each (Res i k) e is =
-      unless_each (filled setting short around row [] (room_of setting row k))
-      (filled_each (writes-only (Res i k) refl (λ places. refl) refl is) [] k (omega arith)
-      (room_of setting row k) refl)
+      filled_each (writes-only (Res i k) refl (λ places. refl) refl is) [] k (omega arith)
+      (subst Writes e (reserves i k)) (room_of setting row k) refl
   row_each (Push i x) e is =
-      unless_each (filled setting short around row (x ∷ []) (room_of setting row 1))
-      (filled_each (writes-only (Push i x) refl (λ places. refl) refl is) (x ∷ []) 1 (omega arith)
-      (room_of setting row 1) refl)
+      filled_each (writes-only (Push i x) refl (λ places. refl) refl is) (x ∷ []) 1 (omega arith)
+      (subst Writes e (pushes i x)) (room_of setting row 1) refl
   row_each (Ext i xs) e is =
-      unless_each (filled setting short around row xs (room_of setting row (length xs)))
-      (filled_each (writes-only (Ext i xs) refl (λ places. refl) refl is) xs (length xs)
-      (omega arith) (room_of setting row (length xs)) refl)
+      filled_each (writes-only (Ext i xs) refl (λ places. refl) refl is) xs (length xs)
+      (omega arith) (subst Writes e (extends i xs)) (room_of setting row (length xs)) refl
   row_each (Rec i k) e is =
-      unless_each (reclaimed row (room_of setting row k))
-      (reclaimed_each (writes-only (Rec i k) refl (λ places. refl) refl is) k
-      (sym (ap (λ d. shortage reply.No d) e)) (room_of setting row k) refl)
+      reclaimed_each (writes-only (Rec i k) refl (λ places. refl) refl is) k
+      (sym (ap (λ d. shortage reply.No d) e)) (room_of setting row k) refl
   row_each (Freeze i) e is =
       moved_each (writes-only (Freeze i) refl (λ places. refl) refl is)
-      (sym (ap (λ d. shortage reply.Refused d) e)) (i, inr (sym e))
+      (sym (ap (λ d. shortage reply.Refused d) e)) (inl (i, inr (sym e)))
       (layout_move setting.layout row.place)
   row_each (Adv i by) e is =
       let part = after_advance by row in
@@ -467,6 +503,13 @@ module _ {T M : Type 0} (setting : Setting T) (short : Shortage) (around : Aroun
   row_each (TakeBox i) e is =
       taken_each _ (reply.Boxed row.items) (inl (sym (ap (λ d. shortage reply.Refused d) e)))
       (inl refl)
+  row_each (TakeBuf i) e is =
+      taken_each _ (reply.Buffer row.items) (inl (sym (ap (λ d. shortage reply.Refused d) e)))
+      (inl refl)
+  row_each (TakeRaw i) e is =
+      taken_each _ (reply.Raw row.items) (inl (sym (ap (λ d. shortage reply.Refused d) e)))
+      (inl refl)
+  row_each (Meta i) e is = meta_each (metadata_at row.place)
   row_each (TakeStatic i) e is =
       either (is_on_block row.place) (is_now reply.Refused row)
       (gone (reply.Static row.items))
@@ -502,8 +545,8 @@ module _ {T M : Type 0} (setting : Setting T) (short : Shortage) (places : ℕ) 
       rows = t.rows ++ Some (record { items = items; place = place; role = role }) ∷ [];
       blocks = with_block (is_some (block_of place)) t.blocks;
     }))
-    (statics : (items : List T) → Holds (reply.New (length t.rows))
-    (founded no_shortage t (static_row items)).1)
+    (apart : (row : Row T M) → is_sole row.role ≡ false → block_of row.place ≡ None
+    → RowFits setting.drops row → Holds (reply.New (length t.rows)) (founded no_shortage t row).1)
     (splits : (i : ℕ) (row kept handed : Row T M) → row_at t i ≡ Some row
     → is_sole row.role ≡ false → IsPart row kept → IsPart row handed
     → KeepsFit setting.drops row kept → KeepsFit setting.drops row handed
@@ -515,7 +558,7 @@ module _ {T M : Type 0} (setting : Setting T) (short : Shortage) (places : ℕ) 
     → KeepsFit setting.drops row part
     → Holds reply.Ok (record { rows = slice_set t.rows i (Some part); blocks = t.blocks }))
     (writes : (i : ℕ) (row : Row T M) → row_at t i ≡ Some row
-    → may_write setting (around_of t row) row ≡ true → Holds reply.Ok
+    → may_write setting (around_of places t row) row ≡ true → Holds reply.Ok
     (record { rows = slice_set t.rows i (Some (as_sole setting.drops row)); blocks = t.blocks }))
     (refits : (i : ℕ) (row new : Row T M) (r : ListReply T M) → MayTell short this r
     → row_at t i ≡ Some row → is_sole row.role ≡ true → StaysPut row new
@@ -541,6 +584,7 @@ module _ {T M : Type 0} (setting : Setting T) (short : Shortage) (places : ℕ) 
   founded_each of_clones is row after = after
   founded_each of_blocks is row after = after
   founded_each of_buffer is row after = after
+  founded_each (of_growth e) is row after = after
 
   abbrev Makes : Option (Row T M) → Type 0
   Makes x = After (option_map_or (founded short t) x (reply.Kind, t))
@@ -594,6 +638,16 @@ module _ {T M : Type 0} (setting : Setting T) (short : Shortage) (places : ℕ) 
       (founded_each short refl row (founds items reader false info
       (vector-fits setting.drops t.blocks items places within)))
 
+  raw_each : (items : List T) (by_itself : Bool) → Makes (Some (raw_row by_itself t.blocks items))
+  raw_each items true =
+      founded_each short refl (raw_row true t.blocks items)
+      (apart (raw_row true t.blocks items) refl refl
+      (raw-fits setting.drops true t.blocks items))
+  raw_each items false =
+      founded_each short refl (raw_row false t.blocks items)
+      (founds items reader false (raw_info (length items))
+      (raw-fits setting.drops false t.blocks items))
+
   made_each : (c : ListCmd T M) → c ≡ this → Makes (row_by setting places t.blocks c)
   made_each (Slice items) e =
       if_each setting.calls.copies (made_row setting.layout.has_static setting.drops t.blocks items)
@@ -603,7 +657,27 @@ module _ {T M : Type 0} (setting : Setting T) (short : Shortage) (places : ℕ) 
       (vector_each items (subst (λ d. count_brought d ≤ places) (sym e) enough))
   made_each (Static items) e =
       if_each setting.layout.has_static (static_row items)
-      (founded_each short refl (static_row items) (statics items))
+      (founded_each short refl (static_row items)
+      (apart (static_row items) refl refl (reads-fit setting.drops (static_row items) refl tt)))
+  made_each (Raw given) e =
+      if_each (setting.calls.any_list && setting.layout.has_any)
+      (raw_row setting.layout.by_itself t.blocks given) (raw_each given setting.layout.by_itself)
+  made_each (Buf given metadata) e =
+      let within = subst (λ d. count_brought d ≤ places) (sym e) enough in
+      let info : BlockInfo M = buffer_info false places (length given) (Some metadata) in
+      if_each (setting.calls.any_list && setting.layout.has_any)
+      (buffer_row t.blocks given places metadata)
+      (founded_each short refl (buffer_row t.blocks given places metadata)
+      (founds given reader false info
+      (buffer-fits setting.drops t.blocks given places metadata within)))
+  made_each (MBuf given metadata) e =
+      let within = subst (λ d. count_brought d ≤ places) (sym e) enough in
+      let info : BlockInfo M = buffer_info true places (length given) (Some metadata) in
+      if_each (setting.calls.any_list && setting.writes_any)
+      (written_buffer_row t.blocks given places metadata)
+      (founded_each short refl (written_buffer_row t.blocks given places metadata)
+      (founds given (sole_writer places) false info
+      (written-fits setting.drops t.blocks given places metadata within)))
   made_each New e = writer_each [] 0 (omega arith)
   made_each (Cap wanted) e = writer_each [] wanted (omega arith)
   made_each (Zero count) e = zero_each count setting.zero
@@ -614,11 +688,12 @@ module _ {T M : Type 0} (setting : Setting T) (short : Shortage) (places : ℕ) 
 
   at_each : (c : ListCmd T M) → c ≡ this → (i : ℕ) (x : Option (Row T M))
       → row_at t i ≡ x
-      → After (option_map_or (λ row. changed t i (answer_any setting short (around_of t row) c row))
+      → After (option_map_or (λ row. changed t i
+      (answer_any setting short (around_of places t row) c row))
       x (reply.NoWindow, t))
   at_each c e i None none = same reply.NoWindow (inl refl)
   at_each c e i (Some row) at =
-      any_each setting short (around_of t row) row this
+      any_each setting short (around_of places t row) row this
       (λ change. After (changed t i change))
       (λ r tells. subst (Holds r) (sym (put-back t i row at)) (same r tells))
       (λ kept made. splits i row kept made at) (λ part. becomes i row part at)
@@ -675,18 +750,32 @@ module _ {T M : Type 0} (setting : Setting T) where
     same-move around row to.LeavesCount = refl
     same-move around row to.NewEmpty = refl
 
+  -- what is written, as far as there is room for it
+  same-filled : (around : Around) (row : Row T M) (items : List T) (c : ListCmd T M)
+      (room : RoomFrom)
+      → filled setting (shortage (filled setting no_shortage around row items room).reply c) around
+      row items room ≡ filled setting no_shortage around row items room
+  same-filled around row items c (from.Refused e) = refl
+  same-filled around row items c (from.Own additional) = refl
+  same-filled around row items c (from.Fresh places) = refl
+  same-filled around row items c from.Spare = refl
+  same-filled around row items c from.Behind = refl
+  same-filled around row items c from.Front = refl
+  same-filled around row items c (from.Growth places) = refl
+
   -- a command on a window, of which that is so on each row
-  module _ (t : Table T M) (i : ℕ) (c : ListCmd T M)
+  module _ (places : ℕ) (t : Table T M) (i : ℕ) (c : ListCmd T M)
       (each : (around : Around) (row : Row T M)
       → answer_row setting (shortage (answer_row setting no_shortage around c row).reply c) around c
       row ≡ answer_row setting no_shortage around c row) where
     abbrev allowed : Shortage → Bool → Row T M → Change T M
     allowed short b row =
-        if b then answer_row setting short (around_of t row) c row else is_now reply.Kind row
+        if b then answer_row setting short (around_of places t row) c row else
+        is_now reply.Kind row
 
     same-allowed : (b : Bool) (row : Row T M)
         → allowed (shortage (allowed no_shortage b row).reply c) b row ≡ allowed no_shortage b row
-    same-allowed true row = each (around_of t row) row
+    same-allowed true row = each (around_of places t row) row
     same-allowed false row = refl
 
     abbrev asks : Shortage → Option (Row T M) → ListReply T M × Table T M
@@ -718,21 +807,33 @@ module _ {T M : Type 0} (setting : Setting T) (places : ℕ) (t : Table T M) (c 
   answer_told : Told (answer setting no_shortage places t c).0
   answer_told =
       answer_each setting no_shortage places t c enough (λ reply new. Told reply) told
-      (λ items role nothing info fits. inl refl) (λ items. inl refl)
+      (λ items role nothing info fits. inl refl) (λ row reads none fits. inl refl)
       (λ i row kept handed at shares one other fits also. inl refl)
       (λ i row part at is fits. inl refl) (λ i row at may. inl refl)
       (λ i row new r tells at sole put fits. told r tells)
       (λ i row items role nothing info at fits. inl refl) (λ r tells i. told r tells) c refl
 
+  ample-writes : (d : ListCmd T M) → Writes d → Ample d
+  ample-writes d (reserves i k) =
+      same-asks setting places t i (Res i k) (λ around row.
+      same-filled setting around row [] (Res i k) (room_of setting row k)) (row_at t i)
+  ample-writes d (pushes i x) =
+      same-asks setting places t i (Push i x) (λ around row.
+      same-filled setting around row (x ∷ []) (Push i x) (room_of setting row 1)) (row_at t i)
+  ample-writes d (extends i xs) =
+      same-asks setting places t i (Ext i xs) (λ around row.
+      same-filled setting around row xs (Ext i xs) (room_of setting row (length xs))) (row_at t i)
+
   ample : Told (answer setting no_shortage places t c).0 → Ample c
   ample (inl none) = ap (λ short. answer setting short places t c) none
-  ample (inr (i, inl is)) =
-      subst Ample (sym is) (same-asks setting t i (Uniq i) (λ around row.
+  ample (inr (inl (i, inl is))) =
+      subst Ample (sym is) (same-asks setting places t i (Uniq i) (λ around row.
       ap (λ r. is_now r row) (same-says setting i around.alone row.place)) (row_at t i))
-  ample (inr (i, inr is)) =
-      subst Ample (sym is) (same-asks setting t i (Freeze i) (λ around row.
+  ample (inr (inl (i, inr is))) =
+      subst Ample (sym is) (same-asks setting places t i (Freeze i) (λ around row.
       same-move setting i around row
       (layout_move setting.layout row.place)) (row_at t i))
+  ample (inr (inr writes)) = ample-writes c writes
 
   pub answer_step : Step setting t c (answer setting no_shortage places t c).0
       (answer setting no_shortage places t c).1

@@ -16,7 +16,7 @@ use Rattle.arc_block.proofs.Lists.{push-cases, set-cases}
 use Rattle.arc_commands.specs.Blocks.{SaysOf, RowsAgree, is_sole}
 use Rattle.arc_commands.specs.Step.{Setting, Shortage, no_shortage, shortage, Step, Run, answer}
 use Rattle.arc_commands.specs.Step.{around_of, founded, may_write, may_write_at, may_write_sort}
-use Rattle.arc_commands.specs.Step.{static_row, with_block, count_brought}
+use Rattle.arc_commands.specs.Step.{with_block, count_brought}
 use Rattle.arc_commands.proofs.Lists.{there}
 use Rattle.arc_commands.specs.Commands.{ListCmd, ListReply}
 use Rattle.arc_commands.proofs.Answers.{StaysOn, IsPart, answer_each}
@@ -370,10 +370,11 @@ module _ {T M : Type 0} where
       alone-there has_any alone (on_block block offset info) len on may =
           (and_parts (may_write_sort has_any info.sort) alone may).1
 
-      only-here : (setting : Setting T) (i : ℕ) (row : Row T M) → row_at t i ≡ Some row → may_write setting (around_of t row) row ≡ true
+      only-here : (setting : Setting T) (places i : ℕ) (row : Row T M) → row_at t i ≡ Some row
+          → may_write setting (around_of places t row) row ≡ true
           → (j block : ℕ) (other : Row T M) → slice_get t.rows j ≡ Some (Some other)
           → OnBlock block row → OnBlock block other → j ≡ i
-      only-here setting i row at may j block other here on beside =
+      only-here setting places i row at may j block other here on beside =
           let alone : is_alone t row.place ≡ true =
           alone-there setting.writes_any (is_alone t row.place) row.place (length row.items)
           (ap is_some on) may in
@@ -385,16 +386,16 @@ module _ {T M : Type 0} where
           (sym on ∙ ap (λ (r : Row T M). block_of r.place) same ∙ a.owner.stands) in
           a.only j (stands-at j a.block other here (beside ∙ ap Some one))
 
-      writes : (setting : Setting T) (i : ℕ) (row : Row T M) → row_at t i ≡ Some row
-          → may_write setting (around_of t row) row ≡ true → RowsAgree
+      writes : (setting : Setting T) (places i : ℕ) (row : Row T M) → row_at t i ≡ Some row
+          → may_write setting (around_of places t row) row ≡ true → RowsAgree
           (record { rows = slice_set t.rows i (Some (as_sole setting.drops row)); blocks = t.blocks })
-      writes setting i row at may =
+      writes setting places i row at may =
           let new = as_sole setting.drops row in
           agree-after (record { rows = slice_set t.rows i (Some new); blocks = t.blocks })
           (each-set IsSaid t.rows i (Some new) said-each
           (sole-said setting.drops row.items row.place (said-there i row at row.place refl))) refl
           (alone-writes t.rows i row new alone-now (there (slice_get t.rows i) row at)
-          (sole-on setting.drops row.items row.place) (only-here setting i row at may))
+          (sole-on setting.drops row.items row.place) (only-here setting places i row at may))
 
       within-blocks : (j block : ℕ) (other : Row T M) → slice_get t.rows j ≡ Some (Some other)
           → (place : Place (Option ℕ) M) → other.place ≡ place → block_of place ≡ Some block
@@ -514,13 +515,21 @@ module _ {T M : Type 0} where
       apart new past j block other at on beside =
           absurd (omega (arith, past block on, known j block other at beside))
 
-      statics : (items : List T) → RowsAgree (founded no_shortage t (static_row items)).1
-      statics items =
-          let row : Row T M = record { items = items; place = static_data; role = reader } in
-          agree-after (record { rows = t.rows ++ Some row ∷ []; blocks = t.blocks })
-          (each-push IsSaid t.rows (Some row) said-each tt) refl
+      said-apart : (place : Place (Option ℕ) M) → block_of place ≡ None → IsSaid place
+      said-apart nowhere none = tt
+      said-apart static_data none = tt
+      said-apart (on_block None offset info) none = tt
+      said-apart (on_block (Some block) offset info) none = absurd (none-some block (sym none))
+
+      -- a window that stands on no block which counts owners
+      on-none : (row : Row T M) → block_of row.place ≡ None
+          → RowsAgree (founded no_shortage t row).1
+      on-none row none =
+          agree-after (founded no_shortage t row).1
+          (each-push IsSaid t.rows (Some row) said-each (said-apart row.place none))
+          (ap (λ n. with_block (is_some n) t.blocks) none)
           (alone-push t.rows row alone-now
-          (apart row (λ block on. absurd (none-some block on))))
+          (apart row (λ block on. absurd (none-some block (sym none ∙ on)))))
 
       splits : (i : ℕ) (row kept handed : Row T M) → row_at t i ≡ Some row
           → is_sole row.role ≡ false → IsPart row kept → IsPart row handed
@@ -569,11 +578,11 @@ module _ {T M : Type 0} where
     answer-agrees short places t c enough agree =
         answer_each setting short places t c enough (λ reply new. RowsAgree new) (λ reply tells. agree)
         (λ items role nothing info fits. founds t agree items role nothing info)
-        (statics t agree)
+        (λ row reads none fits. on-none t agree row none)
         (λ i row kept handed at shares one other fits also.
         splits t agree i row kept handed at shares one other)
         (λ i row part at is fits. becomes t agree i row part at is)
-        (writes t agree setting)
+        (writes t agree setting places)
         (λ i row new r tells at sole put fits. refits t agree i row new at sole put)
         (λ i row items role nothing info at fits. begins t agree i items role nothing info)
         (λ r tells i. goes t agree i) c refl

@@ -11,7 +11,8 @@ use Rattle.arc_owners.specs.declared.error.RangeError.TheVariants.{OutOfRange}
 use Rattle.arc_buffer.specs.Slice.{sub, range_answer, edge_answer}
 use Rattle.arc_buffer.proofs.Sub.{length-sub}
 use Rattle.arc_block.specs.Block.{native_facts, partly_full, full_places, memory_info}
-use Rattle.arc_block.specs.Block.{vector}
+use Rattle.arc_block.specs.Block.{Sort, native, vector, buffer, raw, BlockInfo, buffer_info}
+use Rattle.arc_block.specs.Block.{raw_info}
 use Rattle.arc_block.specs.Place.{Place, nowhere, static_data, on_block, moved}
 use Rattle.arc_block.specs.Room.{ends_full}
 use Rattle.arc_block.specs.Table.{Row, Role, reader, sole_writer, one_writer_of_several}
@@ -19,8 +20,9 @@ use Rattle.arc_block.specs.Table.{inline, forgotten}
 use Rattle.arc_block.specs.Writers.{capacity_of, with_capacity, writer_capacity, after_advance}
 use Rattle.arc_block.specs.Writers.{as_sole, sole_at}
 use Rattle.arc_commands.specs.Blocks.{is_sole}
-use Rattle.arc_commands.specs.Fits.{LieWithin, HasPlaces, RowFits}
+use Rattle.arc_commands.specs.Fits.{LieWithin, HasPlaces, RowFits, counts_full}
 use Rattle.arc_commands.specs.Step.{Setting, part_of, cut_row, off_part, to_part, truncated}
+use Rattle.arc_commands.specs.Step.{buffer_row, written_buffer_row, raw_row}
 
 -- ---- ranges that were tested
 
@@ -74,6 +76,13 @@ ends-at : (drops : Bool) (size n : ℕ) → n ≤ size
 ends-at true size n less = (omega arith, less)
 ends-at false size n less = (less, omega arith)
 
+-- items that are dropped one by one are counted in each block
+pub counted-owned : (sort : Sort) → counts_full true sort ≡ true
+counted-owned native = refl
+counted-owned vector = refl
+counted-owned (buffer writable) = refl
+counted-owned raw = refl
+
 -- ---- places
 
 module _ {M : Type 0} (drops : Bool) where
@@ -121,7 +130,7 @@ module _ {M : Type 0} where
   places-own static_data len n capacity w less has = has
   places-own (on_block block offset info) len n capacity w less has =
       sym (ap (λ b. if not b then n else info.size - offset)
-      (ends-before info.full info.size offset len n w.0 w.1 less))
+      (ends-before info.full info.size offset len n (w.0 ∙ counted-owned info.sort) w.1 less))
 
 -- ---- roles
 
@@ -216,6 +225,34 @@ module _ {T M : Type 0} (drops : Bool) where
         place = on_block (Some block) 0 (memory_info vector drops places n);
         role = reader;
       }) refl (counted drops n, omega (arith, ends.0), ends.1)
+
+  -- windows over a caller's buffer that has a place for each item at least, or over an `Arc` of one
+  pub buffer-fits : (block : ℕ) (items : List T) (places : ℕ) (metadata : M)
+      → length items ≤ places → RowFits drops (buffer_row block items places metadata)
+  buffer-fits block items places metadata less =
+      reads-fit (buffer_row block items places metadata) refl (refl, omega arith, less)
+
+  pub raw-fits : (by_itself : Bool) (block : ℕ) (items : List T)
+      → RowFits {M = M} drops (raw_row by_itself block items)
+  raw-fits by_itself block items =
+      reads-fit (raw_row by_itself block items) refl (refl, omega arith, omega arith)
+
+  pub written-fits : (block : ℕ) (items : List T) (places : ℕ) (metadata : M)
+      → length items ≤ places → RowFits drops (written_buffer_row block items places metadata)
+  written-fits block items places metadata less = record {
+    within = (refl, omega arith, less);
+    writer = λ sole. whole drops;
+  }
+    where
+      info : BlockInfo M
+      info = buffer_info true places (length items) (Some metadata)
+
+      whole : (d : Bool) → places ≡ writer_capacity d info 0 (length items)
+      whole true =
+          let end : (0 + length items == length items) ≡ true =
+          eq-eqb (0 + length items) (length items) (omega arith) in
+          (omega arith) ∙ sym (ap (λ b. if not b then length items else places - 0) end)
+      whole false = omega arith
 
   -- a writer with so many places, which are at least as many as its items
   pub writer-fits : (block : ℕ) (items : List T) (places : ℕ) → length items ≤ places

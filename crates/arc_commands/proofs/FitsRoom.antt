@@ -1,11 +1,11 @@
 -- A writer that has got room, and items behind its others, still lies within its block and has the
 -- places that are behind it.
-use Rattle.std.proofs.Common.{inl, inr, ◌≡◌, ℕ, ◌+◌, ◌-◌, ◌≤◌, ◌==◌, ◌&&◌, not, Bool}
+use Rattle.std.proofs.Common.{inl, inr, ◌≡◌, ℕ, ◌+◌, ◌-◌, ◌≤◌, ◌<◌, ◌==◌, ◌&&◌, not, Bool}
 use Rattle.std.proofs.Common.{true, false, if◌then◌else◌, List, [], ◌++◌, length, Option, Some, None}
 use Rattle.std.proofs.Common.{is_some, refl, sym, ap, ◌∙◌, subst, arith}
 use Rattle.std.specs.Prelude.{nat_lt, max, ◌*◌, ◌^◌}
 use Rattle.std.specs.Option.{option_map, option_map_or}
-use Rattle.std.proofs.lemmas.Bool.{false≢true, not-true, ltb-false, eq-eqb, eqb-true, and_parts}
+use Rattle.std.proofs.lemmas.Bool.{false≢true, not-true, not-false, ltb-true, ltb-false, eq-eqb, eqb-true, and_parts}
 use Rattle.std.proofs.lemmas.List.{append-nil, length-append}
 use Rattle.arc_owners.specs.declared.error.TryReserveError.{TryReserveError}
 use Rattle.arc_owners.specs.declared.error.TryReserveError.TheVariants.{AllocError, Unsupported}
@@ -15,14 +15,14 @@ use Rattle.arc_block.specs.Place.{Place, nowhere, static_data, on_block}
 use Rattle.arc_block.specs.Room.{ends_full, growth, room_in}
 use Rattle.arc_block.specs.Table.{Row, sole_writer}
 use Rattle.arc_block.specs.Writers.{capacity_of, room, room_at, with_room, with_more, with_full}
-use Rattle.arc_block.specs.Writers.{new_writer}
+use Rattle.arc_block.specs.Writers.{new_writer, offset_at}
 use Rattle.arc_block.specs.declared.parts.room.Room.{Room}
 use Rattle.arc_block.specs.declared.parts.room.Room.TheVariants.{Spare, Fresh, Behind, Front}
 use Rattle.arc_block.specs.declared.parts.room.Room.TheVariants.{Growth, Own, Refused}
 use Rattle.arc_block.proofs.More.{more_none}
 use Rattle.arc_commands.specs.Blocks.{is_sole}
-use Rattle.arc_commands.specs.Fits.{LieWithin, HasPlaces, RowFits}
-use Rattle.arc_commands.specs.Step.{is_buffer, is_buffer_at}
+use Rattle.arc_commands.specs.Fits.{LieWithin, HasPlaces, RowFits, counts_full}
+use Rattle.arc_commands.proofs.Fits.{counted-owned}
 use Rattle.arc_commands.proofs.Roles.{sole_each}
 use Rattle.arc_commands.proofs.Lists.{none-of, none-or-some}
 
@@ -37,19 +37,23 @@ module _ {M : Type 0} (drops : Bool) (size : ℕ) (info : BlockInfo M) (offset l
   abbrev Ends : Type 0
   Ends = drops ≡ true → ends_full info (offset + len) ≡ true
 
+  -- the block has no more places than are wanted
+  abbrev Lacking : Type 0
+  Lacking = info.size ≤ offset + len + k
+
   abbrev Tells : Room → Type 0
   Tells Spare = ⊥
   Tells (Fresh places) = ⊥
   Tells Behind = Ends × (k ≤ info.size - offset - len)
   Tells Front = (drops ≡ false) × (k ≤ info.size - len)
-  Tells (Growth places) = Ends × (offset + len + k ≤ places)
-  Tells (Own additional) = Unit {0}
+  Tells (Growth places) = Ends × (offset + len + k ≤ places) × Lacking
+  Tells (Own additional) = Ends × (additional ≡ k) × Lacking
   Tells (Refused e) = Unit {0}
 
-  grown : (b : Bool) (places : ℕ) → Ends → offset + len + k ≤ places
+  grown : (b : Bool) (places : ℕ) → Ends → offset + len + k ≤ places → Lacking
       → Tells (if b then Refused CapacityOverflow else Growth places)
-  grown true places ends enough = tt
-  grown false places ends enough = (ends, enough)
+  grown true places ends enough lacks = tt
+  grown false places ends enough lacks = (ends, enough, lacks)
 
   larger : (b : Bool) → offset + len + k
       ≤ (if b then max (2 * info.size) (offset + len + k) else offset + len + k)
@@ -57,36 +61,41 @@ module _ {M : Type 0} (drops : Bool) (size : ℕ) (info : BlockInfo M) (offset l
   larger false = omega arith
 
   -- of a vector it may be what is needed alone
-  grown-vector : (a b : Bool) (places : ℕ) → Ends → offset + len + k ≤ places
+  grown-vector : (a b : Bool) (places : ℕ) → Ends → offset + len + k ≤ places → Lacking
       → Tells (if a then Refused CapacityOverflow else
       Growth (if b then offset + len + k else places))
-  grown-vector true b places ends enough = tt
-  grown-vector false true places ends enough = (ends, omega arith)
-  grown-vector false false places ends enough = (ends, enough)
+  grown-vector true b places ends enough lacks = tt
+  grown-vector false true places ends enough lacks = (ends, omega arith, lacks)
+  grown-vector false false places ends enough lacks = (ends, enough, lacks)
 
-  growth-tells : (sort : Sort) → Ends
+  growth-tells : (sort : Sort) → Ends → Lacking
       → Tells (growth sort size info.size (offset + len) k)
-  growth-tells native ends = grown _ _ ends (larger (nat_lt (2 * info.size) (2 ^ 64)))
-  growth-tells vector ends = grown-vector _ _ _ ends (larger (nat_lt (2 * info.size) (2 ^ 64)))
-  growth-tells (buffer writable) ends = tt
-  growth-tells raw ends = tt
+  growth-tells native ends lacks =
+      grown _ _ ends (larger (nat_lt (2 * info.size) (2 ^ 64))) lacks
+  growth-tells vector ends lacks =
+      grown-vector _ _ _ ends (larger (nat_lt (2 * info.size) (2 ^ 64))) lacks
+  growth-tells (buffer writable) ends lacks = (ends, refl, lacks)
+  growth-tells raw ends lacks = tt
 
-  third : Ends → (b : Bool)
+  third : Ends → Lacking → (b : Bool)
       → b ≡ (not drops && not (nat_lt offset len) && not (nat_lt (info.size - len) k))
       → Tells (if b then Front else growth info.sort size info.size (offset + len) k)
-  third ends true is =
+  third ends lacks true is =
       let both = and_parts (not drops && not (nat_lt offset len)) (not (nat_lt (info.size - len) k))
       (sym is) in
       let first = and_parts (not drops) (not (nat_lt offset len)) both.0 in
       (not-true drops first.0, ltb-false (info.size - len) k (not-true _ both.1))
-  third ends false is = growth-tells info.sort ends
+  third ends lacks false is = growth-tells info.sort ends lacks
 
   second : Ends → (b : Bool) → b ≡ not (nat_lt (info.size - offset - len) k)
       → Tells (if b then Behind else
       if not drops && not (nat_lt offset len) && not (nat_lt (info.size - len) k) then Front else
       growth info.sort size info.size (offset + len) k)
   second ends true is = (ends, ltb-false (info.size - offset - len) k (not-true _ (sym is)))
-  second ends false is = third ends _ refl
+  second ends false is =
+      let few : info.size - offset - len < k =
+      ltb-true (info.size - offset - len) k (not-false _ (sym is)) in
+      third ends (omega (arith, few)) _ refl
 
   first : (b : Bool) → b ≡ (drops && not (ends_full info (offset + len)))
       → Tells (if b then Refused Unsupported else
@@ -99,11 +108,12 @@ module _ {M : Type 0} (drops : Bool) (size : ℕ) (info : BlockInfo M) (offset l
   room-tells : Tells (room_in drops size info offset len k)
   room-tells = first _ refl
 
--- So many items, and then so many more, that end where the full places do and for which there are
--- places.
+-- So many items, and then so many more, for which there are places, where they end where the full
+-- places do if items are dropped one by one.
 block-fits : {M : Type 0} (drops : Bool) (sort : Sort) (full : Option ℕ) (meta : Option M)
-    (block : Option ℕ)
-    (offset len more places : ℕ) → is_some full ≡ drops → offset + len + more ≤ places
+    (block : Option ℕ) (offset len more places : ℕ) → is_some full ≡ counts_full drops sort
+    → offset + len + more ≤ places → offset + len ≤ option_map_or (λ f. f) full places
+    → option_map_or (λ f. f) full places ≤ places
     → (drops ≡ true → option_map_or (λ f. offset + len == f) full true ≡ true)
     → let place : Place (Option ℕ) M = on_block block offset (record {
       sort = sort;
@@ -112,20 +122,29 @@ block-fits : {M : Type 0} (drops : Bool) (sort : Sort) (full : Option ℕ) (meta
       metadata = meta;
     }) in
     LieWithin drops place (len + more) × HasPlaces drops place (len + more) (places - offset)
-block-fits false sort None meta block offset len more places counted fits ends =
-    ((refl, omega (arith, fits), omega arith), refl)
-block-fits true sort None meta block offset len more places counted fits ends =
-    absurd (false≢true counted)
-block-fits false sort (Some f) meta block offset len more places counted fits ends =
-    absurd (false≢true (sym counted))
-block-fits true sort (Some f) meta block offset len more places counted fits ends =
+block-fits false sort None meta block offset len more places counted fits within ordered ends =
+    ((counted, omega (arith, fits), omega arith), refl)
+block-fits true sort None meta block offset len more places counted fits within ordered ends =
+    absurd (false≢true (counted ∙ counted-owned sort))
+block-fits false sort (Some f) meta block offset len more places counted fits within ordered ends =
+    ((counted, omega (arith, within), omega (arith, fits, within, ordered)), refl)
+block-fits true sort (Some f) meta block offset len more places counted fits within ordered ends =
     let at : offset + len ≡ f = eqb-true (offset + len) f (ends refl) in
     let full = f + (more - (f - (offset + len))) in
     let last : (offset + (len + more) == full) ≡ true =
     eq-eqb (offset + (len + more)) full (omega (arith, at)) in (
-      (refl, omega (arith, at), omega (arith, at, fits)),
+      (counted, omega (arith, at), omega (arith, at, fits)),
       sym (ap (λ b. if not b then len + more else places - offset) last),
     )
+
+-- full places that are counted within some are so within more, and what lies within them does
+ends-within : (full : Option ℕ) (end size places : ℕ) → end ≤ option_map_or (λ f. f) full size
+    → option_map_or (λ f. f) full size ≤ size → size ≤ places
+    → (end ≤ option_map_or (λ f. f) full places) × (option_map_or (λ f. f) full places ≤ places)
+ends-within None end size places within ordered more =
+    (omega (arith, within, more), omega arith)
+ends-within (Some f) end size places within ordered more =
+    (within, omega (arith, ordered, more))
 
 -- room was made on the row's own block
 abbrev pub IsMade : Room → Type 0
@@ -175,8 +194,9 @@ module _ {T M : Type 0} (drops : Bool) (first size : ℕ) (old more : List T) (k
       at-end false is has less =
           let w = f.within in
           let all =
-          block-fits drops info.sort info.full info.metadata block offset (length old) (length more) info.size w.0
-          (omega (arith, has, less, some, enough)) (ends-so drops _ is) in
+          block-fits drops info.sort info.full info.metadata block offset (length old)
+          (length more) info.size w.0 (omega (arith, has, less, some, enough))
+          (omega (arith, w.1)) w.2 (ends-so drops _ is) in
           fit (with_full (length old) (length more) (on_block block offset info)) places all.0
           (subst (λ c. HasPlaces drops (with_full (length old) (length more) (on_block block offset info)) ((length old) + (length more)) c)
           (sym has) all.1)
@@ -200,16 +220,19 @@ module _ {T M : Type 0} (drops : Bool) (first size : ℕ) (old more : List T) (k
     behind-fits tells =
         let less : k ≤ info.size - offset - (length old) = tells.1 in
         let all =
-        block-fits drops info.sort info.full info.metadata block offset (length old) (length more) info.size f.within.0
-        (omega (arith, less, enough, f.within.1, f.within.2)) tells.0 in
+        block-fits drops info.sort info.full info.metadata block offset (length old)
+        (length more) info.size f.within.0
+        (omega (arith, less, enough, f.within.1, f.within.2)) (omega (arith, f.within.1))
+        f.within.2 tells.0 in
         fit (with_full (length old) (length more) (on_block block offset info)) (info.size - offset) all.0 all.1
 
     front-fits : Tells drops size info offset (length old) k Front
         → RowFits drops (with_more more (with_room Front here))
     front-fits tells =
         let all =
-        block-fits drops info.sort info.full info.metadata block 0 (length old) (length more) info.size f.within.0
-        (omega (arith, tells.1, enough, f.within.1, f.within.2))
+        block-fits drops info.sort info.full info.metadata block 0 (length old) (length more)
+        info.size f.within.0 (omega (arith, tells.1, enough, f.within.1, f.within.2))
+        (omega (arith, f.within.1)) f.within.2
         (λ owned. absurd (false≢true (sym tells.0 ∙ owned))) in
         let whole : info.size - 0 ≡ info.size = omega arith in
         fit (with_full (length old) (length more) (on_block block 0 info)) info.size all.0
@@ -218,9 +241,12 @@ module _ {T M : Type 0} (drops : Bool) (first size : ℕ) (old more : List T) (k
     growth-fits : (made : ℕ) → Tells drops size info offset (length old) k (Growth made)
         → RowFits drops (with_more more (with_room (Growth made) here))
     growth-fits made tells =
+        let ends =
+        ends-within info.full (offset + length old) info.size made f.within.1 f.within.2
+        (omega (arith, tells.1, tells.2)) in
         let all =
-        block-fits drops info.sort info.full info.metadata block offset (length old) (length more) made f.within.0
-        (omega (arith, tells.1, enough)) tells.0 in
+        block-fits drops info.sort info.full info.metadata block offset (length old)
+        (length more) made f.within.0 (omega (arith, tells.1, enough)) ends.0 ends.1 tells.0 in
         fit (with_full (length old) (length more) (on_block block offset (record info { size = made }))) (made - offset)
         all.0 all.1
 
@@ -258,6 +284,36 @@ room-fits {T} {M} drops first size row more k enough sole f made =
     → RowFits drops (with_more more (with_room (room drops first size r k) r)))
     (λ places fits makes. row-fits drops first size row.items more k enough row.place places fits
     (nat_lt (places - length row.items) k) refl makes) row.role sole f made
+
+-- a caller's buffer made its own room
+module _ {T M : Type 0} (drops : Bool) (first size : ℕ) (old more : List T) (k j made : ℕ)
+    (enough : length more ≤ k) where
+  own-at : (place : Place (Option ℕ) M) (places : ℕ)
+      → RowFits drops (record { items = old; place = place; role = sole_writer places }) → (b : Bool)
+      → (if b then Spare else room_at drops first size place (length old) k) ≡ Own j
+      → offset_at place + length old + j ≤ made
+      → RowFits drops (with_more more (with_room (Growth made)
+      (record { items = old; place = place; role = sole_writer places })))
+  own-at place places f true is wide = absurd (cc)
+  own-at nowhere places f false is wide = absurd (cc)
+  own-at static_data places f false is wide = absurd (cc)
+  own-at (on_block block offset info) places f false is wide =
+      let tells = subst (Tells drops size info offset (length old) k) is
+      (room-tells drops size info offset (length old) k) in
+      growth-fits drops first size old more k enough block offset places info f made
+      (tells.0, omega (arith, tells.1, wide), tells.2)
+
+pub own-fits : {T M : Type 0} (drops : Bool) (first size : ℕ) (row : Row T M) (more : List T)
+    (k j made : ℕ) → length more ≤ k → is_sole row.role ≡ true → RowFits drops row
+    → room drops first size row k ≡ Own j
+    → offset_at row.place + length row.items + j ≤ made
+    → RowFits drops (with_more more (with_room (Growth made) row))
+own-fits {T} {M} drops first size row more k j made enough sole f is wide =
+    sole_each (λ role. let r : Row T M = record row { role = role } in
+    RowFits drops r → room drops first size r k ≡ Own j
+    → RowFits drops (with_more more (with_room (Growth made) r)))
+    (λ places fits own. own-at drops first size row.items more k j made enough row.place places
+    fits _ own wide) row.role sole f is
 
 -- a row of a sole writer that has got room on its block
 pub room-alone-fits : {T M : Type 0} (drops : Bool) (first size : ℕ) (row : Row T M) (k : ℕ)
@@ -353,8 +409,8 @@ pub fresh-fits : {T M : Type 0} (drops : Bool) (block places : ℕ) (more : List
 fresh-fits {T} {M} drops block places more less =
     let m = length more in
     let all =
-    block-fits {M = M} drops native (full_places drops 0) None (Some block) 0 0 m places (counted drops)
-    (omega (arith, less)) (λ owned. empty drops) in
+    block-fits {M = M} drops native (full_places drops 0) None (Some block) 0 0 m places
+    (counted drops) (omega (arith, less)) (inside drops) (ordered drops) (λ owned. empty drops) in
     let whole : places - 0 ≡ places = omega arith in
     let at : Place (Option ℕ) M = on_block (Some block) 0 (record {
       sort = native;
@@ -372,65 +428,17 @@ fresh-fits {T} {M} drops block places more less =
     counted true = refl
     counted false = refl
 
+    inside : (d : Bool) → 0 + 0 ≤ option_map_or (λ f. f) (full_places d 0) places
+    inside true = omega arith
+    inside false = omega arith
+
+    ordered : (d : Bool) → option_map_or (λ f. f) (full_places d 0) places ≤ places
+    ordered true = omega arith
+    ordered false = omega arith
+
     empty : (d : Bool) → option_map_or (λ f. 0 + 0 == f) (full_places d 0) true ≡ true
     empty true = refl
     empty false = refl
 
     none-before : (l : ℕ) → 0 + l ≡ l
     none-before l = omega arith
-
--- only a caller's buffer makes its own room
-abbrev IsOwn : Bool → Room → Type 0
-IsOwn here (Own additional) = here ≡ true
-IsOwn here room = Unit {0}
-
-own-sort : (sort : Sort) (size old end k : ℕ) → IsOwn (is_buffer sort) (growth sort size old end k)
-own-sort native size old end k = own-growth _ _
-  where
-    own-growth : (b : Bool) (places : ℕ)
-        → IsOwn false (if b then Refused CapacityOverflow else Growth places)
-    own-growth true places = tt
-    own-growth false places = tt
-own-sort vector size old end k = own-growth _ _
-  where
-    own-growth : (b : Bool) (places : ℕ)
-        → IsOwn false (if b then Refused CapacityOverflow else Growth places)
-    own-growth true places = tt
-    own-growth false places = tt
-own-sort (buffer writable) size old end k = refl
-own-sort raw size old end k = tt
-
-module _ {M : Type 0} (drops : Bool) (size : ℕ) (info : BlockInfo M) (offset len k : ℕ) where
-  own-third : (b : Bool) → IsOwn (is_buffer info.sort) (if b then Front else
-      growth info.sort size info.size (offset + len) k)
-  own-third true = tt
-  own-third false = own-sort info.sort size info.size (offset + len) k
-
-  own-second : (b : Bool) → IsOwn (is_buffer info.sort) (if b then Behind else
-      if not drops && not (nat_lt offset len) && not (nat_lt (info.size - len) k) then Front else
-      growth info.sort size info.size (offset + len) k)
-  own-second true = tt
-  own-second false = own-third _
-
-  own-first : (b : Bool) → IsOwn (is_buffer info.sort) (if b then Refused Unsupported else
-      if not (nat_lt (info.size - offset - len) k) then Behind else
-      if not drops && not (nat_lt offset len) && not (nat_lt (info.size - len) k) then Front else
-      growth info.sort size info.size (offset + len) k)
-  own-first true = tt
-  own-first false = own-second _
-
-own-at : {M : Type 0} (drops : Bool) (first size : ℕ) (place : Place (Option ℕ) M) (len k : ℕ)
-    (b : Bool)
-    → IsOwn (is_buffer_at place) (if b then Spare else room_at drops first size place len k)
-own-at drops first size place len k true = tt
-own-at drops first size nowhere len k false = tt
-own-at drops first size static_data len k false = tt
-own-at drops first size (on_block block offset info) len k false =
-    own-first drops size info offset len k _
-
-pub own-on-buffer : {T M : Type 0} (drops : Bool) (first size : ℕ) (row : Row T M) (k j : ℕ)
-    → room drops first size row k ≡ Own j → is_buffer_at row.place ≡ true
-own-on-buffer drops first size row k j is =
-    subst (IsOwn (is_buffer_at row.place)) is
-    (own-at drops first size row.place (length row.items) k
-    (not (nat_lt (capacity_of row.role - length row.items) k)))

@@ -4,8 +4,7 @@ use Rattle.std.proofs.Common.{Option, Some, None, slice_get, slice_set, refl, sy
 use Rattle.std.proofs.Common.{subst}
 use Rattle.std.specs.Option.{option_flatten}
 use Rattle.std.proofs.lemmas.Option.{none-some, same_Some}
-use Rattle.arc_block.specs.Place.{static_data}
-use Rattle.arc_block.specs.Table.{Row, Table, reader}
+use Rattle.arc_block.specs.Table.{Row, Table}
 use Rattle.arc_block.specs.Writers.{as_sole}
 use Rattle.arc_block.proofs.Lists.{push-cases, set-cases}
 use Rattle.arc_commands.specs.Fits.{RowFits, RowsFit}
@@ -14,7 +13,7 @@ use Rattle.arc_commands.specs.Step.{count_brought}
 use Rattle.arc_commands.specs.Commands.{ListCmd, ListReply}
 use Rattle.arc_commands.proofs.Answers.{answer_each}
 use Rattle.arc_commands.proofs.Lists.{there}
-use Rattle.arc_commands.proofs.Fits.{reads-fit, sole-fits}
+use Rattle.arc_commands.proofs.Fits.{sole-fits}
 
 module _ {T M : Type 0} (drops : Bool) where
   abbrev Each : List (Option (Row T M)) → Type 0
@@ -52,11 +51,7 @@ module _ {T M : Type 0} (setting : Setting T) where
       let d = setting.drops in
       answer_each setting short places t c enough (λ reply new. RowsFit d new) (λ reply tells. fit)
       (λ items role nothing info fits. each-push d t.rows _ fit (this d _ fits))
-      (λ items. each-push d t.rows _ fit (this d _ (reads-fit d (record {
-        items = items;
-        place = static_data;
-        role = reader;
-      }) refl tt)))
+      (λ row reads none fits. each-push d t.rows _ fit (this d row fits))
       (λ i row kept handed at shares one other fits also.
       each-push d (slice_set t.rows i (Some kept)) _
       (each-set d t.rows i (Some kept) fit (this d kept (fits (fit i row at))))

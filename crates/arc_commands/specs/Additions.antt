@@ -16,11 +16,12 @@ use Rattle.arc_block.specs.Owned.{Stand}
 use Rattle.arc_block.specs.Place.{Place, nowhere, static_data, on_block}
 use Rattle.arc_block.specs.Table.{Row, Table, row_at}
 use Rattle.arc_commands.specs.Step.{Setting, window_of, is_writable_at, is_vector_part}
-use Rattle.arc_commands.specs.Step.{is_box_whole}
+use Rattle.arc_commands.specs.Step.{is_box_whole, is_buffer_whole, is_raw_whole}
+use Rattle.arc_commands.specs.Blocks.{is_sole}
 use Rattle.arc_commands.specs.Commands.{ListCmd, ListReply}
 use Rattle.arc_commands.specs.declared.command.Cmd.TheVariants.{Clone, Sub, Off, To, Uniq}
 use Rattle.arc_commands.specs.declared.command.Cmd.TheVariants.{Drop, Static, TakeStatic, Take}
-use Rattle.arc_commands.specs.declared.command.Cmd.TheVariants.{TakeBox}
+use Rattle.arc_commands.specs.declared.command.Cmd.TheVariants.{TakeBox, TakeBuf, TakeRaw}
 use Rattle.arc_commands.specs.declared.command.Cmd.TheVariants.{Mut, Res, Push, Ext}
 use Rattle.arc_commands.specs.declared.command.Cmd.TheVariants.{Freeze}
 use Rattle.arc_commands.specs.declared.command.Reply.TheVariants as reply
@@ -130,6 +131,11 @@ module _ {H : Type 0} where
     Takes = (there ≡ None) × (made ≡ None) × (between : List (Pass H))
         × AddsAt here (asked true) old between × AddsAt here ended between new
 
+    -- a reader asked so, and a sole writer, who is alone, only ended
+    abbrev pub TakesAs : (sole : Bool) → Type 0
+    TakesAs true = Goes ended
+    TakesAs false = Takes
+
     -- where only the count decides, it was asked, and said no; else nothing was added
     abbrev pub AsksIf : (decides : Bool) → Type 0
     AsksIf true = Enters (asked false)
@@ -171,12 +177,18 @@ module _ {H : Type 0} where
     RowAdds setting row (Ext i items) reply.Ok = Stays
     RowAdds setting row (Freeze i) reply.Ok = Stays
     RowAdds setting row (Drop i) reply.Ok = Goes ended
-    RowAdds setting row (Take i) (reply.Vec items) = Takes
+    RowAdds setting row (Take i) (reply.Vec items) = TakesAs (is_sole row.role)
     RowAdds setting row (TakeBox i) (reply.Boxed items) = Takes
+    RowAdds setting row (TakeBuf i) (reply.Buffer items) = TakesAs (is_sole row.role)
+    RowAdds setting row (TakeRaw i) (reply.Raw items) = Takes
     RowAdds setting row (Take i) reply.Refused =
         AsksIf (is_vector_part setting.drops row.place (length row.items))
     RowAdds setting row (TakeBox i) reply.Refused =
         AsksIf (is_box_whole row.place (length row.items))
+    RowAdds setting row (TakeBuf i) reply.Refused =
+        AsksIf (is_buffer_whole row.place (length row.items))
+    RowAdds setting row (TakeRaw i) reply.Refused =
+        AsksIf (is_raw_whole row.place (length row.items))
     RowAdds setting row (TakeStatic i) (reply.Static items) =
         (here ≡ None) × (there ≡ None) × (made ≡ None) × (new ≡ old)
     RowAdds setting row command reply = AddsNone

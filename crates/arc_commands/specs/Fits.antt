@@ -1,23 +1,31 @@
 -- What each row of a table says of the place where it stands.
 use Rattle.std.specs.Prelude.{◌≡◌, ℕ, ◌+◌, ◌≤◌, Bool, true, is_some, Option, Some, length}
 use Rattle.std.specs.Option.{option_map_or}
-use Rattle.arc_block.specs.Block.{BlockInfo}
+use Rattle.arc_block.specs.Block.{BlockInfo, Sort, native, vector, buffer, raw}
 use Rattle.arc_block.specs.Place.{Place, nowhere, static_data, on_block}
 use Rattle.arc_block.specs.Table.{Row, Table, row_at}
 use Rattle.arc_block.specs.Writers.{capacity_of, writer_capacity}
 use Rattle.arc_commands.specs.Blocks.{is_sole}
+
+-- Whether a block of this sort counts its full places: one of ours, where items are dropped one by
+-- one, and always what a caller brought.
+abbrev pub counts_full : (drops : Bool) → Sort → Bool
+counts_full drops native = drops
+counts_full drops vector = drops
+counts_full drops (buffer writable) = true
+counts_full drops raw = true
 
 module _ {M : Type 0} where
   -- where the full places of a block end, which are all where they aren't counted
   abbrev pub full_end : BlockInfo M → ℕ
   full_end info = option_map_or (λ full. full) info.full info.size
 
-  -- So many items lie within the full places of a block, which are counted where items are dropped
-  -- one by one. On nothing there are none.
+  -- So many items lie within the full places of a block, where these are counted. On nothing there
+  -- are none.
   abbrev pub LieWithin : Bool → Place (Option ℕ) M → ℕ → Type 0
   LieWithin drops nowhere len = len ≡ 0
   LieWithin drops static_data len = Unit {0}
-  LieWithin drops (on_block block offset info) len = (is_some info.full ≡ drops)
+  LieWithin drops (on_block block offset info) len = (is_some info.full ≡ counts_full drops info.sort)
       × (offset + len ≤ full_end info) × (full_end info ≤ info.size)
 
   -- a sole writer of so many items, who stands here, has so many places: none on static data

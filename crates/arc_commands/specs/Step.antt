@@ -1,29 +1,32 @@
 -- One step of a table of lists: what each command is answered, and the table after it.
 use Rattle.std.specs.Prelude.{◌≡◌, ℕ, ◌+◌, ◌==◌, Bool, true, false, if◌then◌else◌, List, [], ◌∷◌}
 use Rattle.std.specs.Prelude.{◌++◌, length, Option, Some, None, slice_set, Result, Ok, Err, take}
-use Rattle.std.specs.Prelude.{◌&&◌, ◌≤◌, is_some, nat_lt, replicate}
+use Rattle.std.specs.Prelude.{◌&&◌, ◌||◌, ◌≤◌, is_some, max, nat_lt, replicate}
 use Rattle.std.specs.Option.{option_map, option_map_or}
 use Rattle.arc_owners.specs.declared.error.RangeError.{RangeError}
 use Rattle.arc_owners.specs.declared.error.OwnerError.TheVariants.{AllocError, CountFull}
 use Rattle.arc_buffer.specs.Slice.{sub, range_answer, edge_answer}
 use Rattle.arc_block.specs.declared.block.TheConstants.{MAX_OWNERS}
 use Rattle.arc_block.specs.Block.{Sort, native, vector, buffer, raw, native_facts, partly_full}
-use Rattle.arc_block.specs.Block.{BlockInfo, memory_info}
+use Rattle.arc_block.specs.Block.{BlockInfo, memory_info, buffer_info, raw_info}
 use Rattle.arc_block.specs.Layouts.{LayoutFacts}
 use Rattle.arc_block.specs.Moves.{layout_move}
 use Rattle.arc_block.specs.declared.parts.moves.Move.{Move}
 use Rattle.arc_block.specs.declared.parts.moves.Move.TheVariants.{Stays, HandedBack, NewEmpty}
 use Rattle.arc_block.specs.declared.parts.moves.Move.TheVariants.{NewCount, LeavesCount}
 use Rattle.arc_block.specs.Place.{Place, nowhere, static_data, on_block, made_place, part_place}
-use Rattle.arc_block.specs.Place.{moved}
+use Rattle.arc_block.specs.Place.{moved, metadata_at}
 use Rattle.arc_block.specs.Table.{Row, RowOf, Table, row_at, block_of, owners, is_alone}
 use Rattle.arc_block.specs.Table.{Role, reader, sole_writer, one_writer_of_several, inline}
 use Rattle.arc_block.specs.Table.{forgotten}
 use Rattle.arc_block.specs.Writers.{capacity_of, with_capacity, as_sole, after_advance}
 use Rattle.arc_block.specs.Writers.{room_for, with_room, new_writer, with_more, as_reader}
+use Rattle.arc_block.specs.Writers.{offset_at}
 use Rattle.arc_block.specs.declared.parts.room.Room.{Room as RoomFrom}
 use Rattle.arc_block.specs.declared.parts.room.Room.TheVariants as from
+use Rattle.arc_owners.specs.declared.error.TryReserveError.{TryReserveError}
 use Rattle.arc_owners.specs.declared.error.TryReserveError.TheVariants as reserve
+use Rattle.arc_commands.specs.Blocks.{is_sole}
 use Rattle.arc_commands.specs.RunOf.{RunOf}
 use Rattle.arc_commands.specs.Commands.{ListCmd, ListReply}
 use Rattle.arc_commands.specs.declared.command.Cmd.{Cmd}
@@ -38,11 +41,13 @@ use Rattle.arc_commands.specs.declared.command.Cmd.TheVariants.{Take, TakeBox, T
 use Rattle.arc_commands.specs.declared.command.Reply.TheVariants as reply
 
 -- which calls a kind has, of those that not all kinds have: whether a list is copied, whether an
--- item more is pushed, and whether a copy of items is put behind others
+-- item more is pushed, whether a copy of items is put behind others, and whether each list is legal,
+-- so that a window is made of a caller's buffer
 pub record Calls : Type 0 where
   pub copies : Bool
   pub pushes : Bool
   pub extends : Bool
+  pub any_list : Bool
 
 -- what a table is run under: of its layout, on what windows may stand, whether under the layout of
 -- its writers a block may be of a caller's making, and on which sorts of blocks its clones may want
@@ -74,19 +79,22 @@ setting_of layout writes_any clone_wants drops boundary item_size zero calls = r
 -- What a step leaves free: where memory was refused. Nowhere, or for what the table asks for itself
 -- (room, a block, a copy of items), or for an owner more, where the layout's clones want some, or
 -- for the block of a window that is there: its first one, or a larger one. Or that a caller's
--- buffer said that somebody else has a part of it.
+-- buffer said that somebody else has a part of it, or why it makes no room.
 pub data Shortage : Type 0 where
   no_shortage : Shortage
   of_table : Shortage
   of_clones : Shortage
   of_blocks : Shortage
   of_buffer : Shortage
+  of_growth : TryReserveError → Shortage
 
 -- where it was refused, and what a buffer said, as the reply to a command tells
 abbrev pub shortage : {T M : Type 0} → ListReply T M → ListCmd T M → Shortage
 shortage reply.Alloc command = of_table
 shortage (reply.Owner AllocError) command = of_clones
 shortage (reply.Reserve reserve.AllocError) command = of_blocks
+shortage (reply.Reserve reserve.Unsupported) command = of_growth reserve.Unsupported
+shortage (reply.Reserve reserve.CapacityOverflow) command = of_growth reserve.CapacityOverflow
 shortage reply.Refused (Freeze i) = of_blocks
 shortage reply.No (Uniq i) = of_buffer
 shortage other command = no_shortage
@@ -103,8 +111,15 @@ is_for (Off i at) (one_writer_of_several capacity) = true
 is_for (To i at) reader = true
 is_for (To i at) (one_writer_of_several capacity) = true
 is_for (Uniq i) reader = true
+is_for (Meta i) reader = true
+is_for (Meta i) (sole_writer capacity) = true
+is_for (Meta i) (one_writer_of_several capacity) = true
 is_for (Take i) reader = true
+is_for (Take i) (sole_writer capacity) = true
 is_for (TakeBox i) reader = true
+is_for (TakeBuf i) reader = true
+is_for (TakeBuf i) (sole_writer capacity) = true
+is_for (TakeRaw i) reader = true
 is_for (TakeStatic i) reader = true
 is_for (Mut i) reader = true
 is_for (Trunc i len) inline = false
@@ -133,13 +148,15 @@ has_call calls command = true
 abbrev pub is_allowed : {T M : Type 0} → Calls → ListCmd T M → Role → Bool
 is_allowed calls command role = is_for command role && has_call calls command
 
--- what a row knows of the rest of its table: whether no other row stands on its block, whether that
--- has as many owners as it may have, and how many blocks and windows were made
+-- what a row knows of what is around it: whether no other row stands on its block, whether that has
+-- as many owners as it may have, how many blocks and windows were made, and how many places its
+-- block has then, if it is a caller's buffer that makes its own room
 pub record Around : Type 0 where
   pub alone : Bool
   pub full : Bool
   pub blocks : ℕ
   pub windows : ℕ
+  pub places : ℕ
 
 -- What comes of a command on a row: the reply, the row then, or None where it has gone, the row
 -- that was made, and whether a block more begins, on which one of the two stands.
@@ -182,6 +199,7 @@ asking of_table row change = is_now reply.Alloc row
 asking of_clones row change = change
 asking of_blocks row change = change
 asking of_buffer row change = change
+asking (of_growth e) row change = change
 
 -- memory is asked for, for the block of the window: where it is refused, this is the reply, and the
 -- row stays as it is
@@ -216,6 +234,32 @@ writer_row drops block items places =
     let facts = partly_full drops places (length items) in
     let place = if places == 0 then nowhere else on_block (Some block) 0 facts in
     record { items = items; place = place; role = sole_writer places }
+
+-- A reader of all items of a caller's buffer with so many places, on a block that keeps it, with
+-- this metadata.
+abbrev pub buffer_row : {T M : Type 0} → (block : ℕ) → List T → (places : ℕ) → M → Row T M
+buffer_row block items places metadata = record {
+  items = items;
+  place = on_block (Some block) 0 (buffer_info false places (length items) (Some metadata));
+  role = reader;
+}
+
+-- the same as their writer, in a buffer that may be written
+abbrev pub written_buffer_row : {T M : Type 0} → (block : ℕ) → List T → (places : ℕ) → M → Row T M
+written_buffer_row block items places metadata = record {
+  items = items;
+  place = on_block (Some block) 0 (buffer_info true places (length items) (Some metadata));
+  role = sole_writer places;
+}
+
+-- A reader of all items of a caller's buffer behind an `Arc`: on that, where it is a block by
+-- itself, and else on a block that keeps it.
+abbrev pub raw_row : {T M : Type 0} → (by_itself : Bool) → (block : ℕ) → List T → Row T M
+raw_row by_itself block items = record {
+  items = items;
+  place = on_block (if by_itself then None else Some block) 0 (raw_info (length items));
+  role = reader;
+}
 
 -- a window over a slice that is there for good, which no block holds
 abbrev pub static_row : {T M : Type 0} → List T → Row T M
@@ -321,6 +365,32 @@ is_box_whole static_data len = false
 is_box_whole (on_block block offset info) len =
     is_vector info.sort && ((offset == 0) && (info.size == len))
 
+-- whether a block is a caller's buffer, or an `Arc` of one
+abbrev pub is_buffer : Sort → Bool
+is_buffer native = false
+is_buffer vector = false
+is_buffer (buffer writable) = true
+is_buffer raw = false
+
+abbrev pub is_raw : Sort → Bool
+is_raw native = false
+is_raw vector = false
+is_raw (buffer writable) = false
+is_raw raw = true
+
+-- whether so many items that stand here can be had as their block's buffer, or as its `Arc`: as all
+-- of it
+abbrev pub is_buffer_whole : {N M : Type 0} → Place N M → (len : ℕ) → Bool
+is_buffer_whole nowhere len = false
+is_buffer_whole static_data len = false
+is_buffer_whole (on_block block offset info) len =
+    is_buffer info.sort && is_all_full offset len info
+
+abbrev pub is_raw_whole : {N M : Type 0} → Place N M → (len : ℕ) → Bool
+is_raw_whole nowhere len = false
+is_raw_whole static_data len = false
+is_raw_whole (on_block block offset info) len = is_raw info.sort && is_all_full offset len info
+
 -- whether nobody else has a part of what is taken out at this place, where its owner is alone, or
 -- isn't: nobody where no owners are counted
 abbrev pub is_free : {M : Type 0} → (alone : Bool) → Place (Option ℕ) M → Bool
@@ -330,11 +400,12 @@ is_free alone (on_block None offset info) = true
 is_free alone (on_block (Some block) offset info) = alone
 
 -- What a row stands on is taken out, where it is as the command wants it and nobody else has a part
--- of it, and answered so.
+-- of it, and answered so. A sole writer is alone.
 abbrev pub taken_as : {T M : Type 0} → (wanted : Bool) → Around → Row T M → ListReply T M
     → Change T M
 taken_as wanted around row answer =
-    if wanted && is_free around.alone row.place then gone answer else is_now reply.Refused row
+    if wanted && (is_sole row.role || is_free around.alone row.place) then gone answer else
+    is_now reply.Refused row
 
 -- The row's first items. What is dropped one by one stays in the block behind them, so a writer of
 -- these has no places beside their own.
@@ -382,22 +453,15 @@ abbrev pub room_of : {N T M : Type 0} → Setting T → RowOf N T M → ℕ → 
 room_of setting row additional =
     room_for setting.drops setting.item_size row additional
 
--- whether a block is a caller's buffer
-abbrev pub is_buffer : Sort → Bool
-is_buffer native = false
-is_buffer vector = false
-is_buffer (buffer writable) = true
-is_buffer raw = false
-
-abbrev pub is_buffer_at : {N M : Type 0} → Place N M → Bool
-is_buffer_at nowhere = false
-is_buffer_at static_data = false
-is_buffer_at (on_block block offset info) = is_buffer info.sort
-
--- A writer in a caller's buffer is answered that his kind lacks the call, so far: no command makes
--- such a writer.
-abbrev pub unless_buffer : {T M : Type 0} → Row T M → Change T M → Change T M
-unless_buffer row change = if is_buffer_at row.place then is_now reply.Kind row else change
+-- A caller's buffer makes its own room, as much as is asked of it or more: so many places then, or
+-- those that are wanted, where they are more. Or it refuses, for this reason.
+abbrev pub room_made : {T M : Type 0} → Shortage → Around → Row T M → List T → (additional : ℕ)
+    → Change T M
+room_made of_blocks around row items additional = is_now (reply.Reserve reserve.AllocError) row
+room_made (of_growth e) around row items additional = is_now (reply.Reserve e) row
+room_made short around row items additional =
+    let wanted = offset_at row.place + length row.items + additional in
+    is_now reply.Ok (with_more items (with_room (from.Growth (max wanted around.places)) row))
 
 -- The row has this room, and these items behind its others. Memory is asked for a first block, and
 -- for a larger one. A caller's buffer makes its own room.
@@ -410,7 +474,8 @@ filled setting short around row items (from.Fresh places) =
 filled setting short around row items (from.Growth places) =
     asking_block short (reply.Reserve reserve.AllocError) row
     (is_now reply.Ok (with_more items (with_room (from.Growth places) row)))
-filled setting short around row items (from.Own additional) = is_now reply.Kind row
+filled setting short around row items (from.Own additional) =
+    room_made short around row items additional
 filled setting short around row items room =
     is_now reply.Ok (with_more items (with_room room row))
 
@@ -473,14 +538,13 @@ answer_row setting short around (Mut i) row =
     if may_write setting around row then is_now reply.Ok (as_sole setting.drops row) else
     is_now reply.Refused row
 answer_row setting short around (Res i additional) row =
-    unless_buffer row (filled setting short around row [] (room_of setting row additional))
+    filled setting short around row [] (room_of setting row additional)
 answer_row setting short around (Push i item) row =
-    unless_buffer row (filled setting short around row (item ∷ []) (room_of setting row 1))
+    filled setting short around row (item ∷ []) (room_of setting row 1)
 answer_row setting short around (Ext i items) row =
-    unless_buffer row
-    (filled setting short around row items (room_of setting row (length items)))
+    filled setting short around row items (room_of setting row (length items))
 answer_row setting short around (Rec i additional) row =
-    unless_buffer row (reclaimed row (room_of setting row additional))
+    reclaimed row (room_of setting row additional)
 answer_row setting short around (Freeze i) row = frozen setting short around row
 answer_row setting short around (Adv i by) row =
     in_range (edge_answer setting.boundary row.items by) row
@@ -495,6 +559,12 @@ answer_row setting short around (Take i) row =
     (reply.Vec row.items)
 answer_row setting short around (TakeBox i) row =
     taken_as (is_box_whole row.place (length row.items)) around row (reply.Boxed row.items)
+answer_row setting short around (TakeBuf i) row =
+    taken_as (is_buffer_whole row.place (length row.items)) around row (reply.Buffer row.items)
+answer_row setting short around (TakeRaw i) row =
+    taken_as (is_raw_whole row.place (length row.items)) around row (reply.Raw row.items)
+answer_row setting short around (Meta i) row =
+    is_now (option_map_or reply.Meta (metadata_at row.place) reply.None) row
 answer_row setting short around (TakeStatic i) row =
     if is_on_block row.place then is_now reply.Refused row else gone (reply.Static row.items)
 answer_row setting short around making row = is_now reply.Kind row
@@ -518,6 +588,15 @@ row_by setting places block (Vec items) =
     Some (vector_row setting.layout.has_static setting.drops block items places) else None
 row_by setting places block (Static items) =
     if setting.layout.has_static then Some (static_row items) else None
+row_by setting places block (Raw given) =
+    if setting.calls.any_list && setting.layout.has_any
+    then Some (raw_row setting.layout.by_itself block given) else None
+row_by setting places block (Buf given metadata) =
+    if setting.calls.any_list && setting.layout.has_any
+    then Some (buffer_row block given places metadata) else None
+row_by setting places block (MBuf given metadata) =
+    if setting.calls.any_list && setting.writes_any
+    then Some (written_buffer_row block given places metadata) else None
 row_by setting places block New = Some (writer_row setting.drops block [] 0)
 row_by setting places block (Cap wanted) = Some (writer_row setting.drops block [] wanted)
 row_by setting places block (Zero count) =
@@ -571,13 +650,14 @@ window_of (TakeBuf i) = Some i
 window_of (TakeRaw i) = Some i
 window_of (TakeStatic i) = Some i
 
--- what a row knows of its table
-abbrev pub around_of : {T M : Type 0} → Table T M → Row T M → Around
-around_of t row = record {
+-- what a row knows of its table, and of a caller's buffer that has so many places
+abbrev pub around_of : {T M : Type 0} → (places : ℕ) → Table T M → Row T M → Around
+around_of places t row = record {
   alone = is_alone t row.place;
   full = is_full t row.place;
   blocks = t.blocks;
   windows = length t.rows;
+  places = places;
 }
 
 -- a row more, if there is one
@@ -619,11 +699,11 @@ abbrev pub answer_by : {T M : Type 0} → Setting T → Shortage → (places : �
 answer_by setting short places t c None =
     option_map_or (founded short t) (row_by setting places t.blocks c) (reply.Kind, t)
 answer_by setting short places t c (Some i) =
-    option_map_or (λ row. changed t i (answer_any setting short (around_of t row) c row))
+    option_map_or (λ row. changed t i (answer_any setting short (around_of places t row) c row))
     (row_at t i) (reply.NoWindow, t)
 
 -- What a command is answered, and the table after it, where memory was refused so, and what the
--- command brings has so many places: after the tests of number, role and range, in this order, what
+-- command brings, or the buffer that makes room for it, has so many places: after the tests of number, role and range, in this order, what
 -- it asks for, and then what it does (`answer_row`, and `row_by` of what makes a window of what it
 -- brings).
 abbrev pub answer : {T M : Type 0} → Setting T → Shortage → (places : ℕ) → Table T M → ListCmd T M
@@ -631,8 +711,8 @@ abbrev pub answer : {T M : Type 0} → Setting T → Shortage → (places : ℕ)
 answer setting short places t c = answer_by setting short places t c (window_of c)
 
 -- From old, the table may give this reply to the command and go on to new: it is the answer, where
--- memory was refused as the reply tells, and a vector or a buffer that the command brings has so
--- many places. What is refused changes nothing.
+-- memory was refused as the reply tells, and a vector or a buffer that the command brings, or a
+-- buffer that makes room for what it writes, has so many places. What is refused changes nothing.
 pub record Step {T M : Type 0} (setting : Setting T) (old : Table T M) (c : ListCmd T M)
     (reply : ListReply T M) (new : Table T M) : Type 0 where
   pub places : ℕ
