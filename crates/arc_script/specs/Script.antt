@@ -40,7 +40,7 @@ abbrev pub byte_setting : LayoutFacts → (writes_any : Bool) → (clone_wants :
     → Setting ℕ
 byte_setting layout writes_any clone_wants =
     setting_of layout writes_any clone_wants false (λ items at. true) 1 (Some 0)
-    (record { copies = true; pushes = true; extends = true })
+    (record { copies = true; pushes = true; extends = true; any_list = true })
 
 -- static data, and blocks of a caller's making
 abbrev pub of_any : (by_itself : Bool) → (lone : ℕ → ℕ → Bool) → LayoutFacts

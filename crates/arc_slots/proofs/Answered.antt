@@ -1,11 +1,11 @@
 -- What each call of a slot leads to, as what its window is answered to a command.
-use Rattle.std.proofs.Common.{◌≡◌, ℕ, ◌+◌, ◌==◌, ◌&&◌, Bool, true, false, if◌then◌else◌, List, [], ◌∷◌}
+use Rattle.std.proofs.Common.{◌≡◌, ℕ, ◌+◌, ◌&&◌, Bool, true, false, if◌then◌else◌, List, [], ◌∷◌}
 use Rattle.std.proofs.Common.{length, Option, Some, None, Result, Ok, Err, is_some, refl, sym, ap}
-use Rattle.std.proofs.Common.{◌∙◌, subst, inl, inr, slice_set}
-use Rattle.std.specs.Prelude.{nat_lt}
+use Rattle.std.proofs.Common.{◌∙◌, subst, inl, inr, arith}
+use Rattle.std.specs.Prelude.{nat_lt, max}
 use Rattle.std.specs.Result.{result_err}
-use Rattle.std.proofs.lemmas.Bool.{and_parts, cases_Bool, false≢true}
-use Rattle.std.proofs.lemmas.Option.{none-some, same_Some}
+use Rattle.std.proofs.lemmas.Bool.{cases_Bool, false≢true}
+use Rattle.std.proofs.lemmas.Option.{same_Some}
 use Rattle.arc_owners.specs.declared.mark.Whole.{Whole}
 use Rattle.arc_owners.specs.declared.count.tokens.Pass.{Pass}
 use Rattle.arc_owners.specs.declared.error.RangeError.{RangeError}
@@ -14,30 +14,23 @@ use Rattle.arc_owners.specs.declared.error.OwnerError.TheVariants.{AllocError, C
 use Rattle.arc_owners.specs.declared.error.TryReserveError.{TryReserveError}
 use Rattle.arc_owners.specs.declared.error.TryReserveError.TheVariants as reserve
 use Rattle.arc_owners.specs.declared.history.entry.Entry.TheVariants as entry
-use Rattle.arc_owners.specs.count.Calls.{Owner, Asks, TakesBlock}
+use Rattle.arc_owners.specs.count.Calls.{Owner}
 use Rattle.arc_buffer.specs.Slice.{edge_answer}
 use Rattle.arc_block.specs.declared.parts.room.Room.{Room}
 use Rattle.arc_block.specs.declared.parts.room.Room.TheVariants as from
-use Rattle.arc_block.specs.Block.{Sort, BlockInfo, native, vector, buffer, raw}
-use Rattle.arc_block.specs.Layouts.{LayoutFacts}
-use Rattle.arc_block.specs.Moves.{IsRefused, counted_move, layout_move}
-use Rattle.arc_block.specs.declared.parts.moves.Move.{Move}
-use Rattle.arc_block.specs.declared.parts.moves.Move.TheVariants as to
+use Rattle.arc_block.specs.Block.{buffer}
 use Rattle.arc_block.specs.Owned.{Stand}
-use Rattle.arc_block.specs.Place.{Place, nowhere, static_data, on_block}
+use Rattle.arc_block.specs.Place.{Place, nowhere, static_data, on_block, metadata_at}
+use Rattle.std.specs.Option.{option_map_or}
 use Rattle.arc_block.specs.Table.{Row, Role, reader, sole_writer, block_of}
-use Rattle.arc_block.specs.Writers.{new_writer, with_more, with_room, Reclaims, as_reader, as_sole}
+use Rattle.arc_block.specs.Writers.{new_writer, with_more, with_room}
 use Rattle.arc_block.specs.Writers.{after_advance, capacity_of}
-use Rattle.arc_commands.specs.Additions.{RowAdds, AddsAt, Joins, Enters, Founds, MayBegin, Stays}
-use Rattle.arc_commands.specs.Additions.{AsksIf, AsksInVain, AsksInVainAt, Takes, ended}
-use Rattle.arc_commands.specs.Additions.{asked as History_asked}
+use Rattle.arc_commands.specs.Additions.{RowAdds, Joins, Founds, MayBegin, Stays}
 use Rattle.arc_commands.specs.Step.{Setting, Shortage, no_shortage, of_table, of_clones, of_blocks}
-use Rattle.arc_commands.specs.Step.{Around, Change, answer_any, answer_row, asking_block, begun}
-use Rattle.arc_commands.specs.Step.{filled, in_range, is_allowed, is_now, made_row}
-use Rattle.arc_commands.specs.Step.{after_move, is_box_whole, is_free, is_on_block, is_unique}
-use Rattle.arc_commands.specs.Step.{is_unique_at, is_vector_part, is_writable_at, may_write}
-use Rattle.arc_commands.specs.Step.{may_write_at, may_write_sort, of_buffer, taken_as}
-use Rattle.arc_commands.specs.Step.{parted, reclaimed, room_of, shortage, truncated}
+use Rattle.arc_commands.specs.Step.{Around, Change, answer_any, answer_row, begun}
+use Rattle.arc_commands.specs.Step.{filled, in_range, is_allowed, is_now}
+use Rattle.arc_commands.specs.Step.{is_on_block}
+use Rattle.arc_commands.specs.Step.{parted, room_of, shortage, truncated}
 use Rattle.arc_commands.specs.Step.{with_made, gone}
 use Rattle.arc_commands.specs.Blocks.{is_sole}
 use Rattle.arc_commands.specs.Commands.{ListCmd, ListReply}
@@ -45,13 +38,12 @@ use Rattle.arc_commands.specs.declared.command.Cmd.TheVariants as command
 use Rattle.arc_commands.specs.declared.command.Reply.TheVariants as reply
 use Rattle.arc_commands.proofs.Roles.{sole_each}
 use Rattle.arc_slots.specs.Answers.{Answers, around_in}
-use Rattle.arc_slots.specs.Calls.{Along, AsksPlace, AsksSort, Beside, MayAsk, RefusesAt}
-use Rattle.arc_slots.specs.Calls.{RefusesOut, TakesOut, Through}
+use Rattle.arc_slots.specs.Calls.{Along, Beside, RefusesAt}
 use Rattle.arc_slots.specs.Parts.{is_itself, part_answer, part_command, part_row, rest_of}
 use Rattle.arc_slots.specs.Slots.{SlotView, row_of, stand_of}
 use Rattle.arc_slots.specs.Splits.{IsSplit}
 use Rattle.arc_slots.specs.Stands.{HasPassFor, numbered, stand_at}
-use Rattle.arc_slots.specs.Writing.{Fills, FreezesBy, additional_of, can_write, is_fresh, is_new}
+use Rattle.arc_slots.specs.Writing.{Fills, additional_of, can_write, is_fresh}
 use Rattle.arc_slots.specs.Writing.{items_of}
 use Rattle.arc_slots.specs.Writing.{write_command}
 use Rattle.arc_slots.specs.declared.part.Part.{Part}
@@ -59,17 +51,22 @@ use Rattle.arc_slots.specs.declared.part.Part.TheVariants.{Whole as All, Range, 
 use Rattle.arc_slots.specs.declared.slot.Writing.{Writing}
 use Rattle.arc_slots.specs.declared.slot.Writing.TheVariants as writing
 use Rattle.arc_slots.proofs.ByForm.{part-adds, part-none, write-adds, write-none}
-use Rattle.arc_slots.proofs.Added.{Ended, asked-comes, ended-comes, enters-along, raises-beside}
+use Rattle.arc_slots.proofs.Added.{Ended, ended-comes, enters-along, raises-beside}
 use Rattle.arc_slots.proofs.Added.{refuses-at}
-use Rattle.arc_block.proofs.Lists.{get-set}
-use Rattle.arc_slots.proofs.Filled.{new-moved}
-use Rattle.arc_commands.proofs.FitsRoom.{own-on-buffer}
-use Rattle.arc_commands.specs.Step.{is_buffer_at, unless_buffer}
-use Rattle.arc_slots.proofs.Native.{and_none}
-use Rattle.arc_slots.proofs.Taken.{set-twice}
-use Rattle.arc_slots.proofs.Told.{alone-told, full-told, many_along, many-beside, many-refused}
-use Rattle.arc_slots.proofs.Told.{many-founded, none-stands, room-beside, row-begins, row-block}
+use Rattle.arc_commands.specs.Step.{of_growth}
+use Rattle.arc_block.specs.Room.{IsBuffersRefusal}
+use Rattle.arc_block.specs.Writers.{offset_at}
+use Rattle.arc_slots.proofs.Told.{full-told, many_along, many-beside, many-refused}
+use Rattle.arc_slots.proofs.Told.{many-founded, room-beside, row-begins, row-block}
 use Rattle.arc_slots.proofs.Told.{stand_block}
+
+-- a block's metadata is the same by whatever it goes
+metadata-numbered : {M : Type 0} (b : Option ℕ) (place : Place (Option Owner) M)
+    → metadata_at (numbered b place) ≡ metadata_at place
+metadata-numbered b nowhere = refl
+metadata-numbered b static_data = refl
+metadata-numbered b (on_block None offset info) = refl
+metadata-numbered b (on_block (Some o) offset info) = refl
 
 -- what is refused for one reason is refused for no other
 refused-same : (e f : TryReserveError)
@@ -85,7 +82,7 @@ module _ {T M : Type 0} (setting : Setting T) (windows : ℕ) (s : SlotView T M)
   row = row_of s
 
   abbrev around : Around
-  around = around_in windows passes here
+  around = around_in 0 windows passes here
 
   abbrev Command : Type 0
   Command = ListCmd T M
@@ -100,10 +97,14 @@ module _ {T M : Type 0} (setting : Setting T) (windows : ℕ) (s : SlotView T M)
   abbrev IsFor : Command → Type 0
   IsFor c = allowed c s.role ≡ true
 
+  for-role-in : (a : Around) (short : Shortage) (c : Command) → IsFor c
+      → answer_any setting short a c row ≡ answer_row setting short a c row
+  for-role-in a short c is =
+      ap (λ b. if b then answer_row setting short a c row else is_now reply.Kind row) is
+
   pub for-role : (short : Shortage) (c : Command) → IsFor c
       → answer_any setting short around c row ≡ answer_row setting short around c row
-  for-role short c is =
-      ap (λ b. if b then answer_row setting short around c row else is_now reply.Kind row) is
+  for-role = for-role-in around
 
   pub not-for : (short : Shortage) (c : Command) → allowed c s.role ≡ false
       → answer_any setting short around c row ≡ is_now reply.Kind row
@@ -122,7 +123,13 @@ module _ {T M : Type 0} (setting : Setting T) (windows : ℕ) (s : SlotView T M)
   pub same : (c : Command) (r : ListReply T M)
       → answer_any setting (shortage r c) around c row ≡ is_now r row
       → RowAdds here here None passes passes setting row c r → Said c r (Some s) None passes
-  same c r is adds = record { begins = false; change = is; blocks = refl; adds = adds }
+  same c r is adds = record {
+    begins = false;
+    places = 0;
+    change = is;
+    blocks = refl;
+    adds = adds;
+  }
 
   -- ---- a part that is handed out
 
@@ -194,6 +201,7 @@ module _ {T M : Type 0} (setting : Setting T) (windows : ℕ) (s : SlotView T M)
           → Said (part_command i part) (reply.Owner e) (Some s) None passes'
       part-refused AllocError why = record {
         begins = false;
+        places = 0;
         change =
             hand-is part of_clones ok
             ∙ ap (λ (b : Bool). if b then is_now (reply.Owner AllocError) row else
@@ -214,6 +222,7 @@ module _ {T M : Type 0} (setting : Setting T) (windows : ℕ) (s : SlotView T M)
       }
       part-refused CountFull why = record {
         begins = false;
+        places = 0;
         change =
             hand-is part no_shortage ok
             ∙ ap (λ (b : Bool). if b then is_now (reply.Owner CountFull) row else
@@ -234,7 +243,7 @@ module _ {T M : Type 0} (setting : Setting T) (windows : ℕ) (s : SlotView T M)
         where
           full-beside : (st : Stand) → HasPassFor passes st
               → RefusesAt setting.clone_wants (new_part i reads part).place st passes passes' CountFull
-              → ((around_in windows passes st).full
+              → ((around_in 0 windows passes st).full
               && is_some (block_of (new_part i reads part).place)) ≡ true
           full-beside None has why = absurd why
           full-beside (Some (n, o)) has why =
@@ -258,6 +267,7 @@ module _ {T M : Type 0} (setting : Setting T) (windows : ℕ) (s : SlotView T M)
           ∙ room-beside passes passes' windows here (stand_of (Some other)) has beside in
           record {
             begins = false;
+            places = 0;
             change =
                 hand-is part no_shortage ok
                 ∙ ap (λ (b : Bool). if b then is_now (reply.Owner CountFull) row else
@@ -322,6 +332,7 @@ module _ {T M : Type 0} (setting : Setting T) (windows : ℕ) (s : SlotView T M)
       → Said (command.Drop i) reply.Ok None None passes'
   dropped i passes' is along = record {
     begins = false;
+    places = 0;
     change = for-role no_shortage (command.Drop i) is;
     blocks = many_along passes passes' here Ended along;
     adds = (
@@ -345,6 +356,7 @@ module _ {T M : Type 0} (setting : Setting T) (windows : ℕ) (s : SlotView T M)
       → Said (command.TakeStatic i) (reply.Static s.window.items) None None passes
   taken i reads off = record {
     begins = false;
+    places = 0;
     change =
         for-role no_shortage (command.TakeStatic i)
         (reads-for reads (command.TakeStatic i) true refl)
@@ -364,15 +376,21 @@ module _ {T M : Type 0} (setting : Setting T) (windows : ℕ) (s : SlotView T M)
   -- ---- the window in another form, as the same owner
 
   -- where it stood on nothing it still does
-  stays-there : (st there : Stand) → there ≡ st → MayBegin st there passes passes
+  pub stays-there : (st there : Stand) → there ≡ st → MayBegin st there passes passes
   stays-there None there is = subst (λ x. Founds x passes passes) (sym is) refl
   stays-there (Some at) there is = (is, refl)
 
-  changes : (c : Command) (r : ListReply T M) (new : SlotView T M)
+  pub changes : (c : Command) (r : ListReply T M) (new : SlotView T M)
       → answer_any setting (shortage r c) around c row ≡ is_now r (row_of new)
       → RowAdds here (stand_of (Some new)) None passes passes setting row c r
       → Said c r (Some new) None passes
-  changes c r new is adds = record { begins = false; change = is; blocks = refl; adds = adds }
+  changes c r new is adds = record {
+    begins = false;
+    places = 0;
+    change = is;
+    blocks = refl;
+    adds = adds;
+  }
 
   module _ (new : SlotView T M) (stays : stand_of (Some new) ≡ here) where
     pub advanced : (i by : ℕ) → IsFor (command.Adv i by)
@@ -447,6 +465,23 @@ module _ {T M : Type 0} (setting : Setting T) (windows : ℕ) (s : SlotView T M)
   show-alloc i for =
       same (command.Show i) reply.Alloc (for-role of_table (command.Show i) for) (refl, refl, refl)
 
+  pub told-metadata : (i : ℕ) (metadata : M) → IsFor (command.Meta i)
+      → metadata_at s.window.place ≡ Some metadata
+      → Said (command.Meta i) (reply.Meta metadata) (Some s) None passes
+  told-metadata i metadata for is =
+      same (command.Meta i) (reply.Meta metadata)
+      (for-role no_shortage (command.Meta i) for
+      ∙ ap (λ x. is_now (option_map_or reply.Meta x reply.None) row)
+      (metadata-numbered s.block s.window.place ∙ is)) (refl, refl, refl)
+
+  pub told-none : (i : ℕ) → IsFor (command.Meta i) → metadata_at s.window.place ≡ None
+      → Said (command.Meta i) reply.None (Some s) None passes
+  told-none i for is =
+      same (command.Meta i) reply.None
+      (for-role no_shortage (command.Meta i) for
+      ∙ ap (λ x. is_now (option_map_or reply.Meta x reply.None) row)
+      (metadata-numbered s.block s.window.place ∙ is)) (refl, refl, refl)
+
   pub counted : (i : ℕ) → IsFor (command.Len i)
       → Said (command.Len i) (reply.Number (length s.window.items)) (Some s) None passes
   counted i for =
@@ -486,63 +521,34 @@ module _ {T M : Type 0} (setting : Setting T) (windows : ℕ) (s : SlotView T M)
       abbrev w : Command
       w = write_command i what
 
+      abbrev outcome-in : Around → Shortage → Room → Change T M
+      outcome-in a short room = filled setting short a row (items_of what) room
+
       abbrev outcome : Shortage → Room → Change T M
-      outcome short room = filled setting short around row (items_of what) room
+      outcome = outcome-in around
 
-    -- a writer in a caller's buffer is answered that his kind lacks the call
-    in-buffer : is_buffer_at row.place ≡ true → (change : Change T M)
-        → unless_buffer row change ≡ is_now reply.Kind row
-    in-buffer lent change = ap (λ b. if b then is_now reply.Kind row else change) lent
-
-    in-memory : is_buffer_at row.place ≡ false → (change : Change T M)
-        → unless_buffer row change ≡ change
-    in-memory memory change = ap (λ b. if b then is_now reply.Kind row else change) memory
+    write-in : (a : Around) (what : Writing (List T) T) → can_write setting.calls what ≡ true
+        → (short : Shortage) (room : Room) → room ≡ room_of setting row (additional_of what)
+        → answer_any setting short a (write_command i what) row ≡ outcome-in what a short room
+    write-in a (writing.Nothing additional) can short room is =
+        for-role-in a short (command.Res i additional)
+        (writes-for writes (command.Res i additional) true (λ n. refl))
+        ∙ ap (outcome-in (writing.Nothing additional) a short) (sym is)
+    write-in a (writing.Item item) can short room is =
+        for-role-in a short (command.Push i item)
+        (writes-for writes (command.Push i item) true (λ n. can))
+        ∙ ap (outcome-in (writing.Item item) a short) (sym is)
+    write-in a (writing.Items items) can short room is =
+        for-role-in a short (command.Ext i items)
+        (writes-for writes (command.Ext i items) true (λ n. can))
+        ∙ ap (outcome-in (writing.Items items) a short) (sym is)
 
     write-is : (what : Writing (List T) T) → can_write setting.calls what ≡ true
-        → is_buffer_at row.place ≡ false → (short : Shortage) (room : Room)
-        → room ≡ room_of setting row (additional_of what)
+        → (short : Shortage) (room : Room) → room ≡ room_of setting row (additional_of what)
         → answer_any setting short around (write_command i what) row ≡ outcome what short room
-    write-is (writing.Nothing additional) can memory short room is =
-        for-role short (command.Res i additional)
-        (writes-for writes (command.Res i additional) true (λ n. refl))
-        ∙ in-memory memory _ ∙ ap (outcome (writing.Nothing additional) short) (sym is)
-    write-is (writing.Item item) can memory short room is =
-        for-role short (command.Push i item)
-        (writes-for writes (command.Push i item) true (λ n. can))
-        ∙ in-memory memory _ ∙ ap (outcome (writing.Item item) short) (sym is)
-    write-is (writing.Items items) can memory short room is =
-        for-role short (command.Ext i items)
-        (writes-for writes (command.Ext i items) true (λ n. can))
-        ∙ in-memory memory _ ∙ ap (outcome (writing.Items items) short) (sym is)
+    write-is = write-in around
 
-    pub buffer-kind : (what : Writing (List T) T) → can_write setting.calls what ≡ true
-        → is_buffer_at row.place ≡ true
-        → Said (write_command i what) reply.Kind (Some s) None passes
-    buffer-kind (writing.Nothing additional) can lent =
-        same (command.Res i additional) reply.Kind
-        (for-role no_shortage (command.Res i additional)
-        (writes-for writes (command.Res i additional) true (λ n. refl)) ∙ in-buffer lent _)
-        (refl, refl, refl)
-    buffer-kind (writing.Item item) can lent =
-        same (command.Push i item) reply.Kind
-        (for-role no_shortage (command.Push i item)
-        (writes-for writes (command.Push i item) true (λ n. can)) ∙ in-buffer lent _)
-        (refl, refl, refl)
-    buffer-kind (writing.Items items) can lent =
-        same (command.Ext i items) reply.Kind
-        (for-role no_shortage (command.Ext i items)
-        (writes-for writes (command.Ext i items) true (λ n. can)) ∙ in-buffer lent _)
-        (refl, refl, refl)
-
-    pub reclaim-kind : (k : ℕ) → is_buffer_at row.place ≡ true
-        → Said (command.Rec i k) reply.Kind (Some s) None passes
-    reclaim-kind k lent =
-        same (command.Rec i k) reply.Kind
-        (for-role no_shortage (command.Rec i k)
-        (writes-for writes (command.Rec i k) true (λ n. refl)) ∙ in-buffer lent _)
-        (refl, refl, refl)
-
-    begins-as : (c : Command) (new : SlotView T M) (r : Row T M) (passes' : List (Pass Whole))
+    pub begins-as : (c : Command) (new : SlotView T M) (r : Row T M) (passes' : List (Pass Whole))
         → answer_any setting no_shortage around c row ≡ begun r
         → ((there : Stand) → Stays here there None passes passes'
         → RowAdds here there None passes passes' setting row c reply.Ok)
@@ -550,6 +556,7 @@ module _ {T M : Type 0} (setting : Setting T) (windows : ℕ) (s : SlotView T M)
         → Said c reply.Ok (Some new) None passes'
     begins-as c new r passes' is adds none founds row-is = record {
       begins = is_some (stand_block (stand_of (Some new)));
+      places = 0;
       change =
           is ∙ ap (λ x. record {
             reply = reply.Ok;
@@ -569,8 +576,7 @@ module _ {T M : Type 0} (setting : Setting T) (windows : ℕ) (s : SlotView T M)
           (subst (λ st. MayBegin st (stand_of (Some new)) passes passes') (sym none) founds, refl);
     }
 
-    module _ (what : Writing (List T) T) (can : can_write setting.calls what ≡ true)
-        (memory : is_buffer_at row.place ≡ false) where
+    module _ (what : Writing (List T) T) (can : can_write setting.calls what ≡ true) where
       put-in : (room : Room) → room ≡ room_of setting row (additional_of what)
           → (new : SlotView T M) (passes' : List (Pass Whole))
           → outcome what no_shortage room
@@ -580,10 +586,32 @@ module _ {T M : Type 0} (setting : Setting T) (windows : ℕ) (s : SlotView T M)
           → Said (w what) reply.Ok (Some new) None passes'
       put-in room is new passes' does did =
           subst (λ ps. Said (w what) reply.Ok (Some new) None ps) (sym did.2)
-          (changes (w what) reply.Ok new (write-is what can memory no_shortage room is ∙ does
+          (changes (w what) reply.Ok new (write-is what can no_shortage room is ∙ does
           ∙ ap (is_now reply.Ok) (sym did.0))
           (write-adds setting i here passes row what (stand_of (Some new)) passes
           (stays-there here (stand_of (Some new)) did.1, refl)))
+
+      -- a caller's buffer made its own room
+      made-room : (j : ℕ) → from.Own j ≡ room_of setting row (additional_of what)
+          → (new : SlotView T M) (passes' : List (Pass Whole))
+          → Fills setting.drops (from.Own j) (items_of what) s new passes passes' (Ok tt)
+          → Said (w what) reply.Ok (Some new) None passes'
+      made-room j is new passes' did =
+          let wanted = offset_at row.place + length s.window.items + j in
+          let all : max wanted did.0 ≡ did.0 = omega (arith, did.1) in
+          subst (λ ps. Said (w what) reply.Ok (Some new) None ps) (sym did.4) (record {
+            begins = false;
+            places = did.0;
+            change =
+                write-in (around_in did.0 windows passes here) what can no_shortage (from.Own j) is
+                ∙ ap (λ n. is_now reply.Ok
+                (with_more (items_of what) (with_room (from.Growth n) row))) all
+                ∙ ap (is_now reply.Ok) (sym did.2);
+            blocks = refl;
+            adds =
+                write-adds setting i here passes row what (stand_of (Some new)) passes
+                (stays-there here (stand_of (Some new)) did.3, refl);
+          })
 
       -- what was written stands in the window
       pub wrote-in : (room : Room) → room ≡ room_of setting row (additional_of what)
@@ -594,11 +622,10 @@ module _ {T M : Type 0} (setting : Setting T) (windows : ℕ) (s : SlotView T M)
       wrote-in (from.Fresh places) is none new passes' did =
           begins-as (w what) new
           (with_more (items_of what) (new_writer setting.drops (Some (length passes)) [] places)) passes'
-          (write-is what can memory no_shortage (from.Fresh places) is)
+          (write-is what can no_shortage (from.Fresh places) is)
           (λ there. write-adds setting i here passes row what there passes') (none refl) did.1 did.0
       wrote-in (from.Own additional) is none new passes' did =
-          absurd (false≢true (sym memory ∙ own-on-buffer setting.drops _ setting.item_size row
-          (additional_of what) additional (sym is)))
+          made-room additional is new passes' did
       wrote-in (from.Refused e) is none new passes' did =
           let fine : ◌≡◌ {A = Result (Unit {0}) TryReserveError} (Ok tt) (Err e) = did.0 in
           absurd (cc)
@@ -628,7 +655,19 @@ module _ {T M : Type 0} (setting : Setting T) (windows : ℕ) (s : SlotView T M)
           ≡ is_now (reply.Reserve e) row
       short-of room is e short does =
           subst (λ x. answer_any setting (shortage (reply.Reserve x) (w what)) around (w what) row
-          ≡ is_now (reply.Reserve x) row) (sym short) (write-is what can memory of_blocks room is ∙ does)
+          ≡ is_now (reply.Reserve x) row) (sym short) (write-is what can of_blocks room is ∙ does)
+
+      -- a caller's buffer made none
+      made-none : (j : ℕ) → from.Own j ≡ room_of setting row (additional_of what)
+          → (e : TryReserveError) → IsBuffersRefusal e
+          → answer_any setting (shortage (reply.Reserve e) (w what)) around (w what) row
+          ≡ is_now (reply.Reserve e) row
+      made-none j is reserve.AllocError why = write-is what can of_blocks (from.Own j) is
+      made-none j is reserve.NotUnique why = absurd why
+      made-none j is reserve.Unsupported why =
+          write-is what can (of_growth reserve.Unsupported) (from.Own j) is
+      made-none j is reserve.CapacityOverflow why =
+          write-is what can (of_growth reserve.CapacityOverflow) (from.Own j) is
 
       -- it was refused, and nothing changed
       pub unwritten-in : (room : Room) → room ≡ room_of setting row (additional_of what)
@@ -640,12 +679,11 @@ module _ {T M : Type 0} (setting : Setting T) (windows : ℕ) (s : SlotView T M)
       unwritten-in (from.Growth places) is e new passes' did =
           unwrote e new passes' (short-of (from.Growth places) is e did.0 refl) did.1.0 did.1.1
       unwritten-in (from.Own additional) is e new passes' did =
-          absurd (false≢true (sym memory ∙ own-on-buffer setting.drops _ setting.item_size row
-          (additional_of what) additional (sym is)))
+          unwrote e new passes' (made-none additional is e did.0) did.1.0 did.1.1
       unwritten-in (from.Refused refusal) is e new passes' did =
           let alike : e ≡ refusal = refused-same e refusal did.0 in
           unwrote e new passes'
-          (write-is what can memory (shortage (reply.Reserve e) (w what)) (from.Refused refusal) is
+          (write-is what can (shortage (reply.Reserve e) (w what)) (from.Refused refusal) is
           ∙ ap (λ x. is_now (reply.Reserve x) row) (sym alike)) did.1.0 did.1.1
       unwritten-in from.Spare is e new passes' did =
           let fine : ◌≡◌ {A = Result (Unit {0}) TryReserveError} (Err e) (Ok tt) = did.0 in
@@ -663,7 +701,7 @@ module _ {T M : Type 0} (setting : Setting T) (windows : ℕ) (s : SlotView T M)
           → Said (w what) (reply.Reserve reserve.AllocError) (Some s) None passes
       no-pass room is fresh =
           same (w what) (reply.Reserve reserve.AllocError)
-          (write-is what can memory of_blocks room is ∙ short room fresh)
+          (write-is what can of_blocks room is ∙ short room fresh)
           (write-none setting i here passes row what reserve.AllocError)
         where
           short : (x : Room) → is_fresh x ≡ true
@@ -675,122 +713,3 @@ module _ {T M : Type 0} (setting : Setting T) (windows : ℕ) (s : SlotView T M)
           short from.Behind some = absurd (false≢true some)
           short from.Front some = absurd (false≢true some)
           short (from.Growth places) some = absurd (false≢true some)
-
-    -- ---- room without memory
-
-    module _ (k : ℕ) (memory : is_buffer_at row.place ≡ false) (new : SlotView T M)
-        (stays : stand_of (Some new) ≡ here) where
-      abbrev rec : Command
-      rec = command.Rec i k
-
-      room-is : (room : Room) → room ≡ room_of setting row k
-          → answer_any setting no_shortage around rec row ≡ reclaimed row room
-      room-is room is =
-          for-role no_shortage rec (writes-for writes rec true (λ n. refl))
-          ∙ in-memory memory (reclaimed row (room_of setting row k))
-          ∙ ap (reclaimed row) (sym is)
-
-      has-room : (room : Room) → row_of new ≡ with_room room row
-          → answer_any setting no_shortage around rec row ≡ is_now reply.Yes (with_room room row)
-          → Said rec reply.Yes (Some new) None passes
-      has-room room row-is is =
-          changes rec reply.Yes new (is ∙ ap (is_now reply.Yes) (sym row-is)) (stays, refl, refl)
-
-      lacks : new ≡ s → answer_any setting no_shortage around rec row ≡ is_now reply.No row
-          → Said rec reply.No (Some new) None passes
-      lacks alike is =
-          subst (λ x. Said rec reply.No (Some x) None passes) (sym alike)
-          (same rec reply.No is (refl, refl, refl))
-
-      pub has : (room : Room) → room ≡ room_of setting row k
-          → Reclaims room row (row_of new) true → Said rec reply.Yes (Some new) None passes
-      has (from.Fresh places) is did = absurd (false≢true (sym did.0))
-      has (from.Growth places) is did = absurd (false≢true (sym did.0))
-      has (from.Own additional) is did = absurd (false≢true (sym did.0))
-      has (from.Refused e) is did = absurd (false≢true (sym did.0))
-      has from.Spare is did = has-room from.Spare did.1 (room-is from.Spare is)
-      has from.Behind is did = has-room from.Behind did.1 (room-is from.Behind is)
-      has from.Front is did = has-room from.Front did.1 (room-is from.Front is)
-
-      pub has-none : (room : Room) → room ≡ room_of setting row k
-          → Reclaims room row (row_of new) false → new ≡ s
-          → Said rec reply.No (Some new) None passes
-      has-none (from.Fresh places) is did alike = lacks alike (room-is (from.Fresh places) is)
-      has-none (from.Growth places) is did alike = lacks alike (room-is (from.Growth places) is)
-      has-none (from.Own additional) is did alike = lacks alike (room-is (from.Own additional) is)
-      has-none (from.Refused e) is did alike = lacks alike (room-is (from.Refused e) is)
-      has-none from.Spare is did alike = absurd (false≢true did.0)
-      has-none from.Behind is did alike = absurd (false≢true did.0)
-      has-none from.Front is did alike = absurd (false≢true did.0)
-
-    -- ---- a writer that reads from now on
-
-    abbrev freeze : Command
-    freeze = command.Freeze i
-
-    abbrev goes_to : Move
-    goes_to = layout_move setting.layout row.place
-
-    frozen-is : (short : Shortage) (move : Move) → goes_to ≡ move
-        → answer_any setting short around freeze row ≡ after_move setting short around row move
-    frozen-is short move is =
-        for-role short freeze (writes-for writes freeze true (λ n. refl))
-        ∙ ap (after_move setting short around row) is
-
-    -- a first block is made where no owner stands
-    new-none : (layout : LayoutFacts) (b : Option ℕ) (place : Place (Option Owner) M)
-        → is_new (layout_move layout (numbered b place)) ≡ true → stand_at b place ≡ None
-    new-none layout b nowhere new = refl
-    new-none layout b static_data new = refl
-    new-none layout b (on_block None offset info) new = refl
-    new-none layout None (on_block (Some o) offset info) new = refl
-    new-none layout (Some n) (on_block (Some o) offset info) new =
-        absurd (false≢true (sym (new-moved layout info.sort) ∙ new))
-
-    -- it was frozen
-    pub froze : (new : SlotView T M) (passes' : List (Pass Whole))
-        → FreezesBy (layout_move setting.layout row.place) setting.drops s new
-        passes passes'
-        → Said freeze reply.Ok (Some new) None passes'
-    froze new passes' did = by goes_to refl did
-      where
-        by : (move : Move) → goes_to ≡ move → FreezesBy move setting.drops s new passes passes'
-            → Said freeze reply.Ok (Some new) None passes'
-        by to.Stays is did =
-            subst (λ ps. Said freeze reply.Ok (Some new) None ps) (sym did.2)
-            (changes freeze reply.Ok new
-            (frozen-is no_shortage to.Stays is ∙ ap (is_now reply.Ok) (sym did.0))
-            (stays-there here (stand_of (Some new)) did.1, refl))
-        by to.HandedBack is did = absurd did
-        by to.NewCount is did = absurd did
-        by to.LeavesCount is did = absurd did
-        by to.NewEmpty is did =
-            begins-as freeze new (made_row false setting.drops (length passes) row.items) passes'
-            (frozen-is no_shortage to.NewEmpty is) (λ there adds. adds)
-            (new-none setting.layout s.block s.window.place (ap is_new is))
-            did.1 did.0
-
-    -- it was refused
-    pub unfrozen : IsRefused (layout_move setting.layout row.place)
-        → Said freeze reply.Refused (Some s) None passes
-    unfrozen refused = by goes_to refl refused
-      where
-        by : (move : Move) → goes_to ≡ move → IsRefused move
-            → Said freeze reply.Refused (Some s) None passes
-        by to.Stays is none = absurd none
-        by to.HandedBack is none =
-            same freeze reply.Refused (frozen-is of_blocks to.HandedBack is) (refl, refl, refl)
-        by to.NewCount is none =
-            same freeze reply.Refused (frozen-is of_blocks to.NewCount is) (refl, refl, refl)
-        by to.LeavesCount is none =
-            same freeze reply.Refused (frozen-is of_blocks to.LeavesCount is) (refl, refl, refl)
-        by to.NewEmpty is none =
-            same freeze reply.Refused (frozen-is of_blocks to.NewEmpty is) (refl, refl, refl)
-
--- where a first block is wanted, memory for it may be refused
-pub refused-new : (move : Move) → is_new move ≡ true → IsRefused move
-refused-new to.Stays new = absurd (false≢true new)
-refused-new to.HandedBack new = absurd (false≢true new)
-refused-new to.NewCount new = absurd (false≢true new)
-refused-new to.LeavesCount new = absurd (false≢true new)
-refused-new to.NewEmpty new = tt

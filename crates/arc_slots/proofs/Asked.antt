@@ -3,7 +3,7 @@
 use Rattle.std.proofs.Common.{◌≡◌, ℕ, ◌+◌, ◌==◌, ◌&&◌, Bool, true, false, if◌then◌else◌, List, [], ◌∷◌}
 use Rattle.std.proofs.Common.{length, Option, Some, None, Result, Ok, Err, is_some, refl, sym, ap}
 use Rattle.std.proofs.Common.{◌∙◌, subst, inl, inr, slice_set}
-use Rattle.std.specs.Prelude.{nat_lt}
+use Rattle.std.specs.Prelude.{nat_lt, ◌||◌}
 use Rattle.std.specs.Result.{result_err}
 use Rattle.std.proofs.lemmas.Bool.{and_parts, cases_Bool, false≢true}
 use Rattle.std.proofs.lemmas.Option.{none-some, same_Some}
@@ -15,7 +15,7 @@ use Rattle.arc_owners.specs.declared.error.OwnerError.TheVariants.{AllocError, C
 use Rattle.arc_owners.specs.declared.error.TryReserveError.{TryReserveError}
 use Rattle.arc_owners.specs.declared.error.TryReserveError.TheVariants as reserve
 use Rattle.arc_owners.specs.declared.history.entry.Entry.TheVariants as entry
-use Rattle.arc_owners.specs.count.Calls.{Owner, Asks, TakesBlock}
+use Rattle.arc_owners.specs.count.Calls.{Owner, Asks, Leaves, TakesBlock}
 use Rattle.arc_buffer.specs.Slice.{edge_answer}
 use Rattle.arc_block.specs.declared.parts.room.Room.{Room}
 use Rattle.arc_block.specs.declared.parts.room.Room.TheVariants as from
@@ -30,7 +30,8 @@ use Rattle.arc_block.specs.Table.{Row, Role, reader, sole_writer, block_of}
 use Rattle.arc_block.specs.Writers.{new_writer, with_more, with_room, Reclaims, as_reader, as_sole}
 use Rattle.arc_block.specs.Writers.{after_advance, capacity_of}
 use Rattle.arc_commands.specs.Additions.{RowAdds, AddsAt, Joins, Enters, Founds, MayBegin, Stays}
-use Rattle.arc_commands.specs.Additions.{AsksIf, AsksInVain, AsksInVainAt, Takes, ended}
+use Rattle.arc_commands.specs.Additions.{AsksIf, AsksInVain, AsksInVainAt, Goes, Takes, TakesAs}
+use Rattle.arc_commands.specs.Additions.{ended}
 use Rattle.arc_commands.specs.Additions.{asked as History_asked}
 use Rattle.arc_commands.specs.Step.{Setting, Shortage, no_shortage, of_table, of_clones, of_blocks}
 use Rattle.arc_commands.specs.Step.{Around, Change, answer_any, answer_row, asking_block, begun}
@@ -54,12 +55,15 @@ use Rattle.arc_slots.specs.Splits.{IsSplit}
 use Rattle.arc_slots.specs.Stands.{HasPassFor, numbered, stand_at}
 use Rattle.arc_slots.specs.Writing.{Fills, FreezesBy, additional_of, can_write, is_fresh, is_new}
 use Rattle.arc_slots.specs.Writing.{items_of}
+use Rattle.arc_slots.specs.Taking.{can_have, is_writers, take_command, take_reply}
+use Rattle.arc_slots.specs.declared.take.Taking.{Taking}
+use Rattle.arc_slots.specs.declared.take.Taking.TheVariants as taking
 use Rattle.arc_slots.specs.Writing.{write_command}
 use Rattle.arc_slots.specs.declared.part.Part.{Part}
 use Rattle.arc_slots.specs.declared.part.Part.TheVariants.{Whole as All, Range, Back, Front}
 use Rattle.arc_slots.specs.declared.slot.Writing.{Writing}
 use Rattle.arc_slots.specs.declared.slot.Writing.TheVariants as writing
-use Rattle.arc_slots.proofs.ByForm.{part-adds, part-none, write-adds, write-none}
+use Rattle.arc_slots.proofs.ByForm.{part-adds, part-none}
 use Rattle.arc_slots.proofs.Added.{Ended, asked-comes, ended-comes, enters-along, raises-beside}
 use Rattle.arc_slots.proofs.Added.{refuses-at}
 use Rattle.arc_block.proofs.Lists.{get-set}
@@ -69,7 +73,8 @@ use Rattle.arc_slots.proofs.Taken.{set-twice}
 use Rattle.arc_slots.proofs.Told.{alone-told, full-told, many_along, many-beside, many-refused}
 use Rattle.arc_slots.proofs.Told.{many-founded, none-stands, room-beside, row-begins, row-block}
 use Rattle.arc_slots.proofs.Told.{stand_block}
-use Rattle.arc_slots.proofs.Answered.{for-role, reads-for}
+use Rattle.arc_slots.proofs.Answered.{for-role, not-for, reads-for, same, writes-for}
+use Rattle.arc_slots.proofs.Have.{have-on}
 
 module _ {T M : Type 0} (setting : Setting T) (windows : ℕ) (s : SlotView T M)
     (passes : List (Pass Whole)) where
@@ -80,7 +85,7 @@ module _ {T M : Type 0} (setting : Setting T) (windows : ℕ) (s : SlotView T M)
   row = row_of s
 
   abbrev around : Around
-  around = around_in windows passes here
+  around = around_in 0 windows passes here
 
   abbrev Command : Type 0
   Command = ListCmd T M
@@ -117,7 +122,7 @@ module _ {T M : Type 0} (setting : Setting T) (windows : ℕ) (s : SlotView T M)
     asks-if false st same = (refl, refl, same)
 
     abbrev alone_at : Stand → Bool
-    alone_at st = (around_in windows passes st).alone
+    alone_at st = (around_in 0 windows passes st).alone
 
     -- what a yes or a no to the question tells
     abbrev says-short : Bool → Shortage
@@ -236,6 +241,7 @@ module _ {T M : Type 0} (setting : Setting T) (windows : ℕ) (s : SlotView T M)
           let told = uniq-told true s.block s.window.place has asks in
           record {
             begins = false;
+            places = 0;
             change = uniq-says i true told;
             blocks = told.1;
             adds = told.2;
@@ -244,6 +250,7 @@ module _ {T M : Type 0} (setting : Setting T) (windows : ℕ) (s : SlotView T M)
           let told = uniq-told false s.block s.window.place has asks in
           record {
             begins = false;
+            places = 0;
             change = uniq-says i false told;
             blocks = told.1;
             adds = told.2;
@@ -319,6 +326,7 @@ module _ {T M : Type 0} (setting : Setting T) (windows : ℕ) (s : SlotView T M)
           → Said (command.Mut i) reply.Ok (Some new) None passes'
       wrote i asks decides owner new stays is = record {
         begins = false;
+        places = 0;
         change =
             mut-is i true (may-told setting.writes_any (length row.items) true s.block s.window.place
             has asks decides (λ so. owner)) ∙ ap (is_now reply.Ok) (sym is);
@@ -337,6 +345,7 @@ module _ {T M : Type 0} (setting : Setting T) (windows : ℕ) (s : SlotView T M)
           → Said (command.Mut i) reply.Refused (Some s) None passes'
       unwritten i asks decides = record {
         begins = false;
+        places = 0;
         change =
             mut-is i false (may-told setting.writes_any (length row.items) false s.block
             s.window.place has asks decides (λ so. absurd (false≢true so)));
@@ -414,17 +423,26 @@ module _ {T M : Type 0} (setting : Setting T) (windows : ℕ) (s : SlotView T M)
     not-free (Some n) (on_block (Some o) offset info) has asks counted =
         told-alone n o has false asks
 
-    module _ (has : HasPassFor passes here) (c : Command) (wanted : Bool)
-        (answer : ListReply T M)
+    module _ (has : HasPassFor passes here) (reads : s.role ≡ reader) (c : Command)
+        (wanted : Bool) (answer : ListReply T M)
         (is : (short : Shortage) → answer_any setting short around c row
         ≡ taken_as wanted around row answer) where
-      pub took-out : (wanted ≡ true → is_on_block row.place ≡ true)
-          → (Takes here None None passes passes' → RowAdds here None None passes passes' setting row c answer)
+      -- who reads has it where nobody else has a part
+      reads-free : (wanted && (is_sole row.role || is_free around.alone row.place))
+          ≡ (wanted && is_free around.alone row.place)
+      reads-free =
+          ap (λ role. wanted && (is_sole role || is_free around.alone row.place)) reads
+
+      took-out : (wanted ≡ true → is_on_block row.place ≡ true)
+          → (Takes here None None passes passes'
+          → RowAdds here None None passes passes' setting row c answer)
           → TakesOut wanted here passes passes' → Said c answer None None passes'
       took-out on adds took = record {
         begins = false;
+        places = 0;
         change =
             is (shortage answer c)
+            ∙ ap (λ b. if b then gone answer else is_now reply.Refused row) reads-free
             ∙ ap (λ b. if b && is_free around.alone row.place then gone answer else
             is_now reply.Refused row) took.0
             ∙ ap (λ b. if true && b then gone answer else is_now reply.Refused row)
@@ -439,72 +457,178 @@ module _ {T M : Type 0} (setting : Setting T) (windows : ℕ) (s : SlotView T M)
       wanted-not true asks counted = not-free s.block s.window.place has asks counted
       wanted-not false asks counted = refl
 
-      pub refused-out :
+      refused-out :
           (AsksIf here here None passes passes' wanted
           → RowAdds here here None passes passes' setting row c reply.Refused)
           → RefusesOut wanted here passes passes' → Said c reply.Refused (Some s) None passes'
       refused-out adds refuses = record {
         begins = false;
+        places = 0;
         change =
             is (shortage reply.Refused c)
             ∙ ap (λ b. if b then gone answer else is_now reply.Refused row)
-            (wanted-not wanted refuses.asked refuses.counted);
+            (reads-free ∙ wanted-not wanted refuses.asked refuses.counted);
         blocks = many-may wanted here false refuses.asked;
         adds = adds (asks-if wanted here refuses.asked);
       }
 
-  -- ---- each way of taking
+  -- ---- each thing that is taken out
 
-  module _ (has : HasPassFor passes here) (reads : s.role ≡ reader) (i : ℕ)
+  module _ (i : ℕ) (what : Taking) where
+    abbrev have : Bool
+    have = can_have setting.drops what row.place (length row.items)
+
+    abbrev had : ListReply T M
+    had = take_reply what row.items
+
+    abbrev takes : Command
+    takes = take_command i what
+
+  take-is : (i : ℕ) (what : Taking) → is_allowed setting.calls (takes i what) s.role ≡ true
+      → (short : Shortage) → answer_any setting short around (takes i what) row
+      ≡ taken_as (have i what) around row (had i what)
+  take-is i taking.Vector is short =
+      for-role setting windows s passes short (command.Take i) is
+  take-is i taking.Boxed is short =
+      for-role setting windows s passes short (command.TakeBox i) is
+  take-is i taking.Buffer is short =
+      for-role setting windows s passes short (command.TakeBuf i) is
+  take-is i taking.Raw is short =
+      for-role setting windows s passes short (command.TakeRaw i) is
+
+  -- each may be for a reader, and some for a sole writer
+  for-reader : (i : ℕ) (what : Taking) → is_allowed setting.calls (takes i what) reader ≡ true
+  for-reader i taking.Vector = refl
+  for-reader i taking.Boxed = refl
+  for-reader i taking.Buffer = refl
+  for-reader i taking.Raw = refl
+
+  for-writer : (i : ℕ) (what : Taking) (places : ℕ)
+      → is_allowed setting.calls (takes i what) (sole_writer places) ≡ is_writers what
+  for-writer i taking.Vector places = refl
+  for-writer i taking.Boxed places = refl
+  for-writer i taking.Buffer places = refl
+  for-writer i taking.Raw places = refl
+
+  -- it may be refused
+  asks-adds : (i : ℕ) (what : Taking) (passes' : List (Pass Whole))
+      → AsksIf here here None passes passes' (have i what)
+      → RowAdds here here None passes passes' setting row (takes i what) reply.Refused
+  asks-adds i taking.Vector passes' asks = asks
+  asks-adds i taking.Boxed passes' asks = asks
+  asks-adds i taking.Buffer passes' asks = asks
+  asks-adds i taking.Raw passes' asks = asks
+
+  -- by one that reads
+  module _ (has : HasPassFor passes here) (reads : s.role ≡ reader) (i : ℕ) (what : Taking)
       (passes' : List (Pass Whole)) where
-    vector-on : (drops : Bool) (place : Place (Option ℕ) M) (len : ℕ)
-        → is_vector_part drops place len ≡ true → is_on_block place ≡ true
-    vector-on drops nowhere len is = is
-    vector-on drops static_data len is = is
-    vector-on drops (on_block block offset info) len is = refl
+    read-is : (short : Shortage) → answer_any setting short around (takes i what) row
+        ≡ taken_as (have i what) around row (had i what)
+    read-is =
+        take-is i what (reads-for setting windows s passes reads (takes i what) true
+        (for-reader i what))
 
-    box-on : (place : Place (Option ℕ) M) (len : ℕ) → is_box_whole place len ≡ true
-        → is_on_block place ≡ true
-    box-on nowhere len is = is
-    box-on static_data len is = is
-    box-on (on_block block offset info) len is = refl
+    read-adds : (w : Taking) → Takes here None None passes passes'
+        → RowAdds here None None passes passes' setting row (takes i w) (had i w)
+    read-adds taking.Vector took =
+        subst (TakesAs here None None passes passes') (sym (ap is_sole reads)) took
+    read-adds taking.Boxed took = took
+    read-adds taking.Buffer took =
+        subst (TakesAs here None None passes passes') (sym (ap is_sole reads)) took
+    read-adds taking.Raw took = took
 
-    abbrev vector_wanted : Bool
-    vector_wanted = is_vector_part setting.drops row.place (length row.items)
+    pub took : TakesOut (have i what) here passes passes'
+        → Said (takes i what) (take_reply what s.window.items) None None passes'
+    took =
+        took-out passes' has reads (takes i what) (have i what) (had i what) read-is
+        (have-on setting.drops what row.place (length row.items)) (read-adds what)
 
-    take-is : (short : Shortage) → answer_any setting short around (command.Take i) row
-        ≡ taken_as vector_wanted around row (reply.Vec row.items)
-    take-is short =
-        for-role setting windows s passes short (command.Take i) (reads-for setting windows s passes reads (command.Take i) true refl)
+    pub untook : RefusesOut (have i what) here passes passes'
+        → Said (takes i what) reply.Refused (Some s) None passes'
+    untook =
+        refused-out passes' has reads (takes i what) (have i what) (had i what) read-is
+        (asks-adds i what passes')
 
-    pub took-vec : TakesOut vector_wanted here passes passes'
-        → Said (command.Take i) (reply.Vec s.window.items) None None passes'
-    took-vec =
-        took-out passes' has (command.Take i) vector_wanted (reply.Vec row.items) take-is
-        (vector-on setting.drops row.place (length row.items)) (λ takes. takes)
+  -- by one that writes, who is alone
+  module _ (writes : is_sole s.role ≡ true) (i : ℕ) (what : Taking)
+      (may : is_writers what ≡ true) where
+    sole-is : (short : Shortage) → answer_any setting short around (takes i what) row
+        ≡ taken_as (have i what) around row (had i what)
+    sole-is =
+        take-is i what (writes-for setting windows s passes writes (takes i what) true
+        (λ places. for-writer i what places ∙ may))
 
-    pub untook-vec : RefusesOut vector_wanted here passes passes'
-        → Said (command.Take i) reply.Refused (Some s) None passes'
-    untook-vec =
-        refused-out passes' has (command.Take i) vector_wanted (reply.Vec row.items) take-is
-        (λ asks. asks)
+    abbrev outcome : Bool → Bool → Change T M
+    outcome wanted sole =
+        if wanted && (sole || is_free around.alone row.place) then gone (had i what) else
+        is_now reply.Refused row
 
-    abbrev box_wanted : Bool
-    box_wanted = is_box_whole row.place (length row.items)
+    sole-adds : (w : Taking) → is_writers w ≡ true → (passes' : List (Pass Whole))
+        → Goes here None None passes passes' ended
+        → RowAdds here None None passes passes' setting row (takes i w) (had i w)
+    sole-adds taking.Vector may passes' goes =
+        subst (TakesAs here None None passes passes') (sym writes) goes
+    sole-adds taking.Boxed may passes' goes = absurd (false≢true may)
+    sole-adds taking.Buffer may passes' goes =
+        subst (TakesAs here None None passes passes') (sym writes) goes
+    sole-adds taking.Raw may passes' goes = absurd (false≢true may)
 
-    take_box-is : (short : Shortage) → answer_any setting short around (command.TakeBox i) row
-        ≡ taken_as box_wanted around row (reply.Boxed row.items)
-    take_box-is short =
-        for-role setting windows s passes short (command.TakeBox i) (reads-for setting windows s passes reads (command.TakeBox i) true refl)
+    left-so : (st : Stand) (passes' : List (Pass Whole))
+        → Along st passes passes' (λ o p q. Leaves o p q true) → Along st passes passes' Ended
+    left-so None passes' same = same
+    left-so (Some (n, o)) passes' left = record {
+      before = left.before;
+      after = left.after;
+      was = left.was;
+      pass = left.pass;
+      whole = left.whole;
+      called = (true, left.called);
+      others = left.others;
+    }
 
-    pub took-box : TakesOut box_wanted here passes passes'
-        → Said (command.TakeBox i) (reply.Boxed s.window.items) None None passes'
-    took-box =
-        took-out passes' has (command.TakeBox i) box_wanted (reply.Boxed row.items) take_box-is
-        (box-on row.place (length row.items)) (λ takes. takes)
+    pub took-sole : (passes' : List (Pass Whole)) → have i what ≡ true
+        → Along here passes passes' (λ o p q. Leaves o p q true)
+        → Said (takes i what) (take_reply what s.window.items) None None passes'
+    took-sole passes' wanted left = record {
+      begins = false;
+      places = 0;
+      change =
+          sole-is (shortage (had i what) (takes i what))
+          ∙ ap (λ b. outcome b (is_sole row.role)) wanted ∙ ap (outcome true) writes;
+      blocks = many_along passes passes' here Ended (left-so here passes' left);
+      adds =
+          sole-adds what may passes' (
+            refl,
+            refl,
+            enters-along passes passes' Ended ended ended-comes here (left-so here passes' left),
+          );
+    }
 
-    pub untook-box : RefusesOut box_wanted here passes passes'
-        → Said (command.TakeBox i) reply.Refused (Some s) None passes'
-    untook-box =
-        refused-out passes' has (command.TakeBox i) box_wanted (reply.Boxed row.items) take_box-is
-        (λ asks. asks)
+    pub untook-sole : have i what ≡ false → Said (takes i what) reply.Refused (Some s) None passes
+    untook-sole not = record {
+      begins = false;
+      places = 0;
+      change =
+          sole-is (shortage reply.Refused (takes i what))
+          ∙ ap (λ b. outcome b (is_sole row.role)) not;
+      blocks = refl;
+      adds =
+          asks-adds i what passes (subst (AsksIf here here None passes passes) (sym not)
+          (refl, refl, refl));
+    }
+
+  -- what isn't for one that writes
+  pub take-kind : is_sole s.role ≡ true → (i : ℕ) (what : Taking) → is_writers what ≡ false
+      → Said (takes i what) reply.Kind (Some s) None passes
+  take-kind writes i what none =
+      same setting windows s passes (takes i what) reply.Kind
+      (not-for setting windows s passes no_shortage (takes i what)
+      (writes-for setting windows s passes writes (takes i what) false
+      (λ places. for-writer i what places ∙ none))) (adds-none what)
+    where
+      adds-none : (w : Taking) → RowAdds here here None passes passes setting row (takes i w)
+          reply.Kind
+      adds-none taking.Vector = (refl, refl, refl)
+      adds-none taking.Boxed = (refl, refl, refl)
+      adds-none taking.Buffer = (refl, refl, refl)
+      adds-none taking.Raw = (refl, refl, refl)

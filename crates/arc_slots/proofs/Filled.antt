@@ -15,7 +15,7 @@ use Rattle.arc_owners.specs.declared.error.TryReserveError.TheVariants.{Capacity
 use Rattle.arc_owners.specs.count.Calls.{Owner, IsFirst, IsFreshPass}
 use Rattle.arc_block.specs.declared.block.TheConstants.{MAX_OWNERS}
 use Rattle.arc_block.specs.Block.{Sort, native, vector, buffer, raw, BlockInfo, native_facts}
-use Rattle.arc_block.specs.Block.{IsBuffer, IsWritable}
+use Rattle.arc_block.specs.Block.{IsWritable}
 use Rattle.arc_block.specs.Layouts.{LayoutFacts}
 use Rattle.arc_block.specs.Place.{Place, nowhere, static_data, on_block}
 use Rattle.arc_block.specs.Place.{at_owner}
@@ -24,7 +24,7 @@ use Rattle.arc_block.specs.Moves.{Moves, counted_move, layout_move}
 use Rattle.arc_block.specs.declared.parts.moves.Move.{Move}
 use Rattle.arc_block.specs.declared.parts.moves.Move.TheVariants as to
 use Rattle.arc_block.specs.Table.{Row, Role, reader, sole_writer}
-use Rattle.arc_block.specs.Window.{IsOfBuffer, Window, PartsView, window_of, parts_of}
+use Rattle.arc_block.specs.Window.{Window, PartsView, window_of, parts_of}
 use Rattle.arc_block.specs.Writers.{capacity_of, room, room_at, with_room, with_more, with_full}
 use Rattle.arc_block.specs.Writers.{new_writer, MakesRoom, Pushes, Reclaims, as_reader}
 use Rattle.arc_block.specs.Writers.{Freezes, IsWriterPlace, offset_at}
@@ -35,7 +35,7 @@ use Rattle.arc_commands.specs.Additions.{Founds}
 use Rattle.arc_commands.specs.Blocks.{is_sole}
 use Rattle.arc_slots.specs.Slots.{SlotView, held, role_fits, row_of, stand_of, writer_slot}
 use Rattle.arc_slots.specs.Stands.{numbered, is_numbered, stand_at, TakenOut, put_back}
-use Rattle.arc_commands.specs.Step.{is_buffer, is_buffer_at, made_row}
+use Rattle.arc_commands.specs.Step.{made_row}
 use Rattle.arc_slots.specs.Writing.{is_fresh, is_new, Fills, FreezesBy}
 use Rattle.arc_slots.specs.declared.slot.Held.{Held}
 use Rattle.arc_slots.specs.declared.slot.Held.TheVariants.{Read, Write}
@@ -84,28 +84,6 @@ module _ {T M : Type 0} (h : Held (Window T M) (PartsView T M)) (w : PartsView T
 
   pub writes-sole : role_fits h ≡ true → is_sole w.role ≡ true
   writes-sole sole = ap role_fits (sym is) ∙ sole
-
--- whether a writer stands on a caller's buffer, by what the window answers
-said-no : (r : Bool) → (IsTrue r ↔ ⊥) → r ≡ false
-said-no true told = absurd (told.0 refl)
-said-no false told = refl
-
-said-yes : (r : Bool) → (IsTrue r ↔ Unit {0}) → r ≡ true
-said-yes true told = refl
-said-yes false told = absurd (false≢true (told.1 tt))
-
-buffer-sort : (sort : Sort) (r : Bool) → (IsTrue r ↔ IsBuffer sort) → r ≡ is_buffer sort
-buffer-sort native r told = said-no r told
-buffer-sort vector r told = said-no r told
-buffer-sort (buffer writable) r told = said-yes r told
-buffer-sort raw r told = said-no r told
-
-pub buffer-seen : {M : Type 0} (b : Option ℕ) (place : At M) → is_numbered b place ≡ true
-    → (r : Bool) → (IsTrue r ↔ IsOfBuffer place) → r ≡ is_buffer_at (numbered b place)
-buffer-seen b place fits r =
-    numbered_each (λ n there. (IsTrue r ↔ IsOfBuffer there) → r ≡ is_buffer_at (numbered n there))
-    (said-no r) (said-no r) (λ offset info. buffer-sort info.sort r)
-    (λ n o offset info. buffer-sort info.sort r) b place fits
 
 -- a first block is made only where there is none
 fresh-in : {M : Type 0} (drops : Bool) (size : ℕ) (info : BlockInfo M) (offset len k : ℕ)

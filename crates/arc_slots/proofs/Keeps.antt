@@ -27,8 +27,10 @@ use Rattle.arc_block.proofs.Owned.{kept-asked, kept-begun, kept-full, kept-gone,
 use Rattle.arc_block.proofs.Owned.{kept-new, kept-nowhere, kept-same, kept-shared, kept-turned}
 use Rattle.arc_commands.specs.Additions.{AddsAt, Enters, Founds, Goes, Joins, MayBegin, Raises}
 use Rattle.arc_commands.specs.Additions.{AsksIf, AsksInVain, AsksInVainAt, RowAdds, Takes, asked}
-use Rattle.arc_commands.specs.Additions.{ended, refused, with_stand}
+use Rattle.arc_commands.specs.Additions.{TakesAs, ended, refused, with_stand}
 use Rattle.arc_commands.specs.Step.{Setting, is_box_whole, is_vector_part, is_writable_at}
+use Rattle.arc_commands.specs.Step.{is_buffer_whole, is_raw_whole}
+use Rattle.arc_commands.specs.Blocks.{is_sole}
 use Rattle.arc_commands.specs.Commands.{ListCmd, ListReply}
 use Rattle.arc_commands.specs.declared.command.Cmd.TheVariants as command
 use Rattle.arc_commands.specs.declared.command.Reply.TheVariants as reply
@@ -243,6 +245,10 @@ module _ {H : Type 0} (stands : List Stand) (passes : List (Pass H))
         (subst (λ st. IsKept MAX_OWNERS (slice_set stands i st) passes') (sym adds.0)
         (gone-at stands adds.2 (asked-at here at true adds.2 adds.3) i here at passes' adds.4))
 
+    takes-as-kept : (sole : Bool) → TakesAs here there made passes passes' sole → Kept
+    takes-as-kept true adds = goes-kept adds
+    takes-as-kept false adds = takes-kept adds
+
     -- where only the count could decide
     asks-kept : (asks : Bool) → AsksIf here there made passes passes' asks → Kept
     asks-kept true adds =
@@ -296,12 +302,20 @@ module _ {H : Type 0} (stands : List Stand) (passes : List (Pass H))
     row-kept setting row (command.Ext i items) reply.Ok adds = stays-kept adds
     row-kept setting row (command.Freeze i) reply.Ok adds = stays-kept adds
     row-kept setting row (command.Drop i) reply.Ok adds = goes-kept adds
-    row-kept setting row (command.Take i) (reply.Vec items) adds = takes-kept adds
+    row-kept setting row (command.Take i) (reply.Vec items) adds =
+        takes-as-kept (is_sole row.role) adds
+    row-kept setting row (command.TakeBuf i) (reply.Buffer items) adds =
+        takes-as-kept (is_sole row.role) adds
+    row-kept setting row (command.TakeRaw i) (reply.Raw items) adds = takes-kept adds
     row-kept setting row (command.TakeBox i) (reply.Boxed items) adds = takes-kept adds
     row-kept setting row (command.Take i) reply.Refused adds =
         asks-kept (is_vector_part setting.drops row.place (length row.items)) adds
     row-kept setting row (command.TakeBox i) reply.Refused adds =
         asks-kept (is_box_whole row.place (length row.items)) adds
+    row-kept setting row (command.TakeBuf i) reply.Refused adds =
+        asks-kept (is_buffer_whole row.place (length row.items)) adds
+    row-kept setting row (command.TakeRaw i) reply.Refused adds =
+        asks-kept (is_raw_whole row.place (length row.items)) adds
     row-kept setting row (command.TakeStatic i) (reply.Static items) adds =
         taken-kept adds
     row-kept setting row c r adds = none-kept adds

@@ -1,6 +1,7 @@
 pub mod Taken
 pub mod Slots
 pub mod Native
+pub mod Have
 pub mod Takes
 pub mod Index
 pub mod Splits
@@ -10,6 +11,7 @@ pub mod Added
 pub mod ByForm
 pub mod Told
 pub mod Answered
+pub mod Turned
 pub mod Asked
 pub mod Keeps
 pub mod Made

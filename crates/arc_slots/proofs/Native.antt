@@ -198,7 +198,7 @@ is-vector (buffer writable) is = absurd (false≢true is)
 is-vector raw is = absurd (false≢true is)
 
 module _ {M : Type 0} where
-  all-full : (offset len : ℕ) (info : BlockInfo M) → is_all_full offset len info ≡ true
+  pub all-full : (offset len : ℕ) (info : BlockInfo M) → is_all_full offset len info ≡ true
       → (offset ≡ 0) × (info.full ≡ Some len)
   all-full offset len info is =
       let both = and_parts (offset == 0) (option_map_or (λ full. full == len) info.full false) is in
@@ -209,7 +209,7 @@ module _ {M : Type 0} where
       by None is = absurd (false≢true is)
       by (Some f) is = ap Some (eqb-true f len is)
 
-  full-all : (offset len : ℕ) (info : BlockInfo M) → (offset ≡ 0) × (info.full ≡ Some len)
+  pub full-all : (offset len : ℕ) (info : BlockInfo M) → (offset ≡ 0) × (info.full ≡ Some len)
       → is_all_full offset len info ≡ true
   full-all offset len info is =
       ap (λ b. b && option_map_or (λ full. full == len) info.full false) (eq-eqb offset 0 is.0)

@@ -97,7 +97,7 @@ module _ {H : Type 0} (passes passes' : List (Pass H)) where
     -- what was asked is whether the window is alone
     pub alone-told : (found : Bool) (here : Stand) → HasPassFor passes here
         → Along here passes passes' (λ o p q. Asks o p q found) → (here ≡ None → found ≡ false)
-        → (around_in windows passes here).alone ≡ found
+        → (around_in 0 windows passes here).alone ≡ found
     alone-told found None has along none = sym (none refl)
     alone-told found (Some (n, o)) has along none =
         let p = along.before in
@@ -114,14 +114,14 @@ module _ {H : Type 0} (passes passes' : List (Pass H)) where
 
     pub full-told : (n : ℕ) (o : Owner) → HasPassFor passes (Some (n, o))
         → Through n o passes passes' FindsFull
-        → (around_in windows passes (Some (n, o))).full ≡ true
+        → (around_in 0 windows passes (Some (n, o))).full ≡ true
     full-told n o has found =
         eq-eqb (live_on passes (Some (n, o))) MAX_OWNERS
         (live-is n o found.before found.was ∙ full-exact found.whole found.called ∙ has.2)
 
     room-told : (n : ℕ) (o other : Owner) → HasPassFor passes (Some (n, o))
         → Through n o passes passes' (λ o p q. MakesAnother o p q other)
-        → (around_in windows passes (Some (n, o))).full ≡ false
+        → (around_in 0 windows passes (Some (n, o))).full ≡ false
     room-told n o other has made =
         let room =
         room-made made.whole (omega (arith, has.2)) made.called in
@@ -130,8 +130,8 @@ module _ {H : Type 0} (passes passes' : List (Pass H)) where
 
     -- where a window was made beside it, its block had room for an owner more, or none was wanted
     pub room-beside : (here st : Stand) → HasPassFor passes here → Beside here passes passes' st
-        → ((around_in windows passes here).full && is_some (stand_block st)) ≡ false
-    room-beside here None has joins = and-false (around_in windows passes here).full
+        → ((around_in 0 windows passes here).full && is_some (stand_block st)) ≡ false
+    room-beside here None has joins = and-false (around_in 0 windows passes here).full
     room-beside None (Some made) has joins = absurd joins
     room-beside (Some (n, o)) (Some made) has joins =
         ap (λ b. b && true) (room-told n o made.1 has joins.1)

@@ -19,24 +19,27 @@ module _ {H : Type 0} where
   live_on passes (Some (number, owner)) =
       option_map_or (λ p. length (live_owners (seen p))) (slice_get passes number) 0
 
-  -- what a window knows of its table by the passes of the blocks, where so many were made
-  abbrev pub around_in : ℕ → List (Pass H) → Stand → Around
-  around_in windows passes here = record {
+  -- what a window knows of its table by the passes of the blocks, where so many were made, and of a
+  -- caller's buffer that has so many places
+  abbrev pub around_in : (places windows : ℕ) → List (Pass H) → Stand → Around
+  around_in places windows passes here = record {
     alone = live_on passes here == 1;
     full = live_on passes here == MAX_OWNERS;
     blocks = length passes;
     windows = windows;
+    places = places;
   }
 
 -- A command on a slot's window, of so many, was answered as its row answers it; then the window is
 -- the new one, if it hasn't gone, and one was made beside it, if one was; and what that command and
--- that reply add was added.
+-- that reply add was added. A caller's buffer that made its own room has so many places.
 pub record Answers {T M : Type 0} (setting : Setting T) (windows : ℕ) (c : ListCmd T M)
     (old : SlotView T M) (before : List (Pass Whole)) (r : ListReply T M)
     (new made : Option (SlotView T M)) (after : List (Pass Whole)) : Type 0 where
   pub begins : Bool
+  pub places : ℕ
   pub change : answer_any setting (shortage r c)
-      (around_in windows before (stand_of (Some old))) c (row_of old)
+      (around_in places windows before (stand_of (Some old))) c (row_of old)
       ≡ record {
         reply = r;
         row = option_map row_of new;

@@ -108,6 +108,24 @@ where
         }
     }
 
+    /// The metadata of the window's block, if that was made with some.
+    pub(crate) fn meta(&self, passes: &Passes<A>) -> TableReply<S, B, M, A>
+    where
+        M: Copy,
+        ensures { (next i : ℕ) → Answers (setting_of (layout_facts L.Layout) L.Writable.ANY
+            L.clone_wants S.DROPS S.boundary
+            (type_size S.Item.row) S.Zero.zero S.Calls.calls) next (command.Meta i)
+            self.now passes.now.of_blocks.items (seen_reply S.items_in S.items_in_box B.list result)
+            (Some self.now) None passes.now.of_blocks.items }
+    {
+        let _ = passes;
+        self.known_role();
+        match self.metadata() {
+            Some(metadata) => Reply::Meta(*metadata),
+            None => Reply::None,
+        }
+    }
+
     /// How many items the window has.
     pub(crate) fn count(&self, passes: &Passes<A>) -> TableReply<S, B, M, A>
         ensures { (next i : ℕ) → Answers (setting_of (layout_facts L.Layout) L.Writable.ANY
@@ -169,9 +187,6 @@ where
         if !Self::may_write(&what) {
             return Reply::Kind;
         }
-        if self.is_on_buffer() {
-            return Reply::Kind;
-        }
         let begins = self.wants_block(what.additional());
         if passes.reserve_for(begins).is_err() {
             return Reply::Reserve(TryReserveError::AllocError);
@@ -197,9 +212,6 @@ where
     {
         let _ = passes;
         if !self.is_written() {
-            return Reply::Kind;
-        }
-        if self.is_on_buffer() {
             return Reply::Kind;
         }
         if self.try_reclaim(additional) {

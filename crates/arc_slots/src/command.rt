@@ -123,6 +123,28 @@ where
     reply
 }
 
+/// The items of the window for good, if it is read and stands on no block; then the window is gone.
+fn static_at<S: Commands<A>, L: Layout, B: BufferMut<S::Item> + Drop, M: Drop, A: Allocator + Copy>(
+    place: &mut Option<Slot<S, L, B, M, A>>,
+    passes: &Passes<A>,
+) -> TableReply<S, B, M, A>
+where
+    L::Writable: LayoutMut,
+    ensures { IfSome place.old (λ s. (next i : ℕ) → Answers (setting_of (layout_facts L.Layout)
+        L.Writable.ANY L.clone_wants
+        S.DROPS S.boundary (type_size S.Item.row) S.Zero.zero S.Calls.calls) next
+        (command.TakeStatic i)
+        s passes.now.of_blocks.items (seen_reply S.items_in S.items_in_box B.list result)
+        place.new None passes.now.of_blocks.items) }
+{
+    let Some(slot) = mem::replace(place, None) else {
+        return Reply::NoWindow;
+    };
+    let (reply, slot) = slot.take_static(passes);
+    set_slot(place, slot);
+    reply
+}
+
 /// Carries out a command on the window that is here, if there is one: its reply, and the window
 /// that was made beside it, if one was. That goes under the next number, where there is room.
 #[tactic(auto, using(crate::proofs::Taken::has_block, crate::proofs::Taken::has_life))]
@@ -130,7 +152,7 @@ pub fn answer<
     S: Commands<A>,
     L: Layout,
     B: BufferMut<S::Item> + Drop,
-    M: Drop,
+    M: Copy + Drop,
     A: Allocator + Copy,
 >(
     place: &mut Option<Slot<S, L, B, M, A>>,
@@ -168,6 +190,7 @@ where
         Cmd::To { at, .. } => slot.hand_out(rt, Part::Front(at), next, has_room, passes),
         Cmd::Uniq { .. } => (slot.uniq(passes), None),
         Cmd::Show { .. } => (slot.show(alloc, passes), None),
+        Cmd::Meta { .. } => (slot.meta(passes), None),
         Cmd::Len { .. } => (slot.count(passes), None),
         Cmd::Room { .. } => (slot.room(passes), None),
         Cmd::Res { additional, .. } => (slot.fill(Writing::Nothing(additional), passes), None),
@@ -184,11 +207,9 @@ where
         Cmd::Drop { .. } => (drop_at(place, passes), None),
         Cmd::Take { .. } => (take_at(place, Taking::Vector, passes), None),
         Cmd::TakeBox { .. } => (take_at(place, Taking::Boxed, passes), None),
-        Cmd::TakeStatic { .. } => (take_at(place, Taking::Static, passes), None),
-        // These are answered so far as where the kind has no such call.
-        Cmd::Meta { .. } => (Reply::Kind, None),
-        Cmd::TakeBuf { .. } => (Reply::Kind, None),
-        Cmd::TakeRaw { .. } => (Reply::Kind, None),
+        Cmd::TakeBuf { .. } => (take_at(place, Taking::Buffer, passes), None),
+        Cmd::TakeRaw { .. } => (take_at(place, Taking::Raw, passes), None),
+        Cmd::TakeStatic { .. } => (static_at(place, passes), None),
         // These are on no window.
         Cmd::Slice(_) => (Reply::Kind, None),
         Cmd::Vec(_) => (Reply::Kind, None),

@@ -7,6 +7,7 @@ ghost use Rattle.std.specs.declared.vec.Vec.{Vec};
 ghost use Rattle.std.specs.Box.{boxed_slice_items, boxed_str_bytes};
 ghost use Rattle.std.specs.declared.boxed.BoxedSlice.{BoxedSlice};
 ghost use Rattle.std.proofs.Common.{ap};
+ghost use Rattle.std.proofs.lemmas.Bool.{false≢true};
 ghost use Rattle.std.proofs.lemmas.Str.{IsUtf8-had};
 ghost use Rattle.arc_owners.specs.count.Calls.{IsPassOfNone};
 ghost use Rattle.arc_block.specs.Writers.{MakesWriter};
@@ -80,6 +81,10 @@ pub trait Commands<A: Allocator>: Emptyable + Subsliceable {
     ghost box_wraps: { (inner : BoxedSlice Self.Item A)
         → Self.is_legal (boxed_slice_items inner) → Self.Boxed.may_wrap inner };
 
+    /// Each list is legal where its calls say so.
+    ghost any_is_legal: { Self.Calls.calls.any_list ≡ true → (xs : List Self.Item)
+        → Self.is_legal xs };
+
     /// That a list is legal is a fact: it says no more than that it holds.
     ghost legal_is_fact: { (xs : List Self.Item) → ∥ Self.is_legal xs ∥₁ → Self.is_legal xs };
 }
@@ -140,6 +145,12 @@ pub(crate) fn box_of<S: Commands<A>, A: Allocator>(items: Vec<S::Item, A>) -> S:
 {
     S::Boxed::from_inner(items.into_boxed_slice())
 }
+
+/// Each list is legal, where the kind's calls say so. Does nothing: its contract is the law.
+pub(crate) fn known_legal<S: Commands<A>, A: Allocator>()
+    requires { S.Calls.calls.any_list ≡ true }
+    ensures { (xs : List S.Item) → ∥ S.is_legal xs ∥₁ }
+{}
 
 /// Items of plain data that a table may have. A type whose items have no zero is one by
 /// `impl TableItem for Type { type Zero = NoZero; }`.
@@ -260,6 +271,8 @@ impl<T: TableItem, A: Allocator> Commands<A> for Plain<T> {
 
     ghost box_wraps = { λ _ legal. legal };
 
+    ghost any_is_legal = { λ _ _. tt };
+
     ghost legal_is_fact = { λ _ _. tt };
 }
 
@@ -293,6 +306,8 @@ impl<A: Allocator> Commands<A> for ByteText {
     ghost box_items_are = { λ _ _ same. ap boxed_slice_items same };
 
     ghost box_wraps = { λ _ legal. legal };
+
+    ghost any_is_legal = { λ _ _. tt };
 
     ghost legal_is_fact = { λ _ _. tt };
 }
@@ -328,6 +343,8 @@ impl<A: Allocator> Commands<A> for Text {
 
     ghost box_wraps = { λ _ legal. legal };
 
+    ghost any_is_legal = { λ is _. absurd (false≢true is) };
+
     ghost legal_is_fact = { λ xs had. IsUtf8-had xs had };
 }
 
@@ -361,6 +378,8 @@ impl<T: Drop, A: Allocator> Commands<A> for Owned<T> {
     ghost box_items_are = { λ _ _ same. ap boxed_slice_items same };
 
     ghost box_wraps = { λ _ legal. legal };
+
+    ghost any_is_legal = { λ _ _. tt };
 
     ghost legal_is_fact = { λ _ _. tt };
 }

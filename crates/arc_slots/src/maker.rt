@@ -6,17 +6,19 @@ ghost use Rattle.std.specs.Vec.{vec_capacity};
 ghost use Rattle.arc_block.specs.Writers.{IsNewWriter, idle_writer};
 ghost use Rattle.arc_commands.specs.Additions.{Founds};
 ghost use Rattle.arc_commands.specs.Seen.{map_command, seen_reply};
+ghost use Rattle.std.specs.Arc.{arc_value};
 ghost use Rattle.arc_commands.specs.Step.{made_row, setting_of, vector_row, writer_row};
+ghost use Rattle.arc_commands.specs.Step.{buffer_row, raw_row, written_buffer_row};
 ghost use Rattle.arc_commands.specs.declared.command.Cmd.TheVariants as command;
 ghost use Rattle.arc_slots.specs.Makers.{Makes};
 ghost use Rattle.arc_slots.specs.Slots.{row_of, stand_of};
 
-use crate::kinds::{CallsOf, Commands, TableCmd, TableReply, ZeroOf, vec_of};
+use crate::kinds::{CallsOf, Commands, TableCmd, TableReply, ZeroOf, known_legal, vec_of};
 use crate::passes::Passes;
 use crate::slot::{Held, Slot};
 use arc_block::layout::{Layout, LayoutMut, stands_on_nothing};
-use arc_block::parts::Parts;
-use arc_buffer::buffer::BufferMut;
+use arc_block::parts::{Parts, SoleParts};
+use arc_buffer::buffer::{Buffer, BufferMut};
 use arc_commands::command::{Cmd, Reply};
 use arc_owners::error::AllocError;
 use arc_owners::mark::Whole;
@@ -24,6 +26,7 @@ use arc_owners::owners::Pass;
 use arc_read::slice::ArcSlice;
 use arc_write::slice_mut::ArcSliceMut;
 use std::alloc::Allocator;
+use std::sync::Arc;
 
 /// A writer's slot, on nothing, or as the first owner of a block more, which keeps its pass.
 fn writer<S: Commands<A>, L: Layout, B: BufferMut<S::Item> + Drop, M: Drop, A: Allocator + Copy>(
@@ -182,6 +185,242 @@ where
         return (Reply::Alloc, None);
     }
     match vector(alloc, vec_of::<S, A>(items), passes) {
+        Ok(slot) => (Reply::New(next), Some(slot)),
+        Err(_) => (Reply::Alloc, None),
+    }
+}
+
+/// A buffer has a place for each of its items. Does nothing: its contract is the law.
+fn known_places<T, B: Buffer<T>>(given: &B)
+    ensures { length (B.list given.now) ≤ B.places given.now }
+{
+    let _ = given.as_slice();
+}
+
+/// A reader's slot, of a window that was made of a caller's buffer.
+fn buffer_reader<
+    S: Commands<A>,
+    L: Layout,
+    B: BufferMut<S::Item> + Drop,
+    M: Drop,
+    A: Allocator + Copy,
+>(
+    alloc: A,
+    given: B,
+    metadata: M,
+    passes: &mut Passes<A>,
+) -> Result<Slot<S, L, B, M, A>, AllocError>
+where
+    L::Writable: LayoutMut,
+    requires layout { L.ANY ≡ true }
+    requires call { S.Calls.calls.any_list ≡ true }
+    requires room { length passes.old.of_blocks.items < vec_capacity passes.old.of_blocks }
+    ensures row { IfOk result (λ slot. row_of slot ≡ buffer_row
+        (length passes.old.of_blocks.items) (B.list given) (B.places given) metadata) }
+    ensures enough { length (B.list given) ≤ B.places given }
+    ensures stand { IfOk result (λ slot. Founds (stand_of (Some slot)) passes.old.of_blocks.items
+        passes.new.of_blocks.items) }
+    ensures refused { IfErr result (λ _. passes.new.of_blocks.items ≡ passes.old.of_blocks.items) }
+{
+    known_legal::<S, A>();
+    known_places(&given);
+    let mut pass = Pass::none();
+    let Ok(parts) = Parts::try_from_buffer_as(alloc, given, Some(metadata), &mut pass) else {
+        return Err(AllocError);
+    };
+    let window = Held::Read(ArcSlice::from_parts(parts));
+    let block = passes.keep(None, true, pass);
+    Ok(Slot { window, block })
+}
+
+/// A window that is read, over a caller's buffer.
+fn over_buffer<
+    S: Commands<A>,
+    L: Layout,
+    B: BufferMut<S::Item> + Drop,
+    M: Drop,
+    A: Allocator + Copy,
+>(
+    alloc: A,
+    given: B,
+    metadata: M,
+    next: usize,
+    has_room: bool,
+    passes: &mut Passes<A>,
+) -> (TableReply<S, B, M, A>, Option<Slot<S, L, B, M, A>>)
+where
+    L::Writable: LayoutMut,
+    ensures made { Makes (setting_of (layout_facts L.Layout) L.Writable.ANY L.clone_wants S.DROPS
+        S.boundary
+        (type_size S.Item.row) S.Zero.zero S.Calls.calls) next (command.Buf (B.list given) metadata)
+        passes.old.of_blocks.items (seen_reply S.items_in S.items_in_box B.list result.0)
+        result.1 passes.new.of_blocks.items }
+    ensures room { is_some result.1 ≡ true → has_room ≡ true }
+{
+    if !S::Calls::any_list() {
+        return (Reply::Kind, None);
+    }
+    if !L::ANY {
+        return (Reply::Kind, None);
+    }
+    if !has_room {
+        return (Reply::Alloc, None);
+    }
+    if passes.reserve_for(true).is_err() {
+        return (Reply::Alloc, None);
+    }
+    match buffer_reader(alloc, given, metadata, passes) {
+        Ok(slot) => (Reply::New(next), Some(slot)),
+        Err(_) => (Reply::Alloc, None),
+    }
+}
+
+/// A writer's slot, of a window that was made of a caller's buffer.
+fn buffer_writer<
+    S: Commands<A>,
+    L: Layout,
+    B: BufferMut<S::Item> + Drop,
+    M: Drop,
+    A: Allocator + Copy,
+>(
+    alloc: A,
+    given: B,
+    metadata: M,
+    passes: &mut Passes<A>,
+) -> Result<Slot<S, L, B, M, A>, AllocError>
+where
+    L::Writable: LayoutMut,
+    requires layout { L.Writable.ANY ≡ true }
+    requires call { S.Calls.calls.any_list ≡ true }
+    requires room { length passes.old.of_blocks.items < vec_capacity passes.old.of_blocks }
+    ensures row { IfOk result (λ slot. row_of slot ≡ written_buffer_row
+        (length passes.old.of_blocks.items) (B.list given) (B.places given) metadata) }
+    ensures enough { length (B.list given) ≤ B.places given }
+    ensures stand { IfOk result (λ slot. Founds (stand_of (Some slot)) passes.old.of_blocks.items
+        passes.new.of_blocks.items) }
+    ensures refused { IfErr result (λ _. passes.new.of_blocks.items ≡ passes.old.of_blocks.items) }
+{
+    known_legal::<S, A>();
+    known_places(&given);
+    let mut pass = Pass::none();
+    let Ok(parts) = SoleParts::try_from_buffer_as(alloc, given, Some(metadata), &mut pass) else {
+        return Err(AllocError);
+    };
+    let window = ArcSliceMut::from_parts(parts);
+    let block = passes.keep(None, true, pass);
+    Ok(Slot::written(window, block))
+}
+
+/// A window that is written, over a caller's buffer.
+fn over_written_buffer<
+    S: Commands<A>,
+    L: Layout,
+    B: BufferMut<S::Item> + Drop,
+    M: Drop,
+    A: Allocator + Copy,
+>(
+    alloc: A,
+    given: B,
+    metadata: M,
+    next: usize,
+    has_room: bool,
+    passes: &mut Passes<A>,
+) -> (TableReply<S, B, M, A>, Option<Slot<S, L, B, M, A>>)
+where
+    L::Writable: LayoutMut,
+    ensures made { Makes (setting_of (layout_facts L.Layout) L.Writable.ANY L.clone_wants S.DROPS
+        S.boundary
+        (type_size S.Item.row) S.Zero.zero S.Calls.calls) next (command.MBuf (B.list given) metadata)
+        passes.old.of_blocks.items (seen_reply S.items_in S.items_in_box B.list result.0)
+        result.1 passes.new.of_blocks.items }
+    ensures room { is_some result.1 ≡ true → has_room ≡ true }
+{
+    if !S::Calls::any_list() {
+        return (Reply::Kind, None);
+    }
+    if !L::Writable::ANY {
+        return (Reply::Kind, None);
+    }
+    if !has_room {
+        return (Reply::Alloc, None);
+    }
+    if passes.reserve_for(true).is_err() {
+        return (Reply::Alloc, None);
+    }
+    match buffer_writer(alloc, given, metadata, passes) {
+        Ok(slot) => (Reply::New(next), Some(slot)),
+        Err(_) => (Reply::Alloc, None),
+    }
+}
+
+/// A reader's slot, of a window that was made of a caller's buffer behind an `Arc`.
+fn raw_reader<
+    S: Commands<A>,
+    L: Layout,
+    B: BufferMut<S::Item> + Drop,
+    M: Drop,
+    A: Allocator + Copy,
+>(alloc: A, shared: Arc<B, A>, passes: &mut Passes<A>) -> Result<Slot<S, L, B, M, A>, AllocError>
+where
+    L::Writable: LayoutMut,
+    requires layout { L.ANY ≡ true }
+    requires call { S.Calls.calls.any_list ≡ true }
+    requires room { length passes.old.of_blocks.items < vec_capacity passes.old.of_blocks }
+    ensures row { IfOk result (λ slot. row_of slot ≡ raw_row L.RAW
+        (length passes.old.of_blocks.items) (B.list (arc_value shared))) }
+    ensures stand { IfOk result (λ slot. Founds (stand_of (Some slot)) passes.old.of_blocks.items
+        passes.new.of_blocks.items) }
+    ensures refused { IfErr result (λ _. passes.new.of_blocks.items ≡ passes.old.of_blocks.items) }
+{
+    known_legal::<S, A>();
+    let mut pass = Pass::none();
+    let Ok(parts) = Parts::try_from_raw_as::<L>(alloc, shared, &mut pass) else {
+        return Err(AllocError);
+    };
+    let window = Held::Read(ArcSlice::from_parts(parts));
+    if L::RAW {
+        return Ok(Slot {
+            window,
+            block: None,
+        });
+    }
+    let block = passes.keep(None, true, pass);
+    Ok(Slot { window, block })
+}
+
+/// A window that is read, over a caller's buffer behind an `Arc`, which is made.
+fn over_raw<S: Commands<A>, L: Layout, B: BufferMut<S::Item> + Drop, M: Drop, A: Allocator + Copy>(
+    alloc: A,
+    given: B,
+    next: usize,
+    has_room: bool,
+    passes: &mut Passes<A>,
+) -> (TableReply<S, B, M, A>, Option<Slot<S, L, B, M, A>>)
+where
+    L::Writable: LayoutMut,
+    ensures made { Makes (setting_of (layout_facts L.Layout) L.Writable.ANY L.clone_wants S.DROPS
+        S.boundary
+        (type_size S.Item.row) S.Zero.zero S.Calls.calls) next (command.Raw (B.list given))
+        passes.old.of_blocks.items (seen_reply S.items_in S.items_in_box B.list result.0)
+        result.1 passes.new.of_blocks.items }
+    ensures room { is_some result.1 ≡ true → has_room ≡ true }
+{
+    if !S::Calls::any_list() {
+        return (Reply::Kind, None);
+    }
+    if !L::ANY {
+        return (Reply::Kind, None);
+    }
+    if !has_room {
+        return (Reply::Alloc, None);
+    }
+    if passes.reserve_for(true).is_err() {
+        return (Reply::Alloc, None);
+    }
+    let Ok(shared) = Arc::new(alloc, given) else {
+        return (Reply::Alloc, None);
+    };
+    match raw_reader(alloc, shared, passes) {
         Ok(slot) => (Reply::New(next), Some(slot)),
         Err(_) => (Reply::Alloc, None),
     }
@@ -400,14 +639,17 @@ where
         Cmd::Slice(items) => over_copy(alloc, items, next, has_room, passes),
         Cmd::Vec(items) => over_vec(alloc, items, next, has_room, passes),
         Cmd::Static(items) => over_static(alloc, items, next, has_room, passes),
+        Cmd::Raw(given) => over_raw(alloc, given, next, has_room, passes),
+        Cmd::Buf { buffer, metadata } => {
+            over_buffer(alloc, buffer, metadata, next, has_room, passes)
+        }
+        Cmd::MBuf { buffer, metadata } => {
+            over_written_buffer(alloc, buffer, metadata, next, has_room, passes)
+        }
         Cmd::New => idle(alloc, next, has_room, passes),
         Cmd::Cap { places } => with_places(alloc, places, next, has_room, passes),
         Cmd::Zero { count } => over_zeros(alloc, count, next, has_room, passes),
         Cmd::MSlice(items) => over_written_copy(alloc, items, next, has_room, passes),
-        // These are answered so far as where the layout holds no such block.
-        Cmd::Raw(_) => (Reply::Kind, None),
-        Cmd::Buf { .. } => (Reply::Kind, None),
-        Cmd::MBuf { .. } => (Reply::Kind, None),
         // These are on a window.
         Cmd::Clone { .. } => (Reply::Kind, None),
         Cmd::Sub { .. } => (Reply::Kind, None),

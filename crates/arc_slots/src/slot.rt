@@ -170,7 +170,8 @@ where
     ghost use Rattle.std.specs.Prelude.{◌≡◌, ◌<◌, ◌≤◌, ◌↔◌, length, Bool, false, None, Some};
     ghost use Rattle.std.specs.Prelude.{IfOk, IfErr, IsOk, take, drop, true, is_some, MatchOption};
     ghost use Rattle.arc_buffer.specs.Slice.{IsRange, IsEdge, sub, range_answer, edge_answer};
-    ghost use Rattle.arc_block.specs.Place.{part_place};
+    ghost use Rattle.arc_block.specs.Place.{metadata_at, part_place};
+    ghost use Rattle.std.specs.Prelude.{IfSome};
     ghost use Rattle.arc_block.specs.Table.{reader};
     ghost use Rattle.arc_block.specs.Window.{window_of};
     ghost use Rattle.arc_block.specs.Writers.{after_advance, as_sole, capacity_of};
@@ -183,7 +184,6 @@ where
     ghost use Rattle.arc_block.specs.Moves.{IsRefused, layout_move};
     ghost use Rattle.arc_slots.specs.Splits.{IsSplit};
     ghost use Rattle.arc_commands.specs.Blocks.{is_sole};
-    ghost use Rattle.arc_commands.specs.Step.{is_buffer_at};
     ghost use Rattle.arc_slots.specs.Slots.{row_of, stand_of};
     ghost use Rattle.arc_slots.specs.Writing.{Fills, FreezesBy, is_fresh, is_new};
     ghost use Rattle.arc_block.specs.Writers.{Reclaims};
@@ -235,17 +235,6 @@ where
         }
     }
 
-    /// Whether the window, which is one that is written, stands on a caller's buffer.
-    pub fn is_on_buffer(&self) -> bool
-        requires { is_sole self.now.role ≡ true }
-        ensures { result ≡ is_buffer_at (row_of self.now).place }
-    {
-        let Held::Write(window) = &self.window else {
-            unreachable!()
-        };
-        window.is_on_buffer()
-    }
-
     /// A window is read, or it is its block's only owner's, who writes. Does nothing: its contract
     /// is the law.
     pub fn known_role(&self)
@@ -265,6 +254,17 @@ where
         match &self.window {
             Held::Read(_) => None,
             Held::Write(window) => Some(window.capacity()),
+        }
+    }
+
+    /// The metadata of the window's block, if that was made with some.
+    pub fn metadata(&self) -> Option<&M>
+        ensures some { IfSome result (λ m. metadata_at self.now.window.place ≡ Some m.now) }
+        ensures none { result ≡ None → metadata_at self.now.window.place ≡ None }
+    {
+        match &self.window {
+            Held::Read(window) => window.metadata(),
+            Held::Write(window) => window.metadata(),
         }
     }
 

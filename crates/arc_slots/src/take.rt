@@ -1,27 +1,137 @@
 //! What a window stands on, taken out of a table.
+ghost use Rattle.std.specs.Prelude.{◌≡◌, true, IfOk, IfErr};
 ghost use Rattle.std.specs.Mem.{type_size};
+ghost use Rattle.arc_owners.specs.count.Calls.{Leaves};
 ghost use Rattle.arc_block.specs.LayoutFacts.{layout_facts};
+ghost use Rattle.arc_block.specs.Place.{at_owner};
+ghost use Rattle.arc_block.specs.Steps.{IsPassAt, RefusesTaking, TakesAt};
+ghost use Rattle.arc_block.specs.Table.{reader};
+ghost use Rattle.arc_commands.specs.Seen.{seen_reply};
+ghost use Rattle.arc_slots.specs.Taking.{CanHave, is_writers, take_reply};
 
 use crate::kinds::{Commands, TableReply, box_of, items_of};
 use crate::passes::Passes;
 use crate::slot::{Held, Slot};
 use arc_block::layout::{Layout, LayoutMut};
+use arc_block::parts::{Parts, SoleParts};
 use arc_block::static_slice::StaticSlice;
 use arc_buffer::buffer::BufferMut;
 use arc_buffer::kinds::Slice;
 use arc_commands::command::Reply;
+use arc_owners::mark::Whole;
+use arc_owners::owners::Pass;
 use arc_read::slice::ArcSlice;
+use arc_write::slice_mut::ArcSliceMut;
 use std::alloc::Allocator;
 
-/// What of a window is taken out.
+/// What of a window's block is taken out.
 #[derive(Clone, Copy)]
 pub enum Taking {
     /// Its vector.
     Vector,
     /// Its vector, as a box.
     Boxed,
-    /// A slice that is there for good.
-    Static,
+    /// A caller's buffer.
+    Buffer,
+    /// The `Arc` of one.
+    Raw,
+}
+
+impl Taking {
+    /// Whether it is for windows that are written too.
+    fn for_writers(self) -> bool
+        ensures { result ≡ is_writers self }
+    {
+        match self {
+            Taking::Vector | Taking::Buffer => true,
+            Taking::Boxed | Taking::Raw => false,
+        }
+    }
+}
+
+/// What parts that are read stand on, taken out, as a reply.
+///
+/// # Errors
+///
+/// The parts.
+///
+/// # History
+///
+/// Taken, Alone and Down. Refused, Alone with no where only the count could decide, and else
+/// nothing.
+fn try_into_reply<S: Commands<A>, B: BufferMut<S::Item> + Drop, M: Drop, A: Allocator + Copy>(
+    parts: Parts<S, B, M, A, Whole>,
+    what: Taking,
+    pass: &mut Pass<Whole>,
+) -> Result<TableReply<S, B, M, A>, Parts<S, B, M, A, Whole>>
+    requires role { parts.role ≡ reader }
+    requires legal { ∥ S.is_legal parts.items ∥₁ }
+    requires pass { IsPassAt parts.place pass.old }
+    ensures reply { IfOk result (λ r. seen_reply S.items_in S.items_in_box B.list r
+        ≡ take_reply what parts.items) }
+    ensures taken { IfOk result (λ _. CanHave S.DROPS what parts.items parts.place) }
+    ensures entries { IfOk result (λ _. TakesAt parts.place pass.old pass.new) }
+    ensures back { IfErr result (λ back. back ≡ parts) }
+    ensures refused { IfErr result (λ _. RefusesTaking (CanHave S.DROPS what parts.items
+        parts.place) parts.place pass.old pass.new) }
+{
+    match what {
+        Taking::Vector => match parts.try_into_vec_as(pass) {
+            Ok(items) => Ok(Reply::Vec(items_of::<S, A>(items))),
+            Err(parts) => Err(parts),
+        },
+        Taking::Boxed => match parts.try_into_box_vec_as(pass) {
+            Ok(items) => Ok(Reply::Boxed(box_of::<S, A>(items))),
+            Err(parts) => Err(parts),
+        },
+        Taking::Buffer => match parts.try_into_buffer_as(pass) {
+            Ok(buffer) => Ok(Reply::Buffer(buffer)),
+            Err(parts) => Err(parts),
+        },
+        Taking::Raw => match parts.try_into_raw_as(pass) {
+            Ok(shared) => Ok(Reply::Raw(shared)),
+            Err(parts) => Err(parts),
+        },
+    }
+}
+
+/// What a sole writer's parts stand on, taken out, as a reply.
+///
+/// # Errors
+///
+/// The parts; the pass is then as before.
+///
+/// # History
+///
+/// Taken, Down without a step.
+fn try_sole_into_reply<S: Commands<A>, B: BufferMut<S::Item> + Drop, M: Drop, A: Allocator + Copy>(
+    parts: SoleParts<S, B, M, A, Whole>,
+    what: Taking,
+    pass: &mut Pass<Whole>,
+) -> Result<TableReply<S, B, M, A>, SoleParts<S, B, M, A, Whole>>
+    requires what { is_writers what ≡ true }
+    requires legal { ∥ S.is_legal parts.items ∥₁ }
+    requires pass { IsPassAt parts.place pass.old }
+    ensures reply { IfOk result (λ r. seen_reply S.items_in S.items_in_box B.list r
+        ≡ take_reply what parts.items) }
+    ensures taken { IfOk result (λ _. CanHave S.DROPS what parts.items parts.place) }
+    ensures entry { IfOk result (λ _. at_owner parts.place ⊥ (λ o.
+        Leaves o pass.old pass.new true)) }
+    ensures back { IfErr result (λ back. back ≡ parts) }
+    ensures refused { IfErr result (λ _. (¬ CanHave S.DROPS what parts.items parts.place)
+        × (pass.new ≡ pass.old)) }
+{
+    match what {
+        Taking::Vector => match parts.try_into_vec_as(pass) {
+            Ok(items) => Ok(Reply::Vec(items_of::<S, A>(items))),
+            Err(parts) => Err(parts),
+        },
+        Taking::Buffer => match parts.try_into_buffer_as(pass) {
+            Ok(buffer) => Ok(Reply::Buffer(buffer)),
+            Err(parts) => Err(parts),
+        },
+        Taking::Boxed | Taking::Raw => unreachable!(),
+    }
 }
 
 impl<S: Slice, L: Layout, B: BufferMut<S::Item> + Drop, M: Drop, A: Allocator + Copy> Slot<
@@ -34,15 +144,16 @@ impl<S: Slice, L: Layout, B: BufferMut<S::Item> + Drop, M: Drop, A: Allocator + 
 where
     L::Writable: LayoutMut,
 {
-    ghost use Rattle.std.specs.Prelude.{◌≡◌, true, false, Some, length, IfOk, IfErr};
-    ghost use Rattle.arc_block.specs.Table.{reader};
-    ghost use Rattle.arc_commands.specs.Step.{is_box_whole, is_on_block, is_vector_part};
-    ghost use Rattle.arc_slots.specs.Calls.{RefusesOut, TakesOut};
+    ghost use Rattle.std.specs.Prelude.{false, Some, length};
+    ghost use Rattle.arc_commands.specs.Blocks.{is_sole};
+    ghost use Rattle.arc_commands.specs.Step.{is_on_block};
+    ghost use Rattle.arc_slots.specs.Calls.{Along, RefusesOut, TakesOut};
     ghost use Rattle.arc_slots.specs.Slots.{row_of, stand_of};
     ghost use Rattle.arc_slots.specs.Stands.{HasPassFor};
+    ghost use Rattle.arc_slots.specs.Taking.{can_have};
 
-    /// The items of the window, which is read, as the vector on which it stands: where they can be
-    /// had so, and no other owner lives.
+    /// What the window stands on, which is read, taken out, as a reply: where it can be had so, and
+    /// no other owner lives.
     ///
     /// # Errors
     ///
@@ -52,17 +163,19 @@ where
     ///
     /// Taken, Alone and Down. Refused, Alone with no where only the count could decide, and else
     /// nothing.
-    fn try_into_vec(self, passes: &mut Passes<A>) -> Result<Vec<S::Item, A>, Self>
+    fn try_take(self, what: Taking, passes: &mut Passes<A>) -> Result<TableReply<S, B, M, A>, Self>
+    where
+        S: Commands<A>,
         requires reads { self.role ≡ reader }
         requires pass { HasPassFor passes.old.of_blocks.items (stand_of (Some self)) }
-        ensures items { IfOk result (λ v. v.items ≡ self.window.items) }
-        ensures legal { IfOk result (λ v. ∥ S.is_legal v.items ∥₁) }
+        ensures reply { IfOk result (λ r. seen_reply S.items_in S.items_in_box B.list r
+            ≡ take_reply what self.window.items) }
         ensures taken { IfOk result (λ _. TakesOut
-            (is_vector_part S.DROPS (row_of self).place (length self.window.items))
+            (can_have S.DROPS what (row_of self).place (length self.window.items))
             (stand_of (Some self)) passes.old.of_blocks.items passes.new.of_blocks.items) }
         ensures back { IfErr result (λ slot. slot ≡ self) }
         ensures refused { IfErr result (λ _. RefusesOut
-            (is_vector_part S.DROPS (row_of self).place (length self.window.items))
+            (can_have S.DROPS what (row_of self).place (length self.window.items))
             (stand_of (Some self)) passes.old.of_blocks.items passes.new.of_blocks.items) }
     {
         let Slot { window, block } = self;
@@ -70,10 +183,10 @@ where
             unreachable!()
         };
         let mut pass = passes.lend(block);
-        let taken = window.into_parts().try_into_vec_as(&mut pass);
+        let taken = try_into_reply(window.into_parts(), what, &mut pass);
         passes.give_back(block, pass);
         match taken {
-            Ok(items) => Ok(items),
+            Ok(reply) => Ok(reply),
             Err(parts) => Err(Slot {
                 window: Held::Read(ArcSlice::from_parts(parts)),
                 block,
@@ -81,39 +194,47 @@ where
         }
     }
 
-    /// The same as a vector that has no places beside its items', as a box has none.
+    /// The same of a window that is written, whose owner is alone.
     ///
     /// # Errors
     ///
-    /// The window itself.
+    /// The window itself; then nothing was added.
     ///
     /// # History
     ///
-    /// As `try_into_vec`.
-    fn try_into_box(self, passes: &mut Passes<A>) -> Result<Vec<S::Item, A>, Self>
-        requires reads { self.role ≡ reader }
+    /// Taken, Down without a step.
+    fn try_take_written(
+        self,
+        what: Taking,
+        passes: &mut Passes<A>,
+    ) -> Result<TableReply<S, B, M, A>, Self>
+    where
+        S: Commands<A>,
+        requires writes { is_sole self.role ≡ true }
+        requires what { is_writers what ≡ true }
         requires pass { HasPassFor passes.old.of_blocks.items (stand_of (Some self)) }
-        ensures items { IfOk result (λ v. v.items ≡ self.window.items) }
-        ensures legal { IfOk result (λ v. ∥ S.is_legal v.items ∥₁) }
-        ensures taken { IfOk result (λ _. TakesOut
-            (is_box_whole (row_of self).place (length self.window.items))
-            (stand_of (Some self)) passes.old.of_blocks.items passes.new.of_blocks.items) }
-        ensures back { IfErr result (λ slot. slot ≡ self) }
-        ensures refused { IfErr result (λ _. RefusesOut
-            (is_box_whole (row_of self).place (length self.window.items))
-            (stand_of (Some self)) passes.old.of_blocks.items passes.new.of_blocks.items) }
+        ensures reply { IfOk result (λ r. seen_reply S.items_in S.items_in_box B.list r
+            ≡ take_reply what self.window.items) }
+        ensures taken { IfOk result (λ _. can_have S.DROPS what (row_of self).place
+            (length self.window.items) ≡ true) }
+        ensures left { IfOk result (λ _. Along (stand_of (Some self)) passes.old.of_blocks.items
+            passes.new.of_blocks.items (λ o p q. Leaves o p q true)) }
+        ensures back { IfErr result (λ slot. (slot ≡ self)
+            × (passes.new.of_blocks.items ≡ passes.old.of_blocks.items)) }
+        ensures refused { IfErr result (λ _. can_have S.DROPS what (row_of self).place
+            (length self.window.items) ≡ false) }
     {
         let Slot { window, block } = self;
-        let Held::Read(window) = window else {
+        let Held::Write(window) = window else {
             unreachable!()
         };
         let mut pass = passes.lend(block);
-        let taken = window.into_parts().try_into_box_vec_as(&mut pass);
+        let taken = try_sole_into_reply(window.into_parts(), what, &mut pass);
         passes.give_back(block, pass);
         match taken {
-            Ok(items) => Ok(items),
+            Ok(reply) => Ok(reply),
             Err(parts) => Err(Slot {
-                window: Held::Read(ArcSlice::from_parts(parts)),
+                window: Held::Write(ArcSliceMut::from_parts(parts)),
                 block,
             }),
         }
@@ -156,55 +277,16 @@ impl<S: Commands<A>, L: Layout, B: BufferMut<S::Item> + Drop, M: Drop, A: Alloca
 where
     L::Writable: LayoutMut,
 {
-    ghost use Rattle.std.specs.Prelude.{◌≡◌, ℕ, None, Some};
+    ghost use Rattle.std.specs.Prelude.{ℕ, None, Some};
     ghost use Rattle.arc_commands.specs.Step.{setting_of};
-    ghost use Rattle.arc_commands.specs.Seen.{seen_reply};
     ghost use Rattle.arc_commands.specs.declared.command.Cmd.TheVariants as command;
     ghost use Rattle.arc_slots.specs.Answers.{Answers};
     ghost use Rattle.arc_slots.specs.Slots.{stand_of};
     ghost use Rattle.arc_slots.specs.Stands.{HasPassFor};
     ghost use Rattle.arc_slots.specs.Taking.{take_command};
 
-    /// The vector on which the window stands, which ends, if it is read.
-    fn take_vec(self, passes: &mut Passes<A>) -> (TableReply<S, B, M, A>, Option<Self>)
-        requires { HasPassFor passes.old.of_blocks.items (stand_of (Some self)) }
-        ensures { (next i : ℕ) → Answers (setting_of (layout_facts L.Layout) L.Writable.ANY
-            L.clone_wants
-            S.DROPS S.boundary (type_size S.Item.row) S.Zero.zero S.Calls.calls) next
-            (command.Take i) self passes.old.of_blocks.items
-            (seen_reply S.items_in S.items_in_box B.list result.0)
-            result.1 None passes.new.of_blocks.items }
-    {
-        if self.is_written() {
-            return (Reply::Kind, Some(self));
-        }
-        match self.try_into_vec(passes) {
-            Ok(items) => (Reply::Vec(items_of::<S, A>(items)), None),
-            Err(slot) => (Reply::Refused, Some(slot)),
-        }
-    }
-
-    /// The same as a box.
-    fn take_box(self, passes: &mut Passes<A>) -> (TableReply<S, B, M, A>, Option<Self>)
-        requires { HasPassFor passes.old.of_blocks.items (stand_of (Some self)) }
-        ensures { (next i : ℕ) → Answers (setting_of (layout_facts L.Layout) L.Writable.ANY
-            L.clone_wants
-            S.DROPS S.boundary (type_size S.Item.row) S.Zero.zero S.Calls.calls) next
-            (command.TakeBox i) self passes.old.of_blocks.items
-            (seen_reply S.items_in S.items_in_box B.list result.0)
-            result.1 None passes.new.of_blocks.items }
-    {
-        if self.is_written() {
-            return (Reply::Kind, Some(self));
-        }
-        match self.try_into_box(passes) {
-            Ok(items) => (Reply::Boxed(box_of::<S, A>(items)), None),
-            Err(slot) => (Reply::Refused, Some(slot)),
-        }
-    }
-
     /// The items of the window, which ends, if it is read and stands on no block.
-    fn take_static(self, passes: &Passes<A>) -> (TableReply<S, B, M, A>, Option<Self>)
+    pub(crate) fn take_static(self, passes: &Passes<A>) -> (TableReply<S, B, M, A>, Option<Self>)
         ensures { (next i : ℕ) → Answers (setting_of (layout_facts L.Layout) L.Writable.ANY
             L.clone_wants
             S.DROPS S.boundary (type_size S.Item.row) S.Zero.zero S.Calls.calls) next
@@ -237,10 +319,18 @@ where
             (seen_reply S.items_in S.items_in_box B.list result.0)
             result.1 None passes.new.of_blocks.items }
     {
-        match what {
-            Taking::Vector => self.take_vec(passes),
-            Taking::Boxed => self.take_box(passes),
-            Taking::Static => self.take_static(passes),
+        if !self.is_written() {
+            return match self.try_take(what, passes) {
+                Ok(reply) => (reply, None),
+                Err(slot) => (Reply::Refused, Some(slot)),
+            };
+        }
+        if !what.for_writers() {
+            return (Reply::Kind, Some(self));
+        }
+        match self.try_take_written(what, passes) {
+            Ok(reply) => (reply, None),
+            Err(slot) => (Reply::Refused, Some(slot)),
         }
     }
 }

@@ -115,8 +115,9 @@ module _ {T M : Type 0} (setting : Setting T) (slots : List (Option (SlotView T 
         ∙ many-live (stands_of slots) passes fact.0 i n o (stand-at ∙ ap Some is)))
 
     -- what the window knows of its table by the passes is what its row knows
-    around-is : around_in (length slots) passes here ≡ around_of t (row_of s)
-    around-is =
+    around-is : (places : ℕ)
+        → around_in places (length slots) passes here ≡ around_of places t (row_of s)
+    around-is places =
         let alone : (live_on passes here == 1) ≡ is_alone t (row_of s).place =
         owners-live here refl (λ n. n == 1) refl
         ∙ sym (alone-at t (row_of s).place (stand_block here) (row-block s)) in
@@ -128,19 +129,30 @@ module _ {T M : Type 0} (setting : Setting T) (slots : List (Option (SlotView T 
           full = live_on passes here == MAX_OWNERS;
           blocks = length passes;
           windows = length slots;
+          places = places;
         }) alone
         ∙ ap {B = Around} (λ b. record {
           alone = is_alone t (row_of s).place;
           full = b;
           blocks = length passes;
           windows = length slots;
+          places = places;
         }) full
         ∙ ap {B = Around} (λ n. record {
           alone = is_alone t (row_of s).place;
           full = is_full t (row_of s).place;
           blocks = length passes;
           windows = n;
+          places = places;
         }) (sym (length-map slots (option_map row_of)))
+
+    -- what is on a window brings nothing that has places
+    brought-none : (c : Command) (n : ℕ) → window_of c ≡ Some n → count_brought c ≡ 0
+    brought-none (command.Vec items) n on = absurd (none-some n on)
+    brought-none (command.Raw given) n on = absurd (none-some n on)
+    brought-none (command.Buf given metadata) n on = absurd (none-some n on)
+    brought-none (command.MBuf given metadata) n on = absurd (none-some n on)
+    brought-none other n on = refl
 
     pub answered : (c : Command) → window_of c ≡ Some i → (r : ListReply T M)
         (new made : Option (SlotView T M)) (passes' : List (Pass Whole))
@@ -163,13 +175,14 @@ module _ {T M : Type 0} (setting : Setting T) (slots : List (Option (SlotView T 
         (row-kept (stands_of slots) passes fact.0 i here stand-at passes' (stand_of new)
         (option_map (λ s. stand_of (Some s)) made) setting (row_of s) c r said.adds))
         (record {
-          places = count_brought c;
-          enough = omega arith;
-          answered = ap (answer_by setting (shortage r c) (count_brought c) t c) on
-              ∙ ap (λ x. option_map_or (λ row.
-              changed t i (answer_any setting (shortage r c) (around_of t row) c row)) x
+          places = said.places;
+          enough = omega (arith, brought-none c i on);
+          answered = ap (answer_by setting (shortage r c) said.places t c) on
+              ∙ ap (λ x. option_map_or (λ row. changed t i
+              (answer_any setting (shortage r c) (around_of said.places t row) c row)) x
               (reply.NoWindow, t)) row-there
-              ∙ ap (λ a. changed t i (answer_any setting (shortage r c) a c (row_of s))) (sym around-is)
+              ∙ ap (λ a. changed t i (answer_any setting (shortage r c) a c (row_of s)))
+              (sym (around-is said.places))
               ∙ ap (changed t i) said.change
               ∙ ap (λ rs. (r, record { rows = rs; blocks = with_block said.begins (length passes) })) rows
               ∙ ap (λ n. (r, record { rows = map (option_map row_of) slots'; blocks = n }))
@@ -202,7 +215,8 @@ module _ {T M : Type 0} (setting : Setting T) (slots : List (Option (SlotView T 
         enough = omega arith;
         answered = ap (answer_by setting no_shortage (count_brought c) t c) on
             ∙ ap (λ x. option_map_or (λ row.
-            changed t i (answer_any setting no_shortage (around_of t row) c row)) x
+            changed t i (answer_any setting no_shortage (around_of (count_brought c) t row) c
+            row)) x
             (reply.NoWindow, t)) row;
       })
       (subst (AddsBy setting t old.standing c reply.NoWindow old.standing) (sym on)

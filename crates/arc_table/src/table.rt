@@ -26,7 +26,7 @@ pub struct Table<
     S: Slice,
     L: Layout = DefaultLayout,
     B: BufferMut<<S as Slice>::Item> + Drop = Vec<<S as Slice>::Item>,
-    M: Drop = (),
+    M: Copy + Drop = (),
     A: Allocator + Copy = Global,
 >
 where
@@ -37,7 +37,7 @@ where
     alloc: A,
 }
 
-impl<S: Slice, L: Layout, B: BufferMut<S::Item> + Drop, M: Drop, A: Allocator + Copy> Model
+impl<S: Slice, L: Layout, B: BufferMut<S::Item> + Drop, M: Copy + Drop, A: Allocator + Copy> Model
     for Table<S, L, B, M, A>
 where
     L::Writable: LayoutMut,
@@ -62,13 +62,13 @@ where
         × IsIndexed t.slots.index.items t.slots.numbers.items t.slots.places.items };
 }
 
-impl<S: Commands<A>, L: Layout, B: BufferMut<S::Item> + Drop, M: Drop, A: Allocator + Copy> Table<
-    S,
-    L,
-    B,
-    M,
-    A,
->
+impl<
+    S: Commands<A>,
+    L: Layout,
+    B: BufferMut<S::Item> + Drop,
+    M: Copy + Drop,
+    A: Allocator + Copy,
+> Table<S, L, B, M, A>
 where
     L::Writable: LayoutMut,
 {

@@ -39,6 +39,10 @@ pub trait CallsOf<S: Slice> {
     fn extends() -> bool
         ensures { result ≡ calls.extends };
 
+    /// Whether each list is legal, so that a window is made of a caller's buffer.
+    fn any_list() -> bool
+        ensures { result ≡ calls.any_list };
+
     /// A vector with a copy of the items.
     ///
     /// # Errors
@@ -182,7 +186,7 @@ impl<S: CopySlice + Extendable> CallsOf<S> for AllCalls
 where
     S::Item: Copy,
 {
-    ghost calls = { record { copies = true; pushes = true; extends = true } };
+    ghost calls = { record { copies = true; pushes = true; extends = true; any_list = true } };
 
     fn copies() -> bool {
         true
@@ -193,6 +197,10 @@ where
     }
 
     fn extends() -> bool {
+        true
+    }
+
+    fn any_list() -> bool {
         true
     }
 
@@ -251,7 +259,7 @@ fn as_text(items: &[u8]) -> &str
 }
 
 impl CallsOf<Text> for TextCalls {
-    ghost calls = { record { copies = true; pushes = false; extends = false } };
+    ghost calls = { record { copies = true; pushes = false; extends = false; any_list = false } };
 
     fn copies() -> bool {
         true
@@ -262,6 +270,10 @@ impl CallsOf<Text> for TextCalls {
     }
 
     fn extends() -> bool {
+        false
+    }
+
+    fn any_list() -> bool {
         false
     }
 
@@ -314,7 +326,7 @@ impl CallsOf<Text> for TextCalls {
 }
 
 impl<S: Extendable> CallsOf<S> for OwnedCalls {
-    ghost calls = { record { copies = false; pushes = true; extends = false } };
+    ghost calls = { record { copies = false; pushes = true; extends = false; any_list = true } };
 
     fn copies() -> bool {
         false
@@ -326,6 +338,10 @@ impl<S: Extendable> CallsOf<S> for OwnedCalls {
 
     fn extends() -> bool {
         false
+    }
+
+    fn any_list() -> bool {
+        true
     }
 
     fn try_copy<A: Allocator>(

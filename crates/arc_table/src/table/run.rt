@@ -12,13 +12,13 @@ use arc_slots::kinds::{Commands, TableCmd, TableReply};
 use std::alloc::Allocator;
 use std::sync::Wait;
 
-impl<S: Commands<A>, L: Layout, B: BufferMut<S::Item> + Drop, M: Drop, A: Allocator + Copy> Table<
-    S,
-    L,
-    B,
-    M,
-    A,
->
+impl<
+    S: Commands<A>,
+    L: Layout,
+    B: BufferMut<S::Item> + Drop,
+    M: Copy + Drop,
+    A: Allocator + Copy,
+> Table<S, L, B, M, A>
 where
     L::Writable: LayoutMut,
 {

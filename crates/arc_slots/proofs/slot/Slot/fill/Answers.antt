@@ -13,7 +13,7 @@ use Rattle.arc_slots.specs.Answers.{Answers}
 use Rattle.arc_slots.specs.Slots.{row_of}
 use Rattle.arc_slots.specs.Writing.{Fills, additional_of, is_fresh, items_of, seen_writing}
 use Rattle.arc_slots.specs.Writing.{write_command}
-use Rattle.arc_slots.proofs.Answered.{buffer-kind, no-pass, unwritten-in, wrote-in}
+use Rattle.arc_slots.proofs.Answered.{no-pass, unwritten-in, wrote-in}
 use Rattle.arc_slots.proofs.Filled.{fresh-stands}
 use Rattle.arc_slots.proofs.slot.Slot.fill.Given.{Over}
 use Rattle.arc_slots.proofs.slot.Slot.fill.Goals as goal
@@ -26,16 +26,6 @@ setting g =
 abbrev first : Over → ℕ
 first g = if type_size g.row.S-Item == 1 then 8 else 4
 
-pub returns-then-is_on_buffer : goal.returns-then-is_on_buffer
-returns-then-is_on_buffer g c next i =
-    let s = c.args.self.now in
-    let passes = c.args.passes.now.of_blocks.items in
-    let what = seen_writing c.args.what in
-    let writes = sym c.is_written.ensures.answer ∙ c.if-not-is_written.false in
-    let can = sym c.may_write.ensures ∙ c.if-not-may_write.false in
-    buffer-kind (setting g) next s passes writes i what can
-    (sym c.is_on_buffer.ensures ∙ c.if-is_on_buffer.true)
-
 pub returns-then-is_err : goal.returns-then-is_err
 returns-then-is_err g c next i =
     let s = c.args.self.now in
@@ -43,7 +33,6 @@ returns-then-is_err g c next i =
     let what = seen_writing c.args.what in
     let writes = sym c.is_written.ensures.answer ∙ c.if-not-is_written.false in
     let can = sym c.may_write.ensures ∙ c.if-not-may_write.false in
-    let memory = sym c.is_on_buffer.ensures ∙ c.if-is_on_buffer.false in
     let begins =
     an_error c.reserve_for.result (sym c.is_err.ensures.value ∙ c.if-is_err.true)
     c.reserve_for.ensures.refused in
@@ -52,7 +41,7 @@ returns-then-is_err g c next i =
     ∙ sym c.wants_block-begins.ensures ∙ begins in
     subst (λ ps. Answers (setting g) next (write_command i what) s passes
     (reply.Reserve AllocError) (Some s) None ps) (sym c.reserve_for.ensures.items)
-    (no-pass (setting g) next s passes writes i what can memory
+    (no-pass (setting g) next s passes writes i what can
     (room_of (setting g) (row_of s) (additional_of what)) refl fresh)
 
 pub returns-in-Err : goal.returns-in-Err
@@ -66,10 +55,9 @@ returns-in-Err g c next i =
     let room = room_of (setting g) (row_of s) (additional_of what) in
     let writes = sym c.is_written.ensures.answer ∙ c.if-not-is_written.false in
     let can = sym c.may_write.ensures ∙ c.if-not-may_write.false in
-    let memory = sym c.is_on_buffer.ensures ∙ c.if-is_on_buffer.false in
     subst (λ ps. Answers (setting g) next (write_command i what) s ps
     (reply.Reserve e) (Some new) None after) c.reserve_for.ensures.items
-    (unwritten-in (setting g) next s mid writes i what can memory room refl e new after
+    (unwritten-in (setting g) next s mid writes i what can room refl e new after
     (subst (λ (r : Result (Unit {0}) TryReserveError). Fills (setting g).drops room (items_of what) s
     new mid after r) c.in-Err.is c.write.ensures))
 
@@ -84,10 +72,9 @@ returns g c next i =
     let room = room_of (setting g) (row_of s) k in
     let writes = sym c.is_written.ensures.answer ∙ c.if-not-is_written.false in
     let can = sym c.may_write.ensures ∙ c.if-not-may_write.false in
-    let memory = sym c.is_on_buffer.ensures ∙ c.if-is_on_buffer.false in
     subst (λ ps. Answers (setting g) next (write_command i what) s ps reply.Ok (Some new) None after)
     c.reserve_for.ensures.items
-    (wrote-in (setting g) next s mid writes i what can memory room refl
+    (wrote-in (setting g) next s mid writes i what can room refl
     (fresh-stands g.S.Slice.DROPS (first g) (type_size g.row.S-Item) s k) new after
     (subst (λ (r : Result (Unit {0}) TryReserveError). Fills (setting g).drops room (items_of what) s
     new mid after r) c.in_default.is c.write.ensures))

@@ -8,7 +8,7 @@ use Rattle.arc_commands.specs.declared.command.Cmd.TheVariants as command
 use Rattle.arc_commands.specs.declared.command.Reply.TheVariants as reply
 use Rattle.arc_slots.specs.Answers.{Answers}
 use Rattle.arc_slots.specs.Slots.{row_of}
-use Rattle.arc_slots.proofs.Answered.{froze, refused-new, unfrozen}
+use Rattle.arc_slots.proofs.Turned.{froze, refused-new, unfrozen}
 use Rattle.arc_slots.proofs.slot.Slot.freeze.Given.{Over}
 use Rattle.arc_slots.proofs.slot.Slot.freeze.Goals as goal
 

@@ -1,0 +1,171 @@
+-- What a slot's writer is answered that makes room without memory, or reads from now on.
+use Rattle.std.proofs.Common.{◌≡◌, ℕ, true, false, List}
+use Rattle.std.proofs.Common.{length, Option, Some, None, Ok, refl, sym, ap}
+use Rattle.std.proofs.Common.{◌∙◌, subst}
+use Rattle.std.proofs.lemmas.Bool.{false≢true}
+use Rattle.arc_owners.specs.declared.mark.Whole.{Whole}
+use Rattle.arc_owners.specs.declared.count.tokens.Pass.{Pass}
+use Rattle.arc_owners.specs.count.Calls.{Owner}
+use Rattle.arc_block.specs.declared.parts.room.Room.{Room}
+use Rattle.arc_block.specs.declared.parts.room.Room.TheVariants as from
+use Rattle.arc_block.specs.Layouts.{LayoutFacts}
+use Rattle.arc_block.specs.Moves.{IsRefused, layout_move}
+use Rattle.arc_block.specs.declared.parts.moves.Move.{Move}
+use Rattle.arc_block.specs.declared.parts.moves.Move.TheVariants as to
+use Rattle.arc_block.specs.Owned.{Stand}
+use Rattle.arc_block.specs.Place.{Place, nowhere, static_data, on_block}
+use Rattle.arc_block.specs.Table.{Row}
+use Rattle.arc_block.specs.Writers.{with_room, Reclaims}
+use Rattle.arc_commands.specs.Additions.{Stays}
+use Rattle.arc_commands.specs.Step.{Setting, Shortage, no_shortage, of_blocks}
+use Rattle.arc_commands.specs.Step.{Around, answer_any}
+use Rattle.arc_commands.specs.Step.{is_now, made_row}
+use Rattle.arc_commands.specs.Step.{after_move}
+use Rattle.arc_commands.specs.Step.{reclaimed, room_of}
+use Rattle.arc_commands.specs.Blocks.{is_sole}
+use Rattle.arc_commands.specs.Commands.{ListCmd, ListReply}
+use Rattle.arc_commands.specs.declared.command.Cmd.TheVariants as command
+use Rattle.arc_commands.specs.declared.command.Reply.TheVariants as reply
+use Rattle.arc_slots.specs.Answers.{Answers, around_in}
+use Rattle.arc_slots.specs.Slots.{SlotView, row_of, stand_of}
+use Rattle.arc_slots.specs.Stands.{numbered, stand_at}
+use Rattle.arc_slots.specs.Writing.{FreezesBy, is_new}
+use Rattle.arc_slots.specs.declared.part.Part.TheVariants.{Front}
+use Rattle.arc_slots.proofs.Filled.{new-moved}
+use Rattle.arc_slots.proofs.Answered.{begins-as, changes, for-role, same, stays-there, writes-for}
+
+module _ {T M : Type 0} (setting : Setting T) (windows : ℕ) (s : SlotView T M)
+    (passes : List (Pass Whole)) where
+  abbrev here : Stand
+  here = stand_of (Some s)
+
+  abbrev row : Row T M
+  row = row_of s
+
+  abbrev around : Around
+  around = around_in 0 windows passes here
+
+  abbrev Command : Type 0
+  Command = ListCmd T M
+
+  abbrev Said : Command → ListReply T M → Option (SlotView T M)
+      → Option (SlotView T M) → List (Pass Whole) → Type 0
+  Said c r new made passes' = Answers setting windows c s passes r new made passes'
+
+  module _ (writes : is_sole s.role ≡ true) (i : ℕ) where
+    -- ---- room without memory
+
+    module _ (k : ℕ) (new : SlotView T M) (stays : stand_of (Some new) ≡ here) where
+      abbrev rec : Command
+      rec = command.Rec i k
+
+      room-is : (room : Room) → room ≡ room_of setting row k
+          → answer_any setting no_shortage around rec row ≡ reclaimed row room
+      room-is room is =
+          for-role setting windows s passes no_shortage rec (writes-for setting windows s passes writes rec true (λ n. refl))
+          ∙ ap (reclaimed row) (sym is)
+
+      has-room : (room : Room) → row_of new ≡ with_room room row
+          → answer_any setting no_shortage around rec row ≡ is_now reply.Yes (with_room room row)
+          → Said rec reply.Yes (Some new) None passes
+      has-room room row-is is =
+          changes setting windows s passes rec reply.Yes new (is ∙ ap (is_now reply.Yes) (sym row-is)) (stays, refl, refl)
+
+      lacks : new ≡ s → answer_any setting no_shortage around rec row ≡ is_now reply.No row
+          → Said rec reply.No (Some new) None passes
+      lacks alike is =
+          subst (λ x. Said rec reply.No (Some x) None passes) (sym alike)
+          (same setting windows s passes rec reply.No is (refl, refl, refl))
+
+      pub has : (room : Room) → room ≡ room_of setting row k
+          → Reclaims room row (row_of new) true → Said rec reply.Yes (Some new) None passes
+      has (from.Fresh places) is did = absurd (false≢true (sym did.0))
+      has (from.Growth places) is did = absurd (false≢true (sym did.0))
+      has (from.Own additional) is did = absurd (false≢true (sym did.0))
+      has (from.Refused e) is did = absurd (false≢true (sym did.0))
+      has from.Spare is did = has-room from.Spare did.1 (room-is from.Spare is)
+      has from.Behind is did = has-room from.Behind did.1 (room-is from.Behind is)
+      has from.Front is did = has-room from.Front did.1 (room-is from.Front is)
+
+      pub has-none : (room : Room) → room ≡ room_of setting row k
+          → Reclaims room row (row_of new) false → new ≡ s
+          → Said rec reply.No (Some new) None passes
+      has-none (from.Fresh places) is did alike = lacks alike (room-is (from.Fresh places) is)
+      has-none (from.Growth places) is did alike = lacks alike (room-is (from.Growth places) is)
+      has-none (from.Own additional) is did alike = lacks alike (room-is (from.Own additional) is)
+      has-none (from.Refused e) is did alike = lacks alike (room-is (from.Refused e) is)
+      has-none from.Spare is did alike = absurd (false≢true did.0)
+      has-none from.Behind is did alike = absurd (false≢true did.0)
+      has-none from.Front is did alike = absurd (false≢true did.0)
+
+    -- ---- a writer that reads from now on
+
+    abbrev freeze : Command
+    freeze = command.Freeze i
+
+    abbrev goes_to : Move
+    goes_to = layout_move setting.layout row.place
+
+    frozen-is : (short : Shortage) (move : Move) → goes_to ≡ move
+        → answer_any setting short around freeze row ≡ after_move setting short around row move
+    frozen-is short move is =
+        for-role setting windows s passes short freeze (writes-for setting windows s passes writes freeze true (λ n. refl))
+        ∙ ap (after_move setting short around row) is
+
+    -- a first block is made where no owner stands
+    new-none : (layout : LayoutFacts) (b : Option ℕ) (place : Place (Option Owner) M)
+        → is_new (layout_move layout (numbered b place)) ≡ true → stand_at b place ≡ None
+    new-none layout b nowhere new = refl
+    new-none layout b static_data new = refl
+    new-none layout b (on_block None offset info) new = refl
+    new-none layout None (on_block (Some o) offset info) new = refl
+    new-none layout (Some n) (on_block (Some o) offset info) new =
+        absurd (false≢true (sym (new-moved layout info.sort) ∙ new))
+
+    -- it was frozen
+    pub froze : (new : SlotView T M) (passes' : List (Pass Whole))
+        → FreezesBy (layout_move setting.layout row.place) setting.drops s new
+        passes passes'
+        → Said freeze reply.Ok (Some new) None passes'
+    froze new passes' did = by goes_to refl did
+      where
+        by : (move : Move) → goes_to ≡ move → FreezesBy move setting.drops s new passes passes'
+            → Said freeze reply.Ok (Some new) None passes'
+        by to.Stays is did =
+            subst (λ ps. Said freeze reply.Ok (Some new) None ps) (sym did.2)
+            (changes setting windows s passes freeze reply.Ok new
+            (frozen-is no_shortage to.Stays is ∙ ap (is_now reply.Ok) (sym did.0))
+            (stays-there setting windows s passes here (stand_of (Some new)) did.1, refl))
+        by to.HandedBack is did = absurd did
+        by to.NewCount is did = absurd did
+        by to.LeavesCount is did = absurd did
+        by to.NewEmpty is did =
+            begins-as setting windows s passes writes i freeze new (made_row false setting.drops (length passes) row.items) passes'
+            (frozen-is no_shortage to.NewEmpty is) (λ there adds. adds)
+            (new-none setting.layout s.block s.window.place (ap is_new is))
+            did.1 did.0
+
+    -- it was refused
+    pub unfrozen : IsRefused (layout_move setting.layout row.place)
+        → Said freeze reply.Refused (Some s) None passes
+    unfrozen refused = by goes_to refl refused
+      where
+        by : (move : Move) → goes_to ≡ move → IsRefused move
+            → Said freeze reply.Refused (Some s) None passes
+        by to.Stays is none = absurd none
+        by to.HandedBack is none =
+            same setting windows s passes freeze reply.Refused (frozen-is of_blocks to.HandedBack is) (refl, refl, refl)
+        by to.NewCount is none =
+            same setting windows s passes freeze reply.Refused (frozen-is of_blocks to.NewCount is) (refl, refl, refl)
+        by to.LeavesCount is none =
+            same setting windows s passes freeze reply.Refused (frozen-is of_blocks to.LeavesCount is) (refl, refl, refl)
+        by to.NewEmpty is none =
+            same setting windows s passes freeze reply.Refused (frozen-is of_blocks to.NewEmpty is) (refl, refl, refl)
+
+-- where a first block is wanted, memory for it may be refused
+pub refused-new : (move : Move) → is_new move ≡ true → IsRefused move
+refused-new to.Stays new = absurd (false≢true new)
+refused-new to.HandedBack new = absurd (false≢true new)
+refused-new to.NewCount new = absurd (false≢true new)
+refused-new to.LeavesCount new = absurd (false≢true new)
+refused-new to.NewEmpty new = tt
