@@ -81,7 +81,7 @@ fn encode(
     ensures first { IfOk result (λ frames. IsFrame frames.0.items first.now []) }
     ensures second { IfOk result (λ frames. IsFrame frames.1.items second.now []) }
 {
-    let mut buffer = ArcBytesMut::new(alloc);
+    let mut buffer: ArcBytesMut = ArcBytesMut::new(alloc);
     put_frame(&mut buffer, first)?;
     let end = buffer.len();
     put_frame(&mut buffer, second)?;

@@ -13,6 +13,8 @@ pub use slice::{ArcByteText, ArcBytes, ArcStr};
 mod borrow;
 pub mod buffer;
 #[cfg(test)]
+mod editor;
+#[cfg(test)]
 mod encoder;
 pub mod error;
 #[cfg(test)]

@@ -1,0 +1,153 @@
+//! An example: an editor's text. It is written into a string's memory, frozen to be shown, read in
+//! parts by others where it lies, written again when their parts have gone, and had back as the
+//! string. To show it and to hand out parts copies nothing. Its contracts are found by search.
+ghost use Rattle.std.specs.Prelude.{◌≡◌, ◌++◌, ◌↔◌, take, slice_range, false, IfOk, IfErr, OnOk};
+ghost use Rattle.std.specs.Prelude.{OnErr, Err};
+ghost use Rattle.std.specs.String.{string_bytes};
+ghost use Rattle.arc_block.specs.Window.{IsVecPart};
+ghost use Rattle.arc_buffer.specs.Slice.{edge_answer, range_answer};
+ghost use Rattle.arc_buffer.specs.Text.{is_between_characters};
+ghost use Rattle.arc_owners.specs.declared.error.RangeError.{RangeError};
+ghost use Rattle.arc_slice.specs.declared.editor.PartError.TheVariants.{Range};
+
+use crate::error::{OwnerError, RangeError, TryReserveError};
+use crate::layout::{DefaultLayout, DefaultLayoutMut};
+use crate::{ArcStr, ArcStrMut, IntoMut};
+use std::alloc::Global;
+use std::sync::Wait;
+use std::test::Fail;
+
+/// A text that is written.
+#[derive(Drop)]
+struct Editor {
+    text: ArcStrMut,
+}
+
+impl Editor {
+    /// A string is to be written on, in its own memory. It comes back where memory is refused.
+    fn open(alloc: Global, text: String) -> Result<Self, String>
+        ensures opened { IfOk result (λ editor. editor.text.items ≡ string_bytes text) }
+        ensures refused { IfErr result (λ back. string_bytes back ≡ string_bytes text) }
+    {
+        match ArcStrMut::try_from_vec(alloc, text) {
+            Ok(text) => Ok(Editor { text }),
+            Err(text) => Err(text),
+        }
+    }
+
+    /// More text behind the end. Where there is no room for it, all is as before.
+    fn write(&mut self, more: &str) -> Result<(), TryReserveError>
+        ensures written { OnOk result (self.new.text.items ≡ self.old.text.items ++ more.now) }
+        ensures refused { OnErr result (self.new.text ≡ self.old.text) }
+    {
+        self.text.try_extend_from_str(more)
+    }
+
+    /// Takes away what stands behind `end`, where that is between two characters.
+    fn cut_back(&mut self, end: usize) -> Result<(), RangeError>
+        ensures answer { result ≡ edge_answer is_between_characters self.old.text.items end }
+        ensures cut { OnOk result (self.new.text.items ≡ take end self.old.text.items) }
+        ensures refused { OnErr result (self.new.text ≡ self.old.text) }
+    {
+        if let Err(e) = self.text.check_at(end) {
+            return Err(e);
+        }
+        self.text.truncate(end);
+        Ok(())
+    }
+
+    /// The text, to be shown from now on.
+    fn show(self) -> Page
+        ensures { result.text.items ≡ self.text.items }
+    {
+        let Ok(text) = self.text.try_freeze::<DefaultLayout>() else {
+            unreachable!()
+        };
+        Page { text }
+    }
+
+    /// The text as a string, where it stands on one; else the editor comes back.
+    fn close(self) -> Result<String, Self>
+        ensures closed { IfOk result (λ text. string_bytes text ≡ self.text.items) }
+        ensures refused { IfErr result (λ back. (back.text ≡ self.text)
+            × (¬ IsVecPart false self.text.items self.text.place)) }
+    {
+        match self.text.try_into_vec() {
+            Ok(text) => Ok(text),
+            Err(text) => Err(Editor { text }),
+        }
+    }
+}
+
+/// Why a part isn't handed out.
+#[derive(Debug, Drop, PartialEq, Eq)]
+enum PartError {
+    /// It is no range of the text.
+    Range(RangeError),
+    /// There is no owner more.
+    Owner(OwnerError),
+}
+
+/// A text that is shown, of which others may have parts.
+#[derive(Drop)]
+struct Page {
+    text: ArcStr,
+}
+
+impl Page {
+    /// The text from `start` to `end`, for a reader, as a window on the same block.
+    fn part(&self, rt: &impl Wait, start: usize, end: usize) -> Result<ArcStr, PartError>
+        ensures part { IfOk result (λ part.
+            part.items ≡ slice_range self.now.text.items start end) }
+        ensures range { (e : RangeError) → (result ≡ Err (Range e))
+            ↔ (range_answer is_between_characters self.now.text.items start end ≡ Err e) }
+    {
+        if let Err(e) = self.text.check_range(start, end) {
+            return Err(PartError::Range(e));
+        }
+        match self.text.try_subslice(rt, start, end) {
+            Ok(part) => Ok(part),
+            Err(e) => Err(PartError::Owner(e)),
+        }
+    }
+
+    /// The text, to be written again, where no part of it lives any more; else the page comes back.
+    fn edit(self) -> Result<Editor, Self>
+        ensures edited { IfOk result (λ editor. editor.text.items ≡ self.text.items) }
+        ensures refused { IfErr result (λ page. page.text ≡ self.text) }
+    {
+        match self.text.try_into_mut::<DefaultLayoutMut>() {
+            Ok(text) => Ok(Editor { text }),
+            Err(text) => Err(Page { text }),
+        }
+    }
+}
+
+#[test]
+fn text_edited(rt: HostRuntime) -> Result<(), Fail> {
+    let start = String::from_str(rt.alloc(), "Grüß")?;
+    let Ok(mut editor) = Editor::open(rt.alloc(), start) else {
+        return Err("no memory".into());
+    };
+    editor.write(" dich")?;
+    assert!(rt; editor.cut_back(3) == Err(RangeError::NotBoundary));
+    let page = editor.show();
+    let Ok(part) = page.part(&rt, 0, 6) else {
+        return Err("no part".into());
+    };
+    let Err(page) = page.edit() else {
+        return Err("though a part lives".into());
+    };
+    assert!(rt; part.as_str() == "Grüß");
+    drop(part);
+    let Ok(mut editor) = page.edit() else {
+        return Err("though no part lives".into());
+    };
+    assert!(rt; editor.cut_back(6) == Ok(()));
+    editor.write(" Gott")?;
+    let Ok(text) = editor.close() else {
+        return Err("no string".into());
+    };
+    assert!(rt; text.as_str() == "Grüß Gott");
+    Ok(())
+}
