@@ -1,4 +1,4 @@
--- What a slot's writer is answered that makes room without memory, or reads from now on.
+-- What a slot's writer is answered that reads from now on.
 use Rattle.std.proofs.Common.{◌≡◌, ℕ, true, false, List}
 use Rattle.std.proofs.Common.{length, Option, Some, None, Ok, refl, sym, ap}
 use Rattle.std.proofs.Common.{◌∙◌, subst}
@@ -6,8 +6,6 @@ use Rattle.std.proofs.lemmas.Bool.{false≢true}
 use Rattle.arc_owners.specs.declared.mark.Whole.{Whole}
 use Rattle.arc_owners.specs.declared.count.tokens.Pass.{Pass}
 use Rattle.arc_owners.specs.count.Calls.{Owner}
-use Rattle.arc_block.specs.declared.parts.room.Room.{Room}
-use Rattle.arc_block.specs.declared.parts.room.Room.TheVariants as from
 use Rattle.arc_block.specs.Layouts.{LayoutFacts}
 use Rattle.arc_block.specs.Moves.{IsRefused, layout_move}
 use Rattle.arc_block.specs.declared.parts.moves.Move.{Move}
@@ -15,13 +13,11 @@ use Rattle.arc_block.specs.declared.parts.moves.Move.TheVariants as to
 use Rattle.arc_block.specs.Owned.{Stand}
 use Rattle.arc_block.specs.Place.{Place, nowhere, static_data, on_block}
 use Rattle.arc_block.specs.Table.{Row}
-use Rattle.arc_block.specs.Writers.{with_room, Reclaims}
 use Rattle.arc_commands.specs.Additions.{Stays}
 use Rattle.arc_commands.specs.Step.{Setting, Shortage, no_shortage, of_blocks}
 use Rattle.arc_commands.specs.Step.{Around, answer_any}
 use Rattle.arc_commands.specs.Step.{is_now, made_row}
 use Rattle.arc_commands.specs.Step.{after_move}
-use Rattle.arc_commands.specs.Step.{reclaimed, room_of}
 use Rattle.arc_commands.specs.Blocks.{is_sole}
 use Rattle.arc_commands.specs.Commands.{ListCmd, ListReply}
 use Rattle.arc_commands.specs.declared.command.Cmd.TheVariants as command
@@ -30,7 +26,6 @@ use Rattle.arc_slots.specs.Answers.{Answers, around_in}
 use Rattle.arc_slots.specs.Slots.{SlotView, row_of, stand_of}
 use Rattle.arc_slots.specs.Stands.{numbered, stand_at}
 use Rattle.arc_slots.specs.Writing.{FreezesBy, is_new}
-use Rattle.arc_slots.specs.declared.part.Part.TheVariants.{Front}
 use Rattle.arc_slots.proofs.Filled.{new-moved}
 use Rattle.arc_slots.proofs.Answered.{begins-as, changes, for-role, same, stays-there, writes-for}
 
@@ -53,53 +48,6 @@ module _ {T M : Type 0} (setting : Setting T) (windows : ℕ) (s : SlotView T M)
   Said c r new made passes' = Answers setting windows c s passes r new made passes'
 
   module _ (writes : is_sole s.role ≡ true) (i : ℕ) where
-    -- ---- room without memory
-
-    module _ (k : ℕ) (new : SlotView T M) (stays : stand_of (Some new) ≡ here) where
-      abbrev rec : Command
-      rec = command.Rec i k
-
-      room-is : (room : Room) → room ≡ room_of setting row k
-          → answer_any setting no_shortage around rec row ≡ reclaimed row room
-      room-is room is =
-          for-role setting windows s passes no_shortage rec (writes-for setting windows s passes writes rec true (λ n. refl))
-          ∙ ap (reclaimed row) (sym is)
-
-      has-room : (room : Room) → row_of new ≡ with_room room row
-          → answer_any setting no_shortage around rec row ≡ is_now reply.Yes (with_room room row)
-          → Said rec reply.Yes (Some new) None passes
-      has-room room row-is is =
-          changes setting windows s passes rec reply.Yes new (is ∙ ap (is_now reply.Yes) (sym row-is)) (stays, refl, refl)
-
-      lacks : new ≡ s → answer_any setting no_shortage around rec row ≡ is_now reply.No row
-          → Said rec reply.No (Some new) None passes
-      lacks alike is =
-          subst (λ x. Said rec reply.No (Some x) None passes) (sym alike)
-          (same setting windows s passes rec reply.No is (refl, refl, refl))
-
-      pub has : (room : Room) → room ≡ room_of setting row k
-          → Reclaims room row (row_of new) true → Said rec reply.Yes (Some new) None passes
-      has (from.Fresh places) is did = absurd (false≢true (sym did.0))
-      has (from.Growth places) is did = absurd (false≢true (sym did.0))
-      has (from.Own additional) is did = absurd (false≢true (sym did.0))
-      has (from.Refused e) is did = absurd (false≢true (sym did.0))
-      has from.Spare is did = has-room from.Spare did.1 (room-is from.Spare is)
-      has from.Behind is did = has-room from.Behind did.1 (room-is from.Behind is)
-      has from.Front is did = has-room from.Front did.1 (room-is from.Front is)
-
-      pub has-none : (room : Room) → room ≡ room_of setting row k
-          → Reclaims room row (row_of new) false → new ≡ s
-          → Said rec reply.No (Some new) None passes
-      has-none (from.Fresh places) is did alike = lacks alike (room-is (from.Fresh places) is)
-      has-none (from.Growth places) is did alike = lacks alike (room-is (from.Growth places) is)
-      has-none (from.Own additional) is did alike = lacks alike (room-is (from.Own additional) is)
-      has-none (from.Refused e) is did alike = lacks alike (room-is (from.Refused e) is)
-      has-none from.Spare is did alike = absurd (false≢true did.0)
-      has-none from.Behind is did alike = absurd (false≢true did.0)
-      has-none from.Front is did alike = absurd (false≢true did.0)
-
-    -- ---- a writer that reads from now on
-
     abbrev freeze : Command
     freeze = command.Freeze i
 

@@ -33,7 +33,7 @@ fn bytes(rt: HostRuntime) -> Result<(), Fail> {
         told(table.step(&rt, Cmd::Vec(none))),
         told(table.step(&rt, Cmd::Take { window: 3 })),
         told(table.step(&rt, Cmd::Mut { window: 2 })),
-        told(table.step(&rt, Cmd::Take { window: 2 })),
+        told(table.step(&rt, Cmd::TakeBox { window: 2 })),
         told(table.step(&rt, Cmd::Freeze { window: 2 })),
     ];
     let boxed = told(table.step(&rt, Cmd::TakeBox { window: 2 }));
