@@ -38,6 +38,12 @@ additional_of (writing.Nothing additional) = additional
 additional_of (writing.Item item) = 1
 additional_of (writing.Items items) = length items
 
+-- the items are a legal list
+abbrev pub IsLegal : {T : Type 0} → (List T → Type 0) → Writing (List T) T → Type 0
+IsLegal legal (writing.Nothing additional) = Unit {0}
+IsLegal legal (writing.Item item) = Unit {0}
+IsLegal legal (writing.Items items) = ∥ legal items ∥₁
+
 -- whether a kind with these calls has the one that writes this
 abbrev pub can_write : {X T : Type 0} → Calls → Writing X T → Bool
 can_write calls (writing.Nothing additional) = true

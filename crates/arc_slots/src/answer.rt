@@ -33,7 +33,7 @@ where
     ghost use Rattle.arc_slots.specs.Parts.{part_command};
     ghost use Rattle.arc_slots.specs.Slots.{stand_of};
     ghost use Rattle.arc_slots.specs.Stands.{HasPassFor};
-    ghost use Rattle.arc_slots.specs.Writing.{can_write, seen_writing, write_command};
+    ghost use Rattle.arc_slots.specs.Writing.{IsLegal, can_write, seen_writing, write_command};
 
     /// Hands out a part of the window under the next number, if there is room for it.
     pub(crate) fn hand_out(
@@ -173,6 +173,7 @@ where
         passes: &mut Passes<A>,
     ) -> TableReply<S, B, M, A>
         requires item { FitsInMemory S.Item.row }
+        requires legal { IsLegal S.is_legal (seen_writing what) }
         requires pass { HasPassFor passes.old.of_blocks.items (stand_of (Some self.old)) }
         ensures { (next i : ℕ) → Answers (setting_of (layout_facts L.Layout) L.Writable.ANY
             L.clone_wants S.DROPS S.boundary

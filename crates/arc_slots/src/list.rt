@@ -9,6 +9,18 @@ ghost use Rattle.arc_slots.specs.Slots.{with_slot};
 use std::alloc::Allocator;
 use std::mem;
 
+/// Whether there is room for an item more. Takes memory only where the places don't do.
+#[inline(always)]
+fn room_for_one<X, A: Allocator>(items: &mut Vec<X, A>) -> bool
+    ensures items { items.new.items ≡ items.old.items }
+    ensures room { result ≡ true → length items.new.items < vec_capacity items.new }
+{
+    if items.len() < items.capacity() {
+        return true;
+    }
+    items.reserve(1).is_ok()
+}
+
 /// Windows under their numbers. A number keeps eight bytes, for good, which say at which place its
 /// window lies; a place says whose it is, and serves another number when that window has gone.
 pub struct Slots<X, A: Allocator> {
@@ -77,16 +89,19 @@ impl<X, A: Allocator> Slots<X, A> {
         if !wanted {
             return false;
         }
-        if self.index.reserve(1).is_err() {
+        if !room_for_one(&mut self.index) {
             return false;
         }
-        if self.numbers.reserve(1).is_err() {
+        if !room_for_one(&mut self.numbers) {
             return false;
         }
-        if self.places.reserve(1).is_err() {
+        if !room_for_one(&mut self.places) {
             return false;
         }
         let all = self.places.len().saturating_add(1);
+        if all <= self.free.capacity() {
+            return true;
+        }
         let listed = all.saturating_sub(self.free.len());
         self.free.reserve(listed).is_ok()
     }

@@ -8,7 +8,8 @@ ghost use Rattle.arc_block.specs.Place.{at_owner};
 ghost use Rattle.arc_block.specs.Steps.{IsPassAt};
 ghost use Rattle.arc_block.specs.Writers.{room_for, MakesRoom, Pushes};
 ghost use Rattle.arc_slots.specs.Slots.{held};
-ghost use Rattle.arc_slots.specs.Writing.{can_write, seen_writing, items_of, additional_of};
+ghost use Rattle.arc_slots.specs.Writing.{IsLegal, can_write, seen_writing, items_of};
+ghost use Rattle.arc_slots.specs.Writing.{additional_of};
 
 use crate::kinds::{CallsOf, Commands};
 use crate::passes::Passes;
@@ -103,6 +104,7 @@ fn write_as<
     pass: &mut Pass<Whole>,
 ) -> Result<(), TryReserveError>
     requires call { can_write S.Calls.calls (seen_writing what) ≡ true }
+    requires legal { IsLegal S.is_legal (seen_writing what) }
     requires item { FitsInMemory S.Item.row }
     requires pass { IsPassAt window.old.place pass.old }
     ensures written { OnOk result (Pushes S.DROPS true
@@ -639,6 +641,7 @@ where
     where
         S: Commands<A>,
         requires call { can_write S.Calls.calls (seen_writing what) ≡ true }
+        requires legal { IsLegal S.is_legal (seen_writing what) }
         requires item { FitsInMemory S.Item.row }
         requires writes { is_sole self.old.role ≡ true }
         requires room { is_fresh (room_for S.DROPS (type_size S.Item.row) (row_of self.old)

@@ -64,7 +64,7 @@ fn text(rt: HostRuntime) -> Result<(), Fail> {
         ]
     );
     assert!(rt; within == Said::Range(RangeError::NotBoundary));
-    assert!(rt; [pushed, extended, many] == [Said::Kind, Said::Kind, Said::Number(3)]);
+    assert!(rt; [pushed, extended, many] == [Said::Kind, Said::Ok, Said::Number(4)]);
     assert!(rt; has_items(&shown, "h\u{e9}".as_bytes()));
     let is_taken = match &taken {
         Reply::Static(items) => items.as_slice() == b"xyz".as_slice(),

@@ -142,8 +142,8 @@ pub trait CallsOf<S: Slice> {
             window.old window.new pass.old pass.new (Err e))) }
         ensures none { IfNone result ((window.new ≡ window.old) × (pass.new ≡ pass.old)) };
 
-    /// A copy of the items more, as `ArcSliceMut::try_extend_from_slice_as` puts it behind the
-    /// others.
+    /// A copy of the items more, which are legal, as `ArcSliceMut::try_extend_from_slice_as` or
+    /// `try_extend_from_str_as` puts it behind the others.
     ///
     /// # Errors
     ///
@@ -161,6 +161,7 @@ pub trait CallsOf<S: Slice> {
         items: &[S::Item],
         pass: &mut Pass<Whole>,
     ) -> Option<Result<(), TryReserveError>>
+        requires legal { ∥ S.is_legal items.now ∥₁ }
         requires item { FitsInMemory S.Item.row }
         requires pass { IsPassAt window.old.place pass.old }
         ensures call { is_some result ≡ calls.extends }
@@ -176,7 +177,7 @@ pub trait CallsOf<S: Slice> {
 /// All of them: the calls of `Plain` and `ByteText`.
 pub struct AllCalls;
 
-/// Text is copied whole, and no byte is pushed.
+/// Text is copied whole, also behind other text, and no byte is pushed.
 pub struct TextCalls;
 
 /// Items that are moved are pushed, and never copied.
@@ -259,7 +260,7 @@ fn as_text(items: &[u8]) -> &str
 }
 
 impl CallsOf<Text> for TextCalls {
-    ghost calls = { record { copies = true; pushes = false; extends = false; any_list = false } };
+    ghost calls = { record { copies = true; pushes = false; extends = true; any_list = false } };
 
     fn copies() -> bool {
         true
@@ -270,7 +271,7 @@ impl CallsOf<Text> for TextCalls {
     }
 
     fn extends() -> bool {
-        false
+        true
     }
 
     fn any_list() -> bool {
@@ -318,10 +319,8 @@ impl CallsOf<Text> for TextCalls {
         items: &[u8],
         pass: &mut Pass<Whole>,
     ) -> Option<Result<(), TryReserveError>> {
-        let _ = window;
-        let _ = items;
-        let _ = pass;
-        None
+        let text = as_text(items);
+        Some(window.try_extend_from_str_as(text, pass))
     }
 }
 
