@@ -11,6 +11,7 @@
 ghost use Rattle.std.specs.Prelude.{◌≡◌, ◌==◌, ◌&&◌, ℕ, Bool, true, false, refl};
 ghost use Rattle.arc_block.specs.Block.{Sort};
 ghost use Rattle.arc_block.specs.Layouts.{clones_want, never_wanted, never, always, where_full};
+ghost use Rattle.arc_block.specs.Layouts.{never_by_itself};
 
 /// A layout of windows: on what they may stand, and how that is held.
 pub trait Layout {
@@ -36,6 +37,9 @@ pub trait Layout {
     /// does, and where an `Arc` is a block by itself; and nowhere else.
     ghost wants: { (sort : Sort)
         → Self.clone_wants sort ≡ clones_want (Self.lone 0 0) Self.RAW sort };
+
+    /// An `Arc` is a block by itself only where blocks may be of a caller's making.
+    ghost raw_is_any: { Self.RAW ≡ true → Self.ANY ≡ true };
 
     /// Whether windows may stand on nothing, or on static data.
     const STATIC: bool;
@@ -100,6 +104,8 @@ impl<const ANY: bool, const STATIC: bool> Layout for ArcLayout<ANY, STATIC> {
 
     ghost wants = { never_wanted };
 
+    ghost raw_is_any = { never_by_itself };
+
     const STATIC: bool = STATIC;
 
     const ANY: bool = ANY;
@@ -146,6 +152,8 @@ impl Layout for BoxedSliceLayout {
 
     ghost wants = { λ _. refl };
 
+    ghost raw_is_any = { λ _. refl };
+
     const STATIC: bool = true;
 
     const ANY: bool = true;
@@ -183,6 +191,8 @@ impl Layout for VecLayout {
     ghost clone_wants = { clones_want true false };
 
     ghost wants = { λ _. refl };
+
+    ghost raw_is_any = { λ _. refl };
 
     const STATIC: bool = true;
 
@@ -224,6 +234,8 @@ impl Layout for RawLayout {
     ghost clone_wants = { clones_want false true };
 
     ghost wants = { λ _. refl };
+
+    ghost raw_is_any = { λ _. refl };
 
     const STATIC: bool = true;
 
