@@ -13,8 +13,14 @@ ghost use Rattle.arc_block.specs.Block.{Sort};
 ghost use Rattle.arc_block.specs.Layouts.{clones_want, never_wanted, never, always, where_full};
 ghost use Rattle.arc_block.specs.Layouts.{never_by_itself};
 
-/// A layout of windows: on what they may stand, and how that is held.
-pub trait Layout {
+mod sealed {
+    /// What no other crate can give a type.
+    pub trait Sealed {}
+}
+
+/// A layout of windows: on what they may stand, and how that is held. The layouts are those of this
+/// module.
+pub trait Layout: sealed::Sealed {
     /// The layout of the writable windows that go with these: one with `LayoutMut`.
     type Writable;
 
@@ -56,7 +62,7 @@ pub trait Layout {
 }
 
 /// Layouts of writable windows: those that are their own `Writable`.
-pub trait LayoutMut: Layout {}
+pub trait LayoutMut: Layout<Writable = Self> {}
 
 /// Layouts under which a block may be a vector, a caller's buffer, or an `Arc` of one.
 pub trait AnyBufferLayout: Layout {
@@ -88,6 +94,8 @@ impl<L: Layout, M: Layout> FromLayout<L> for M {}
 /// or a buffer of the caller's, `STATIC` whether windows may stand on nothing, or on static data.
 #[derive(Clone, Copy, Debug, PartialEq, Eq)]
 pub struct ArcLayout<const ANY: bool, const STATIC: bool>;
+
+impl<const ANY: bool, const STATIC: bool> sealed::Sealed for ArcLayout<ANY, STATIC> {}
 
 impl<const ANY: bool, const STATIC: bool> Layout for ArcLayout<ANY, STATIC> {
     type Writable = ArcLayout<ANY, STATIC>;
@@ -137,6 +145,8 @@ impl<const ANY: bool, const STATIC: bool> CloneNoAllocLayout for ArcLayout<ANY, 
 #[derive(Clone, Copy, Debug, PartialEq, Eq)]
 pub struct BoxedSliceLayout;
 
+impl sealed::Sealed for BoxedSliceLayout {}
+
 impl Layout for BoxedSliceLayout {
     type Writable = DefaultLayoutMut;
 
@@ -176,6 +186,8 @@ impl StaticLayout for BoxedSliceLayout {
 /// A vector stands alone until its window is cloned.
 #[derive(Clone, Copy, Debug, PartialEq, Eq)]
 pub struct VecLayout;
+
+impl sealed::Sealed for VecLayout {}
 
 impl Layout for VecLayout {
     type Writable = VecLayout;
@@ -219,6 +231,8 @@ impl StaticLayout for VecLayout {
 /// An `Arc` of the caller's is a block by itself.
 #[derive(Clone, Copy, Debug, PartialEq, Eq)]
 pub struct RawLayout;
+
+impl sealed::Sealed for RawLayout {}
 
 impl Layout for RawLayout {
     type Writable = DefaultLayoutMut;

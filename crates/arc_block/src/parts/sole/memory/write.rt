@@ -165,7 +165,8 @@ where
         ensures refused { IfErr result (λ e. MakesRoom S.DROPS H.whole
             (room_for S.DROPS (type_size S.Item.row) self.old (length items.now))
             self.old self.new pass.old pass.new (Err e)) }
-        ensures memory { IfOwn (room_for S.DROPS (type_size S.Item.row) self.old (length items.now)) ⊥ }
+        ensures memory { IfOwn (room_for S.DROPS (type_size S.Item.row) self.old
+            (length items.now)) ⊥ }
     {
         match self.try_reserve_as(items.len(), pass) {
             Ok(()) => {

@@ -6,4 +6,5 @@ pub returns-in-Ok-clause-own : goal.returns-in-Ok-clause-own
 returns-in-Ok-clause-own g c =
     let buffers = g.B.Buffer in let writers = g.B.BufferMut in
     asked_pushed buffers.list buffers.places writers.grows writers.refuses _ c.args.self.now
-    c.try_reserve_as.new.self c.extend_reserved.new.self c.args.items.now _ c.extend_reserved.ensures c.in-Ok.ensures.own
+    c.try_reserve_as.new.self c.extend_reserved.new.self c.args.items.now _
+    c.extend_reserved.ensures c.in-Ok.ensures.own
