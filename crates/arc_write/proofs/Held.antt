@@ -102,7 +102,8 @@ module _ {T M : Type 0} (layout : LayoutFacts) where
   -- items more, fewer, and further in
   pub more_held : (xs : List T) (old new : PartsView T M) → new ≡ with_more xs old
       → IsBlockHeld layout old.place → IsBlockHeld layout new.place
-  more_held xs old new is held = same is (full-held layout (length old.items) (length xs) old.place held)
+  more_held xs old new is held =
+      same is (full-held layout (length old.items) (length xs) old.place held)
 
   pub advanced_held : (n : ℕ) (old new : PartsView T M) → new ≡ after_advance n old
       → IsBlockHeld layout old.place → IsBlockHeld layout new.place
