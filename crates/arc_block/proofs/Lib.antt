@@ -13,4 +13,5 @@ pub mod Lent
 pub mod Rooms
 pub mod More
 pub mod SoleBuffers
+pub mod Growth
 pub mod Soles

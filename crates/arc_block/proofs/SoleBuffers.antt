@@ -7,11 +7,13 @@ use Rattle.std.proofs.lemmas.Bool.{eqb-true, eq-eqb, ne_eqb, lt-ltb, false≢tru
 use Rattle.std.proofs.lemmas.List.{take-take, take-append-le, length-drop, take_all, drop_all}
 use Rattle.std.proofs.lemmas.List.{length-append, length-take-le, drop-append-le}
 use Rattle.arc_owners.specs.count.Calls.{Owner}
+use Rattle.arc_owners.specs.declared.error.TryReserveError.{TryReserveError}
 use Rattle.arc_buffer.specs.Slice.{sub}
 use Rattle.arc_buffer.proofs.Sub.{length-sub}
 use Rattle.arc_block.specs.Block.{BlockView, buffer_info, native, vector, buffer, raw, IsMemory}
 use Rattle.arc_block.specs.Block.{IsBuffer}
 use Rattle.arc_block.specs.Contents.{held_in, content_items}
+use Rattle.arc_block.specs.Growth.{MayAnswer, AsksForRoom}
 use Rattle.arc_block.specs.declared.block.content.Content.{Content}
 use Rattle.arc_block.specs.declared.block.content.Content.TheVariants.{Native, Vector, Buffer, Raw}
 use Rattle.arc_block.specs.declared.block.content.CallersBuffer.{CallersBuffer}
@@ -24,7 +26,7 @@ use Rattle.arc_block.specs.Writers.{block_part, IsBufferWithin, capacity_of, siz
 use Rattle.arc_block.specs.Writers.{with_room, with_more, after_truncate}
 use Rattle.std.specs.List.{refill}
 use Rattle.arc_buffer.specs.Buffers.{written_from, written_long}
-use Rattle.arc_block.specs.LendsBuffers.{with_buffer, IsBufferOf}
+use Rattle.arc_block.specs.LendsBuffers.{with_buffer, KeepsBuffer}
 use Rattle.arc_block.specs.Writers.{with_items}
 use Rattle.arc_block.proofs.Lent.{part-written}
 use Rattle.arc_block.proofs.Writers.{slice_is_sub, part-take}
@@ -172,6 +174,23 @@ module _ {T B M A : Type 0} (list : B → List T) (places : B → ℕ) (drops on
             (places b) inside.1 inside.2 inside.3 told),
       )
 
+  -- what the buffer was asked for, and that the answer is its own
+  pub asked_seen : (grows : B → ℕ → ℕ → Type 0) (refuses : B → ℕ → TryReserveError → Type 0)
+      (additional size : ℕ) (reply : Result (Unit {0}) TryReserveError)
+      → MayAnswer list places grows refuses held.buffer additional size reply
+      → AsksForRoom list places grows refuses w additional size reply
+  asked_seen grows refuses additional size reply answer =
+      let xs = list held.buffer in
+      let long = length-sub xs start end inside.1 inside.2 in
+      let last : start + length (sub xs start end) ≡ end = omega (arith, long, inside.1) in
+      subst (λ (s : PartsView T M). AsksForRoom list places grows refuses s additional size reply)
+      there (record {
+        buffer = held.buffer;
+        part = ap (sub xs start) last;
+        room = refl;
+        answer = answer;
+      })
+
   -- the items stand at the buffer's front now
   pub front_seen : (b : B) → drops ≡ false
       → list b ≡ drop start (list held.buffer) ++ take start (list held.buffer)
@@ -308,7 +327,7 @@ pub lent_held : {T B M A : Type 0} (list : B → List T) (places : B → ℕ) (d
     (o : Owner) (content : Content T B M A) (start end : ℕ) (w : PartsView T M)
     → block_part drops (held_in list places drops o content) start end ≡ w
     → IsBufferWithin one_pass (held_in list places drops o content) start end
-    → (inner : Content T B M A) → inner ≡ content → (old new : B) → IsBufferOf inner old
+    → (inner : Content T B M A) → inner ≡ content → (old new : B) → KeepsBuffer inner old
     → (ws : List T) → list new ≡ written_from (list old) start ws → places new ≡ places old
     → (block_part drops (held_in list places drops o (with_buffer inner new)) start end
     ≡ with_items w ws)
@@ -318,7 +337,7 @@ lent_held {T} {B} {M} {A} list places drops one_pass o content start end w view 
     let found = buffer-is list places drops o content within.4 in
     let held = found.0 in
     let is : inner ≡ Buffer held = same ∙ found.1 in
-    let own : held.buffer ≡ old = subst (λ c. IsBufferOf c old) is of in
+    let own : held.buffer ≡ old = subst (λ c. KeepsBuffer c old) is of in
     let xs = list held.buffer in
     let part = sub xs start end in
     let here = subst (λ c. IsBufferWithin one_pass (held_in list places drops o c) start end)
@@ -355,7 +374,7 @@ lent_held {T} {B} {M} {A} list places drops one_pass o content start end w view 
 
 -- the buffer's items are the block's
 pub items_held : {T B M A : Type 0} (list : B → List T) (inner : Content T B M A) (b : B)
-    → IsBufferOf inner b → list b ≡ content_items list inner
+    → KeepsBuffer inner b → list b ≡ content_items list inner
 items_held list (Native memory) b of = absurd of
 items_held list (Vector memory) b of = absurd of
 items_held list (Buffer held) b of = ap list (sym of)

@@ -1,5 +1,6 @@
 -- What layouts differ in.
 use Rattle.std.specs.Prelude.{◌≡◌, ◌==◌, ◌&&◌, ℕ, Bool, true, false, not, refl, Option, Some, None}
+use Rattle.std.proofs.lemmas.Bool.{false≢true}
 use Rattle.arc_block.specs.Block.{Sort, native, vector, buffer, raw}
 
 -- what windows under a layout may stand on
@@ -38,6 +39,10 @@ never_wanted native = refl
 never_wanted vector = refl
 never_wanted (buffer writable) = refl
 never_wanted raw = refl
+
+-- a layout under which no `Arc` is a block by itself may hold what it will
+pub never_by_itself : {any : Bool} → false ≡ true → any ≡ true
+never_by_itself same = absurd (false≢true same)
 
 -- whether a layout under which blocks may be of a caller's making, or not, holds those of a sort:
 -- native ones all do

@@ -14,11 +14,11 @@ with_buffer (Buffer held) b = Buffer (record held { buffer = b })
 with_buffer (Raw shared) b = Raw shared
 
 -- the content is this buffer, with whatever metadata
-abbrev pub IsBufferOf : {T B M A : Type 0} → Content T B M A → B → Type 0
-IsBufferOf (Native memory) b = ⊥
-IsBufferOf (Vector memory) b = ⊥
-IsBufferOf (Buffer held) b = held.buffer ≡ b
-IsBufferOf (Raw shared) b = ⊥
+abbrev pub KeepsBuffer : {T B M A : Type 0} → Content T B M A → B → Type 0
+KeepsBuffer (Native memory) b = ⊥
+KeepsBuffer (Vector memory) b = ⊥
+KeepsBuffer (Buffer held) b = held.buffer ≡ b
+KeepsBuffer (Raw shared) b = ⊥
 
 module _ (T B M A : RattleType) (a : allocator.Ghosts A.Denot)
     (content : MutBor (Content T.Denot B.Denot M.Denot A.Denot)) where

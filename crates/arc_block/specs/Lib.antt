@@ -13,4 +13,5 @@ pub mod Lends
 pub mod LendsBuffers
 pub mod Room
 pub mod Writers
+pub mod Growth
 pub mod Metadata

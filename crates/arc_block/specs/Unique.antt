@@ -1,9 +1,11 @@
 -- Whether nobody else has a part of a block, by its sort.
-use Rattle.std.specs.Prelude.{◌≡◌, Bool, true, false, Option, Some, None}
+use Rattle.std.specs.Prelude.{◌≡◌, ◌+◌, Bool, true, false, Option, Some, None, List, length}
 use Rattle.arc_owners.specs.declared.count.tokens.Pass.{Pass}
 use Rattle.arc_owners.specs.count.Calls.{Owner, Asks}
+use Rattle.arc_buffer.specs.Slice.{sub}
 use Rattle.arc_block.specs.Block.{Sort, native, vector, buffer, raw}
 use Rattle.arc_block.specs.Place.{Place, nowhere, static_data, on_block}
+use Rattle.arc_block.specs.Writers.{offset_at}
 
 module _ {H : Type 0} where
   -- The count is asked. A caller's buffer is asked after it, and may say no though the owner is
@@ -22,3 +24,35 @@ module _ {H : Type 0} where
   AsksUniqueAt (on_block None offset facts) old new answer = (answer ≡ false) × (new ≡ old)
   AsksUniqueAt (on_block (Some o) offset facts) old new answer =
       AsksUnique facts.sort o old new answer
+
+  -- Of a caller's buffer the answer is the buffer's own where the count says that the owner is
+  -- alone, and no where it doesn't. Of other blocks this says nothing.
+  abbrev pub AsksOwn : (own : Bool → Type 0) → Sort → Owner → Pass H → Pass H → Bool → Type 0
+  AsksOwn own native o old new answer = Unit {0}
+  AsksOwn own vector o old new answer = Unit {0}
+  AsksOwn own (buffer writable) o old new answer = (alone : Bool) × Asks o old new alone
+      × (alone ≡ true → own answer) × (alone ≡ false → answer ≡ false)
+  AsksOwn own raw o old new answer = Unit {0}
+
+  -- at a place
+  abbrev pub AsksOwnAt : {M : Type 0} → (own : Bool → Type 0) → Place (Option Owner) M
+      → (old new : Pass H) → (answer : Bool) → Type 0
+  AsksOwnAt own nowhere old new answer = Unit {0}
+  AsksOwnAt own static_data old new answer = Unit {0}
+  AsksOwnAt own (on_block None offset facts) old new answer = Unit {0}
+  AsksOwnAt own (on_block (Some o) offset facts) old new answer =
+      AsksOwn own facts.sort o old new answer
+
+module _ {T B : Type 0} (list : B → List T) (says : B → Bool → Type 0) where
+  -- the answer is the own one of a buffer with these items
+  pub record IsOwnAnswer (items : List T) (answer : Bool) : Type 0 where
+    pub buffer : B
+    pub whole : list buffer ≡ items
+    pub own : says buffer answer
+
+  -- of one of which the list that stands there is the part
+  pub record IsAnswerAt {N M : Type 0} (place : Place N M) (items : List T) (answer : Bool) : Type 0
+    where
+      pub buffer : B
+      pub part : sub (list buffer) (offset_at place) (offset_at place + length items) ≡ items
+      pub own : says buffer answer

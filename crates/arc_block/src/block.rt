@@ -13,7 +13,7 @@ ghost use Rattle.std.specs.Arc.{arc_value};
 ghost use Rattle.std.specs.Prelude.{Some, None};
 ghost use Rattle.arc_block.specs.Block.{IsBuffer, IsBufferOf, full_places};
 ghost use Rattle.arc_block.specs.Contents.{held_in};
-ghost use Rattle.arc_block.specs.Unique.{AsksUnique};
+ghost use Rattle.arc_block.specs.Unique.{AsksUnique, AsksOwn, IsOwnAnswer};
 ghost use Rattle.arc_block.specs.LayoutFacts.{layout_facts};
 ghost use Rattle.arc_block.specs.Moves.{counted_move};
 ghost use Rattle.arc_block.specs.Writers.{MayWrite};
@@ -570,6 +570,8 @@ impl<
     pub fn is_unique_by_sort_as(&self, pass: &mut Pass<H>) -> bool
         requires pass { IsPassFor self.now.owner pass.old }
         ensures entry { AsksUnique self.now.facts.sort self.now.owner pass.old pass.new result }
+        ensures own { AsksOwn (IsOwnAnswer B.list B.says_unique self.now.items)
+            self.now.facts.sort self.now.owner pass.old pass.new result }
     {
         match self.piece.get() {
             Content::Native(_) | Content::Vector(_) => self.piece.is_unique_as(pass),

@@ -11,9 +11,16 @@
 ghost use Rattle.std.specs.Prelude.{◌≡◌, ◌==◌, ◌&&◌, ℕ, Bool, true, false, refl};
 ghost use Rattle.arc_block.specs.Block.{Sort};
 ghost use Rattle.arc_block.specs.Layouts.{clones_want, never_wanted, never, always, where_full};
+ghost use Rattle.arc_block.specs.Layouts.{never_by_itself};
 
-/// A layout of windows: on what they may stand, and how that is held.
-pub trait Layout {
+mod sealed {
+    /// What no other crate can give a type.
+    pub trait Sealed {}
+}
+
+/// A layout of windows: on what they may stand, and how that is held. The layouts are those of this
+/// module.
+pub trait Layout: sealed::Sealed {
     /// The layout of the writable windows that go with these: one with `LayoutMut`.
     type Writable;
 
@@ -37,6 +44,9 @@ pub trait Layout {
     ghost wants: { (sort : Sort)
         → Self.clone_wants sort ≡ clones_want (Self.lone 0 0) Self.RAW sort };
 
+    /// An `Arc` is a block by itself only where blocks may be of a caller's making.
+    ghost raw_is_any: { Self.RAW ≡ true → Self.ANY ≡ true };
+
     /// Whether windows may stand on nothing, or on static data.
     const STATIC: bool;
 
@@ -52,7 +62,7 @@ pub trait Layout {
 }
 
 /// Layouts of writable windows: those that are their own `Writable`.
-pub trait LayoutMut: Layout {}
+pub trait LayoutMut: Layout<Writable = Self> {}
 
 /// Layouts under which a block may be a vector, a caller's buffer, or an `Arc` of one.
 pub trait AnyBufferLayout: Layout {
@@ -85,6 +95,8 @@ impl<L: Layout, M: Layout> FromLayout<L> for M {}
 #[derive(Clone, Copy, Debug, PartialEq, Eq)]
 pub struct ArcLayout<const ANY: bool, const STATIC: bool>;
 
+impl<const ANY: bool, const STATIC: bool> sealed::Sealed for ArcLayout<ANY, STATIC> {}
+
 impl<const ANY: bool, const STATIC: bool> Layout for ArcLayout<ANY, STATIC> {
     type Writable = ArcLayout<ANY, STATIC>;
 
@@ -99,6 +111,8 @@ impl<const ANY: bool, const STATIC: bool> Layout for ArcLayout<ANY, STATIC> {
     ghost clone_wants = { λ _. false };
 
     ghost wants = { never_wanted };
+
+    ghost raw_is_any = { never_by_itself };
 
     const STATIC: bool = STATIC;
 
@@ -131,6 +145,8 @@ impl<const ANY: bool, const STATIC: bool> CloneNoAllocLayout for ArcLayout<ANY, 
 #[derive(Clone, Copy, Debug, PartialEq, Eq)]
 pub struct BoxedSliceLayout;
 
+impl sealed::Sealed for BoxedSliceLayout {}
+
 impl Layout for BoxedSliceLayout {
     type Writable = DefaultLayoutMut;
 
@@ -145,6 +161,8 @@ impl Layout for BoxedSliceLayout {
     ghost clone_wants = { clones_want true false };
 
     ghost wants = { λ _. refl };
+
+    ghost raw_is_any = { λ _. refl };
 
     const STATIC: bool = true;
 
@@ -169,6 +187,8 @@ impl StaticLayout for BoxedSliceLayout {
 #[derive(Clone, Copy, Debug, PartialEq, Eq)]
 pub struct VecLayout;
 
+impl sealed::Sealed for VecLayout {}
+
 impl Layout for VecLayout {
     type Writable = VecLayout;
 
@@ -183,6 +203,8 @@ impl Layout for VecLayout {
     ghost clone_wants = { clones_want true false };
 
     ghost wants = { λ _. refl };
+
+    ghost raw_is_any = { λ _. refl };
 
     const STATIC: bool = true;
 
@@ -210,6 +232,8 @@ impl StaticLayout for VecLayout {
 #[derive(Clone, Copy, Debug, PartialEq, Eq)]
 pub struct RawLayout;
 
+impl sealed::Sealed for RawLayout {}
+
 impl Layout for RawLayout {
     type Writable = DefaultLayoutMut;
 
@@ -224,6 +248,8 @@ impl Layout for RawLayout {
     ghost clone_wants = { clones_want false true };
 
     ghost wants = { λ _. refl };
+
+    ghost raw_is_any = { λ _. refl };
 
     const STATIC: bool = true;
 

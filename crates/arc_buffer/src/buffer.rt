@@ -1,5 +1,5 @@
 //! Callers' buffers: a list, and a list with room.
-ghost use Rattle.std.specs.Prelude.{◌≡◌, ◌≤◌, ◌<◌, ◌+◌, ◌++◌, ◌∷◌, ℕ, List, [], length};
+ghost use Rattle.std.specs.Prelude.{◌≡◌, ◌≤◌, ◌<◌, ◌+◌, ◌++◌, ◌∷◌, ℕ, Bool, List, [], length};
 ghost use Rattle.std.specs.Prelude.{IfErr, OnOk, OnErr};
 ghost use Rattle.arc_owners.specs.declared.error.TryReserveError.{TryReserveError};
 ghost use Rattle.std.specs.Borrow.{Array, Lends, sem};
@@ -37,10 +37,12 @@ pub trait Buffer<T> {
         ensures value { result.now ≡ list self.now }
         ensures bound { length (list self.now) ≤ places self.now };
 
-    /// Whether nobody else has a part of it.
-    fn is_unique(&self) -> bool {
-        true
-    }
+    /// What it may answer where it is asked whether nobody else has a part of it.
+    ghost says_unique: { Self → Bool → Type 0 };
+
+    /// Whether nobody else has a part of it, as the buffer says.
+    fn is_unique(&self) -> bool
+        ensures { says_unique self.now result };
 }
 
 /// A buffer that may be written, with room for more items.
@@ -73,6 +75,9 @@ pub trait BufferMut<T>: Buffer<T> {
     /// Why it may refuse to make room for so many items more.
     ghost refuses: { Self → ℕ → TryReserveError → Type 0 };
 
+    /// How many places it may have once it has made room for so many items more.
+    ghost grows: { Self → (additional places : ℕ) → Type 0 };
+
     /// Makes room for so many items more than there are. The list stays.
     ///
     /// # Errors
@@ -86,6 +91,7 @@ pub trait BufferMut<T>: Buffer<T> {
     fn try_reserve(&mut self, additional: usize) -> Result<(), TryReserveError>
         ensures list { Self.list self.new ≡ Self.list self.old }
         ensures ok { OnOk result (length (Self.list self.old) + additional ≤ Self.places self.new) }
+        ensures grown { OnOk result (grows self.old additional (Self.places self.new)) }
         ensures refused { IfErr result (λ e. refuses self.old additional e) }
         ensures back { OnErr result (Self.places self.new ≡ Self.places self.old) };
 

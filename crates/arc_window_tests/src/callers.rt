@@ -1,5 +1,5 @@
 //! Callers' buffers which grow as they will: never, at the second request, or not at all.
-ghost use Rattle.std.specs.Prelude.{◌≡◌, refl};
+ghost use Rattle.std.specs.Prelude.{◌≡◌, ◌≤◌, ◌+◌, length, true, refl};
 ghost use Rattle.std.specs.Vec.{vec_items, vec_capacity, with_items, with_items_from};
 ghost use Rattle.std.proofs.Common.{sym, ◌∙◌};
 ghost use Rattle.std.proofs.lemmas.List.{with_items_is};
@@ -24,6 +24,12 @@ impl Buffer<u8> for NoRoom {
     fn as_slice(&self) -> &[u8] {
         Buffer::as_slice(&self.bytes)
     }
+
+    ghost says_unique = { λ _ answer. answer ≡ true };
+
+    fn is_unique(&self) -> bool {
+        true
+    }
 }
 
 impl BufferMut<u8> for NoRoom {
@@ -44,6 +50,8 @@ impl BufferMut<u8> for NoRoom {
     }
 
     ghost refuses = { λ _ _ e. e ≡ Unsupported };
+
+    ghost grows = { λ _ _ _. ⊥ };
 
     fn try_reserve(&mut self, additional: usize) -> Result<(), TryReserveError> {
         let _ = additional;
@@ -76,6 +84,12 @@ impl Buffer<u8> for Later {
     fn as_slice(&self) -> &[u8] {
         Buffer::as_slice(&self.bytes)
     }
+
+    ghost says_unique = { λ _ answer. answer ≡ true };
+
+    fn is_unique(&self) -> bool {
+        true
+    }
 }
 
 impl BufferMut<u8> for Later {
@@ -96,6 +110,9 @@ impl BufferMut<u8> for Later {
     }
 
     ghost refuses = { λ _ _ e. e ≡ vec_refusal 0 };
+
+    ghost grows = { λ b additional places.
+        length (vec_items b.bytes) + additional ≤ places };
 
     fn try_reserve(&mut self, additional: usize) -> Result<(), TryReserveError> {
         if !self.asked {

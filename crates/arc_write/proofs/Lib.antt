@@ -1,4 +1,5 @@
 mod Extend
 pub mod Legal
+pub mod Held
 mod More
 mod Zeros

@@ -12,8 +12,8 @@ use Rattle.arc_block.specs.Writers.{with_items}
 use Rattle.arc_write.specs.contracts.slice_mut.ArcSliceMut.{the_row}
 use denote.Param.{number}
 
-module _ (S L B M A H Item Error Writable : RattleType)
-    (s : kind.Ghosts S.Denot Item.Denot Error.Denot) (l : layout.Ghosts L.Denot Writable.Denot)
+module _ (S L B M A H Item Error : RattleType)
+    (s : kind.Ghosts S.Denot Item.Denot Error.Denot) (l : layout.Ghosts L.Denot L.Denot)
     (m : buffer_mut.Ghosts B.Denot Item.Denot) (b : buffer.Ghosts B.Denot Item.Denot)
     (a : allocator.Ghosts A.Denot)
     (h : mark.Ghosts H.Denot)
@@ -21,5 +21,5 @@ module _ (S L B M A H Item Error Writable : RattleType)
   -- once the borrow r ends, the items are those that r shows last
   abbrev pub lends_items : MutBor (List Item.Denot) → Fml
   lends_items r =
-      Lends (the_row S L (number 1) B M A H Item Error Writable s l m b a h) (Array Item 0)
+      Lends (the_row S L (number 1) B M A H Item Error s l m b a h) (Array Item 0)
       window r (with_items window.now)

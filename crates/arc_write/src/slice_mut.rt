@@ -1,6 +1,8 @@
 //! `ArcSliceMut`, a window that is written.
 ghost use Rattle.std.specs.Prelude.{◌≡◌, false};
+ghost use Rattle.arc_block.specs.LayoutFacts.{layout_facts};
 ghost use Rattle.arc_block.specs.Steps.{EndsShownAt};
+ghost use Rattle.arc_block.specs.Window.{IsBlockHeld};
 ghost use Rattle.arc_block.specs.Writers.{IsWriterPlace, idle_writer};
 
 use arc_block::layout::{DefaultLayoutMut, LayoutMut};
@@ -68,13 +70,15 @@ impl<
     A: Allocator + Copy,
     H: Mark,
 > Model for ArcSliceMut<S, L, UNIQUE, B, M, A, H> {
-    ghost use Rattle.arc_block.specs.Window.{PartsView};
+    ghost use Rattle.arc_block.specs.LayoutFacts.{layout_facts};
+    ghost use Rattle.arc_block.specs.Window.{PartsView, IsBlockHeld};
 
     ghost Value = { PartsView S.Item M };
 
     ghost view = { λ w. w.parts };
 
-    ghost invariant = { λ w. ∥ S.is_legal w.parts.items ∥₁ };
+    ghost invariant = { λ w. IsBlockHeld (layout_facts L.Layout) w.parts.place
+        × ∥ S.is_legal w.parts.items ∥₁ };
 }
 
 impl<
@@ -112,9 +116,11 @@ impl<
         Self::from_parts(SoleParts::on_nothing(alloc))
     }
 
-    /// The window of these parts, with a list that is legal. It adds nothing.
+    /// The window of these parts, with a list that is legal, on nothing or on a block that the
+    /// layout holds. It adds nothing.
     #[inline(always)]
     pub fn from_parts(parts: SoleParts<S, B, M, A, H>) -> Self
+        requires held { IsBlockHeld (layout_facts L.Layout) parts.place }
         requires legal { ∥ S.is_legal parts.items ∥₁ }
         ensures { result ≡ parts }
     {
@@ -132,10 +138,19 @@ impl<
         self.parts.known_place();
     }
 
+    /// The window stands on nothing, or on a block that the layout holds. Does nothing: its
+    /// contract is the law.
+    pub fn known_held(&self)
+        ensures { IsBlockHeld (layout_facts L.Layout) self.now.place }
+    {
+        let _ = &self.parts;
+    }
+
     /// What the window is made of. It adds nothing.
     #[inline(always)]
     pub fn into_parts(self) -> SoleParts<S, B, M, A, H>
         ensures parts { result ≡ self }
+        ensures held { IsBlockHeld (layout_facts L.Layout) result.place }
         ensures legal { ∥ S.is_legal result.items ∥₁ }
     {
         let ArcSliceMut { parts, of: _ } = self;

@@ -47,7 +47,7 @@ impl<T: Drop, B: Buffer<T>, M, A: Allocator> Shows<T> for Content<T, B, M, A> {
 
 impl<T: Drop, B: Drop, M: Drop, A: Allocator> Content<T, B, M, A> {
     ghost use Rattle.std.specs.Borrow.{sem};
-    ghost use Rattle.arc_block.specs.LendsBuffers.{LendsBuffer, IsBufferOf};
+    ghost use Rattle.arc_block.specs.LendsBuffers.{LendsBuffer, KeepsBuffer};
 
     /// The places of a native block or a vector's as a vector, with the items in them.
     pub(crate) fn into_memory(self) -> Vec<T, A>
@@ -88,7 +88,7 @@ impl<T: Drop, B: Drop, M: Drop, A: Allocator> Content<T, B, M, A> {
         requires { IsBuffer (content_sort self.old) }
         ensures* writes_back { sem 𝓛 (LendsBuffer T.row B.row M.row A.row A.Allocator
             self.entry result) }
-        ensures value { IsBufferOf self.old result.now }
+        ensures value { KeepsBuffer self.old result.now }
     {
         match self {
             Content::Buffer(held) => &mut held.buffer,

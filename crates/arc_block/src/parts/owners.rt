@@ -7,7 +7,7 @@ ghost use Rattle.arc_block.specs.LayoutFacts.{layout_facts};
 ghost use Rattle.arc_block.specs.Place.{at_owner, part_place};
 ghost use Rattle.arc_block.specs.Table.{reader};
 ghost use Rattle.arc_block.specs.Steps.{IsPassAt, Shares, Refuses};
-ghost use Rattle.arc_block.specs.Unique.{AsksUniqueAt};
+ghost use Rattle.arc_block.specs.Unique.{AsksUniqueAt, AsksOwnAt, IsAnswerAt};
 ghost use Rattle.arc_block.specs.Window.{IsHeld};
 
 use super::Parts;
@@ -164,6 +164,8 @@ impl<S: Slice, B: Buffer<S::Item> + Drop, M: Drop, A: Allocator + Copy, H: Mark>
         requires role { self.now.role ≡ reader }
         requires pass { IsPassAt self.now.place pass.old }
         ensures entry { AsksUniqueAt self.now.place pass.old pass.new result }
+        ensures own { AsksOwnAt (IsAnswerAt B.list B.says_unique self.now.place self.now.items)
+            self.now.place pass.old pass.new result }
     {
         match &self.on {
             Storage::Block(block) => block.is_unique_by_sort_as(pass),

@@ -3,11 +3,12 @@ ghost use Rattle.std.specs.Prelude.{◌≡◌, ◌≤◌, ◌+◌, [], length, r
 ghost use Rattle.std.specs.Prelude.{IfOk, IfErr, OnOk, OnErr};
 ghost use Rattle.std.specs.Mem.{FitsInMemory, type_size};
 ghost use Rattle.arc_owners.specs.count.Calls.{IsPassOfNone};
+ghost use Rattle.arc_block.specs.Growth.{IfAsked, AsksForRoom};
 ghost use Rattle.arc_block.specs.Place.{nowhere};
 ghost use Rattle.arc_block.specs.Steps.{IsPassAt, EndsShownAt};
 ghost use Rattle.arc_block.specs.Table.{sole_writer};
 ghost use Rattle.arc_block.specs.Writers.{capacity_of, room_for, MakesWriter, MakesRoom};
-ghost use Rattle.arc_block.specs.Writers.{IsWriterPlace};
+ghost use Rattle.arc_block.specs.Writers.{IsWriterPlace, size_at};
 ghost use Rattle.std.specs.Prelude.{IsTrue};
 ghost use Rattle.std.specs.Prelude.{◌↔◌};
 ghost use Rattle.arc_block.specs.Window.{IsOfBuffer};
@@ -285,6 +286,7 @@ impl<S: Slice, B: BufferMut<S::Item> + Drop, M: Drop, A: Allocator + Copy, H: Ma
     /// Nothing is added. Where a first block is made, the pass, which was of none, becomes that
     /// block's.
     #[inline(always)]
+    #[tactic(auto, using(crate::proofs::Growth::never_asked))]
     pub fn try_reserve_as(
         &mut self,
         additional: usize,
@@ -298,6 +300,9 @@ impl<S: Slice, B: BufferMut<S::Item> + Drop, M: Drop, A: Allocator + Copy, H: Ma
         ensures items { self.new.items ≡ self.old.items }
         ensures enough { OnOk result
             (length self.new.items + additional ≤ capacity_of self.new.role) }
+        ensures own { IfAsked (room_for S.DROPS (type_size S.Item.row) self.old additional) (λ k.
+            AsksForRoom B.list B.places B.grows B.refuses self.old k (size_at self.new.place)
+            result) }
     {
         match &mut self.on {
             SoleStorage::Memory(parts) => parts.try_reserve_as(additional, pass),

@@ -15,10 +15,10 @@ impl<T, B: Buffer<T>, A: Allocator> Buffer<T> for Arc<B, A> {
         (**self).as_slice()
     }
 
+    ghost says_unique = { λ _ answer. answer ≡ false };
+
     /// False: an `Arc` that is only borrowed can't find out whether it is the only one.
-    fn is_unique(&self) -> bool
-        ensures { result ≡ false }
-    {
+    fn is_unique(&self) -> bool {
         false
     }
 }

@@ -45,10 +45,10 @@ impl<T, B: LendMut<T>> Buffer<T> for AsMutBuffer<B> {
         self.inner.lend()
     }
 
+    ghost says_unique = { λ _ answer. answer ≡ false };
+
     /// False: what others have of the value isn't known.
-    fn is_unique(&self) -> bool
-        ensures { result ≡ false }
-    {
+    fn is_unique(&self) -> bool {
         false
     }
 }
@@ -71,6 +71,8 @@ impl<T, B: LendMut<T>> BufferMut<T> for AsMutBuffer<B> {
     }
 
     ghost refuses = { λ _ _ e. e ≡ Unsupported };
+
+    ghost grows = { λ _ _ _. ⊥ };
 
     /// Makes no room: there is none to be had, so also a request for no place is refused.
     ///

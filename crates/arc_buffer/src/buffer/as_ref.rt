@@ -16,10 +16,10 @@ impl<T, B: Lend<T>> Buffer<T> for AsRefBuffer<B> {
         self.0.lend()
     }
 
+    ghost says_unique = { λ _ answer. answer ≡ false };
+
     /// False: what others have of the value isn't known.
-    fn is_unique(&self) -> bool
-        ensures { result ≡ false }
-    {
+    fn is_unique(&self) -> bool {
         false
     }
 }

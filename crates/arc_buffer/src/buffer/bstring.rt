@@ -14,10 +14,10 @@ impl Buffer<u8> for BString {
         self.as_bytes()
     }
 
+    ghost says_unique = { λ _ answer. answer ≡ true };
+
     /// True: its items are its own.
-    fn is_unique(&self) -> bool
-        ensures { result ≡ true }
-    {
+    fn is_unique(&self) -> bool {
         true
     }
 }

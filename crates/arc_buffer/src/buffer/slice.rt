@@ -12,10 +12,10 @@ impl<'a, T> Buffer<T> for &'a [T] {
         self
     }
 
+    ghost says_unique = { λ _ answer. answer ≡ false };
+
     /// False: whoever lends the slice has it too.
-    fn is_unique(&self) -> bool
-        ensures { result ≡ false }
-    {
+    fn is_unique(&self) -> bool {
         false
     }
 }

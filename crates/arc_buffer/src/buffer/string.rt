@@ -14,10 +14,10 @@ impl<A: Allocator> Buffer<u8> for String<A> {
         self.as_bytes()
     }
 
+    ghost says_unique = { λ _ answer. answer ≡ true };
+
     /// True: its items are its own.
-    fn is_unique(&self) -> bool
-        ensures { result ≡ true }
-    {
+    fn is_unique(&self) -> bool {
         true
     }
 }

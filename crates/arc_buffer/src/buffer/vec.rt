@@ -19,10 +19,10 @@ impl<T, A: Allocator> Buffer<T> for Vec<T, A> {
         Vec::as_slice(self)
     }
 
+    ghost says_unique = { λ _ answer. answer ≡ true };
+
     /// True: its items are its own.
-    fn is_unique(&self) -> bool
-        ensures { result ≡ true }
-    {
+    fn is_unique(&self) -> bool {
         true
     }
 }
@@ -46,6 +46,8 @@ impl<T, A: Allocator> BufferMut<T> for Vec<T, A> {
 
     ghost refuses = { λ v additional e. (vec_capacity v < length (vec_items v) + additional)
         × (e ≡ vec_refusal (length (vec_items v) + additional)) };
+
+    ghost grows = { λ v additional places. length (vec_items v) + additional ≤ places };
 
     fn try_reserve(&mut self, additional: usize) -> Result<(), TryReserveError> {
         let len = self.len();

@@ -4,7 +4,7 @@ ghost use Rattle.arc_block.specs.Block.{IsLimited};
 ghost use Rattle.arc_block.specs.Place.{IsOnBlock, at_owner};
 ghost use Rattle.arc_block.specs.Window.{IsWholeOf};
 ghost use Rattle.arc_block.specs.Steps.{IsPassAt, RefusesArray, EndsAt};
-ghost use Rattle.arc_block.specs.Unique.{AsksUniqueAt};
+ghost use Rattle.arc_block.specs.Unique.{AsksUniqueAt, AsksOwnAt, IsAnswerAt};
 ghost use Rattle.arc_owners.specs.count.Calls.{IsPassOfNone, IsNewPass, Learns, Leaves};
 ghost use Rattle.arc_owners.specs.count.Calls.{TakesBlock, AsksAndLeaves};
 
@@ -35,6 +35,8 @@ impl<
     pub fn is_unique_as(&self, pass: &mut Pass<H>) -> bool
         requires pass { IsPassAt self.now.place pass.old }
         ensures entry { AsksUniqueAt self.now.place pass.old pass.new result }
+        ensures own { AsksOwnAt (IsAnswerAt B.list B.says_unique self.now.place self.now.items)
+            self.now.place pass.old pass.new result }
     {
         self.parts.is_unique_as(pass)
     }

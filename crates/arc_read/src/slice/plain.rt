@@ -4,7 +4,7 @@ ghost use Rattle.arc_buffer.specs.Slice.{IsRange, sub};
 ghost use Rattle.arc_block.specs.Place.{at_owner};
 ghost use Rattle.arc_block.specs.Window.{IsWholeOf};
 ghost use Rattle.arc_block.specs.Steps.{Shares, Refuses, RefusesArray};
-ghost use Rattle.arc_block.specs.Unique.{AsksUniqueAt};
+ghost use Rattle.arc_block.specs.Unique.{AsksUniqueAt, AsksOwnAt, IsAnswerAt};
 ghost use Rattle.arc_owners.specs.count.Calls.{TakesBlock, AsksAndLeaves};
 ghost use Rattle.arc_read.specs.Steps.{WithNewPass};
 ghost use Rattle.arc_read.specs.Cuts.{sub_place};
@@ -39,6 +39,9 @@ impl<
     pub fn is_unique(&self) -> bool
         ensures entry { WithNewPass {H = H} H.real self.now.place (λ first last.
             AsksUniqueAt self.now.place first last result) }
+        ensures own { WithNewPass {H = H} H.real self.now.place (λ first last.
+            AsksOwnAt (IsAnswerAt B.list B.says_unique self.now.place self.now.items)
+            self.now.place first last result) }
     {
         let mut pass = self.pass();
         let found = self.is_unique_as(&mut pass);

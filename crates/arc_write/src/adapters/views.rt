@@ -68,8 +68,13 @@ impl<
 
     fn deref_mut(&mut self) -> &mut [S::Item]
         ensures* writes_back { sem 𝓛 (lends_items S.row L.row B.row M.row A.row H.row S.Item.row
-            S.TryFromSliceError.row L.Writable.row S.Slice L.Layout
-            (record { with_list = B.with_list; with_part = B.with_part; refuses = B.refuses })
+            S.TryFromSliceError.row S.Slice L.Layout
+            (record {
+              with_list = B.with_list;
+              with_part = B.with_part;
+              refuses = B.refuses;
+              grows = B.grows;
+            })
             B.Buffer A.Allocator H.Mark self.entry result) }
         ensures value { result.now ≡ self.old.items }
     {

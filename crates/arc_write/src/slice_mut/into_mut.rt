@@ -1,5 +1,9 @@
 //! From a window that is read to one that is written.
 ghost use Rattle.std.specs.Prelude.{◌≡◌, IfOk, IfErr};
+ghost use Rattle.arc_block.specs.LayoutFacts.{layout_facts};
+ghost use Rattle.arc_block.specs.Moves.{layout_move};
+ghost use Rattle.arc_block.specs.Place.{IsOnBlock};
+ghost use Rattle.arc_block.specs.declared.parts.moves.Move.TheVariants.{Stays, HandedBack};
 ghost use Rattle.arc_block.specs.Window.{Window, parts_of};
 ghost use Rattle.arc_block.specs.Steps.{IsPassAt};
 ghost use Rattle.arc_block.specs.Writers.{as_sole, BecomesSole, RefusesSole};
@@ -59,8 +63,13 @@ pub trait IntoMut: Sized {
         requires pass { IsPassAt (seen self).place pass.old }
         ensures sole { IfOk result (λ sole. (sole ≡ as_sole Self.Kind.DROPS (parts_of (seen self)))
             × BecomesSole K.ANY (parts_of (seen self)) pass.old pass.new) }
+        ensures moved { IfOk result (λ _. IsOnBlock (seen self).place
+            → layout_move (layout_facts K.Layout) (seen self).place ≡ Stays) }
         ensures refused { IfErr result (λ back. (back ≡ self)
-            × RefusesSole K.ANY (parts_of (seen self)) pass.old pass.new) };
+            × RefusesSole K.ANY (parts_of (seen self)) pass.old pass.new) }
+        ensures unasked { IfErr result (λ _.
+            layout_move (layout_facts K.Layout) (seen self).place ≡ HandedBack
+            → pass.new ≡ pass.old) };
 
     /// The same items at the same place, as their only writer: `try_into_mut_as` with a new pass.
     ///
@@ -82,6 +91,8 @@ pub trait IntoMut: Sized {
         ensures sole { IfOk result (λ sole. (sole ≡ as_sole Self.Kind.DROPS (parts_of (seen self)))
             × WithNewPass {H = Self.Mark} Self.Mark.real (seen self).place (λ first last.
             BecomesSole K.ANY (parts_of (seen self)) first last)) }
+        ensures moved { IfOk result (λ _. IsOnBlock (seen self).place
+            → layout_move (layout_facts K.Layout) (seen self).place ≡ Stays) }
         ensures refused { IfErr result (λ back. (back ≡ self)
             × WithNewPass {H = Self.Mark} Self.Mark.real (seen self).place (λ first last.
             RefusesSole K.ANY (parts_of (seen self)) first last)) };
@@ -114,8 +125,12 @@ impl<
         requires pass { IsPassAt self.place pass.old }
         ensures sole { IfOk result (λ sole. (sole ≡ as_sole S.DROPS (parts_of self))
             × BecomesSole K.ANY (parts_of self) pass.old pass.new) }
+        ensures moved { IfOk result (λ _. IsOnBlock self.place
+            → layout_move (layout_facts K.Layout) self.place ≡ Stays) }
         ensures refused { IfErr result (λ back. (back ≡ self)
             × RefusesSole K.ANY (parts_of self) pass.old pass.new) }
+        ensures unasked { IfErr result (λ _.
+            layout_move (layout_facts K.Layout) self.place ≡ HandedBack → pass.new ≡ pass.old) }
     {
         match self.into_parts().try_into_sole_as::<K>(pass) {
             Ok(parts) => Ok(ArcSliceMut::from_parts(parts)),

@@ -31,6 +31,7 @@ impl<
     /// # Allocates
     ///
     /// Twice, except for no places.
+    #[tactic(auto, using(crate::proofs::Held::native_held))]
     pub fn try_with_capacity_as(
         alloc: A,
         capacity: usize,

@@ -3,12 +3,13 @@ ghost use Rattle.std.specs.Prelude.{◌≡◌, ◌≤◌, ◌+◌, ◌++◌, ◌
 ghost use Rattle.std.specs.Prelude.{length, replicate, IfOk, IfErr, OnOk, OnErr, Err};
 ghost use Rattle.std.specs.Mem.{FitsInMemory, type_size};
 ghost use Rattle.arc_owners.specs.count.Calls.{Leaves};
+ghost use Rattle.arc_block.specs.Growth.{IfAsked, AsksForRoom, without_item};
 ghost use Rattle.arc_block.specs.LayoutFacts.{layout_facts};
 ghost use Rattle.arc_block.specs.Moves.{IsRefused, layout_move};
 ghost use Rattle.arc_block.specs.Place.{nowhere, at_owner};
 ghost use Rattle.arc_block.specs.Window.{parts_of};
 ghost use Rattle.arc_block.specs.Writers.{capacity_of, room_for, MakesWriter, MakesRoom};
-ghost use Rattle.arc_block.specs.Writers.{Pushes};
+ghost use Rattle.arc_block.specs.Writers.{Pushes, size_at};
 ghost use Rattle.arc_block.specs.Writers.{Freezes, IsWholeWriter};
 ghost use Rattle.arc_read.specs.Steps.{WithNewPass};
 
@@ -210,6 +211,9 @@ impl<
         ensures items { self.new.items ≡ self.old.items }
         ensures enough { OnOk result
             (length self.new.items + additional ≤ capacity_of self.new.role) }
+        ensures own { IfAsked (room_for S.DROPS (type_size S.Item.row) self.old additional) (λ k.
+            AsksForRoom B.list B.places B.grows B.refuses self.old k (size_at self.new.place)
+            result) }
     {
         let mut pass = self.pass();
         let made = self.try_reserve_as(additional, &mut pass);
@@ -243,6 +247,9 @@ impl<
             × WithNewPass {H = H} H.real self.old.place (λ first last. MakesRoom S.DROPS H.whole
             (room_for S.DROPS (type_size S.Item.row) self.old 1)
             self.old self.new first last (Err r.0))) }
+        ensures own { IfAsked (room_for S.DROPS (type_size S.Item.row) self.old 1) (λ k.
+            AsksForRoom B.list B.places B.grows B.refuses self.old k (size_at self.new.place)
+            (without_item result)) }
     {
         let mut pass = self.pass();
         let pushed = self.try_push_as(item, &mut pass);
@@ -277,6 +284,9 @@ impl<
             WithNewPass {H = H} H.real self.old.place (λ first last. MakesRoom S.DROPS H.whole
             (room_for S.DROPS (type_size S.Item.row) self.old (length items.now))
             self.old self.new first last (Err e))) }
+        ensures own { IfAsked (room_for S.DROPS (type_size S.Item.row) self.old
+            (length items.now)) (λ k. AsksForRoom B.list B.places B.grows B.refuses self.old k
+            (size_at self.new.place) result) }
     {
         let mut pass = self.pass();
         let extended = self.try_extend_from_slice_as(items, &mut pass);
@@ -336,6 +346,9 @@ impl<L: LayoutMut, B: BufferMut<u8> + Drop, M: Drop, A: Allocator + Copy, H: Ste
         ensures refused { IfErr result (λ e.
             WithNewPass {H = H} H.real self.old.place (λ first last. MakesRoom false H.whole
             (room_for false 1 self.old (length text.now)) self.old self.new first last (Err e))) }
+        ensures own { IfAsked (room_for false 1 self.old (length text.now)) (λ k.
+            AsksForRoom B.list B.places B.grows B.refuses self.old k (size_at self.new.place)
+            result) }
     {
         let mut pass = self.pass();
         let extended = self.try_extend_from_str_as(text, &mut pass);

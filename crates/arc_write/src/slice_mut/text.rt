@@ -2,8 +2,9 @@
 ghost use Rattle.std.specs.Prelude.{◌≡◌, ◌≤◌, ◌++◌, ◌==◌, if◌then◌else◌, false, length};
 ghost use Rattle.std.specs.Prelude.{IfOk, IfErr, OnOk, OnErr, Err};
 ghost use Rattle.arc_owners.specs.count.Calls.{IsPassOfNone};
+ghost use Rattle.arc_block.specs.Growth.{IfAsked, AsksForRoom};
 ghost use Rattle.arc_block.specs.Steps.{IsPassAt};
-ghost use Rattle.arc_block.specs.Writers.{MakesWriter, MakesRoom, Pushes, room_for};
+ghost use Rattle.arc_block.specs.Writers.{MakesWriter, MakesRoom, Pushes, room_for, size_at};
 
 use super::ArcSliceMut;
 use arc_block::layout::LayoutMut;
@@ -36,6 +37,7 @@ impl<L: LayoutMut, B: BufferMut<u8> + Drop, M: Drop, A: Allocator + Copy, H: Mar
     /// # Allocates
     ///
     /// Twice, except for no text.
+    #[tactic(auto, using(crate::proofs::Held::native_held))]
     pub fn try_from_str_as(alloc: A, text: &str, pass: &mut Pass<H>) -> Result<Self, AllocError>
         requires pass { IsPassOfNone pass.old }
         ensures made { IfOk result (λ window.
@@ -82,6 +84,9 @@ impl<L: LayoutMut, B: BufferMut<u8> + Drop, M: Drop, A: Allocator + Copy, H: Mar
         ensures refused { IfErr result (λ e. MakesRoom false H.whole
             (room_for false 1 self.old (length text.now))
             self.old self.new pass.old pass.new (Err e)) }
+        ensures own { IfAsked (room_for false 1 self.old (length text.now)) (λ k.
+            AsksForRoom B.list B.places B.grows B.refuses self.old k (size_at self.new.place)
+            result) }
     {
         self.parts.try_extend_from_slice_as(text.as_bytes(), pass)
     }

@@ -28,6 +28,7 @@ impl<
     H: Mark,
 > ArcSliceMut<S, L, 1, B, M, A, H> {
     /// A window over all items of a vector, which are legal.
+    #[tactic(auto, using(crate::proofs::Held::vector_held))]
     fn try_from_legal_vec_as(
         alloc: A,
         items: Vec<S::Item, A>,

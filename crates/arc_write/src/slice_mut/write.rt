@@ -3,8 +3,9 @@ ghost use Rattle.std.specs.Prelude.{◌≡◌, ◌≤◌, ◌+◌, ◌++◌, ◌
 ghost use Rattle.std.specs.Prelude.{IfOk, IfErr, OnOk, OnErr, Ok, Err};
 ghost use Rattle.std.specs.Borrow.{sem};
 ghost use Rattle.std.specs.Mem.{FitsInMemory, type_size};
+ghost use Rattle.arc_block.specs.Growth.{IfAsked, AsksForRoom, without_item};
 ghost use Rattle.arc_block.specs.Steps.{IsPassAt};
-ghost use Rattle.arc_block.specs.Writers.{capacity_of, room_for, with_more};
+ghost use Rattle.arc_block.specs.Writers.{capacity_of, room_for, with_more, size_at};
 ghost use Rattle.arc_block.specs.Writers.{MakesRoom, Pushes, Reclaims};
 
 use super::ArcSliceMut;
@@ -33,8 +34,13 @@ impl<
     where
         S: AnyItems,
         ensures* writes_back { sem 𝓛 (lends_items S.row L.row B.row M.row A.row H.row S.Item.row
-            S.TryFromSliceError.row L.Writable.row S.Slice L.Layout
-            (record { with_list = B.with_list; with_part = B.with_part; refuses = B.refuses })
+            S.TryFromSliceError.row S.Slice L.Layout
+            (record {
+              with_list = B.with_list;
+              with_part = B.with_part;
+              refuses = B.refuses;
+              grows = B.grows;
+            })
             B.Buffer A.Allocator H.Mark self.entry result) }
         ensures value { result.now ≡ self.old.items }
     {
@@ -76,13 +82,15 @@ impl<
         ensures items { self.new.items ≡ self.old.items }
         ensures enough { OnOk result
             (length self.new.items + additional ≤ capacity_of self.new.role) }
+        ensures own { IfAsked (room_for S.DROPS (type_size S.Item.row) self.old additional) (λ k.
+            AsksForRoom B.list B.places B.grows B.refuses self.old k (size_at self.new.place)
+            result) }
     {
         self.parts.try_reserve_as(additional, pass)
     }
 
     /// Whether there is room for so many items more without memory; then it is made. It adds
     /// nothing.
-    #[tactic(auto, using(crate::proofs::Legal::reclaimed_legal))]
     pub fn try_reclaim(&mut self, additional: usize) -> bool
         requires item { FitsInMemory S.Item.row }
         ensures { Reclaims (room_for S.DROPS (type_size S.Item.row) self.old additional)
@@ -92,7 +100,6 @@ impl<
     }
 
     /// `try_reclaim`, with a pass, which stays as it is.
-    #[tactic(auto, using(crate::proofs::Legal::reclaimed_legal))]
     pub fn try_reclaim_as(&mut self, additional: usize, pass: &mut Pass<H>) -> bool
         requires item { FitsInMemory S.Item.row }
         requires pass { IsPassAt self.old.place pass.old }
@@ -134,6 +141,9 @@ impl<
         ensures refused { IfErr result (λ r. (r.1 ≡ item) × MakesRoom S.DROPS H.whole
             (room_for S.DROPS (type_size S.Item.row) self.old 1)
             self.old self.new pass.old pass.new (Err r.0)) }
+        ensures own { IfAsked (room_for S.DROPS (type_size S.Item.row) self.old 1) (λ k.
+            AsksForRoom B.list B.places B.grows B.refuses self.old k (size_at self.new.place)
+            (without_item result)) }
     {
         self.parts.try_push_as(item, pass)
     }
@@ -168,6 +178,9 @@ impl<
         ensures refused { IfErr result (λ e. MakesRoom S.DROPS H.whole
             (room_for S.DROPS (type_size S.Item.row) self.old (length items.now))
             self.old self.new pass.old pass.new (Err e)) }
+        ensures own { IfAsked (room_for S.DROPS (type_size S.Item.row) self.old
+            (length items.now)) (λ k. AsksForRoom B.list B.places B.grows B.refuses self.old k
+            (size_at self.new.place) result) }
     {
         self.parts.try_extend_from_slice_as(items, pass)
     }

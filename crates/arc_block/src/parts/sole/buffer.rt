@@ -8,6 +8,7 @@ ghost use Rattle.arc_owners.specs.count.Calls.{IsPassOfNone};
 ghost use Rattle.arc_owners.specs.memory.SoleBoxes.{sole_in, sole_value};
 ghost use Rattle.arc_block.specs.Block.{buffer, buffer_info, IsLimited};
 ghost use Rattle.arc_block.specs.Contents.{content_sort, held_in};
+ghost use Rattle.arc_block.specs.Growth.{AsksForRoom};
 ghost use Rattle.arc_block.specs.declared.parts.room.Room.TheVariants.{Front, Growth, Own};
 ghost use Rattle.arc_block.specs.Room.{IfSpare, IfFresh, IfBehind, IfGrowth, IfFront, IfOwn};
 ghost use Rattle.arc_block.specs.Room.{IsBuffersRefusal, IsBuffersRoom};
@@ -214,6 +215,8 @@ impl<S: Slice, B: BufferMut<S::Item> + Drop, M: Drop, A: Allocator + Copy, H: Ma
         ensures enough { OnOk result
             (length self.new.items + additional ≤ capacity_of self.new.role) }
         ensures refused { IfErr result (λ e. IsBuffersRefusal e × (self.new ≡ self.old)) }
+        ensures own { AsksForRoom B.list B.places B.grows B.refuses self.old additional
+            (size_at self.new.place) result }
     {
         match self.count.get_mut() {
             Content::Buffer(held) => held.buffer.try_reserve(additional),

@@ -430,6 +430,7 @@ impl<S: Slice, B: Buffer<S::Item> + Drop, M: Drop, A: Allocator + Copy, H: Mark>
         ensures items { self.new.items ≡ self.old.items }
         ensures enough { OnOk result
             (length self.new.items + additional ≤ capacity_of self.new.role) }
+        ensures memory { IfOwn (room_for S.DROPS (type_size S.Item.row) self.old additional) ⊥ }
     {
         if additional <= self.spare() {
             return Ok(());
@@ -453,6 +454,7 @@ impl<S: Slice, B: Buffer<S::Item> + Drop, M: Drop, A: Allocator + Copy, H: Mark>
         ensures items { self.new.items ≡ self.old.items }
         ensures enough { OnOk result
             (length self.new.items + additional ≤ capacity_of self.new.role) }
+        ensures memory { IfOwn (room_for S.DROPS (type_size S.Item.row) self.old additional) ⊥ }
     {
         match self.room(additional) {
             Room::Spare => Ok(()),

@@ -3,9 +3,10 @@ ghost use Rattle.std.specs.Prelude.{◌≡◌, ◌≤◌, ◌+◌, ◌++◌, ◌
 ghost use Rattle.std.specs.Prelude.{IfOk, IfErr, OnOk, OnErr, Ok, Err};
 ghost use Rattle.std.specs.Borrow.{sem};
 ghost use Rattle.std.specs.Mem.{FitsInMemory, type_size};
+ghost use Rattle.arc_block.specs.Growth.{IfAsked, AsksForRoom, without_item};
 ghost use Rattle.arc_block.specs.Steps.{IsPassAt};
 ghost use Rattle.arc_block.specs.Writers.{capacity_of, room_for, MakesRoom, Pushes, Reclaims};
-ghost use Rattle.arc_block.specs.Writers.{with_more, after_advance, after_truncate};
+ghost use Rattle.arc_block.specs.Writers.{with_more, after_advance, after_truncate, size_at};
 
 use super::{SoleParts, SoleStorage};
 use arc_buffer::buffer::BufferMut;
@@ -29,7 +30,12 @@ impl<S: Slice, B: BufferMut<S::Item> + Drop, M: Drop, A: Allocator + Copy, H: Ma
     pub fn as_mut_slice(&mut self) -> &mut [S::Item]
         ensures* writes_back { sem 𝓛 (lends_items S.row B.row M.row A.row H.row S.Item.row
             S.TryFromSliceError.row H.Mark S.Slice
-            (record { with_list = B.with_list; with_part = B.with_part; refuses = B.refuses })
+            (record {
+              with_list = B.with_list;
+              with_part = B.with_part;
+              refuses = B.refuses;
+              grows = B.grows;
+            })
             B.Buffer A.Allocator self.entry result) }
         ensures value { result.now ≡ self.old.items }
     {
@@ -65,6 +71,7 @@ impl<S: Slice, B: BufferMut<S::Item> + Drop, M: Drop, A: Allocator + Copy, H: Ma
     ///
     /// As `try_reserve_as`.
     #[inline(always)]
+    #[tactic(auto, using(crate::proofs::Growth::never_asked))]
     pub fn try_push_as(
         &mut self,
         item: S::Item,
@@ -79,6 +86,9 @@ impl<S: Slice, B: BufferMut<S::Item> + Drop, M: Drop, A: Allocator + Copy, H: Ma
         ensures refused { IfErr result (λ r. (r.1 ≡ item) × MakesRoom S.DROPS H.whole
             (room_for S.DROPS (type_size S.Item.row) self.old 1)
             self.old self.new pass.old pass.new (Err r.0)) }
+        ensures own { IfAsked (room_for S.DROPS (type_size S.Item.row) self.old 1) (λ k.
+            AsksForRoom B.list B.places B.grows B.refuses self.old k (size_at self.new.place)
+            (without_item result)) }
     {
         match &mut self.on {
             SoleStorage::Memory(parts) => parts.try_push_as(item, pass),
@@ -132,6 +142,7 @@ where
     /// # History
     ///
     /// As `try_reserve_as`.
+    #[tactic(auto, using(crate::proofs::Growth::never_asked))]
     pub fn try_extend_from_slice_as(
         &mut self,
         items: &[S::Item],
@@ -146,6 +157,9 @@ where
         ensures refused { IfErr result (λ e. MakesRoom S.DROPS H.whole
             (room_for S.DROPS (type_size S.Item.row) self.old (length items.now))
             self.old self.new pass.old pass.new (Err e)) }
+        ensures own { IfAsked (room_for S.DROPS (type_size S.Item.row) self.old
+            (length items.now)) (λ k. AsksForRoom B.list B.places B.grows B.refuses self.old k
+            (size_at self.new.place) result) }
     {
         match &mut self.on {
             SoleStorage::Memory(parts) => parts.try_extend_from_slice_as(items, pass),

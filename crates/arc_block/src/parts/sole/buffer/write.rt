@@ -3,9 +3,10 @@ ghost use Rattle.std.specs.Prelude.{◌≡◌, ◌≤◌, ◌<◌, ◌+◌, ◌+
 ghost use Rattle.std.specs.Prelude.{IfErr, OnOk, Err};
 ghost use Rattle.std.specs.Borrow.{sem};
 ghost use Rattle.std.specs.Mem.{FitsInMemory, type_size};
+ghost use Rattle.arc_block.specs.Growth.{IfAsked, AsksForRoom, without_item};
 ghost use Rattle.arc_block.specs.Steps.{IsPassAt};
 ghost use Rattle.arc_block.specs.Writers.{capacity_of, room_for, MakesRoom, Pushes, Reclaims};
-ghost use Rattle.arc_block.specs.Writers.{with_more, after_advance, after_truncate};
+ghost use Rattle.arc_block.specs.Writers.{with_more, after_advance, after_truncate, size_at};
 
 use super::SoleBuffer;
 use crate::block::Content;
@@ -50,7 +51,12 @@ impl<S: Slice, B: BufferMut<S::Item> + Drop, M: Drop, A: Allocator + Copy, H: Ma
     pub(crate) fn as_mut_slice(&mut self) -> &mut [S::Item]
         ensures* writes_back { sem 𝓛 (lends_buffer_items S.row B.row M.row A.row H.row S.Item.row
             S.TryFromSliceError.row H.Mark S.Slice
-            (record { with_list = B.with_list; with_part = B.with_part; refuses = B.refuses })
+            (record {
+              with_list = B.with_list;
+              with_part = B.with_part;
+              refuses = B.refuses;
+              grows = B.grows;
+            })
             B.Buffer A.Allocator self.entry result) }
         ensures value { result.now ≡ self.old.items }
     {
@@ -71,6 +77,9 @@ impl<S: Slice, B: BufferMut<S::Item> + Drop, M: Drop, A: Allocator + Copy, H: Ma
         ensures items { self.new.items ≡ self.old.items }
         ensures enough { OnOk result
             (length self.new.items + additional ≤ capacity_of self.new.role) }
+        ensures own { IfAsked (room_for S.DROPS (type_size S.Item.row) self.old additional) (λ k.
+            AsksForRoom B.list B.places B.grows B.refuses self.old k (size_at self.new.place)
+            result) }
     {
         let _ = pass;
         match self.room(additional) {
@@ -118,6 +127,9 @@ impl<S: Slice, B: BufferMut<S::Item> + Drop, M: Drop, A: Allocator + Copy, H: Ma
         ensures refused { IfErr result (λ r. (r.1 ≡ item) × MakesRoom S.DROPS H.whole
             (room_for S.DROPS (type_size S.Item.row) self.old 1)
             self.old self.new pass.old pass.new (Err r.0)) }
+        ensures own { IfAsked (room_for S.DROPS (type_size S.Item.row) self.old 1) (λ k.
+            AsksForRoom B.list B.places B.grows B.refuses self.old k (size_at self.new.place)
+            (without_item result)) }
     {
         match self.try_reserve_as(1, pass) {
             Ok(()) => {
@@ -182,6 +194,9 @@ where
         ensures refused { IfErr result (λ e. MakesRoom S.DROPS H.whole
             (room_for S.DROPS (type_size S.Item.row) self.old (length items.now))
             self.old self.new pass.old pass.new (Err e)) }
+        ensures own { IfAsked (room_for S.DROPS (type_size S.Item.row) self.old
+            (length items.now)) (λ k. AsksForRoom B.list B.places B.grows B.refuses self.old k
+            (size_at self.new.place) result) }
     {
         match self.try_reserve_as(items.len(), pass) {
             Ok(()) => {

@@ -4,6 +4,7 @@ ghost use Rattle.std.specs.Prelude.{IfOk, IfErr, OnOk, OnErr, Ok, Err};
 ghost use Rattle.std.specs.Borrow.{sem};
 ghost use Rattle.std.specs.Mem.{FitsInMemory, type_size};
 ghost use Rattle.std.specs.Vec.{vec_len, vec_capacity};
+ghost use Rattle.arc_block.specs.Room.{IfOwn};
 ghost use Rattle.arc_block.specs.Steps.{IsPassAt};
 ghost use Rattle.arc_block.specs.Writers.{capacity_of, room_for, MakesRoom, Pushes, Reclaims};
 ghost use Rattle.arc_block.specs.Writers.{with_more, after_advance, after_truncate};
@@ -82,6 +83,7 @@ impl<S: Slice, B: Buffer<S::Item> + Drop, M: Drop, A: Allocator + Copy, H: Mark>
         ensures refused { IfErr result (λ r. (r.1 ≡ item) × MakesRoom S.DROPS H.whole
             (room_for S.DROPS (type_size S.Item.row) self.old 1)
             self.old self.new pass.old pass.new (Err r.0)) }
+        ensures memory { IfOwn (room_for S.DROPS (type_size S.Item.row) self.old 1) ⊥ }
     {
         match self.try_reserve_as(1, pass) {
             Ok(()) => {
@@ -163,6 +165,8 @@ where
         ensures refused { IfErr result (λ e. MakesRoom S.DROPS H.whole
             (room_for S.DROPS (type_size S.Item.row) self.old (length items.now))
             self.old self.new pass.old pass.new (Err e)) }
+        ensures memory { IfOwn (room_for S.DROPS (type_size S.Item.row) self.old
+            (length items.now)) ⊥ }
     {
         match self.try_reserve_as(items.len(), pass) {
             Ok(()) => {

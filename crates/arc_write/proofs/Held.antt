@@ -1,0 +1,208 @@
+-- What a write window stands on is held by its layout, whatever is done to its items.
+use Rattle.std.proofs.Common.{◌≡◌, ℕ, zero, suc, Bool, true, false, List, [], ◌∷◌, if◌then◌else◌}
+use Rattle.std.proofs.Common.{Option, Some, None, refl, sym, ap, ◌∙◌, subst, length, take, arith}
+use Rattle.std.specs.Prelude.{nat_lt, Result, Ok, Err, OnOk, IfErr}
+use Rattle.arc_owners.specs.count.Calls.{Owner}
+use Rattle.arc_owners.specs.declared.count.tokens.Pass.{Pass}
+use Rattle.arc_owners.specs.declared.error.TryReserveError.{TryReserveError}
+use Rattle.arc_block.specs.Block.{Sort, native, vector, buffer, raw, buffer_info}
+use Rattle.arc_block.specs.declared.parts.room.Room.{Room}
+use Rattle.arc_block.specs.declared.parts.room.Room.TheVariants.{Spare, Fresh, Behind, Front}
+use Rattle.arc_block.specs.declared.parts.room.Room.TheVariants.{Growth, Own, Refused}
+use Rattle.arc_block.specs.Layouts.{LayoutFacts, holds_block}
+use Rattle.arc_block.specs.Moves.{IsRefused, counted_move, layout_move}
+use Rattle.arc_block.specs.declared.parts.moves.Move.TheVariants.{Stays, HandedBack}
+use Rattle.arc_block.specs.Place.{Place, nowhere, static_data, on_block, IsOnBlock, moved}
+use Rattle.arc_block.specs.Window.{PartsView, IsBlockHeld}
+use Rattle.arc_block.specs.Writers.{at_front, with_size, with_full, with_room, with_more}
+use Rattle.arc_block.specs.Writers.{with_capacity, after_advance, after_truncate}
+use Rattle.arc_block.specs.Writers.{MakesRoom, Pushes, Reclaims}
+use Rattle.arc_block.specs.Writers.{MakesWriterOver, MakesBufferWriter}
+use Rattle.arc_block.specs.Writers.{MayWrite, BecomesSoleAt, RefusesSoleAt}
+
+-- another place of the block, and one of the block with other places, are held too
+module _ {M : Type 0} (layout : LayoutFacts) where
+  abbrev Holds : Place (Option Owner) M → Type 0
+  Holds place = IsBlockHeld layout place
+
+  front-held : (place : Place (Option Owner) M) → Holds place → Holds (at_front place)
+  front-held nowhere held = tt
+  front-held static_data held = tt
+  front-held (on_block owner offset info) held = held
+
+  size-held : (places : ℕ) (place : Place (Option Owner) M) → Holds place
+      → Holds (with_size places place)
+  size-held places nowhere held = tt
+  size-held places static_data held = tt
+  size-held places (on_block owner offset info) held = held
+
+  full-held : (len more : ℕ) (place : Place (Option Owner) M) → Holds place
+      → Holds (with_full len more place)
+  full-held len more nowhere held = tt
+  full-held len more static_data held = tt
+  full-held len more (on_block owner offset info) held = held
+
+  moved-held : (n : ℕ) (place : Place (Option Owner) M) → Holds place → Holds (moved n place)
+  moved-held n nowhere held = tt
+  moved-held n static_data held = tt
+  moved-held n (on_block owner offset info) held = held
+
+module _ {T M : Type 0} (layout : LayoutFacts) where
+  -- the layout holds the block on which a writer stands
+  abbrev HoldsRow : PartsView T M → Type 0
+  HoldsRow w = IsBlockHeld layout w.place
+
+  same : {old new : PartsView T M} → new ≡ old → HoldsRow old → HoldsRow new
+  same is held = subst HoldsRow (sym is) held
+
+  -- with room, on the same block
+  with-room-held : (room : Room) (w : PartsView T M) → HoldsRow w → HoldsRow (with_room room w)
+  with-room-held Spare w held = held
+  with-room-held (Fresh places) w held = held
+  with-room-held Behind w held = held
+  with-room-held Front w held = front-held layout w.place held
+  with-room-held (Growth places) w held = size-held layout places w.place held
+  with-room-held (Own additional) w held = held
+  with-room-held (Refused e) w held = held
+
+  -- whether room was made, or refused: a first block is a native one
+  pub room_held : {H : Type 0} (drops one_pass : Bool) (room : Room) (old new : PartsView T M)
+      (before after : Pass H) (reply : Result (Unit {0}) TryReserveError)
+      → MakesRoom drops one_pass room old new before after reply
+      → IsBlockHeld layout old.place → IsBlockHeld layout new.place
+  room_held drops one_pass Spare old new before after reply made held = same made.1 held
+  room_held drops one_pass Behind old new before after reply made held = same made.1 held
+  room_held drops one_pass Front old new before after reply made held =
+      same made.1 (with-room-held Front old held)
+  room_held drops one_pass (Fresh places) old new before after (Ok done) made held =
+      same made.made refl
+  room_held drops one_pass (Fresh places) old new before after (Err e) made held =
+      same made.1 held
+  room_held drops one_pass (Growth places) old new before after (Ok done) made held =
+      same made.1 (with-room-held (Growth places) old held)
+  room_held drops one_pass (Growth places) old new before after (Err e) made held =
+      same made.1 held
+  room_held drops one_pass (Own additional) old new before after (Ok done) made held =
+      same made.2 (with-room-held (Growth made.0) old held)
+  room_held drops one_pass (Own additional) old new before after (Err e) made held =
+      same made.1 held
+  room_held drops one_pass (Refused refusal) old new before after reply made held =
+      same made.1 held
+
+  pub reclaimed_held : (room : Room) (old new : PartsView T M) (found : Bool)
+      → Reclaims room old new found → IsBlockHeld layout old.place → IsBlockHeld layout new.place
+  reclaimed_held Spare old new found r held = same r.1 held
+  reclaimed_held Behind old new found r held = same r.1 held
+  reclaimed_held Front old new found r held = same r.1 (with-room-held Front old held)
+  reclaimed_held (Fresh places) old new found r held = same r.1 held
+  reclaimed_held (Growth places) old new found r held = same r.1 held
+  reclaimed_held (Own additional) old new found r held = same r.1 held
+  reclaimed_held (Refused e) old new found r held = same r.1 held
+
+  -- items more, fewer, and further in
+  pub more_held : (xs : List T) (old new : PartsView T M) → new ≡ with_more xs old
+      → IsBlockHeld layout old.place → IsBlockHeld layout new.place
+  more_held xs old new is held =
+      same is (full-held layout (length old.items) (length xs) old.place held)
+
+  pub advanced_held : (n : ℕ) (old new : PartsView T M) → new ≡ after_advance n old
+      → IsBlockHeld layout old.place → IsBlockHeld layout new.place
+  advanced_held n old new is held = same is (moved-held layout n old.place held)
+
+  cut-held : (drops : Bool) (n : ℕ) (w : PartsView T M) (shorter : Bool) → HoldsRow w
+      → HoldsRow (if shorter then record w {
+        items = take n w.items;
+        role = if drops then with_capacity w.role n else w.role;
+      } else w)
+  cut-held drops n w true held = held
+  cut-held drops n w false held = held
+
+  pub truncated_held : (drops : Bool) (n : ℕ) (old new : PartsView T M)
+      → new ≡ after_truncate drops n old
+      → IsBlockHeld layout old.place → IsBlockHeld layout new.place
+  truncated_held drops n old new is held =
+      same is (cut-held drops n old (nat_lt n (length old.items)) held)
+
+  -- whether a list was pushed or refused
+  pub extend_held : {E H : Type 0} → (drops one_pass : Bool) (room : Room) (xs : List T)
+      (old new : PartsView T M) (before after : Pass H) (why : E → TryReserveError)
+      (reply : Result (Unit {0}) E)
+      → OnOk reply (Pushes drops one_pass room xs old new before after)
+      → IfErr reply (λ e. MakesRoom drops one_pass room old new before after (Err (why e)))
+      → IsBlockHeld layout old.place → IsBlockHeld layout new.place
+  extend_held drops one_pass room xs old new before after why (Ok done) pushed refused held =
+      more_held xs pushed.0 new pushed.2
+      (room_held drops one_pass room old pushed.0 before after (Ok tt) pushed.1 held)
+  extend_held drops one_pass room xs old new before after why (Err e) pushed refused held =
+      room_held drops one_pass room old new before after (Err (why e)) refused held
+
+  -- and whether an item was, or handed back
+  pub push_held : {H : Type 0} → (drops one_pass : Bool) (room : Room) (x : T)
+      (old new : PartsView T M) (before after : Pass H)
+      (reply : Result (Unit {0}) (TryReserveError × T))
+      → OnOk reply (Pushes drops one_pass room (x ∷ []) old new before after)
+      → IfErr reply (λ r. (r.1 ≡ x) × MakesRoom drops one_pass room old new before after (Err r.0))
+      → IsBlockHeld layout old.place → IsBlockHeld layout new.place
+  push_held drops one_pass room x old new before after (Ok done) pushed refused held =
+      extend_held drops one_pass room (x ∷ []) old new before after
+      (λ (r : TryReserveError × T). r.0) (Ok done) pushed tt held
+  push_held drops one_pass room x old new before after (Err r) pushed refused held =
+      extend_held drops one_pass room (x ∷ []) old new before after
+      (λ (r : TryReserveError × T). r.0) (Err r) tt refused.1 held
+
+  -- a new window, on nothing or on a block of a sort that the layout holds
+  over-held : {H : Type 0} (sort : Sort) (drops one_pass : Bool) (items : List T) (places : ℕ)
+      (w : PartsView T M) (before after : Pass H)
+      → ((o : Owner) → holds_block layout (Some o) sort ≡ true)
+      → MakesWriterOver sort drops one_pass items places w before after → HoldsRow w
+  over-held sort drops one_pass items zero w before after holds made = same (made.idle refl).0 tt
+  over-held sort drops one_pass items (suc n) w before after holds made =
+      let new = made.new (omega arith) in same new.made (holds new.owner)
+
+  pub native_held : {H : Type 0} (drops one_pass : Bool) (items : List T) (places : ℕ)
+      (w : PartsView T M) (before after : Pass H)
+      → MakesWriterOver native drops one_pass items places w before after
+      → IsBlockHeld layout w.place
+  native_held drops one_pass items places w before after made =
+      over-held native drops one_pass items places w before after (λ o. refl) made
+
+  pub vector_held : {H : Type 0} (drops one_pass : Bool) (items : List T) (places : ℕ)
+      (w : PartsView T M) (before after : Pass H) → layout.has_any ≡ true
+      → MakesWriterOver vector drops one_pass items places w before after
+      → IsBlockHeld layout w.place
+  vector_held drops one_pass items places w before after any made =
+      over-held vector drops one_pass items places w before after (λ o. any) made
+
+  pub buffer_held : {H : Type 0} (one_pass : Bool) (places full : ℕ) (metadata : Option M)
+      (items : List T) (w : PartsView T M) (p : Pass H) → layout.has_any ≡ true
+      → MakesBufferWriter one_pass (buffer_info true places full metadata) items w p
+      → IsBlockHeld layout w.place
+  buffer_held one_pass places full metadata items w p any made = same made.made any
+
+-- a block that may be written under a layout stays there
+may-stays : (layout : LayoutFacts) (sort : Sort) → MayWrite layout.has_any sort
+    → counted_move layout sort ≡ Stays
+may-stays layout native may = refl
+may-stays layout vector may = ap (λ b. if b then Stays else HandedBack) may.1
+may-stays layout (buffer writable) may = ap (λ b. if b then Stays else HandedBack) may.1
+may-stays layout raw may = absurd may.0
+
+-- what becomes a sole writer's stays, where it stands on a block
+pub sole_stays : {M H : Type 0} (layout : LayoutFacts) (place : Place (Option Owner) M) (len : ℕ)
+    (before after : Pass H) → BecomesSoleAt layout.has_any place len before after
+    → IsOnBlock place → layout_move layout place ≡ Stays
+sole_stays layout nowhere len before after made on = absurd on
+sole_stays layout static_data len before after made on = absurd on
+sole_stays layout (on_block None offset info) len before after made on = absurd made
+sole_stays layout (on_block (Some o) offset info) len before after made on =
+    may-stays layout info.sort made.0
+
+-- and of what the layout hands back nothing was asked
+pub unasked_back : {M H : Type 0} (layout : LayoutFacts) (place : Place (Option Owner) M) (len : ℕ)
+    (before after : Pass H) → RefusesSoleAt layout.has_any place len before after
+    → layout_move layout place ≡ HandedBack → after ≡ before
+unasked_back layout nowhere len before after refused back = refused.1
+unasked_back layout static_data len before after refused back = refused.1
+unasked_back layout (on_block None offset info) len before after refused back = refused
+unasked_back layout (on_block (Some o) offset info) len before after refused back =
+    refused.1 (λ may. subst IsRefused (sym back ∙ may-stays layout info.sort may) tt)

@@ -1,0 +1,10 @@
+use Rattle.arc_block.specs.LayoutFacts.{layout_facts}
+use Rattle.arc_write.proofs.Held.{more_held}
+use Rattle.arc_write.proofs.slice_mut.write.ArcSliceMut+S+L+1+B+M+A+H.extend_within.Goals as goal
+
+pub invariant_of-self : goal.invariant_of-self
+invariant_of-self g c = (
+  more_held (layout_facts g.L.Layout) c.args.items.now c.self.inside.parts _
+      c.extend_reserved.ensures c.self.invariant.0,
+  ∣ g.met.S.AnyItems.all_are_legal _ ∣₁,
+)
