@@ -1,12 +1,36 @@
 //! An example: a codec of frames, each a payload behind two bytes of its length. Frames are taken
 //! off a buffer without a copy.
-ghost use Rattle.std.specs.Prelude.{◌≡◌, IfOk, OnErr, MatchOption};
+ghost use Rattle.std.specs.Prelude.{◌≡◌, IfErr, IfOk, OnErr, MatchOption};
 ghost use Rattle.arc_slice.specs.Frames.{IsFrame, HasNoFrame, EndsAt};
 
 use crate::ArcBytes;
 use crate::error::OwnerError;
+use std::alloc::Global;
 use std::sync::Wait;
 use std::test::Fail;
+
+/// The bytes that were received, to take frames off. The vector comes back where memory is refused.
+fn receive(alloc: Global, received: Vec<u8>) -> Result<ArcBytes, Vec<u8>>
+    ensures made { IfOk result (λ buffer. buffer.items ≡ received.items) }
+    ensures refused { IfErr result (λ back. back.items ≡ received.items) }
+{
+    match ArcBytes::try_from_vec(alloc, received) {
+        Ok(buffer) => Ok(buffer),
+        Err(back) => Err(back),
+    }
+}
+
+/// The bytes that are left, in the vector that was received: where all frames that were taken off
+/// have ended. Else the buffer comes back.
+fn into_rest(buffer: ArcBytes) -> Result<Vec<u8>, ArcBytes>
+    ensures rest { IfOk result (λ rest. rest.items ≡ buffer.items) }
+    ensures refused { IfErr result (λ back. back ≡ buffer) }
+{
+    match buffer.try_into_vec() {
+        Ok(rest) => Ok(rest),
+        Err(back) => Err(back),
+    }
+}
 
 /// Where the first frame ends, if all of it is there.
 #[tactic(auto, using(crate::proofs::Ends::no_head, crate::proofs::Ends::cut_short, crate::proofs::Ends::ends_at))]
@@ -41,7 +65,10 @@ fn take_frame(rt: &impl Wait, buffer: &mut ArcBytes) -> Result<Option<ArcBytes>,
 
 #[test]
 fn frames_taken_off(rt: HostRuntime) -> Result<(), Fail> {
-    let mut buffer = ArcBytes::try_from_slice(rt.alloc(), b"\x00\x05Hello\x00\x00\x01\x00short")?;
+    let received = Vec::from_slice(rt.alloc(), b"\x00\x05Hello\x00\x00\x01\x00short")?;
+    let Ok(mut buffer) = receive(rt.alloc(), received) else {
+        return Err("no buffer".into());
+    };
     let Some(first) = take_frame(&rt, &mut buffer)? else {
         return Err("no first frame".into());
     };
@@ -51,8 +78,15 @@ fn frames_taken_off(rt: HostRuntime) -> Result<(), Fail> {
     assert!(rt; first.as_slice() == b"Hello".as_slice());
     assert!(rt; second.is_empty());
     assert!(rt; take_frame(&rt, &mut buffer)?.is_none());
-    assert!(rt; buffer.len() == 7);
-    drop(buffer);
+    let Err(buffer) = into_rest(buffer) else {
+        return Err("the first frame lost its block".into());
+    };
     assert!(rt; first.as_slice() == b"Hello".as_slice());
+    drop(first);
+    drop(second);
+    let Ok(rest) = into_rest(buffer) else {
+        return Err("not had back".into());
+    };
+    assert!(rt; rest.as_slice() == b"\x01\x00short".as_slice());
     Ok(())
 }

@@ -7,6 +7,7 @@ use Rattle.arc_slots.specs.Taking.{can_have, CanHave}
 use Rattle.arc_slots.proofs.Have.{have-is, have-numbered, have-says}
 use Rattle.arc_slots.proofs.Filled.{writes-fits, writes-view}
 use Rattle.arc_slots.proofs.Takes.{by-writer, fit-writer, parts-number, sole-back}
+use Rattle.arc_slots.proofs.Takes.{sole-unwanted}
 use Rattle.arc_slots.proofs.slot.Slot.try_take_written.Given.{Over}
 use Rattle.arc_slots.proofs.slot.Slot.try_take_written.Goals.{After-into_parts}
 use Rattle.arc_slots.proofs.slot.Slot.try_take_written.Goals as goal
@@ -57,3 +58,17 @@ returns-in-Err-clause-back g c =
           (have-says q.items drops c.args.what q.place) c.try_sole_into_reply-taken.new.pass
           c.give_back.new.self.of_blocks.items c.give_back.ensures c.in-Err.ensures.refused.1,
     )
+
+pub returns-in-Err-clause-refused : goal.returns-in-Err-clause-refused
+returns-in-Err-clause-refused g c =
+    let a = (goal.at.returns-in-Err-clause-refused g c).After-into_parts in
+    let b = c.self.inside.block in
+    let q = c.into_parts.result in
+    let drops = g.S.Slice.DROPS in
+    sole-unwanted b c.args.self c.in-Write.window.role q (seen g a) (fits g a)
+    c.args.passes.now.of_blocks.items c.lend-pass.new.self.of_blocks.items c.lend-pass.result
+    c.requires.pass c.lend-pass.ensures.taken (can_have drops c.args.what)
+    (can_have drops c.args.what) (have-numbered b drops c.args.what)
+    (CanHave drops c.args.what q.items q.place) (have-is q.items drops c.args.what q.place)
+    (have-says q.items drops c.args.what q.place) c.try_sole_into_reply-taken.new.pass
+    c.give_back.new.self.of_blocks.items c.give_back.ensures c.in-Err.ensures.refused.0
