@@ -211,7 +211,8 @@ fn lent_again<T, A: Allocator>(
     (part.freeze(lent.lifetime()), lent)
 }
 
-/// Whether the numbers are read that an owner, alone, took back and lent anew, for another lifetime.
+/// Whether the numbers are read that an owner, alone, took back and lent anew, for another
+/// lifetime.
 fn lent_anew_alone<A: Allocator + Copy>(alloc: A) -> Option<bool> {
     let Ok((reader, mut pass)) = first_reader(alloc, 7u64, 8) else {
         return None;

@@ -33,8 +33,8 @@ fn released<A: Allocator + Copy>(window: Bytes<RawLayout, A>) {
     window.release_as(&mut pass);
 }
 
-/// A window on an `Arc` by itself: whether it is alone beside a clone, whether it then takes as much
-/// as before, whether all bytes come back then, and whether the clone reads on once these are
+/// A window on an `Arc` by itself: whether it is alone beside a clone, whether it then takes as
+/// much as before, whether all bytes come back then, and whether the clone reads on once these are
 /// dropped.
 fn beside_a_clone(
     rt: &impl Wait,
@@ -244,8 +244,8 @@ fn items_dropped(rt: &impl Wait, alloc: Global) -> Option<((usize, usize), usize
 }
 
 /// Static data and blocks of a caller's making go where they are held, and native ones anywhere. On
-/// nothing a window gets a block of no places where the layout has no static data. The buffer behind
-/// an `Arc` is dropped once, by whoever ends last.
+/// nothing a window gets a block of no places where the layout has no static data. The buffer
+/// behind an `Arc` is dropped once, by whoever ends last.
 #[test]
 fn held_or_handed_back(rt: HostRuntime) -> Result<(), Fail> {
     let wanted = [

@@ -216,8 +216,8 @@ fn refused<A: Allocator + Copy>(
 }
 
 /// The metadata goes when the buffer is taken back, and all else with it or with the last owner.
-/// Dropped under `Whole` a window stays the owner of its block, so nothing of the buffer is dropped;
-/// nor is it where memory is refused.
+/// Dropped under `Whole` a window stays the owner of its block, so nothing of the buffer is
+/// dropped; nor is it where memory is refused.
 #[test]
 fn dropped_once_or_kept(rt: HostRuntime) -> Result<(), Fail> {
     let found = ends(&rt, rt.alloc());

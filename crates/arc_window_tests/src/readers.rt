@@ -315,8 +315,8 @@ fn owned(rt: &impl Wait, alloc: Global) -> Option<([[usize; 5]; 2], [usize; 5])>
 }
 
 /// No call leaves an owner more than it hands out: no clause can say so, since an owner that a
-/// second pass makes is as good as another thread's. The plain calls stand in rows. Items are dropped
-/// one by one, each once, with the last owner of their block.
+/// second pass makes is as good as another thread's. The plain calls stand in rows. Items are
+/// dropped one by one, each once, with the last owner of their block.
 #[test]
 fn each_call_leaves_what_it_should(rt: HostRuntime) -> Result<(), Fail> {
     assert!(rt; alone_after_calls_as(&rt, rt.alloc())? == [true; 4]);

@@ -88,9 +88,9 @@ fn of_empty_box(alloc: Global) -> Option<[bool; 2]> {
     Some([window.is_empty(), window.is_unique()])
 }
 
-/// Any part of a vector of items that are copied comes back, moved to its front, with its places; of
-/// items that are dropped one by one only all of it does. Text comes back as its string, and as its
-/// box where no place is to spare.
+/// Any part of a vector of items that are copied comes back, moved to its front, with its places;
+/// of items that are dropped one by one only all of it does. Text comes back as its string, and as
+/// its box where no place is to spare.
 #[test]
 fn vectors_and_boxes(rt: HostRuntime) -> Result<(), Fail> {
     let told = part_given(&rt, rt.alloc());
@@ -167,8 +167,8 @@ fn text_over_buffer(alloc: Global, bytes: &[u8]) -> Option<Result<bool, usize>> 
     }
 }
 
-/// A buffer comes back whole, with its metadata dropped; one behind an `Arc` as the `Arc`. A buffer of
-/// bytes is text where they are valid, on the same block.
+/// A buffer comes back whole, with its metadata dropped; one behind an `Arc` as the `Arc`. A buffer
+/// of bytes is text where they are valid, on the same block.
 #[test]
 fn buffers_and_arcs(rt: HostRuntime) -> Result<(), Fail> {
     assert!(rt; part_kept(&rt, rt.alloc()) == Some((true, [Some(5); 2], true)));
