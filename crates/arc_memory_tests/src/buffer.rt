@@ -1,4 +1,4 @@
-ghost use Rattle.std.specs.Prelude.{◌≡◌, ◌<◌, ◌+◌, ◌++◌, ◌∷◌, ℕ, [], length, OnOk, IfErr};
+ghost use Rattle.std.specs.Prelude.{◌≡◌, ◌<◌, ◌+◌, ◌++◌, ◌∷◌, ℕ, [], length, OnOk, IfErr, ◌^◌};
 ghost use Rattle.std.specs.Prelude.{slice_set};
 
 use crate::page::Page;
@@ -77,11 +77,9 @@ fn page_mut_seen(alloc: Global, bytes: &[u8]) -> Result<Seen, AllocError> {
     Ok(seen(&AsMutBuffer::new(Page::new(alloc, bytes, 7)?)))
 }
 
-#[test]
-fn buffers_that_are_read(rt: HostRuntime) -> Result<(), Fail> {
-    let alloc = rt.alloc();
-    let fixed: &'static [u8] = b"abcd";
-    let found = [
+/// What is seen of each buffer that is read.
+fn all_seen(alloc: Global, fixed: &'static [u8]) -> Result<[Seen; 9], AllocError> {
+    Ok([
         vec_seen(alloc, &[1, 2, 3])?,
         vec_seen(alloc, &[])?,
         string_seen(alloc, "aé")?,
@@ -91,7 +89,11 @@ fn buffers_that_are_read(rt: HostRuntime) -> Result<(), Fail> {
         arc_seen(alloc, &[42])?,
         page_seen(alloc, &[1, 2])?,
         page_mut_seen(alloc, &[1, 2])?,
-    ];
+    ])
+}
+
+#[test]
+fn buffers_that_are_read(rt: HostRuntime) -> Result<(), Fail> {
     let wanted = [
         (3, 0x010203, true),
         (0, 0, true),
@@ -103,7 +105,7 @@ fn buffers_that_are_read(rt: HostRuntime) -> Result<(), Fail> {
         (2, 0x0102, false),
         (2, 0x0102, false),
     ];
-    assert!(rt; found == wanted);
+    assert!(rt; all_seen(rt.alloc(), b"abcd")? == wanted);
     Ok(())
 }
 
@@ -155,44 +157,40 @@ fn vec_reserved(alloc: Global, additional: usize) -> Result<Reserved, AllocError
     Ok(reserve(&mut vec, additional))
 }
 
-#[test]
-fn vector_pushed_within_its_room(rt: HostRuntime) -> Result<(), Fail> {
-    let (pushed, raised) = vec_written(rt.alloc(), [1, 2, 3])?;
-    let wanted = [(Ok(()), 0x01, 2), (Ok(()), 0x0102, 2), (Err(3), 0x0102, 2)];
-    assert!(rt; pushed == wanted);
-    assert!(rt; raised == 0x0203);
-    Ok(())
-}
-
-/// Three places and `most` are 2^63 - 1, which no memory has; one more, and no block could be so
-/// large.
-#[test]
-fn vector_makes_room_or_refuses(rt: HostRuntime) -> Result<(), Fail> {
-    let alloc = rt.alloc();
-    let most = 9223372036854775804;
-    let found = [
+/// What vectors answer where room is asked for. Three places and `most` are 2^63 - 1, which no
+/// memory has; one more, and no block could be so large.
+fn all_reserved(alloc: Global, most: usize) -> Result<[Reserved; 5], AllocError>
+    requires { most < 2 ^ 63 }
+{
+    Ok([
         vec_reserved(alloc, 0)?,
         vec_reserved(alloc, 1)?,
         vec_reserved(alloc, most)?,
         vec_reserved(alloc, most + 1)?,
         vec_reserved(alloc, usize::MAX)?,
-    ];
+    ])
+}
+
+#[test]
+fn vectors_with_room_and_without(rt: HostRuntime) -> Result<(), Fail> {
+    let (pushed, raised) = vec_written(rt.alloc(), [1, 2, 3])?;
+    let wanted = [(Ok(()), 0x01, 2), (Ok(()), 0x0102, 2), (Err(3), 0x0102, 2)];
+    assert!(rt; pushed == wanted);
+    assert!(rt; raised == 0x0203);
+    let found = all_reserved(rt.alloc(), 9223372036854775804)?;
+    let no_memory = (Err(TryReserveError::AllocError), 0x010203, false, true);
+    let too_large = (
+        Err(TryReserveError::CapacityOverflow),
+        0x010203,
+        false,
+        true,
+    );
     let wanted = [
         (Ok(()), 0x010203, true, true),
         (Ok(()), 0x010203, true, false),
-        (Err(TryReserveError::AllocError), 0x010203, false, true),
-        (
-            Err(TryReserveError::CapacityOverflow),
-            0x010203,
-            false,
-            true,
-        ),
-        (
-            Err(TryReserveError::CapacityOverflow),
-            0x010203,
-            false,
-            true,
-        ),
+        no_memory,
+        too_large,
+        too_large,
     ];
     assert!(rt; found == wanted);
     Ok(())

@@ -18,52 +18,48 @@ fn header_out_and_in<T, X, A: Allocator>(
     items.whole(room)
 }
 
-/// Filled past its capacity: what the heap has lent at first, and after it has grown. The header
-/// of 24 bytes takes two units of 16, and lies in the same block.
-#[test]
-fn grown_with_header(rt: HostRuntime) -> Result<(), Fail> {
-    let heap = LocalHeap::new(rt.alloc(), 1024)?;
-    let mut items = Vec::with_capacity(HeaderAllocator::<[u64; 3], _>::new(&heap), 4)?;
+/// Five numbers in a vector with room for four and for a header: what the heap has lent at first,
+/// and after it has grown; its places, and whether the numbers are there.
+fn grown(heap: &LocalHeap) -> Option<([usize; 3], bool)> {
+    let mut items = Vec::with_capacity(HeaderAllocator::<[u64; 3], _>::new(heap), 4).ok()?;
     let at_first = heap.used();
     for number in 0..5u64 {
-        items.push(number)?;
+        items.push(number).ok()?;
     }
-    let grown = heap.used();
     let same = items.as_slice() == [0, 1, 2, 3, 4].as_slice();
-    let capacity = items.capacity();
-    drop(items);
-    assert!(rt; (same, capacity, [at_first, grown, heap.used()]) == (true, 8, [64, 96, 0]));
-    Ok(())
+    Some(([at_first, heap.used(), items.capacity()], same))
 }
 
-#[test]
-fn header_taken_out_of_a_vector(rt: HostRuntime) -> Result<(), Fail> {
-    let heap = LocalHeap::new(rt.alloc(), 1024)?;
-    let empty = Vec::with_capacity(HeaderAllocator::<u64, _>::new(&heap), 3)?;
+/// What the heap has lent to a vector of three bytes whose header was taken out and put in twice,
+/// and whether the bytes are there.
+fn taken_out(heap: &LocalHeap) -> Option<(usize, bool)> {
+    let Ok(empty) = Vec::with_capacity(HeaderAllocator::<u64, _>::new(heap), 3) else {
+        return None;
+    };
     let mut items = header_out_and_in(empty);
-    items.push(7u8)?;
+    items.push(7u8).ok()?;
     let mut items = header_out_and_in(items);
-    items.push(8u8)?;
-    let same = items.as_slice() == [7, 8].as_slice();
-    let used = heap.used();
-    drop(items);
-    assert!(rt; (same, used, heap.used()) == (true, 32, 0));
-    Ok(())
+    items.push(8u8).ok()?;
+    Some((heap.used(), items.as_slice() == [7, 8].as_slice()))
 }
 
+/// Whether there is a vector of bytes with so many places beside a header of this type.
+fn is_had<X>(heap: &LocalHeap, places: usize) -> bool {
+    Vec::<u8, _>::with_capacity(HeaderAllocator::<X, _>::new(heap), places).is_ok()
+}
+
+/// Filled past its capacity the header of 24 bytes takes two units of 16, and lies in the same
+/// block; of more than there is nothing is taken.
 #[test]
-fn more_than_there_is(rt: HostRuntime) -> Result<(), Fail> {
+fn vectors_with_headers(rt: HostRuntime) -> Result<(), Fail> {
     let heap = LocalHeap::new(rt.alloc(), 1024)?;
-    let most = isize::MAX as usize;
-    let refused = Vec::<u8, _>::with_capacity(
-        HeaderAllocator::<[u64; 3], _>::new(&heap),
-        most,
-    ).is_err();
-    let large = Vec::<u8, _>::with_capacity(
-        HeaderAllocator::<[u64; 128], _>::new(&heap),
-        1,
-    ).is_err();
-    assert!(rt; (refused, large, heap.used()) == (true, true, 0));
+    assert!(rt; grown(&heap) == Some(([64, 96, 8], true)));
+    assert!(rt; taken_out(&heap) == Some((32, true)));
+    let had = [
+        is_had::<[u64; 3]>(&heap, isize::MAX as usize),
+        is_had::<[u64; 128]>(&heap, 1),
+    ];
+    assert!(rt; (had, heap.used()) == ([false; 2], 0));
     Ok(())
 }
 

@@ -1,16 +1,15 @@
 //! Memory that is lent for the lease of a block's owners: each writes in a part of its own by its
 //! share of that lifetime, while the others live, and the last one has it all back.
-ghost use Rattle.std.specs.Prelude.{◌≡◌, [], ◌∷◌, true, IfOk};
+ghost use Rattle.std.specs.Prelude.{◌≡◌, [], ◌∷◌, true, IfSome};
 ghost use Rattle.arc_owners.specs.count.Calls.{IsPassFor};
 ghost use Rattle.arc_owners.specs.memory.Boxes.{owner_in, lifetime_in};
 ghost use Rattle.arc_memory.specs.Allocations.{IsAllLent, IsPartOfLent};
 
 use arc_memory::{Allocation, EndedLifetime, LentPlaces, Lodging, Places, PlacesInheritance};
-use arc_owners::error::AllocError;
 use arc_owners::mark::Open;
 use arc_owners::owners::{CountedBox, Pass};
 use linked_list_allocator::LocalHeap;
-use std::alloc::Allocator;
+use std::alloc::{Allocator, Global};
 use std::sync::Wait;
 use std::test::Fail;
 
@@ -99,14 +98,18 @@ fn written_by_two<T: Drop, A: Allocator + Copy>(
     alloc: A,
     first: T,
     second: T,
-) -> Result<(T, T), Fail>
-    ensures { IfOk result (λ r. (r.0 ≡ first) × (r.1 ≡ second)) }
+) -> Option<(T, T)>
+    ensures { IfSome result (λ r. (r.0 ≡ first) × (r.1 ≡ second)) }
 {
     let Ok((one, mut pass)) = CountedBox::<u8, A, 3, Open>::new(alloc, 0) else {
-        return Err(AllocError.into());
+        return None;
     };
-    let other = one.try_clone_as(rt, &mut pass)?;
-    let (base, allocation, places) = Allocation::new(alloc, 2)?;
+    let Ok(other) = one.try_clone_as(rt, &mut pass) else {
+        return None;
+    };
+    let Ok((base, allocation, places)) = Allocation::new(alloc, 2) else {
+        return None;
+    };
     let (one, part, inheritance) = lent_by(one, places);
     let (front, back) = part.split(1);
     let (one, front) = written_by(one, front, base, 0, first);
@@ -118,32 +121,36 @@ fn written_by_two<T: Drop, A: Allocator + Copy>(
     let second = lodger.take_last();
     let first = lodger.take_last();
     allocation.free(under.vacate(lodger));
-    Ok((first, second))
+    Some((first, second))
 }
 
-#[test]
-fn owned_items_written_by_two_owners(rt: HostRuntime) -> Result<(), Fail> {
-    let heap = LocalHeap::new(rt.alloc(), 1024)?;
-    let (first, second) = (Box::new(rt.alloc(), 7u8)?, Box::new(rt.alloc(), 8u8)?);
-    let (first, second) = written_by_two(&rt, &heap, first, second)?;
-    assert!(rt; (*first, *second, heap.used()) == (7, 8, 0));
-    Ok(())
+/// The numbers in boxes that were written so.
+fn boxes_written<A: Allocator + Copy>(
+    rt: &impl Wait,
+    boxes: Global,
+    alloc: A,
+    numbers: (u8, u8),
+) -> Option<(u8, u8)> {
+    let first = Box::new(boxes, numbers.0).ok()?;
+    let second = Box::new(boxes, numbers.1).ok()?;
+    let (first, second) = written_by_two(rt, alloc, first, second)?;
+    Some((*first, *second))
 }
 
 /// A number that one owner wrote, and whether another one reads it while the first lives, by its
 /// own share of the lifetime: the first, then alone, has it back.
-fn read_by_other<A: Allocator + Copy>(
-    rt: &impl Wait,
-    alloc: A,
-    number: u64,
-) -> Result<(bool, u64), Fail>
-    ensures { IfOk result (λ r. (r.0 ≡ true) × (r.1 ≡ number)) }
+fn read_by_other<A: Allocator + Copy>(rt: &impl Wait, alloc: A, number: u64) -> Option<(bool, u64)>
+    ensures { IfSome result (λ r. (r.0 ≡ true) × (r.1 ≡ number)) }
 {
     let Ok((one, mut pass)) = CountedBox::<u8, A, 3, Open>::new(alloc, 0) else {
-        return Err(AllocError.into());
+        return None;
     };
-    let other = one.try_clone_as(rt, &mut pass)?;
-    let (base, allocation, places) = Allocation::new(alloc, 1)?;
+    let Ok(other) = one.try_clone_as(rt, &mut pass) else {
+        return None;
+    };
+    let Ok((base, allocation, places)) = Allocation::new(alloc, 1) else {
+        return None;
+    };
     let (one, part, inheritance) = lent_by(one, places);
     let (one, part) = written_by(one, part, base, 0, number);
     let (rest, lifetime) = other.take_lifetime();
@@ -155,13 +162,14 @@ fn read_by_other<A: Allocator + Copy>(
     let (mut lodger, under) = unsafe { Lodging::house(places, base, 0, 1, 1) };
     let number = lodger.take_last();
     allocation.free(under.vacate(lodger));
-    Ok((same, number))
+    Some((same, number))
 }
 
 #[test]
-fn number_read_beside_its_writer(rt: HostRuntime) -> Result<(), Fail> {
+fn written_and_read_by_two(rt: HostRuntime) -> Result<(), Fail> {
     let heap = LocalHeap::new(rt.alloc(), 1024)?;
-    let read = read_by_other(&rt, &heap, 7)?;
-    assert!(rt; (read, heap.used()) == ((true, 7), 0));
+    assert!(rt; boxes_written(&rt, rt.alloc(), &heap, (7, 8)) == Some((7, 8)));
+    assert!(rt; read_by_other(&rt, &heap, 7) == Some((true, 7)));
+    assert!(rt; heap.used() == 0);
     Ok(())
 }

@@ -12,7 +12,7 @@ use arc_owners::error::{AllocError, CountFull};
 use arc_owners::mark::Open;
 use arc_owners::owners::{CountedBox, Pass, SoleBox};
 use linked_list_allocator::LocalHeap;
-use std::alloc::Allocator;
+use std::alloc::{Allocator, Global};
 use std::mem;
 use std::sync::Wait;
 use std::test::Fail;
@@ -132,56 +132,67 @@ fn had_back<T: Drop, A: Allocator + Copy>(
     alloc: A,
     first: T,
     second: T,
-) -> Result<(T, T), Fail> {
-    let (reader, mut pass) = first_reader(alloc, first, second)?;
-    let other = reader.try_clone(rt, &mut pass)?;
-    drop(reader);
-    let Some((base, places, allocation)) = other.release(&mut pass) else {
-        return Err("the last one".into());
+) -> Option<(T, T)> {
+    let Ok((reader, mut pass)) = first_reader(alloc, first, second) else {
+        return None;
     };
+    let Ok(other) = reader.try_clone(rt, &mut pass) else {
+        return None;
+    };
+    drop(reader);
+    let (base, places, allocation) = other.release(&mut pass)?;
     let (mut lodger, under) = unsafe { Lodging::house(places, base, 0, 2, allocation.count()) };
     let second = lodger.take_last();
     let first = lodger.take_last();
     allocation.free(under.vacate(lodger));
-    Ok((first, second))
+    Some((first, second))
+}
+
+/// The same of numbers in boxes.
+fn boxes_had_back<A: Allocator + Copy>(
+    rt: &impl Wait,
+    boxes: Global,
+    alloc: A,
+    numbers: (u8, u8),
+) -> Option<(u8, u8)> {
+    let first = Box::new(boxes, numbers.0).ok()?;
+    let second = Box::new(boxes, numbers.1).ok()?;
+    let (first, second) = had_back(rt, alloc, first, second)?;
+    Some((*first, *second))
 }
 
 #[test]
 fn had_back_by_the_last_reader(rt: HostRuntime) -> Result<(), Fail> {
     let heap = LocalHeap::new(rt.alloc(), 1024)?;
-    let numbers = had_back(&rt, &heap, 7u64, 8)?;
-    assert!(rt; (numbers, heap.used()) == ((7, 8), 0));
-    let (first, second) = (Box::new(rt.alloc(), 7u8)?, Box::new(rt.alloc(), 8u8)?);
-    let (first, second) = had_back(&rt, &heap, first, second)?;
-    assert!(rt; (*first, *second, heap.used()) == (7, 8, 0));
+    assert!(rt; had_back(&rt, &heap, 7u64, 8) == Some((7, 8)));
+    assert!(rt; boxes_had_back(&rt, rt.alloc(), &heap, (7, 8)) == Some((7, 8)));
+    assert!(rt; heap.used() == 0);
     Ok(())
 }
 
-/// Whether two readers read the numbers, the second one also after the first is dropped.
-fn read_by_two<A: Allocator + Copy>(rt: &impl Wait, alloc: A) -> Result<[bool; 3], Fail> {
-    let (first, mut pass) = first_reader(alloc, 7u64, 8)?;
-    let second = first.try_clone(rt, &mut pass)?;
-    let both = (first.as_slice(), second.as_slice()) == ([7, 8].as_slice(), [7, 8].as_slice());
+/// Whether two readers read the numbers, the second one also in part, and after the first is
+/// dropped.
+fn read_by_two<A: Allocator + Copy>(rt: &impl Wait, alloc: A) -> Option<[bool; 4]> {
+    let Ok((first, mut pass)) = first_reader(alloc, 7u64, 8) else {
+        return None;
+    };
+    let Ok(second) = first.try_clone(rt, &mut pass) else {
+        return None;
+    };
+    let one = first.as_slice() == [7, 8].as_slice();
+    let other = second.as_slice() == [7, 8].as_slice();
     drop(first);
     let part = unsafe {
         second
             .range
             .as_slice(second.owner.get().lifetime(), second.base.at, 1, 2)
     };
-    Ok([
-        both,
+    Some([
+        one,
+        other,
         part == [8].as_slice(),
         second.as_slice() == [7, 8].as_slice(),
     ])
-}
-
-/// Both readers are dropped, so the memory is given back.
-#[test]
-fn memory_given_back_by_drop(rt: HostRuntime) -> Result<(), Fail> {
-    let heap = LocalHeap::new(rt.alloc(), 1024)?;
-    let read = read_by_two(&rt, &heap)?;
-    assert!(rt; (read, heap.used()) == ([true; 3], 0));
-    Ok(())
 }
 
 /// The same memory, lent for another lifetime, with the same items frozen there.
@@ -200,9 +211,12 @@ fn lent_again<T, A: Allocator>(
     (part.freeze(lent.lifetime()), lent)
 }
 
-/// Whether the numbers are read that an owner, alone, took back and lent anew, for another lifetime.
-fn lent_anew_alone<A: Allocator + Copy>(alloc: A) -> Result<bool, Fail> {
-    let (reader, mut pass) = first_reader(alloc, 7u64, 8)?;
+/// Whether the numbers are read that an owner, alone, took back and lent anew, for another
+/// lifetime.
+fn lent_anew_alone<A: Allocator + Copy>(alloc: A) -> Option<bool> {
+    let Ok((reader, mut pass)) = first_reader(alloc, 7u64, 8) else {
+        return None;
+    };
     let Reader {
         owner,
         range,
@@ -210,19 +224,11 @@ fn lent_anew_alone<A: Allocator + Copy>(alloc: A) -> Result<bool, Fail> {
         end: _,
     } = reader;
     let Ok(lent) = owner.try_into_value_as(&mut pass) else {
-        return Err("alone".into());
+        return None;
     };
     let (range, lent) = lent_again(lent, &range);
     let seen = unsafe { range.as_slice(lent.lifetime(), base, 0, 2) };
-    Ok(seen == [7, 8].as_slice())
-}
-
-#[test]
-fn lent_anew_where_alone(rt: HostRuntime) -> Result<(), Fail> {
-    let heap = LocalHeap::new(rt.alloc(), 1024)?;
-    let read = lent_anew_alone(&heap)?;
-    assert!(rt; (read, heap.used()) == (true, 0));
-    Ok(())
+    Some(seen == [7, 8].as_slice())
 }
 
 /// The value of an only owner, which has another one from then on.
@@ -243,12 +249,12 @@ fn lent_for_next_lease<T: Drop, A: Allocator + Copy>(
     alloc: A,
     reader: Reader<T, A>,
     pass: &mut Pass<Open>,
-) -> Result<Reader<T, A>, Fail>
+) -> Option<Reader<T, A>>
     requires pass { IsPassFor (owner_in reader.owner) pass.old }
     requires full { (value_of reader.owner).allocation.count ≡ 2
         × (reader.end ≡ 2) }
-    ensures items { IfOk result (λ r. r.range.items ≡ reader.range.items) }
-    ensures pass { IfOk result (λ r. IsPassFor (owner_in r.owner) pass.new) }
+    ensures items { IfSome result (λ r. r.range.items ≡ reader.range.items) }
+    ensures pass { IfSome result (λ r. IsPassFor (owner_in r.owner) pass.new) }
 {
     let Reader {
         owner,
@@ -257,13 +263,15 @@ fn lent_for_next_lease<T: Drop, A: Allocator + Copy>(
         end,
     } = reader;
     let Ok(mut sole) = owner.try_into_sole_as(pass) else {
-        return Err("alone".into());
+        return None;
     };
-    let (_base, none, idle) = LentAllocation::new(alloc, 0)?;
+    let Ok((_base, none, idle)) = LentAllocation::new(alloc, 0) else {
+        return None;
+    };
     none.give_up();
     let (range, lent) = lent_again(replaced(&mut sole, idle), &range);
     drop(replaced(&mut sole, lent));
-    Ok(Reader {
+    Some(Reader {
         owner: sole.lend(),
         range,
         base,
@@ -271,48 +279,59 @@ fn lent_for_next_lease<T: Drop, A: Allocator + Copy>(
     })
 }
 
-#[test]
-fn lent_anew_under_the_same_history(rt: HostRuntime) -> Result<(), Fail> {
-    let heap = LocalHeap::new(rt.alloc(), 1024)?;
-    let (first, mut pass) = first_reader(&heap, 7u64, 8)?;
-    let first = lent_for_next_lease(&heap, first, &mut pass)?;
-    let second = first.try_clone(&rt, &mut pass)?;
+/// Whether the numbers are read by a second reader of the next lease, once the first is dropped.
+fn lent_anew<A: Allocator + Copy>(rt: &impl Wait, alloc: A) -> Option<bool> {
+    let Ok((first, mut pass)) = first_reader(alloc, 7u64, 8) else {
+        return None;
+    };
+    let first = lent_for_next_lease(alloc, first, &mut pass)?;
+    let Ok(second) = first.try_clone(rt, &mut pass) else {
+        return None;
+    };
     drop(first);
-    let read = second.as_slice() == [7, 8].as_slice();
-    drop(second);
-    assert!(rt; (read, heap.used()) == (true, 0));
-    Ok(())
+    Some(second.as_slice() == [7, 8].as_slice())
 }
 
 /// A vector of the memory of a part that was never written, and was frozen by what an owner shows.
-fn vector_of_regained<T: Drop, A: Allocator + Copy>(alloc: A, item: T) -> Result<Vec<T, A>, Fail>
-    ensures { IfOk result (λ items. items.items ≡ item ∷ []) }
+fn vector_of_regained<T: Drop, A: Allocator + Copy>(alloc: A, item: T) -> Option<Vec<T, A>>
+    ensures { IfSome result (λ items. items.items ≡ item ∷ []) }
 {
-    let (_base, part, lent) = LentAllocation::new(alloc, 2)?;
+    let Ok((_base, part, lent)) = LentAllocation::new(alloc, 2) else {
+        return None;
+    };
     let Ok((owner, mut pass)) = CountedBox::<LentAllocation<T, A>, _, 3, Open>::new(alloc, lent)
     else {
         part.give_up();
-        return Err(AllocError.into());
+        return None;
     };
     let (none, room) = part.split(0);
     room.give_up();
     drop(none.freeze(owner.get().lifetime()));
-    let Some(lent) = owner.release_as(&mut pass) else {
-        return Err("alone".into());
-    };
+    let lent = owner.release_as(&mut pass)?;
     let (places, allocation) = lent.regain_empty();
     let mut items = put_together(allocation, places);
     items.push_reserved(item);
-    Ok(items)
+    Some(items)
 }
 
+/// How many boxes a vector of regained memory has, its places, and the number in the first box.
+fn box_in_regained(boxes: Global, heap: &LocalHeap, number: u8) -> Option<(usize, usize, u8)> {
+    let boxes = vector_of_regained(heap, Box::new(boxes, number).ok()?)?;
+    match boxes.as_slice() {
+        [first] => Some((boxes.len(), boxes.capacity(), **first)),
+        _ => None,
+    }
+}
+
+/// Whether all readers are dropped or the last one is released, the memory is given back.
 #[test]
-fn vector_of_regained_memory(rt: HostRuntime) -> Result<(), Fail> {
+fn read_and_lent_anew(rt: HostRuntime) -> Result<(), Fail> {
     let heap = LocalHeap::new(rt.alloc(), 1024)?;
-    let boxes = vector_of_regained(&heap, Box::new(rt.alloc(), 7u8)?)?;
-    let held = (boxes.len(), boxes.capacity(), *boxes[0]);
-    drop(boxes);
-    assert!(rt; (held, heap.used()) == ((1, 2, 7), 0));
+    assert!(rt; read_by_two(&rt, &heap) == Some([true; 4]));
+    assert!(rt; lent_anew_alone(&heap) == Some(true));
+    assert!(rt; lent_anew(&rt, &heap) == Some(true));
+    assert!(rt; box_in_regained(rt.alloc(), &heap, 7) == Some((1, 2, 7)));
+    assert!(rt; heap.used() == 0);
     Ok(())
 }
 

@@ -1,6 +1,6 @@
 //! Memory: taken apart and put together, cut and joined, edited by a lodging vector, lent, and
 //! frozen.
-ghost use Rattle.std.specs.Prelude.{◌≡◌, ◌≤◌, [], ◌∷◌, IfOk, length};
+ghost use Rattle.std.specs.Prelude.{◌≡◌, ◌≤◌, [], ◌∷◌, IfOk, IfSome, length};
 ghost use Rattle.std.specs.Vec.{vec_capacity};
 
 use arc_memory::{Allocation, LentPlaces, LifetimeToken, Lodging, put_together, take_apart};
@@ -19,14 +19,16 @@ fn two_items<T: Drop, A: Allocator>(
     places: usize,
     first: T,
     second: T,
-) -> Result<Vec<T, A>, AllocError>
+) -> Option<Vec<T, A>>
     requires { 2 ≤ places }
-    ensures { IfOk result (λ v. (v.items ≡ first ∷ second ∷ []) × (vec_capacity v ≡ places)) }
+    ensures { IfSome result (λ v. (v.items ≡ first ∷ second ∷ []) × (vec_capacity v ≡ places)) }
 {
-    let mut items = Vec::with_capacity(alloc, places)?;
+    let Ok(mut items) = Vec::with_capacity(alloc, places) else {
+        return None;
+    };
     items.push_reserved(first);
     items.push_reserved(second);
-    Ok(items)
+    Some(items)
 }
 
 /// A vector, taken apart and put together again: of how many places, and whether these are the
@@ -46,50 +48,61 @@ fn seen_apart<T: PartialEq, A: Allocator>(
     (count, seen, put_together(allocation, places))
 }
 
-#[test]
-fn numbers_apart_and_together(rt: HostRuntime) -> Result<(), Fail> {
-    let heap = LocalHeap::new(rt.alloc(), 1024)?;
-    let numbers = Vec::from_slice(&heap, &[1u64, 2, 3])?;
+/// A vector of three items.
+fn three_of<T: Copy + Drop, A: Allocator>(alloc: A, items: [T; 3]) -> Option<Vec<T, A>>
+    ensures { IfSome result (λ v. length v.items ≡ 3) }
+{
+    match Vec::from_slice(alloc, &items) {
+        Ok(items) => Some(items),
+        Err(_) => None,
+    }
+}
+
+/// What is seen of three numbers in three ranges, and whether they are the same at last; their
+/// places.
+fn numbers_apart(heap: &LocalHeap) -> Option<([bool; 4], [usize; 2])> {
+    let numbers = three_of(heap, [1u64, 2, 3])?;
     let (count, all, numbers) = seen_apart(numbers, 0, 3, &[1, 2, 3]);
     let (_, part, numbers) = seen_apart(numbers, 1, 2, &[2]);
     let (_, none, numbers) = seen_apart(numbers, 3, 3, &[]);
     let same = numbers.as_slice() == [1, 2, 3].as_slice();
-    let sizes = [count, numbers.capacity()];
-    drop(numbers);
-    assert!(rt; ([all, part, none, same], sizes, heap.used()) == ([true; 4], [3, 3], 0));
-    Ok(())
+    Some(([all, part, none, same], [count, numbers.capacity()]))
 }
 
-/// With room past the items, which are owned and dropped one by one.
-#[test]
-fn owned_items_apart_and_together(rt: HostRuntime) -> Result<(), Fail> {
-    let heap = LocalHeap::new(rt.alloc(), 1024)?;
-    let boxes = two_items(&heap, 4, Box::new(&heap, 7u8)?, Box::new(&heap, 8u8)?)?;
-    let (count, seen, mut boxes) = seen_apart(boxes, 1, 2, &[Box::new(&heap, 8u8)?]);
-    boxes.push(Box::new(&heap, 9u8)?)?;
-    let sizes = [count, boxes.len(), boxes.capacity()];
-    drop(boxes);
-    assert!(rt; (seen, sizes, heap.used()) == (true, [4, 3, 4], 0));
-    Ok(())
+/// A number in a box.
+fn boxed(heap: &LocalHeap, number: u8) -> Option<Box<u8, &LocalHeap>> {
+    Box::new(heap, number).ok()
 }
 
-#[test]
-fn items_of_no_size_apart_and_together(rt: HostRuntime) -> Result<(), Fail> {
-    let heap = LocalHeap::new(rt.alloc(), 1024)?;
-    let nothings = Vec::from_slice(&heap, &[Nothing; 3])?;
+/// Two boxes with so many places.
+fn two_boxes(heap: &LocalHeap, places: usize) -> Option<Vec<Box<u8, &LocalHeap>, &LocalHeap>>
+    requires { 2 ≤ places }
+    ensures { IfSome result (λ v. (length v.items ≡ 2) × (vec_capacity v ≡ places)) }
+{
+    two_items(heap, places, boxed(heap, 7)?, boxed(heap, 8)?)
+}
+
+/// Whether the second of two boxes is seen, that are dropped one by one; and with one more behind
+/// them their places, as they were and are, and how many they are.
+fn boxes_apart(heap: &LocalHeap) -> Option<(bool, [usize; 3])> {
+    let wanted = [boxed(heap, 8)?];
+    let (count, seen, boxes) = seen_apart(two_boxes(heap, 4)?, 1, 2, &wanted);
+    let mut boxes = boxes;
+    boxes.push(boxed(heap, 9)?).ok()?;
+    Some((seen, [count, boxes.len(), boxes.capacity()]))
+}
+
+/// Whether two of three items of no size are seen, and how many are left.
+fn nothings_apart(heap: &LocalHeap) -> Option<(bool, usize)> {
+    let nothings = three_of(heap, [Nothing; 3])?;
     let (_, seen, nothings) = seen_apart(nothings, 1, 3, &[Nothing; 2]);
-    let len = nothings.len();
-    drop(nothings);
-    assert!(rt; (seen, len, heap.used()) == (true, 3, 0));
-    Ok(())
+    Some((seen, nothings.len()))
 }
 
-#[test]
-fn no_places_apart_and_together(rt: HostRuntime) -> Result<(), Fail> {
-    let none = Vec::<u64, _>::new(rt.alloc());
-    let (count, seen, none) = seen_apart(none, 0, 0, &[]);
-    assert!(rt; (count, seen, none.len(), none.capacity()) == (0, true, 0, 0));
-    Ok(())
+/// What is seen of a vector without places.
+fn none_apart(heap: &LocalHeap) -> (bool, [usize; 3]) {
+    let (count, seen, none) = seen_apart(Vec::<u64, _>::new(heap), 0, 0, &[]);
+    (seen, [count, none.len(), none.capacity()])
 }
 
 /// Cut, edited by a vector that lodges in a part, and joined again: the last item, and the vector
@@ -107,26 +120,43 @@ fn last_replaced<T, A: Allocator>(items: Vec<T, A>, item: T) -> (T, Vec<T, A>)
     (last, put_together(allocation, places))
 }
 
+/// The last number of a vector, and whether another one is in its place.
+fn number_replaced(heap: &LocalHeap) -> Option<(u64, bool)> {
+    let (last, numbers) = last_replaced(three_of(heap, [1u64, 2, 3])?, 4);
+    Some((last, numbers.as_slice() == [1, 2, 4].as_slice()))
+}
+
 #[test]
-fn number_replaced_in_a_part(rt: HostRuntime) -> Result<(), Fail> {
+fn apart_and_together(rt: HostRuntime) -> Result<(), Fail> {
     let heap = LocalHeap::new(rt.alloc(), 1024)?;
-    let (last, numbers) = last_replaced(Vec::from_slice(&heap, &[1u64, 2, 3])?, 4);
-    let same = numbers.as_slice() == [1, 2, 4].as_slice();
-    drop(numbers);
-    assert!(rt; (last, same, heap.used()) == (3, true, 0));
+    assert!(rt; numbers_apart(&heap) == Some(([true; 4], [3, 3])));
+    assert!(rt; boxes_apart(&heap) == Some((true, [4, 3, 4])));
+    assert!(rt; nothings_apart(&heap) == Some((true, 3)));
+    assert!(rt; none_apart(&heap) == (true, [0; 3]));
+    assert!(rt; number_replaced(&heap) == Some((3, true)));
+    assert!(rt; heap.used() == 0);
     Ok(())
+}
+
+/// Whether memory is taken by four empty places, which are given back. None where more than there
+/// is is had.
+fn given_back(heap: &LocalHeap) -> Option<bool> {
+    if let Ok((_base, allocation, places)) = Allocation::<u64, _>::new(heap, usize::MAX) {
+        allocation.free(places);
+        return None;
+    }
+    let Ok((_base, allocation, places)) = Allocation::<u64, _>::new(heap, 4) else {
+        return None;
+    };
+    let used = heap.used();
+    allocation.free(places);
+    Some(0 < used)
 }
 
 #[test]
 fn empty_places_given_back(rt: HostRuntime) -> Result<(), Fail> {
     let heap = LocalHeap::new(rt.alloc(), 256)?;
-    if let Ok((_base, allocation, places)) = Allocation::<u64, _>::new(&heap, usize::MAX) {
-        allocation.free(places);
-        return Err("more than there is".into());
-    }
-    let (_base, allocation, places) = Allocation::<u64, _>::new(&heap, 4)?;
-    assert!(rt; 0 < heap.used());
-    allocation.free(places);
+    assert!(rt; given_back(&heap) == Some(true));
     assert!(rt; heap.used() == 0);
     Ok(())
 }
@@ -165,14 +195,10 @@ fn written_in_parts<T, A: Allocator>(items: Vec<T, A>, item: T) -> (T, Vec<T, A>
     (last, put_together(allocation, places))
 }
 
-#[test]
-fn lent_in_parts_and_regained(rt: HostRuntime) -> Result<(), Fail> {
-    let heap = LocalHeap::new(rt.alloc(), 1024)?;
-    let (last, numbers) = written_in_parts(two_items(&heap, 4, 1u64, 2)?, 7);
-    let same = numbers.as_slice() == [1, 7].as_slice();
-    drop(numbers);
-    assert!(rt; (last, same, heap.used()) == (2, true, 0));
-    Ok(())
+/// The number whose place was taken in parts, and whether the other one is there.
+fn numbers_in_parts(heap: &LocalHeap) -> Option<(u64, bool)> {
+    let (last, numbers) = written_in_parts(two_items(heap, 4, 1u64, 2)?, 7);
+    Some((last, numbers.as_slice() == [1, 7].as_slice()))
 }
 
 /// Two items, of which the first is taken from a part that is then given up: the part behind takes
@@ -196,18 +222,18 @@ fn regained_behind<T, A: Allocator>(items: Vec<T, A>) -> Vec<T, A>
     put_together(allocation, places)
 }
 
-#[test]
-fn owned_items_lent_and_regained(rt: HostRuntime) -> Result<(), Fail> {
-    let heap = LocalHeap::new(rt.alloc(), 1024)?;
-    let boxes = two_items(&heap, 2, Box::new(&heap, 7u8)?, Box::new(&heap, 8u8)?)?;
-    let boxes = regained_behind(boxes);
-    let held = match boxes.as_slice() {
-        [first, second] => (**first, **second),
-        _ => (0, 0),
-    };
-    drop(boxes);
-    assert!(rt; (held, heap.used()) == ((7, 8), 0));
-    Ok(())
+/// The numbers in two boxes.
+fn held<A: Allocator>(boxes: &[Box<u8, A>]) -> Option<(u8, u8)> {
+    match boxes {
+        [first, second] => Some((**first, **second)),
+        _ => None,
+    }
+}
+
+/// The numbers in boxes that were regained behind a part.
+fn boxes_behind(heap: &LocalHeap) -> Option<(u8, u8)> {
+    let boxes = regained_behind(two_boxes(heap, 2)?);
+    held(boxes.as_slice())
 }
 
 /// The room before an item is lent by itself, for the same lifetime as the item's: the item, from
@@ -227,14 +253,6 @@ fn two_rooms<T: Drop, A: Allocator>(alloc: A, item: T) -> Result<T, AllocError> 
     let item = lodger.take_last();
     allocation.free(before.join(under.vacate(lodger)));
     Ok(item)
-}
-
-#[test]
-fn two_rooms_lent_and_regained(rt: HostRuntime) -> Result<(), Fail> {
-    let heap = LocalHeap::new(rt.alloc(), 1024)?;
-    let item = two_rooms(&heap, 5u64)?;
-    assert!(rt; (item, heap.used()) == (5, 0));
-    Ok(())
 }
 
 /// Two items exchanged by two writers, whose parts are out at once.
@@ -260,14 +278,10 @@ fn exchanged<T, A: Allocator>(items: Vec<T, A>) -> Vec<T, A>
     put_together(allocation, places)
 }
 
-#[test]
-fn two_writers_at_once(rt: HostRuntime) -> Result<(), Fail> {
-    let heap = LocalHeap::new(rt.alloc(), 1024)?;
-    let numbers = exchanged(two_items(&heap, 2, 1u64, 2)?);
-    let same = numbers.as_slice() == [2, 1].as_slice();
-    drop(numbers);
-    assert!(rt; (same, heap.used()) == (true, 0));
-    Ok(())
+/// Whether two numbers were exchanged.
+fn numbers_exchanged(heap: &LocalHeap) -> Option<bool> {
+    let numbers = exchanged(two_items(heap, 2, 1u64, 2)?);
+    Some(numbers.as_slice() == [2, 1].as_slice())
 }
 
 /// Three items, lent in two parts that are joined again, and regained.
@@ -283,13 +297,20 @@ fn cut_and_regained<T, A: Allocator>(items: Vec<T, A>) -> Vec<T, A>
     put_together(allocation, places)
 }
 
+/// How many items of no size are left.
+fn nothings_regained(heap: &LocalHeap) -> Option<usize> {
+    Some(cut_and_regained(three_of(heap, [Nothing; 3])?).len())
+}
+
 #[test]
-fn items_of_no_size_lent_and_regained(rt: HostRuntime) -> Result<(), Fail> {
+fn lent_and_regained(rt: HostRuntime) -> Result<(), Fail> {
     let heap = LocalHeap::new(rt.alloc(), 1024)?;
-    let nothings = cut_and_regained(Vec::from_slice(&heap, &[Nothing; 3])?);
-    let len = nothings.len();
-    drop(nothings);
-    assert!(rt; (len, heap.used()) == (3, 0));
+    assert!(rt; numbers_in_parts(&heap) == Some((2, true)));
+    assert!(rt; boxes_behind(&heap) == Some((7, 8)));
+    assert!(rt; two_rooms(&heap, 5u64).ok() == Some(5));
+    assert!(rt; numbers_exchanged(&heap) == Some(true));
+    assert!(rt; nothings_regained(&heap) == Some(3));
+    assert!(rt; heap.used() == 0);
     Ok(())
 }
 
@@ -339,29 +360,21 @@ fn read_frozen<T: PartialEq, A: Allocator>(
     (seen, put_together(allocation, places))
 }
 
-/// Read from the first place on, in the middle, and behind the last item.
-#[test]
-fn numbers_frozen_and_read(rt: HostRuntime) -> Result<(), Fail> {
-    let heap = LocalHeap::new(rt.alloc(), 1024)?;
-    let numbers = Vec::from_slice(&heap, &[1u64, 2, 3])?;
+/// What is seen of three numbers from the first place on, in the middle, and behind the last item;
+/// and how many are left.
+fn numbers_read(heap: &LocalHeap) -> Option<([[bool; 2]; 3], usize)> {
+    let numbers = three_of(heap, [1u64, 2, 3])?;
     let (all, numbers) = read_frozen(numbers, 0, 3, &[1, 2, 3]);
     let (part, numbers) = read_frozen(numbers, 1, 2, &[2]);
     let (none, numbers) = read_frozen(numbers, 3, 3, &[]);
-    let len = numbers.len();
-    drop(numbers);
-    assert!(rt; ([all, part, none], len, heap.used()) == ([[true; 2]; 3], 3, 0));
-    Ok(())
+    Some(([all, part, none], numbers.len()))
 }
 
-#[test]
-fn items_of_no_size_frozen_and_read(rt: HostRuntime) -> Result<(), Fail> {
-    let heap = LocalHeap::new(rt.alloc(), 1024)?;
-    let nothings = Vec::from_slice(&heap, &[Nothing; 3])?;
+/// The same of items of no size, in one range.
+fn nothings_read(heap: &LocalHeap) -> Option<([bool; 2], usize)> {
+    let nothings = three_of(heap, [Nothing; 3])?;
     let (seen, nothings) = read_frozen(nothings, 1, 3, &[Nothing; 2]);
-    let len = nothings.len();
-    drop(nothings);
-    assert!(rt; (seen, len, heap.used()) == ([true; 2], 3, 0));
-    Ok(())
+    Some((seen, nothings.len()))
 }
 
 /// Two items in four places, of which the first is taken from a part that is then given up, and the
@@ -389,18 +402,10 @@ fn regained_around<T, A: Allocator>(items: Vec<T, A>) -> Vec<T, A>
     put_together(allocation, places)
 }
 
-#[test]
-fn owned_items_frozen_and_regained(rt: HostRuntime) -> Result<(), Fail> {
-    let heap = LocalHeap::new(rt.alloc(), 1024)?;
-    let boxes = two_items(&heap, 4, Box::new(&heap, 7u8)?, Box::new(&heap, 8u8)?)?;
-    let boxes = regained_around(boxes);
-    let held = match boxes.as_slice() {
-        [first, second] => (**first, **second, boxes.capacity()),
-        _ => (0, 0, 0),
-    };
-    drop(boxes);
-    assert!(rt; (held, heap.used()) == ((7, 8, 4), 0));
-    Ok(())
+/// The numbers in boxes that were regained around a part, and their places.
+fn boxes_around(heap: &LocalHeap) -> Option<((u8, u8), usize)> {
+    let boxes = regained_around(two_boxes(heap, 4)?);
+    Some((held(boxes.as_slice())?, boxes.capacity()))
 }
 
 /// Two readers have the range of two items, and one a part of it, while a writer's part behind,
@@ -435,14 +440,22 @@ fn read_beside_a_writer<T: PartialEq, A: Allocator>(
     (seen, item, put_together(allocation, places))
 }
 
-#[test]
-fn two_readers_beside_a_writer(rt: HostRuntime) -> Result<(), Fail> {
-    let heap = LocalHeap::new(rt.alloc(), 1024)?;
-    let numbers = two_items(&heap, 3, 1u64, 2)?;
+/// What two readers see of two numbers beside a writer, the number that this wrote, and whether the
+/// two are the same at last.
+fn numbers_beside(heap: &LocalHeap) -> Option<([bool; 3], u64, bool)> {
+    let numbers = two_items(heap, 3, 1u64, 2)?;
     let (seen, item, numbers) = read_beside_a_writer(numbers, 9, [&[1, 2], &[2]]);
-    let same = numbers.as_slice() == [1, 2].as_slice();
-    drop(numbers);
-    assert!(rt; (seen, item, same, heap.used()) == ([true; 3], 9, true, 0));
+    Some((seen, item, numbers.as_slice() == [1, 2].as_slice()))
+}
+
+#[test]
+fn frozen_and_read(rt: HostRuntime) -> Result<(), Fail> {
+    let heap = LocalHeap::new(rt.alloc(), 1024)?;
+    assert!(rt; numbers_read(&heap) == Some(([[true; 2]; 3], 3)));
+    assert!(rt; nothings_read(&heap) == Some(([true; 2], 3)));
+    assert!(rt; boxes_around(&heap) == Some(((7, 8), 4)));
+    assert!(rt; numbers_beside(&heap) == Some(([true; 3], 9, true)));
+    assert!(rt; heap.used() == 0);
     Ok(())
 }
 

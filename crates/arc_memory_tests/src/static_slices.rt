@@ -3,7 +3,7 @@ ghost use Rattle.std.specs.Prelude.{◌≡◌, ◌≤◌, [], length};
 ghost use Rattle.arc_buffer.specs.Slice.{sub};
 
 use arc_block::static_slice::{StaticItems, StaticShare, StaticSlice};
-use std::alloc::Layout;
+use std::alloc::{Global, Layout};
 use std::test::Fail;
 use std::thread;
 
@@ -45,19 +45,31 @@ fn empty_beside<T>(items: &[T]) -> StaticSlice<T>
     StaticSlice::empty()
 }
 
+/// Whether a part of a part has these items, and one without items has none, and how many the
+/// whole and that one have.
+fn part_of_part(part: &StaticSlice<u8>, whole: &StaticSlice<u8>) -> ([bool; 3], (usize, usize))
+    requires { 3 ≤ length part.now }
+{
+    let none = part.part(3, 3);
+    let told = [
+        part.part(1, 3).as_slice() == b"ll".as_slice(),
+        none.is_empty(),
+        none.as_slice() == b"".as_slice(),
+    ];
+    (told, lengths(whole, &none))
+}
+
 #[test]
 fn made_read_and_cut(rt: HostRuntime) -> Result<(), Fail> {
     let whole = StaticSlice::new(b"Hello");
-    assert!(rt; whole.as_slice() == b"Hello".as_slice());
-    assert!(rt; whole.len() == 5);
-    assert!(rt; !whole.is_empty());
     let part = whole.part(1, 4);
-    assert!(rt; part.as_slice() == b"ell".as_slice());
-    assert!(rt; part.part(1, 3).as_slice() == b"ll".as_slice());
-    let none = part.part(3, 3);
-    assert!(rt; none.is_empty());
-    assert!(rt; none.as_slice() == b"".as_slice());
-    assert!(rt; lengths(&whole, &none) == (5, 0));
+    let told = [
+        whole.as_slice() == b"Hello".as_slice(),
+        !whole.is_empty(),
+        part.as_slice() == b"ell".as_slice(),
+    ];
+    let cut = part_of_part(&part, &whole);
+    assert!(rt; (whole.len(), told, cut) == (5, [true; 3], ([true; 3], (5, 0))));
     Ok(())
 }
 
@@ -75,35 +87,47 @@ fn empty_of_any_items(rt: HostRuntime) -> Result<(), Fail> {
 #[test]
 fn given_back_while_another_lives(rt: HostRuntime) -> Result<(), Fail> {
     let whole = StaticSlice::new(b"Hello");
-    let again = whole.again();
-    let items: &'static [u8] = again.into_static();
-    assert!(rt; items == whole.as_slice());
+    let items: &'static [u8] = whole.again().into_static();
+    let is_same = items == whole.as_slice();
     drop(whole);
-    assert!(rt; items == b"Hello".as_slice());
+    assert!(rt; (is_same, items) == (true, b"Hello".as_slice()));
     assert!(rt; part_of(&NUMBERS, 1, 3) == [3u32, 5].as_slice());
     Ok(())
 }
 
-#[test]
-fn kept_in_a_vector(rt: HostRuntime) -> Result<(), Fail> {
-    let whole = StaticSlice::new(b"Hello");
-    let mut slots: Vec<Option<StaticSlice<u8>>, _> = Vec::new(rt.alloc());
-    slots.push(Some(whole.again()))?;
-    slots.push(None)?;
-    slots.push(Some(whole.part(0, 2)))?;
-    slots.push(Some(whole))?;
+/// Slices with this one in a vector, beside nothing, a second one and a part.
+fn kept(alloc: Global, whole: StaticSlice<u8>) -> Option<Vec<Option<StaticSlice<u8>>>>
+    requires { 2 ≤ length whole }
+{
+    let mut slots = Vec::with_capacity(alloc, 4).ok()?;
+    slots.push(Some(whole.again())).ok()?;
+    slots.push(None).ok()?;
+    slots.push(Some(whole.part(0, 2))).ok()?;
+    slots.push(Some(whole)).ok()?;
+    Some(slots)
+}
+
+/// How many items they have in all, and whether the last one has these once the others are dropped.
+fn seen(slots: Vec<Option<StaticSlice<u8>>>, wanted: &[u8]) -> Option<(usize, bool)> {
+    let mut slots = slots;
     let mut total = 0usize;
     for slot in slots.as_slice() {
         if let Some(slice) = slot {
             total = total.saturating_add(slice.as_slice().len());
         }
     }
-    assert!(rt; total == 12);
-    let Some(Some(last)) = slots.pop() else {
-        return Err("a slice".into());
-    };
+    let last = slots.pop()??;
     drop(slots);
-    assert!(rt; last.as_slice() == b"Hello".as_slice());
+    Some((total, last.as_slice() == wanted))
+}
+
+#[test]
+fn kept_in_a_vector(rt: HostRuntime) -> Result<(), Fail> {
+    let found = match kept(rt.alloc(), StaticSlice::new(b"Hello")) {
+        Some(slots) => seen(slots, b"Hello"),
+        None => None,
+    };
+    assert!(rt; found == Some((12, true)));
     Ok(())
 }
 
@@ -120,10 +144,11 @@ fn sent_to_a_thread(rt: HostRuntime) -> Result<(), Fail> {
 #[test]
 fn items_of_no_size(rt: HostRuntime) -> Result<(), Fail> {
     let whole = StaticSlice::new(&NOTHINGS);
-    assert!(rt; whole.len() == 3);
-    assert!(rt; whole.as_slice() == [Nothing; 3].as_slice());
-    assert!(rt; whole.part(1, 3).into_static() == [Nothing; 2].as_slice());
-    assert!(rt; part_of(&NOTHINGS, 2, 2).len() == 0);
+    let told = [
+        whole.as_slice() == [Nothing; 3].as_slice(),
+        whole.part(1, 3).into_static() == [Nothing; 2].as_slice(),
+    ];
+    assert!(rt; (whole.len(), told, part_of(&NOTHINGS, 2, 2).len()) == (3, [true; 2], 0));
     Ok(())
 }
 
@@ -144,19 +169,23 @@ fn items_that_are_references(rt: HostRuntime) -> Result<(), Fail> {
 fn read_by_place_and_range(rt: HostRuntime) -> Result<(), Fail> {
     let (base, kept) = StaticShare::of(b"Hello");
     let again = kept.again();
-    assert!(rt; kept.as_slice(base, 0, 5) == b"Hello".as_slice());
-    assert!(rt; again.as_slice(base, 1, 4) == b"ell".as_slice());
-    let items = again.as_static(base, 2, 2);
+    let told = [
+        kept.as_slice(base, 0, 5) == b"Hello".as_slice(),
+        again.as_slice(base, 1, 4) == b"ell".as_slice(),
+        again.as_static(base, 2, 2).is_empty(),
+    ];
     drop(again);
-    assert!(rt; items.is_empty());
-    assert!(rt; kept.as_static(base, 4, 5) == b"o".as_slice());
+    assert!(rt; (told, kept.as_static(base, 4, 5)) == ([true; 3], b"o".as_slice()));
     Ok(())
 }
 
 #[test]
 fn three_words_of_memory(rt: HostRuntime) -> Result<(), Fail> {
-    assert!(rt; Layout::new::<StaticSlice<u8>>().size() == 24);
-    assert!(rt; Layout::new::<StaticItems<u8>>().size() == 8);
-    assert!(rt; Layout::new::<StaticShare<u8>>().size() == 0);
+    let sizes = [
+        Layout::new::<StaticSlice<u8>>().size(),
+        Layout::new::<StaticItems<u8>>().size(),
+        Layout::new::<StaticShare<u8>>().size(),
+    ];
+    assert!(rt; sizes == [24, 8, 0]);
     Ok(())
 }

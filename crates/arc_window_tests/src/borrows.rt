@@ -1,5 +1,6 @@
 //! Borrowed parts: a caller, and printed text.
 
+use crate::printing::debugs;
 use arc_block::layout::{DefaultLayout, Layout};
 use arc_buffer::kinds::Plain;
 use arc_owners::error::OwnerError;
@@ -48,15 +49,14 @@ fn made_windows(rt: HostRuntime) -> Result<(), Fail> {
 }
 
 /// Whether `{:?}` of the second and third of three bytes is this text.
-fn part_prints(alloc: Global, text: &str) -> Result<bool, Fail> {
-    let window: ArcSlice<Plain<u8>> = ArcSlice::try_from_slice(alloc, b"abc")?;
+fn part_prints(alloc: Global, text: &str) -> Option<bool> {
+    let window: ArcSlice<Plain<u8>> = ArcSlice::try_from_slice(alloc, b"abc").ok()?;
     let part = window.borrow(1, 3);
-    let written = format!(in alloc; "{part:?}")?;
-    Ok(written.as_str() == text)
+    debugs(alloc, &part, text)
 }
 
 #[test]
 fn parts_printed(rt: HostRuntime) -> Result<(), Fail> {
-    assert!(rt; part_prints(rt.alloc(), "b\"bc\"")?);
+    assert!(rt; part_prints(rt.alloc(), "b\"bc\"") == Some(true));
     Ok(())
 }

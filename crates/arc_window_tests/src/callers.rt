@@ -7,7 +7,7 @@ ghost use Rattle.arc_owners.specs.declared.error.TryReserveError.TheVariants.{Un
 ghost use Rattle.arc_buffer.specs.Buffers.{unsupported_names_no_owner, vec_names_no_owner};
 ghost use Rattle.arc_buffer.specs.Buffers.{vec_written, vec_refusal};
 
-use arc_buffer::buffer::{Buffer, BufferMut, Lend, LendMut};
+use arc_buffer::buffer::{BorrowMetadata, Buffer, BufferMut, Lend, LendMut};
 use arc_owners::error::TryReserveError;
 
 /// Bytes whose places are all that they have: each request is unsupported.
@@ -136,10 +136,11 @@ impl BufferMut<u8> for Later {
     ghost names_no_owner = { λ _ _. vec_names_no_owner 0 };
 }
 
-/// A type that lends its bytes to be written.
+/// A type that lends its bytes to be written, and a number.
 #[derive(Drop)]
 pub struct Lent {
     pub bytes: Vec<u8>,
+    pub number: u32,
 }
 
 impl Lend<u8> for Lent {
@@ -166,4 +167,14 @@ impl LendMut<u8> for Lent {
     ghost agrees_part = { λ b start xs. vec_written b.bytes start xs };
 
     ghost agrees = { λ b xs same. with_items_is b.bytes xs (same ∙ sym b.bytes.ok.0) };
+}
+
+impl BorrowMetadata for Lent {
+    type Metadata = u32;
+
+    ghost metadata = { λ b. b.number };
+
+    fn borrow_metadata(&self) -> &u32 {
+        &self.number
+    }
 }

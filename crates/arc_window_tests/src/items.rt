@@ -3,8 +3,7 @@ ghost use Rattle.std.specs.Prelude.{◌≡◌, ◌<◌, length, slice_set};
 
 use arc_block::layout::{DefaultLayoutMut, LayoutMut};
 use arc_buffer::buffer::BufferMut;
-use arc_buffer::kinds::{AnyItems, Plain};
-use arc_owners::error::AllocError;
+use arc_buffer::kinds::AnyItems;
 use arc_owners::mark::{Mark, Whole};
 use arc_owners::owners::Pass;
 use arc_write::slice_mut::{ArcBytesMut, ArcSliceMut};
@@ -41,50 +40,47 @@ fn set_in_place(rt: HostRuntime) -> Result<(), Fail> {
     Ok(())
 }
 
-#[test]
-fn zeros_with_one_pass(rt: HostRuntime) -> Result<(), Fail> {
+/// Whether two zeros and a byte that was pushed are there, with one pass.
+fn zeros_and(alloc: Global, byte: u8) -> Option<bool> {
     let mut pass = Pass::none();
-    let mut window: ArcSliceMut<Plain<u8>, DefaultLayoutMut, 1, Vec<u8>, (), Global, Whole> =
-        ArcSliceMut::try_zeroed_as(rt.alloc(), 2, &mut pass)?;
-    assert!(rt; window.try_push_as(7, &mut pass).is_ok());
-    assert!(rt; window.as_slice() == [0, 0, 7].as_slice());
+    let made: Result<ArcBytesMut<DefaultLayoutMut, Vec<u8>, (), Global, Whole>, _> =
+        ArcSliceMut::try_zeroed_as(alloc, 2, &mut pass);
+    let Ok(mut window) = made else {
+        return None;
+    };
+    let is_pushed = window.try_push_as(byte, &mut pass).is_ok();
+    let is_there = (is_pushed, window.as_slice()) == (true, [0, 0, byte].as_slice());
     window.release_as(&mut pass);
-    Ok(())
+    Some(is_there)
 }
 
-#[test]
-fn zeros_and_memory(rt: HostRuntime) -> Result<(), Fail> {
-    let heap = LocalHeap::new(rt.alloc(), 512)?;
-    let none: ArcBytesMut<DefaultLayoutMut, Vec<u8>, (), &LocalHeap> = ArcSliceMut::try_zeroed(
-        &heap, 0,
-    )?;
-    assert!(rt; heap.used() == 0);
-    assert!(rt; none.is_empty());
-    assert!(rt; none.capacity() == 0);
-    let large: Result<ArcBytesMut<DefaultLayoutMut, Vec<u8>, (), &LocalHeap>, AllocError> =
-        ArcSliceMut::try_zeroed(&heap, 1000);
-    assert!(rt; large.is_err());
-    assert!(rt; heap.used() == 0);
-    Ok(())
+/// The places of a window of so many zeros, and what is taken.
+fn zeroed(heap: &LocalHeap, count: usize) -> Option<(usize, usize, usize)> {
+    let window: ArcBytesMut<DefaultLayoutMut, Vec<u8>, (), &LocalHeap> = ArcSliceMut::try_zeroed(
+        heap, count,
+    ).ok()?;
+    Some((window.len(), window.capacity(), heap.used()))
 }
 
-/// So many sevens, and as many nines behind them.
-fn sevens_and_nines(alloc: Global, count: usize) -> Result<ArcBytesMut, Fail> {
-    let mut window: ArcBytesMut = ArcSliceMut::try_with_capacity(alloc, count)?;
-    let sevens = vec![in alloc; 7u8; count]?;
+/// Whether a window has so many sevens, and as many nines behind them, once both were pushed.
+fn sevens_and_nines(alloc: Global, count: usize) -> Result<bool, Fail> {
+    let mut wanted = vec![in alloc; 7u8; count]?;
     let nines = vec![in alloc; 9u8; count]?;
-    window.try_extend_from_slice(sevens.as_slice())?;
+    let mut window: ArcBytesMut = ArcSliceMut::try_with_capacity(alloc, count)?;
+    window.try_extend_from_slice(wanted.as_slice())?;
     window.try_extend_from_slice(nines.as_slice())?;
-    Ok(window)
+    wanted.extend_from_slice(nines.as_slice())?;
+    Ok(window.as_slice() == wanted.as_slice())
 }
 
 #[test]
-fn long_slices_pushed(rt: HostRuntime) -> Result<(), Fail> {
+fn zeros_and_long_slices(rt: HostRuntime) -> Result<(), Fail> {
+    assert!(rt; zeros_and(rt.alloc(), 7) == Some(true));
+    let heap = LocalHeap::new(rt.alloc(), 512)?;
+    let told = [zeroed(&heap, 0), zeroed(&heap, 1000)];
+    assert!(rt; (told, heap.used()) == ([Some((0, 0, 0)), None], 0));
     for count in [0usize, 1, 15, 16, 33, 1000] {
-        let window = sevens_and_nines(rt.alloc(), count)?;
-        assert!(rt; window.as_slice().iter().filter(|item| **item == 7).count() == count);
-        assert!(rt; window.as_slice().iter().take(count).all(|item| *item == 7));
-        assert!(rt; window.as_slice().iter().skip(count).all(|item| *item == 9));
+        assert!(rt; sevens_and_nines(rt.alloc(), count)?);
     }
     Ok(())
 }

@@ -4,35 +4,27 @@ use arc_buffer::kinds::{Owned, Plain};
 use arc_read::slice::ArcSlice;
 use linked_list_allocator::LocalHeap;
 use std::alloc::{Allocator, Global};
-use std::sync::Arc;
-use std::sync::atomic::{AtomicU64, Ordering};
+use std::sync::{Arc, Wait};
 use std::test::Fail;
 
 /// Windows over bytes.
 type Bytes<L, A = Global> = ArcSlice<Plain<u8>, L, Vec<u8>, (), A>;
 
-/// An `Arc` of a vector of these bytes.
-fn shared_bytes<A: Allocator + Copy>(
-    vec_alloc: Global,
-    alloc: A,
-    bytes: &[u8],
-) -> Result<Arc<Vec<u8>, A>, Fail> {
-    match Arc::new(alloc, Vec::from_slice(vec_alloc, bytes)?) {
-        Ok(shared) => Ok(shared),
-        Err(_) => Err("no memory for the Arc".into()),
-    }
-}
+/// The layout without static data that holds any buffer.
+type Any = ArcLayout<true, false>;
 
-/// A window over an `Arc`, as the layout keeps it.
+/// The layout with static data that holds no buffers.
+type Static = ArcLayout<false, true>;
+
+/// A window over an `Arc` of a vector of these bytes, as the layout keeps it.
 fn raw_window<L: AnyBufferLayout, A: Allocator + Copy>(
     vec_alloc: Global,
     alloc: A,
     bytes: &[u8],
-) -> Result<Bytes<L, A>, Fail> {
-    match Bytes::try_from_raw_buffer(alloc, shared_bytes(vec_alloc, alloc, bytes)?) {
-        Ok(window) => Ok(window),
-        Err(_) => Err("no memory".into()),
-    }
+) -> Option<Bytes<L, A>> {
+    let bytes = Vec::from_slice(vec_alloc, bytes).ok()?;
+    let shared = Arc::new(alloc, bytes).ok()?;
+    Bytes::try_from_raw_buffer(alloc, shared).ok()
 }
 
 /// Ends a window on an `Arc` that is a block by itself, whose pass is of none.
@@ -41,204 +33,229 @@ fn released<A: Allocator + Copy>(window: Bytes<RawLayout, A>) {
     window.release_as(&mut pass);
 }
 
+/// A window on an `Arc` by itself: whether it is alone beside a clone, whether it then takes as
+/// much as before, whether all bytes come back then, and whether the clone reads on once these are
+/// dropped.
+fn beside_a_clone(
+    rt: &impl Wait,
+    heap: &LocalHeap,
+    window: Bytes<RawLayout, &LocalHeap>,
+    before: usize,
+) -> Option<[bool; 4]> {
+    let clone = window.try_clone(rt).ok()?;
+    let (is_alone, is_all) = (window.is_unique(), heap.used() == before);
+    let shared = window.try_into_raw_buffer().ok()?;
+    let is_whole = shared.as_slice() == [1u8, 2, 3].as_slice();
+    drop(shared);
+    let is_read = clone.as_slice() == [1u8, 2, 3].as_slice();
+    Some([is_alone, is_all, is_whole, is_read])
+}
+
 /// An `Arc` that is a block by itself is never alone, and comes back whole beside a clone, which
-/// reads on. No memory is taken, and all is given back with the last one.
-#[test]
-fn arc_by_itself(rt: HostRuntime) -> Result<(), Fail> {
-    let heap = LocalHeap::new(rt.alloc(), 1024)?;
+/// reads on. No memory is taken.
+fn by_itself(rt: &impl Wait, vec_alloc: Global, heap: &LocalHeap) -> Option<[bool; 4]> {
+    let bytes = Vec::from_slice(vec_alloc, &[1, 2, 3]).ok()?;
+    let shared = Arc::new(heap, bytes).ok()?;
     let before = heap.used();
-    let shared = shared_bytes(rt.alloc(), &heap, &[1, 2, 3])?;
-    let taken = heap.used();
-    let Ok(window) = Bytes::<RawLayout, &LocalHeap>::try_from_raw_buffer(&heap, shared) else {
-        return Err("refused".into());
-    };
-    let clone = window.try_clone(&rt)?;
-    assert!(rt; (window.is_unique(), heap.used()) == (false, taken));
-    let Ok(shared) = window.try_into_raw_buffer() else {
-        return Err("refused beside a clone".into());
-    };
-    assert!(rt; shared.as_slice() == [1u8, 2, 3].as_slice());
-    drop(shared);
-    assert!(rt; clone.as_slice() == [1u8, 2, 3].as_slice());
-    drop(clone);
-    assert!(rt; heap.used() == before);
-    Ok(())
+    let window = Bytes::try_from_raw_buffer(heap, shared).ok()?;
+    beside_a_clone(rt, heap, window, before)
 }
 
-/// Its parts don't give it back, and each way in which they end does so with the last one. A part
-/// without items stands on nothing.
-#[test]
-fn parts_of_an_arc(rt: HostRuntime) -> Result<(), Fail> {
-    let heap = LocalHeap::new(rt.alloc(), 1024)?;
-    let before = heap.used();
-    let window = raw_window::<RawLayout, &LocalHeap>(rt.alloc(), &heap, &[1, 2, 3])?;
-    assert!(rt; window.check_range(1, 3) == Ok(()));
-    let part = window.try_subslice(&rt, 1, 3)?;
+/// The part behind the first byte, whose window is released.
+fn part_behind<A: Allocator + Copy>(
+    rt: &impl Wait,
+    window: Bytes<RawLayout, A>,
+) -> Option<Bytes<RawLayout, A>> {
+    if window.check_range(1, 3).is_err() {
+        return None;
+    }
+    let part = window.try_subslice(rt, 1, 3).ok()?;
     released(window);
-    assert!(rt; part.check_range(1, 1) == Ok(()));
-    let none = part.try_subslice(&rt, 1, 1)?;
-    assert!(rt; none.try_into_static().is_ok());
-    let Err(part) = part.try_into_raw_buffer() else {
-        return Err("a part".into());
-    };
-    let Err(part) = part.try_into_static() else {
-        return Err("of another sort".into());
-    };
-    assert!(rt; part.as_slice() == [2u8, 3].as_slice());
+    Some(part)
+}
+
+/// Whether a part without items stands on nothing.
+fn is_none_on_nothing<A: Allocator + Copy>(
+    rt: &impl Wait,
+    part: &Bytes<RawLayout, A>,
+) -> Option<bool> {
+    if part.check_range(1, 1).is_err() {
+        return None;
+    }
+    let none = part.try_subslice(rt, 1, 1).ok()?;
+    Some(none.try_into_static().is_ok())
+}
+
+/// Parts of an `Arc` give back neither that nor static data, and end as windows do; one without
+/// items stands on nothing. Whether that does, and whether the part reads its bytes.
+fn parts<A: Allocator + Copy>(rt: &impl Wait, vec_alloc: Global, alloc: A) -> Option<[bool; 2]> {
+    let part = part_behind(rt, raw_window(vec_alloc, alloc, &[1, 2, 3])?)?;
+    let on_nothing = is_none_on_nothing(rt, &part)?;
+    let part = part.try_into_raw_buffer().err()?;
+    let part = part.try_into_static().err()?;
+    let is_kept = part.as_slice() == [2u8, 3].as_slice();
     part.drop_with_unique_hint();
-    assert!(rt; heap.used() == before);
-    Ok(())
+    Some([on_nothing, is_kept])
 }
 
-/// It is given a count, and left for a clone of it.
-#[test]
-fn arc_counted_and_back(rt: HostRuntime) -> Result<(), Fail> {
-    let heap = LocalHeap::new(rt.alloc(), 1024)?;
-    let before = heap.used();
-    let window = raw_window::<RawLayout, &LocalHeap>(rt.alloc(), &heap, &[1])?;
+/// A window that is given a count, and beside a clone leaves it, which no layout without buffers
+/// has. Whether more is taken with the count, and beside the clone, and as much as before once that
+/// has ended.
+fn counted_and_left<'a>(
+    rt: &impl Wait,
+    heap: &'a LocalHeap,
+    window: Bytes<RawLayout, &'a LocalHeap>,
+) -> Option<([bool; 3], Bytes<RawLayout, &'a LocalHeap>)> {
     let alone = heap.used();
-    let Ok(window) = window.try_with_layout::<DefaultLayout>() else {
-        return Err("no count".into());
+    let window = window.try_with_layout::<DefaultLayout>().ok()?;
+    let counted = heap.used();
+    let clone = window.try_clone(rt).ok()?;
+    let window = window.try_with_layout::<RawLayout>().ok()?;
+    let beside = heap.used();
+    drop(clone.try_with_layout::<Static>().err()?);
+    Some((
+        [alone < counted, alone < beside, heap.used() == alone],
+        window,
+    ))
+}
+
+/// The same, and whether the window, which no layout without buffers has, reads the byte, and gives
+/// its `Arc` back.
+fn counted_and_back<'a>(
+    rt: &impl Wait,
+    heap: &'a LocalHeap,
+    window: Bytes<RawLayout, &'a LocalHeap>,
+) -> Option<([bool; 3], [bool; 2])> {
+    let (taken, window) = counted_and_left(rt, heap, window)?;
+    let window = window.try_with_layout::<Static>().err()?;
+    let is_read = window.as_slice() == [1u8].as_slice();
+    let shared = window.try_into_raw_buffer().ok()?;
+    Some((taken, [is_read, shared.as_slice() == [1u8].as_slice()]))
+}
+
+/// However the windows on an `Arc` end, all is given back with the last one.
+#[test]
+fn arcs_by_themselves(rt: HostRuntime) -> Result<(), Fail> {
+    let heap = LocalHeap::new(rt.alloc(), 1024)?;
+    assert!(rt; by_itself(&rt, rt.alloc(), &heap) == Some([false, true, true, true]));
+    assert!(rt; parts(&rt, rt.alloc(), &heap) == Some([true; 2]));
+    let told = match raw_window(rt.alloc(), &heap, &[1]) {
+        Some(window) => counted_and_back(&rt, &heap, window),
+        None => None,
     };
-    assert!(rt; alone < heap.used());
-    let clone = window.try_clone(&rt)?;
-    let Ok(window) = window.try_with_layout::<RawLayout>() else {
-        return Err("not left".into());
-    };
-    assert!(rt; window.as_slice() == [1u8].as_slice());
-    assert!(rt; alone < heap.used());
-    let Err(clone) = clone.try_with_layout::<ArcLayout<false, true>>() else {
-        return Err("not held".into());
-    };
-    drop(clone);
-    assert!(rt; heap.used() == alone);
-    let Err(window) = window.try_with_layout::<ArcLayout<false, true>>() else {
-        return Err("not held".into());
-    };
-    let Ok(shared) = window.try_into_raw_buffer() else {
-        return Err("the Arc refused".into());
-    };
-    assert!(rt; shared.as_slice() == [1u8].as_slice());
-    drop(shared);
-    assert!(rt; heap.used() == before);
+    assert!(rt; told == Some(([true; 3], [true; 2])));
+    assert!(rt; heap.used() == 0);
     Ok(())
 }
 
-/// Whether a window may go to the layout, with the same items.
-fn goes<L: Layout, K: Layout>(window: Bytes<L>) -> bool {
-    let len = window.len();
+/// Whether a window goes to the layout, or comes back, with the bytes `abcd`, and whether it is
+/// alone then.
+fn gone<L: Layout, K: Layout>(window: Bytes<L>) -> (bool, bool, bool) {
     match window.try_with_layout::<K>() {
-        Ok(moved) => moved.len() == len,
-        Err(_) => false,
+        Ok(moved) => (true, moved.eq_slice(b"abcd"), moved.is_unique()),
+        Err(window) => (false, window.eq_slice(b"abcd"), window.is_unique()),
     }
 }
 
-/// Static data and blocks of a caller's making go where they are held, and native ones anywhere.
-#[test]
-fn held_or_handed_back(rt: HostRuntime) -> Result<(), Fail> {
-    let fixed: Bytes<DefaultLayout> = ArcSlice::from_static(rt.alloc(), b"abcd");
-    let Err(fixed) = fixed.try_with_layout::<ArcLayout<true, false>>() else {
-        return Err("static data".into());
-    };
-    assert!(rt; fixed.as_slice() == b"abcd".as_slice());
-    let native: Bytes<DefaultLayout> = ArcSlice::try_from_slice(rt.alloc(), b"abcd")?;
-    let Ok(native) = native.try_with_layout::<ArcLayout<false, true>>() else {
-        return Err("a native block".into());
-    };
-    assert!(rt; native.as_slice() == b"abcd".as_slice());
-    let items = Vec::from_slice(rt.alloc(), b"abcd")?;
-    let Ok(vector) = Bytes::<DefaultLayout>::try_from_vec(rt.alloc(), items) else {
-        return Err("no memory".into());
-    };
-    let Err(vector) = vector.try_with_layout::<ArcLayout<false, true>>() else {
-        return Err("a vector".into());
-    };
-    assert!(rt; vector.is_unique());
-    assert!(rt; goes::<_, RawLayout>(vector));
-    Ok(())
+/// A window over a vector of these bytes.
+fn vector(alloc: Global) -> Option<Bytes<DefaultLayout>> {
+    Bytes::try_from_vec(alloc, Vec::from_slice(alloc, b"abcd").ok()?).ok()
 }
 
-/// On nothing a window gets a block of no places where the layout has no static data.
-#[test]
-fn block_for_nothing(rt: HostRuntime) -> Result<(), Fail> {
-    let none: Bytes<ArcLayout<true, true>> = ArcSlice::new(rt.alloc());
-    let Ok(none) = none.try_with_layout::<RawLayout>() else {
-        return Err("static data is there".into());
-    };
-    assert!(rt; !none.is_unique());
-    let Ok(none) = none.try_with_layout::<ArcLayout<true, false>>() else {
-        return Err("no memory".into());
-    };
-    assert!(rt; none.is_empty());
-    assert!(rt; none.is_unique());
-    Ok(())
+/// What is told of moves of static data, a native block, and a vector.
+fn moves(alloc: Global) -> Option<[(bool, bool, bool); 4]> {
+    Some([
+        gone::<_, Any>(Bytes::<DefaultLayout>::from_static(alloc, b"abcd")),
+        gone::<_, Static>(Bytes::<DefaultLayout>::try_from_slice(alloc, b"abcd").ok()?),
+        gone::<_, Static>(vector(alloc)?),
+        gone::<_, RawLayout>(vector(alloc)?),
+    ])
+}
+
+/// Of a window without items, whether it is alone with static data, and without whether it still
+/// has none and is.
+fn none_moved(alloc: Global) -> Option<[bool; 3]> {
+    let none: Bytes<ArcLayout<true, true>> = ArcSlice::new(alloc);
+    let none = none.try_with_layout::<RawLayout>().ok()?;
+    let before = none.is_unique();
+    let none = none.try_with_layout::<Any>().ok()?;
+    Some([before, none.is_empty(), none.is_unique()])
+}
+
+/// Whether a window on an `Arc` by itself was given a count, or what is taken is as before and the
+/// window as it was. None where there is no memory for the `Arc`.
+fn count_given(vec_alloc: Global, heap: &LocalHeap) -> Option<(bool, bool)> {
+    let window = raw_window::<RawLayout, &LocalHeap>(vec_alloc, heap, &[1])?;
+    let alone = heap.used();
+    match window.try_with_layout::<DefaultLayout>() {
+        Ok(window) => Some((true, window.as_slice() == [1u8].as_slice())),
+        Err(window) => {
+            let is_kept = (window.as_slice(), heap.used()) == ([1u8].as_slice(), alone);
+            Some((false, is_kept))
+        }
+    }
 }
 
 /// Where memory for a new block is refused the window is handed back, and nothing is taken.
 #[test]
 fn memory_refused_in_a_move(rt: HostRuntime) -> Result<(), Fail> {
-    let mut refused = 0u32;
-    for units in 4..24usize {
+    let mut found = [false; 2];
+    for units in 1..24usize {
         let heap = LocalHeap::new(rt.alloc(), units * 16)?;
-        let items = Vec::from_slice(rt.alloc(), &[1u8])?;
-        let Ok(shared) = Arc::new(&heap, items) else {
-            continue;
-        };
-        let Ok(window) = Bytes::<RawLayout, &LocalHeap>::try_from_raw_buffer(&heap, shared) else {
-            return Err("refused".into());
-        };
-        let alone = heap.used();
-        match window.try_with_layout::<DefaultLayout>() {
-            Ok(window) => drop(window),
-            Err(window) => {
-                refused = refused.wrapping_add(1);
-                assert!(rt; heap.used() == alone);
-                assert!(rt; window.as_slice() == [1u8].as_slice());
-            }
+        match count_given(rt.alloc(), &heap) {
+            Some((true, true)) => found[0] = true,
+            Some((false, true)) => found[1] = true,
+            Some((_, false)) => return Err("another answer".into()),
+            None => {}
         }
-        assert!(rt; heap.used() < alone);
+        assert!(rt; heap.used() == 0);
     }
-    assert!(rt; 0 < refused && refused < 20);
+    assert!(rt; found == [true; 2]);
     Ok(())
 }
 
-/// An item that counts how often it was dropped.
-struct Counted<'a> {
-    drops: &'a AtomicU64,
-}
+type Items<L> = ArcSlice<Owned<Arc<u8>>, L, Vec<Arc<u8>>>;
 
-impl Drop for Counted<'_> {
-    fn drop(self) {
-        let Self { drops } = self;
-        drops.fetch_add(1, Ordering::SeqCst);
-    }
-}
-
-type Items<'a, L> = ArcSlice<Owned<Counted<'a>>, L, Vec<Counted<'a>>>;
-
-/// The buffer behind an `Arc` is dropped once, by whoever ends last.
-#[test]
-fn buffer_dropped_once(rt: HostRuntime) -> Result<(), Fail> {
-    let drops = AtomicU64::new(0);
-    let mut items = Vec::with_capacity(rt.alloc(), 1)?;
-    items.push(Counted { drops: &drops })?;
-    let shared = Arc::new(rt.alloc(), items)?;
-    let Ok(window) = Items::<'_, RawLayout>::try_from_raw_buffer(rt.alloc(), shared) else {
-        return Err("refused".into());
-    };
-    let clone = window.try_clone(&rt)?;
-    let Ok(counted) = window.try_with_layout::<DefaultLayout>() else {
-        return Err("no memory".into());
-    };
-    let other = counted.try_clone(&rt)?;
-    let Ok(left) = counted.try_with_layout::<RawLayout>() else {
-        return Err("not left".into());
-    };
+/// How many of an item there are once two windows on the `Arc` of its buffer, and a counted one,
+/// have ended beside one that left the count.
+fn beside_the_last(
+    rt: &impl Wait,
+    window: Items<RawLayout>,
+    item: &Arc<u8>,
+) -> Option<(usize, usize)> {
+    let clone = window.try_clone(rt).ok()?;
+    let counted = window.try_with_layout::<DefaultLayout>().ok()?;
+    let other = counted.try_clone(rt).ok()?;
+    let left = counted.try_with_layout::<RawLayout>().ok()?;
     drop(other);
     drop(clone);
-    assert!(rt; drops.load(Ordering::SeqCst) == 0);
-    assert!(rt; left.len() == 1);
-    drop(left);
-    assert!(rt; drops.load(Ordering::SeqCst) == 1);
+    Some((Arc::strong_count(item), left.len()))
+}
+
+/// The same of a buffer of one item, and how many of it there are at the end.
+fn items_dropped(rt: &impl Wait, alloc: Global) -> Option<((usize, usize), usize)> {
+    let item = Arc::new(alloc, 7u8).ok()?;
+    let mut items = Vec::with_capacity(alloc, 1).ok()?;
+    items.push(Arc::try_clone(&item).ok()?).ok()?;
+    let shared = Arc::new(alloc, items).ok()?;
+    let window = Items::<RawLayout>::try_from_raw_buffer(alloc, shared).ok()?;
+    let beside = beside_the_last(rt, window, &item)?;
+    Some((beside, Arc::strong_count(&item)))
+}
+
+/// Static data and blocks of a caller's making go where they are held, and native ones anywhere. On
+/// nothing a window gets a block of no places where the layout has no static data. The buffer
+/// behind an `Arc` is dropped once, by whoever ends last.
+#[test]
+fn held_or_handed_back(rt: HostRuntime) -> Result<(), Fail> {
+    let wanted = [
+        (false, true, false),
+        (true, true, true),
+        (false, true, true),
+        (true, true, true),
+    ];
+    assert!(rt; moves(rt.alloc()) == Some(wanted));
+    assert!(rt; none_moved(rt.alloc()) == Some([false, true, true]));
+    assert!(rt; items_dropped(&rt, rt.alloc()) == Some(((2, 1), 1)));
     Ok(())
 }

@@ -14,17 +14,29 @@ mod items;
 #[cfg(test)]
 mod layouts;
 #[cfg(test)]
+mod living;
+#[cfg(test)]
 mod owned;
+#[cfg(test)]
+mod owned_buffers;
+#[cfg(test)]
+mod printing;
 #[cfg(test)]
 mod reader_adapters;
 #[cfg(test)]
 mod readers;
+#[cfg(test)]
+mod refused_buffers;
+#[cfg(test)]
+mod seen;
 #[cfg(test)]
 mod static_readers;
 #[cfg(test)]
 mod taken_back;
 #[cfg(test)]
 mod threads;
+#[cfg(test)]
+mod vectors;
 #[cfg(test)]
 mod writer_adapters;
 #[cfg(test)]

@@ -1,4 +1,5 @@
 //! Owned items: each is dropped once, or stays with its forgotten owner.
+use crate::living::{Values, first_three, last_two, living, values};
 use arc_block::layout::{DefaultLayout, DefaultLayoutMut};
 use arc_buffer::kinds::Owned;
 use arc_owners::error::TryReserveError;
@@ -7,193 +8,186 @@ use arc_owners::owners::Pass;
 use arc_write::slice_mut::ArcSliceMut;
 use linked_list_allocator::LocalHeap;
 use std::alloc::Global;
-use std::sync::atomic::{AtomicU64, Ordering};
+use std::sync::{Arc, Wait};
 use std::test::Fail;
 
-/// An item that counts how often it was dropped.
-struct Counted<'a> {
-    drops: &'a AtomicU64,
-}
-
-impl Drop for Counted<'_> {
-    fn drop(self) {
-        let Self { drops } = self;
-        drops.fetch_add(1, Ordering::SeqCst);
-    }
-}
-
-/// How often each of five items was dropped.
-#[derive(Drop)]
-struct Counts {
-    a: AtomicU64,
-    b: AtomicU64,
-    c: AtomicU64,
-    d: AtomicU64,
-    e: AtomicU64,
-}
-
-impl Counts {
-    fn new() -> Counts {
-        Counts {
-            a: AtomicU64::new(0),
-            b: AtomicU64::new(0),
-            c: AtomicU64::new(0),
-            d: AtomicU64::new(0),
-            e: AtomicU64::new(0),
-        }
-    }
-
-    fn now(&self) -> [u64; 5] {
-        [&self.a, &self.b, &self.c, &self.d, &self.e].map(|count| count.load(Ordering::SeqCst))
-    }
-}
-
-type Writer<'a, A = Global, H = Open> = ArcSliceMut<
-    Owned<Counted<'a>>,
+type Writer<A = Global, H = Open> = ArcSliceMut<
+    Owned<Arc<u8>>,
     DefaultLayoutMut,
     1,
-    Vec<Counted<'a>>,
+    Vec<Arc<u8>>,
     (),
     A,
     H,
 >;
 
-/// A window that is forgotten where it is dropped.
-type Forgotten<'a> = Writer<'a, &'a LocalHeap, Whole>;
-
-type Boxes<'a> = ArcSliceMut<Owned<Box<Counted<'a>>>, DefaultLayoutMut, 1, Vec<Box<Counted<'a>>>>;
-
-/// An item in a box.
-fn boxed(alloc: Global, drops: &AtomicU64) -> Result<Box<Counted<'_>>, Fail> {
-    Ok(Box::new(alloc, Counted { drops })?)
-}
-
-/// The first two of three items, behind which the third stays in the block.
-fn cut_short(alloc: Global, counts: &Counts) -> Result<Boxes<'_>, Fail> {
-    let items = [
-        boxed(alloc, &counts.a)?,
-        boxed(alloc, &counts.b)?,
-        boxed(alloc, &counts.c)?,
-    ];
-    let Ok(mut window) = Boxes::try_from_array(alloc, items) else {
-        return Err("no memory".into());
-    };
-    window.truncate(2);
-    Ok(window)
-}
-
-/// Items that are moved to a larger block are not dropped, and those that are cut off stay in the
-/// block until its release.
-#[test]
-fn dropped_at_the_release(rt: HostRuntime) -> Result<(), Fail> {
-    let counts = Counts::new();
-    let mut window: Writer = ArcSliceMut::new(rt.alloc());
-    for drops in [&counts.a, &counts.b, &counts.c, &counts.d, &counts.e] {
-        assert!(rt; window.try_push(Counted { drops }).is_ok());
+/// A window to which all five were pushed, and its places.
+fn pushed(alloc: Global, values: &Values) -> Option<Writer> {
+    let mut window = Writer::new(alloc);
+    for value in values.as_slice() {
+        window.try_push(Arc::try_clone(value).ok()?).ok()?;
     }
-    assert!(rt; window.capacity() == 8);
+    Some(window)
+}
+
+/// The places of a window, and its items and places once it is cut to the second and the third;
+/// how many owners there are then.
+fn cut(window: Writer, values: &Values) -> Option<([usize; 3], [usize; 5])> {
+    let mut window = window;
+    let places = window.capacity();
     if window.check_at(1).is_err() {
-        return Err("fewer items than that".into());
+        return None;
     }
     window.advance(1);
     window.truncate(2);
-    assert!(rt; (window.len(), window.capacity()) == (2, 2));
-    assert!(rt; counts.now() == [0; 5]);
+    let sizes = [places, window.len(), window.capacity()];
+    let found = living(values);
     drop(window);
-    assert!(rt; counts.now() == [1; 5]);
-    Ok(())
+    Some((sizes, found))
 }
 
-/// Items that are frozen are dropped by the last owner.
-#[test]
-fn dropped_after_freezing(rt: HostRuntime) -> Result<(), Fail> {
-    let counts = Counts::new();
-    let window = cut_short(rt.alloc(), &counts)?;
-    let Ok(frozen) = window.try_freeze::<DefaultLayout>() else {
-        return Err("not frozen".into());
-    };
-    let clone = frozen.try_clone(&rt)?;
+/// What is told of a cut, and how many owners there are at the end.
+fn cut_and_dropped(alloc: Global) -> Option<(([usize; 3], [usize; 5]), [usize; 5])> {
+    let values = values(alloc)?;
+    let told = cut(pushed(alloc, &values)?, &values)?;
+    Some((told, living(&values)))
+}
+
+/// The first two of three items, behind which the third stays in the block.
+fn cut_short(alloc: Global, values: &Values) -> Option<Writer> {
+    let mut window = Writer::try_from_array(alloc, first_three(values)?).ok()?;
+    window.truncate(2);
+    Some(window)
+}
+
+/// How many owners there are once a frozen window has ended beside a clone, which then ends.
+fn frozen(rt: &impl Wait, window: Writer, values: &Values) -> Option<[usize; 5]> {
+    let frozen = window.try_freeze::<DefaultLayout>().ok()?;
+    let clone = frozen.try_clone(rt).ok()?;
     drop(frozen);
-    assert!(rt; counts.now() == [0; 5]);
+    let found = living(values);
     drop(clone);
-    assert!(rt; counts.now() == [1, 1, 1, 0, 0]);
+    Some(found)
+}
+
+/// How an item more is refused, the items and the places beside it, and how many owners there are
+/// with the item and without it.
+fn push_refused(
+    window: Writer,
+    values: &Values,
+) -> Option<(TryReserveError, [usize; 2], [[usize; 5]; 2])> {
+    let mut window = window;
+    let sizes = [window.len(), window.capacity()];
+    let (e, back) = window.try_push(Arc::try_clone(&values[3]).ok()?).err()?;
+    let with = living(values);
+    drop(back);
+    Some((e, sizes, [with, living(values)]))
+}
+
+/// The same of two items that an iterator brings.
+fn extend_refused(window: Writer, values: &Values) -> Option<(TryReserveError, [[usize; 5]; 2])> {
+    let mut window = window;
+    let (e, back) = window.try_extend(last_two(values)?).err()?;
+    let with = living(values);
+    drop(back);
+    Some((e, [with, living(values)]))
+}
+
+/// What is told of each way in which a window goes on that was cut to two of three items, and how
+/// many owners there are at the end.
+fn behind_a_cut(
+    rt: &impl Wait,
+    alloc: Global,
+) -> Option<
+    (
+        [usize; 5],
+        (TryReserveError, [usize; 2], [[usize; 5]; 2]),
+        (TryReserveError, [[usize; 5]; 2]),
+        [usize; 5],
+    ),
+> {
+    let values = values(alloc)?;
+    let frozen = frozen(rt, cut_short(alloc, &values)?, &values)?;
+    let pushed = push_refused(cut_short(alloc, &values)?, &values)?;
+    let extended = extend_refused(cut_short(alloc, &values)?, &values)?;
+    Some((frozen, pushed, extended, living(&values)))
+}
+
+/// Items that are moved to a larger block are not dropped, and those that are cut off stay in the
+/// block until its release. Items that are frozen are dropped by the last owner. The places behind
+/// a cut are full, so an item more finds no room there; the refused item is the caller's, and the
+/// one behind it goes with the iterator.
+#[test]
+fn dropped_once(rt: HostRuntime) -> Result<(), Fail> {
+    let told = cut_and_dropped(rt.alloc());
+    assert!(rt; told == Some((([8, 2, 2], [2; 5]), [1; 5])));
+    let found = [[2, 2, 2, 2, 1], [2, 2, 2, 1, 1]];
+    let e = TryReserveError::Unsupported;
+    let wanted = ([2, 2, 2, 1, 1], (e, [2, 2], found), (e, found), [1; 5]);
+    assert!(rt; behind_a_cut(&rt, rt.alloc()) == Some(wanted));
     Ok(())
 }
 
-/// The places behind the items are full, so a fourth item finds no room.
-#[test]
-fn refused_behind_a_cut(rt: HostRuntime) -> Result<(), Fail> {
-    let counts = Counts::new();
-    let mut window = cut_short(rt.alloc(), &counts)?;
-    assert!(rt; (window.len(), window.capacity()) == (2, 2));
-    let Err((e, back)) = window.try_push(boxed(rt.alloc(), &counts.d)?) else {
-        return Err("full places behind it".into());
+/// Whether an item was pushed to a window under `Whole`, which is then dropped.
+fn pushed_and_forgotten(heap: &LocalHeap, item: Arc<u8>) -> Option<bool> {
+    let mut pass = Pass::none();
+    let Ok(mut window) = Writer::<&LocalHeap, Whole>::try_with_capacity_as(heap, 4, &mut pass)
+    else {
+        return None;
     };
-    assert!(rt; e == TryReserveError::Unsupported);
-    assert!(rt; counts.now() == [0; 5]);
-    drop(back);
-    assert!(rt; counts.now() == [0, 0, 0, 1, 0]);
-    drop(window);
-    assert!(rt; counts.now() == [1, 1, 1, 1, 0]);
-    Ok(())
-}
-
-/// The refused item is the caller's, and the one behind it goes with the iterator.
-#[test]
-fn extended_behind_a_cut(rt: HostRuntime) -> Result<(), Fail> {
-    let counts = Counts::new();
-    let mut window = cut_short(rt.alloc(), &counts)?;
-    let more = [boxed(rt.alloc(), &counts.d)?, boxed(rt.alloc(), &counts.e)?];
-    let Err((e, back)) = window.try_extend(more) else {
-        return Err("full places behind it".into());
-    };
-    assert!(rt; e == TryReserveError::Unsupported);
-    assert!(rt; counts.now() == [0, 0, 0, 0, 1]);
-    drop(back);
-    assert!(rt; counts.now() == [0, 0, 0, 1, 1]);
-    drop(window);
-    assert!(rt; counts.now() == [1; 5]);
-    Ok(())
+    Some(window.try_push_as(item, &mut pass).is_ok())
 }
 
 /// Dropped under `Whole` a window stays the owner of its block: its item isn't dropped, and neither
-/// the items' memory nor the count's is given back.
+/// the items' memory nor the count's is given back, which are more than the items' places alone.
 #[test]
 fn kept_by_a_forgotten_owner(rt: HostRuntime) -> Result<(), Fail> {
-    let drops = AtomicU64::new(0);
+    let item = Arc::new(rt.alloc(), 7u8)?;
     let heap = LocalHeap::new(rt.alloc(), 512)?;
-    let mut pass = Pass::none();
-    let mut window = Forgotten::try_with_capacity_as(&heap, 4, &mut pass)?;
-    assert!(rt;
-        window
-            .try_push_as(Counted { drops: &drops }, &mut pass)
-            .is_ok()
-    );
-    let taken = heap.used();
-    assert!(rt; 0 < taken);
-    drop(window);
-    assert!(rt; (drops.load(Ordering::SeqCst), heap.used()) == (0, taken));
+    let pushed = pushed_and_forgotten(&heap, Arc::try_clone(&item)?);
+    assert!(rt; (pushed, Arc::strong_count(&item)) == (Some(true), 2));
+    assert!(rt; 4 * 8 < heap.used());
     Ok(())
+}
+
+/// So many other owners of a value.
+fn owners_of(alloc: Global, value: &Arc<u8>, count: usize) -> Option<Vec<Arc<u8>>> {
+    let mut owners = Vec::with_capacity(alloc, count).ok()?;
+    for _ in 0..count {
+        owners.push(Arc::try_clone(value).ok()?).ok()?;
+    }
+    Some(owners)
+}
+
+/// How the forty-first of 42 items is refused that come to a window with 40 places, and room for
+/// one more; how many owners there are with that item, without it, and without the window; and the
+/// items and places of that.
+fn no_memory_for_more(
+    items: Vec<Arc<u8>>,
+    heap: &LocalHeap,
+    value: &Arc<u8>,
+) -> Option<([Option<TryReserveError>; 2], [usize; 3], [usize; 2])> {
+    let mut window = Writer::<&LocalHeap>::try_with_capacity(heap, 40).ok()?;
+    let (e, back) = window.try_extend(items).err()?;
+    let with = Arc::strong_count(value);
+    drop(back);
+    let without = Arc::strong_count(value);
+    let refusals = [Some(e), window.try_reserve(1).err()];
+    let sizes = [window.len(), window.capacity()];
+    drop(window);
+    Some((refusals, [with, without, Arc::strong_count(value)], sizes))
 }
 
 /// The 40 places are 320 bytes, and with the 640 of the next block they are more than there are.
 #[test]
 fn refused_memory(rt: HostRuntime) -> Result<(), Fail> {
-    let drops = AtomicU64::new(0);
+    let value = Arc::new(rt.alloc(), 7u8)?;
     let heap = LocalHeap::new(rt.alloc(), 512)?;
-    let mut window: Writer<&LocalHeap> = ArcSliceMut::try_with_capacity(&heap, 40)?;
-    let Err((e, back)) = window.try_extend((0..42).map(|_| Counted { drops: &drops })) else {
-        return Err("more memory than there is".into());
+    let told = match owners_of(rt.alloc(), &value, 42) {
+        Some(items) => no_memory_for_more(items, &heap, &value),
+        None => None,
     };
-    assert!(rt; e == TryReserveError::AllocError);
-    assert!(rt; window.len() == 40);
-    assert!(rt; drops.load(Ordering::SeqCst) == 0);
-    drop(back);
-    assert!(rt; drops.load(Ordering::SeqCst) == 1);
-    assert!(rt; window.try_reserve(1) == Err(TryReserveError::AllocError));
-    assert!(rt; (window.len(), window.capacity()) == (40, 40));
-    drop(window);
-    assert!(rt; drops.load(Ordering::SeqCst) == 41);
-    assert!(rt; heap.used() == 0);
+    let refusals = [Some(TryReserveError::AllocError); 2];
+    assert!(rt; (told, heap.used()) == (Some((refusals, [42, 41, 1], [40, 40])), 0));
     Ok(())
 }

@@ -1,4 +1,8 @@
 //! Read windows compared, hashed, printed, lent, and read from.
+use crate::printing::{
+    debugs, debugs_on_lines, displays, displays_middle, displays_right, displays_wide,
+    in_lower_hex, in_upper_hex,
+};
 use arc_block::layout::{ArcLayout, BoxedSliceLayout, DefaultLayout, Layout, RawLayout, VecLayout};
 use arc_buffer::kinds::{ByteText, CopySlice, DebugSlice, Plain, Text};
 use arc_read::slice::ArcSlice;
@@ -6,7 +10,6 @@ use bytes::Buf;
 use std::alloc::Global;
 use std::collections::{BTreeMap, HashMap};
 use std::convert::{AsSlice, AsStr};
-use std::fmt;
 use std::hash::{DefaultHasher, Hash, Hasher};
 use std::io::{ErrorKind, Read};
 use std::test::Fail;
@@ -14,56 +17,32 @@ use std::test::Fail;
 /// Whether a window over these bytes is written so, in lower case digits and in upper case ones.
 fn in_hex(alloc: Global, bytes: &[u8], lower: &str, upper: &str) -> Option<[bool; 2]> {
     let window: ArcSlice<Plain<u8>> = ArcSlice::try_from_slice(alloc, bytes).ok()?;
-    let mut small = fmt::Formatter::new(String::new(alloc));
-    fmt::LowerHex::fmt(&window, &mut small).ok()?;
-    let mut large = fmt::Formatter::new(String::new(alloc));
-    fmt::UpperHex::fmt(&window, &mut large).ok()?;
-    let (small, large) = (small.into_inner(), large.into_inner());
-    Some([small.as_str() == lower, large.as_str() == upper])
+    Some([
+        in_lower_hex(alloc, &window, lower)?,
+        in_upper_hex(alloc, &window, upper)?,
+    ])
 }
 
 /// Whether `{:?}` of a window over these items is this text.
-fn debugs<S: CopySlice + DebugSlice>(alloc: Global, items: &[S::Item], text: &str) -> Option<bool>
+fn items_debug<S: CopySlice + DebugSlice>(
+    alloc: Global,
+    items: &[S::Item],
+    text: &str,
+) -> Option<bool>
 where
     S::Item: Copy,
 {
     let window: ArcSlice<S> = ArcSlice::try_from_slice(alloc, items).ok()?;
-    let written = format!(in alloc; "{window:?}").ok()?;
-    Some(written.as_str() == text)
-}
-
-#[test]
-fn bytes_printed(rt: HostRuntime) -> Result<(), Fail> {
-    let alloc = rt.alloc();
-    assert!(rt; in_hex(alloc, &[10, 255], "0aff", "0AFF") == Some([true; 2]));
-    assert!(rt; in_hex(alloc, &[], "", "") == Some([true; 2]));
-    Ok(())
-}
-
-#[test]
-fn other_items_printed(rt: HostRuntime) -> Result<(), Fail> {
-    let alloc = rt.alloc();
-    let told = [
-        debugs::<Plain<u16>>(alloc, &[1, 20], "[1, 20]"),
-        debugs::<Plain<i64>>(alloc, &[-1], "[-1]"),
-        debugs::<Plain<bool>>(alloc, &[true, false], "[true, false]"),
-        debugs::<Plain<char>>(alloc, &['a'], "['a']"),
-        debugs::<Plain<Option<u8>>>(alloc, &[None, Some(1)], "[None, Some(1)]"),
-    ];
-    assert!(rt; told == [Some(true); 5]);
-    Ok(())
+    debugs(alloc, &window, text)
 }
 
 /// Whether `{:?}`, `{}` and `{}` in a column of a window over this text are these.
 fn text_prints(alloc: Global, text: &str, debug: &str, wide: &str) -> Option<[bool; 3]> {
     let window: ArcSlice<Text> = ArcSlice::try_from_str(alloc, text).ok()?;
-    let debugged = format!(in alloc; "{window:?}").ok()?;
-    let displayed = format!(in alloc; "{window}").ok()?;
-    let padded = format!(in alloc; "{window:>5}").ok()?;
     Some([
-        debugged.as_str() == debug,
-        displayed.as_str() == text,
-        padded.as_str() == wide,
+        debugs(alloc, &window, debug)?,
+        displays(alloc, &window, text)?,
+        displays_right(alloc, &window, wide)?,
     ])
 }
 
@@ -71,28 +50,12 @@ fn text_prints(alloc: Global, text: &str, debug: &str, wide: &str) -> Option<[bo
 /// with an alignment, these.
 fn byte_text_prints(alloc: Global, bytes: &[u8], texts: [&str; 4]) -> Option<[bool; 4]> {
     let window: ArcSlice<ByteText> = ArcSlice::try_from_slice(alloc, bytes).ok()?;
-    let displayed = format!(in alloc; "{window}").ok()?;
-    let wide = format!(in alloc; "{window:5}").ok()?;
-    let right = format!(in alloc; "{window:>5}").ok()?;
-    let middle = format!(in alloc; "{window:-^5}").ok()?;
     Some([
-        displayed.as_str() == texts[0],
-        wide.as_str() == texts[1],
-        right.as_str() == texts[2],
-        middle.as_str() == texts[3],
+        displays(alloc, &window, texts[0])?,
+        displays_wide(alloc, &window, texts[1])?,
+        displays_right(alloc, &window, texts[2])?,
+        displays_middle(alloc, &window, texts[3])?,
     ])
-}
-
-#[test]
-fn texts_printed(rt: HostRuntime) -> Result<(), Fail> {
-    let alloc = rt.alloc();
-    let told = text_prints(alloc, "aéb", "\"aéb\"", "  aéb");
-    assert!(rt; told == Some([true; 3]));
-    let told = text_prints(alloc, "a\n\"c", "\"a\\n\\\"c\"", " a\n\"c");
-    assert!(rt; told == Some([true; 3]));
-    let texts = ["aé\u{fffd}", "aé\u{fffd}", "  aé\u{fffd}", "-aé\u{fffd}-"];
-    assert!(rt; byte_text_prints(alloc, b"a\xc3\xa9\xff", texts) == Some([true; 4]));
-    Ok(())
 }
 
 /// What a hasher says of a value.
@@ -108,19 +71,6 @@ fn hash_under<L: Layout>(alloc: Global, bytes: &[u8]) -> Option<u64> {
     Some(hash_of(&window))
 }
 
-#[test]
-fn hashed_alike_under_each_layout(rt: HostRuntime) -> Result<(), Fail> {
-    let hash = hash_under::<DefaultLayout>(rt.alloc(), b"abc");
-    let told = [
-        hash_under::<ArcLayout<false, false>>(rt.alloc(), b"abc"),
-        hash_under::<BoxedSliceLayout>(rt.alloc(), b"abc"),
-        hash_under::<VecLayout>(rt.alloc(), b"abc"),
-        hash_under::<RawLayout>(rt.alloc(), b"abc"),
-    ];
-    assert!(rt; hash.is_some() && told == [hash; 4]);
-    Ok(())
-}
-
 /// A window over text beside two texts.
 fn beside_texts(alloc: Global, text: &str, same: &str, other: &str) -> Option<[bool; 3]> {
     let window: ArcSlice<Text> = ArcSlice::try_from_str(alloc, text).ok()?;
@@ -129,13 +79,6 @@ fn beside_texts(alloc: Global, text: &str, same: &str, other: &str) -> Option<[b
         window.eq_str(other),
         AsStr::as_str(&window) == same,
     ])
-}
-
-#[test]
-fn text_compared(rt: HostRuntime) -> Result<(), Fail> {
-    let told = beside_texts(rt.alloc(), "aéb", "aéb", "aeb");
-    assert!(rt; told == Some([true, false, true]));
-    Ok(())
 }
 
 /// A window of three bytes is read into two places, three times: the counts, what came and what is
@@ -151,12 +94,6 @@ fn read_thrice(alloc: Global) -> Option<([usize; 3], [u8; 2], [usize; 3])> {
     Some(([first, second, third], places, [left, after, window.len()]))
 }
 
-#[test]
-fn read_from(rt: HostRuntime) -> Result<(), Fail> {
-    assert!(rt; read_thrice(rt.alloc()) == Some(([2, 1, 0], [3, 2], [1, 0, 0])));
-    Ok(())
-}
-
 /// A window of three bytes fills two places, and then has too few for them: whether that is said to
 /// be the end, what stands in the places, and what is left after each.
 fn read_exactly(alloc: Global) -> Option<(bool, [u8; 2], [usize; 2])> {
@@ -167,12 +104,6 @@ fn read_exactly(alloc: Global) -> Option<(bool, [u8; 2], [usize; 2])> {
     let error = window.read_exact(&mut places).err()?;
     let is_end = error.kind() == ErrorKind::UnexpectedEof;
     Some((is_end, places, [left, window.len()]))
-}
-
-#[test]
-fn read_to_the_end(rt: HostRuntime) -> Result<(), Fail> {
-    assert!(rt; read_exactly(rt.alloc()) == Some((true, [3, 2], [1, 0])));
-    Ok(())
 }
 
 /// Two numbers of two bytes each, and a byte that is passed over between them; what is left.
@@ -198,7 +129,9 @@ fn first_byte(alloc: Global, bytes: &[u8]) -> Option<(u8, usize)> {
 }
 
 #[test]
-fn numbers_read(rt: HostRuntime) -> Result<(), Fail> {
+fn read_from(rt: HostRuntime) -> Result<(), Fail> {
+    assert!(rt; read_thrice(rt.alloc()) == Some(([2, 1, 0], [3, 2], [1, 0, 0])));
+    assert!(rt; read_exactly(rt.alloc()) == Some((true, [3, 2], [1, 0])));
     let told = numbers(rt.alloc(), &[1, 2, 9, 3, 4, 5]);
     assert!(rt; told == Some(([0x0102, 0x0304], 1)));
     assert!(rt; numbers(rt.alloc(), &[1, 2, 9, 3]) == None);
@@ -219,30 +152,30 @@ fn lent(alloc: Global, numbers: &[u32]) -> Option<(u64, [Option<u32>; 2], usize)
     Some((sum, [second, most], AsSlice::as_slice(&window).len()))
 }
 
-#[test]
-fn items_lent(rt: HostRuntime) -> Result<(), Fail> {
-    assert!(rt; lent(rt.alloc(), &[4, 7, 5]) == Some((16, [Some(7), Some(7)], 3)));
-    assert!(rt; lent(rt.alloc(), &[]) == Some((0, [None, None], 0)));
-    Ok(())
+/// A window that is a key.
+type Key = ArcSlice<Plain<u8>>;
+
+/// What an ordered map has under one window, that has a number under the other.
+fn ordered(alloc: Global, key: Key, asked: &Key) -> Option<Option<u32>> {
+    let mut map = BTreeMap::new(alloc);
+    map.insert(key, 5u32).ok()?;
+    Some(map.get(asked).copied())
+}
+
+/// The same of a map of hashes.
+fn hashed(alloc: Global, key: Key, asked: &Key) -> Option<Option<u32>> {
+    let mut map = HashMap::new(alloc);
+    map.insert(key, 6u32).ok()?;
+    Some(map.get(asked).copied())
 }
 
 /// What two maps have under a window of this text, where they have a number under that one.
 fn looked_up(alloc: Global, key: &[u8], asked: &[u8]) -> Option<[Option<u32>; 2]> {
-    let one: ArcSlice<Plain<u8>> = ArcSlice::try_from_slice(alloc, key).ok()?;
-    let two: ArcSlice<Plain<u8>> = ArcSlice::try_from_slice(alloc, key).ok()?;
-    let asked: ArcSlice<Plain<u8>> = ArcSlice::try_from_slice(alloc, asked).ok()?;
-    let mut ordered = BTreeMap::new(alloc);
-    ordered.insert(one, 5u32).ok()?;
-    let mut hashed = HashMap::new(alloc);
-    hashed.insert(two, 6u32).ok()?;
-    Some([ordered.get(&asked).copied(), hashed.get(&asked).copied()])
-}
-
-#[test]
-fn keys_of_maps(rt: HostRuntime) -> Result<(), Fail> {
-    assert!(rt; looked_up(rt.alloc(), b"key", b"key") == Some([Some(5), Some(6)]));
-    assert!(rt; looked_up(rt.alloc(), b"key", b"kex") == Some([None; 2]));
-    Ok(())
+    let asked: Key = ArcSlice::try_from_slice(alloc, asked).ok()?;
+    Some([
+        ordered(alloc, ArcSlice::try_from_slice(alloc, key).ok()?, &asked)?,
+        hashed(alloc, ArcSlice::try_from_slice(alloc, key).ok()?, &asked)?,
+    ])
 }
 
 /// What a caller's struct gets of a window in it.
@@ -262,16 +195,29 @@ fn frames(alloc: Global, one: &[u8], two: &[u8], text: &str) -> Option<[bool; 3]
         number: 1,
         body: ArcSlice::try_from_slice(alloc, two).ok()?,
     };
-    let written = format!(in alloc; "{one:?}").ok()?;
     Some([
         one == two,
         hash_of(&one) == hash_of(&two),
-        written.as_str() == text,
+        debugs(alloc, &one, text)?,
     ])
 }
 
 #[test]
-fn derived_over_a_window(rt: HostRuntime) -> Result<(), Fail> {
+fn compared_and_lent(rt: HostRuntime) -> Result<(), Fail> {
+    let hash = hash_under::<DefaultLayout>(rt.alloc(), b"abc");
+    let told = [
+        hash_under::<ArcLayout<false, false>>(rt.alloc(), b"abc"),
+        hash_under::<BoxedSliceLayout>(rt.alloc(), b"abc"),
+        hash_under::<VecLayout>(rt.alloc(), b"abc"),
+        hash_under::<RawLayout>(rt.alloc(), b"abc"),
+    ];
+    assert!(rt; hash.is_some() && told == [hash; 4]);
+    let told = beside_texts(rt.alloc(), "aéb", "aéb", "aeb");
+    assert!(rt; told == Some([true, false, true]));
+    assert!(rt; lent(rt.alloc(), &[4, 7, 5]) == Some((16, [Some(7), Some(7)], 3)));
+    assert!(rt; lent(rt.alloc(), &[]) == Some((0, [None, None], 0)));
+    assert!(rt; looked_up(rt.alloc(), b"key", b"key") == Some([Some(5), Some(6)]));
+    assert!(rt; looked_up(rt.alloc(), b"key", b"kex") == Some([None; 2]));
     let text = "Frame { number: 1, body: b\"ab\" }";
     assert!(rt; frames(rt.alloc(), b"ab", b"ab", text) == Some([true; 3]));
     assert!(rt; frames(rt.alloc(), b"ab", b"ac", text) == Some([false, false, true]));
@@ -281,17 +227,33 @@ fn derived_over_a_window(rt: HostRuntime) -> Result<(), Fail> {
 /// Whether `{:#?}` of a window over these bytes, and of a frame with it, are these.
 fn laid_out(alloc: Global, bytes: &[u8], text: &str, framed: &str) -> Option<[bool; 2]> {
     let window: ArcSlice<Plain<u8>> = ArcSlice::try_from_slice(alloc, bytes).ok()?;
-    let one = format!(in alloc; "{window:#?}").ok()?;
+    let is_text = debugs_on_lines(alloc, &window, text)?;
     let frame = Frame {
         number: 1,
         body: window,
     };
-    let two = format!(in alloc; "{frame:#?}").ok()?;
-    Some([one.as_str() == text, two.as_str() == framed])
+    Some([is_text, debugs_on_lines(alloc, &frame, framed)?])
 }
 
 #[test]
-fn printed_on_lines(rt: HostRuntime) -> Result<(), Fail> {
+fn printed(rt: HostRuntime) -> Result<(), Fail> {
+    let alloc = rt.alloc();
+    assert!(rt; in_hex(alloc, &[10, 255], "0aff", "0AFF") == Some([true; 2]));
+    assert!(rt; in_hex(alloc, &[], "", "") == Some([true; 2]));
+    let told = [
+        items_debug::<Plain<u16>>(alloc, &[1, 20], "[1, 20]"),
+        items_debug::<Plain<i64>>(alloc, &[-1], "[-1]"),
+        items_debug::<Plain<bool>>(alloc, &[true, false], "[true, false]"),
+        items_debug::<Plain<char>>(alloc, &['a'], "['a']"),
+        items_debug::<Plain<Option<u8>>>(alloc, &[None, Some(1)], "[None, Some(1)]"),
+    ];
+    assert!(rt; told == [Some(true); 5]);
+    let told = text_prints(alloc, "aéb", "\"aéb\"", "  aéb");
+    assert!(rt; told == Some([true; 3]));
+    let told = text_prints(alloc, "a\n\"c", "\"a\\n\\\"c\"", " a\n\"c");
+    assert!(rt; told == Some([true; 3]));
+    let texts = ["aé\u{fffd}", "aé\u{fffd}", "  aé\u{fffd}", "-aé\u{fffd}-"];
+    assert!(rt; byte_text_prints(alloc, b"a\xc3\xa9\xff", texts) == Some([true; 4]));
     let framed = "Frame {\n    number: 1,\n    body: b\"ab\",\n}";
     assert!(rt; laid_out(rt.alloc(), b"ab", "b\"ab\"", framed) == Some([true; 2]));
     Ok(())

@@ -3,6 +3,7 @@ ghost use Rattle.std.specs.Prelude.{◌≡◌, IfOk};
 ghost use Rattle.arc_owners.specs.count.Calls.{IsPassOfNone};
 ghost use Rattle.arc_block.specs.Steps.{IsPassAt};
 
+use crate::living::{Values, first_three, living, values};
 use arc_block::layout::DefaultLayout;
 use arc_buffer::kinds::{Owned, Plain};
 use arc_owners::error::{OwnerError, RangeError};
@@ -77,14 +78,6 @@ fn alone_after_calls_as(rt: &impl Wait, alloc: Global) -> Result<[bool; 4], Fail
     ])
 }
 
-/// No call leaves an owner more than it hands out: no clause can say so, since an owner that a
-/// second pass makes is as good as another thread's. The plain calls stand in rows.
-#[test]
-fn alone_after_each_call(rt: HostRuntime) -> Result<(), Fail> {
-    assert!(rt; alone_after_calls_as(&rt, rt.alloc())? == [true; 4]);
-    Ok(())
-}
-
 /// Each call on windows that stand on no block, and makes none: the pass is as it was, as the
 /// contract says. The windows that were made.
 fn called_on_no_block<R: Wait>(
@@ -107,13 +100,6 @@ fn called_on_no_block<R: Wait>(
     clone.drop_with_unique_hint_as(&mut pass);
     let taken = part.try_into_array_as::<0>(&mut pass).is_ok();
     Ok((pass, if unique || taken { 1 } else { len }))
-}
-
-#[test]
-fn calls_on_no_block(rt: HostRuntime) -> Result<(), Fail> {
-    let (_, found) = called_on_no_block(&rt, rt.alloc(), Pass::none())?;
-    assert!(rt; found == 0);
-    Ok(())
 }
 
 /// Three values in each of their six orders.
@@ -140,58 +126,93 @@ fn end(way: u32, window: InHeap<'_, u32>) {
     }
 }
 
-/// A window, a clone and a cut end in each order, and the block is given back with the last.
+/// Whether as much is taken as before after the first and the second of three windows on one block
+/// have ended, in this order, and nothing after the third.
+fn given_back_at_last<'a>(
+    heap: &LocalHeap,
+    order: u32,
+    windows: (InHeap<'a, u32>, InHeap<'a, u32>, InHeap<'a, u32>),
+) -> bool {
+    let taken = heap.used();
+    let (a, b, c) = windows;
+    let (first, second, third) = in_order(order, a, b, c);
+    drop(first);
+    let after_first = heap.used();
+    second.drop_with_unique_hint();
+    let after_second = heap.used();
+    end(order % 3, third);
+    [after_first, after_second, heap.used()] == [taken, taken, 0]
+}
+
+/// Whether a window takes some memory, a clone and a cut none, and all is given back once.
+fn given_back_once(rt: &impl Wait, heap: &LocalHeap, order: u32) -> Option<[bool; 3]> {
+    let window: InHeap<'_, u32> = ArcSlice::try_from_slice(heap, &[1, 2, 3]).ok()?;
+    let taken = heap.used();
+    let clone = window.try_clone(rt).ok()?;
+    if window.check_range(1, 3).is_err() {
+        return None;
+    }
+    let cut = window.try_subslice(rt, 1, 3).ok()?;
+    let is_all = heap.used() == taken;
+    let is_back = given_back_at_last(heap, order, (window, clone, cut));
+    Some([0 < taken, is_all, is_back])
+}
+
+/// Whether a window of an array takes some memory, and gives the array back.
+fn array_again(heap: &LocalHeap) -> Option<[bool; 2]> {
+    let window = InHeap::<'_, u32>::try_from_array(heap, [1, 2, 3]).ok()?;
+    let taken = heap.used();
+    Some([0 < taken, window.try_into_array::<3>().is_ok()])
+}
+
+/// A window, a clone and a cut end in each order, and the block is given back with the last. What
+/// is taken back as an array gives its block back.
 #[test]
 fn memory_given_back_once(rt: HostRuntime) -> Result<(), Fail> {
     let heap = LocalHeap::new(rt.alloc(), 1024)?;
-    let before = heap.used();
     for order in 0..6u32 {
-        let window: InHeap<'_, u32> = ArcSlice::try_from_slice(&heap, &[1, 2, 3])?;
-        let taken = heap.used();
-        assert!(rt; before < taken);
-        let clone = window.try_clone(&rt)?;
-        assert!(rt; window.check_range(1, 3) == Ok(()));
-        let cut = window.try_subslice(&rt, 1, 3)?;
-        assert!(rt; heap.used() == taken);
-        let (first, second, third) = in_order(order, window, clone, cut);
-        drop(first);
-        assert!(rt; heap.used() == taken);
-        second.drop_with_unique_hint();
-        assert!(rt; heap.used() == taken);
-        end(order % 3, third);
-        assert!(rt; heap.used() == before);
+        assert!(rt; given_back_once(&rt, &heap, order) == Some([true; 3]));
     }
+    assert!(rt; (array_again(&heap), heap.used()) == (Some([true; 2]), 0));
     Ok(())
 }
 
-/// What is taken back as an array gives its block back.
-#[test]
-fn memory_of_arrays(rt: HostRuntime) -> Result<(), Fail> {
-    let heap = LocalHeap::new(rt.alloc(), 1024)?;
-    let before = heap.used();
-    let Ok(window) = InHeap::<'_, u32>::try_from_array(&heap, [1, 2, 3]) else {
-        return Err("no memory".into());
+/// Whether a window under `Whole` is alone beside a clone, and after that is released; and what it
+/// takes before it is dropped.
+fn forgotten(rt: &impl Wait, heap: &LocalHeap) -> Option<([bool; 2], usize)> {
+    let mut pass = Pass::none();
+    let Ok(kept) = InHeap::<'_, u32, Whole>::try_from_slice_as(heap, &[1, 2, 3], &mut pass) else {
+        return None;
     };
-    assert!(rt; before < heap.used());
-    assert!(rt; window.try_into_array::<3>().is_ok());
-    assert!(rt; heap.used() == before);
-    Ok(())
+    let Ok(clone) = kept.try_clone_as(rt, &mut pass) else {
+        return None;
+    };
+    let beside = kept.is_unique_as(&mut pass);
+    clone.release_as(&mut pass);
+    Some(([beside, kept.is_unique_as(&mut pass)], heap.used()))
 }
 
-/// A window under `Whole` that is dropped keeps its block for good.
+/// A window under `Whole` that is dropped keeps its block for good: its items and a count.
 #[test]
 fn memory_of_forgotten_windows(rt: HostRuntime) -> Result<(), Fail> {
     let heap = LocalHeap::new(rt.alloc(), 1024)?;
-    let mut pass = Pass::none();
-    let kept = InHeap::<'_, u32, Whole>::try_from_slice_as(&heap, &[1, 2, 3], &mut pass)?;
-    let clone = kept.try_clone_as(&rt, &mut pass)?;
-    assert!(rt; !kept.is_unique_as(&mut pass));
-    clone.release_as(&mut pass);
-    assert!(rt; kept.is_unique_as(&mut pass));
-    let taken = heap.used();
-    drop(kept);
-    assert!(rt; (heap.used(), 0 < taken) == (taken, true));
+    let told = forgotten(&rt, &heap);
+    assert!(rt; 3 * 4 < heap.used());
+    assert!(rt; told == Some(([false, true], heap.used())));
     Ok(())
+}
+
+/// Whether a window was made of a slice.
+fn made_of_slice(heap: &LocalHeap) -> bool {
+    InHeap::<'_, u64>::try_from_slice(heap, &[1, 2, 3]).is_ok()
+}
+
+/// Whether a window was made of an array, or else whether that came back.
+fn made_of_array(heap: &LocalHeap) -> (bool, bool) {
+    match InHeap::<'_, u64>::try_from_array(heap, [1, 2, 3]) {
+        Ok(_) => (true, false),
+        Err(back) => (false, back == [1, 2, 3]),
+    }
 }
 
 /// With more and more memory filled beforehand each request is refused in turn, and what was taken
@@ -201,21 +222,14 @@ fn memory_refused(rt: HostRuntime) -> Result<(), Fail> {
     let mut refused = 0u32;
     for units in 1..17usize {
         let heap = LocalHeap::new(rt.alloc(), units * 16)?;
-        let before = heap.used();
-        let made = InHeap::<'_, u64>::try_from_slice(&heap, &[1, 2, 3]);
-        if made.is_err() {
+        let made = made_of_slice(&heap);
+        if !made {
             refused = refused.wrapping_add(1);
-            assert!(rt; heap.used() == before);
         }
-        drop(made);
-        assert!(rt; heap.used() == before);
-        match InHeap::<'_, u64>::try_from_array(&heap, [1, 2, 3]) {
-            Ok(window) => drop(window),
-            Err(back) => assert!(rt; back == [1, 2, 3]),
-        }
-        assert!(rt; heap.used() == before);
+        assert!(rt; (heap.used(), made_of_array(&heap)) == (0, (made, !made)));
+        assert!(rt; heap.used() == 0);
     }
-    assert!(rt; 2 <= refused && refused < 16);
+    assert!(rt; (2 <= refused, refused < 16) == (true, true));
     Ok(())
 }
 
@@ -266,74 +280,49 @@ fn ended_by_another_thread(rt: HostRuntime) -> Result<(), Fail> {
 /// Items of which others may have clones.
 type Shared = ArcSlice<Owned<Arc<u8>>>;
 
-/// A window over clones of three values.
-fn shared(alloc: Global, values: &[Arc<u8>; 3]) -> Result<Shared, Fail> {
-    let items = [
-        Arc::try_clone(&values[0])?,
-        Arc::try_clone(&values[1])?,
-        Arc::try_clone(&values[2])?,
-    ];
-    match Shared::try_from_array(alloc, items) {
-        Ok(window) => Ok(window),
-        Err(_) => Err("no memory".into()),
-    }
-}
-
-/// How many clones of each value live.
-fn living(values: &[Arc<u8>; 3]) -> [usize; 3] {
-    [
-        Arc::strong_count(&values[0]),
-        Arc::strong_count(&values[1]),
-        Arc::strong_count(&values[2]),
-    ]
-}
-
-/// How many live once a window and a part of it have ended beside a clone, which then ends.
-fn living_beside_a_clone(
-    rt: &impl Wait,
-    window: Shared,
-    values: &[Arc<u8>; 3],
-) -> Result<[usize; 3], OwnerError> {
+/// How many owners the values have once a window over the first three and a part of it have ended
+/// beside a clone, which then ends.
+fn beside_a_clone(rt: &impl Wait, window: Shared, values: &Values) -> Option<[usize; 5]> {
     if window.check_range(1, 2).is_err() {
-        return Ok([0; 3]);
+        return None;
     }
-    let part = window.try_subslice(rt, 1, 2)?;
-    let clone = window.try_clone(rt)?;
+    let part = window.try_subslice(rt, 1, 2).ok()?;
+    let clone = window.try_clone(rt).ok()?;
     drop(window);
     drop(part);
     let found = living(values);
     drop(clone);
-    Ok(found)
+    Some(found)
 }
 
-/// Items that are dropped one by one, each once, with the last owner of their block: the language's
-/// own count tells how many clones of each item live.
-#[test]
-fn owned_items_are_dropped_once(rt: HostRuntime) -> Result<(), Fail> {
-    let values = [
-        Arc::new(rt.alloc(), b'a')?,
-        Arc::new(rt.alloc(), b'b')?,
-        Arc::new(rt.alloc(), b'c')?,
-    ];
-    let window = shared(rt.alloc(), &values)?;
-    assert!(rt; living_beside_a_clone(&rt, window, &values)? == [2; 3]);
-    assert!(rt; living(&values) == [1; 3]);
-    Ok(())
-}
-
-/// Items that are taken back as an array are the caller's again.
-#[test]
-fn owned_items_taken_back(rt: HostRuntime) -> Result<(), Fail> {
-    let a = Arc::new(rt.alloc(), b'a')?;
-    let items = [Arc::try_clone(&a)?];
-    let Ok(window) = ArcSlice::<Owned<Arc<u8>>>::try_from_array(rt.alloc(), items) else {
-        return Err("no memory".into());
-    };
-    let Ok(items) = window.try_into_array::<1>() else {
-        return Err("alone".into());
-    };
-    assert!(rt; Arc::strong_count(&a) == 2);
+/// How many owners the values have once the first three are taken back, which are then dropped.
+fn taken_back(window: Shared, values: &Values) -> Option<[usize; 5]> {
+    let items = window.try_into_array::<3>().ok()?;
+    let found = living(values);
     drop(items);
-    assert!(rt; Arc::strong_count(&a) == 1);
+    Some(found)
+}
+
+/// Items that are dropped one by one, each once, with the last owner of their block, or once they
+/// are the caller's again.
+fn owned(rt: &impl Wait, alloc: Global) -> Option<([[usize; 5]; 2], [usize; 5])> {
+    let values = values(alloc)?;
+    let window = Shared::try_from_array(alloc, first_three(&values)?).ok()?;
+    let beside = beside_a_clone(rt, window, &values)?;
+    let window = Shared::try_from_array(alloc, first_three(&values)?).ok()?;
+    let taken = taken_back(window, &values)?;
+    Some(([beside, taken], living(&values)))
+}
+
+/// No call leaves an owner more than it hands out: no clause can say so, since an owner that a
+/// second pass makes is as good as another thread's. The plain calls stand in rows. Items are
+/// dropped one by one, each once, with the last owner of their block.
+#[test]
+fn each_call_leaves_what_it_should(rt: HostRuntime) -> Result<(), Fail> {
+    assert!(rt; alone_after_calls_as(&rt, rt.alloc())? == [true; 4]);
+    let (_, found) = called_on_no_block(&rt, rt.alloc(), Pass::none())?;
+    assert!(rt; found == 0);
+    let found = owned(&rt, rt.alloc());
+    assert!(rt; found == Some(([[2, 2, 2, 1, 1]; 2], [1; 5])));
     Ok(())
 }

@@ -9,7 +9,7 @@ use arc_buffer::kinds::{AnyItems, Owned, Plain, Subsliceable};
 use arc_owners::error::OwnerError;
 use arc_read::slice::ArcSlice;
 use linked_list_allocator::LocalHeap;
-use std::alloc::Global;
+use std::alloc::{Allocator, Global};
 use std::sync::Wait;
 use std::test::Fail;
 use std::thread;
@@ -26,14 +26,6 @@ fn empty_cut<S: Subsliceable, L: StaticLayout>(
     ensures { IfOk result (λ part. part.place ≡ nowhere) }
 {
     window.try_subslice(rt, 0, 0)
-}
-
-#[test]
-fn empty_cuts_stand_on_nothing(rt: HostRuntime) -> Result<(), Fail> {
-    let text: ArcSlice<Plain<u8>> = ArcSlice::from_static(rt.alloc(), b"abcd");
-    assert!(rt; text.check_range(0, 0) == Ok(()));
-    assert!(rt; empty_cut(&rt, &text)?.is_empty());
-    Ok(())
 }
 
 /// How much of the heap is used while a clone, a part and a split part of a static window of four
@@ -63,12 +55,11 @@ fn used_beside_parts(
 #[test]
 fn no_memory_taken(rt: HostRuntime) -> Result<(), Fail> {
     let heap = LocalHeap::new(rt.alloc(), 1024)?;
-    let before = heap.used();
     let mut text: Counted<'_> = ArcSlice::from_static(&heap, b"abcd");
-    assert!(rt; used_beside_parts(&rt, &heap, &mut text)? == before);
+    let used = used_beside_parts(&rt, &heap, &mut text)?;
     let mut pass = text.pass();
     text.release_as(&mut pass);
-    assert!(rt; heap.used() == before);
+    assert!(rt; (used, heap.used()) == (0, 0));
     Ok(())
 }
 
@@ -114,60 +105,65 @@ where
 const NUMBERS: [u32; 4] = [2, 3, 5, 7];
 
 #[test]
-fn of_any_kind_and_layout(rt: HostRuntime) -> Result<(), Fail> {
+fn cut_and_taken_back(rt: HostRuntime) -> Result<(), Fail> {
+    let text: ArcSlice<Plain<u8>> = ArcSlice::from_static(rt.alloc(), b"abcd");
+    assert!(rt; text.check_range(0, 0) == Ok(()));
+    assert!(rt; empty_cut(&rt, &text)?.is_empty());
     let part = made_and_taken_back::<Owned<u32>, RawLayout>(&rt, rt.alloc(), &NUMBERS, 0, 3)?;
     assert!(rt; part == Some([2u32, 3, 5].as_slice()));
     Ok(())
 }
 
-/// Through its parts a window keeps its items and its owner: the block is given back once.
+/// A window taken apart and put together beside a clone: whether it reads the same, whether it is
+/// alone then, and after the clone has ended, and whether as much is taken then as at first.
+fn put_together(rt: &impl Wait, heap: &LocalHeap) -> Option<[bool; 4]> {
+    let window: Counted<'_> = ArcSlice::try_from_slice(heap, b"abcd").ok()?;
+    let taken = heap.used();
+    let clone = window.try_clone(rt).ok()?;
+    let again: Counted<'_> = ArcSlice::from_parts(window.into_parts());
+    let beside = again.is_unique();
+    drop(clone);
+    let is_same = again.as_slice() == b"abcd".as_slice();
+    Some([is_same, beside, again.is_unique(), heap.used() == taken])
+}
+
+/// Whether as much is taken as before once the parts of a window beside a clone are dropped, and
+/// whether the clone is alone then, whose parts are dropped too.
+fn parts_dropped(rt: &impl Wait, heap: &LocalHeap) -> Option<[bool; 2]> {
+    let window: Counted<'_> = ArcSlice::try_from_slice(heap, b"abcd").ok()?;
+    let clone = window.try_clone(rt).ok()?;
+    let taken = heap.used();
+    drop(window.into_parts());
+    let told = [heap.used() == taken, clone.is_unique()];
+    drop(clone.into_parts());
+    Some(told)
+}
+
+/// Whether a window, taken apart and put together, has these items, and is alone; its parts are
+/// then dropped.
+fn again<A: Allocator + Copy>(
+    window: ArcSlice<Plain<u8>, DefaultLayout, Vec<u8>, (), A>,
+    items: &[u8],
+) -> [bool; 2] {
+    let window: ArcSlice<Plain<u8>, DefaultLayout, Vec<u8>, (), A> = ArcSlice::from_parts(
+        window.into_parts(),
+    );
+    let told = [window.as_slice() == items, window.is_unique()];
+    drop(window.into_parts());
+    told
+}
+
+/// Through its parts a window keeps its items and its owner: the block is given back once. Parts
+/// that are dropped end as their window would.
 #[test]
 fn apart_and_together(rt: HostRuntime) -> Result<(), Fail> {
     let heap = LocalHeap::new(rt.alloc(), 1024)?;
-    let before = heap.used();
-    let window: Counted<'_> = ArcSlice::try_from_slice(&heap, b"abcd")?;
-    let taken = heap.used();
-    assert!(rt; before < taken);
-    let clone = window.try_clone(&rt)?;
-    let again: Counted<'_> = ArcSlice::from_parts(window.into_parts());
-    assert!(rt; again.as_slice() == b"abcd".as_slice());
-    assert!(rt; !again.is_unique());
-    drop(clone);
-    assert!(rt; again.is_unique());
-    assert!(rt; heap.used() == taken);
-    drop(again);
-    assert!(rt; heap.used() == before);
-    Ok(())
-}
-
-/// Parts that are dropped end as their window would.
-#[test]
-fn parts_end_as_windows(rt: HostRuntime) -> Result<(), Fail> {
-    let heap = LocalHeap::new(rt.alloc(), 1024)?;
-    let before = heap.used();
-    let window: Counted<'_> = ArcSlice::try_from_slice(&heap, b"abcd")?;
-    let clone = window.try_clone(&rt)?;
-    let taken = heap.used();
-    drop(window.into_parts());
-    assert!(rt; heap.used() == taken);
-    assert!(rt; clone.is_unique());
-    drop(clone.into_parts());
-    assert!(rt; heap.used() == before);
-    Ok(())
-}
-
-#[test]
-fn apart_without_a_block(rt: HostRuntime) -> Result<(), Fail> {
-    let heap = LocalHeap::new(rt.alloc(), 1024)?;
-    let before = heap.used();
-    let none: Counted<'_> = ArcSlice::new(&heap);
-    let none: Counted<'_> = ArcSlice::from_parts(none.into_parts());
-    assert!(rt; (none.is_empty(), none.is_unique()) == (true, false));
-    let text: Counted<'_> = ArcSlice::from_static(&heap, b"abcd");
-    let text: Counted<'_> = ArcSlice::from_parts(text.into_parts());
-    assert!(rt; text.as_slice() == b"abcd".as_slice());
-    drop(none.into_parts());
-    drop(text.into_parts());
-    assert!(rt; heap.used() == before);
+    assert!(rt; put_together(&rt, &heap) == Some([true, false, true, true]));
+    assert!(rt; parts_dropped(&rt, &heap) == Some([true; 2]));
+    let without_a_block = [
+        again(ArcSlice::new(&heap), b""),
+        again(ArcSlice::from_static(&heap, b"abcd"), b"abcd"),
+    ];
+    assert!(rt; (without_a_block, heap.used()) == ([[true, false]; 2], 0));
     Ok(())
 }

@@ -5,7 +5,7 @@ use arc_buffer::kinds::{Owned, Plain};
 use arc_read::slice::ArcSlice;
 use arc_write::slice_mut::{ArcBytesMut, ArcSliceMut};
 use std::alloc::Global;
-use std::sync::Wait;
+use std::sync::{Arc, Wait};
 use std::test::Fail;
 use std::thread::{self, Threads};
 
@@ -22,11 +22,16 @@ type TextsMut = ArcSliceMut<Owned<String>, DefaultLayoutMut, 1>;
 type Named = ArcSlice<Plain<u8>, DefaultLayout, String, Vec<String>>;
 
 /// Two texts.
-fn texts(alloc: Global) -> Result<[String; 2], Fail> {
-    Ok([
-        String::from_str(alloc, "Hello")?,
-        String::from_str(alloc, "world")?,
+fn texts(alloc: Global) -> Option<[String; 2]> {
+    Some([
+        String::from_str(alloc, "Hello").ok()?,
+        String::from_str(alloc, "world").ok()?,
     ])
+}
+
+/// A reader of them.
+fn texts_read(alloc: Global) -> Option<Texts> {
+    Texts::try_from_array(alloc, texts(alloc)?).ok()
 }
 
 /// How many items a reader of bytes has in another thread, which ends it, and one here.
@@ -84,67 +89,113 @@ fn ended_there<R: Threads + Wait>(rt: &R, reader: Texts, writer: ArcBytesMut) ->
     })
 }
 
+/// What bytes stand on.
+#[derive(Clone, Copy)]
+enum Sort {
+    Native,
+    Vector,
+    Buffer,
+    Shared,
+    Lasting,
+}
+
+/// A reader of two bytes that stands on this.
+fn standing_on(alloc: Global, sort: Sort) -> Option<Bytes> {
+    let bytes = Vec::from_slice(alloc, &[1, 2]).ok()?;
+    match sort {
+        Sort::Native => Bytes::try_from_slice(alloc, &[1, 2]).ok(),
+        Sort::Vector => Bytes::try_from_vec(alloc, bytes).ok(),
+        Sort::Buffer => Bytes::try_from_buffer(alloc, bytes).ok(),
+        Sort::Shared => Bytes::try_from_raw_buffer(alloc, Arc::new(alloc, bytes).ok()?).ok(),
+        Sort::Lasting => Some(Bytes::from_static(alloc, &[1, 2])),
+    }
+}
+
 /// What both threads count of bytes, and whether the window here is alone then.
-fn bytes_told<R: Threads + Wait>(rt: &R, alloc: Global) -> Result<((usize, usize), bool), Fail> {
-    let bytes: Bytes = ArcSlice::try_from_slice(alloc, &[1, 2])?;
-    let counted = bytes_counted(rt, bytes.try_clone(rt)?, &bytes);
-    Ok((counted, bytes.is_unique()))
+fn bytes_told<R: Threads + Wait>(
+    rt: &R,
+    alloc: Global,
+    sort: Sort,
+) -> Option<((usize, usize), bool)> {
+    let bytes = standing_on(alloc, sort)?;
+    let counted = bytes_counted(rt, bytes.try_clone(rt).ok()?, &bytes);
+    Some((counted, bytes.is_unique()))
+}
+
+/// A writer of two bytes that stands on this. None writes on others' Arcs, or on what lies there
+/// for good.
+fn written_on(alloc: Global, sort: Sort) -> Option<ArcBytesMut> {
+    let bytes = Vec::from_slice(alloc, &[1, 2]).ok()?;
+    match sort {
+        Sort::Native => ArcBytesMut::try_from_slice(alloc, &[1, 2]).ok(),
+        Sort::Vector => ArcBytesMut::try_from_vec(alloc, bytes).ok(),
+        Sort::Buffer => ArcBytesMut::try_from_buffer(alloc, bytes).ok(),
+        Sort::Shared | Sort::Lasting => None,
+    }
+}
+
+/// Whether another thread gave a writer a byte more, and the bytes are there.
+fn pushed_told(rt: &impl Threads, alloc: Global, sort: Sort) -> Option<(bool, bool)> {
+    let (bytes, is_pushed) = byte_pushed(rt, written_on(alloc, sort)?);
+    Some((is_pushed, bytes.as_slice() == [1, 2, 3].as_slice()))
 }
 
 /// The same of texts.
-fn texts_told<R: Threads + Wait>(rt: &R, alloc: Global) -> Result<((usize, usize), bool), Fail> {
-    let Ok(texts) = Texts::try_from_array(alloc, texts(alloc)?) else {
-        return Err("no memory".into());
-    };
-    let counted = texts_counted(rt, texts.try_clone(rt)?, &texts);
-    Ok((counted, texts.is_unique()))
+fn texts_told<R: Threads + Wait>(rt: &R, alloc: Global) -> Option<((usize, usize), bool)> {
+    let texts = texts_read(alloc)?;
+    let counted = texts_counted(rt, texts.try_clone(rt).ok()?, &texts);
+    Some((counted, texts.is_unique()))
 }
 
 /// The same of bytes beside other types of buffers and metadata.
-fn named_told<R: Threads + Wait>(rt: &R, alloc: Global) -> Result<((usize, usize), bool), Fail> {
-    let named: Named = ArcSlice::try_from_slice(alloc, &[1, 2])?;
-    let counted = named_counted(rt, named.try_clone(rt)?, &named);
-    Ok((counted, named.is_unique()))
+fn named_told<R: Threads + Wait>(rt: &R, alloc: Global) -> Option<((usize, usize), bool)> {
+    let named: Named = ArcSlice::try_from_slice(alloc, &[1, 2]).ok()?;
+    let counted = named_counted(rt, named.try_clone(rt).ok()?, &named);
+    Some((counted, named.is_unique()))
+}
+
+/// How many texts a writer has that another thread cut, and whether the first is this one.
+fn first_kept(rt: &impl Threads, alloc: Global, wanted: &str) -> Option<(usize, bool)> {
+    let texts = texts_cut(rt, TextsMut::try_from_array(alloc, texts(alloc)?).ok()?);
+    match texts.as_slice() {
+        [first, ..] => Some((texts.len(), first.as_str() == wanted)),
+        [] => None,
+    }
+}
+
+/// Whether a thread has ended a clone of a reader of texts and a writer, and whether the reader is
+/// alone then.
+fn ended_told<R: Threads + Wait>(rt: &R, alloc: Global) -> Option<[bool; 2]> {
+    let bytes: ArcBytesMut = ArcSliceMut::try_from_slice(alloc, &[1, 2]).ok()?;
+    let texts = texts_read(alloc)?;
+    let is_ended = ended_there(rt, texts.try_clone(rt).ok()?, bytes);
+    Some([is_ended, texts.is_unique()])
 }
 
 #[test]
-fn readers_go_to_threads(rt: HostRuntime) -> Result<(), Fail> {
-    let told = [
-        bytes_told(&rt, rt.alloc())?,
-        texts_told(&rt, rt.alloc())?,
-        named_told(&rt, rt.alloc())?,
-    ];
-    assert!(rt; told == [((2, 2), true); 3]);
+fn items_go_to_threads(rt: HostRuntime) -> Result<(), Fail> {
+    let told = [texts_told(&rt, rt.alloc()), named_told(&rt, rt.alloc())];
+    assert!(rt; told == [Some(((2, 2), true)); 2]);
+    assert!(rt; first_kept(&rt, rt.alloc(), "Hello") == Some((1, true)));
+    assert!(rt; ended_told(&rt, rt.alloc()) == Some([true; 2]));
     Ok(())
 }
 
+/// Over each sort of block, and over what lies there for good: alone afterwards are those that a
+/// count tells of.
 #[test]
-fn writers_go_to_threads(rt: HostRuntime) -> Result<(), Fail> {
-    let bytes: ArcBytesMut = ArcSliceMut::try_from_slice(rt.alloc(), &[1, 2])?;
-    let (bytes, is_pushed) = byte_pushed(&rt, bytes);
-    assert!(rt; (is_pushed, bytes.as_slice()) == (true, [1, 2, 3].as_slice()));
-    let Ok(texts) = TextsMut::try_from_array(rt.alloc(), texts(rt.alloc())?) else {
-        return Err("no memory".into());
-    };
-    let texts = texts_cut(&rt, texts);
-    assert!(rt;
-        texts
-            .as_slice()
-            .first()
-            .is_some_and(|text| text.as_str() == "Hello")
-    );
-    assert!(rt; texts.len() == 1);
-    Ok(())
-}
-
-#[test]
-fn windows_end_in_scope(rt: HostRuntime) -> Result<(), Fail> {
-    let bytes: ArcBytesMut = ArcSliceMut::try_from_slice(rt.alloc(), &[1, 2])?;
-    let Ok(texts) = Texts::try_from_array(rt.alloc(), texts(rt.alloc())?) else {
-        return Err("no memory".into());
-    };
-    let clone = texts.try_clone(&rt)?;
-    assert!(rt; ended_there(&rt, clone, bytes));
-    assert!(rt; texts.is_unique());
+fn sorts_go_to_threads(rt: HostRuntime) -> Result<(), Fail> {
+    for (sort, is_alone) in [
+        (Sort::Native, true),
+        (Sort::Vector, true),
+        (Sort::Buffer, true),
+        (Sort::Shared, false),
+        (Sort::Lasting, false),
+    ] {
+        assert!(rt; bytes_told(&rt, rt.alloc(), sort) == Some(((2, 2), is_alone)));
+    }
+    for sort in [Sort::Native, Sort::Vector, Sort::Buffer] {
+        assert!(rt; pushed_told(&rt, rt.alloc(), sort) == Some((true, true)));
+    }
     Ok(())
 }

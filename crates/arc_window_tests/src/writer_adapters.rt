@@ -1,4 +1,7 @@
 //! Write windows printed, lent, read from and written to.
+use crate::printing::{
+    debugs, debugs_on_lines, displays, displays_right, in_lower_hex, in_upper_hex,
+};
 use arc_block::layout::DefaultLayoutMut;
 use arc_buffer::kinds::{ByteText, Plain};
 use arc_write::slice_mut::{ArcBytesMut, ArcSliceMut, ArcStrMut};
@@ -28,12 +31,6 @@ fn written_twice(alloc: Global) -> Option<([usize; 2], [usize; 2], bool)> {
     Some(([first, second], [window.len(), window.capacity()], is_kept))
 }
 
-#[test]
-fn written_within_its_places(rt: HostRuntime) -> Result<(), Fail> {
-    assert!(rt; written_twice(rt.alloc()) == Some(([1, 0], [4, 4], true)));
-    Ok(())
-}
-
 /// Two bytes are written to a window of three that has six places, and then two more, of which one
 /// fits: whether the error is of kind `WriteZero`, the lengths, and whether what fits is there.
 fn written_whole(alloc: Global) -> Option<(bool, [usize; 2], bool)> {
@@ -44,12 +41,6 @@ fn written_whole(alloc: Global) -> Option<(bool, [usize; 2], bool)> {
     let is_kept = window.eq_slice(&[1, 2, 3, 4, 5, 6]);
     let is_zero = error.kind() == ErrorKind::WriteZero;
     Some((is_zero, [len, window.len()], is_kept))
-}
-
-#[test]
-fn written_as_a_whole(rt: HostRuntime) -> Result<(), Fail> {
-    assert!(rt; written_whole(rt.alloc()) == Some((true, [5, 6], true)));
-    Ok(())
 }
 
 /// Puts into a window of one byte that has eight places: which were taken, how many places are left
@@ -84,14 +75,6 @@ fn byte_text_put(alloc: Global) -> Option<([bool; 2], usize)> {
     Some(([one, two], window.len()))
 }
 
-#[test]
-fn put_within_its_places(rt: HostRuntime) -> Result<(), Fail> {
-    let told = Some(([true, true, false, false, true], [5, 2, 2, 0, 8], true));
-    assert!(rt; puts(rt.alloc()) == told);
-    assert!(rt; byte_text_put(rt.alloc()) == Some(([true, false], 2)));
-    Ok(())
-}
-
 /// A window of five bytes that has eight places is read from by a number, by a cut and into two
 /// places: the number, the count, the length and the places left.
 fn read_from(alloc: Global) -> Option<(u16, usize, [u8; 2], [usize; 2])> {
@@ -111,12 +94,6 @@ fn read_from(alloc: Global) -> Option<(u16, usize, [u8; 2], [usize; 2])> {
     ))
 }
 
-#[test]
-fn read_from_the_front(rt: HostRuntime) -> Result<(), Fail> {
-    assert!(rt; read_from(rt.alloc()) == Some((0x0102, 2, [4, 5], [0, 3])));
-    Ok(())
-}
-
 /// A window of three bytes fills two places, and then has too few for them: whether that is said to
 /// be the end, what stands in the places, and what is left after each.
 fn read_exactly(alloc: Global) -> Option<(bool, [u8; 2], [usize; 2])> {
@@ -127,12 +104,6 @@ fn read_exactly(alloc: Global) -> Option<(bool, [u8; 2], [usize; 2])> {
     let error = window.read_exact(&mut places).err()?;
     let is_end = error.kind() == ErrorKind::UnexpectedEof;
     Some((is_end, places, [left, window.len()]))
-}
-
-#[test]
-fn read_to_the_end(rt: HostRuntime) -> Result<(), Fail> {
-    assert!(rt; read_exactly(rt.alloc()) == Some((true, [3, 2], [1, 0])));
-    Ok(())
 }
 
 /// Whether a writer takes this text and a number.
@@ -152,7 +123,12 @@ fn formatted(alloc: Global, text: &str, number: u32, whole: &str) -> Option<[boo
 }
 
 #[test]
-fn formatted_into(rt: HostRuntime) -> Result<(), Fail> {
+fn written_to(rt: HostRuntime) -> Result<(), Fail> {
+    assert!(rt; written_twice(rt.alloc()) == Some(([1, 0], [4, 4], true)));
+    assert!(rt; written_whole(rt.alloc()) == Some((true, [5, 6], true)));
+    let told = Some(([true, true, false, false, true], [5, 2, 2, 0, 8], true));
+    assert!(rt; puts(rt.alloc()) == told);
+    assert!(rt; byte_text_put(rt.alloc()) == Some(([true, false], 2)));
     assert!(rt; formatted(rt.alloc(), "aé", 12, "aé-12") == Some([true; 3]));
     Ok(())
 }
@@ -187,18 +163,11 @@ fn formatting_refused(rt: HostRuntime) -> Result<(), Fail> {
 /// Whether a window over these bytes prints so, and in digits of either case so.
 fn bytes_print(alloc: Global, bytes: &[u8], debug: &str, digits: [&str; 2]) -> Option<[bool; 4]> {
     let window = with_places(alloc, 9, bytes)?;
-    let debugged = format!(in alloc; "{window:?}").ok()?;
-    let laid_out = format!(in alloc; "{window:#?}").ok()?;
-    let mut small = fmt::Formatter::new(String::new(alloc));
-    fmt::LowerHex::fmt(&window, &mut small).ok()?;
-    let mut large = fmt::Formatter::new(String::new(alloc));
-    fmt::UpperHex::fmt(&window, &mut large).ok()?;
-    let (small, large) = (small.into_inner(), large.into_inner());
     Some([
-        debugged.as_str() == debug,
-        laid_out.as_str() == debug,
-        small.as_str() == digits[0],
-        large.as_str() == digits[1],
+        debugs(alloc, &window, debug)?,
+        debugs_on_lines(alloc, &window, debug)?,
+        in_lower_hex(alloc, &window, digits[0])?,
+        in_upper_hex(alloc, &window, digits[1])?,
     ])
 }
 
@@ -207,34 +176,21 @@ fn byte_text_prints(alloc: Global, bytes: &[u8], text: &str, wide: &str) -> Opti
     let window: ArcSliceMut<ByteText, DefaultLayoutMut, 1> = ArcSliceMut::try_from_slice(
         alloc, bytes,
     ).ok()?;
-    let displayed = format!(in alloc; "{window}").ok()?;
-    let padded = format!(in alloc; "{window:>5}").ok()?;
-    Some([displayed.as_str() == text, padded.as_str() == wide])
+    Some([
+        displays(alloc, &window, text)?,
+        displays_right(alloc, &window, wide)?,
+    ])
 }
 
 /// Whether a window over this text prints so.
 fn text_prints(alloc: Global, text: &str, debug: &str) -> Option<[bool; 3]> {
     let window: ArcStrMut = ArcSliceMut::try_from_str(alloc, text).ok()?;
-    let debugged = format!(in alloc; "{window:?}").ok()?;
-    let displayed = format!(in alloc; "{window}").ok()?;
     let is_lent = AsStr::as_str(&window) == text;
     Some([
-        debugged.as_str() == debug,
-        displayed.as_str() == text,
+        debugs(alloc, &window, debug)?,
+        displays(alloc, &window, text)?,
         is_lent,
     ])
-}
-
-#[test]
-fn printed(rt: HostRuntime) -> Result<(), Fail> {
-    let alloc = rt.alloc();
-    let digits = ["61270a00", "61270A00"];
-    let told = bytes_print(alloc, &[97, 39, 10, 0], "b\"a\\'\\n\\x00\"", digits);
-    assert!(rt; told == Some([true; 4]));
-    let told = byte_text_prints(alloc, b"a\xff", "a\u{fffd}", "   a\u{fffd}");
-    assert!(rt; told == Some([true; 2]));
-    assert!(rt; text_prints(alloc, "aé\n", "\"aé\\n\"") == Some([true; 3]));
-    Ok(())
 }
 
 /// The numbers of a window, after the first was changed: their sum by a loop, and what is lent.
@@ -253,7 +209,16 @@ fn lent(alloc: Global, numbers: &[u32]) -> Option<(u64, usize)> {
 }
 
 #[test]
-fn items_lent(rt: HostRuntime) -> Result<(), Fail> {
+fn read_from_and_printed(rt: HostRuntime) -> Result<(), Fail> {
+    assert!(rt; read_from(rt.alloc()) == Some((0x0102, 2, [4, 5], [0, 3])));
+    assert!(rt; read_exactly(rt.alloc()) == Some((true, [3, 2], [1, 0])));
+    let alloc = rt.alloc();
+    let digits = ["61270a00", "61270A00"];
+    let told = bytes_print(alloc, &[97, 39, 10, 0], "b\"a\\'\\n\\x00\"", digits);
+    assert!(rt; told == Some([true; 4]));
+    let told = byte_text_prints(alloc, b"a\xff", "a\u{fffd}", "   a\u{fffd}");
+    assert!(rt; told == Some([true; 2]));
+    assert!(rt; text_prints(alloc, "aé\n", "\"aé\\n\"") == Some([true; 3]));
     assert!(rt; lent(rt.alloc(), &[1, 2, 3]) == Some((15, 3)));
     Ok(())
 }

@@ -25,34 +25,25 @@ where
     }
 }
 
-#[test]
-fn written_by_a_generic_caller(rt: HostRuntime) -> Result<(), Fail> {
-    let text: ArcSlice<Text, VecLayout> = ArcSlice::try_from_str(rt.alloc(), "ab")?;
-    assert!(rt; items_written(text) == Some(2));
-    Ok(())
-}
-
-#[test]
-fn one_pass_throughout(rt: HostRuntime) -> Result<(), Fail> {
+/// Whether a window, frozen and written again with one pass, has its items.
+fn with_one_pass(alloc: Global) -> Option<bool> {
     let mut pass = Pass::none();
-    let mut window: ArcSliceMut<Plain<u8>, DefaultLayoutMut, 1, Vec<u8>, (), Global, Whole> =
-        ArcSliceMut::try_from_slice_as(rt.alloc(), &[1], &mut pass)?;
-    window.try_extend_from_slice_as(&[2, 3], &mut pass)?;
+    let made: Result<ArcBytesMut<DefaultLayoutMut, Vec<u8>, (), Global, Whole>, _> =
+        ArcSliceMut::try_from_slice_as(alloc, &[1], &mut pass);
+    let Ok(mut window) = made else {
+        return None;
+    };
+    let Ok(()) = window.try_extend_from_slice_as(&[2, 3], &mut pass) else {
+        return None;
+    };
     let frozen: ArcSlice<Plain<u8>, DefaultLayout, Vec<u8>, (), Global, Whole> =
         ArcSlice::from_parts(window.into_parts().freeze());
-    let is_same = match frozen.try_into_mut_as::<DefaultLayoutMut>(&mut pass) {
-        Ok(window) => {
-            let is_same = window.as_slice() == [1, 2, 3].as_slice();
-            window.release_as(&mut pass);
-            is_same
-        }
-        Err(frozen) => {
-            frozen.release_as(&mut pass);
-            false
-        }
+    let Ok(window) = frozen.try_into_mut_as::<DefaultLayoutMut>(&mut pass) else {
+        return None;
     };
-    assert!(rt; is_same);
-    Ok(())
+    let is_same = window.as_slice() == [1, 2, 3].as_slice();
+    window.release_as(&mut pass);
+    Some(is_same)
 }
 
 /// The places of a window on nothing that isn't frozen.
@@ -60,13 +51,6 @@ fn not_frozen(heap: &LocalHeap) -> Option<usize> {
     let window: ArcBytesMut<DefaultLayoutMut, Vec<u8>, (), &LocalHeap> = ArcSliceMut::new(heap);
     let back = window.try_freeze::<ArcLayout<true, false>>().err()?;
     Some(back.capacity())
-}
-
-#[test]
-fn nothing_is_frozen_without_memory(rt: HostRuntime) -> Result<(), Fail> {
-    let heap = LocalHeap::new(rt.alloc(), 16)?;
-    assert!(rt; not_frozen(&heap) == Some(0));
-    Ok(())
 }
 
 /// A window of two items has no room in front, and is ended by the hint that it is alone.
@@ -85,14 +69,6 @@ fn ended_with_a_pass<A: Allocator + Copy>(alloc: A) -> Option<bool> {
     Some(found)
 }
 
-#[test]
-fn ended_by_hint(rt: HostRuntime) -> Result<(), Fail> {
-    let heap = LocalHeap::new(rt.alloc(), 512)?;
-    let found = ended_with_a_pass(&heap);
-    assert!(rt; (found, heap.used()) == (Some(false), 0));
-    Ok(())
-}
-
 /// Whether there was a window of two items, which is ended by the hint.
 fn ended<A: Allocator + Copy>(alloc: A) -> bool {
     let made: Result<ArcBytesMut<DefaultLayoutMut, Vec<u8>, (), A>, _> =
@@ -106,19 +82,29 @@ fn ended<A: Allocator + Copy>(alloc: A) -> bool {
     }
 }
 
+/// On nothing a window isn't frozen without memory, and one that is alone is ended by the hint.
 #[test]
-fn ended_by_hint_without_a_pass(rt: HostRuntime) -> Result<(), Fail> {
+fn ended_and_frozen(rt: HostRuntime) -> Result<(), Fail> {
+    let heap = LocalHeap::new(rt.alloc(), 16)?;
+    assert!(rt; not_frozen(&heap) == Some(0));
     let heap = LocalHeap::new(rt.alloc(), 512)?;
-    let made = ended(&heap);
-    assert!(rt; (made, heap.used()) == (true, 0));
+    let told = (ended_with_a_pass(&heap), ended(&heap));
+    assert!(rt; (told, heap.used()) == ((Some(false), true), 0));
     Ok(())
 }
 
-#[test]
-fn alone_while_it_writes(rt: HostRuntime) -> Result<(), Fail> {
-    let window: ArcBytesMut = ArcSliceMut::try_from_slice(rt.alloc(), &[1])?;
+/// A writer is alone by any pass of its block.
+fn alone_as_writer(window: ArcBytesMut) {
     let mut pass = window.pass();
     window.only(&mut pass);
     window.release_as(&mut pass);
+}
+
+#[test]
+fn written_again(rt: HostRuntime) -> Result<(), Fail> {
+    let text: ArcSlice<Text, VecLayout> = ArcSlice::try_from_str(rt.alloc(), "ab")?;
+    assert!(rt; items_written(text) == Some(2));
+    assert!(rt; with_one_pass(rt.alloc()) == Some(true));
+    alone_as_writer(ArcSliceMut::try_from_slice(rt.alloc(), &[1])?);
     Ok(())
 }

@@ -1,4 +1,5 @@
 //! Each request for memory is refused: what was given comes back, and nothing changes.
+use crate::seen::{MADE, REFUSED, seen_once};
 use arc_block::layout::DefaultLayoutMut;
 use arc_owners::error::{AllocError, TryReserveError};
 use arc_write::slice_mut::{ArcBytesMut, ArcSliceMut, ArcStrMut};
@@ -8,19 +9,6 @@ use std::test::Fail;
 type Bytes<'a> = ArcBytesMut<DefaultLayoutMut, Vec<u8>, (), &'a LocalHeap>;
 
 type Text<'a> = ArcStrMut<DefaultLayoutMut, Vec<u8>, (), &'a LocalHeap>;
-
-/// A call that makes a first block.
-#[derive(Clone, Copy, Debug)]
-enum Call {
-    Slice,
-    Array,
-    Text,
-    Capacity,
-    Push,
-    Extend,
-    Iterate,
-    Reserve,
-}
 
 /// Whether a window was made of a slice, and whether it has the items, if it was.
 fn from_slice(heap: &LocalHeap) -> (bool, bool) {
@@ -103,51 +91,32 @@ fn reserve(heap: &LocalHeap) -> (bool, bool) {
     }
 }
 
-/// Whether the call did what it does, or was refused and left no more than there was.
-fn tried(call: Call, heap: &LocalHeap) -> Result<bool, Fail> {
-    let (done, right) = match call {
-        Call::Slice => from_slice(heap),
-        Call::Array => from_array(heap),
-        Call::Text => from_text(heap),
-        Call::Capacity => with_capacity(heap),
-        Call::Push => push(heap),
-        Call::Extend => extend(heap),
-        Call::Iterate => iterate(heap),
-        Call::Reserve => reserve(heap),
-    };
-    if right && heap.used() == 0 {
-        Ok(done)
-    } else {
-        Err("another answer".into())
-    }
+/// Each call once: whether it did what it does, and else left no more than there was.
+fn tried(heap: &LocalHeap) -> [(bool, bool); 8] {
+    [
+        from_slice(heap),
+        from_array(heap),
+        from_text(heap),
+        with_capacity(heap),
+        push(heap),
+        extend(heap),
+        iterate(heap),
+        reserve(heap),
+    ]
 }
 
-/// With heaps of more and more memory each of the two requests for a first block is refused.
+/// In heaps of more and more memory each call is refused, and then makes a first block.
 #[test]
 fn first_block_refused(rt: HostRuntime) -> Result<(), Fail> {
-    for call in [
-        Call::Slice,
-        Call::Array,
-        Call::Text,
-        Call::Capacity,
-        Call::Push,
-        Call::Extend,
-        Call::Iterate,
-        Call::Reserve,
-    ] {
-        let mut done = false;
-        let mut refused = false;
-        for pieces in 1..32usize {
-            let heap = LocalHeap::new(rt.alloc(), pieces * 16)?;
-            if tried(call, &heap)? {
-                done = true;
-            } else {
-                refused = true;
-            }
-            assert!(rt; heap.used() == 0);
+    let mut seen = [0u8; 8];
+    for pieces in 1..32usize {
+        let heap = LocalHeap::new(rt.alloc(), pieces * 16)?;
+        for (all, tried) in seen.iter_mut().zip(tried(&heap)) {
+            *all |= seen_once(tried);
         }
-        assert!(rt; done && refused, "of {call:?}");
+        assert!(rt; heap.used() == 0);
     }
+    assert!(rt; seen == [REFUSED | MADE; 8]);
     Ok(())
 }
 
@@ -172,29 +141,6 @@ fn refusals(window: &mut Bytes<'_>) -> Refusals {
     (items, room, found, is_same)
 }
 
-/// A full block of 64 bytes grows to 128, for which 160 in all are too few.
-#[test]
-fn growth_refused(rt: HostRuntime) -> Result<(), Fail> {
-    let heap = LocalHeap::new(rt.alloc(), 160)?;
-    let mut window: Bytes = ArcSliceMut::try_from_slice(&heap, &[7; 64])?;
-    let before = heap.used();
-    let answers = refusals(&mut window);
-    let left = (window.capacity(), heap.used());
-    drop(window);
-    let e = TryReserveError::AllocError;
-    assert!(rt;
-        answers
-            == (
-                [Some((e, 9)), Some((e, 8))],
-                [Some(e), Some(e)],
-                false,
-                true
-            )
-    );
-    assert!(rt; left == (64, before));
-    Ok(())
-}
-
 /// A text of 64 bytes.
 const EIGHTS: &str = "8888888888888888888888888888888888888888888888888888888888888888";
 
@@ -206,10 +152,21 @@ fn full_text(heap: &LocalHeap) -> Option<(Option<TryReserveError>, [usize; 2])> 
     Some((refusal, [text.len(), text.capacity()]))
 }
 
+/// What a full window answers, and its places; and whether it takes as much as before.
+fn full_bytes(heap: &LocalHeap) -> Option<(Refusals, usize, bool)> {
+    let mut window = Bytes::try_from_slice(heap, &[7; 64]).ok()?;
+    let before = heap.used();
+    let answers = refusals(&mut window);
+    Some((answers, window.capacity(), heap.used() == before))
+}
+
+/// A full block of 64 bytes grows to 128, for which 160 in all are too few.
 #[test]
-fn growth_of_text_refused(rt: HostRuntime) -> Result<(), Fail> {
+fn growth_refused(rt: HostRuntime) -> Result<(), Fail> {
     let heap = LocalHeap::new(rt.alloc(), 160)?;
-    let answers = full_text(&heap);
-    assert!(rt; answers == Some((Some(TryReserveError::AllocError), [64, 64])));
+    let e = TryReserveError::AllocError;
+    let answers = ([Some((e, 9)), Some((e, 8))], [Some(e); 2], false, true);
+    assert!(rt; full_bytes(&heap) == Some((answers, 64, true)));
+    assert!(rt; full_text(&heap) == Some((Some(e), [64, 64])));
     Ok(())
 }

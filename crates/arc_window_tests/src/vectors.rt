@@ -1,0 +1,124 @@
+//! Vectors of each kind in and out: with places to spare, without places, and of items of no size.
+use arc_block::layout::{AnyBufferLayout, ArcLayout, DefaultLayout, DefaultLayoutMut, VecLayout};
+use arc_buffer::kinds::{Owned, Plain, Text, VecIn, Wraps};
+use arc_read::slice::ArcSlice;
+use arc_write::slice_mut::ArcSliceMut;
+use std::alloc::Global;
+use std::test::Fail;
+
+/// What is told of a window of a vector: how many items it has; whether a reader is alone, or a
+/// writer has the vector's places; and how many items the vector has that it gives back, and
+/// whether that has as many places as before. None of the last two where none is given back.
+type Told = Option<(usize, bool, Option<(usize, bool)>)>;
+
+/// A vector of a kind, and how many places it has.
+fn with_places<S: VecIn<Global>>(items: S::Vec) -> (S::Vec, usize) {
+    let inner = items.into_inner();
+    let places = inner.capacity();
+    (S::Vec::from_inner(inner), places)
+}
+
+/// How many items a vector of a kind has, and whether it has so many places.
+fn counted<S: VecIn<Global>>(items: S::Vec, places: usize) -> (usize, bool) {
+    let inner = items.into_inner();
+    (inner.len(), inner.capacity() == places)
+}
+
+fn reader<S: VecIn<Global>, L: AnyBufferLayout>(alloc: Global, items: S::Vec) -> Told
+where
+    S::Vec: Drop,
+{
+    let (items, places) = with_places::<S>(items);
+    let window = ArcSlice::<S, L>::try_from_vec(alloc, items).ok()?;
+    let (len, is_alone) = (window.len(), window.is_unique());
+    match window.try_into_vec() {
+        Ok(items) => Some((len, is_alone, Some(counted::<S>(items, places)))),
+        Err(_) => Some((len, is_alone, None)),
+    }
+}
+
+fn writer<S: VecIn<Global>>(alloc: Global, items: S::Vec) -> Told
+where
+    S::Vec: Drop,
+{
+    let (items, places) = with_places::<S>(items);
+    let window = ArcSliceMut::<S, DefaultLayoutMut, 1>::try_from_vec(alloc, items).ok()?;
+    let (len, has_places) = (window.len(), window.capacity() == places);
+    match window.try_into_vec() {
+        Ok(items) => Some((len, has_places, Some(counted::<S>(items, places)))),
+        Err(_) => Some((len, has_places, None)),
+    }
+}
+
+/// Three bytes with five places to spare.
+fn bytes(alloc: Global) -> Option<Vec<u8>> {
+    let mut bytes = Vec::with_capacity(alloc, 8).ok()?;
+    bytes.extend_from_slice(&[1, 2, 3]).ok()?;
+    Some(bytes)
+}
+
+/// Three items of no size.
+fn units(alloc: Global) -> Option<Vec<()>> {
+    Vec::from_slice(alloc, &[(); 3]).ok()
+}
+
+/// Two boxes with two places to spare.
+fn boxes(alloc: Global) -> Option<Vec<Box<u8>>> {
+    let mut boxes = Vec::with_capacity(alloc, 4).ok()?;
+    boxes.push(Box::new(alloc, 7).ok()?).ok()?;
+    boxes.push(Box::new(alloc, 9).ok()?).ok()?;
+    Some(boxes)
+}
+
+/// A text of four bytes with five places to spare.
+fn text(alloc: Global) -> Option<String> {
+    let mut text = String::with_capacity(alloc, 9).ok()?;
+    text.push_str("aéb").ok()?;
+    Some(text)
+}
+
+/// What is told of readers of vectors with items, as `Told`.
+fn read(alloc: Global) -> Option<[Told; 4]> {
+    Some([
+        reader::<Plain<u8>, DefaultLayout>(alloc, bytes(alloc)?),
+        reader::<Plain<()>, DefaultLayout>(alloc, units(alloc)?),
+        reader::<Owned<Box<u8>>, DefaultLayout>(alloc, boxes(alloc)?),
+        reader::<Text, VecLayout>(alloc, text(alloc)?),
+    ])
+}
+
+/// The same of writers.
+fn written(alloc: Global) -> Option<[Told; 4]> {
+    Some([
+        writer::<Plain<u8>>(alloc, bytes(alloc)?),
+        writer::<Plain<()>>(alloc, units(alloc)?),
+        writer::<Owned<Box<u8>>>(alloc, boxes(alloc)?),
+        writer::<Text>(alloc, text(alloc)?),
+    ])
+}
+
+/// What is told of a window of so many items that gives them back.
+fn told(len: usize) -> Told {
+    Some((len, true, Some((len, true))))
+}
+
+/// A vector without places is a window on nothing, and under a layout without static data a reader
+/// of a block of its own that has no places: either doesn't give a vector back.
+#[test]
+fn in_and_out(rt: HostRuntime) -> Result<(), Fail> {
+    let wanted = Some([told(3), told(3), told(2), told(4)]);
+    assert!(rt; (read(rt.alloc()), written(rt.alloc())) == (wanted, wanted));
+    let alloc = rt.alloc();
+    let told = [
+        reader::<Plain<u8>, DefaultLayout>(alloc, Vec::new(alloc)),
+        reader::<Plain<u8>, ArcLayout<true, false>>(alloc, Vec::new(alloc)),
+        writer::<Plain<u8>>(alloc, Vec::new(alloc)),
+    ];
+    let wanted = [
+        Some((0, false, None)),
+        Some((0, true, None)),
+        Some((0, true, None)),
+    ];
+    assert!(rt; told == wanted);
+    Ok(())
+}
