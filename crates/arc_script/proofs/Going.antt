@@ -31,10 +31,10 @@ in_place : (held bytes line : List ℕ) (too_long : Bool) → (held ≡ []) × (
 in_place held bytes line too_long none holds =
     ap (λ xs. xs ++ bytes) (sym none.0 ∙ subst (λ f. Holds held f line) none.1 holds)
 
-module _ {layout : ScriptLayout} {L A W V : Type 0} {N : Named.Ghosts L W V}
-    {G : Layout.Ghosts L W} {K : Layout.Ghosts W V} where
+module _ {layout : ScriptLayout} {L A W : Type 0} {N : Named.Ghosts L W}
+    {G : Layout.Ghosts L W} {K : Layout.Ghosts W W} where
   -- the same windows, out, line and flag make the same state
-  pub same_state : (start input : List ℕ) (w : Traffic) (e : Engine L A W V N G K) (out held : List ℕ)
+  pub same_state : (start input : List ℕ) (w : Traffic) (e : Engine L A W N G K) (out held : List ℕ)
       (state : ByteState) (too_long : Bool) → e.out.items ≡ out → e.table ≡ state
       → e.line.items ≡ held → e.too_long ≡ too_long
       → IsUnderway layout start input w out state held too_long → HasRead layout start input w e
@@ -48,7 +48,7 @@ module _ {layout : ScriptLayout} {L A W V : Type 0} {N : Named.Ghosts L W V}
       (subst (λ o. IsUnderway layout start input w o state held too_long) (sym same_out) u)))
 
   -- the same windows and out make the same beginning
-  same_begun : (fault : ScriptError) (start input : List ℕ) (w : Traffic) (e : Engine L A W V N G K)
+  same_begun : (fault : ScriptError) (start input : List ℕ) (w : Traffic) (e : Engine L A W N G K)
       (out : List ℕ) (state : ByteState) → e.out.items ≡ out → e.table ≡ state
       → IsBegun layout fault start input w out state → IsBegun layout fault start input w e.out.items e.table
   same_begun fault start input w e out state same_out same_windows b =
@@ -56,14 +56,14 @@ module _ {layout : ScriptLayout} {L A W V : Type 0} {N : Named.Ghosts L W V}
       (subst (λ s. IsBegun layout fault start input w out s) (sym same_windows) b)
 
   -- it stops before it has written more
-  pub stops_now : (fault : ScriptError) (bytes : List ℕ) (w : Traffic) (e e1 : Engine L A W V N G K)
+  pub stops_now : (fault : ScriptError) (bytes : List ℕ) (w : Traffic) (e e1 : Engine L A W N G K)
       → e1.table ≡ e.table → e1.out.items ≡ e.out.items → Stops layout bytes w w e e1 fault
   stops_now fault bytes w e e1 same_windows same_out start input more read =
       same_begun fault start (input ++ (bytes ++ more)) w e1 e.out.items e.table same_out
       same_windows (still_begun read fault (bytes ++ more))
 
   -- it stops while its replies go out
-  pub stops_out : (bytes : List ℕ) (w w' : Traffic) (e e1 : Engine L A W V N G K)
+  pub stops_out : (bytes : List ℕ) (w w' : Traffic) (e e1 : Engine L A W N G K)
       → TakesFront e.out.items w w' → e1.out.items ≡ [] → e1.table ≡ e.table
       → Stops layout bytes w w' e e1 Write
   stops_out bytes w w' e e1 front none same start input more read =
@@ -71,7 +71,7 @@ module _ {layout : ScriptLayout} {L A W V : Type 0} {N : Named.Ghosts L W V}
       (begun_front (still_begun read Write (bytes ++ more)) w' front)
 
   -- it stops at a line feed
-  pub stops_at_line : (w : Traffic) (e e1 : Engine L A W V N G K)
+  pub stops_at_line : (w : Traffic) (e e1 : Engine L A W N G K)
       → MayEnd layout e.line.items e.too_long e.table e1.table → e1.out.items ≡ e.out.items
       → Stops layout (line_feed ∷ []) w w e e1 Alloc
   stops_at_line w e e1 may same_out start input more read =
@@ -80,7 +80,7 @@ module _ {layout : ScriptLayout} {L A W V : Type 0} {N : Named.Ghosts L W V}
 
   -- it stops, and what it holds goes out
   pub stops_and_out : (fault : ScriptError) (bytes : List ℕ) (w w1 w' : Traffic)
-      (e e1 e2 : Engine L A W V N G K) → Stops layout bytes w w1 e e1 fault → w'.bytes ≡ w1.bytes ++ e1.out.items
+      (e e1 e2 : Engine L A W N G K) → Stops layout bytes w w1 e e1 fault → w'.bytes ≡ w1.bytes ++ e1.out.items
       → e2.out.items ≡ [] → e2.table ≡ e1.table → Stops layout bytes w w' e e2 fault
   stops_and_out fault bytes w w1 w' e e1 e2 stops out none same start input more read =
       same_begun fault start (input ++ (bytes ++ more)) w' e2 [] e1.table none same
@@ -88,7 +88,7 @@ module _ {layout : ScriptLayout} {L A W V : Type 0} {N : Named.Ghosts L W V}
 
   -- or a front of it
   pub stops_and_front : (fault : ScriptError) (bytes : List ℕ) (w w1 w' : Traffic)
-      (e e1 e2 : Engine L A W V N G K) → Stops layout bytes w w1 e e1 fault → TakesFront e1.out.items w1 w'
+      (e e1 e2 : Engine L A W N G K) → Stops layout bytes w w1 e e1 fault → TakesFront e1.out.items w1 w'
       → e2.out.items ≡ [] → e2.table ≡ e1.table → Stops layout bytes w w' e e2 Write
   stops_and_front fault bytes w w1 w' e e1 e2 stops front none same start input more read =
       same_begun Write start (input ++ (bytes ++ more)) w' e2 [] e1.table none same
@@ -96,7 +96,7 @@ module _ {layout : ScriptLayout} {L A W V : Type 0} {N : Named.Ghosts L W V}
 
   -- it has read some bytes, and stops within others
   pub stops_later : (fault : ScriptError) (piece front rest : List ℕ) (w w1 w2 : Traffic)
-      (e e1 e2 : Engine L A W V N G K) → piece ≡ front ++ rest → Reads layout front w w1 e e1
+      (e e1 e2 : Engine L A W N G K) → piece ≡ front ++ rest → Reads layout front w w1 e e1
       → Stops layout rest w1 w2 e1 e2 fault → Stops layout piece w w2 e e2 fault
   stops_later fault piece front rest w w1 w2 e e1 e2 parts reads stops start input more read =
       subst (λ xs. IsBegun layout fault start xs w2 e2.out.items e2.table)
@@ -106,7 +106,7 @@ module _ {layout : ScriptLayout} {L A W V : Type 0} {N : Named.Ghosts L W V}
 
   -- it stops within the front of some bytes
   pub stops_longer : (fault : ScriptError) (piece front rest : List ℕ) (w w' : Traffic)
-      (e e1 : Engine L A W V N G K) → piece ≡ front ++ rest → Stops layout front w w' e e1 fault
+      (e e1 : Engine L A W N G K) → piece ≡ front ++ rest → Stops layout front w w' e e1 fault
       → Stops layout piece w w' e e1 fault
   stops_longer fault piece front rest w w' e e1 parts stops start input more read =
       subst (λ xs. IsBegun layout fault start (input ++ xs) w' e1.out.items e1.table)
@@ -114,19 +114,19 @@ module _ {layout : ScriptLayout} {L A W V : Type 0} {N : Named.Ghosts L W V}
       (stops start input (rest ++ more) read)
 
   -- it has read some bytes, and then others
-  pub reads_on : (front more : List ℕ) (w w1 w2 : Traffic) (e e1 e2 : Engine L A W V N G K)
+  pub reads_on : (front more : List ℕ) (w w1 w2 : Traffic) (e e1 e2 : Engine L A W N G K)
       → Reads layout front w w1 e e1 → Reads layout more w1 w2 e1 e2 → Reads layout (front ++ more) w w2 e e2
   reads_on front more w w1 w2 e e1 e2 one other start input read =
       subst (λ xs. HasRead layout start xs w2 e2) (append_assoc input front more)
       (other start (input ++ front) (one start input read))
 
   -- it has read nothing more
-  pub reads_nothing : (w : Traffic) (e : Engine L A W V N G K) → Reads layout [] w w e e
+  pub reads_nothing : (w : Traffic) (e : Engine L A W N G K) → Reads layout [] w w e e
   reads_nothing w e start input read =
       subst (λ xs. HasRead layout start xs w e) (sym (append-nil input)) read
 
   -- it holds more of a line
-  pub reads_held : (w : Traffic) (e e1 : Engine L A W V N G K) (bytes : List ℕ) → HasNoFeed bytes
+  pub reads_held : (w : Traffic) (e e1 : Engine L A W N G K) (bytes : List ℕ) → HasNoFeed bytes
       → ((line : List ℕ) → Holds e.line.items e.too_long line
       → Holds e1.line.items e1.too_long (line ++ bytes))
       → e1.table ≡ e.table → e1.out.items ≡ e.out.items
@@ -136,7 +136,7 @@ module _ {layout : ScriptLayout} {L A W V : Type 0} {N : Named.Ghosts L W V}
       (more_held read e1.line.items e1.too_long bytes plain holds)
 
   -- it answers the line
-  pub reads_feed : (w : Traffic) (e e1 : Engine L A W V N G K)
+  pub reads_feed : (w : Traffic) (e e1 : Engine L A W N G K)
       → Ends layout e.line.items e.too_long e.table e1.table e.out.items
       e1.out.items
       → (e1.line.items ≡ []) × (e1.too_long ≡ false) → Reads layout (line_feed ∷ []) w w e e1
@@ -145,7 +145,7 @@ module _ {layout : ScriptLayout} {L A W V : Type 0} {N : Named.Ghosts L W V}
       (line_ended read e1.table e1.out.items ends)
 
   -- its replies have gone out
-  pub reads_out : (w w' : Traffic) (e e1 : Engine L A W V N G K)
+  pub reads_out : (w w' : Traffic) (e e1 : Engine L A W N G K)
       → (w'.bytes ≡ w.bytes ++ e.out.items) × (e1.out.items ≡ [])
       → e1.table ≡ e.table
       → (e1.line.items ≡ e.line.items) × (e1.too_long ≡ e.too_long) → Reads layout [] w w' e e1
@@ -155,7 +155,7 @@ module _ {layout : ScriptLayout} {L A W V : Type 0} {N : Named.Ghosts L W V}
       (went_out read w' out.0))
 
   -- it holds the end of a line, and answers it
-  pub reads_line : (w : Traffic) (e e1 e2 : Engine L A W V N G K) (bytes : List ℕ) → Reads layout bytes w w e e1
+  pub reads_line : (w : Traffic) (e e1 e2 : Engine L A W N G K) (bytes : List ℕ) → Reads layout bytes w w e e1
       → Ends layout e1.line.items e1.too_long e1.table e2.table e1.out.items
       e2.out.items
       → (e2.line.items ≡ []) × (e2.too_long ≡ false)
@@ -164,7 +164,7 @@ module _ {layout : ScriptLayout} {L A W V : Type 0} {N : Named.Ghosts L W V}
       reads_on bytes (line_feed ∷ []) w w w e e1 e2 held (reads_feed w e1 e2 ends empty)
 
   -- it answers such a line where it stands
-  pub reads_in_place : (w : Traffic) (e e1 : Engine L A W V N G K) (bytes : List ℕ) → HasNoFeed bytes
+  pub reads_in_place : (w : Traffic) (e e1 : Engine L A W N G K) (bytes : List ℕ) → HasNoFeed bytes
       → (e.line.items ≡ []) × (e.too_long ≡ false)
       → Ends layout bytes false e.table e1.table e.out.items e1.out.items
       → (e1.line.items ≡ e.line.items) × (e1.too_long ≡ e.too_long)
@@ -178,7 +178,7 @@ module _ {layout : ScriptLayout} {L A W V : Type 0} {N : Named.Ghosts L W V}
       (same.0 ∙ none.0) (same.1 ∙ none.1) (line_ended held e1.table e1.out.items ends))
 
   -- or stops there
-  pub stops_in_place : (w : Traffic) (e e1 : Engine L A W V N G K) (bytes : List ℕ) → HasNoFeed bytes
+  pub stops_in_place : (w : Traffic) (e e1 : Engine L A W N G K) (bytes : List ℕ) → HasNoFeed bytes
       → (e.line.items ≡ []) × (e.too_long ≡ false) → MayEnd layout bytes false e.table e1.table
       → e1.out.items ≡ e.out.items → Stops layout (bytes ++ line_feed ∷ []) w w e e1 Alloc
   stops_in_place w e e1 bytes plain none may same_out start input more read =
@@ -192,7 +192,7 @@ module _ {layout : ScriptLayout} {L A W V : Type 0} {N : Named.Ghosts L W V}
       (sym same_out) (line_broken held e1.table more may))
 
   -- and then its replies go out, or a front of them
-  pub reads_and_out : (bytes : List ℕ) (w w1 w' : Traffic) (e e1 e2 : Engine L A W V N G K)
+  pub reads_and_out : (bytes : List ℕ) (w w1 w' : Traffic) (e e1 e2 : Engine L A W N G K)
       → Reads layout bytes w w1 e e1 → (w'.bytes ≡ w1.bytes ++ e1.out.items) × (e2.out.items ≡ [])
       → e2.table ≡ e1.table
       → (e2.line.items ≡ e1.line.items) × (e2.too_long ≡ e1.too_long) → Reads layout bytes w w' e e2
@@ -200,7 +200,7 @@ module _ {layout : ScriptLayout} {L A W V : Type 0} {N : Named.Ghosts L W V}
       subst (λ xs. Reads layout xs w w' e e2) (append-nil bytes)
       (reads_on bytes [] w w1 w' e e1 e2 reads (reads_out w1 w' e1 e2 out same_windows same_line))
 
-  pub reads_then_stops : (bytes : List ℕ) (w w1 w' : Traffic) (e e1 e2 : Engine L A W V N G K)
+  pub reads_then_stops : (bytes : List ℕ) (w w1 w' : Traffic) (e e1 e2 : Engine L A W N G K)
       → Reads layout bytes w w1 e e1 → TakesFront e1.out.items w1 w' → e2.out.items ≡ []
       → e2.table ≡ e1.table → Stops layout bytes w w' e e2 Write
   reads_then_stops bytes w w1 w' e e1 e2 reads front none same =
@@ -209,7 +209,7 @@ module _ {layout : ScriptLayout} {L A W V : Type 0} {N : Named.Ghosts L W V}
 
   -- whatever has come of some bytes, it stops where a write fails then
   pub fed_then_stops : {T : Type 0} (fed : Result T ScriptError) (bytes : List ℕ)
-      (w w1 w' : Traffic) (e e1 e2 : Engine L A W V N G K) → OnOk fed (Reads layout bytes w w1 e e1)
+      (w w1 w' : Traffic) (e e1 e2 : Engine L A W N G K) → OnOk fed (Reads layout bytes w w1 e e1)
       → IfErr fed (Stops layout bytes w w1 e e1) → TakesFront e1.out.items w1 w' → e2.out.items ≡ []
       → e2.table ≡ e1.table → Stops layout bytes w w' e e2 Write
   fed_then_stops (Ok done) bytes w w1 w' e e1 e2 reads stops front none same =
@@ -218,14 +218,14 @@ module _ {layout : ScriptLayout} {L A W V : Type 0} {N : Named.Ghosts L W V}
       stops_and_front fault bytes w w1 w' e e1 e2 stops front none same
 
   -- it stops at the end, before it has written more
-  pub begun_at_end : (fault : ScriptError) (w : Traffic) (e : Engine L A W V N G K) (start input : List ℕ)
+  pub begun_at_end : (fault : ScriptError) (w : Traffic) (e : Engine L A W N G K) (start input : List ℕ)
       → HasRead layout start input w e → IsBegun layout fault start input w e.out.items e.table
   begun_at_end fault w e start input read =
       subst (λ xs. IsBegun layout fault start xs w e.out.items e.table) (append-nil input)
       (still_begun read fault [])
 
   -- it has read a piece in two parts
-  pub reads_whole : (piece front rest : List ℕ) (w w1 w2 : Traffic) (e e1 e2 : Engine L A W V N G K)
+  pub reads_whole : (piece front rest : List ℕ) (w w1 w2 : Traffic) (e e1 e2 : Engine L A W N G K)
       → piece ≡ front ++ rest → Reads layout front w w1 e e1 → Reads layout rest w1 w2 e1 e2
       → Reads layout piece w w2 e e2
   reads_whole piece front rest w w1 w2 e e1 e2 parts one other =
@@ -255,10 +255,10 @@ exchange_begun fault r r' w w' state input given b = record {
   fit = (b.left, b.lacking, b.begins, b.lacks);
 }
 
-module _ {layout : ScriptLayout} {L A W V : Type 0} {N : Named.Ghosts L W V}
-    {G : Layout.Ghosts L W} {K : Layout.Ghosts W V} where
+module _ {layout : ScriptLayout} {L A W : Type 0} {N : Named.Ghosts L W}
+    {G : Layout.Ghosts L W} {K : Layout.Ghosts W W} where
   -- a run that stops without reading more
-  pub run_stops_now : (fault : ScriptError) (r r1 r2 w w1 : Traffic) (e : Engine L A W V N G K)
+  pub run_stops_now : (fault : ScriptError) (r r1 r2 w w1 : Traffic) (e : Engine L A W N G K)
       → IsRunning layout r r1 w w1 e → r2.bytes ≡ r1.bytes
       → Exchanges (IsBrokenOff layout fault e.table) r r2 w w1
   run_stops_now fault r r1 r2 w w1 e run same =
@@ -267,7 +267,7 @@ module _ {layout : ScriptLayout} {L A W V : Type 0} {N : Named.Ghosts L W V}
       (begun_at_end fault w1 e w.bytes run.input run.read))
 
   -- a run that stops within the bytes that it has read
-  pub run_stops : (fault : ScriptError) (r r1 r2 w w1 w2 : Traffic) (e e1 : Engine L A W V N G K)
+  pub run_stops : (fault : ScriptError) (r r1 r2 w w1 w2 : Traffic) (e e1 : Engine L A W N G K)
       (bytes : List ℕ) → IsRunning layout r r1 w w1 e → r2.bytes ≡ r1.bytes ++ bytes
       → Stops layout bytes w1 w2 e e1 fault → e1.out.items ≡ []
       → Exchanges (IsBrokenOff layout fault e1.table) r r2 w w2
@@ -279,7 +279,7 @@ module _ {layout : ScriptLayout} {L A W V : Type 0} {N : Named.Ghosts L W V}
       (append-nil bytes) (stops w.bytes run.input [] run.read)))
 
   -- a run that goes on
-  pub run_goes_on : (r r1 r2 w w1 w2 : Traffic) (e e1 : Engine L A W V N G K) (bytes : List ℕ)
+  pub run_goes_on : (r r1 r2 w w1 w2 : Traffic) (e e1 : Engine L A W N G K) (bytes : List ℕ)
       → IsRunning layout r r1 w w1 e → r2.bytes ≡ r1.bytes ++ bytes → r2.failures ≡ r1.failures
       → NoFault w1 w2 → Reads layout bytes w1 w2 e e1 → e1.out.items ≡ [] → IsRunning layout r r2 w w2 e1
   run_goes_on r r1 r2 w w1 w2 e e1 bytes run more failures clean reads none = record {
@@ -292,7 +292,7 @@ module _ {layout : ScriptLayout} {L A W V : Type 0} {N : Named.Ghosts L W V}
   }
 
   -- a run begins with an engine that has read nothing
-  pub run_begins : (r w : Traffic) (e : Engine L A W V N G K) → e.table ≡ empty_state
+  pub run_begins : (r w : Traffic) (e : Engine L A W N G K) → e.table ≡ empty_state
       → (e.line.items ≡ []) × (e.too_long ≡ false) → e.out.items ≡ [] → IsRunning layout r r w w e
   run_begins r w e none_made none_held none_out = record {
     input = [];
@@ -307,7 +307,7 @@ module _ {layout : ScriptLayout} {L A W V : Type 0} {N : Named.Ghosts L W V}
 
   -- whatever has come of the last line, a write fails then
   pub rest_then_stops : {T F : Type 0} (rest : Result T F) (start input : List ℕ) (w w' : Traffic)
-      (e e1 : Engine L A W V N G K) → OnOk rest ((start input : List ℕ) (w : Traffic) → HasRead layout start input w e
+      (e e1 : Engine L A W N G K) → OnOk rest ((start input : List ℕ) (w : Traffic) → HasRead layout start input w e
       → IsAnswered layout start input w e1.out.items e1.table)
       → OnErr rest ((start input : List ℕ) (w : Traffic) → HasRead layout start input w e
       → IsBegun layout Alloc start input w e1.out.items e1.table)
