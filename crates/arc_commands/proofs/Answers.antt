@@ -58,50 +58,8 @@ use Rattle.arc_commands.specs.declared.command.Cmd.TheVariants.{New, Cap, Zero, 
 use Rattle.arc_commands.specs.declared.command.Cmd.TheVariants.{Rec, Freeze, Vec, Take, TakeBox}
 use Rattle.arc_commands.specs.declared.command.Cmd.TheVariants.{Raw, Buf, MBuf, Meta, TakeBuf, TakeRaw}
 use Rattle.arc_commands.specs.declared.command.Reply.TheVariants as reply
-
--- a part stands on the block on which the whole does, or on none
-abbrev pub StaysOn : {M : Type 0} → Place (Option ℕ) M → Place (Option ℕ) M → Type 0
-StaysOn whole nowhere = Unit {0}
-StaysOn whole static_data = Unit {0}
-StaysOn nowhere (on_block block offset info) = ⊥
-StaysOn static_data (on_block block offset info) = ⊥
-StaysOn (on_block one here old) (on_block block offset info) = (one ≡ block) × (old ≡ info)
-
-module _ {M : Type 0} where
-  stays-same : (place : Place (Option ℕ) M) → StaysOn place place
-  stays-same nowhere = tt
-  stays-same static_data = tt
-  stays-same (on_block block offset info) = (refl, refl)
-
-  stays-moved : (by : ℕ) (place : Place (Option ℕ) M) → StaysOn place (moved by place)
-  stays-moved by nowhere = tt
-  stays-moved by static_data = tt
-  stays-moved by (on_block block offset info) = (refl, refl)
-
-  stays-part : (nothing : Bool) (by : ℕ) (place : Place (Option ℕ) M)
-      → StaysOn place (if nothing then nowhere else moved by place)
-  stays-part true by place = tt
-  stays-part false by place = stays-moved by place
-
--- a part stands so, and is a sole writer's where the whole is
-abbrev pub IsPart : {T M : Type 0} → Row T M → Row T M → Type 0
-IsPart row part = StaysOn row.place part.place × (is_sole part.role ≡ is_sole row.role)
-
-sole-with : (role : Role) (places : ℕ) → is_sole (with_capacity role places) ≡ is_sole role
-sole-with reader places = refl
-sole-with (sole_writer before) places = refl
-sole-with (one_writer_of_several before) places = refl
-sole-with inline places = refl
-sole-with forgotten places = refl
-
-sole-either : (b : Bool) (role other : Role) → is_sole other ≡ is_sole role
-    → is_sole (if b then other else role) ≡ is_sole role
-sole-either true role other same = same
-sole-either false role other same = refl
-
--- where a row fits its place, what comes of it does too
-abbrev pub KeepsFit : {T M : Type 0} → Bool → Row T M → Row T M → Type 0
-KeepsFit drops row part = RowFits drops row → RowFits drops part
+use Rattle.arc_commands.proofs.Parts.{IsPart, KeepsFit, StaysOn, sole-either, sole-with}
+use Rattle.arc_commands.proofs.Parts.{stays-moved, stays-part, stays-same}
 
 -- a command that isn't for sole writers
 shared : {T M : Type 0} (c : ListCmd T M) → ((places : ℕ) → is_for c (sole_writer places) ≡ false)

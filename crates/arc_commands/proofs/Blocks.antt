@@ -19,7 +19,8 @@ use Rattle.arc_commands.specs.Step.{around_of, founded, may_write, may_write_at,
 use Rattle.arc_commands.specs.Step.{with_block, count_brought}
 use Rattle.arc_commands.proofs.Lists.{there}
 use Rattle.arc_commands.specs.Commands.{ListCmd, ListReply}
-use Rattle.arc_commands.proofs.Answers.{StaysOn, IsPart, answer_each}
+use Rattle.arc_commands.proofs.Answers.{answer_each}
+use Rattle.arc_commands.proofs.Parts.{StaysOn, IsPart}
 
 not-writing : (b : Bool) → (b ≡ true → ⊥) → b ≡ false
 not-writing true none = absurd (none refl)

@@ -1,4 +1,5 @@
 pub mod Runs
+pub mod Parts
 pub mod Answers
 pub mod Lists
 pub mod Roles

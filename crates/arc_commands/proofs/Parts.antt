@@ -1,0 +1,53 @@
+-- Parts of a row: where they stand, and that they fit.
+use Rattle.std.proofs.Common.{◌≡◌, ℕ, Bool, true, false, if◌then◌else◌, Option}
+use Rattle.std.proofs.Common.{refl}
+use Rattle.arc_block.specs.Place.{Place, nowhere, static_data, on_block, moved}
+use Rattle.arc_block.specs.Table.{Row, Role}
+use Rattle.arc_block.specs.Table.{reader, sole_writer, one_writer_of_several, inline, forgotten}
+use Rattle.arc_block.specs.Writers.{with_capacity}
+use Rattle.arc_commands.specs.Blocks.{is_sole}
+use Rattle.arc_commands.specs.Fits.{RowFits}
+
+-- a part stands on the block on which the whole does, or on none
+abbrev pub StaysOn : {M : Type 0} → Place (Option ℕ) M → Place (Option ℕ) M → Type 0
+StaysOn whole nowhere = Unit {0}
+StaysOn whole static_data = Unit {0}
+StaysOn nowhere (on_block block offset info) = ⊥
+StaysOn static_data (on_block block offset info) = ⊥
+StaysOn (on_block one here old) (on_block block offset info) = (one ≡ block) × (old ≡ info)
+
+module _ {M : Type 0} where
+  pub stays-same : (place : Place (Option ℕ) M) → StaysOn place place
+  stays-same nowhere = tt
+  stays-same static_data = tt
+  stays-same (on_block block offset info) = (refl, refl)
+
+  pub stays-moved : (by : ℕ) (place : Place (Option ℕ) M) → StaysOn place (moved by place)
+  stays-moved by nowhere = tt
+  stays-moved by static_data = tt
+  stays-moved by (on_block block offset info) = (refl, refl)
+
+  pub stays-part : (nothing : Bool) (by : ℕ) (place : Place (Option ℕ) M)
+      → StaysOn place (if nothing then nowhere else moved by place)
+  stays-part true by place = tt
+  stays-part false by place = stays-moved by place
+
+-- a part stands so, and is a sole writer's where the whole is
+abbrev pub IsPart : {T M : Type 0} → Row T M → Row T M → Type 0
+IsPart row part = StaysOn row.place part.place × (is_sole part.role ≡ is_sole row.role)
+
+pub sole-with : (role : Role) (places : ℕ) → is_sole (with_capacity role places) ≡ is_sole role
+sole-with reader places = refl
+sole-with (sole_writer before) places = refl
+sole-with (one_writer_of_several before) places = refl
+sole-with inline places = refl
+sole-with forgotten places = refl
+
+pub sole-either : (b : Bool) (role other : Role) → is_sole other ≡ is_sole role
+    → is_sole (if b then other else role) ≡ is_sole role
+sole-either true role other same = same
+sole-either false role other same = refl
+
+-- where a row fits its place, what comes of it does too
+abbrev pub KeepsFit : {T M : Type 0} → Bool → Row T M → Row T M → Type 0
+KeepsFit drops row part = RowFits drops row → RowFits drops part
