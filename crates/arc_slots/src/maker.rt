@@ -330,7 +330,8 @@ where
     L::Writable: LayoutMut,
     ensures made { Makes (setting_of (layout_facts L.Layout) L.Writable.ANY L.clone_wants S.DROPS
         S.boundary
-        (type_size S.Item.row) S.Zero.zero S.Calls.calls) next (command.MBuf (B.list given) metadata)
+        (type_size S.Item.row) S.Zero.zero S.Calls.calls) next
+        (command.MBuf (B.list given) metadata)
         passes.old.of_blocks.items (seen_reply S.items_in S.items_in_box B.list result.0)
         result.1 passes.new.of_blocks.items }
     ensures room { is_some result.1 ≡ true → has_room ≡ true }
