@@ -22,6 +22,7 @@ pub use native::Native;
 pub use places::Places;
 pub use vec_without_header::VecWithoutHeader;
 pub use vec_without_right::{RightToFree, VecWithoutRight};
+pub use writer_places::WriterPlaces;
 
 mod allocation;
 mod base;
@@ -34,6 +35,8 @@ mod lent_allocation;
 mod lent_places;
 mod lodging;
 mod native;
+mod place_slots;
 mod places;
 mod vec_without_header;
 mod vec_without_right;
+mod writer_places;
