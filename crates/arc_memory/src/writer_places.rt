@@ -73,6 +73,14 @@ impl<T> WriterPlaces<T> {
         self.vec.as_slice()
     }
 
+    /// Where the allocation begins.
+    #[inline(always)]
+    pub fn base(&self) -> *const T
+        ensures { result ≡ self.now.under.base }
+    {
+        self.base.at
+    }
+
     /// How many items there are.
     #[inline(always)]
     pub fn len(&self) -> usize
@@ -97,6 +105,20 @@ impl<T> WriterPlaces<T> {
         ensures places { SamePlaces self.old self.new }
     {
         self.vec.push_reserved(item);
+    }
+
+    /// Moves all items of another writer's places behind those that are here, where there are places
+    /// for them.
+    pub fn take_items(&mut self, other: &mut WriterPlaces<T>)
+        requires { length self.old.vec.items + length other.old.vec.items
+            ≤ self.old.under.count }
+        ensures items { self.new.vec.items ≡ self.old.vec.items ++ other.old.vec.items }
+        ensures left { other.new.vec.items ≡ [] }
+        ensures places { SamePlaces self.old self.new × SamePlaces other.old other.new }
+    {
+        if other.len() > 0 {
+            self.vec.append_tail(&mut other.vec, 0);
+        }
     }
 
     /// Leaves the first `len` items. Those behind them are forgotten: it is for items that need no
