@@ -69,6 +69,26 @@ impl<T: Drop, A: Allocator> WriterMemory<T, A> {
         self.places.capacity()
     }
 
+    /// An item more, behind the others, where there is a place for it.
+    #[inline(always)]
+    pub fn push_reserved(&mut self, item: T)
+        requires { length self.old.places.vec.items < self.old.allocation.count }
+        ensures items { self.new.places.vec.items ≡ self.old.places.vec.items ++ item ∷ [] }
+        ensures memory { self.new.allocation ≡ self.old.allocation }
+    {
+        self.places.push_reserved(item);
+    }
+
+    /// Leaves the first `len` items. Those behind them are forgotten: it is for items that need no
+    /// drop.
+    #[inline(always)]
+    pub fn truncate(&mut self, len: usize)
+        ensures items { self.new.places.vec.items ≡ take len self.old.places.vec.items }
+        ensures memory { self.new.allocation ≡ self.old.allocation }
+    {
+        self.places.truncate(len);
+    }
+
     /// Makes it memory of so many places, with the same items in the first of them.
     ///
     /// # Errors
@@ -112,6 +132,19 @@ impl<T: Drop, A: Allocator> WriterMemory<T, A> {
     {
         let WriterMemory { places, allocation } = self;
         NativeMemory::of(places, allocation)
+    }
+}
+
+impl<T: Copy + Drop, A: Allocator> WriterMemory<T, A> {
+    /// A copy of these items, behind the others, where there are places for them.
+    #[inline(always)]
+    pub fn extend_from_slice(&mut self, items: &[T])
+        requires { length self.old.places.vec.items + length items.now
+            ≤ self.old.allocation.count }
+        ensures items { self.new.places.vec.items ≡ self.old.places.vec.items ++ items.now }
+        ensures memory { self.new.allocation ≡ self.old.allocation }
+    {
+        self.places.extend_from_slice(items);
     }
 }
 

@@ -63,9 +63,11 @@ fn grown<T: Copy + Drop + PartialEq, A: Allocator + Copy>(
     [first, second]: [T; 2],
 ) -> Option<([bool; 2], [usize; 2])> {
     let mut memory = WriterMemory::new(alloc, 2).ok()?;
-    memory.places.push_reserved(first);
-    memory.places.push_reserved(second);
+    memory.push_reserved(first);
+    memory.push_reserved(second);
     memory.grow(alloc, 5).ok()?;
+    memory.extend_from_slice(&[first, first]);
+    memory.truncate(2);
     let grown = memory.as_slice() == [first, second].as_slice();
     let memory = memory.into_native();
     let read = memory.as_slice() == [first, second].as_slice();
@@ -78,8 +80,8 @@ fn boxes_dropped(heap: &LocalHeap) -> Option<bool> {
     let before = heap.used();
     let (first, second) = (Box::new(heap, 7u64).ok()?, Box::new(heap, 8u64).ok()?);
     let mut memory = WriterMemory::new(heap, 2).ok()?;
-    memory.places.push_reserved(first);
-    memory.places.push_reserved(second);
+    memory.push_reserved(first);
+    memory.push_reserved(second);
     let memory = memory.into_native();
     let held = before < heap.used();
     drop(memory);
