@@ -6,6 +6,7 @@ pub use names::{
 };
 pub use slice::SmallSlice;
 
+mod adapters;
 mod arc;
 mod limit;
 mod names;
