@@ -14,7 +14,8 @@ use std::hash::{Hash, Hasher};
 impl<S: Slice<Item = u8>, L: Layout> Hash for SmallSlice<S, L> {
     ghost hash_input = { λ w. fed.slice fed.u8 w.items };
 
-    ghost respects_eq = { (on_Alike (λ w. w.items) (items_Alike (same_Alike fed.u8 Decides-eqb))).fed };
+    ghost respects_eq = { (on_Alike (λ w. w.items)
+        (items_Alike (same_Alike fed.u8 Decides-eqb))).fed };
 
     fn hash<F: Hasher>(&self, state: &mut F) {
         self.as_slice().hash(state);
@@ -31,7 +32,8 @@ impl<
 > Hash for SmallArcSlice<S, L, B, M, A, H> {
     ghost hash_input = { λ w. fed.slice fed.u8 w.items };
 
-    ghost respects_eq = { (on_Alike (λ w. w.items) (items_Alike (same_Alike fed.u8 Decides-eqb))).fed };
+    ghost respects_eq = { (on_Alike (λ w. w.items)
+        (items_Alike (same_Alike fed.u8 Decides-eqb))).fed };
 
     fn hash<F: Hasher>(&self, state: &mut F) {
         self.as_slice().hash(state);
