@@ -17,6 +17,12 @@ abbrev pub row_of : {M : Type 0} → Either Inlined (Window ℕ M) → PartsView
 row_of (Left small) = inline_row small.items
 row_of (Right window) = parts_of window
 
+-- What holds of each small window: one with its bytes in itself has no more than the limit, and
+-- stands on nothing; any other is read.
+pub record IsSmall {M : Type 0} (limit : ℕ) (w : PartsView ℕ M) : Type 0 where
+  pub short : w.role ≡ inline → (length w.items ≤ limit) × (w.place ≡ nowhere)
+  pub read : (w.role ≡ inline → ⊥) → w.role ≡ reader
+
 -- A small window was made of a list: within the limit it lies in the window itself, and else a
 -- window that is read was made of it.
 pub record MakesSmall {M : Type 0} (limit : ℕ) (has_static drops one_pass : Bool) (items : List ℕ)

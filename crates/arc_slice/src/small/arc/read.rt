@@ -1,5 +1,7 @@
 //! Views of a small window, and tests of where it may be cut.
 ghost use Rattle.std.specs.Prelude.{◌≡◌, ◌==◌, ◌↔◌, length, IsOk};
+ghost use Rattle.arc_slice.specs.Inline.{inline_limit};
+ghost use Rattle.arc_slice.specs.Small.{IsSmall};
 ghost use Rattle.arc_buffer.specs.Slice.{IsEdge, IsRange, edge_answer, range_answer};
 
 use super::SmallArcSlice;
@@ -22,7 +24,8 @@ impl<
     /// How many bytes the window has.
     #[inline(always)]
     pub fn len(&self) -> usize
-        ensures { result ≡ length self.now.items }
+        ensures answer { result ≡ length self.now.items }
+        ensures row { IsSmall (inline_limit L.Layout) self.now }
     {
         match &self.either {
             Left(small) => small.len(),
