@@ -1,5 +1,6 @@
 pub mod Runs
 pub mod Parts
+pub mod KeepsParts
 pub mod Answers
 pub mod Lists
 pub mod Roles
