@@ -372,7 +372,7 @@ module _ {T M : Type 0} where
       alone-there has_any alone (on_block block offset info) len on may =
           (and_parts (may_write_sort has_any info.sort) alone may).1
 
-      only-here : (setting : Setting T) (places i : ℕ) (row : Row T M) → row_at t i ≡ Some row
+      pub only-here : (setting : Setting T) (places i : ℕ) (row : Row T M) → row_at t i ≡ Some row
           → may_write setting (around_of places t row) row ≡ true
           → (j block : ℕ) (other : Row T M) → slice_get t.rows j ≡ Some (Some other)
           → OnBlock block row → OnBlock block other → j ≡ i

@@ -8,4 +8,5 @@ pub mod Blocks
 pub mod Fits
 pub mod FitsRoom
 pub mod FitsStep
+pub mod Apart
 pub mod Windows
