@@ -341,3 +341,20 @@ module _ {T M : Type 0} where
         run_lawful run.0 cs rs new run.2 (step_lawful t c r run.0 run.1 l)
     run_lawful t [] (r ∷ rs) new run l = absurd run
     run_lawful t (c ∷ cs) [] new run l = absurd run
+
+-- a table without rows
+pub empty_lawful : {T M : Type 0} (drops : Bool) → IsLawful {T = T} {M = M} drops empty_table
+empty_lawful {T} {M} drops =
+    let agree : RowsAgree {T = T} {M = M} empty_table = record {
+      same = λ block one other on beside. absurd (none-some on.1 on.3);
+      numbered = λ block info on. absurd (none-some on.1 on.3);
+      alone = λ i j block s sole beside. absurd (none-some s.row s.alive);
+    } in
+    let fit : RowsFit {T = T} {M = M} drops empty_table = λ i row at. absurd (none-some row at) in
+    record {
+      agree = agree;
+      fit = fit;
+      apart =
+          apart-of drops empty_table agree fit
+          (λ i j block one other at. absurd (none-some (Some one) at));
+    }

@@ -121,53 +121,53 @@ truncate-part false row n less = record {
 -- ---- parts of a row that is read
 
 module _ {T M : Type 0} (setting : Setting T) (row : Row T M) (reads : is_writer row.role ≡ false)
-    where
-  -- from start on so many items are behind it
-  behind : (start end : ℕ) → start ≤ end → end ≤ length row.items
-      → start + role_places row.role (length (sub row.items start end))
-      ≤ role_places row.role (length row.items)
-  behind start end ordered within =
-      omega (
-        arith,
-        read-places row.role (length (sub row.items start end)) reads,
-        read-places row.role (length row.items) reads,
-        length-sub row.items start end ordered within,
-        ordered,
-        within,
-      )
+  where
+    -- from start on so many items are behind it
+    behind : (start end : ℕ) → start ≤ end → end ≤ length row.items
+        → start + role_places row.role (length (sub row.items start end))
+        ≤ role_places row.role (length row.items)
+    behind start end ordered within =
+        omega (
+          arith,
+          read-places row.role (length (sub row.items start end)) reads,
+          read-places row.role (length row.items) reads,
+          length-sub row.items start end ordered within,
+          ordered,
+          within,
+        )
 
-  pub part-part : (start end : ℕ) → start ≤ end → end ≤ length row.items
-      → KeepsPart setting.drops row (part_of setting.layout.has_static row start end)
-  part-part start end ordered within = record {
-    fits = λ f. part-fits setting row reads f start end ordered within;
-    writes = λ writes. writes;
-    places = λ sole f n covers.
-        covers-if (setting.layout.has_static && (length (sub row.items start end) == 0)) row.place start
-        (role_places row.role (length (sub row.items start end)))
-        (role_places row.role (length row.items)) n (behind start end ordered within) covers;
-  }
+    pub part-part : (start end : ℕ) → start ≤ end → end ≤ length row.items
+        → KeepsPart setting.drops row (part_of setting.layout.has_static row start end)
+    part-part start end ordered within = record {
+      fits = λ f. part-fits setting row reads f start end ordered within;
+      writes = λ writes. writes;
+      places = λ sole f n covers.
+          covers-if (setting.layout.has_static && (length (sub row.items start end) == 0)) row.place start
+          (role_places row.role (length (sub row.items start end)))
+          (role_places row.role (length row.items)) n (behind start end ordered within) covers;
+    }
 
-  pub cut-part : (start end : ℕ) → start ≤ end → end ≤ length row.items
-      → KeepsPart setting.drops row (cut_row row start end)
-  cut-part start end ordered within = record {
-    fits = λ f. cut-fits setting row reads f start end ordered within;
-    writes = λ writes. writes;
-    places = λ sole f n covers.
-        covers-moved row.place start (role_places row.role (length (sub row.items start end)))
-        (role_places row.role (length row.items)) n (behind start end ordered within) covers;
-  }
+    pub cut-part : (start end : ℕ) → start ≤ end → end ≤ length row.items
+        → KeepsPart setting.drops row (cut_row row start end)
+    cut-part start end ordered within = record {
+      fits = λ f. cut-fits setting row reads f start end ordered within;
+      writes = λ writes. writes;
+      places = λ sole f n covers.
+          covers-moved row.place start (role_places row.role (length (sub row.items start end)))
+          (role_places row.role (length row.items)) n (behind start end ordered within) covers;
+    }
 
-  pub off-part : (at : ℕ) → at ≤ length row.items
-      → KeepsPart setting.drops row (off_part setting.layout.has_static row at)
-  off-part at within =
-      one-part setting.drops (at == 0) row (part_of setting.layout.has_static row 0 0)
-      (part_of setting.layout.has_static row at (length row.items))
-      (part-part 0 0 (omega arith) (omega arith))
-      (part-part at (length row.items) within (omega arith))
+    pub off-part : (at : ℕ) → at ≤ length row.items
+        → KeepsPart setting.drops row (off_part setting.layout.has_static row at)
+    off-part at within =
+        one-part setting.drops (at == 0) row (part_of setting.layout.has_static row 0 0)
+        (part_of setting.layout.has_static row at (length row.items))
+        (part-part 0 0 (omega arith) (omega arith))
+        (part-part at (length row.items) within (omega arith))
 
-  pub to-part : (at : ℕ) → at ≤ length row.items
-      → KeepsPart setting.drops row (to_part setting.layout.has_static row at)
-  to-part at within =
-      one-part setting.drops (at == length row.items) row
-      (part_of setting.layout.has_static row at at) (part_of setting.layout.has_static row 0 at)
-      (part-part at at (omega arith) within) (part-part 0 at (omega arith) within)
+    pub to-part : (at : ℕ) → at ≤ length row.items
+        → KeepsPart setting.drops row (to_part setting.layout.has_static row at)
+    to-part at within =
+        one-part setting.drops (at == length row.items) row
+        (part_of setting.layout.has_static row at at) (part_of setting.layout.has_static row 0 at)
+        (part-part at at (omega arith) within) (part-part 0 at (omega arith) within)
