@@ -4,3 +4,4 @@ pub mod Allocations
 pub mod Headers
 pub mod Rights
 pub mod HeaderPlaces
+pub mod WriterPlaces

@@ -4,9 +4,10 @@
 //! `take_apart` makes both of a vector, and `put_together` the vector again. Places can be cut and
 //! joined, edited by a vector that lodges in them (`Lodging`), and lent for a lifetime to several
 //! writers (`LentPlaces`), who may freeze their items for readers (`FrozenPlaces`). Memory that is
-//! lent whole can be the value of a counted box (`LentAllocation`). `HeaderAllocator` leaves room
-//! for a header behind what it hands out, so that a vector's memory has room for a count; no block
-//! uses it yet.
+//! lent whole can be the value of a counted box (`LentAllocation`). An allocation of our own is one
+//! writer's (`WriterMemory`) or its readers' (`NativeMemory`), who moves no item to become the
+//! other; no block uses it yet. `HeaderAllocator` leaves room for a header behind what it hands
+//! out, so that a vector's memory has room for a count; no block uses it yet.
 #![tactic(auto)]
 
 pub use allocation::{Allocation, put_together, take_apart};
@@ -19,9 +20,12 @@ pub use lent_allocation::LentAllocation;
 pub use lent_places::{LentPlaces, OpenPlaces, PlacesInheritance};
 pub use lodging::Lodging;
 pub use native::Native;
+pub use native_memory::NativeMemory;
 pub use places::Places;
 pub use vec_without_header::VecWithoutHeader;
 pub use vec_without_right::{RightToFree, VecWithoutRight};
+pub use writer_memory::WriterMemory;
+pub use writer_places::WriterPlaces;
 
 mod allocation;
 mod base;
@@ -34,6 +38,10 @@ mod lent_allocation;
 mod lent_places;
 mod lodging;
 mod native;
+mod native_memory;
+mod place_slots;
 mod places;
 mod vec_without_header;
 mod vec_without_right;
+mod writer_memory;
+mod writer_places;
