@@ -5,3 +5,5 @@ pub mod Headers
 pub mod Rights
 pub mod HeaderPlaces
 pub mod WriterPlaces
+pub mod LeaseNotes
+pub mod WriterParts
