@@ -114,6 +114,7 @@ is_for (Meta i) (sole_writer capacity) = true
 is_for (Meta i) (one_writer_of_several capacity) = true
 is_for (Take i) reader = true
 is_for (Take i) (sole_writer capacity) = true
+is_for (Take i) (one_writer_of_several capacity) = true
 is_for (TakeBox i) reader = true
 is_for (TakeBuf i) reader = true
 is_for (TakeBuf i) (sole_writer capacity) = true
@@ -132,6 +133,7 @@ is_for (Push i item) (sole_writer capacity) = true
 is_for (Ext i items) (sole_writer capacity) = true
 is_for (Rec i additional) (sole_writer capacity) = true
 is_for (Freeze i) (sole_writer capacity) = true
+is_for (Freeze i) (one_writer_of_several capacity) = true
 is_for (Drop i) role = true
 is_for command role = false
 
