@@ -7,3 +7,5 @@ pub mod HeaderPlaces
 pub mod WriterPlaces
 pub mod LeaseNotes
 pub mod WriterParts
+pub mod LentRanges
+pub mod SharedWriters

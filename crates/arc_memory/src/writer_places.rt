@@ -81,6 +81,14 @@ impl<T> WriterPlaces<T> {
         self.base.at
     }
 
+    /// The number of the first place in the allocation.
+    #[inline(always)]
+    pub fn start(&self) -> usize
+        ensures { result ≡ self.now.under.start }
+    {
+        self.start
+    }
+
     /// How many items there are.
     #[inline(always)]
     pub fn len(&self) -> usize
