@@ -1,6 +1,6 @@
 -- What commands on rows of several writers are answered: who becomes one of them, or the only one,
 -- how their places are split and joined, and how they make room.
-use Rattle.std.specs.Prelude.{◌≡◌, ℕ, ◌==◌, Bool, true, false, if◌then◌else◌, List, [], ◌++◌}
+use Rattle.std.specs.Prelude.{◌≡◌, ℕ, ◌==◌, Bool, true, false, if◌then◌else◌, List, []}
 use Rattle.std.specs.Prelude.{Option, Some, None, ◌&&◌, not, is_some}
 use Rattle.std.specs.Option.{option_map_or}
 use Rattle.arc_owners.specs.declared.count.tokens.Pass.{Pass}
@@ -12,7 +12,7 @@ use Rattle.arc_block.specs.declared.parts.room.Room.{Room}
 use Rattle.arc_block.specs.declared.parts.room.Room.TheVariants as from
 use Rattle.arc_block.specs.Owned.{Stand}
 use Rattle.arc_block.specs.Place.{Place, nowhere, static_data, on_block}
-use Rattle.arc_block.specs.Shared.{as_shared, as_unique, asks_alone, can_join, front_of}
+use Rattle.arc_block.specs.Shared.{as_shared, as_unique, asks_alone, can_join, extended, front_of}
 use Rattle.arc_block.specs.Shared.{joined_row, on_native, split_answer}
 use Rattle.arc_block.specs.Table.{Row, block_of}
 use Rattle.arc_block.specs.Writers.{after_advance, capacity_of, new_writer, with_room}
@@ -99,11 +99,6 @@ module _ {T M : Type 0} where
       if can_join row other then (reply.Ok, Some (joined_row row other)) else (reply.Refused, None)
 
   -- ---- room
-
-  -- One of several, with these items behind his others. No block on which he stands counts its full
-  -- places.
-  abbrev pub extended : List T → Row T M → Row T M
-  extended items row = record row { items = row.items ++ items }
 
   -- One of several, who is alone where he has to be, has this room, and these items behind his
   -- others. He stands on no caller's buffer, which would make its own room.

@@ -511,9 +511,8 @@ in_range (Ok done) row change = change
 in_range (Err e) row change = is_now (reply.Range e) row
 
 -- What comes of a command on a row for which it is, where memory was refused so: after the test of
--- the range, what it asks for, and then what it does. It is right of rows that are read or of a
--- sole writer: no command makes others yet. Of one writer of several a split would keep a capacity
--- that isn't the part's.
+-- the range, what it asks for, and then what it does. No command makes a row of one writer of several
+-- yet; of that row splits and what is written are answered `Kind` (`is_for`).
 abbrev pub answer_row : {T M : Type 0} → Setting T → Shortage → Around → ListCmd T M
     → Row T M → Change T M
 answer_row setting short around (Clone i) row = parted setting short around row row row row
