@@ -1,4 +1,5 @@
 pub mod Memory
+pub mod LendsPlaces
 pub mod LentMemory
 pub mod Allocations
 pub mod Headers
