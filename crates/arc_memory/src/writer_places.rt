@@ -126,8 +126,8 @@ impl<T> WriterPlaces<T> {
         self.vec.push_reserved(item);
     }
 
-    /// Moves all items of another writer's places behind those that are here, where there are places
-    /// for them.
+    /// Moves all items of another writer's places behind those that are here, where there are
+    /// places for them.
     pub fn take_items(&mut self, other: &mut WriterPlaces<T>)
         requires { length self.old.vec.items + length other.old.vec.items
             ≤ self.old.under.count }
