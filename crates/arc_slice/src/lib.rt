@@ -19,11 +19,13 @@ mod encoder;
 pub mod error;
 #[cfg(test)]
 mod frames;
+pub mod inlined;
 pub mod layout;
 #[cfg(test)]
 mod queue;
 #[cfg(test)]
 mod readme;
 mod slice;
+mod small;
 #[cfg(test)]
 mod words;

@@ -1,0 +1,3 @@
+//! Windows that have short lists in themselves.
+
+pub use crate::small::SmallSlice;
