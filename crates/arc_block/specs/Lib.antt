@@ -13,5 +13,6 @@ pub mod Lends
 pub mod LendsBuffers
 pub mod Room
 pub mod Writers
+pub mod Shared
 pub mod Growth
 pub mod Metadata

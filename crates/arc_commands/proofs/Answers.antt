@@ -33,8 +33,11 @@ use Rattle.arc_commands.proofs.FitsRoom.{never-short}
 use Rattle.arc_owners.specs.declared.error.TryReserveError.{TryReserveError}
 use Rattle.arc_commands.proofs.FitsRoom.{IsMade, room-fits, room-alone-fits, room-enough, fresh-fits}
 use Rattle.arc_commands.proofs.FitsRoom.{own-fits}
-use Rattle.arc_commands.specs.Blocks.{is_sole}
+use Rattle.arc_commands.specs.Blocks.{is_sole, is_writer}
 use Rattle.arc_commands.specs.Fits.{RowFits}
+use Rattle.arc_commands.proofs.Roles.{reads-sole}
+use Rattle.arc_commands.proofs.KeepsParts.{advance-part, truncate-part, part-part, cut-part}
+use Rattle.arc_commands.proofs.KeepsParts.{off-part, to-part}
 use Rattle.arc_commands.proofs.Fits.{in-edge, in-range, advance-fits, truncate-fits, founded-fits}
 use Rattle.arc_commands.proofs.Fits.{writer-fits, vector-fits, part-fits, cut-fits, off-fits, to-fits}
 use Rattle.arc_commands.proofs.Fits.{reads-fit, buffer-fits, raw-fits, written-fits}
@@ -58,17 +61,20 @@ use Rattle.arc_commands.specs.declared.command.Cmd.TheVariants.{New, Cap, Zero, 
 use Rattle.arc_commands.specs.declared.command.Cmd.TheVariants.{Rec, Freeze, Vec, Take, TakeBox}
 use Rattle.arc_commands.specs.declared.command.Cmd.TheVariants.{Raw, Buf, MBuf, Meta, TakeBuf, TakeRaw}
 use Rattle.arc_commands.specs.declared.command.Reply.TheVariants as reply
-use Rattle.arc_commands.proofs.Parts.{IsPart, KeepsFit, StaysOn, sole-either, sole-with}
+use Rattle.arc_commands.proofs.Parts.{IsPart, KeepsFit, KeepsPart, StaysOn, sole-either, sole-with}
+use Rattle.arc_commands.proofs.Parts.{part-itself}
 use Rattle.arc_commands.proofs.Parts.{stays-moved, stays-part, stays-same}
 
--- a command that isn't for sole writers
+-- a command that isn't for writers
 shared : {T M : Type 0} (c : ListCmd T M) → ((places : ℕ) → is_for c (sole_writer places) ≡ false)
-    → (role : Role) → is_for c role ≡ true → is_sole role ≡ false
-shared c each reader is = refl
-shared c each (sole_writer places) is = absurd (false≢true (sym (each places) ∙ is))
-shared c each (one_writer_of_several places) is = refl
-shared c each inline is = refl
-shared c each forgotten is = refl
+    → ((places : ℕ) → is_for c (one_writer_of_several places) ≡ false)
+    → (role : Role) → is_for c role ≡ true → is_writer role ≡ false
+shared c each several reader is = refl
+shared c each several (sole_writer places) is = absurd (false≢true (sym (each places) ∙ is))
+shared c each several (one_writer_of_several places) is =
+    absurd (false≢true (sym (several places) ∙ is))
+shared c each several inline is = refl
+shared c each several forgotten is = refl
 
 -- a command that is for sole writers alone
 writers-only : {T M : Type 0} (c : ListCmd T M) → is_for c reader ≡ false
@@ -106,10 +112,10 @@ StaysPut row new = block_of new.place ≡ block_of row.place
 module _ {T M : Type 0} (setting : Setting T) (short : Shortage) (around : Around) (row : Row T M)
     (this : ListCmd T M) (Holds : Change T M → Type 0)
     (same : (r : ListReply T M) → MayTell short this r → Holds (is_now r row))
-    (parts : (kept made : Row T M) → is_sole row.role ≡ false → IsPart row kept → IsPart row made
-    → KeepsFit setting.drops row kept → KeepsFit setting.drops row made
+    (parts : (kept made : Row T M) → is_writer row.role ≡ false → IsPart row kept → IsPart row made
+    → KeepsPart setting.drops row kept → KeepsPart setting.drops row made
     → Holds (with_made around kept made))
-    (becomes : (part : Row T M) → IsPart row part → KeepsFit setting.drops row part
+    (becomes : (part : Row T M) → IsPart row part → KeepsPart setting.drops row part
     → Holds (is_now reply.Ok part))
     (writes : may_write setting around row ≡ true
     → Holds (is_now reply.Ok (as_sole setting.drops row)))
@@ -130,9 +136,10 @@ module _ {T M : Type 0} (setting : Setting T) (short : Shortage) (around : Aroun
   abbrev IsFor : Command → Type 0
   IsFor c = is_for c row.role ≡ true
 
-  reads-only : (c : Command) → ((places : ℕ) → is_for c (sole_writer places) ≡ false) → IsFor c
-      → is_sole row.role ≡ false
-  reads-only c each is = shared c each row.role is
+  reads-only : (c : Command) → ((places : ℕ) → is_for c (sole_writer places) ≡ false)
+      → ((places : ℕ) → is_for c (one_writer_of_several places) ≡ false) → IsFor c
+      → is_writer row.role ≡ false
+  reads-only c each several is = shared c each several row.role is
 
   writes-only : (c : Command) → is_for c reader ≡ false
       → ((places : ℕ) → is_for c (one_writer_of_several places) ≡ false)
@@ -207,22 +214,23 @@ module _ {T M : Type 0} (setting : Setting T) (short : Shortage) (around : Aroun
   one-is true one other h k = h
   one-is false one other h k = k
 
-  one-fits : (b : Bool) (one other : Row T M) → KeepsFit setting.drops row one
-      → KeepsFit setting.drops row other → KeepsFit setting.drops row (if b then one else other)
+  one-fits : (b : Bool) (one other : Row T M) → KeepsPart setting.drops row one
+      → KeepsPart setting.drops row other → KeepsPart setting.drops row (if b then one else other)
   one-fits true one other h k = h
   one-fits false one other h k = k
 
   itself : IsPart row row
   itself = (stays-same row.place, refl)
 
-  split_each : (out : Bool) (cut part : Row T M) → is_sole row.role ≡ false → IsPart row cut
-      → IsPart row part → KeepsFit setting.drops row cut → KeepsFit setting.drops row part
+  split_each : (out : Bool) (cut part : Row T M) → is_writer row.role ≡ false → IsPart row cut
+      → IsPart row part → KeepsPart setting.drops row cut → KeepsPart setting.drops row part
       → Holds (split setting short around out row cut part)
   split_each out cut part shares one other fits fits-too =
       parted_each part (if out then part else cut) (if out then row else part)
       (parts (if out then part else cut) (if out then row else part) shares
       (one-is out part cut other one) (one-is out row part itself other)
-      (one-fits out part cut fits-too fits) (one-fits out row part (λ f. f) fits-too))
+      (one-fits out part cut fits-too fits)
+      (one-fits out row part (part-itself setting.drops row) fits-too))
 
   off_is : (at : ℕ) → IsPart row (off_part setting.layout.has_static row at)
   off_is at =
@@ -383,31 +391,33 @@ module _ {T M : Type 0} (setting : Setting T) (short : Shortage) (around : Aroun
 
   row_each : (c : Command) → c ≡ this → IsFor c → Holds (answer_row setting short around c row)
   row_each (Clone i) e is =
-      parted_each row row row (parts row row (reads-only (Clone i) (λ places. refl) is) itself itself
-      (λ f. f) (λ f. f))
+      let keeps = part-itself setting.drops row in
+      parted_each row row row
+      (parts row row (reads-only (Clone i) (λ places. refl) (λ places. refl) is) itself itself keeps
+      keeps)
   row_each (Sub i start end) e is =
       let part = part_of setting.layout.has_static row start end in
-      let shares = reads-only (Sub i start end) (λ places. refl) is in
+      let shares = reads-only (Sub i start end) (λ places. refl) (λ places. refl) is in
       in_range_each (range_answer setting.boundary row.items start end) _ (λ ok.
       let ranged = in-range setting.boundary row.items start end ok in
-      parted_each part row part (parts row part shares itself (part_is start end) (λ f. f)
-      (λ f. part-fits setting row shares f start end ranged.0 ranged.1)))
+      parted_each part row part (parts row part shares itself (part_is start end)
+      (part-itself setting.drops row) (part-part setting row shares start end ranged.0 ranged.1)))
   row_each (Off i at) e is =
-      let shares = reads-only (Off i at) (λ places. refl) is in
+      let shares = reads-only (Off i at) (λ places. refl) (λ places. refl) is in
       in_range_each (edge_answer setting.boundary row.items at) _ (λ ok.
       let within = in-edge setting.boundary row.items at ok in
       split_each (at == 0) (cut_row row 0 at) (off_part setting.layout.has_static row at) shares
       (stays-moved 0 row.place, refl) (off_is at)
-      (λ f. cut-fits setting row shares f 0 at (omega arith) within)
-      (λ f. off-fits setting row shares f at within))
+      (cut-part setting row shares 0 at (omega arith) within)
+      (off-part setting row shares at within))
   row_each (To i at) e is =
-      let shares = reads-only (To i at) (λ places. refl) is in
+      let shares = reads-only (To i at) (λ places. refl) (λ places. refl) is in
       in_range_each (edge_answer setting.boundary row.items at) _ (λ ok.
       let within = in-edge setting.boundary row.items at ok in
       split_each (at == length row.items) (cut_row row at (length row.items))
       (to_part setting.layout.has_static row at) shares (stays-moved at row.place, refl) (to_is at)
-      (λ f. cut-fits setting row shares f at (length row.items) within (omega arith))
-      (λ f. to-fits setting row shares f at within))
+      (cut-part setting row shares at (length row.items) within (omega arith))
+      (to-part setting row shares at within))
   row_each (Uniq i) e is =
       same (if is_unique_at short around.alone row.place then reply.Yes else reply.No)
       (inr (inr (inl (i, inl (sym e)))))
@@ -442,7 +452,7 @@ module _ {T M : Type 0} (setting : Setting T) (short : Shortage) (around : Aroun
       becomes part (
         stays-moved by row.place,
         sole-with row.role (capacity_of row.role - by),
-      ) (advance-fits setting.drops row by (in-edge setting.boundary row.items by ok)))
+      ) (advance-part setting.drops row by (in-edge setting.boundary row.items by ok)))
   row_each (Trunc i len) e is =
       let part = truncated setting.drops row len in
       let ranged : Outcome =
@@ -452,7 +462,7 @@ module _ {T M : Type 0} (setting : Setting T) (short : Shortage) (around : Aroun
       becomes part (
         stays-same row.place,
         sole-either setting.drops row.role (with_capacity row.role len) (sole-with row.role len),
-      ) (truncate-fits setting.drops row len (ltb-true len (length row.items) less))))
+      ) (truncate-part setting.drops row len (ltb-true len (length row.items) less))))
       (same reply.Ok (inl refl))
   row_each (Drop i) e is = goes reply.Ok (inl refl)
   row_each (Take i) e is =
@@ -506,14 +516,14 @@ module _ {T M : Type 0} (setting : Setting T) (short : Shortage) (places : ℕ) 
     (apart : (row : Row T M) → is_sole row.role ≡ false → block_of row.place ≡ None
     → RowFits setting.drops row → Holds (reply.New (length t.rows)) (founded no_shortage t row).1)
     (splits : (i : ℕ) (row kept handed : Row T M) → row_at t i ≡ Some row
-    → is_sole row.role ≡ false → IsPart row kept → IsPart row handed
-    → KeepsFit setting.drops row kept → KeepsFit setting.drops row handed
+    → is_writer row.role ≡ false → IsPart row kept → IsPart row handed
+    → KeepsPart setting.drops row kept → KeepsPart setting.drops row handed
     → Holds (reply.New (length t.rows)) (record {
       rows = slice_set t.rows i (Some kept) ++ Some handed ∷ [];
       blocks = t.blocks;
     }))
     (becomes : (i : ℕ) (row part : Row T M) → row_at t i ≡ Some row → IsPart row part
-    → KeepsFit setting.drops row part
+    → KeepsPart setting.drops row part
     → Holds reply.Ok (record { rows = slice_set t.rows i (Some part); blocks = t.blocks }))
     (writes : (i : ℕ) (row : Row T M) → row_at t i ≡ Some row
     → may_write setting (around_of places t row) row ≡ true → Holds reply.Ok

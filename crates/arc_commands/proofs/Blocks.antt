@@ -21,6 +21,7 @@ use Rattle.arc_commands.proofs.Lists.{there}
 use Rattle.arc_commands.specs.Commands.{ListCmd, ListReply}
 use Rattle.arc_commands.proofs.Answers.{answer_each}
 use Rattle.arc_commands.proofs.Parts.{StaysOn, IsPart}
+use Rattle.arc_commands.proofs.Roles.{reads-sole}
 
 not-writing : (b : Bool) → (b ≡ true → ⊥) → b ≡ false
 not-writing true none = absurd (none refl)
@@ -371,7 +372,7 @@ module _ {T M : Type 0} where
       alone-there has_any alone (on_block block offset info) len on may =
           (and_parts (may_write_sort has_any info.sort) alone may).1
 
-      only-here : (setting : Setting T) (places i : ℕ) (row : Row T M) → row_at t i ≡ Some row
+      pub only-here : (setting : Setting T) (places i : ℕ) (row : Row T M) → row_at t i ≡ Some row
           → may_write setting (around_of places t row) row ≡ true
           → (j block : ℕ) (other : Row T M) → slice_get t.rows j ≡ Some (Some other)
           → OnBlock block row → OnBlock block other → j ≡ i
@@ -581,7 +582,7 @@ module _ {T M : Type 0} where
         (λ items role nothing info fits. founds t agree items role nothing info)
         (λ row reads none fits. on-none t agree row none)
         (λ i row kept handed at shares one other fits also.
-        splits t agree i row kept handed at shares one other)
+        splits t agree i row kept handed at (reads-sole row.role shares) one other)
         (λ i row part at is fits. becomes t agree i row part at is)
         (writes t agree setting places)
         (λ i row new r tells at sole put fits. refits t agree i row new at sole put)

@@ -19,8 +19,10 @@ use Rattle.arc_block.specs.Table.{Row, Role, reader, sole_writer, one_writer_of_
 use Rattle.arc_block.specs.Table.{inline, forgotten}
 use Rattle.arc_block.specs.Writers.{capacity_of, with_capacity, writer_capacity, after_advance}
 use Rattle.arc_block.specs.Writers.{as_sole, sole_at}
-use Rattle.arc_commands.specs.Blocks.{is_sole}
-use Rattle.arc_commands.specs.Fits.{LieWithin, HasPlaces, RowFits, counts_full}
+use Rattle.arc_commands.specs.Blocks.{is_several, is_sole, is_writer}
+use Rattle.arc_commands.specs.Fits.{LieWithin, HasPlaces, HasSharedPlaces, FitsBeside, RowFits}
+use Rattle.arc_commands.specs.Fits.{counts_full}
+use Rattle.arc_commands.proofs.Roles.{reads-sole, reads-several}
 use Rattle.arc_commands.specs.Step.{Setting, part_of, cut_row, off_part, to_part, truncated}
 use Rattle.arc_commands.specs.Step.{buffer_row, written_buffer_row, raw_row}
 
@@ -149,16 +151,56 @@ sole-before (one_writer_of_several before) n sole = sole
 sole-before inline n sole = sole
 sole-before forgotten n sole = sole
 
+several-before : (role : Role) (n : ℕ) → is_several (with_capacity role n) ≡ true
+    → is_several role ≡ true
+several-before reader n several = several
+several-before (sole_writer before) n several = several
+several-before (one_writer_of_several before) n several = refl
+several-before inline n several = several
+several-before forgotten n several = several
+
+capacity-among : (role : Role) (n : ℕ) → is_several role ≡ true
+    → capacity_of (with_capacity role n) ≡ n
+capacity-among reader n several = absurd (false≢true several)
+capacity-among (sole_writer before) n several = absurd (false≢true several)
+capacity-among (one_writer_of_several before) n several = refl
+capacity-among inline n several = absurd (false≢true several)
+capacity-among forgotten n several = absurd (false≢true several)
+
+-- one of several writers has that many places less, that much further in
+among-moved : {M : Type 0} (place : Place (Option ℕ) M) (by capacity : ℕ) → by ≤ capacity
+    → HasSharedPlaces place capacity → HasSharedPlaces (moved by place) (capacity - by)
+among-moved nowhere by capacity less has = omega (arith, has)
+among-moved static_data by capacity less has = has
+among-moved (on_block block offset info) by capacity less has = (has.0, omega (arith, less, has.1))
+
 -- ---- rows
 
 module _ {T M : Type 0} (drops : Bool) where
   -- a row that is read, or on a static slice, has no places to tell
-  pub reads-fit : (row : Row T M) → is_sole row.role ≡ false
+  pub reads-fit : (row : Row T M) → is_writer row.role ≡ false
       → LieWithin drops row.place (length row.items) → RowFits drops row
   reads-fit row reads w = record {
     within = w;
-    writer = λ sole. absurd (false≢true (sym reads ∙ sole));
+    writer = λ sole. absurd (false≢true (sym (reads-sole row.role reads) ∙ sole));
+    shared = λ several. absurd (false≢true (sym (reads-several row.role reads) ∙ several));
   }
+
+  -- one of several writers, that much further in
+  among-advanced : (row : Row T M) (by : ℕ) → by ≤ length row.items
+      → is_several row.role ≡ true → FitsBeside drops row → FitsBeside drops (after_advance by row)
+  among-advanced row by less several f =
+      let places : capacity_of (with_capacity row.role (capacity_of row.role - by))
+      ≡ capacity_of row.role - by =
+      capacity-among row.role (capacity_of row.role - by) several in
+      let long : length (drop by row.items) ≡ length row.items - by = length-drop by row.items in
+      record {
+        kept = f.kept;
+        places =
+            subst (λ n. HasSharedPlaces (moved by row.place) n) (sym places)
+            (among-moved row.place by (capacity_of row.role) (omega (arith, less, f.room)) f.places);
+        room = omega (arith, long, places, less, f.room);
+      }
 
   pub advance-fits : (row : Row T M) (by : ℕ) → by ≤ length row.items → RowFits drops row
       → RowFits drops (after_advance by row)
@@ -178,14 +220,29 @@ module _ {T M : Type 0} (drops : Bool) where
             (sym long)
             (places-moved drops row.place by (length row.items) (capacity_of row.role) less
             (f.writer (sole-before row.role (capacity_of row.role - by) sole))));
+        shared = λ several.
+            let was = several-before row.role (capacity_of row.role - by) several in
+            among-advanced row by less was (f.shared was);
       }
 
   -- as a sole writer a row has the places that its place gives
   at-fits : (items : List T) (place : Place (Option ℕ) M) → LieWithin drops place (length items)
       → RowFits drops (sole_at drops items place)
-  at-fits items nowhere w = record { within = refl; writer = λ sole. refl }
-  at-fits items static_data w = record { within = refl; writer = λ sole. refl }
-  at-fits items (on_block block offset info) w = record { within = w; writer = λ sole. refl }
+  at-fits items nowhere w = record {
+    within = refl;
+    writer = λ sole. refl;
+    shared = λ several. absurd (false≢true several);
+  }
+  at-fits items static_data w = record {
+    within = refl;
+    writer = λ sole. refl;
+    shared = λ several. absurd (false≢true several);
+  }
+  at-fits items (on_block block offset info) w = record {
+    within = w;
+    writer = λ sole. refl;
+    shared = λ several. absurd (false≢true several);
+  }
 
   pub sole-fits : (row : Row T M) → RowFits drops row → RowFits drops (as_sole drops row)
   sole-fits row f = at-fits row.items row.place f.within
@@ -242,6 +299,7 @@ module _ {T M : Type 0} (drops : Bool) where
   written-fits block items places metadata less = record {
     within = (refl, omega arith, less);
     writer = λ sole. whole drops;
+    shared = λ several. absurd (false≢true several);
   }
     where
       info : BlockInfo M
@@ -272,6 +330,7 @@ module _ {T M : Type 0} (drops : Bool) where
             (λ none. omega (arith, eqb-true places 0 none, less))
             (counted drops n, omega (arith, ends.0), ends.1);
         writer = λ sole. has (places == 0) refl;
+        shared = λ several. absurd (false≢true several);
       }
     where
       whole : (d : Bool) (n places : ℕ)
@@ -302,6 +361,7 @@ truncate-fits true row n less f =
           (subst (λ m. HasPlaces true row.place m n) (sym long)
           (places-own row.place (length row.items) n (capacity_of row.role) f.within less
           (f.writer (sole-before row.role n sole))));
+      shared = λ several. absurd (false≢true (sym (f.shared (several-before row.role n several)).kept));
     }
 truncate-fits false row n less f =
     let long : length (take n row.items) ≡ n = length-take-le n row.items (omega (arith, less)) in
@@ -312,11 +372,18 @@ truncate-fits false row n less f =
       writer = λ sole.
           places-left row.place (length row.items) (length (take n row.items))
           (capacity_of row.role) (f.writer sole);
+      shared = λ several.
+          let was = f.shared several in
+          record {
+            kept = was.kept;
+            places = was.places;
+            room = omega (arith, long, less, was.room);
+          };
     }
 
 -- ---- parts of a row that is read
 
-module _ {T M : Type 0} (setting : Setting T) (row : Row T M) (reads : is_sole row.role ≡ false)
+module _ {T M : Type 0} (setting : Setting T) (row : Row T M) (reads : is_writer row.role ≡ false)
     (f : RowFits setting.drops row) where
   lies : (start end : ℕ) → start ≤ end → end ≤ length row.items
       → LieWithin setting.drops (moved start row.place) (length (sub row.items start end))

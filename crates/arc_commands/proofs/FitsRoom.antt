@@ -167,6 +167,7 @@ module _ {T M : Type 0} (drops : Bool) (first size : ℕ) (old more : List T) (k
       record {
         within = subst (λ l. LieWithin drops place l) long within;
         writer = λ sole. subst (λ l. HasPlaces drops place l places) long has;
+        shared = λ several. absurd (false≢true several);
       }
 
   module _ (place : Place (Option ℕ) M) (places : ℕ) (f : RowFits drops (row-at place places)) where
@@ -422,6 +423,7 @@ fresh-fits {T} {M} drops block places more less =
       within = subst (λ l. LieWithin drops at l) (none-before m) all.0;
       writer = λ sole. subst (λ l. HasPlaces drops at l places) (none-before m)
           (subst (λ c. HasPlaces drops at (0 + m) c) whole all.1);
+      shared = λ several. absurd (false≢true several);
     }
   where
     counted : (d : Bool) → is_some (full_places d 0) ≡ d

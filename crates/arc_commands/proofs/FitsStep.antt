@@ -54,9 +54,9 @@ module _ {T M : Type 0} (setting : Setting T) where
       (λ row reads none fits. each-push d t.rows _ fit (this d row fits))
       (λ i row kept handed at shares one other fits also.
       each-push d (slice_set t.rows i (Some kept)) _
-      (each-set d t.rows i (Some kept) fit (this d kept (fits (fit i row at))))
-      (this d handed (also (fit i row at))))
-      (λ i row part at is fits. each-set d t.rows i _ fit (this d part (fits (fit i row at))))
+      (each-set d t.rows i (Some kept) fit (this d kept (fits.fits (fit i row at))))
+      (this d handed (also.fits (fit i row at))))
+      (λ i row part at is fits. each-set d t.rows i _ fit (this d part (fits.fits (fit i row at))))
       (λ i row at may. each-set d t.rows i _ fit
       (this d (as_sole d row) (sole-fits d row (fit i row at))))
       (λ i row new r tells at sole put fits.

@@ -1,5 +1,6 @@
 pub mod Runs
 pub mod Parts
+pub mod KeepsParts
 pub mod Answers
 pub mod Lists
 pub mod Roles
@@ -7,4 +8,5 @@ pub mod Blocks
 pub mod Fits
 pub mod FitsRoom
 pub mod FitsStep
+pub mod Apart
 pub mod Windows

@@ -5,7 +5,8 @@ use Rattle.arc_block.specs.Place.{Place, nowhere, static_data, on_block, moved}
 use Rattle.arc_block.specs.Table.{Row, Role}
 use Rattle.arc_block.specs.Table.{reader, sole_writer, one_writer_of_several, inline, forgotten}
 use Rattle.arc_block.specs.Writers.{with_capacity}
-use Rattle.arc_commands.specs.Blocks.{is_sole}
+use Rattle.arc_commands.specs.Blocks.{is_sole, is_writer}
+use Rattle.arc_commands.specs.Apart.{Covers}
 use Rattle.arc_commands.specs.Fits.{RowFits}
 
 -- a part stands on the block on which the whole does, or on none
@@ -51,3 +52,30 @@ sole-either false role other same = refl
 -- where a row fits its place, what comes of it does too
 abbrev pub KeepsFit : {T M : Type 0} → Bool → Row T M → Row T M → Type 0
 KeepsFit drops row part = RowFits drops row → RowFits drops part
+
+-- A part fits where the row does. It is a writer's only where that is one's, and has no places
+-- beside its own, unless that is a sole writer's, beside whom nobody stands.
+pub record KeepsPart {T M : Type 0} (drops : Bool) (row part : Row T M) : Type 0 where
+  pub fits : KeepsFit drops row part
+  pub writes : is_writer part.role ≡ true → is_writer row.role ≡ true
+  pub places : is_sole row.role ≡ false → RowFits drops row → (n : ℕ) → Covers part n
+      → Covers row n
+
+pub part-itself : {T M : Type 0} (drops : Bool) (row : Row T M) → KeepsPart drops row row
+part-itself drops row = record {
+  fits = λ f. f;
+  writes = λ writes. writes;
+  places = λ shares f n covers. covers;
+}
+
+pub writes-with : (role : Role) (places : ℕ) → is_writer (with_capacity role places) ≡ is_writer role
+writes-with reader places = refl
+writes-with (sole_writer before) places = refl
+writes-with (one_writer_of_several before) places = refl
+writes-with inline places = refl
+writes-with forgotten places = refl
+
+pub writes-either : (b : Bool) (role other : Role) → is_writer other ≡ is_writer role
+    → is_writer (if b then other else role) ≡ is_writer role
+writes-either true role other same = same
+writes-either false role other same = refl

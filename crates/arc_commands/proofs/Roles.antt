@@ -1,9 +1,9 @@
 -- The roles of rows.
-use Rattle.std.proofs.Common.{◌≡◌, ℕ, true}
+use Rattle.std.proofs.Common.{◌≡◌, ℕ, true, false, refl, sym, ◌∙◌}
 use Rattle.std.proofs.lemmas.Bool.{false≢true}
 use Rattle.arc_block.specs.Table.{Role, reader, sole_writer, one_writer_of_several, inline}
 use Rattle.arc_block.specs.Table.{forgotten}
-use Rattle.arc_commands.specs.Blocks.{is_sole}
+use Rattle.arc_commands.specs.Blocks.{is_several, is_sole, is_writer}
 
 -- what holds of each sole writer's role holds of a role that is one
 pub sole_each : (P : Role → Type 0) → ((places : ℕ) → P (sole_writer places)) → (role : Role)
@@ -13,3 +13,26 @@ sole_each P each (sole_writer places) sole = each places
 sole_each P each (one_writer_of_several places) sole = absurd (false≢true sole)
 sole_each P each inline sole = absurd (false≢true sole)
 sole_each P each forgotten sole = absurd (false≢true sole)
+
+-- what isn't a writer's role is that of no writer of either sort
+pub reads-sole : (role : Role) → is_writer role ≡ false → is_sole role ≡ false
+reads-sole reader reads = refl
+reads-sole (sole_writer places) reads = absurd (false≢true (sym reads))
+reads-sole (one_writer_of_several places) reads = refl
+reads-sole inline reads = refl
+reads-sole forgotten reads = refl
+
+pub reads-several : (role : Role) → is_writer role ≡ false → is_several role ≡ false
+reads-several reader reads = refl
+reads-several (sole_writer places) reads = refl
+reads-several (one_writer_of_several places) reads = absurd (false≢true (sym reads))
+reads-several inline reads = refl
+reads-several forgotten reads = refl
+
+-- a sole writer is no writer of several
+pub sole-several : (role : Role) → is_sole role ≡ true → is_several role ≡ false
+sole-several reader sole = refl
+sole-several (sole_writer places) sole = refl
+sole-several (one_writer_of_several places) sole = absurd (false≢true sole)
+sole-several inline sole = refl
+sole-several forgotten sole = refl

@@ -13,6 +13,22 @@ is_sole (one_writer_of_several capacity) = false
 is_sole inline = false
 is_sole forgotten = false
 
+-- whether it is that of one writer of several
+abbrev pub is_several : Role → Bool
+is_several reader = false
+is_several (sole_writer capacity) = false
+is_several (one_writer_of_several capacity) = true
+is_several inline = false
+is_several forgotten = false
+
+-- whether it is a writer's
+abbrev pub is_writer : Role → Bool
+is_writer reader = false
+is_writer (sole_writer capacity) = true
+is_writer (one_writer_of_several capacity) = true
+is_writer inline = false
+is_writer forgotten = false
+
 module _ {T M : Type 0} where
   -- a row that stands on the block with this number says this of it
   abbrev pub SaysOf : Table T M → ℕ → BlockInfo M → Type 0

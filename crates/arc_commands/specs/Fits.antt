@@ -1,11 +1,11 @@
 -- What each row of a table says of the place where it stands.
-use Rattle.std.specs.Prelude.{◌≡◌, ℕ, ◌+◌, ◌≤◌, Bool, true, is_some, Option, Some, length}
+use Rattle.std.specs.Prelude.{◌≡◌, ℕ, ◌+◌, ◌≤◌, Bool, true, false, is_some, Option, Some, length}
 use Rattle.std.specs.Option.{option_map_or}
-use Rattle.arc_block.specs.Block.{BlockInfo, Sort, native, vector, buffer, raw}
+use Rattle.arc_block.specs.Block.{BlockInfo, IsMemory, Sort, native, vector, buffer, raw}
 use Rattle.arc_block.specs.Place.{Place, nowhere, static_data, on_block}
 use Rattle.arc_block.specs.Table.{Row, Table, row_at}
 use Rattle.arc_block.specs.Writers.{capacity_of, writer_capacity}
-use Rattle.arc_commands.specs.Blocks.{is_sole}
+use Rattle.arc_commands.specs.Blocks.{is_several, is_sole}
 
 -- Whether a block of this sort counts its full places: one of ours, where items are dropped one by
 -- one, and always what a caller brought.
@@ -35,11 +35,28 @@ module _ {M : Type 0} where
   HasPlaces drops (on_block block offset info) len capacity =
       capacity ≡ writer_capacity drops info offset len
 
--- a row's items lie within its block, and a sole writer has the places that are behind them
+  -- one writer of several, who stands here, has so many places: none on static data, nor in a
+  -- caller's buffer
+  abbrev pub HasSharedPlaces : Place (Option ℕ) M → (capacity : ℕ) → Type 0
+  HasSharedPlaces nowhere capacity = capacity ≡ 0
+  HasSharedPlaces static_data capacity = ⊥
+  HasSharedPlaces (on_block block offset info) capacity =
+      IsMemory info.sort × (offset + capacity ≤ info.size)
+
+-- a row of one writer of several: of items that need no drop, with a place for each, within its
+-- block
+pub record FitsBeside {T M : Type 0} (drops : Bool) (row : Row T M) : Type 0 where
+  pub kept : drops ≡ false
+  pub places : HasSharedPlaces row.place (capacity_of row.role)
+  pub room : length row.items ≤ capacity_of row.role
+
+-- A row's items lie within its block. A sole writer has the places that are behind them, and one of
+-- several has some of these.
 pub record RowFits {T M : Type 0} (drops : Bool) (row : Row T M) : Type 0 where
   pub within : LieWithin drops row.place (length row.items)
   pub writer : is_sole row.role ≡ true
       → HasPlaces drops row.place (length row.items) (capacity_of row.role)
+  pub shared : is_several row.role ≡ true → FitsBeside drops row
 
 -- so it is of each row
 abbrev pub RowsFit : {T M : Type 0} → Bool → Table T M → Type 0

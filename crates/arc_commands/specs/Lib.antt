@@ -4,5 +4,6 @@ pub mod Step
 pub mod Seen
 pub mod Blocks
 pub mod Fits
+pub mod Apart
 pub mod Additions
 pub mod State

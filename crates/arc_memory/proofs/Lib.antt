@@ -9,6 +9,7 @@ pub mod Keyless
 pub mod LentHeld
 pub mod Names
 pub mod Parted
+pub mod PlaceSlots
 pub mod Ranges
 pub mod Regained
 pub mod Rights

@@ -3,6 +3,7 @@ use Rattle.std.specs.Prelude.{◌≡◌}
 use Rattle.arc_memory.specs.Memory.{Extent}
 use Rattle.arc_memory.specs.LentMemory.{LentMemory}
 use Rattle.arc_memory.specs.declared.places.Places.{Places}
+use Rattle.arc_memory.specs.declared.lodging.Lodging.{Lodging}
 use Rattle.arc_memory.specs.declared.lent_places.LentPlaces.{LentPlaces}
 use Rattle.arc_memory.specs.declared.lent_places.PlacesInheritance.{PlacesInheritance}
 
@@ -27,3 +28,7 @@ module _ {T : Type 0} where
   -- the part is all the places that come back
   abbrev pub IsAllLent : LentPlaces T → PlacesInheritance T → Type 0
   IsAllLent p k = (p.memory ≡ k.memory) × (p.start ≡ k.start) × (p.count ≡ k.count)
+
+  -- these places lie under what lodges there
+  abbrev pub LieUnder : Lodging T → Places T → Type 0
+  LieUnder l p = (l.base ≡ p.base) × (l.whole ≡ p.whole) × (l.start ≡ p.start) × (l.count ≡ p.count)

@@ -4,3 +4,6 @@ pub mod Allocations
 pub mod Headers
 pub mod Rights
 pub mod HeaderPlaces
+pub mod WriterPlaces
+pub mod LeaseNotes
+pub mod WriterParts

@@ -165,6 +165,12 @@ impl<T> LentPlaces<T> {
     {
         let LentPlaces { marker: _ } = self;
     }
+
+    /// Forgets the part, with what lies there: it is for items that need no drop. Its memory comes
+    /// back with the rest.
+    pub fn forget(self) {
+        let LentPlaces { marker: _ } = self;
+    }
 }
 
 impl<T> OpenPlaces<T> {

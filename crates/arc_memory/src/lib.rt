@@ -4,36 +4,56 @@
 //! `take_apart` makes both of a vector, and `put_together` the vector again. Places can be cut and
 //! joined, edited by a vector that lodges in them (`Lodging`), and lent for a lifetime to several
 //! writers (`LentPlaces`), who may freeze their items for readers (`FrozenPlaces`). Memory that is
-//! lent whole can be the value of a counted box (`LentAllocation`). `HeaderAllocator` leaves room
-//! for a header behind what it hands out, so that a vector's memory has room for a count; no block
-//! uses it yet.
+//! lent whole can be the value of a counted box (`LentAllocation`). Memory that is lent for the
+//! lease of a block's owners has several writers (`WriterPart`) and readers (`FrozenReader`), and
+//! leaves in the counted box what is kept for its end (`KeptPlaces`). An allocation of our own is
+//! one writer's (`WriterMemory`) or its readers' (`NativeMemory`), who moves no item to become the
+//! other; no block uses it yet. `HeaderAllocator` leaves room for a header behind what it hands
+//! out, so that a vector's memory has room for a count; no block uses it yet.
 #![tactic(auto)]
 
 pub use allocation::{Allocation, put_together, take_apart};
 pub use arc_owners::lifetime::{EndedLifetime, LifetimeToken};
 pub use base::Base;
 pub use frozen_places::FrozenPlaces;
+pub use frozen_reader::FrozenReader;
 pub use header_allocator::HeaderAllocator;
 pub use header_room::{HeaderRoom, RightWithoutHeader};
+pub use kept_items::KeptItems;
+pub use kept_places::KeptPlaces;
 pub use lent_allocation::LentAllocation;
 pub use lent_places::{LentPlaces, OpenPlaces, PlacesInheritance};
 pub use lodging::Lodging;
 pub use native::Native;
+pub use native_memory::NativeMemory;
+pub use open_writer::OpenWriter;
 pub use places::Places;
 pub use vec_without_header::VecWithoutHeader;
 pub use vec_without_right::{RightToFree, VecWithoutRight};
+pub use writer_memory::WriterMemory;
+pub use writer_part::WriterPart;
+pub use writer_places::WriterPlaces;
 
 mod allocation;
 mod base;
 mod emptied;
 mod frozen_places;
+mod frozen_reader;
 mod header_allocator;
 mod header_block;
 mod header_room;
+mod kept_items;
+mod kept_places;
 mod lent_allocation;
 mod lent_places;
 mod lodging;
 mod native;
+mod native_memory;
+mod open_writer;
+mod place_slots;
 mod places;
 mod vec_without_header;
 mod vec_without_right;
+mod writer_memory;
+mod writer_part;
+mod writer_places;

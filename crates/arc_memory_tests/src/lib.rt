@@ -21,4 +21,6 @@ mod places;
 #[cfg(test)]
 mod static_slices;
 #[cfg(test)]
+mod writer_places;
+#[cfg(test)]
 mod writers;

@@ -1,2 +1,4 @@
 pub mod Frames
 pub mod Inline
+pub mod Lends
+pub mod Small

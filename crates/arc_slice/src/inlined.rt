@@ -1,3 +1,6 @@
 //! Windows that have short lists in themselves.
 
-pub use crate::small::SmallSlice;
+pub use crate::small::{
+    SmallArcByteText, SmallArcBytes, SmallArcSlice, SmallArcStr, SmallByteText, SmallBytes,
+    SmallSlice, SmallStr,
+};

@@ -1,6 +1,13 @@
 //! Small windows: lists of bytes that lie in the window itself where they are short.
 
+pub use arc::SmallArcSlice;
+pub use names::{
+    SmallArcByteText, SmallArcBytes, SmallArcStr, SmallByteText, SmallBytes, SmallStr,
+};
 pub use slice::SmallSlice;
 
+mod adapters;
+mod arc;
 mod limit;
+mod names;
 mod slice;

@@ -77,7 +77,7 @@ module _ {T M : Type 0} where
   no-row (Some (Some s)) none = cc
 
 module _ {T M : Type 0} (setting : Setting T) (slots : List (Option (SlotView T M)))
-    (passes : List (Pass Whole)) (fact : Fact slots passes) where
+    (passes : List (Pass Whole)) (fact : Fact setting.drops slots passes) where
   abbrev old : State T M
   old = state_of slots passes
 

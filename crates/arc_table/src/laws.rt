@@ -1,6 +1,7 @@
 //! Laws of the table of lists.
 ghost use Rattle.std.specs.Prelude.{Bool, List};
 ghost use Rattle.arc_block.specs.Table.{Table, empty_table};
+ghost use Rattle.arc_commands.specs.Apart.{IsLawful};
 ghost use Rattle.arc_commands.specs.Blocks.{RowsAgree};
 ghost use Rattle.arc_commands.specs.Fits.{RowsFit};
 ghost use Rattle.arc_commands.specs.RunOf.{RunOf};
@@ -46,4 +47,25 @@ pub fn rows_fit<T, M>()
         (commands : List (ListCmd T M)) (replies : List (ListReply T M))
         (new : State T M) → RunOf (CarriesOut setting) old commands replies new
         → RowsFit setting.drops old.table → RowsFit setting.drops new.table }
+{}
+
+/// Writers are apart: of two rows on one block, of which one is a writer's, no place is both's; each
+/// row ends within its block; and where a sole writer stands no other row does. So it is in every
+/// table that comes of the empty one, beside that rows on one block agree and that each fits its
+/// place: each step keeps it, and so does each run. Does nothing: its contract is the law, for items
+/// and metadata of any type.
+pub fn writers_apart<T, M>()
+    ensures empty { (drops : Bool) → IsLawful {T = T} {M = M} drops empty_table }
+    ensures step { (setting : Setting T) (old : Table T M) (command : ListCmd T M)
+        (reply : ListReply T M) (new : Table T M) → Step setting old command reply new
+        → IsLawful setting.drops old → IsLawful setting.drops new }
+    ensures run { (setting : Setting T) (old : Table T M)
+        (commands : List (ListCmd T M))
+        (replies : List (ListReply T M)) (new : Table T M)
+        → Run setting old commands replies new → IsLawful setting.drops old
+        → IsLawful setting.drops new }
+    ensures carried_out { (setting : Setting T) (old : State T M)
+        (commands : List (ListCmd T M)) (replies : List (ListReply T M))
+        (new : State T M) → RunOf (CarriesOut setting) old commands replies new
+        → IsLawful setting.drops old.table → IsLawful setting.drops new.table }
 {}

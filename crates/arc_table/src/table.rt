@@ -44,7 +44,7 @@ where
 {
     ghost use Rattle.arc_block.specs.declared.block.TheConstants.{MAX_OWNERS};
     ghost use Rattle.arc_block.specs.Owned.{IsKept};
-    ghost use Rattle.arc_commands.specs.Blocks.{RowsAgree};
+    ghost use Rattle.arc_commands.specs.Apart.{IsLawful};
     ghost use Rattle.arc_slots.specs.Slots.{stands_of};
     ghost use Rattle.arc_commands.specs.State.{State};
     ghost use Rattle.arc_slots.specs.Slots.{state_of};
@@ -57,7 +57,7 @@ where
 
     ghost invariant = { λ t. (IsKept MAX_OWNERS (stands_of (windows_of t.slots.index.items
         t.slots.numbers.items t.slots.places.items)) t.passes.of_blocks.items
-        × RowsAgree (state_of (windows_of t.slots.index.items t.slots.numbers.items
+        × IsLawful S.DROPS (state_of (windows_of t.slots.index.items t.slots.numbers.items
         t.slots.places.items) t.passes.of_blocks.items).table)
         × IsIndexed t.slots.index.items t.slots.numbers.items t.slots.places.items };
 }
@@ -78,7 +78,7 @@ where
     ghost use Rattle.arc_commands.specs.Step.{Step, no_shortage, setting_of, shortage, window_of};
     ghost use Rattle.arc_commands.specs.Seen.{map_command, seen_by, seen_reply};
     ghost use Rattle.arc_commands.specs.Additions.{Adds};
-    ghost use Rattle.arc_commands.specs.Blocks.{RowsAgree};
+    ghost use Rattle.arc_commands.specs.Apart.{IsLawful};
     ghost use Rattle.arc_commands.specs.State.{Agrees, CarriesOut, EndsAll, EndsWith, empty_state};
     ghost use Rattle.arc_commands.specs.declared.command.Cmd.TheVariants as command;
 
@@ -191,11 +191,12 @@ where
         reply
     }
 
-    /// Each window stands on the block of its row, and rows on one block agree about it. Does
-    /// nothing: its contract is the law.
+    /// Each window stands on the block of its row. Rows on one block agree about it, each lies
+    /// within its block, and no place of a block is a writer's and another row's. Does nothing: its
+    /// contract is the law.
     pub fn agree(&self)
         ensures stands { Agrees self.now }
-        ensures blocks { RowsAgree self.now.table }
+        ensures rows { IsLawful S.DROPS self.now.table }
     {
         let _ = &self.slots;
     }

@@ -12,7 +12,7 @@ use base.Share
 use base.Share.{quarter, three_quarters}
 use base.Stored.{coded_ℕ}
 use base.Logic.{SProp, ent, sep, ex, guard, upd, emp, id⊢, via, upd_i}
-use base.Fml.{Fml, Share, ftrue, fsep, finv, fnamed}
+use base.Fml.{Fml, Share, ftrue, fsep, flft, finv, fnamed}
 use base.Growing.{latest, at_least}
 use types.Logic.{Logic, sem}
 use types.Owned.{basic, named_past}
@@ -26,6 +26,7 @@ use types.Kit.{done, use0, use1, use2, use3, rewrite, suffices, settle, updating
 use denote.Steps.{nothing}
 use Rattle.arc_owners.specs.history.Histories.{Counted, LivesAlone, IsLegal, is_counted}
 use Rattle.arc_owners.specs.history.Histories.{live_owners, owners_ever, owners_ended}
+use Rattle.arc_owners.specs.count.LentNotes.{LentNote, no_note}
 use Rattle.arc_owners.specs.count.Invariant.{BlockId, Line, entries_of, told_of, trace_shares}
 use Rattle.arc_owners.specs.count.Invariant.{made_by, Lease, lease_coded, no_lease, Seat}
 use Rattle.arc_owners.specs.count.Invariant.{seat_coded, fresh_seat, halved, ghost_var, row, tally}
@@ -110,13 +111,14 @@ module _ {M : Type 1} {𝓤 : Ura M} (𝓛 : Logic 𝓤) where
 
   -- what a new lifetime is for, where the block is lent and where it isn't
   funded : (lent : Bool) (a k : ℕ) (l : Lease)
-      → l ≡ record { is_lent = lent; lifetime = a; key = k } → ⟦ ticket k 0 ⟧ ∗ ⟦ rest 64 a 1 ⟧
-      ∗ ⟦ part 64 a ⟧ ⊢ ⟦ pool l 1 ⟧ ∗ ⟦ stake l ⟧
+      → l ≡ record { is_lent = lent; lifetime = a; key = k; note = no_note } → ⟦ ticket k 0 ⟧
+      ∗ ⟦ rest 64 a 1 ⟧ ∗ ⟦ part 64 a ⟧ ⊢ ⟦ pool l 1 ⟧ ∗ ⟦ stake l ⟧
   funded true a k l is = subst (λ (m : Lease). ⟦ ticket k 0 ⟧ ∗ ⟦ rest 64 a 1 ⟧ ∗ ⟦ part 64 a ⟧
       ⊢ ⟦ pool m 1 ⟧ ∗ ⟦ stake m ⟧) (sym is) (let m : Lease = record {
         is_lent = true;
         lifetime = a;
         key = k;
+        note = no_note;
       } in
       qed 𝓛 (‵ (ticket k 0) ∷ ‵ (rest 64 a 1) ∷ ‵ (part 64 a) ∷ []) ∵ move ! (1 ∷ 0 ∷ []) $
       fjoin ! $ use1 𝓛 (‵ (pool m 1)) (id⊢ 𝓤 _) $ done !)
@@ -125,6 +127,7 @@ module _ {M : Type 1} {𝓤 : Ura M} (𝓛 : Logic 𝓤) where
         is_lent = false;
         lifetime = a;
         key = k;
+        note = no_note;
       } in
       qed 𝓛 (‵ (ticket k 0) ∷ ‵ (rest 64 a 1) ∷ ‵ (part 64 a) ∷ []) ∵ drop ! $ drop ! $ drop ! $
       nothing ! $ use1 𝓛 (‵ (stake m)) (id⊢ 𝓤 _) $
@@ -144,7 +147,7 @@ module _ {M : Type 1} {𝓤 : Ura M} (𝓛 : Logic 𝓤) where
       (via 𝓤 _ (entries_new token 𝓛 0 (λ _. tt)) (basic 𝓛 _)) $ await ! tt $ pick ! (λ k.
       use1 𝓛 (‵ (ticket k 0) ⊛ ‵ (entries_from token k 1 (λ _. tt)))
       (entries_take token 𝓛 k 0 (λ _. tt)) $ split ! $ move ! (1 ∷ []) $ drop ! $
-      let l : Lease = record { is_lent = lent; lifetime = a; key = k } in
+      let l : Lease = record { is_lent = lent; lifetime = a; key = k; note = no_note } in
       -- [the ticket; the pool's rest; the stake]
       use3 𝓛 (‵ (pool l 1) ⊛ ‵ (stake l)) (funded lent a k l refl) $ split ! $
       use0 𝓛 (later (any (λ (η : ℕ). ‵ (latest lines_order full_share η []))))
@@ -369,13 +372,15 @@ module _ {M : Type 1} {𝓤 : Ura M} (𝓛 : Logic 𝓤) where
         move ! (1 ∷ 3 ∷ 4 ∷ 2 ∷ 5 ∷ 6 ∷ []) $ group ! 6 $ use1 𝓛 (‵ J) (shuts 𝓛 t a' f') $ frame ! $
         show ! (Forked born) (p, a.lines) $ check ! (past, none_made) $ done !))))
 
-    abbrev pub Relet : ℕ → List Line → Lease → Pr
-    Relet o born l = guard 𝓤 (l.is_lent ≡ true) ⟦ right_owns true t o l born ⟧
+    -- the owner, to whom the block is lent with a lease of which this holds
+    abbrev pub Relet : ℕ → List Line → (Lease → Type 0) → Lease → Pr
+    Relet o born φ l = guard 𝓤 ((l.is_lent ≡ true) × φ l) ⟦ right_owns true t o l born ⟧
 
-    resets : (o : ℕ) (l m : Lease) (born : List Line) → l.is_lent ≡ false → m.is_lent ≡ true
+    resets : (o : ℕ) (l m : Lease) (born : List Line) (φ : Lease → Type 0) → l.is_lent ≡ false
+        → (m.is_lent ≡ true) × φ m
         → ⟦ N ⟧ ∗ ⟦ known t born ⟧ ∗ ⟦ right t o l quarter ⟧ ∗ ⟦ stake m ⟧ ∗ ⟦ pool m 1 ⟧
-        ⊢ H.⇛ (ex 𝓤 (Relet o born))
-    resets o l m born unlent lent = let Z : Pr = ex 𝓤 (Relet o born) in
+        ⊢ H.⇛ (ex 𝓤 (Relet o born φ))
+    resets o l m born φ unlent lent = let Z : Pr = ex 𝓤 (Relet o born φ) in
         let K : Fml = known t born in let R : Fml = right t o l quarter in
         let X : Pr = ⟦ K ⟧ ∗ ⟦ R ⟧ ∗ ⟦ stake m ⟧ ∗ ⟦ pool m 1 ⟧ in
         within X Z (opens 𝓛 t X (upd 𝓤 (⟦ J ⟧ ∗ Z)) (λ a f.
@@ -408,20 +413,24 @@ module _ {M : Type 1} {𝓤 : Ura M} (𝓛 : Logic 𝓤) where
         -- [the new pool; tally; the owner; roll; latest; located; seats]
         move ! (4 ∷ 5 ∷ 3 ∷ 6 ∷ 1 ∷ 0 ∷ []) $ group ! 6 $ use1 𝓛 (‵ J)
         (shuts 𝓛 t (relet a o m) (fits-relet t a f o l m owner_is.0 owner_is.1 one)) $ frame ! $
-        show ! (Relet o born) m $ check ! lent $ done !))))
+        show ! (Relet o born φ) m $ check ! lent $ done !))))
 
-    -- a sole owner lends the block anew, for a lifetime of its own
-    pub relets : (o : ℕ) (l : Lease) (born : List Line) → l.is_lent ≡ false
-        → ⟦ right_owns true t o l born ⟧ ⊢ H.⇛ (ex 𝓤 (Relet o born))
-    relets o l born unlent = let Z : Pr = ex 𝓤 (Relet o born) in
-        qed 𝓛 (‵ (right_owns true t o l born) ∷ []) ∵ updating ! $ lft_new ! tt (λ a.
+    -- a sole owner lends the block anew, for a lifetime of which it has the whole token, and with
+    -- a note of what else is lent for it
+    pub relets_for : (o : ℕ) (l : Lease) (born : List Line) (a : ℕ) (n : LentNote)
+        (φ : Lease → Type 0) → l.is_lent ≡ false
+        → ((k : ℕ) → φ (record { is_lent = true; lifetime = a; key = k; note = n }))
+        → ⟦ flft (a ∷ []) full_share ⟧ ∗ ⟦ right_owns true t o l born ⟧
+        ⊢ H.⇛ (ex 𝓤 (Relet o born φ))
+    relets_for o l born a n φ unlent fits = let Z : Pr = ex 𝓤 (Relet o born φ) in
+        qed 𝓛 (‵ (flft (a ∷ []) full_share) ∷ ‵ (right_owns true t o l born) ∷ []) ∵ updating ! $
         use1 𝓛 (‵ (rest 64 a 1) ⊛ ‵ (part 64 a)) (cut 64 𝓛 a 0 full_share (omega arith)
         (subst (Counts 64 full_share) (omega arith) (Counts-all 64))) $ split ! $
         use0 𝓛 (later (any (λ (k : ℕ). ‵ (entries_from token k 0 (λ _. tt)))))
         (via 𝓤 _ (entries_new token 𝓛 0 (λ _. tt)) (basic 𝓛 _)) $ await ! tt $ pick ! (λ k.
         use1 𝓛 (‵ (ticket k 0) ⊛ ‵ (entries_from token k 1 (λ _. tt)))
         (entries_take token 𝓛 k 0 (λ _. tt)) $ split ! $ move ! (1 ∷ []) $ drop ! $
-        let m : Lease = record { is_lent = true; lifetime = a; key = k } in
+        let m : Lease = record { is_lent = true; lifetime = a; key = k; note = n } in
         -- [the ticket; the pool's rest; the stake; the right]
         move ! (1 ∷ 0 ∷ []) $ fjoin ! $ use1 𝓛 (‵ (pool m 1)) (id⊢ 𝓤 _) $ move ! (1 ∷ []) $
         use1 𝓛 (‵ (stake m)) (id⊢ 𝓤 _) $ move ! (2 ∷ []) $ fsplit ! $ move ! (1 ∷ []) $ fsplit ! $
@@ -430,7 +439,42 @@ module _ {M : Type 1} {𝓤 : Ura M} (𝓛 : Logic 𝓤) where
         move ! (1 ∷ []) $ use1 𝓛 (‵ (known t born) ⊛ ‵ (known t born)) (known_twice 𝓛 t born) $
         split ! $ fsplit ! $ move ! (1 ∷ []) $ drop ! $
         -- [the invariant; known; the right; the stake; the pool]
-        move ! (0 ∷ 1 ∷ 2 ∷ 3 ∷ 4 ∷ []) $ by ! (resets o l m born unlent refl)))
+        move ! (0 ∷ 1 ∷ 2 ∷ 3 ∷ 4 ∷ []) $ by ! (resets o l m born φ unlent (refl, fits k)))
+
+    -- the same, for a lifetime of its own, for which nothing else is lent
+    pub relets : (o : ℕ) (l : Lease) (born : List Line) → l.is_lent ≡ false
+        → ⟦ right_owns true t o l born ⟧ ⊢ H.⇛ (ex 𝓤 (Relet o born (λ m. m.note ≡ no_note)))
+    relets o l born unlent = qed 𝓛 (‵ (right_owns true t o l born) ∷ []) ∵ updating ! $
+        lft_new ! tt (λ a. move ! (0 ∷ 1 ∷ []) $
+        by ! (relets_for o l born a no_note (λ m. m.note ≡ no_note) unlent (λ k. refl)))
+
+    -- the leases of two owners of one block are one
+    pub same_leases : (born : List Line) (o : ℕ) (l : Lease) (q : Share) (p : ℕ) (m : Lease)
+        (r : Share)
+        → ⟦ known t born ⟧ ∗ ⟦ right t o l q ⟧ ∗ ⟦ right t p m r ⟧
+        ⊢ H.⇛ (guard 𝓤 (m ≡ l) (⟦ right t o l q ⟧ ∗ ⟦ right t p m r ⟧))
+    same_leases born o l q p m r = let R : Fml = right t o l q in let S : Fml = right t p m r in
+        let Z : Pr = guard 𝓤 (m ≡ l) (⟦ R ⟧ ∗ ⟦ S ⟧) in
+        qed 𝓛 (‵ (known t born) ∷ ‵ R ∷ ‵ S ∷ []) ∵ fsplit ! $ move ! (1 ∷ []) $ drop ! $
+        by ! (within (⟦ R ⟧ ∗ ⟦ S ⟧) Z (opens 𝓛 t (⟦ R ⟧ ∗ ⟦ S ⟧) (upd 𝓤 (⟦ J ⟧ ∗ Z)) (λ a f.
+        qed 𝓛 (‵ (latest_of 𝓛 t a.lines) ∷ ‵ (located t a.lines) ∷ ‵ (rolled 𝓛 t a.roll)
+        ∷ ‵ (seated 𝓛 t a.seats) ∷ ‵ (tally t (how_many a.roll))
+        ∷ ‵ (pool a.lease (how_many a.roll)) ∷ ‵ R ∷ ‵ S ∷ []) ∵
+        suffices ! _ (upd_i 𝓤 (⟦ J ⟧ ∗ Z)) $ move ! (2 ∷ 6 ∷ []) $
+        use2 𝓛 (given ((o < length a.roll) × (get_or a.roll o (false, no_lease) ≡ (true, l)))
+        (‵ (rolled 𝓛 t a.roll) ⊛ ‵ R))
+        (row_finds lease_coded 𝓛 t.rights no_lease a.roll 0 o o q l (omega arith)) $
+        learn ! (λ one. split ! $
+        -- [roll; right; latest; located; seats; tally; pool; the other right]
+        move ! (0 ∷ 7 ∷ []) $
+        use2 𝓛 (given ((p < length a.roll) × (get_or a.roll p (false, no_lease) ≡ (true, m)))
+        (‵ (rolled 𝓛 t a.roll) ⊛ ‵ S))
+        (row_finds lease_coded 𝓛 t.rights no_lease a.roll 0 p p r m (omega arith)) $
+        learn ! (λ other. split ! $
+        -- [roll; the other right; right; latest; located; seats; tally; pool]
+        move ! (3 ∷ 4 ∷ 0 ∷ 5 ∷ 6 ∷ 7 ∷ []) $ group ! 6 $ use1 𝓛 (‵ J) (shuts 𝓛 t a f) $
+        frame ! $ check ! (f.leased p m other.1 ∙ sym (f.leased o l one.1)) $
+        move ! (1 ∷ 0 ∷ []) $ done !)))))
 
     front-legal : (a : State) → Fits t a → (seen : List Line) → IsPrefix seen a.lines
         → IsLegal t.most t.began (entries_of seen)

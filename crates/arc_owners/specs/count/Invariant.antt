@@ -19,6 +19,7 @@ use types.Keyed.{entry, entries_from, ticket}
 use types.RcWeak.{part, rest}
 use denote.RawPtr.{Ptr, block_ptr, null_ptr}
 use Rattle.core.specs.Sync.RawAtomic.{word}
+use Rattle.arc_owners.specs.count.LentNotes.{LentNote, note_coded, no_note}
 use Rattle.arc_owners.specs.declared.history.entry.Entry.{Entry}
 use Rattle.arc_owners.specs.declared.history.entry.Entry.TheVariants.{Up, Full}
 use Rattle.arc_owners.specs.contracts.history.entry.Entry as entry_type
@@ -99,17 +100,23 @@ abbrev pub made_by : ℕ → List Line → List Entry
 made_by p [] = []
 made_by p (l ∷ ls) = if l.0 == p then l.1 ∷ made_by p ls else made_by p ls
 
--- whether the block is lent to its owners, for which lifetime, and the name of the ticket for its
--- end. A sole owner has it unlent
+-- whether the block is lent to its owners, for which lifetime, the name of the ticket for its end,
+-- and what else is lent for it. A sole owner has it unlent
 pub record Lease : Type 0 where
   pub is_lent : Bool
   pub lifetime : ℕ
   pub key : ℕ
+  pub note : LentNote
 
 abbrev pub lease_coded : Coded Lease
-lease_coded = coded_via (coded× coded_bool (coded× coded_ℕ coded_ℕ))
-    (λ (l : Lease). (l.is_lent, (l.lifetime, l.key)))
-    (λ x y e i. record { is_lent = (e i).0; lifetime = (e i).1.0; key = (e i).1.1 })
+lease_coded = coded_via (coded× coded_bool (coded× coded_ℕ (coded× coded_ℕ note_coded)))
+    (λ (l : Lease). (l.is_lent, (l.lifetime, (l.key, l.note))))
+    (λ x y e i. record {
+      is_lent = (e i).0;
+      lifetime = (e i).1.0;
+      key = (e i).1.1.0;
+      note = (e i).1.1.1;
+    })
 
 -- whether a pass is ready, and what it has made
 abbrev pub Seat : Type 0
@@ -140,7 +147,7 @@ module _ {X : Type 0} (c : Coded X) where
   row first δ k (x ∷ xs) = fsep (kept δ k x) (row first δ (suc k) xs)
 
 abbrev pub no_lease : Lease
-no_lease = record { is_lent = false; lifetime = 0; key = 0 }
+no_lease = record { is_lent = false; lifetime = 0; key = 0; note = no_note }
 
 abbrev pub fresh_seat : Seat
 fresh_seat = (false, [])
@@ -325,7 +332,7 @@ how_many_live ls = length (live_owners (entries_of ls))
 
 -- the lease of an owner who asked for the block back: taken where it was found alone
 abbrev pub taken : Lease → Lease
-taken l = record { is_lent = false; lifetime = l.lifetime; key = l.key }
+taken l = record { is_lent = false; lifetime = l.lifetime; key = l.key; note = l.note }
 
 abbrev pub lease_after : Lease → Bool → Lease
 lease_after l true = taken l

@@ -7,6 +7,7 @@ use Rattle.arc_owners.specs.declared.memory.counted_box.CountedBox.{CountedBox}
 use Rattle.arc_owners.specs.declared.memory.counted_box_without_lifetime.CountedBoxWithoutLifetime
     as rest
 use Rattle.arc_owners.specs.count.Calls.{Owner}
+use Rattle.arc_owners.specs.count.LentNotes.{LentNote}
 
 module _ {V A H : Type 0} {MAX : ℕ} {G : Ghosts H} where
   -- the owner that a box is, its value, and the lifetime for which that is lent
@@ -27,6 +28,10 @@ module _ {V A H : Type 0} {MAX : ℕ} {G : Ghosts H} where
   abbrev pub place_in : CountedBox V A MAX H G → Ptr
   place_in p = p.memory.at
 
+  -- the note of what else is lent for that lifetime
+  abbrev pub note_in : CountedBox V A MAX H G → LentNote
+  note_in p = p.share.right.lease.note
+
   -- the same of a box whose share of the lifetime is elsewhere, and that share
   abbrev pub owner_in_rest : rest.CountedBoxWithoutLifetime V A MAX H G → Owner
   owner_in_rest p = record {
@@ -43,6 +48,9 @@ module _ {V A H : Type 0} {MAX : ℕ} {G : Ghosts H} where
 
   abbrev pub place_in_rest : rest.CountedBoxWithoutLifetime V A MAX H G → Ptr
   place_in_rest p = p.memory.at
+
+  abbrev pub note_in_rest : rest.CountedBoxWithoutLifetime V A MAX H G → LentNote
+  note_in_rest p = p.share.right.lease.note
 
   abbrev pub share_taken_from : rest.CountedBoxWithoutLifetime V A MAX H G → Fraction
   share_taken_from p = p.share.right.share

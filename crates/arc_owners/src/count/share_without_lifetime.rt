@@ -19,8 +19,26 @@ pub struct ShareWithoutLifetime<H: Mark = Open> {
 }
 
 impl<H: Mark> Share<H> {
-    ghost use Rattle.arc_owners.specs.count.Calls.{owner_of, lease_of};
+    ghost use Rattle.arc_owners.specs.count.Calls.{owner_of, lease_of, IsOwnerOf};
     ghost use Rattle.arc_owners.specs.count.Lifetimes.{owner_of_rest, lease_of_rest, share_taken};
+
+    /// Two owners of one block have one lease: the block is lent to both for one lifetime, with one
+    /// note of what else is lent for that. It adds no entry and takes no memory.
+    pub fn same_lease(&self, other: &Share<H>)
+        requires { IsOwnerOf (owner_of self.now).block other.now }
+        ensures { lease_of other.now ≡ lease_of self.now }
+    {
+        self.right.same_lease(&other.right);
+    }
+
+    /// The owner's share of the lifetime for which the block is lent, to read and to freeze what
+    /// else is lent for it. Reads no memory.
+    #[inline(always)]
+    pub fn lifetime(&self) -> &LifetimeToken
+        ensures { result.now.lifetime ≡ (lease_of self.now).lifetime }
+    {
+        self.right.lifetime()
+    }
 
     /// The owner without its share of the lifetime, and that share. Takes no memory.
     pub fn take_lifetime(self) -> (ShareWithoutLifetime<H>, LifetimeToken)

@@ -5,9 +5,12 @@ ghost use Rattle.arc_owners.specs.count.Calls.{block_of, owner_of, sole_owner, l
 ghost use Rattle.arc_owners.specs.count.Calls.{IsOwnerOf, IsPassOf, IsFirst, IsFreshPass};
 ghost use Rattle.arc_owners.specs.count.Calls.{SeesAlone, Asks, Leaves, IsTermOf, EndsInOneStep};
 ghost use Rattle.arc_owners.specs.count.Calls.{EndsWithoutStep, history_of};
+ghost use Rattle.arc_owners.specs.count.LentNotes.{LentNote, no_note};
+ghost use base.Fraction.{full_share};
 
 use super::tokens::{LifetimeEnd, Owners, Pass, Share, Sole};
 use super::word::{EndTokens, OwnerToken};
+use crate::lifetime::LifetimeToken;
 use crate::mark::{Internal, Mark};
 use std::marker::PhantomData;
 
@@ -109,13 +112,31 @@ impl<H: Mark> Sole<H> {
         self.right.only(&mut pass.trace);
     }
 
-    /// Lends the block anew, under the same history: the same owner, for a new lifetime. It adds no
-    /// entry and takes no memory.
+    /// Lends the block anew, under the same history: the same owner, for a new lifetime, for which
+    /// nothing else is lent. It adds no entry and takes no memory.
     pub fn lend(self) -> Share<H>
         ensures same { owner_of result ≡ sole_owner self }
+        ensures noted { (lease_of result).note ≡ no_note }
     {
         let mut right = self.right;
         right.lend();
+        Share {
+            right,
+            mark: PhantomData,
+        }
+    }
+
+    /// The same, for a lifetime that the owner has whole, with a note of what else is lent for it:
+    /// all owners of the block have this note. It adds no entry and takes no memory.
+    pub fn lend_for(self, lifetime: LifetimeToken) -> Share<H>
+        ghost note: { LentNote }
+        requires { lifetime.share ≡ full_share }
+        ensures same { owner_of result ≡ sole_owner self }
+        ensures lifetime { (lease_of result).lifetime ≡ lifetime.lifetime }
+        ensures noted { (lease_of result).note ≡ note }
+    {
+        let mut right = self.right;
+        right.lend_for(lifetime);
         Share {
             right,
             mark: PhantomData,

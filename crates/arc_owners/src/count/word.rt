@@ -255,6 +255,8 @@ impl<H> OwnerToken<H> {
     ghost use Rattle.arc_owners.specs.count.Invariant.{made_by};
     ghost use Rattle.arc_owners.specs.count.Steps.{IsSole, IsOf, SamePass, Ends, SeesSole};
     ghost use Rattle.arc_owners.specs.count.Steps.{IsWithoutLifetime};
+    ghost use Rattle.arc_owners.specs.count.LentNotes.{LentNote, no_note};
+    ghost use base.Fraction.{full_share};
 
     /// No right.
     pub(crate) fn none() -> OwnerToken<H>
@@ -284,8 +286,38 @@ impl<H> OwnerToken<H> {
         requires { (self.old.held ≡ true) × (self.old.lease.is_lent ≡ false) }
         ensures { (self.new.held ≡ true) × (self.new.block ≡ self.old.block)
             × (self.new.owner ≡ self.old.owner) × (self.new.born ≡ self.old.born)
-            × (self.new.lease.is_lent ≡ true) }
+            × (self.new.lease.is_lent ≡ true) × (self.new.lease.note ≡ no_note) }
     {}
+
+    /// The same, for a lifetime that the owner has whole, with a note of what else is lent for it.
+    pub(crate) fn lend_for(&mut self, lifetime: LifetimeToken)
+        ghost note: { LentNote }
+        requires { (self.old.held ≡ true) × (self.old.lease.is_lent ≡ false)
+            × (lifetime.share ≡ full_share) }
+        ensures { (self.new.held ≡ true) × (self.new.block ≡ self.old.block)
+            × (self.new.owner ≡ self.old.owner) × (self.new.born ≡ self.old.born)
+            × (self.new.lease.is_lent ≡ true) × (self.new.lease.lifetime ≡ lifetime.lifetime)
+            × (self.new.lease.note ≡ note) }
+    {
+        let LifetimeToken { marker: _ } = lifetime;
+    }
+
+    /// Two owners of one block have one lease.
+    pub(crate) fn same_lease(&self, other: &OwnerToken<H>)
+        requires { (self.now.held ≡ true) × (other.now.held ≡ true)
+            × (other.now.block ≡ self.now.block) }
+        ensures { other.now.lease ≡ self.now.lease }
+    {
+        let _ = other;
+    }
+
+    /// Its share of the lifetime.
+    pub(crate) fn lifetime(&self) -> &LifetimeToken
+        requires { (self.now.held ≡ true) × (self.now.lease.is_lent ≡ true) }
+        ensures { result.now.lifetime ≡ self.now.lease.lifetime }
+    {
+        unsafe { &*(self as *const Self as *const LifetimeToken) }
+    }
 
     /// The right without its share of the lifetime, and that share.
     pub(crate) fn take_lifetime(self) -> (OwnerWithoutLifetime<H>, LifetimeToken)

@@ -115,12 +115,12 @@ impl<V: Drop, A: Allocator + Copy, const MAX: u64, H: Mark> CountedBox<V, A, MAX
     ghost use Rattle.arc_owners.specs.count.Calls.{IsPassFor, IsPassOfNone, IsFirst, IsFreshPass};
     ghost use Rattle.arc_owners.specs.count.Calls.{IsNewPass, Learns, Asks, FindsFull};
     ghost use Rattle.arc_owners.specs.count.Calls.{MakesAnother, Leaves, TakesBlock, EndsByItself};
-    ghost use Rattle.arc_owners.specs.memory.Boxes.{owner_in, value_of, lifetime_in};
+    ghost use Rattle.arc_owners.specs.memory.Boxes.{owner_in, value_of, lifetime_in, note_in};
     ghost use Rattle.arc_owners.specs.memory.Boxes.{owner_in_rest, value_of_rest};
     ghost use Rattle.arc_owners.specs.memory.Boxes.{lifetime_in_rest, share_taken_from};
-    ghost use Rattle.arc_owners.specs.memory.Boxes.{place_in, place_in_rest};
+    ghost use Rattle.arc_owners.specs.memory.Boxes.{place_in, place_in_rest, note_in_rest};
     ghost use Rattle.arc_owners.specs.memory.SoleBoxes.{sole_in, sole_value, sole_place};
-    ghost use Rattle.arc_owners.specs.count.Calls.{owner_of};
+    ghost use Rattle.arc_owners.specs.count.Calls.{owner_of, lease_of};
 
     /// The first owner of a value, with a pass of its block. Takes memory, for the value and the
     /// count together; refused, the value comes back. `MAX`, at least 2, is how many owners may
@@ -142,8 +142,11 @@ impl<V: Drop, A: Allocator + Copy, const MAX: u64, H: Mark> CountedBox<V, A, MAX
     pub(crate) fn settled(memory: BoxParts<Inner<Housed<V, A>>, A>, share: Share<H>) -> Self
         requires count { (share.right.block ≡ memory.value.word) × (memory.value.word.most ≡ MAX) }
         requires memory { memory.alloc ≡ memory.value.value.alloc }
-        ensures { (owner_in result ≡ owner_of share)
-            × (value_of result ≡ memory.value.value.value) × (place_in result ≡ memory.at) }
+        ensures same { (owner_in result ≡ owner_of share)
+            × (value_of result ≡ memory.value.value.value) }
+        ensures lent { lifetime_in result ≡ (lease_of share).lifetime }
+        ensures noted { note_in result ≡ (lease_of share).note }
+        ensures place { place_in result ≡ memory.at }
     {
         let mut right = share.right;
         let (at, _, lent, kept) = LentBox::of(memory, &right);
@@ -198,12 +201,32 @@ impl<V: Drop, A: Allocator + Copy, const MAX: u64, H: Mark> CountedBox<V, A, MAX
         shown.range(base, &self.share, start, end)
     }
 
+    /// Two owners of one block have one lease: the value is lent to both for one lifetime, with one
+    /// note of what else is lent for that. It adds no entry and takes no memory.
+    pub fn same_lease(&self, other: &Self)
+        requires { (owner_in other.now).block ≡ (owner_in self.now).block }
+        ensures lent { lifetime_in other.now ≡ lifetime_in self.now }
+        ensures noted { note_in other.now ≡ note_in self.now }
+    {
+        self.share.same_lease(&other.share);
+    }
+
+    /// The owner's share of the lifetime for which the value is lent, to read and to freeze what
+    /// else is lent for it. Reads no memory.
+    #[inline(always)]
+    pub fn lifetime(&self) -> &LifetimeToken
+        ensures { result.now.lifetime ≡ lifetime_in self.now }
+    {
+        self.share.lifetime()
+    }
+
     /// The owner without its share of the lifetime for which the value is lent, and that share. It
     /// adds no entry and takes no memory.
     pub fn take_lifetime(self) -> (CountedBoxWithoutLifetime<V, A, MAX, H>, LifetimeToken)
         ensures same { (owner_in_rest result.0 ≡ owner_in self)
             × (value_of_rest result.0 ≡ value_of self) }
         ensures lent { lifetime_in_rest result.0 ≡ lifetime_in self }
+        ensures noted { note_in_rest result.0 ≡ note_in self }
         ensures lifetime { (result.1.lifetime ≡ lifetime_in self)
             × (result.1.share ≡ share_taken_from result.0) }
         ensures place { place_in_rest result.0 ≡ place_in self }
@@ -242,6 +265,7 @@ impl<V: Drop, A: Allocator + Copy, const MAX: u64, H: Mark> CountedBox<V, A, MAX
         ensures back { IfErr result (λ piece. (owner_in piece ≡ owner_in self)
             × (value_of piece ≡ value_of self)) }
         ensures lent { IfErr result (λ piece. lifetime_in piece ≡ lifetime_in self) }
+        ensures noted { IfErr result (λ piece. note_in piece ≡ note_in self) }
         ensures sole_place { IfOk result (λ b. sole_place b ≡ place_in self) }
         ensures place { IfErr result (λ piece. place_in piece ≡ place_in self) }
     {
@@ -268,6 +292,7 @@ impl<V: Drop, A: Allocator + Copy, const MAX: u64, H: Mark> CountedBox<V, A, MAX
         ensures back { IfErr result (λ piece. (owner_in piece ≡ owner_in self)
             × (value_of piece ≡ value_of self)) }
         ensures lent { IfErr result (λ piece. lifetime_in piece ≡ lifetime_in self) }
+        ensures noted { IfErr result (λ piece. note_in piece ≡ note_in self) }
         ensures sole_place { IfOk result (λ r. sole_place r.0 ≡ place_in self) }
         ensures place { IfErr result (λ piece. place_in piece ≡ place_in self) }
     {
@@ -297,6 +322,7 @@ impl<V: Drop, A: Allocator + Copy, const MAX: u64, H: Mark> CountedBox<V, A, MAX
         ensures back { IfErr result (λ piece. (owner_in piece ≡ owner_in self)
             × (value_of piece ≡ value_of self)) }
         ensures lent { IfErr result (λ piece. lifetime_in piece ≡ lifetime_in self) }
+        ensures noted { IfErr result (λ piece. note_in piece ≡ note_in self) }
         ensures place { IfErr result (λ piece. place_in piece ≡ place_in self) }
     {
         match self.try_into_sole_as(pass) {
@@ -399,7 +425,8 @@ impl<V: Drop, A: Allocator + Copy, const MAX: u64, H: Mark> CountedBox<V, A, MAX
 impl<V: Drop, A: Allocator + Copy, const MAX: u64, H: Mark> CountedBox<V, A, MAX, H> {
     ghost use Rattle.std.specs.Prelude.{◌≡◌, IfOk, IfErr, IfSome, IfNone};
     ghost use Rattle.arc_owners.specs.count.Calls.{IsPassFor, FindsFull, MakesAnother};
-    ghost use Rattle.arc_owners.specs.memory.Boxes.{owner_in, value_of, lifetime_in, place_in};
+    ghost use Rattle.arc_owners.specs.memory.Boxes.{owner_in, value_of, lifetime_in, note_in};
+    ghost use Rattle.arc_owners.specs.memory.Boxes.{place_in};
 
     /// One attempt to make one owner more of the same value, through this one: nothing where
     /// another thread's step came between, and then no entry is added. Who calls it tries again.
@@ -425,6 +452,7 @@ impl<V: Drop, A: Allocator + Copy, const MAX: u64, H: Mark> CountedBox<V, A, MAX
             × (value_of piece ≡ value_of self.now))) }
         ensures lent { IfSome result (λ r. IfOk r (λ piece.
             lifetime_in piece ≡ lifetime_in self.now)) }
+        ensures noted { IfSome result (λ r. IfOk r (λ piece. note_in piece ≡ note_in self.now)) }
         ensures place { IfSome result (λ r. IfOk r (λ piece.
             place_in piece ≡ place_in self.now)) }
         ensures full { IfSome result (λ r.
@@ -463,6 +491,7 @@ impl<V: Drop, A: Allocator + Copy, const MAX: u64, H: Mark> CountedBox<V, A, MAX
             MakesAnother (owner_in self.now) pass.old pass.new (owner_in piece)
             × (value_of piece ≡ value_of self.now)) }
         ensures lent { IfOk result (λ piece. lifetime_in piece ≡ lifetime_in self.now) }
+        ensures noted { IfOk result (λ piece. note_in piece ≡ note_in self.now) }
         ensures place { IfOk result (λ piece. place_in piece ≡ place_in self.now) }
         ensures full { IfErr result (λ _. FindsFull (owner_in self.now) pass.old pass.new) }
     {

@@ -6,6 +6,7 @@ use super::box_place::BoxPlace;
 use super::counted_box::{CountedBox, Housed};
 use super::inner::Inner;
 use crate::count::tokens::{Owners, Pass, Sole};
+use crate::lifetime::LifetimeToken;
 use crate::mark::{Mark, Open, Stepping};
 use std::alloc::{Allocator, Global};
 use std::marker::PhantomData;
@@ -43,7 +44,10 @@ impl<V: Drop, A: Allocator + Copy, const MAX: u64, H: Mark> SoleBox<V, A, MAX, H
     ghost use Rattle.arc_owners.specs.count.Calls.{IsPassFor, IsPassOfNone, IsFirst, IsFreshPass};
     ghost use Rattle.arc_owners.specs.count.Calls.{Learns, Leaves, SeesAlone, EndsByItself};
     ghost use Rattle.arc_owners.specs.count.Calls.{EndsWithoutStep, seen, history_of, sole_owner};
-    ghost use Rattle.arc_owners.specs.memory.Boxes.{owner_in, value_of, place_in};
+    ghost use Rattle.arc_owners.specs.memory.Boxes.{owner_in, value_of, lifetime_in, note_in};
+    ghost use Rattle.arc_owners.specs.count.LentNotes.{LentNote, no_note};
+    ghost use base.Fraction.{full_share};
+    ghost use Rattle.arc_owners.specs.memory.Boxes.{place_in};
     ghost use Rattle.arc_owners.specs.memory.SoleBoxes.{sole_in, sole_value, LendsSoleValue};
     ghost use Rattle.arc_owners.specs.memory.SoleBoxes.{sole_place};
     ghost use types.Logic.{sem};
@@ -110,14 +114,29 @@ impl<V: Drop, A: Allocator + Copy, const MAX: u64, H: Mark> SoleBox<V, A, MAX, H
         self.sole.only(pass);
     }
 
-    /// Lends the value anew, under the same history: the same owner of the same value. It adds no
-    /// entry and takes no memory.
+    /// Lends the value anew, under the same history: the same owner of the same value, for a new
+    /// lifetime, for which nothing else is lent. It adds no entry and takes no memory.
     pub fn lend(self) -> CountedBox<V, A, MAX, H>
         ensures same { (owner_in result ≡ sole_in self) × (value_of result ≡ sole_value self) }
+        ensures noted { note_in result ≡ no_note }
         ensures place { place_in result ≡ sole_place self }
     {
         let SoleBox { memory, sole } = self;
         CountedBox::settled(housed_parts(memory), sole.lend())
+    }
+
+    /// The same, for a lifetime that the owner has whole, with a note of what else is lent for it:
+    /// all owners of the block have this note. It adds no entry and takes no memory.
+    pub fn lend_for(self, lifetime: LifetimeToken) -> CountedBox<V, A, MAX, H>
+        ghost note: { LentNote }
+        requires { lifetime.share ≡ full_share }
+        ensures same { (owner_in result ≡ sole_in self) × (value_of result ≡ sole_value self) }
+        ensures lent { lifetime_in result ≡ lifetime.lifetime }
+        ensures noted { note_in result ≡ note }
+        ensures place { place_in result ≡ sole_place self }
+    {
+        let SoleBox { memory, sole } = self;
+        CountedBox::settled(housed_parts(memory), sole.lend_for(lifetime))
     }
 
     /// The memory, with the word and the value in it, and the owner.

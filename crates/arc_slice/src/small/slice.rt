@@ -1,12 +1,13 @@
 //! `SmallSlice`, a short list of bytes in a value of its own.
 ghost use Rattle.std.specs.Prelude.{◌≡◌, ◌==◌, ◌<◌, ◌≤◌, ◌↔◌, [], length, drop, take};
+ghost use Rattle.std.specs.Prelude.{slice_range};
 ghost use Rattle.std.specs.Prelude.{IsOk, IsSome, IfSome};
 ghost use Rattle.arc_buffer.specs.Slice.{IsEdge, IsRange, sub, edge_answer, range_answer};
 ghost use Rattle.arc_slice.specs.Inline.{inline_limit};
 
 use super::limit::inline_limit;
 use arc_block::layout::{DefaultLayout, Layout};
-use arc_buffer::kinds::{CopySlice, Emptyable, Plain, Slice, Subsliceable, Text};
+use arc_buffer::kinds::{AnyItems, CopySlice, Emptyable, Plain, Slice, Subsliceable, Text};
 use arc_owners::error::RangeError;
 use std::marker::{Model, PhantomData};
 use std::str;
@@ -83,6 +84,16 @@ impl<S: Slice<Item = u8>, L: Layout> SmallSlice<S, L> {
         })
     }
 
+    /// A copy of the bytes, where they are within the limit, of a kind of which each list is legal.
+    pub(super) fn of_any(items: &[u8]) -> Option<Self>
+    where
+        S: AnyItems,
+        ensures some { IsSome result ↔ length items.now ≤ inline_limit L.Layout }
+        ensures items { IfSome result (λ small. small.items ≡ items.now) }
+    {
+        Self::of_legal(items)
+    }
+
     /// A copy of the bytes, where they are within the limit.
     pub fn new(items: &[u8]) -> Option<Self>
     where
@@ -91,6 +102,19 @@ impl<S: Slice<Item = u8>, L: Layout> SmallSlice<S, L> {
         ensures items { IfSome result (λ small. small.items ≡ items.now) }
     {
         Self::of_legal(items)
+    }
+
+    /// The same list once more.
+    #[inline(always)]
+    pub(super) fn copied(&self) -> Self
+        ensures { result ≡ self.now }
+    {
+        SmallSlice {
+            bytes: self.bytes,
+            start: self.start,
+            end: self.end,
+            of: PhantomData,
+        }
     }
 
     /// How many bytes the list has.
@@ -195,9 +219,10 @@ impl<S: Subsliceable<Item = u8>, L: Layout> SmallSlice<S, L> {
     /// The bytes from `start` to `end`.
     pub fn subslice(&self, start: usize, end: usize) -> Self
         requires { IsRange S.boundary self.now.items start end }
-        ensures { result.items ≡ sub self.now.items start end }
+        ensures items { result.items ≡ sub self.now.items start end }
+        ensures slice { result.items ≡ slice_range self.now.items start end }
     {
-        let mut part = *self;
+        let mut part = self.copied();
         part.keep(start, end);
         part
     }

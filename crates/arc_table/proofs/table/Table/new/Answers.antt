@@ -7,7 +7,7 @@ use Rattle.arc_table.proofs.table.Table.new.Goals as goal
 
 pub invariant_of-result : goal.invariant_of-result
 invariant_of-result g c = (
-  empty-fact
+  empty-fact g.S.Slice.DROPS
       (ap (λ i. windows_of i c.new-2.result.items c.new-3.result.items) c.new.ensures.items)
       c.new-5.ensures.items,
   empty-indexed c.new-2.ensures.items c.new-3.ensures.items,

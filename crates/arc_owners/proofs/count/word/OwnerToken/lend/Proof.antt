@@ -20,6 +20,7 @@ use denote.Triple.Walked.{Stays, stay_ref, walk_of, Goes-ref}
 use Rattle.std.proofs.raw_atomic.Walks.{proved}
 use Rattle.logbook.proofs.Fields.{ends}
 use Rattle.arc_owners.specs.count.Invariant.{Lease, right_owns}
+use Rattle.arc_owners.specs.count.LentNotes.{no_note}
 use Rattle.arc_owners.specs.contracts.count.word.OwnerToken as OwnerToken
 use Rattle.arc_owners.proofs.count.Begins as begins
 use Rattle.arc_owners.specs.contracts.count.word.OwnerToken.lend as f
@@ -39,11 +40,11 @@ lend_spec 𝓤 𝓛 𝓜 𝓡 wired T L =
     -- [two parts of the owner; its token; no further token]
     enter ! 𝓣.C 𝓣.Λ fn (vptr b o ∷ []) Post $ alloc_all ! (λ l. pass_all ! refl ((tt, tt), tt) $
     move ! (0 ∷ 1 ∷ 2 ∷ []) $ opens ! tt Own b o (λ vs. move ! (1 ∷ []) $ fsplit ! $ move ! (1 ∷ []) $ rewrite ! 0 (λ (k : Bool). ‵ (right_owns k t own.owner own.lease own.born)) asked.0 refl $
-    use1 𝓛 (later (some (λ (m : Lease). given (m.is_lent ≡ true) (‵ (right_owns true t own.owner m own.born))))) (begins.relets 𝓛 t own.owner own.lease own.born asked.1) $ await ! tt $ pick ! (λ m. learn ! (λ so.
+    use1 𝓛 (later (some (λ (m : Lease). given ((m.is_lent ≡ true) × (m.note ≡ no_note)) (‵ (right_owns true t own.owner m own.born))))) (begins.relets 𝓛 t own.owner own.lease own.born asked.1) $ await ! tt $ pick ! (λ m. learn ! (λ so.
     let after : Own.Denot = record { marker = record {}; held = true; block = t; owner = own.owner; lease = m; born = own.born } in
     move ! (1 ∷ 0 ∷ []) $ fjoin ! $ move ! (1 ∷ 0 ∷ 2 ∷ 3 ∷ 4 ∷ []) $ closes ! tt Own after vs b o $
     sets ! (of_opd ! (unit_lit !)) refl (tt, tt) $ feq_i ! (List Val) (vunit ∷ []) (vunit ∷ []) refl $
     -- [the result; two parts of the owner; its token; no further token]
     move ! (3 ∷ 4 ∷ []) $ fjoin ! $ nothing ! $ feq_i ! (List Val) (vptr b o ∷ []) (vptr b o ∷ []) refl $ move ! (0 ∷ 4 ∷ 5 ∷ []) $ fjoin3 ! $ fjoin ! $
     returns ! (look_at ! 0 refl) $ free_all ! refl $ keep ! (1 ∷ 0 ∷ 2 ∷ []) $
-    by ! (ends 𝓛 En hs c y vunit tt (after, tt) (tt, tt) (fact_i 𝓤 _ (emp 𝓤) (refl, refl, refl, refl, so)))))))))
+    by ! (ends 𝓛 En hs c y vunit tt (after, tt) (tt, tt) (fact_i 𝓤 _ (emp 𝓤) (refl, refl, refl, refl, so.0, so.1)))))))))

@@ -1,0 +1,128 @@
+//! A reader of items in memory that is lent for the lease of a block's owners.
+ghost use Rattle.std.specs.Prelude.{◌≡◌, ◌+◌, ◌-◌, ◌≤◌, IfOk, IfErr, IfSome, length, take, drop};
+ghost use Rattle.std.specs.Prelude.{is_ok, is_some};
+ghost use base.Stored.{Coded-set};
+ghost use Rattle.arc_owners.specs.count.LentNotes.{note_coded};
+ghost use Rattle.arc_owners.specs.memory.Boxes.{lifetime_in, note_in};
+ghost use Rattle.arc_memory.specs.LeaseNotes.{note_of};
+
+use crate::frozen_places::FrozenPlaces;
+use arc_owners::error::CountFull;
+use arc_owners::lifetime::EndedLifetime;
+use arc_owners::mark::Mark;
+use arc_owners::owners::{CountedBox, Pass, SoleBox};
+use std::alloc::Allocator;
+use std::sync::Wait;
+
+/// An owner of a block, and a range of items in the memory that is lent for the lease of the
+/// block's owners, which nobody changes while it lasts. Others may write beside it. V is what the
+/// counted box holds.
+pub struct FrozenReader<T, V: Drop, A: Allocator + Copy, const MAX: u64, H: Mark> {
+    pub owner: CountedBox<V, A, MAX, H>,
+    pub range: FrozenPlaces<T>,
+    ghost lent: { lifetime_in owner ≡ range.memory.lifetime },
+    ghost noted: { note_in owner ≡ note_of range.memory } by { Coded-set note_coded _ _ },
+}
+
+impl<T, V: Drop, A: Allocator + Copy, const MAX: u64, H: Mark> FrozenReader<T, V, A, MAX, H> {
+    ghost use Rattle.arc_owners.specs.count.Calls.{IsPassFor, Asks, MakesAnother, FindsFull};
+    ghost use Rattle.arc_owners.specs.count.Calls.{Leaves};
+    ghost use Rattle.arc_owners.specs.memory.Boxes.{owner_in, value_of};
+    ghost use Rattle.arc_memory.specs.WriterParts.{IsSameOwner, IsSoleAgain, IsSameRange};
+
+    /// The items from the place `start` on and before the place `end` of the allocation. It reads
+    /// no memory.
+    ///
+    /// # Safety
+    ///
+    /// The allocation begins at this place.
+    #[inline(always)]
+    pub unsafe fn as_slice<'a>(&'a self, base: *const T, start: usize, end: usize) -> &'a [T]
+        requires place { base ≡ self.now.range.memory.base }
+        requires range { (self.now.range.start ≤ start) × (start ≤ end)
+            × (end ≤ self.now.range.start + length self.now.range.items) }
+        ensures { result.now ≡ drop (start - self.now.range.start)
+            (take (end - self.now.range.start) self.now.range.items) }
+    {
+        unsafe { self.range.as_slice(self.owner.lifetime(), base, start, end) }
+    }
+
+    /// Another reader of the places from `start` on and before `end` of the allocation: one owner
+    /// more of the same block. Takes no memory, and copies nothing.
+    ///
+    /// # Errors
+    ///
+    /// `CountFull` exactly where `MAX` owners live.
+    ///
+    /// # History
+    ///
+    /// Up, or Full where refused.
+    pub fn try_part_as(
+        &self,
+        rt: &impl Wait,
+        start: usize,
+        end: usize,
+        pass: &mut Pass<H>,
+    ) -> Result<Self, CountFull>
+        requires pass { IsPassFor (owner_in self.now.owner) pass.old }
+        requires range { (self.now.range.start ≤ start) × (start ≤ end)
+            × (end ≤ self.now.range.start + length self.now.range.items) }
+        ensures made { IfOk result (λ r. MakesAnother (owner_in self.now.owner) pass.old pass.new
+            (owner_in r.owner) × (value_of r.owner ≡ value_of self.now.owner)) }
+        ensures range { IfOk result (λ r. (r.range.memory ≡ self.now.range.memory)
+            × (r.range.start ≡ start)) }
+        ensures items { IfOk result (λ r. r.range.items ≡ drop (start - self.now.range.start)
+            (take (end - self.now.range.start) self.now.range.items)) }
+        ensures full { IfErr result (λ _. FindsFull (owner_in self.now.owner) pass.old pass.new) }
+    {
+        match self.owner.try_clone_as(rt, pass) {
+            Ok(owner) => Ok(FrozenReader {
+                owner,
+                range: self.range.part(start, end),
+            }),
+            Err(e) => Err(e),
+        }
+    }
+
+    /// The only owner, where no other owner lives, reader or writer: with the value come the range
+    /// and that the lifetime has ended, for which all places come back. Else it is handed back.
+    /// Takes no memory.
+    ///
+    /// # History
+    ///
+    /// Alone with the answer.
+    pub fn try_into_sole_as(
+        self,
+        pass: &mut Pass<H>,
+    ) -> Result<(SoleBox<V, A, MAX, H>, EndedLifetime, FrozenPlaces<T>), Self>
+        requires pass { IsPassFor (owner_in self.owner) pass.old }
+        ensures entry { Asks (owner_in self.owner) pass.old pass.new (is_ok result) }
+        ensures sole { IfOk result (λ r. IsSoleAgain self.owner r.0) }
+        ensures ended { IfOk result (λ r. r.1.lifetime ≡ self.range.memory.lifetime) }
+        ensures range { IfOk result (λ r. IsSameRange self.range r.2) }
+        ensures back { IfErr result (λ w. IsSameOwner self.owner w.owner
+            × IsSameRange self.range w.range) }
+    {
+        let FrozenReader { owner, range } = self;
+        match owner.try_into_sole_with_end_as(pass) {
+            Ok((sole, ended)) => Ok((sole, ended, range)),
+            Err(owner) => Err(FrozenReader { owner, range }),
+        }
+    }
+
+    /// Ends this reader. The last owner gets the value, and that the lifetime has ended, for which
+    /// all places come back. Takes no memory.
+    ///
+    /// # History
+    ///
+    /// Down.
+    pub fn release_as(self, pass: &mut Pass<H>) -> Option<(V, EndedLifetime)>
+        requires pass { IsPassFor (owner_in self.owner) pass.old }
+        ensures entry { Leaves (owner_in self.owner) pass.old pass.new (is_some result) }
+        ensures value { IfSome result (λ r. r.0 ≡ value_of self.owner) }
+        ensures ended { IfSome result (λ r. r.1.lifetime ≡ self.range.memory.lifetime) }
+    {
+        let FrozenReader { owner, range: _ } = self;
+        owner.release_with_end_as(pass)
+    }
+}

@@ -1,0 +1,276 @@
+//! One of several writers on a block, whose memory is lent for the lease of the block's owners.
+ghost use Rattle.std.specs.Prelude.{◌≡◌, ◌+◌, ◌-◌, ◌≤◌, ◌⊎◌, [], ◌++◌, Bool, length, take, drop};
+ghost use Rattle.std.specs.Prelude.{IfOk, IfErr, IfSome, is_ok, is_some};
+ghost use base.Fraction.{full_share};
+ghost use base.Stored.{Coded-set};
+ghost use Rattle.arc_owners.specs.count.LentNotes.{LentNote, note_coded};
+ghost use Rattle.arc_owners.specs.memory.Boxes.{lifetime_in, note_in};
+ghost use Rattle.arc_memory.specs.LeaseNotes.{note_of};
+
+use crate::frozen_reader::FrozenReader;
+use crate::lent_places::LentPlaces;
+use crate::open_writer::OpenWriter;
+use crate::places::Places;
+use arc_owners::error::CountFull;
+use arc_owners::lifetime::{EndedLifetime, LifetimeToken};
+use arc_owners::mark::Mark;
+use arc_owners::owners::{CountedBox, Pass, SoleBox};
+use std::alloc::Allocator;
+use std::sync::Wait;
+
+/// An owner of a block, and a part of the memory that is lent for the lease of the block's owners,
+/// which no other owner reaches. To edit the items it is opened. V is what the counted box holds;
+/// that the places come back stands there. Neither copied nor dropped.
+pub struct WriterPart<T, V: Drop, A: Allocator + Copy, const MAX: u64, H: Mark> {
+    pub owner: CountedBox<V, A, MAX, H>,
+    pub part: LentPlaces<T>,
+    ghost lent: { lifetime_in owner ≡ part.memory.lifetime },
+    ghost noted: { note_in owner ≡ note_of part.memory } by { Coded-set note_coded _ _ },
+}
+
+impl<T, V: Drop, A: Allocator + Copy, const MAX: u64, H: Mark> WriterPart<T, V, A, MAX, H> {
+    ghost use Rattle.arc_owners.specs.count.Calls.{IsPassFor, Asks, MakesAnother, FindsFull};
+    ghost use Rattle.arc_owners.specs.count.Calls.{Leaves};
+    ghost use Rattle.arc_owners.specs.memory.Boxes.{owner_in, value_of};
+    ghost use Rattle.arc_owners.specs.memory.Boxes.{owner_in_rest, value_of_rest};
+    ghost use Rattle.arc_owners.specs.memory.SoleBoxes.{sole_in, sole_value};
+    ghost use Rattle.arc_memory.specs.Allocations.{IsPartOfLent};
+    ghost use Rattle.arc_memory.specs.WriterParts.{IsSameOwner, IsSoleAgain};
+
+    /// The first of several writers: the only owner lends the value anew, for the lifetime for
+    /// which the places were lent. It adds no entry and takes no memory.
+    pub fn lend(count: SoleBox<V, A, MAX, H>, lifetime: LifetimeToken, part: LentPlaces<T>) -> Self
+        requires whole { lifetime.share ≡ full_share }
+        requires lent { part.memory.lifetime ≡ lifetime.lifetime }
+        ensures same { (owner_in result.owner ≡ sole_in count)
+            × (value_of result.owner ≡ sole_value count) }
+        ensures part { result.part ≡ part }
+    {
+        Self::lend_noted(count, lifetime, part)
+    }
+
+    /// The same, where this note says of the part in which memory it lies.
+    fn lend_noted(
+        count: SoleBox<V, A, MAX, H>,
+        lifetime: LifetimeToken,
+        part: LentPlaces<T>,
+    ) -> Self
+        ghost note: { LentNote }
+        requires whole { lifetime.share ≡ full_share }
+        requires lent { part.memory.lifetime ≡ lifetime.lifetime }
+        requires noted { note_of part.memory ≡ note }
+        ensures same { (owner_in result.owner ≡ sole_in count)
+            × (value_of result.owner ≡ sole_value count) }
+        ensures part { result.part ≡ part }
+    {
+        WriterPart {
+            owner: count.lend_for(lifetime),
+            part,
+        }
+    }
+
+    /// The owner without its share of the lifetime, and the places, which stay its own meanwhile.
+    /// It adds no entry, takes no memory and is no instruction.
+    #[inline(always)]
+    pub fn open(self) -> (OpenWriter<T, V, A, MAX, H>, Places<T>)
+        ensures owner { (owner_in_rest result.0.rest ≡ owner_in self.owner)
+            × (value_of_rest result.0.rest ≡ value_of self.owner) }
+        ensures memory { (result.0.out.memory ≡ self.part.memory)
+            × IsPartOfLent self.part.memory result.1 }
+        ensures range { (result.0.out.start ≡ self.part.start)
+            × (result.0.out.count ≡ self.part.count) }
+        ensures places { (result.1.start ≡ self.part.start) × (result.1.count ≡ self.part.count)
+            × (result.1.items ≡ self.part.items) }
+    {
+        let WriterPart { owner, part } = self;
+        let (rest, share) = owner.take_lifetime();
+        let (places, out) = part.open(share);
+        (OpenWriter { rest, out }, places)
+    }
+
+    /// This writer of the first `at` places, and another one of those behind them, with the items
+    /// that lie there: one owner more of the same block. Takes no memory.
+    ///
+    /// # Errors
+    ///
+    /// `CountFull` exactly where `MAX` owners live; the writer is handed back.
+    ///
+    /// # History
+    ///
+    /// Up, or Full where refused.
+    pub fn try_split_off_as(
+        self,
+        rt: &impl Wait,
+        at: usize,
+        pass: &mut Pass<H>,
+    ) -> Result<(Self, Self), (Self, CountFull)>
+        requires pass { IsPassFor (owner_in self.owner) pass.old }
+        requires at { at ≤ self.part.count }
+        ensures made { IfOk result (λ r. MakesAnother (owner_in self.owner) pass.old pass.new
+            (owner_in r.1.owner) × (value_of r.1.owner ≡ value_of self.owner)) }
+        ensures stays { IfOk result (λ r. r.0.owner ≡ self.owner) }
+        ensures memory { IfOk result (λ r. (r.0.part.memory ≡ self.part.memory)
+            × (r.1.part.memory ≡ self.part.memory)) }
+        ensures front { IfOk result (λ r. (r.0.part.start ≡ self.part.start)
+            × (r.0.part.count ≡ at) × (r.0.part.items ≡ take at self.part.items)) }
+        ensures back { IfOk result (λ r. (r.1.part.start ≡ self.part.start + at)
+            × (r.1.part.count ≡ self.part.count - at)
+            × (r.1.part.items ≡ drop at self.part.items)) }
+        ensures full { IfErr result (λ r. FindsFull (owner_in self.owner) pass.old pass.new) }
+        ensures kept { IfErr result (λ r. (r.0.owner ≡ self.owner)
+            × (r.0.part ≡ self.part)) }
+    {
+        match self.owner.try_clone_as(rt, pass) {
+            Ok(other) => {
+                let WriterPart { owner, part } = self;
+                let (front, back) = part.split(at);
+                Ok((
+                    WriterPart { owner, part: front },
+                    WriterPart {
+                        owner: other,
+                        part: back,
+                    },
+                ))
+            }
+            Err(e) => Err((self, e)),
+        }
+    }
+
+    /// This writer of the places behind the first `at`, and another one of these, with the items
+    /// that lie there: one owner more of the same block. Takes no memory.
+    ///
+    /// # Errors
+    ///
+    /// `CountFull` exactly where `MAX` owners live; the writer is handed back.
+    ///
+    /// # History
+    ///
+    /// Up, or Full where refused.
+    pub fn try_split_to_as(
+        self,
+        rt: &impl Wait,
+        at: usize,
+        pass: &mut Pass<H>,
+    ) -> Result<(Self, Self), (Self, CountFull)>
+        requires pass { IsPassFor (owner_in self.owner) pass.old }
+        requires at { at ≤ self.part.count }
+        ensures made { IfOk result (λ r. MakesAnother (owner_in self.owner) pass.old pass.new
+            (owner_in r.1.owner) × (value_of r.1.owner ≡ value_of self.owner)) }
+        ensures stays { IfOk result (λ r. r.0.owner ≡ self.owner) }
+        ensures memory { IfOk result (λ r. (r.0.part.memory ≡ self.part.memory)
+            × (r.1.part.memory ≡ self.part.memory)) }
+        ensures back { IfOk result (λ r. (r.0.part.start ≡ self.part.start + at)
+            × (r.0.part.count ≡ self.part.count - at)
+            × (r.0.part.items ≡ drop at self.part.items)) }
+        ensures front { IfOk result (λ r. (r.1.part.start ≡ self.part.start)
+            × (r.1.part.count ≡ at) × (r.1.part.items ≡ take at self.part.items)) }
+        ensures full { IfErr result (λ r. FindsFull (owner_in self.owner) pass.old pass.new) }
+        ensures kept { IfErr result (λ r. (r.0.owner ≡ self.owner)
+            × (r.0.part ≡ self.part)) }
+    {
+        match self.owner.try_clone_as(rt, pass) {
+            Ok(other) => {
+                let WriterPart { owner, part } = self;
+                let (front, back) = part.split(at);
+                Ok((
+                    WriterPart { owner, part: back },
+                    WriterPart {
+                        owner: other,
+                        part: front,
+                    },
+                ))
+            }
+            Err(e) => Err((self, e)),
+        }
+    }
+
+    /// Both parts as this writer's: the other's places begin where these end, and both are owners
+    /// of one block, so it is one memory. These are full, or the others hold nothing. The other
+    /// owner ends. Takes no memory.
+    ///
+    /// # History
+    ///
+    /// Down of the other owner.
+    pub fn join_as(self, other: Self, pass: &mut Pass<H>) -> Self
+        requires pass { IsPassFor (owner_in other.owner) pass.old }
+        requires block { (owner_in other.owner).block ≡ (owner_in self.owner).block }
+        requires next { other.part.start ≡ self.part.start + self.part.count }
+        requires full { (length self.part.items ≡ self.part.count) ⊎ (other.part.items ≡ []) }
+        ensures owner { result.owner ≡ self.owner }
+        ensures entry { (last : Bool) × Leaves (owner_in other.owner) pass.old pass.new last }
+        ensures memory { (result.part.memory ≡ self.part.memory)
+            × (result.part.start ≡ self.part.start) }
+        ensures places { (result.part.count ≡ self.part.count + other.part.count)
+            × (result.part.items ≡ self.part.items ++ other.part.items) }
+    {
+        self.owner.same_lease(&other.owner);
+        let WriterPart { owner, part } = self;
+        let WriterPart {
+            owner: ends,
+            part: back,
+        } = other;
+        let part = part.unsplit(back);
+        drop(ends.release_as(pass));
+        WriterPart { owner, part }
+    }
+
+    /// The only owner, where no other owner lives: with the value come the part and that the
+    /// lifetime has ended, for which all places come back. Else it is handed back. Takes no memory.
+    ///
+    /// # History
+    ///
+    /// Alone with the answer.
+    pub fn try_into_sole_as(
+        self,
+        pass: &mut Pass<H>,
+    ) -> Result<(SoleBox<V, A, MAX, H>, EndedLifetime, LentPlaces<T>), Self>
+        requires pass { IsPassFor (owner_in self.owner) pass.old }
+        ensures entry { Asks (owner_in self.owner) pass.old pass.new (is_ok result) }
+        ensures sole { IfOk result (λ r. IsSoleAgain self.owner r.0) }
+        ensures ended { IfOk result (λ r. r.1.lifetime ≡ self.part.memory.lifetime) }
+        ensures part { IfOk result (λ r. r.2 ≡ self.part) }
+        ensures back { IfErr result (λ w. IsSameOwner self.owner w.owner
+            × (w.part ≡ self.part)) }
+    {
+        let WriterPart { owner, part } = self;
+        match owner.try_into_sole_with_end_as(pass) {
+            Ok((sole, ended)) => Ok((sole, ended, part)),
+            Err(owner) => Err(WriterPart { owner, part }),
+        }
+    }
+
+    /// Ends this writer. What lies in its places is forgotten: it is for items that need no drop.
+    /// The last owner gets the value, and that the lifetime has ended, for which all places come
+    /// back. Takes no memory.
+    ///
+    /// # History
+    ///
+    /// Down.
+    pub fn release_as(self, pass: &mut Pass<H>) -> Option<(V, EndedLifetime)>
+        requires pass { IsPassFor (owner_in self.owner) pass.old }
+        ensures entry { Leaves (owner_in self.owner) pass.old pass.new (is_some result) }
+        ensures value { IfSome result (λ r. r.0 ≡ value_of self.owner) }
+        ensures ended { IfSome result (λ r. r.1.lifetime ≡ self.part.memory.lifetime) }
+    {
+        let WriterPart { owner, part } = self;
+        part.forget();
+        owner.release_with_end_as(pass)
+    }
+
+    /// A reader of the items, of which there are `len`, for as long as the block is lent: nobody
+    /// changes them again. Other writers go on. The places behind them are given up. It adds no
+    /// entry and takes no memory.
+    pub fn freeze(self, len: usize) -> FrozenReader<T, V, A, MAX, H>
+        requires len { len ≡ length self.part.items }
+        ensures owner { result.owner ≡ self.owner }
+        ensures range { (result.range.memory ≡ self.part.memory)
+            × (result.range.start ≡ self.part.start)
+            × (result.range.items ≡ self.part.items) }
+    {
+        let WriterPart { owner, part } = self;
+        let (front, back) = part.split(len);
+        back.give_up();
+        let range = front.freeze(owner.lifetime());
+        FrozenReader { owner, range }
+    }
+}

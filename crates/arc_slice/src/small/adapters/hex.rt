@@ -1,0 +1,59 @@
+//! `{:x}` and `{:X}` of small windows: two digits a byte.
+ghost use Rattle.std.specs.Prelude.{false, true};
+ghost use Rattle.std.specs.Fmt.{WritesOnOk};
+ghost use Rattle.arc_buffer.specs.Printed.{hex_bytes};
+
+use super::super::{SmallArcSlice, SmallSlice};
+use arc_block::layout::Layout;
+use arc_buffer::buffer::Buffer;
+use arc_buffer::kinds::Slice;
+use arc_buffer::print::write_hex;
+use arc_owners::mark::Mark;
+use std::alloc::Allocator;
+use std::fmt;
+
+impl<S: Slice<Item = u8>, L: Layout> fmt::LowerHex for SmallSlice<S, L> {
+    fn fmt<W: fmt::Write>(&self, f: &mut fmt::Formatter<W>) -> fmt::Result
+        ensures { WritesOnOk W.write_str_gives f.old result (hex_bytes false self.now.items) f.new }
+    {
+        write_hex(self.as_slice(), false, f)
+    }
+}
+
+impl<S: Slice<Item = u8>, L: Layout> fmt::UpperHex for SmallSlice<S, L> {
+    fn fmt<W: fmt::Write>(&self, f: &mut fmt::Formatter<W>) -> fmt::Result
+        ensures { WritesOnOk W.write_str_gives f.old result (hex_bytes true self.now.items) f.new }
+    {
+        write_hex(self.as_slice(), true, f)
+    }
+}
+
+impl<
+    S: Slice<Item = u8>,
+    L: Layout,
+    B: Buffer<u8> + Drop,
+    M: Drop,
+    A: Allocator + Copy,
+    H: Mark,
+> fmt::LowerHex for SmallArcSlice<S, L, B, M, A, H> {
+    fn fmt<W: fmt::Write>(&self, f: &mut fmt::Formatter<W>) -> fmt::Result
+        ensures { WritesOnOk W.write_str_gives f.old result (hex_bytes false self.now.items) f.new }
+    {
+        write_hex(self.as_slice(), false, f)
+    }
+}
+
+impl<
+    S: Slice<Item = u8>,
+    L: Layout,
+    B: Buffer<u8> + Drop,
+    M: Drop,
+    A: Allocator + Copy,
+    H: Mark,
+> fmt::UpperHex for SmallArcSlice<S, L, B, M, A, H> {
+    fn fmt<W: fmt::Write>(&self, f: &mut fmt::Formatter<W>) -> fmt::Result
+        ensures { WritesOnOk W.write_str_gives f.old result (hex_bytes true self.now.items) f.new }
+    {
+        write_hex(self.as_slice(), true, f)
+    }
+}

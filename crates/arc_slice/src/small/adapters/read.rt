@@ -1,0 +1,117 @@
+//! `io::Read` of small windows over bytes.
+ghost use Rattle.std.specs.Prelude.{◌≡◌, ◌<◌, ◌≤◌, ◌++◌, min, length, drop, take, Ok, Some};
+ghost use Rattle.std.specs.Prelude.{OnOk, IfErr};
+ghost use Rattle.std.specs.Io.{ReadsAtMost};
+ghost use Rattle.std.specs.Io.KnownBytes.{Consumes, ReadConsumes};
+ghost use Rattle.std.specs.IoError.{error_kind};
+ghost use Rattle.arc_block.specs.Place.{moved};
+
+use super::super::{SmallArcSlice, SmallSlice};
+use arc_block::layout::Layout;
+use arc_buffer::buffer::Buffer;
+use arc_buffer::kinds::Plain;
+use arc_owners::mark::Mark;
+use std::alloc::Allocator;
+use std::io;
+use std::io::ErrorKind;
+
+impl<L: Layout> io::Read for SmallSlice<Plain<u8>, L> {
+    ghost remaining = { λ w. Some w.items };
+
+    /// Moves the window's first bytes to the front of the buffer, as many as there are or as it
+    /// has places for, and answers how many. Always Ok. It adds nothing.
+    fn read(&mut self, buffer: &mut [u8]) -> io::Result<usize>
+        ensures bound { ReadsAtMost result buffer.new }
+        ensures bytes { ReadConsumes (Some self.old.items) (Some self.new.items) result buffer.new }
+        ensures count { result ≡ Ok (min (length self.old.items) (length buffer.old)) }
+        ensures copied { let n = min (length self.old.items) (length buffer.old) in
+            buffer.new ≡ take n self.old.items ++ drop n buffer.old }
+        ensures window { let n = min (length self.old.items) (length buffer.old) in
+            self.new.items ≡ drop n self.old.items }
+    {
+        let count = self.len().min(buffer.len());
+        buffer[..count].copy_from_slice(&self.as_slice()[..count]);
+        self.advance(count);
+        Ok(count)
+    }
+
+    /// Moves the window's first bytes to the buffer, as many as that has places for. It adds
+    /// nothing.
+    ///
+    /// # Errors
+    /// One of kind `UnexpectedEof` where the window has fewer bytes: all of them went to the front
+    /// of the buffer.
+    fn read_exact(&mut self, buffer: &mut [u8]) -> io::Result<()>
+        ensures bytes { OnOk result
+            (Consumes (Some self.old.items) (Some self.new.items) buffer.new) }
+        ensures ok { OnOk result (length buffer.old ≤ length self.old.items) }
+        ensures short { IfErr result (λ e. (length self.old.items < length buffer.old)
+            × (error_kind e ≡ ErrorKind.UnexpectedEof)) }
+        ensures copied { let n = min (length self.old.items) (length buffer.old) in
+            buffer.new ≡ take n self.old.items ++ drop n buffer.old }
+        ensures window { let n = min (length self.old.items) (length buffer.old) in
+            self.new.items ≡ drop n self.old.items }
+    {
+        let is_short = self.len() < buffer.len();
+        self.read(buffer)?;
+        if is_short {
+            return Err(io::Error::new(ErrorKind::UnexpectedEof, "failed to fill whole buffer"));
+        }
+        Ok(())
+    }
+}
+
+impl<L: Layout, B: Buffer<u8> + Drop, M: Drop, A: Allocator + Copy, H: Mark> io::Read
+    for SmallArcSlice<Plain<u8>, L, B, M, A, H> {
+    ghost remaining = { λ w. Some w.items };
+
+    /// Moves the window's first bytes to the front of the buffer, as many as there are or as it
+    /// has places for, and answers how many. Always Ok. It adds nothing.
+    fn read(&mut self, buffer: &mut [u8]) -> io::Result<usize>
+        ensures bound { ReadsAtMost result buffer.new }
+        ensures bytes { ReadConsumes (Some self.old.items) (Some self.new.items) result buffer.new }
+        ensures count { result ≡ Ok (min (length self.old.items) (length buffer.old)) }
+        ensures copied { let n = min (length self.old.items) (length buffer.old) in
+            buffer.new ≡ take n self.old.items ++ drop n buffer.old }
+        ensures window { let n = min (length self.old.items) (length buffer.old) in
+            self.new ≡ record {
+              items = drop n self.old.items;
+              place = moved n self.old.place;
+              role = self.old.role;
+            } }
+    {
+        let count = self.len().min(buffer.len());
+        buffer[..count].copy_from_slice(&self.as_slice()[..count]);
+        self.advance(count);
+        Ok(count)
+    }
+
+    /// Moves the window's first bytes to the buffer, as many as that has places for. It adds
+    /// nothing.
+    ///
+    /// # Errors
+    /// One of kind `UnexpectedEof` where the window has fewer bytes: all of them went to the front
+    /// of the buffer.
+    fn read_exact(&mut self, buffer: &mut [u8]) -> io::Result<()>
+        ensures bytes { OnOk result
+            (Consumes (Some self.old.items) (Some self.new.items) buffer.new) }
+        ensures ok { OnOk result (length buffer.old ≤ length self.old.items) }
+        ensures short { IfErr result (λ e. (length self.old.items < length buffer.old)
+            × (error_kind e ≡ ErrorKind.UnexpectedEof)) }
+        ensures copied { let n = min (length self.old.items) (length buffer.old) in
+            buffer.new ≡ take n self.old.items ++ drop n buffer.old }
+        ensures window { let n = min (length self.old.items) (length buffer.old) in
+            self.new ≡ record {
+              items = drop n self.old.items;
+              place = moved n self.old.place;
+              role = self.old.role;
+            } }
+    {
+        let is_short = self.len() < buffer.len();
+        self.read(buffer)?;
+        if is_short {
+            return Err(io::Error::new(ErrorKind::UnexpectedEof, "failed to fill whole buffer"));
+        }
+        Ok(())
+    }
+}
