@@ -21,7 +21,7 @@ use Rattle.arc_block.specs.Place.{Place, nowhere, static_data, on_block, at_owne
 use Rattle.arc_block.specs.Steps.{Shares}
 use Rattle.arc_block.specs.Table.{RowOf, sole_writer, one_writer_of_several}
 use Rattle.arc_block.specs.Window.{PartsView}
-use Rattle.arc_block.specs.Writers.{capacity_of, with_capacity, after_advance, with_more}
+use Rattle.arc_block.specs.Writers.{capacity_of, with_capacity, after_advance}
 use Rattle.arc_block.specs.Writers.{MakesRoom, Reclaims}
 
 -- where one of several writers stands: on nothing, or on a block that counts its owners and has its
@@ -53,6 +53,11 @@ module _ {N T M : Type 0} where
     role = with_capacity w.role (capacity_of w.role + capacity_of other.role);
   }
 
+  -- These items behind the others. No block on which one of several writers stands counts its full
+  -- places.
+  abbrev pub extended : List T → RowOf N T M → RowOf N T M
+  extended items w = record w { items = w.items ++ items }
+
 -- Whether so many places from here on end where the other window begins, if it is one block on
 -- which both stand; or both stand on nothing.
 abbrev pub ends_at : {N M : Type 0} → ℕ → Place N M → Place N M → Bool
@@ -72,7 +77,7 @@ IsOneBlock here there =
 
 -- So many places of a writer can be split off: no more than he has, and where that cuts the items,
 -- they may be cut there.
-pub record IsSplit {T : Type 0} (boundary : List T → ℕ → Bool) (items : List T)
+pub record CanSplit {T : Type 0} (boundary : List T → ℕ → Bool) (items : List T)
     (capacity at : ℕ) : Type 0 where
   pub within : at ≤ capacity
   pub edge : at < length items → IsEdge boundary items at
@@ -235,7 +240,7 @@ module _ {T M H : Type 0} where
       (old new : PartsView T M) (before after : Pass H) : Type 0 where
     pub between : PartsView T M
     pub makes : MakesSharedRoom asks one_pass room old between before after (Ok tt)
-    pub pushed : new ≡ with_more xs between
+    pub pushed : new ≡ extended xs between
 
   -- the same where the count is asked first, or isn't
   abbrev pub ReclaimsShared : (asks : Bool) → Room → (old new : PartsView T M)

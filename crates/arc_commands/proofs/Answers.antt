@@ -9,7 +9,7 @@ use Rattle.std.specs.Prelude.{◌≤◌}
 use Rattle.std.specs.Prelude.{nat_lt, is_some, ◌-◌, ◌+◌, ◌||◌, max, replicate}
 use Rattle.std.proofs.Common.{arith}
 use Rattle.std.proofs.lemmas.List.{length-replicate}
-use Rattle.std.proofs.lemmas.Bool.{false≢true, and_parts, eqb-true, ltb-true}
+use Rattle.std.proofs.lemmas.Bool.{cases_Bool, false≢true, and_parts, eqb-true, ltb-true}
 use Rattle.std.specs.Option.{option_map, option_map_or}
 use Rattle.arc_owners.specs.declared.error.RangeError.{RangeError}
 use Rattle.arc_owners.specs.declared.error.OwnerError.TheVariants.{AllocError, CountFull}
@@ -35,7 +35,8 @@ use Rattle.arc_commands.proofs.FitsRoom.{IsMade, room-fits, room-alone-fits, roo
 use Rattle.arc_commands.proofs.FitsRoom.{own-fits}
 use Rattle.arc_commands.specs.Blocks.{is_sole, is_writer}
 use Rattle.arc_commands.specs.Fits.{RowFits}
-use Rattle.arc_commands.proofs.Roles.{reads-sole}
+use Rattle.arc_commands.proofs.Roles.{writes-several}
+use Rattle.arc_commands.proofs.KeepsParts.{freeze-part}
 use Rattle.arc_commands.proofs.KeepsParts.{advance-part, truncate-part, part-part, cut-part}
 use Rattle.arc_commands.proofs.KeepsParts.{off-part, to-part}
 use Rattle.arc_commands.proofs.Fits.{in-edge, in-range, advance-fits, truncate-fits, founded-fits}
@@ -86,6 +87,15 @@ writers-only c none several small (one_writer_of_several places) is =
     absurd (false≢true (sym (several places) ∙ is))
 writers-only c none several small inline is = absurd (false≢true (sym small ∙ is))
 writers-only c none several small forgotten is = absurd (false≢true is)
+
+-- a command that is for writers alone
+any-writer : {T M : Type 0} (c : ListCmd T M) → is_for c reader ≡ false
+    → is_for c inline ≡ false → (role : Role) → is_for c role ≡ true → is_writer role ≡ true
+any-writer c none small reader is = absurd (false≢true (sym none ∙ is))
+any-writer c none small (sole_writer places) is = refl
+any-writer c none small (one_writer_of_several places) is = refl
+any-writer c none small inline is = absurd (false≢true (sym small ∙ is))
+any-writer c none small forgotten is = absurd (false≢true is)
 
 -- a command that writes
 pub data Writes {T M : Type 0} : ListCmd T M → Type 0 where
@@ -145,6 +155,10 @@ module _ {T M : Type 0} (setting : Setting T) (short : Shortage) (around : Aroun
       → ((places : ℕ) → is_for c (one_writer_of_several places) ≡ false)
       → is_for c inline ≡ false → IsFor c → is_sole row.role ≡ true
   writes-only c none several small is = writers-only c none several small row.role is
+
+  writes-any : (c : Command) → is_for c reader ≡ false → is_for c inline ≡ false → IsFor c
+      → is_writer row.role ≡ true
+  writes-any c none small is = any-writer c none small row.role is
 
   either-is : (b : Bool) (one other : Outcome) → (b ≡ true → Holds one) → Holds other
       → Holds (if b then one else other)
@@ -365,19 +379,24 @@ module _ {T M : Type 0} (setting : Setting T) (short : Shortage) (around : Aroun
       reclaimed_each from.Behind is = has-room from.Behind is tt
       reclaimed_each from.Front is = has-room from.Front is tt
 
-    -- the row is read from now on
-    moved_each : shortage reply.Refused this ≡ of_blocks → MayTellMore this → (move : Move)
-        → Holds (after_move setting short around row move)
-    moved_each told more to.Stays =
+  -- the row of a writer is read from now on
+  moved_each : is_writer row.role ≡ true → shortage reply.Refused this ≡ of_blocks
+      → MayTellMore this → (move : Move) → Holds (after_move setting short around row move)
+  moved_each writes told more to.Stays = elim (cases_Bool (is_sole row.role)) [
+    | inl sole ↦
         refits (as_reader row) reply.Ok (inl refl) sole refl
         (λ f. reads-fit setting.drops (as_reader row) refl f.within)
-    moved_each told more to.HandedBack = same reply.Refused (inr (inr more))
-    moved_each told more to.NewCount = same reply.Refused (inr (inr more))
-    moved_each told more to.LeavesCount = same reply.Refused (inr (inr more))
-    moved_each told more to.NewEmpty =
-        asking_block_each short refl reply.Refused told _
-        (begins row.items reader false (native_facts setting.drops (length row.items))
-        (founded-fits setting.drops around.blocks row.items false (λ none. absurd (false≢true none))))
+    | inr shares ↦
+        becomes (as_reader row) (stays-same row.place, sym shares)
+        (freeze-part setting.drops row (writes-several row.role writes shares))
+  ]
+  moved_each writes told more to.HandedBack = same reply.Refused (inr (inr more))
+  moved_each writes told more to.NewCount = same reply.Refused (inr (inr more))
+  moved_each writes told more to.LeavesCount = same reply.Refused (inr (inr more))
+  moved_each writes told more to.NewEmpty =
+      asking_block_each short refl reply.Refused told _
+      (begins row.items reader false (native_facts setting.drops (length row.items))
+      (founded-fits setting.drops around.blocks row.items false (λ none. absurd (false≢true none))))
 
   taken_each : (wanted : Bool) (answer : ListReply T M) → MayTell short this reply.Refused
       → MayTell short this answer → Holds (taken_as wanted around row answer)
@@ -443,7 +462,7 @@ module _ {T M : Type 0} (setting : Setting T) (short : Shortage) (around : Aroun
       reclaimed_each (writes-only (Rec i k) refl (λ places. refl) refl is) k
       (sym (ap (λ d. shortage reply.No d) e)) (room_of setting row k) refl
   row_each (Freeze i) e is =
-      moved_each (writes-only (Freeze i) refl (λ places. refl) refl is)
+      moved_each (writes-any (Freeze i) refl refl is)
       (sym (ap (λ d. shortage reply.Refused d) e)) (inl (i, inr (sym e)))
       (layout_move setting.layout row.place)
   row_each (Adv i by) e is =

@@ -9,12 +9,12 @@ use Rattle.arc_buffer.proofs.Sub.{length-sub}
 use Rattle.arc_block.specs.Place.{Place, nowhere, static_data, on_block, moved}
 use Rattle.arc_block.specs.Table.{Row, Role, reader, sole_writer, one_writer_of_several}
 use Rattle.arc_block.specs.Table.{inline, forgotten}
-use Rattle.arc_block.specs.Writers.{capacity_of, with_capacity, after_advance}
+use Rattle.arc_block.specs.Writers.{capacity_of, with_capacity, after_advance, as_reader}
 use Rattle.arc_commands.specs.Apart.{Covers, CoversAt, role_places}
 use Rattle.arc_commands.specs.Blocks.{is_several, is_sole, is_writer}
 use Rattle.arc_commands.specs.Fits.{RowFits}
 use Rattle.arc_commands.specs.Step.{Setting, part_of, cut_row, off_part, to_part, truncated}
-use Rattle.arc_commands.proofs.Fits.{advance-fits, truncate-fits, part-fits, cut-fits}
+use Rattle.arc_commands.proofs.Fits.{advance-fits, reads-fit, truncate-fits, part-fits, cut-fits}
 use Rattle.arc_commands.proofs.Parts.{KeepsPart, writes-with}
 
 -- ---- places
@@ -116,6 +116,26 @@ truncate-part false row n less = record {
       (role_places row.role (length row.items)) m
       (fewer row.role (length (take n row.items)) (length row.items) (omega (arith, long, less)))
       covers;
+}
+
+-- one writer of several has a place for each item at least
+enough : (role : Role) (len : ℕ) → is_several role ≡ true → len ≤ capacity_of role
+    → len ≤ role_places role len
+enough reader len several room = absurd (false≢true several)
+enough (sole_writer places) len several room = absurd (false≢true several)
+enough (one_writer_of_several places) len several room = room
+enough inline len several room = absurd (false≢true several)
+enough forgotten len several room = absurd (false≢true several)
+
+-- as a reader one of several has the places of his items
+pub freeze-part : {T M : Type 0} (drops : Bool) (row : Row T M) → is_several row.role ≡ true
+    → KeepsPart drops row (as_reader row)
+freeze-part drops row several = record {
+  fits = λ f. reads-fit drops (as_reader row) refl f.within;
+  writes = λ writes. absurd (false≢true writes);
+  places = λ sole f n covers.
+      covers-less row.place (length row.items) (role_places row.role (length row.items)) n
+      (enough row.role (length row.items) several (f.shared several).room) covers;
 }
 
 -- ---- parts of a row that is read

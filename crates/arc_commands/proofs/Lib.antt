@@ -9,4 +9,5 @@ pub mod Fits
 pub mod FitsRoom
 pub mod FitsStep
 pub mod Apart
+pub mod Several
 pub mod Windows

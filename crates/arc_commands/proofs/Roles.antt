@@ -36,3 +36,12 @@ sole-several (sole_writer places) sole = refl
 sole-several (one_writer_of_several places) sole = absurd (false≢true sole)
 sole-several inline sole = refl
 sole-several forgotten sole = refl
+
+-- a writer who isn't the only one is one of several
+pub writes-several : (role : Role) → is_writer role ≡ true → is_sole role ≡ false
+    → is_several role ≡ true
+writes-several reader writes shares = absurd (false≢true writes)
+writes-several (sole_writer places) writes shares = absurd (false≢true (sym shares))
+writes-several (one_writer_of_several places) writes shares = refl
+writes-several inline writes shares = absurd (false≢true writes)
+writes-several forgotten writes shares = absurd (false≢true writes)

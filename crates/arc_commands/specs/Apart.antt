@@ -1,5 +1,5 @@
 -- The places that rows have in their blocks: a writer's are no other row's.
-use Rattle.std.specs.Prelude.{◌≡◌, ℕ, ◌+◌, ◌≤◌, ◌<◌, Bool, true, length, Option, Some}
+use Rattle.std.specs.Prelude.{◌≡◌, ℕ, ◌+◌, ◌≤◌, ◌<◌, ◌↔◌, ◌⊎◌, Bool, true, length, Option, Some}
 use Rattle.arc_block.specs.Place.{Place, nowhere, static_data, on_block}
 use Rattle.arc_block.specs.Table.{Row, Table, Role, StandsOn, row_at}
 use Rattle.arc_block.specs.Table.{reader, sole_writer, one_writer_of_several, inline, forgotten}
@@ -36,6 +36,11 @@ module _ {T M : Type 0} where
   -- two rows on one block have no place in common
   abbrev pub ShareNone : Row T M → Row T M → Type 0
   ShareNone one other = (n : ℕ) → Covers one n → Covers other n → ⊥
+
+  -- the places of a row are those of two, which have none in common
+  pub record IsParted (whole one other : Row T M) : Type 0 where
+    pub apart : ShareNone one other
+    pub all : (n : ℕ) → Covers whole n ↔ (Covers one n ⊎ Covers other n)
 
   -- a row ends within its block
   abbrev pub EndsWithin : Row T M → Type 0

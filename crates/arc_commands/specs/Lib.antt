@@ -6,4 +6,5 @@ pub mod Blocks
 pub mod Fits
 pub mod Apart
 pub mod Additions
+pub mod Several
 pub mod State

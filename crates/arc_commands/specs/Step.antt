@@ -114,6 +114,7 @@ is_for (Meta i) (sole_writer capacity) = true
 is_for (Meta i) (one_writer_of_several capacity) = true
 is_for (Take i) reader = true
 is_for (Take i) (sole_writer capacity) = true
+is_for (Take i) (one_writer_of_several capacity) = true
 is_for (TakeBox i) reader = true
 is_for (TakeBuf i) reader = true
 is_for (TakeBuf i) (sole_writer capacity) = true
@@ -132,6 +133,7 @@ is_for (Push i item) (sole_writer capacity) = true
 is_for (Ext i items) (sole_writer capacity) = true
 is_for (Rec i additional) (sole_writer capacity) = true
 is_for (Freeze i) (sole_writer capacity) = true
+is_for (Freeze i) (one_writer_of_several capacity) = true
 is_for (Drop i) role = true
 is_for command role = false
 
@@ -509,9 +511,8 @@ in_range (Ok done) row change = change
 in_range (Err e) row change = is_now (reply.Range e) row
 
 -- What comes of a command on a row for which it is, where memory was refused so: after the test of
--- the range, what it asks for, and then what it does. It is right of rows that are read or of a
--- sole writer: no command makes others yet. Of one writer of several a split would keep a capacity
--- that isn't the part's.
+-- the range, what it asks for, and then what it does. No command makes a row of one writer of several
+-- yet; of that row splits and what is written are answered `Kind` (`is_for`).
 abbrev pub answer_row : {T M : Type 0} → Setting T → Shortage → Around → ListCmd T M
     → Row T M → Change T M
 answer_row setting short around (Clone i) row = parted setting short around row row row row

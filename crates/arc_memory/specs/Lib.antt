@@ -1,4 +1,5 @@
 pub mod Memory
+pub mod LendsPlaces
 pub mod LentMemory
 pub mod Allocations
 pub mod Headers
@@ -7,3 +8,5 @@ pub mod HeaderPlaces
 pub mod WriterPlaces
 pub mod LeaseNotes
 pub mod WriterParts
+pub mod LentRanges
+pub mod SharedWriters

@@ -1,5 +1,5 @@
 //! The memory of a native block while its only owner writes.
-ghost use Rattle.std.specs.Prelude.{◌≡◌, ◌+◌, ◌<◌, ◌≤◌, ◌∷◌, [], ◌++◌, length, take};
+ghost use Rattle.std.specs.Prelude.{◌≡◌, ◌+◌, ◌<◌, ◌≤◌, ◌∷◌, [], ◌++◌, length, take, drop};
 ghost use Rattle.std.specs.Prelude.{IfOk, IsOk, OnOk, OnErr};
 
 use crate::allocation::Allocation;
@@ -21,6 +21,9 @@ pub struct WriterMemory<T: Drop, A: Allocator> {
 }
 
 impl<T: Drop, A: Allocator> WriterMemory<T, A> {
+    ghost use Rattle.std.specs.Borrow.{sem};
+    ghost use Rattle.arc_memory.specs.LendsPlaces.{LendsMemory};
+
     /// New memory with this number of places, which are empty. For none nothing is asked of the
     /// allocator.
     ///
@@ -89,6 +92,25 @@ impl<T: Drop, A: Allocator> WriterMemory<T, A> {
         self.places.truncate(len);
     }
 
+    /// The items, to be changed in their places: what is written there they are afterwards.
+    #[inline(always)]
+    pub fn as_mut_slice(&mut self) -> &mut [T]
+        ensures* writes_back { sem 𝓛 (LendsMemory T.row A.row A.Allocator self.entry result) }
+        ensures value { result.now ≡ self.old.places.vec.items }
+    {
+        self.places.as_mut_slice()
+    }
+
+    /// Moves the items from `start` on to the first places. Those before them are forgotten: it is
+    /// for items that need no drop.
+    pub fn to_front(&mut self, start: usize)
+        requires { start ≤ length self.old.places.vec.items }
+        ensures items { self.new.places.vec.items ≡ drop start self.old.places.vec.items }
+        ensures memory { self.new.allocation ≡ self.old.allocation }
+    {
+        self.places.to_front(start);
+    }
+
     /// Makes it memory of so many places, with the same items in the first of them.
     ///
     /// # Errors
@@ -136,6 +158,30 @@ impl<T: Drop, A: Allocator> WriterMemory<T, A> {
 }
 
 impl<T: Copy + Drop, A: Allocator> WriterMemory<T, A> {
+    /// A copy of these items, in new memory with a place for each. For none nothing is asked of the
+    /// allocator.
+    ///
+    /// # Errors
+    ///
+    /// `AllocError` as `new`.
+    ///
+    /// # Allocates
+    ///
+    /// Once, except for no items.
+    pub fn from_slice(alloc: A, items: &[T]) -> Result<Self, AllocError>
+        ensures made { IfOk result (λ m. (m.places.vec.items ≡ items.now)
+            × (m.allocation.count ≡ length items.now)) }
+        ensures none { items.now ≡ [] → IsOk result }
+    {
+        match Self::new(alloc, items.len()) {
+            Ok(mut memory) => {
+                memory.extend_from_slice(items);
+                Ok(memory)
+            }
+            Err(e) => Err(e),
+        }
+    }
+
     /// A copy of these items, behind the others, where there are places for them.
     #[inline(always)]
     pub fn extend_from_slice(&mut self, items: &[T])

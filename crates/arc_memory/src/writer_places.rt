@@ -23,7 +23,9 @@ pub struct WriterPlaces<T> {
 }
 
 impl<T> WriterPlaces<T> {
+    ghost use Rattle.std.specs.Borrow.{sem};
     ghost use Rattle.arc_memory.specs.WriterPlaces.{HasPlaces, SamePlaces};
+    ghost use Rattle.arc_memory.specs.LendsPlaces.{LendsPlaces};
 
     /// These places, for a writer.
     ///
@@ -73,12 +75,29 @@ impl<T> WriterPlaces<T> {
         self.vec.as_slice()
     }
 
+    /// The items, to be changed in their places: what is written there they are afterwards.
+    #[inline(always)]
+    pub fn as_mut_slice(&mut self) -> &mut [T]
+        ensures* writes_back { sem 𝓛 (LendsPlaces T.row self.entry result) }
+        ensures value { result.now ≡ self.old.vec.items }
+    {
+        self.vec.as_mut_slice()
+    }
+
     /// Where the allocation begins.
     #[inline(always)]
     pub fn base(&self) -> *const T
         ensures { result ≡ self.now.under.base }
     {
         self.base.at
+    }
+
+    /// The number of the first place in the allocation.
+    #[inline(always)]
+    pub fn start(&self) -> usize
+        ensures { result ≡ self.now.under.start }
+    {
+        self.start
     }
 
     /// How many items there are.
@@ -107,8 +126,8 @@ impl<T> WriterPlaces<T> {
         self.vec.push_reserved(item);
     }
 
-    /// Moves all items of another writer's places behind those that are here, where there are places
-    /// for them.
+    /// Moves all items of another writer's places behind those that are here, where there are
+    /// places for them.
     pub fn take_items(&mut self, other: &mut WriterPlaces<T>)
         requires { length self.old.vec.items + length other.old.vec.items
             ≤ self.old.under.count }
@@ -131,6 +150,18 @@ impl<T> WriterPlaces<T> {
         if len < self.len() {
             replace_with(self, len, Self::cut_to);
         }
+    }
+
+    /// Moves the items from `start` on to the first places. Those before them are forgotten: it is
+    /// for items that need no drop.
+    pub fn to_front(&mut self, start: usize)
+        requires { start ≤ length self.old.vec.items }
+        ensures items { self.new.vec.items ≡ drop start self.old.vec.items }
+        ensures places { SamePlaces self.old self.new }
+    {
+        let rest = self.len() - start;
+        self.as_mut_slice().rotate_left(start);
+        self.truncate(rest);
     }
 
     /// The first `len` items, in the same places.

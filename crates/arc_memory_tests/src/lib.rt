@@ -19,6 +19,8 @@ mod page;
 #[cfg(test)]
 mod places;
 #[cfg(test)]
+mod several_writers;
+#[cfg(test)]
 mod static_slices;
 #[cfg(test)]
 mod writer_places;

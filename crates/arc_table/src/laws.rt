@@ -1,8 +1,10 @@
 //! Laws of the table of lists.
-ghost use Rattle.std.specs.Prelude.{Bool, List};
-ghost use Rattle.arc_block.specs.Table.{Table, empty_table};
-ghost use Rattle.arc_commands.specs.Apart.{IsLawful};
-ghost use Rattle.arc_commands.specs.Blocks.{RowsAgree};
+ghost use Rattle.std.specs.Prelude.{◌≡◌, ◌≤◌, ℕ, true, Bool, List};
+ghost use Rattle.arc_block.specs.Shared.{can_join, front_of, joined_row};
+ghost use Rattle.arc_block.specs.Table.{Row, Table, empty_table};
+ghost use Rattle.arc_block.specs.Writers.{after_advance, capacity_of};
+ghost use Rattle.arc_commands.specs.Apart.{IsLawful, IsParted};
+ghost use Rattle.arc_commands.specs.Blocks.{RowsAgree, is_several};
 ghost use Rattle.arc_commands.specs.Fits.{RowsFit};
 ghost use Rattle.arc_commands.specs.RunOf.{RunOf};
 ghost use Rattle.arc_commands.specs.State.{CarriesOut, State};
@@ -68,4 +70,15 @@ pub fn writers_apart<T, M>()
         (commands : List (ListCmd T M)) (replies : List (ListReply T M))
         (new : State T M) → RunOf (CarriesOut setting) old commands replies new
         → IsLawful setting.drops old.table → IsLawful setting.drops new.table }
+{}
+
+/// The two parts at which the places of one writer of several are split share none and together are
+/// all of them, also past his items; and two writers' places that are joined are those of both, of
+/// which none was both's. Does nothing: its contract is the law, for items and metadata of any type.
+pub fn parts_apart<T, M>()
+    ensures split { (row : Row T M) (at : ℕ) → is_several row.role ≡ true
+        → at ≤ capacity_of row.role → IsParted row (front_of at row) (after_advance at row) }
+    ensures joined { (row other : Row T M) → is_several row.role ≡ true
+        → is_several other.role ≡ true → can_join row other ≡ true
+        → IsParted (joined_row row other) row other }
 {}

@@ -1,0 +1,33 @@
+-- What a writer's places hold, where their items are lent to be changed.
+use Rattle.std.specs.Prelude.{List}
+use Rattle.std.specs.Vec.{with_items}
+use Rattle.std.specs.Borrow.{Lends, Fml, RattleType, MutBor, Array}
+use Rattle.arc_memory.specs.declared.writer_places.WriterPlaces.{WriterPlaces}
+use Rattle.arc_memory.specs.contracts.writer_places.WriterPlaces.{the_row}
+use Rattle.std.specs.declared.alloc.Allocator.{Ghosts}
+use Rattle.arc_memory.specs.declared.writer_memory.WriterMemory.{WriterMemory}
+use Rattle.arc_memory.specs.contracts.writer_memory.WriterMemory.{the_row as memory_row}
+
+-- the places with these items written over those that lie there
+abbrev pub with_written : {T : Type 0} → WriterPlaces T → List T → WriterPlaces T
+with_written w ws = record w { vec = with_items w.vec ws; lies = w.lies; begins = w.begins }
+
+-- once the borrow r ends, the items are those that r shows last
+abbrev pub LendsPlaces : (T : RattleType) → MutBor (WriterPlaces T.Denot) → MutBor (List T.Denot)
+    → Fml
+LendsPlaces T places r = Lends (the_row T) (Array T 0) places r (with_written places.now)
+
+-- the same of a writer's memory
+abbrev pub with_all_written : {T A : Type 0} → WriterMemory T A → List T → WriterMemory T A
+with_all_written m ws = record {
+  places = with_written m.places ws;
+  allocation = m.allocation;
+  base = m.base;
+  all = m.all;
+  kept = m.kept;
+}
+
+abbrev pub LendsMemory : (T A : RattleType) → Ghosts A.Denot → MutBor (WriterMemory T.Denot A.Denot)
+    → MutBor (List T.Denot) → Fml
+LendsMemory T A a memory r =
+    Lends (memory_row T A a) (Array T 0) memory r (with_all_written memory.now)

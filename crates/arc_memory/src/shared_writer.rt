@@ -1,0 +1,254 @@
+//! One of several writers on a block, as it is between its steps on the count: with its places.
+ghost use Rattle.std.specs.Prelude.{◌≡◌, ◌+◌, ◌-◌, ◌≤◌, ◌⊎◌, [], ◌++◌, Bool, length, take, drop};
+ghost use Rattle.std.specs.Prelude.{IfOk, IfErr, IfSome, is_ok, is_some};
+
+use crate::frozen_reader::FrozenReader;
+use crate::lent_places::LentPlaces;
+use crate::open_writer::OpenWriter;
+use crate::writer_part::WriterPart;
+use crate::writer_places::WriterPlaces;
+use arc_owners::error::CountFull;
+use arc_owners::lifetime::EndedLifetime;
+use arc_owners::mark::Mark;
+use arc_owners::owners::{Pass, SoleBox};
+use std::alloc::Allocator;
+use std::sync::Wait;
+
+/// An owner of a block, with the places of its part, in which a vector lodges: it reads and edits
+/// the items by `places`, as a vector's. For a step on the count it is closed and opened again,
+/// which is no instruction. Neither copied nor dropped.
+pub struct SharedWriter<T, V: Drop, A: Allocator + Copy, const MAX: u64, H: Mark> {
+    pub rest: OpenWriter<T, V, A, MAX, H>,
+    pub places: WriterPlaces<T>,
+    ghost there: { (places.under.base ≡ rest.out.memory.base)
+        × (places.under.whole ≡ rest.out.memory.whole) },
+    ghost range: { (places.under.start ≡ rest.out.start)
+        × (places.under.count ≡ rest.out.count) },
+}
+
+impl<T, V: Drop, A: Allocator + Copy, const MAX: u64, H: Mark> SharedWriter<T, V, A, MAX, H> {
+    ghost use Rattle.arc_owners.specs.count.Calls.{IsPassFor, Asks, MakesAnother, FindsFull};
+    ghost use Rattle.arc_owners.specs.count.Calls.{Leaves};
+    ghost use Rattle.arc_owners.specs.memory.Boxes.{owner_in, value_of};
+    ghost use Rattle.arc_owners.specs.memory.SoleBoxes.{sole_in, sole_value};
+    ghost use Rattle.arc_memory.specs.LentRanges.{part_range, front_range, back_range};
+    ghost use Rattle.arc_memory.specs.LentRanges.{longer_range};
+    ghost use Rattle.arc_memory.specs.SharedWriters.{writer_owner, writer_value, writer_range};
+    ghost use Rattle.arc_memory.specs.SharedWriters.{writer_items, IsSameWriter, HasRange};
+
+    /// The writer of a part.
+    ///
+    /// # Safety
+    ///
+    /// The allocation begins at `base`, and the others are the part's range and its number of
+    /// items.
+    #[inline(always)]
+    pub unsafe fn of(
+        part: WriterPart<T, V, A, MAX, H>,
+        base: *const T,
+        start: usize,
+        len: usize,
+        capacity: usize,
+    ) -> Self
+        requires place { (base ≡ part.part.memory.base) × (start ≡ part.part.start) }
+        requires sizes { (len ≡ length part.part.items) × (capacity ≡ part.part.count) }
+        ensures owner { (writer_owner result ≡ owner_in part.owner)
+            × (writer_value result ≡ value_of part.owner) }
+        ensures range { writer_range result ≡ part_range part.part }
+        ensures items { writer_items result ≡ part.part.items }
+    {
+        let (rest, places) = part.open();
+        SharedWriter {
+            rest,
+            places: unsafe { WriterPlaces::of(places, base, start, len, capacity) },
+        }
+    }
+
+    /// The owner with its part.
+    #[inline(always)]
+    pub fn into_part(self) -> WriterPart<T, V, A, MAX, H>
+        ensures owner { (owner_in result.owner ≡ writer_owner self)
+            × (value_of result.owner ≡ writer_value self) }
+        ensures range { part_range result.part ≡ writer_range self }
+        ensures items { result.part.items ≡ writer_items self }
+    {
+        let SharedWriter { rest, places } = self;
+        rest.close(places.into_places())
+    }
+
+    /// This writer of the first `at` places, and another one of those behind them, with the items
+    /// that lie there: one owner more of the same block. Takes no memory.
+    ///
+    /// # Errors
+    ///
+    /// `CountFull` exactly where `MAX` owners live; the writer is handed back.
+    ///
+    /// # History
+    ///
+    /// Up, or Full where refused.
+    pub fn try_split_off_as(
+        self,
+        rt: &impl Wait,
+        at: usize,
+        pass: &mut Pass<H>,
+    ) -> Result<(Self, Self), (Self, CountFull)>
+        requires pass { IsPassFor (writer_owner self) pass.old }
+        requires at { at ≤ (writer_range self).count }
+        ensures made { IfOk result (λ r. MakesAnother (writer_owner self) pass.old pass.new
+            (writer_owner r.1) × (writer_value r.1 ≡ writer_value self)) }
+        ensures stays { IfOk result (λ r. IsSameWriter self r.0) }
+        ensures front { IfOk result (λ r. HasRange r.0 (front_range at (writer_range self))
+            (take at (writer_items self))) }
+        ensures back { IfOk result (λ r. HasRange r.1 (back_range at (writer_range self))
+            (drop at (writer_items self))) }
+        ensures full { IfErr result (λ _. FindsFull (writer_owner self) pass.old pass.new) }
+        ensures kept { IfErr result (λ r. IsSameWriter self r.0
+            × HasRange r.0 (writer_range self) (writer_items self)) }
+    {
+        let (base, start) = (self.places.base(), self.places.start());
+        let (len, capacity) = (self.places.len(), self.places.capacity());
+        let (first, others) = cut_lengths(self.places.as_slice(), at);
+        match self.into_part().try_split_off_as(rt, at, pass) {
+            Ok((front, back)) => {
+                let front = unsafe { Self::of(front, base, start, first, at) };
+                let back = unsafe { Self::of(back, base, start + at, others, capacity - at) };
+                Ok((front, back))
+            }
+            Err((part, e)) => Err((unsafe { Self::of(part, base, start, len, capacity) }, e)),
+        }
+    }
+
+    /// This writer of the places behind the first `at`, and another one of these, with the items
+    /// that lie there: one owner more of the same block. Takes no memory.
+    ///
+    /// # Errors
+    ///
+    /// `CountFull` exactly where `MAX` owners live; the writer is handed back.
+    ///
+    /// # History
+    ///
+    /// Up, or Full where refused.
+    pub fn try_split_to_as(
+        self,
+        rt: &impl Wait,
+        at: usize,
+        pass: &mut Pass<H>,
+    ) -> Result<(Self, Self), (Self, CountFull)>
+        requires pass { IsPassFor (writer_owner self) pass.old }
+        requires at { at ≤ (writer_range self).count }
+        ensures made { IfOk result (λ r. MakesAnother (writer_owner self) pass.old pass.new
+            (writer_owner r.1) × (writer_value r.1 ≡ writer_value self)) }
+        ensures stays { IfOk result (λ r. IsSameWriter self r.0) }
+        ensures back { IfOk result (λ r. HasRange r.0 (back_range at (writer_range self))
+            (drop at (writer_items self))) }
+        ensures front { IfOk result (λ r. HasRange r.1 (front_range at (writer_range self))
+            (take at (writer_items self))) }
+        ensures full { IfErr result (λ _. FindsFull (writer_owner self) pass.old pass.new) }
+        ensures kept { IfErr result (λ r. IsSameWriter self r.0
+            × HasRange r.0 (writer_range self) (writer_items self)) }
+    {
+        let (base, start) = (self.places.base(), self.places.start());
+        let (len, capacity) = (self.places.len(), self.places.capacity());
+        let (first, others) = cut_lengths(self.places.as_slice(), at);
+        match self.into_part().try_split_to_as(rt, at, pass) {
+            Ok((back, front)) => {
+                let back = unsafe { Self::of(back, base, start + at, others, capacity - at) };
+                let front = unsafe { Self::of(front, base, start, first, at) };
+                Ok((back, front))
+            }
+            Err((part, e)) => Err((unsafe { Self::of(part, base, start, len, capacity) }, e)),
+        }
+    }
+
+    /// The places of both as this writer's: the other's begin where these end, and both are owners
+    /// of one block, so it is one memory. These are full, or the others hold nothing. The other
+    /// owner ends. Takes no memory.
+    ///
+    /// # History
+    ///
+    /// Down of the other owner.
+    pub fn unsplit_as(self, other: Self, pass: &mut Pass<H>) -> Self
+        requires pass { IsPassFor (writer_owner other) pass.old }
+        requires block { (writer_owner other).block ≡ (writer_owner self).block }
+        requires next { (writer_range other).start
+            ≡ (writer_range self).start + (writer_range self).count }
+        requires full { (length (writer_items self) ≡ (writer_range self).count)
+            ⊎ (writer_items other ≡ []) }
+        ensures owner { IsSameWriter self result }
+        ensures entry { (last : Bool) × Leaves (writer_owner other) pass.old pass.new last }
+        ensures joined { HasRange result
+            (longer_range (writer_range other).count (writer_range self))
+            (writer_items self ++ writer_items other) }
+    {
+        let (base, start) = (self.places.base(), self.places.start());
+        let len = self.places.len() + other.places.len();
+        let capacity = self.places.capacity() + other.places.capacity();
+        let part = self.into_part().join_as(other.into_part(), pass);
+        unsafe { Self::of(part, base, start, len, capacity) }
+    }
+
+    /// The only owner, where no other owner lives: with the value come the part and that the
+    /// lifetime has ended, for which all places come back. Else it is handed back. Takes no memory.
+    ///
+    /// # History
+    ///
+    /// Alone with the answer.
+    pub fn try_into_sole_as(
+        self,
+        pass: &mut Pass<H>,
+    ) -> Result<(SoleBox<V, A, MAX, H>, EndedLifetime, LentPlaces<T>), Self>
+        requires pass { IsPassFor (writer_owner self) pass.old }
+        ensures entry { Asks (writer_owner self) pass.old pass.new (is_ok result) }
+        ensures sole { IfOk result (λ r. (sole_in r.0 ≡ writer_owner self)
+            × (sole_value r.0 ≡ writer_value self)) }
+        ensures ended { IfOk result (λ r. r.1.lifetime ≡ (writer_range self).memory.lifetime) }
+        ensures part { IfOk result (λ r. (part_range r.2 ≡ writer_range self)
+            × (r.2.items ≡ writer_items self)) }
+        ensures back { IfErr result (λ w. IsSameWriter self w
+            × HasRange w (writer_range self) (writer_items self)) }
+    {
+        let (base, start) = (self.places.base(), self.places.start());
+        let (len, capacity) = (self.places.len(), self.places.capacity());
+        match self.into_part().try_into_sole_as(pass) {
+            Ok(alone) => Ok(alone),
+            Err(part) => Err(unsafe { Self::of(part, base, start, len, capacity) }),
+        }
+    }
+
+    /// Ends this writer. What lies in its places is forgotten: it is for items that need no drop.
+    /// The last owner gets the value, and that the lifetime has ended, for which all places come
+    /// back. Takes no memory.
+    ///
+    /// # History
+    ///
+    /// Down.
+    pub fn release_as(self, pass: &mut Pass<H>) -> Option<(V, EndedLifetime)>
+        requires pass { IsPassFor (writer_owner self) pass.old }
+        ensures entry { Leaves (writer_owner self) pass.old pass.new (is_some result) }
+        ensures value { IfSome result (λ r. r.0 ≡ writer_value self) }
+        ensures ended { IfSome result (λ r. r.1.lifetime ≡ (writer_range self).memory.lifetime) }
+    {
+        self.into_part().release_as(pass)
+    }
+
+    /// A reader of the items for as long as the block is lent: nobody changes them again. Other
+    /// writers go on. The places behind them are given up. It adds no entry and takes no memory.
+    pub fn freeze(self) -> FrozenReader<T, V, A, MAX, H>
+        ensures owner { (owner_in result.owner ≡ writer_owner self)
+            × (value_of result.owner ≡ writer_value self) }
+        ensures range { (result.range.memory ≡ (writer_range self).memory)
+            × (result.range.start ≡ (writer_range self).start)
+            × (result.range.items ≡ writer_items self) }
+    {
+        let len = self.places.len();
+        self.into_part().freeze(len)
+    }
+}
+
+/// How many items there are before `at`, and from there on.
+fn cut_lengths<T>(items: &[T], at: usize) -> (usize, usize)
+    ensures { (result.0 ≡ length (take at items.now)) × (result.1 ≡ length (drop at items.now)) }
+{
+    let len = items.len();
+    if at < len { (at, len - at) } else { (len, 0) }
+}
