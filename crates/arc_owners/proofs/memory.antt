@@ -2,6 +2,7 @@ pub mod Borrows
 pub mod BoxPlaces
 pub mod Boxes
 pub mod Inheritances
+pub mod HeaderRooms
 pub mod Inners
 pub mod LentSlices
 pub mod ShownSlices

@@ -4,3 +4,4 @@ pub mod Inners
 pub mod LentSlices
 pub mod LentValues
 pub mod SoleBoxes
+pub mod SoleCounts

@@ -4,4 +4,6 @@ pub use crate::count::{
     LifetimeEnd, OwnerToken, Owners, Pass, Release, Share, ShareWithoutLifetime, Sole, WordBorrow,
 };
 pub use crate::history::{Entry, Event, World, is_run, keeps, replay, replay_lone};
-pub use crate::memory::{CountedBox, CountedBoxWithoutLifetime, Shown, Shows, SoleBox};
+pub use crate::memory::{
+    CountedBox, CountedBoxWithoutLifetime, Header, HeaderRoom, Shown, Shows, SoleBox, SoleCount,
+};

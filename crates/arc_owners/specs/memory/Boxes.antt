@@ -1,6 +1,7 @@
 -- A counted box as contracts see it.
 use Rattle.std.specs.Prelude.{ℕ}
 use base.Fml.{Share as Fraction}
+use denote.RawPtr.{Ptr}
 use Rattle.arc_owners.specs.declared.mark.Mark.{Ghosts}
 use Rattle.arc_owners.specs.declared.memory.counted_box.CountedBox.{CountedBox}
 use Rattle.arc_owners.specs.declared.memory.counted_box_without_lifetime.CountedBoxWithoutLifetime
@@ -23,6 +24,10 @@ module _ {V A H : Type 0} {MAX : ℕ} {G : Ghosts H} where
   abbrev pub lifetime_in : CountedBox V A MAX H G → ℕ
   lifetime_in p = p.lodging.lifetime
 
+  -- where its memory begins
+  abbrev pub place_in : CountedBox V A MAX H G → Ptr
+  place_in p = p.memory.at
+
   -- the note of what else is lent for that lifetime
   abbrev pub note_in : CountedBox V A MAX H G → LentNote
   note_in p = p.share.right.lease.note
@@ -40,6 +45,9 @@ module _ {V A H : Type 0} {MAX : ℕ} {G : Ghosts H} where
 
   abbrev pub lifetime_in_rest : rest.CountedBoxWithoutLifetime V A MAX H G → ℕ
   lifetime_in_rest p = p.lodging.lifetime
+
+  abbrev pub place_in_rest : rest.CountedBoxWithoutLifetime V A MAX H G → Ptr
+  place_in_rest p = p.memory.at
 
   abbrev pub note_in_rest : rest.CountedBoxWithoutLifetime V A MAX H G → LentNote
   note_in_rest p = p.share.right.lease.note

@@ -3,6 +3,7 @@ use Rattle.std.specs.Prelude.{ℕ}
 use Rattle.std.specs.Borrow.{Lends, MutBor, Fml}
 use denote.RattleType.{RattleType}
 use denote.Param.{value_of}
+use denote.RawPtr.{Ptr}
 use Rattle.core.specs.declared.alloc.Allocator.{Ghosts as Frees}
 use Rattle.arc_owners.specs.declared.mark.Mark.{Ghosts}
 use Rattle.arc_owners.specs.declared.memory.sole_box.SoleBox.{SoleBox}
@@ -20,6 +21,10 @@ module _ {V A H : Type 0} {MAX : ℕ} {G : Ghosts H} where
 
   abbrev pub sole_value : SoleBox V A MAX H G → V
   sole_value b = b.memory.value.value.value
+
+  -- where its memory begins
+  abbrev pub sole_place : SoleBox V A MAX H G → Ptr
+  sole_place b = b.memory.at
 
   -- the same owner, with this value in the place of its own
   abbrev pub with_sole_value : SoleBox V A MAX H G → V → SoleBox V A MAX H G

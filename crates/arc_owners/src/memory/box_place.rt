@@ -28,7 +28,7 @@ impl<T, A: Allocator> BoxPlace<T, A> {
     /// The place of a box, and its allocator.
     pub(crate) fn of(bare: BoxParts<T, A>) -> (BoxPlace<T, A>, A)
         ensures { (result.0.value ≡ bare.value) × (result.0.alloc ≡ bare.alloc)
-            × (result.1 ≡ bare.alloc) }
+            × (result.0.at ≡ bare.at) × (result.1 ≡ bare.alloc) }
     {
         let BoxParts { at, alloc } = bare;
         let marker = PhantomData;
@@ -38,7 +38,7 @@ impl<T, A: Allocator> BoxPlace<T, A> {
     /// The box again, by its allocator.
     pub(crate) fn with(self, alloc: A) -> BoxParts<T, A>
         requires { alloc ≡ self.alloc }
-        ensures { (result.value ≡ self.value) × (result.alloc ≡ alloc) }
+        ensures { (result.value ≡ self.value) × (result.at ≡ self.at) × (result.alloc ≡ alloc) }
     {
         let BoxPlace { at, marker: _ } = self;
         BoxParts { at, alloc }

@@ -64,10 +64,10 @@ impl<V: Drop, A: Allocator + Copy> Inner<Housed<V, A>> {
 
 /// The memory that comes back to the last owner, with its allocator, and that the word lies in it.
 #[derive(Drop)]
-struct KeptMemory<V: Drop, A: Allocator + Copy> {
-    memory: LentValue<Inner<Housed<V, A>>, A>,
-    lodging: WordBorrow,
-    alloc: A,
+pub(crate) struct KeptMemory<V: Drop, A: Allocator + Copy> {
+    pub(crate) memory: LentValue<Inner<Housed<V, A>>, A>,
+    pub(crate) lodging: WordBorrow,
+    pub(crate) alloc: A,
     ghost home: { alloc ≡ memory.kept.alloc },
 }
 
@@ -118,8 +118,8 @@ impl<V: Drop, A: Allocator + Copy, const MAX: u64, H: Mark> CountedBox<V, A, MAX
     ghost use Rattle.arc_owners.specs.memory.Boxes.{owner_in, value_of, lifetime_in, note_in};
     ghost use Rattle.arc_owners.specs.memory.Boxes.{owner_in_rest, value_of_rest};
     ghost use Rattle.arc_owners.specs.memory.Boxes.{lifetime_in_rest, share_taken_from};
-    ghost use Rattle.arc_owners.specs.memory.Boxes.{note_in_rest};
-    ghost use Rattle.arc_owners.specs.memory.SoleBoxes.{sole_in, sole_value};
+    ghost use Rattle.arc_owners.specs.memory.Boxes.{place_in, place_in_rest, note_in_rest};
+    ghost use Rattle.arc_owners.specs.memory.SoleBoxes.{sole_in, sole_value, sole_place};
     ghost use Rattle.arc_owners.specs.count.Calls.{owner_of, lease_of};
 
     /// The first owner of a value, with a pass of its block. Takes memory, for the value and the
@@ -146,6 +146,7 @@ impl<V: Drop, A: Allocator + Copy, const MAX: u64, H: Mark> CountedBox<V, A, MAX
             × (value_of result ≡ memory.value.value.value) }
         ensures lent { lifetime_in result ≡ (lease_of share).lifetime }
         ensures noted { note_in result ≡ (lease_of share).note }
+        ensures place { place_in result ≡ memory.at }
     {
         let mut right = share.right;
         let (at, _, lent, kept) = LentBox::of(memory, &right);
@@ -228,6 +229,7 @@ impl<V: Drop, A: Allocator + Copy, const MAX: u64, H: Mark> CountedBox<V, A, MAX
         ensures noted { note_in_rest result.0 ≡ note_in self }
         ensures lifetime { (result.1.lifetime ≡ lifetime_in self)
             × (result.1.share ≡ share_taken_from result.0) }
+        ensures place { place_in_rest result.0 ≡ place_in self }
     {
         let CountedBox {
             memory,
@@ -264,6 +266,8 @@ impl<V: Drop, A: Allocator + Copy, const MAX: u64, H: Mark> CountedBox<V, A, MAX
             × (value_of piece ≡ value_of self)) }
         ensures lent { IfErr result (λ piece. lifetime_in piece ≡ lifetime_in self) }
         ensures noted { IfErr result (λ piece. note_in piece ≡ note_in self) }
+        ensures sole_place { IfOk result (λ b. sole_place b ≡ place_in self) }
+        ensures place { IfErr result (λ piece. place_in piece ≡ place_in self) }
     {
         match self.try_into_sole_with_end_as(pass) {
             Ok((sole, ended)) => {
@@ -289,13 +293,15 @@ impl<V: Drop, A: Allocator + Copy, const MAX: u64, H: Mark> CountedBox<V, A, MAX
             × (value_of piece ≡ value_of self)) }
         ensures lent { IfErr result (λ piece. lifetime_in piece ≡ lifetime_in self) }
         ensures noted { IfErr result (λ piece. note_in piece ≡ note_in self) }
+        ensures sole_place { IfOk result (λ r. sole_place r.0 ≡ place_in self) }
+        ensures place { IfErr result (λ piece. place_in piece ≡ place_in self) }
     {
         let (share, kept) = self.parted();
         let word = Inner::word_place(kept.memory.at);
         match unsafe { Owners::<MAX, H>::claim_raw(word, &kept.lodging, share, pass) } {
             Ok((sole, term)) => {
-                let (memory, ended) = kept.memory.take_back_with_end(kept.alloc, term);
-                Ok((SoleBox::settled(BoxParts::of(memory), sole), ended))
+                let (memory, ended) = kept.memory.take_back_parts(kept.alloc, term);
+                Ok((SoleBox::settled(memory, sole), ended))
             }
             Err(share) => Err(CountedBox {
                 memory: kept.memory,
@@ -317,6 +323,7 @@ impl<V: Drop, A: Allocator + Copy, const MAX: u64, H: Mark> CountedBox<V, A, MAX
             × (value_of piece ≡ value_of self)) }
         ensures lent { IfErr result (λ piece. lifetime_in piece ≡ lifetime_in self) }
         ensures noted { IfErr result (λ piece. note_in piece ≡ note_in self) }
+        ensures place { IfErr result (λ piece. place_in piece ≡ place_in self) }
     {
         match self.try_into_sole_as(pass) {
             Ok(sole) => Ok(sole.into_value_as(pass)),
@@ -326,7 +333,7 @@ impl<V: Drop, A: Allocator + Copy, const MAX: u64, H: Mark> CountedBox<V, A, MAX
 
     /// This owner's share, and what the last owner gets.
     #[inline(always)]
-    fn parted(self) -> (Share<H>, KeptMemory<V, A>)
+    pub(crate) fn parted(self) -> (Share<H>, KeptMemory<V, A>)
         ensures parts { (result.0 ≡ self.share) × (result.1.lodging ≡ self.lodging)
             × (result.1.memory ≡ self.memory) }
         ensures owner { owner_of result.0 ≡ owner_in self }
@@ -419,6 +426,7 @@ impl<V: Drop, A: Allocator + Copy, const MAX: u64, H: Mark> CountedBox<V, A, MAX
     ghost use Rattle.std.specs.Prelude.{◌≡◌, IfOk, IfErr, IfSome, IfNone};
     ghost use Rattle.arc_owners.specs.count.Calls.{IsPassFor, FindsFull, MakesAnother};
     ghost use Rattle.arc_owners.specs.memory.Boxes.{owner_in, value_of, lifetime_in, note_in};
+    ghost use Rattle.arc_owners.specs.memory.Boxes.{place_in};
 
     /// One attempt to make one owner more of the same value, through this one: nothing where
     /// another thread's step came between, and then no entry is added. Who calls it tries again.
@@ -445,6 +453,8 @@ impl<V: Drop, A: Allocator + Copy, const MAX: u64, H: Mark> CountedBox<V, A, MAX
         ensures lent { IfSome result (λ r. IfOk r (λ piece.
             lifetime_in piece ≡ lifetime_in self.now)) }
         ensures noted { IfSome result (λ r. IfOk r (λ piece. note_in piece ≡ note_in self.now)) }
+        ensures place { IfSome result (λ r. IfOk r (λ piece.
+            place_in piece ≡ place_in self.now)) }
         ensures full { IfSome result (λ r.
             IfErr r (λ _. FindsFull (owner_in self.now) pass.old pass.new)) }
         ensures again { IfNone result (pass.new ≡ pass.old) }
@@ -482,6 +492,7 @@ impl<V: Drop, A: Allocator + Copy, const MAX: u64, H: Mark> CountedBox<V, A, MAX
             × (value_of piece ≡ value_of self.now)) }
         ensures lent { IfOk result (λ piece. lifetime_in piece ≡ lifetime_in self.now) }
         ensures noted { IfOk result (λ piece. note_in piece ≡ note_in self.now) }
+        ensures place { IfOk result (λ piece. place_in piece ≡ place_in self.now) }
         ensures full { IfErr result (λ _. FindsFull (owner_in self.now) pass.old pass.new) }
     {
         let leave = RaiseLeave::of(rt);

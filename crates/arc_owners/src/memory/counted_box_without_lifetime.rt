@@ -34,7 +34,7 @@ impl<V: Drop, A: Allocator + Copy, const MAX: u64, H: Mark> CountedBoxWithoutLif
     ghost use Rattle.arc_owners.specs.memory.Boxes.{owner_in, value_of, lifetime_in, note_in};
     ghost use Rattle.arc_owners.specs.memory.Boxes.{owner_in_rest, value_of_rest};
     ghost use Rattle.arc_owners.specs.memory.Boxes.{lifetime_in_rest, share_taken_from};
-    ghost use Rattle.arc_owners.specs.memory.Boxes.{note_in_rest};
+    ghost use Rattle.arc_owners.specs.memory.Boxes.{place_in, place_in_rest, note_in_rest};
 
     /// The owner again, with its share of the lifetime. Takes no memory.
     pub fn with_lifetime(self, lifetime: LifetimeToken) -> CountedBox<V, A, MAX, H>
@@ -44,6 +44,7 @@ impl<V: Drop, A: Allocator + Copy, const MAX: u64, H: Mark> CountedBoxWithoutLif
             × (value_of result ≡ value_of_rest self) }
         ensures lent { lifetime_in result ≡ lifetime_in_rest self }
         ensures noted { note_in result ≡ note_in_rest self }
+        ensures place { place_in result ≡ place_in_rest self }
     {
         let CountedBoxWithoutLifetime {
             memory,

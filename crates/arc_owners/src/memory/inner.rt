@@ -10,7 +10,7 @@ use std::marker::PhantomData;
 
 /// A block's memory. The word lies at its beginning.
 #[derive(Drop)]
-pub(crate) struct Inner<V> {
+pub struct Inner<V> {
     pub(crate) word: Word,
     pub(crate) value: V,
 }

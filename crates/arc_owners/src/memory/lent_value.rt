@@ -93,14 +93,29 @@ impl<T: Drop, A: Allocator> LentValue<T, A> {
         ensures memory { (result.0.value ≡ lent_value self) × (box_allocator result.0 ≡ alloc) }
         ensures ended { result.1.lifetime ≡ (lease_in self).lifetime }
     {
+        let (memory, ended) = self.take_back_parts(alloc, end);
+        (memory.into_box(), ended)
+    }
+
+    /// The same, as the box's pointer and its allocator.
+    pub(crate) fn take_back_parts(
+        self,
+        alloc: A,
+        end: LifetimeEnd,
+    ) -> (BoxParts<T, A>, EndedLifetime)
+        requires end { IsEndOf self end }
+        requires allocator { alloc ≡ lent_allocator self }
+        ensures memory { (result.0.value ≡ lent_value self) × (result.0.alloc ≡ alloc)
+            × (result.0.at ≡ self.at) }
+        ensures ended { result.1.lifetime ≡ (lease_in self).lifetime }
+    {
         let LentValue {
             at,
             borrow: _,
             kept,
         } = self;
         let mut spoils = end.spoils;
-        let (memory, ended) = unsafe { kept.take_by(at, alloc, &mut spoils) };
-        (memory.into_box(), ended)
+        unsafe { kept.take_by(at, alloc, &mut spoils) }
     }
 }
 

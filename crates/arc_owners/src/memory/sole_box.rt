@@ -27,11 +27,12 @@ pub struct SoleBox<V: Drop, A: Allocator + Copy, const MAX: u64, H: Mark = Open>
 const _: () = prove!(size_of::<SoleBox<u64, Global, 3>>() == 8);
 
 /// The memory with its allocator, which lies beside the value.
-fn housed_parts<V: Drop, A: Allocator + Copy>(
+pub(crate) fn housed_parts<V: Drop, A: Allocator + Copy>(
     memory: BoxPlace<Inner<Housed<V, A>>, A>,
 ) -> BoxParts<Inner<Housed<V, A>>, A>
     requires { memory.alloc ≡ memory.value.value.alloc }
-    ensures { (result.value ≡ memory.value) × (result.alloc ≡ memory.alloc) }
+    ensures { (result.value ≡ memory.value) × (result.alloc ≡ memory.alloc)
+        × (result.at ≡ memory.at) }
 {
     let alloc = memory.get().value.alloc;
     memory.with(alloc)
@@ -46,7 +47,9 @@ impl<V: Drop, A: Allocator + Copy, const MAX: u64, H: Mark> SoleBox<V, A, MAX, H
     ghost use Rattle.arc_owners.specs.memory.Boxes.{owner_in, value_of, lifetime_in, note_in};
     ghost use Rattle.arc_owners.specs.count.LentNotes.{LentNote, no_note};
     ghost use base.Fraction.{full_share};
+    ghost use Rattle.arc_owners.specs.memory.Boxes.{place_in};
     ghost use Rattle.arc_owners.specs.memory.SoleBoxes.{sole_in, sole_value, LendsSoleValue};
+    ghost use Rattle.arc_owners.specs.memory.SoleBoxes.{sole_place};
     ghost use types.Logic.{sem};
 
     /// The first and only owner of a value, with a pass of its block. Takes memory, for the value
@@ -77,7 +80,8 @@ impl<V: Drop, A: Allocator + Copy, const MAX: u64, H: Mark> SoleBox<V, A, MAX, H
         requires count { (sole.right.block ≡ memory.value.word) × (memory.value.word.most ≡ MAX) }
         requires memory { memory.alloc ≡ memory.value.value.alloc }
         ensures { (sole_in result ≡ sole_owner sole)
-            × (sole_value result ≡ memory.value.value.value) }
+            × (sole_value result ≡ memory.value.value.value)
+            × (sole_place result ≡ memory.at) }
     {
         let (memory, _) = BoxPlace::of(memory);
         SoleBox { memory, sole }
@@ -115,6 +119,7 @@ impl<V: Drop, A: Allocator + Copy, const MAX: u64, H: Mark> SoleBox<V, A, MAX, H
     pub fn lend(self) -> CountedBox<V, A, MAX, H>
         ensures same { (owner_in result ≡ sole_in self) × (value_of result ≡ sole_value self) }
         ensures noted { note_in result ≡ no_note }
+        ensures place { place_in result ≡ sole_place self }
     {
         let SoleBox { memory, sole } = self;
         CountedBox::settled(housed_parts(memory), sole.lend())
@@ -128,9 +133,19 @@ impl<V: Drop, A: Allocator + Copy, const MAX: u64, H: Mark> SoleBox<V, A, MAX, H
         ensures same { (owner_in result ≡ sole_in self) × (value_of result ≡ sole_value self) }
         ensures lent { lifetime_in result ≡ lifetime.lifetime }
         ensures noted { note_in result ≡ note }
+        ensures place { place_in result ≡ sole_place self }
     {
         let SoleBox { memory, sole } = self;
         CountedBox::settled(housed_parts(memory), sole.lend_for(lifetime))
+    }
+
+    /// The memory, with the word and the value in it, and the owner.
+    pub(crate) fn parted(self) -> (BoxParts<Inner<Housed<V, A>>, A>, Sole<H>)
+        ensures memory { (result.0.value ≡ self.memory.value) × (result.0.at ≡ self.memory.at) }
+        ensures owner { result.1 ≡ self.sole }
+    {
+        let SoleBox { memory, sole } = self;
+        (housed_parts(memory), sole)
     }
 
     /// The value, and the memory to its allocator. Adds the Down of this owner, the last one,

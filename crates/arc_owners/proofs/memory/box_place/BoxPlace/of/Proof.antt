@@ -50,6 +50,6 @@ of_spec 𝓤 𝓛 𝓜 𝓡 wired T A L LA g d da allocator glued =
     let w : Val = word E (block_ptr b o) in let u : Val = vstruct (vcons w (vcons h vnil)) in let Rs : List RattleType = Row E ∷ P E ∷ [] in
     nothing ! $ move ! (2 ∷ 0 ∷ []) $ fjoin ! $ move ! (1 ∷ 0 ∷ []) $ fjoin ! $ feq_i ! (List Val) (u ∷ []) (u ∷ []) refl $ fjoin ! $
     fpack ! (Valss Rs) (λ uss. fsep (feq (List Val) (u ∷ []) (vstruct (of_list (uss.0 ++ (uss.1.0 ++ []))) ∷ [])) (owns Rs (now, (was.alloc, tt)) uss)) (w ∷ [], (h ∷ [], tt)) $
-    let Told : Type 0 = (was.value ≡ was.value) × (was.alloc ≡ was.alloc) × (was.alloc ≡ was.alloc) in
-    use0 𝓛 (raw (fact 𝓤 Told)) (fact_i 𝓤 Told (emp 𝓤) (refl, refl, refl)) $ nothing ! $ nothing ! $ fjoin ! $
+    let Told : Type 0 = (was.value ≡ was.value) × (was.alloc ≡ was.alloc) × (was.at ≡ was.at) × (was.alloc ≡ was.alloc) in
+    use0 𝓛 (raw (fact 𝓤 Told)) (fact_i 𝓤 Told (emp 𝓤) (refl, refl, refl, refl)) $ nothing ! $ nothing ! $ fjoin ! $
     returns ! (look_at ! 0 refl) $ free_all ! refl $ keep ! (4 ∷ 0 ∷ 2 ∷ 1 ∷ []) $ by ! (leaves 𝓛 En hs c y u (now, was.alloc) ((tt, (tt, tt)), tt) (tt, tt)))))

@@ -47,6 +47,6 @@ with_spec 𝓤 𝓛 𝓜 𝓡 wired T A L LA g d da allocator glued =
     enter ! 𝓣.C 𝓣.Λ fn (p ∷ h ∷ []) Post $ alloc_all ! (λ l. pass_all ! refl ((tt, (tt, (tt, tt))), (fits, tt)) $
     rewrite ! 3 (λ (k : A.Denot). ‵ (frees E (record me { alloc = k }) b o)) (sym same) refl $ move ! (2 ∷ 3 ∷ 0 ∷ []) $ box_in E ! (boxed E now) b o me.value at_b refl $ use1 𝓛 (‵ ((Bare E).own_val now (v ∷ []))) (as_bare E 𝓛 now (v ∷ [])) $
     sets ! (of_opd ! (get_in ! (fld ! refl (stop !)) (sub ! 0 refl (whole !)))) refl (tt, tt) $ sets ! (of_opd ! (get ! refl)) refl fits $ sets ! (agg ! (and_then ! (get ! refl) (and_then ! (get ! refl) (no_more !)))) refl (box_typed E h b o fits) $
-    let Told : Type 0 = (me.value ≡ me.value) × (al ≡ al) in
-    use0 𝓛 (raw (fact 𝓤 Told)) (fact_i 𝓤 Told (emp 𝓤) (refl, refl)) $ nothing ! $ nothing ! $ fjoin ! $ nothing ! $ fjoin ! $
+    let Told : Type 0 = (me.value ≡ me.value) × (me.at ≡ me.at) × (al ≡ al) in
+    use0 𝓛 (raw (fact 𝓤 Told)) (fact_i 𝓤 Told (emp 𝓤) (refl, refl, refl)) $ nothing ! $ nothing ! $ fjoin ! $ nothing ! $ fjoin ! $
     returns ! (look_at ! 0 refl) $ free_all ! refl $ keep ! (4 ∷ 0 ∷ 2 ∷ 1 ∷ []) $ by ! (leaves 𝓛 En hs c y v now (tt, (tt, tt)) (tt, (tt, tt))))))))

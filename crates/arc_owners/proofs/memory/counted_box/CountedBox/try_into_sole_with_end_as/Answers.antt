@@ -16,6 +16,6 @@ returns-in-Err-clause-entry g c =
 pub returns-in-Ok-clause-sole : goal.returns-in-Ok-clause-sole
 returns-in-Ok-clause-sole g c = (
   c.settled.ensures.0 ∙ (c.in-Ok.ensures.alone.0 ∙ c.parted-share.ensures.owner),
-  c.settled.ensures.1 ∙ ap (λ i. i.value.value) (c.of.ensures.0 ∙ (c.take_back_with_end-memory.ensures.memory.0
-      ∙ ap (λ m. m.borrow.value) c.parted-share.ensures.parts.2)),
+  c.settled.ensures.1 ∙ ap (λ i. i.value.value) (c.take_back_parts-memory.ensures.memory.0
+      ∙ ap (λ m. m.borrow.value) c.parted-share.ensures.parts.2),
 )

@@ -1,0 +1,44 @@
+//! A place for a header, in which nothing lies.
+ghost use Rattle.std.specs.Prelude.{◌≡◌};
+ghost use mir.Raw.{raw};
+ghost use denote.Param.{layout};
+ghost use denote.RawPtr.{room_for};
+
+use super::box_parts::BoxParts;
+use std::marker::Model;
+use std_alloc::vec::Lodged;
+
+/// A place in which nothing lies and a value of type X fits, in memory that somebody else frees: a
+/// pointer. Neither copied nor dropped.
+pub struct HeaderRoom<X> {
+    pub at: *mut X,
+}
+
+impl<X> Model for HeaderRoom<X> {
+    ghost also_owns = { λ r. room_for (raw (layout X.row)) r.at };
+}
+
+impl<X> HeaderRoom<X> {
+    /// Lays a value there.
+    pub(crate) fn hold(self, value: X) -> BoxParts<X, Lodged>
+        ensures { (result.value ≡ value) × (result.at ≡ self.at) }
+    {
+        let HeaderRoom { at } = self;
+        unsafe {
+            at.write(value);
+        }
+        let alloc = Lodged;
+        BoxParts { at, alloc }
+    }
+
+    /// The place of a value, and the value, which no longer lies there.
+    pub(crate) fn of(parts: BoxParts<X, Lodged>) -> (HeaderRoom<X>, X)
+        ensures { (result.0.at ≡ parts.at) × (result.1 ≡ parts.value) }
+    {
+        let BoxParts { at, alloc: _ } = parts;
+        let value = unsafe { at.read() };
+        (HeaderRoom { at }, value)
+    }
+}
+
+unsafe impl<X> Send for HeaderRoom<X> {}
