@@ -11,6 +11,8 @@ mod errors;
 #[cfg(test)]
 mod forgotten;
 #[cfg(test)]
+mod full;
+#[cfg(test)]
 mod histories;
 #[cfg(test)]
 mod lent_values;

@@ -5,3 +5,4 @@ pub mod io;
 pub mod layout;
 pub mod program;
 pub mod script;
+pub mod storm;

@@ -12,3 +12,5 @@ mod replies;
 pub mod rows;
 #[cfg(test)]
 mod scripts;
+#[cfg(test)]
+mod storms;

@@ -34,6 +34,8 @@ mod static_readers;
 #[cfg(test)]
 mod taken_back;
 #[cfg(test)]
+mod takers;
+#[cfg(test)]
 mod threads;
 #[cfg(test)]
 mod vectors;

@@ -1,0 +1,147 @@
+//! A storm of clones: threads that clone one window through one reference, and release each clone.
+ghost use Rattle.std.specs.Prelude.{◌≡◌, ◌∷◌, [], IfOk};
+
+use arc_block::layout::VecLayout;
+use arc_buffer::kinds::Plain;
+use arc_owners::error::OwnerError;
+use arc_read::slice::ArcSlice;
+use std::alloc::{self, Global};
+use std::sync::Wait;
+use std::thread::{self, Threads};
+use thiserror::Error;
+
+/// How many clones each worker makes.
+const CLONES: usize = 1000;
+
+/// What a worker passes between each clone and its release.
+pub trait Gate {
+    /// Returns when this worker may go on; the first one is number 1.
+    fn pass(&self, worker: usize);
+}
+
+/// A gate that holds nobody up.
+#[derive(Clone, Copy)]
+pub struct OpenGate;
+
+impl Gate for OpenGate {
+    fn pass(&self, _worker: usize) {}
+}
+
+/// Why a storm doesn't give its vector.
+#[derive(Clone, Copy, Debug, PartialEq, Eq, Error)]
+pub enum StormError {
+    /// A request for memory was refused, for the vector, for its window or for what tells when a
+    /// worker has ended.
+    #[error("allocation error")]
+    Alloc,
+    /// A clone was refused.
+    #[error(transparent)]
+    Owner(OwnerError),
+    /// A thread was refused.
+    #[error("thread refused")]
+    Thread,
+    /// Another window stands on the vector.
+    #[error("not unique")]
+    Taken,
+}
+
+impl From<alloc::AllocError> for StormError {
+    fn from(_: alloc::AllocError) -> Self {
+        StormError::Alloc
+    }
+}
+
+impl<T: Drop> From<alloc::AllocFailed<T>> for StormError {
+    fn from(_: alloc::AllocFailed<T>) -> Self {
+        StormError::Alloc
+    }
+}
+
+impl From<OwnerError> for StormError {
+    fn from(error: OwnerError) -> Self {
+        StormError::Owner(error)
+    }
+}
+
+/// The window that all workers clone.
+type Window = ArcSlice<Plain<u8>, VecLayout>;
+
+/// A window over the vector [42].
+fn window_made(alloc: Global) -> Result<Window, StormError>
+    ensures { IfOk result (λ window. window.items ≡ 42 ∷ []) }
+{
+    let bytes = Vec::from_slice(alloc, &[42])?;
+    match Window::try_from_vec(alloc, bytes) {
+        Ok(window) => Ok(window),
+        Err(_) => Err(StormError::Alloc),
+    }
+}
+
+/// What one worker does: it clones the window, passes the gate and releases the clone, again and
+/// again.
+fn work<G: Gate>(
+    rt: &impl Wait,
+    window: &Window,
+    gate: &G,
+    worker: usize,
+) -> Result<(), OwnerError> {
+    for _ in 0..CLONES {
+        let clone = window.try_clone(rt)?;
+        gate.pass(worker);
+        drop(clone);
+    }
+    Ok(())
+}
+
+/// Lets so many workers work, each in a thread of its own, and waits until all have ended.
+fn work_in_threads<R: Threads + Wait + Sync, G: Gate + Sync>(
+    rt: &R,
+    alloc: Global,
+    window: &Window,
+    gate: &G,
+    workers: usize,
+) -> Result<(), StormError> {
+    thread::scope(thread::scope_env(), rt, |scope| {
+        let mut started = Vec::new(alloc);
+        for before in 0..workers {
+            let worker = before + 1;
+            match scope.spawn(move || work(rt, window, gate, worker)) {
+                Ok(thread) => started.push(thread)?,
+                Err(_) => return Err(StormError::Thread),
+            }
+        }
+        for thread in started {
+            thread.join(rt)?;
+        }
+        Ok(())
+    })
+}
+
+/// Makes a window of the vector [42], which so many workers, each in a thread of its own, clone
+/// 1,000 times each through one reference, passing the gate between a clone and its release; and
+/// takes the vector back.
+///
+/// # Errors
+///
+/// - `Alloc` where memory is refused for the vector, its window or the list of threads.
+/// - `Owner` where a clone is refused, `Thread` where a thread is.
+/// - `Taken` where another window stands on the vector at the end.
+///
+/// # Allocates
+///
+/// For the vector, its window and the list of threads; each clone may.
+pub fn storm<R: Threads + Wait + Sync, G: Gate + Sync>(
+    rt: &R,
+    alloc: Global,
+    gate: &G,
+    workers: usize,
+) -> Result<Vec<u8>, StormError>
+    ensures { IfOk result (λ bytes. bytes.items ≡ 42 ∷ []) }
+{
+    let window = window_made(alloc)?;
+    work_in_threads(rt, alloc, &window, gate, workers)?;
+    match window.try_into_vec() {
+        Ok(bytes) => Ok(bytes),
+        Err(_) => Err(StormError::Taken),
+    }
+}

@@ -1,0 +1,70 @@
+//! Storms of clones: two workers that have a clone each at one time, and how often each passes.
+use arc_script::storm::{Gate, OpenGate, storm};
+use std::sync::atomic::AtomicU64;
+use std::sync::atomic::Ordering::SeqCst;
+use std::test::Fail;
+use std::thread::yield_now;
+
+/// How often the first worker yields at most until the second one has a clone.
+const TURNS: u32 = 1_000_000;
+
+/// A gate that holds the first clone of worker 1 until worker 2 has one. It counts how often each
+/// of the two passes.
+#[derive(Drop)]
+struct Meeting {
+    first: AtomicU64,
+    second: AtomicU64,
+    missed: AtomicU64,
+}
+
+impl Meeting {
+    /// Waits until the second worker has passed, for so many turns at most.
+    fn wait_for_second(&self) {
+        for _ in 0..TURNS {
+            if self.second.load(SeqCst) > 0 {
+                return;
+            }
+            yield_now();
+        }
+        self.missed.store(1, SeqCst);
+    }
+}
+
+impl Gate for Meeting {
+    fn pass(&self, worker: usize) {
+        if worker == 2 {
+            self.second.fetch_add(1, SeqCst);
+        } else if self.first.fetch_add(1, SeqCst) == 0 {
+            self.wait_for_second();
+        }
+    }
+}
+
+/// Two workers have a clone at one time, within 1,000,000 turns, and each passes 1,000 times: one
+/// worker after the other would wait in vain.
+#[test]
+fn both_cloned(rt: HostRuntime) -> Result<(), Fail> {
+    let gate = Meeting {
+        first: AtomicU64::new(0),
+        second: AtomicU64::new(0),
+        missed: AtomicU64::new(0),
+    };
+    let bytes = storm(&rt, rt.alloc(), &gate, 2)?;
+    let told = [
+        gate.first.load(SeqCst),
+        gate.second.load(SeqCst),
+        gate.missed.load(SeqCst),
+    ];
+    assert!(rt; (bytes.as_slice(), told) == ([42].as_slice(), [1000, 1000, 0]));
+    Ok(())
+}
+
+/// As many workers as the program lets in, and none.
+#[test]
+fn many_workers(rt: HostRuntime) -> Result<(), Fail> {
+    for workers in [64, 1, 0] {
+        let bytes = storm(&rt, rt.alloc(), &OpenGate, workers)?;
+        assert!(rt; bytes.as_slice() == [42].as_slice());
+    }
+    Ok(())
+}
