@@ -51,11 +51,11 @@ pub fn rows_fit<T, M>()
         → RowsFit setting.drops old.table → RowsFit setting.drops new.table }
 {}
 
-/// Writers are apart: of two rows on one block, of which one is a writer's, no place is both's; each
-/// row ends within its block; and where a sole writer stands no other row does. So it is in every
-/// table that comes of the empty one, beside that rows on one block agree and that each fits its
-/// place: each step keeps it, and so does each run. Does nothing: its contract is the law, for items
-/// and metadata of any type.
+/// Writers are apart: of two rows on one block, of which one is a writer's, no place is both's;
+/// each row ends within its block; and where a sole writer stands no other row does. So it is in
+/// every table that comes of the empty one, beside that rows on one block agree and that each fits
+/// its place: each step keeps it, and so does each run. Does nothing: its contract is the law, for
+/// items and metadata of any type.
 pub fn writers_apart<T, M>()
     ensures empty { (drops : Bool) → IsLawful {T = T} {M = M} drops empty_table }
     ensures step { (setting : Setting T) (old : Table T M) (command : ListCmd T M)
@@ -74,7 +74,8 @@ pub fn writers_apart<T, M>()
 
 /// The two parts at which the places of one writer of several are split share none and together are
 /// all of them, also past his items; and two writers' places that are joined are those of both, of
-/// which none was both's. Does nothing: its contract is the law, for items and metadata of any type.
+/// which none was both's. Does nothing: its contract is the law, for items and metadata of any
+/// type.
 pub fn parts_apart<T, M>()
     ensures split { (row : Row T M) (at : ℕ) → is_several row.role ≡ true
         → at ≤ capacity_of row.role → IsParted row (front_of at row) (after_advance at row) }

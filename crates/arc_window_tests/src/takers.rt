@@ -13,7 +13,8 @@ type Window = ArcSlice<Plain<u8>, VecLayout>;
 /// How often each thread asks.
 const ASKED: u32 = 1000;
 
-/// Clones a window again and again, and asks for the vector of each clone. How often it was refused.
+/// Clones a window again and again, and asks for the vector of each clone. How often it was
+/// refused.
 fn takings_refused(rt: &impl Wait, window: &Window) -> u32 {
     let mut refused = 0u32;
     for _ in 0..ASKED {
