@@ -1,16 +1,16 @@
 -- Parts that stand on an `Arc` that is a block by itself.
 use Rattle.std.proofs.Common.{◌≡◌, ℕ, ◌+◌, ◌-◌, ◌≤◌, ◌==◌, ◌&&◌, Bool, false, if◌then◌else◌, List, length}
-use Rattle.std.proofs.Common.{Option, None, refl, sym, ap, ◌∙◌, subst, arith}
+use Rattle.std.proofs.Common.{Option, Some, None, refl, sym, ap, ◌∙◌, subst, arith}
 use Rattle.std.proofs.lemmas.Option.{same_Some}
 use Rattle.arc_owners.specs.declared.count.tokens.Pass.{Pass}
 use Rattle.arc_owners.specs.declared.error.OwnerError.TheVariants.{AllocError}
 use Rattle.arc_owners.specs.count.Calls.{Owner}
 use Rattle.arc_buffer.specs.Slice.{sub}
 use Rattle.arc_buffer.proofs.Sub.{sub-sub, sub-whole, length-sub}
-use Rattle.arc_block.specs.Block.{Sort, raw, raw_info}
+use Rattle.arc_block.specs.Block.{Sort, BlockView, raw, raw_info, raw_block}
 use Rattle.arc_block.specs.Layouts.{LayoutFacts}
-use Rattle.arc_block.specs.Place.{Place, nowhere, on_block, part_place}
-use Rattle.arc_block.specs.declared.parts.storage.Storage.TheVariants.{Raw}
+use Rattle.arc_block.specs.Place.{Place, nowhere, on_block, part_place, owned_by}
+use Rattle.arc_block.specs.declared.parts.storage.Storage.TheVariants.{Block, Raw}
 use Rattle.arc_block.specs.Window.{PartsView, StandsBy, parts_of, window_seen, IsWithin, IsHeld, IsAllFull, IsRawWhole}
 use Rattle.arc_block.specs.Steps.{Refuses}
 
@@ -62,3 +62,20 @@ module _ {T M : Type 0} (inner : StandsBy T M) (from to : ℕ) (p : PartsView T 
       let last : to ≡ length all = omega (arith, many, full.0, inside_raw.0, inside_raw.1) in
       sym (sub-whole all) ∙ ap (λ n. sub all 0 n) (sym last)
       ∙ ap (λ n. sub all n to) (sym full.0) ∙ ap (λ (v : PartsView T M). v.items) (sym on_raw_seen)
+
+  -- on a block that counts its owners, and keeps the `Arc`, they are seen as one's
+  pub counted_seen : (b : BlockView T M) (items : List T) → items ≡ all
+      → b ≡ raw_block items b.owner → parts_of (window_seen (Block b) from to) ≡ record {
+        items = p.items;
+        place = owned_by (Some b.owner) p.place;
+        role = p.role;
+      }
+  counted_seen b items same made =
+      let P : PartsView T M → Type 0 = λ v.
+      parts_of (window_seen (Block b) from to) ≡ record {
+        items = v.items;
+        place = owned_by (Some b.owner) v.place;
+        role = v.role;
+      } in
+      subst P (sym on_raw_seen) (ap (λ x. parts_of (window_seen (Block x) from to)) made
+      ∙ ap (λ xs. parts_of (window_seen (Block (raw_block {M = M} xs b.owner)) from to)) same)

@@ -1,277 +1,225 @@
--- A sole writer's places: how many are free behind the items, and where more come from.
-use Rattle.std.proofs.Common.{Fits, Fits-le, ◌≡◌, ℕ, ◌+◌, ◌-◌, ◌≤◌, ◌<◌, ◌==◌, ◌&&◌, ◌++◌, not}
-use Rattle.std.proofs.Common.{Bool, true, false, if◌then◌else◌, List, length, take, drop, refl, sym}
-use Rattle.std.proofs.Common.{Option, Some, None, is_some, ap, ◌∙◌, subst, arith}
-use mir.Syntax.{w64}
-use Rattle.std.specs.Option.{option_map}
-use Rattle.std.specs.declared.vec.Vec.{Vec}
-use Rattle.std.specs.Vec.{vec_capacity}
-use Rattle.std.proofs.lemmas.Bool.{eqb-true, lt-ltb, false≢true}
-use Rattle.std.proofs.lemmas.List.{take-take, take-append-le, length-append, length-drop}
+-- Room for one of several writers: that of the only one, who is one of several then.
+use Rattle.std.proofs.Common.{◌≡◌, ℕ, ◌-◌, ◌≤◌, ◌<◌, ◌==◌, nat_lt, Bool, true, false, not, ◌&&◌, if◌then◌else◌, length, Option, Some, None, refl, sym, ap, ◌∙◌, subst}
+use Rattle.std.specs.Prelude.{Result, Ok, Err, ◌↔◌, IsTrue}
+use Rattle.std.proofs.lemmas.Bool.{lt-ltb, le-ltb, false≢true}
+use Rattle.arc_owners.specs.declared.error.TryReserveError.{TryReserveError}
+use Rattle.arc_owners.specs.declared.error.TryReserveError.TheVariants.{NotUnique}
+use Rattle.arc_owners.specs.declared.count.tokens.Pass.{Pass}
 use Rattle.arc_owners.specs.count.Calls.{Owner}
-use Rattle.arc_owners.specs.declared.error.TryReserveError.TheVariants.{Unsupported}
-use Rattle.arc_buffer.specs.Slice.{sub}
-use Rattle.arc_buffer.proofs.Sub.{length-sub}
-use Rattle.arc_block.specs.Block.{Sort, BlockInfo, memory_info}
 use Rattle.arc_block.specs.declared.parts.room.Room.{Room}
 use Rattle.arc_block.specs.declared.parts.room.Room.TheVariants.{Spare, Fresh, Behind, Front}
 use Rattle.arc_block.specs.declared.parts.room.Room.TheVariants.{Growth, Own, Refused}
-use Rattle.arc_block.specs.Place.{on_block}
-use Rattle.arc_block.specs.Room.{room_in, ends_full, IfGrowth, IfBehind, IfFront}
-use Rattle.arc_block.specs.Table.{sole_writer}
-use Rattle.arc_block.specs.Window.{PartsView}
-use Rattle.arc_block.specs.Writers.{SoleOwner, writer_capacity, capacity_of, sole_seen, sole_part, idle_writer}
-use Rattle.arc_block.specs.Writers.{IsSoleWithin, CanGrow, room, with_room, size_at, offset_at}
-use Rattle.arc_block.proofs.Writers.{full-capacity, ends_seen, slice_is_sub}
+use Rattle.arc_block.specs.Block.{Sort, native, vector, buffer, raw, IsMemory, IsBuffer}
+use Rattle.arc_block.specs.Place.{Place, nowhere, static_data, on_block, IsOnBlock}
+use Rattle.arc_block.specs.Shared.{as_shared, as_unique, asks_alone, is_on_block, AsksAlone, IsSharedPlace}
+use Rattle.arc_block.specs.Shared.{MakesRoomBeside, MakesSharedRoom, ReclaimsShared}
+use Rattle.arc_block.specs.Table.{sole_writer, one_writer_of_several}
+use Rattle.arc_block.specs.Window.{PartsView, IsOfBuffer}
+use Rattle.arc_block.specs.Writers.{capacity_of, room_at, room_for, MakesRoom, Reclaims, with_size, at_front}
 
-pub still_some : {C : Type 0} (x : Option C) (f : C → Owner) → is_some x ≡ true
-    → is_some (option_map f x) ≡ true
-still_some None f some = some
-still_some (Some c) f some = refl
+-- whether a place lies on a block, as an answer says it
+pub on_block_answer : {N M : Type 0} (b : Bool) (place : Place N M) → (IsTrue b ↔ IsOnBlock place) → b ≡ is_on_block place
+on_block_answer true nowhere e = absurd (e.0 refl)
+on_block_answer true static_data e = absurd (e.0 refl)
+on_block_answer true (on_block block offset info) e = refl
+on_block_answer false nowhere e = refl
+on_block_answer false static_data e = refl
+on_block_answer false (on_block block offset info) e = e.1 tt
 
-if-growth : (r : Room) (P Q : ℕ → Type 0) → ((n : ℕ) → P n → Q n) → IfGrowth r P → IfGrowth r Q
-if-growth Spare P Q f h = tt
-if-growth (Fresh n) P Q f h = tt
-if-growth Behind P Q f h = tt
-if-growth Front P Q f h = tt
-if-growth (Growth n) P Q f h = f n h
-if-growth (Own k) P Q f h = tt
-if-growth (Refused e) P Q f h = tt
+-- one of several writers stands on no caller's buffer
+memory_not_buffer : (sort : Sort) → IsMemory sort → ¬ IsBuffer sort
+memory_not_buffer native memory = λ b. b
+memory_not_buffer vector memory = λ b. b
+memory_not_buffer (buffer writable) memory = absurd memory
+memory_not_buffer raw memory = λ b. b
 
-if-behind : (r : Room) (P Q : Type 0) → (P → Q) → IfBehind r P → IfBehind r Q
-if-behind Spare P Q f h = tt
-if-behind (Fresh n) P Q f h = tt
-if-behind Behind P Q f h = f h
-if-behind Front P Q f h = tt
-if-behind (Growth n) P Q f h = tt
-if-behind (Own k) P Q f h = tt
-if-behind (Refused e) P Q f h = tt
+pub no_buffer_shared : {N M : Type 0} (place : Place (Option N) M) → IsSharedPlace place → ¬ IsOfBuffer place
+no_buffer_shared nowhere there = λ b. b
+no_buffer_shared static_data there = absurd there
+no_buffer_shared (on_block None offset info) there = absurd there
+no_buffer_shared (on_block (Some owner) offset info) there = memory_not_buffer info.sort there
 
-if-front : (r : Room) (P Q : Type 0) → (P → Q) → IfFront r P → IfFront r Q
-if-front Spare P Q f h = tt
-if-front (Fresh n) P Q f h = tt
-if-front Behind P Q f h = tt
-if-front Front P Q f h = f h
-if-front (Growth n) P Q f h = tt
-if-front (Own k) P Q f h = tt
-if-front (Refused e) P Q f h = tt
+-- nor where the only one had room
+size-no-buffer : {N M : Type 0} (places : ℕ) (place : Place N M) → ¬ IsOfBuffer place → ¬ IsOfBuffer (with_size places place)
+size-no-buffer places nowhere none = none
+size-no-buffer places static_data none = none
+size-no-buffer places (on_block block offset info) none = none
 
-by-both : (b : Bool) (m n : ℕ) → (b ≡ true → m ≡ n) → (b ≡ false → m ≡ n) → m ≡ n
-by-both true m n owned copied = owned refl
-by-both false m n owned copied = copied refl
+front-no-buffer : {N M : Type 0} (place : Place N M) → ¬ IsOfBuffer place → ¬ IsOfBuffer (at_front place)
+front-no-buffer nowhere none = none
+front-no-buffer static_data none = none
+front-no-buffer (on_block block offset info) none = none
 
-ends-told : (ends : Bool) (m n : ℕ) → not ends ≡ false → (ends ≡ true → m ≡ n) → m ≡ n
-ends-told true m n passed there = there refl
-ends-told false m n passed there = absurd (false≢true (sym passed))
+module _ {T M : Type 0} where
+  -- one of several is that
+  pub several_again : (w : PartsView T M) → w.role ≡ one_writer_of_several (capacity_of w.role) → as_shared w ≡ w
+  several_again w is = λ i. record { items = w.items; place = w.place; role = sym is i }
 
--- items that are dropped one by one end where the full places do, where it isn't refused at once
-ends-here : (sort : Sort) (drops : Bool) (size full end : ℕ)
-    → (drops && not (ends_full {M = Unit {0}} (memory_info sort drops size full) end)) ≡ false
-    → drops ≡ true → end ≡ full
-ends-here sort true size full end passed is =
-    ends-told (end == full) end full passed (eqb-true end full)
-ends-here sort false size full end passed is = absurd (false≢true is)
+  -- a sole writer, who was seen as one of several
+  pub sole_again : (parts w : PartsView T M) → parts.role ≡ sole_writer (capacity_of parts.role) → as_shared parts ≡ w
+      → parts ≡ as_unique w
+  sole_again parts w is view = (λ i. record { items = parts.items; place = parts.place; role = is i }) ∙ ap as_unique view
 
--- where it is refused at once, no block grows
-grows-not : (refused : Bool) (r rest : Room) (P Q : ℕ → Type 0)
-    → r ≡ (if refused then Refused Unsupported else rest)
-    → (refused ≡ false → (n : ℕ) → P n → Q n) → IfGrowth r P → IfGrowth r Q
-grows-not true r rest P Q is passed h = subst (λ x. IfGrowth x Q) (sym is) tt
-grows-not false r rest P Q is passed h = if-growth r P Q (passed refl) h
+  moved-no-buffer : (w v : PartsView T M) → v ≡ w → ¬ IsOfBuffer w.place → ¬ IsOfBuffer v.place
+  moved-no-buffer w v is none = subst (λ (x : PartsView T M). ¬ IsOfBuffer x.place) (sym is) none
 
-module _ {T M A : Type 0} where
-  -- how many items there are
-  pub sole_long : (drops one_pass : Bool) (owner : Option SoleOwner) (v : Vec T A) (start end : ℕ)
-      (w : PartsView T M) → sole_seen {M = M} drops owner v start end ≡ w
-      → IsSoleWithin drops one_pass owner v start end → start + length w.items ≡ end
-  sole_long drops one_pass None v start end w view within =
-      omega (arith, ap (λ (s : PartsView T M). length s.items) view, within.0, within.1)
-  sole_long drops one_pass (Some o) v start end w view within =
-      omega (
-        arith,
-        ap (λ (s : PartsView T M). length s.items) view,
-        length-sub v.items start end within.1 within.2,
-        within.1,
-      )
+  -- nor where he got it without memory
+  pub no_buffer_reclaimed : (room : Room) (old new : PartsView T M) (found : Bool)
+      → Reclaims room old new found → ¬ IsOfBuffer old.place → ¬ IsOfBuffer new.place
+  no_buffer_reclaimed Spare old new found made none = moved-no-buffer old new made.1 none
+  no_buffer_reclaimed Behind old new found made none =
+      subst (λ (x : PartsView T M). ¬ IsOfBuffer x.place) (sym made.1) none
+  no_buffer_reclaimed Front old new found made none =
+      subst (λ (x : PartsView T M). ¬ IsOfBuffer x.place) (sym made.1) (front-no-buffer old.place none)
+  no_buffer_reclaimed (Fresh places) old new found made none = moved-no-buffer old new made.1 none
+  no_buffer_reclaimed (Growth places) old new found made none = moved-no-buffer old new made.1 none
+  no_buffer_reclaimed (Own additional) old new found made none = moved-no-buffer old new made.1 none
+  no_buffer_reclaimed (Refused e) old new found made none = moved-no-buffer old new made.1 none
 
-  -- a place among the items is as small as the end, and so a number of the code's
-  pub advance_fits : (drops one_pass : Bool) (owner : Option SoleOwner) (v : Vec T A) (start end : ℕ)
-      (w : PartsView T M) → sole_seen {M = M} drops owner v start end ≡ w
-      → IsSoleWithin drops one_pass owner v start end → Fits w64 end
-      → (n : ℕ) → n ≤ length w.items → Fits w64 (start + n)
-  advance_fits drops one_pass owner v start end w view within fits n inside =
-      let long = sole_long drops one_pass owner v start end w view within in
-      Fits-le (omega (arith, long, inside)) fits
+  -- the only one, who had it, is one of several again
+  beside-reclaimed : (room : Room) (w sole new : PartsView T M) (found : Bool) → new ≡ as_shared sole
+      → Reclaims room (as_unique w) sole found → Reclaims room (as_shared w) new found
+  beside-reclaimed Spare w sole new found is made = (made.0, is ∙ ap as_shared made.1)
+  beside-reclaimed Behind w sole new found is made = (made.0, is ∙ ap as_shared made.1)
+  beside-reclaimed Front w sole new found is made = (made.0, is ∙ ap as_shared made.1)
+  beside-reclaimed (Fresh places) w sole new found is made = (made.0, is ∙ ap as_shared made.1)
+  beside-reclaimed (Growth places) w sole new found is made = (made.0, is ∙ ap as_shared made.1)
+  beside-reclaimed (Own more) w sole new found is made = (made.0, is ∙ ap as_shared made.1)
+  beside-reclaimed (Refused e) w sole new found is made = (made.0, is ∙ ap as_shared made.1)
 
-  -- what is left from there on lies within the memory
-  pub advance_within : (drops one_pass : Bool) (owner : Option SoleOwner) (v : Vec T A) (start end : ℕ)
-      (w : PartsView T M) → sole_seen {M = M} drops owner v start end ≡ w
-      → IsSoleWithin drops one_pass owner v start end
-      → (n : ℕ) → n ≤ length w.items → IsSoleWithin drops one_pass owner v (start + n) end
-  advance_within drops one_pass None v start end w view within n inside =
-      let long = sole_long drops one_pass None v start end w view within in
-      (omega (arith, long, inside, within.0, within.1), within.1, within.2, within.3)
-  advance_within drops one_pass (Some o) v start end w view within n inside =
-      let long = sole_long drops one_pass (Some o) v start end w view within in
-      (within.0, omega (arith, long, inside), within.2, within.3, within.4)
+  -- his items stay
+  pub reclaimed_items : (room : Room) (old new : PartsView T M) (found : Bool) → Reclaims room old new found → new.items ≡ old.items
+  reclaimed_items Spare old new found made = ap (λ w. w.items) made.1
+  reclaimed_items Behind old new found made = ap (λ w. w.items) made.1
+  reclaimed_items Front old new found made = ap (λ w. w.items) made.1
+  reclaimed_items (Fresh places) old new found made = ap (λ w. w.items) made.1
+  reclaimed_items (Growth places) old new found made = ap (λ w. w.items) made.1
+  reclaimed_items (Own additional) old new found made = ap (λ w. w.items) made.1
+  reclaimed_items (Refused e) old new found made = ap (λ w. w.items) made.1
 
-  -- where the writer has room for items more, the vector has their places
-  pub room_behind : (drops one_pass : Bool) (owner : Option SoleOwner) (v : Vec T A)
-      (start end more : ℕ) (w : PartsView T M) → sole_seen {M = M} drops owner v start end ≡ w
-      → IsSoleWithin drops one_pass owner v start end
-      → length w.items + more ≤ capacity_of w.role → 1 ≤ more
-      → length v.items + more ≤ vec_capacity v
-  room_behind drops one_pass None v start end more w view within enough some =
-      let there = subst (λ s. length s.items + more ≤ capacity_of s.role) (sym view) enough in
-      absurd (omega (arith, there, some))
-  room_behind drops one_pass (Some o) v start end more w view within enough some =
-      let last = ends_seen drops one_pass (Some o) v start end more w view within enough some in
-      let there = subst (λ s. length s.items + more ≤ capacity_of s.role) (sym view) enough in
-      let long = length-sub v.items start end within.1 within.2 in
-      let full = full-capacity M o.sort drops (vec_capacity v) start end (length v.items) within.1 last in
-      omega (arith, there, long, full, last, within.1, some)
+  -- on no block there is no room without memory
+  idle-room : (size additional : ℕ) (w : PartsView T M) (place : Place (Option Owner) M) → is_on_block place ≡ false
+      → Reclaims (room_at false (if size == 1 then 8 else 4) size place (length w.items) additional) w w false
+  idle-room size additional w nowhere on = (refl, refl)
+  idle-room size additional w static_data on = (refl, refl)
+  idle-room size additional w (on_block owner offset info) on = absurd (false≢true (sym on))
 
-  -- and lies within them afterwards
-  pub push_within : (drops one_pass : Bool) (owner : Option SoleOwner) (v w : Vec T A)
-      (start end : ℕ) (ys : List T) (seen : PartsView T M)
-      → sole_seen {M = M} drops owner v start end ≡ seen
-      → IsSoleWithin drops one_pass owner v start end → w.items ≡ v.items ++ ys
-      → length seen.items + length ys ≤ capacity_of seen.role → 1 ≤ length ys
-      → IsSoleWithin drops one_pass owner w start (end + length ys)
-  push_within drops one_pass None v w start end ys seen view within items enough some =
-      let there = subst (λ s. length s.items + length ys ≤ capacity_of s.role) (sym view) enough in
-      absurd (omega (arith, there, some))
-  push_within drops one_pass (Some o) v w start end ys seen view within items enough some =
-      let long : length w.items ≡ length v.items + length ys =
-      ap length items ∙ length-append v.items ys in (
-        within.0,
-        omega (arith, within.1),
-        omega (arith, long, within.2),
-        λ copied. omega (arith, long, within.3 copied),
-        within.4,
-      )
+  -- whether the count is asked
+  asks-yes : (additional : ℕ) (w : PartsView T M) → capacity_of w.role - length w.items < additional
+      → is_on_block w.place ≡ true → asks_alone w additional ≡ true
+  asks-yes additional w short on =
+      (λ i. lt-ltb (capacity_of w.role - length w.items) additional short i && on i)
 
-  -- at the front of their memory, the items have all its places
-  pub front_seen : (drops one_pass : Bool) (owner : Option SoleOwner) (v w : Vec T A) (start end : ℕ)
-      (seen : PartsView T M) → sole_seen {M = M} drops owner v start end ≡ seen
-      → IsSoleWithin drops one_pass owner v start end → drops ≡ false
-      → w.items ≡ take (end - start) (drop start v.items ++ take start v.items)
-      → vec_capacity w ≡ vec_capacity v
-      → sole_seen {M = M} drops owner w 0 (end - start) ≡ with_room Front seen
-  front_seen drops one_pass None v w start end seen view within copied items places =
-      let Q : PartsView T M → Type 0 = λ s. idle_writer ≡ with_room Front s in subst Q view refl
-  front_seen true one_pass (Some o) v w start end seen view within copied items places =
-      absurd (false≢true (sym copied))
-  front_seen false one_pass (Some o) v w start end seen view within copied items places =
-      let make : List T → ℕ → ℕ → PartsView T M = λ xs size free. record {
-        items = xs;
-        place = on_block (Some o.owner) 0 (memory_info o.sort false size 0);
-        role = sole_writer free;
-      } in
-      let n = end - start in
-      let xs = v.items in
-      let part = sub xs start end in
-      let there : n ≤ length (drop start xs) =
-      omega (arith, length-drop start xs, within.1, within.2) in
-      let same : sub w.items 0 n ≡ part =
-      ap (take n) items ∙ take-take n n (drop start xs ++ take start xs) (omega arith)
-      ∙ take-append-le n (drop start xs) (take start xs) there ∙ slice_is_sub xs start end within.1
-      in
-      let all : vec_capacity v - 0 ≡ vec_capacity v = omega arith in
-      let Q : PartsView T M → Type 0 =
-      λ s. sole_part {M = M} false o w 0 n ≡ with_room Front s in
-      subst Q view
-      (ap (λ ys. make ys (vec_capacity w) (vec_capacity w - 0)) same
-      ∙ ap (λ m. make part m (m - 0)) places ∙ ap (make part (vec_capacity v)) all)
+  asks-no : (additional : ℕ) (w : PartsView T M) → capacity_of w.role - length w.items < additional
+      → is_on_block w.place ≡ false → asks_alone w additional ≡ false
+  asks-no additional w short on =
+      (λ i. lt-ltb (capacity_of w.role - length w.items) additional short i && on i)
 
-  pub front_room : (drops : Bool) (owner : Option SoleOwner) (v : Vec T A) (start end : ℕ)
-      (w new : PartsView T M) → sole_seen {M = M} drops owner v start end ≡ w
-      → new ≡ with_room Front w
-      → (length new.items ≡ length w.items) × (size_at w.place ≤ capacity_of new.role)
-  front_room drops None v start end w new view is = (
-    ap (λ (s : PartsView T M). length s.items) is,
-    subst (λ (s : PartsView T M). size_at w.place ≤ capacity_of s.role) (sym is)
-        (subst (λ (s : PartsView T M). size_at s.place ≤ capacity_of (with_room Front s).role) view
-        (omega arith)),
-  )
-  front_room drops (Some o) v start end w new view is = (
-    ap (λ (s : PartsView T M). length s.items) is,
-    subst (λ (s : PartsView T M). size_at w.place ≤ capacity_of s.role) (sym is)
-        (subst (λ (s : PartsView T M). size_at s.place ≤ capacity_of (with_room Front s).role) view
-        (omega arith)),
-  )
+module _ {T M H : Type 0} where
+  -- nor where he made room
+  pub no_buffer_room : (drops one_pass : Bool) (room : Room) (old new : PartsView T M) (before after : Pass H)
+      (reply : Result (Unit {0}) TryReserveError) → MakesRoom drops one_pass room old new before after reply
+      → ¬ IsOfBuffer old.place → ¬ IsOfBuffer new.place
+  no_buffer_room drops one_pass Spare old new before after reply made none = moved-no-buffer old new made.1 none
+  no_buffer_room drops one_pass Behind old new before after reply made none =
+      subst (λ (x : PartsView T M). ¬ IsOfBuffer x.place) (sym made.1) none
+  no_buffer_room drops one_pass Front old new before after reply made none =
+      subst (λ (x : PartsView T M). ¬ IsOfBuffer x.place) (sym made.1) (front-no-buffer old.place none)
+  no_buffer_room drops one_pass (Fresh places) old new before after (Ok done) made none =
+      subst (λ (x : PartsView T M). ¬ IsOfBuffer x.place) (sym made.made) (λ b. b)
+  no_buffer_room drops one_pass (Fresh places) old new before after (Err e) made none = moved-no-buffer old new made.1 none
+  no_buffer_room drops one_pass (Growth places) old new before after (Ok done) made none =
+      subst (λ (x : PartsView T M). ¬ IsOfBuffer x.place) (sym made.1) (size-no-buffer places old.place none)
+  no_buffer_room drops one_pass (Growth places) old new before after (Err e) made none = moved-no-buffer old new made.1 none
+  no_buffer_room drops one_pass (Own additional) old new before after (Ok done) made none =
+      subst (λ (x : PartsView T M). ¬ IsOfBuffer x.place) (sym made.2) (size-no-buffer made.0 old.place none)
+  no_buffer_room drops one_pass (Own additional) old new before after (Err e) made none = moved-no-buffer old new made.1 none
+  no_buffer_room drops one_pass (Refused refusal) old new before after reply made none = moved-no-buffer old new made.1 none
 
--- a writer on a block, of which `size` and `full` are told, and who hasn't the places
-module _ {T M A : Type 0} (drops one_pass : Bool) (o : SoleOwner) (v : Vec T A) (start end : ℕ)
-    (w : PartsView T M) (view : sole_part {M = M} drops o v start end ≡ w)
-    (within : IsSoleWithin drops one_pass (Some o) v start end)
-    (size full : ℕ) (size_is : size ≡ vec_capacity v) (full_is : full ≡ length v.items)
-    (additional spare : ℕ) (spare_is : spare ≡ capacity_of w.role - length w.items)
-    (few : spare < additional) where
-  long : length (sub v.items start end) ≡ end - start
-  long = length-sub v.items start end within.1 within.2
+  module _ (one_pass : Bool) (size additional : ℕ) where
+    -- who has the places already gets no more
+    pub spare_shared : (w : PartsView T M) (p : Pass H) → as_shared w ≡ w → additional ≤ capacity_of w.role - length w.items
+        → MakesSharedRoom (asks_alone w additional) one_pass (room_for false size w additional) w w p p (Ok tt)
+    spare_shared w p several enough =
+        let none : nat_lt (capacity_of w.role - length w.items) additional ≡ false = le-ltb (capacity_of w.role - length w.items) additional enough in
+        subst (λ (b : Bool). MakesSharedRoom (b && is_on_block w.place) one_pass
+        (if not b then Spare else room_at false (if size == 1 then 8 else 4) size w.place (length w.items) additional) w w p p (Ok tt))
+        (sym none) (record { sole = as_unique w; shared = sym several; makes = (refl, refl, refl) })
 
-  there : capacity_of (sole_part {M = M} drops o v start end).role - length (sub v.items start end)
-      < additional
-  there =
-      subst (λ (s : PartsView T M). capacity_of s.role - length s.items < additional) (sym view)
-      (subst (λ n. n < additional) spare_is few)
+    -- on no block he has it as the only one
+    pub alone_shared : (w sole new : PartsView T M) (before after : Pass H) (reply : Result (Unit {0}) TryReserveError)
+        → capacity_of w.role - length w.items < additional → is_on_block w.place ≡ false → sole ≡ as_unique w
+        → MakesRoomBeside one_pass (room_for false size sole additional) sole new before after reply
+        → MakesSharedRoom (asks_alone w additional) one_pass (room_for false size w additional) w new before after reply
+    alone_shared w sole new before after reply short on is made =
+        subst (λ (b : Bool). MakesSharedRoom b one_pass (room_for false size w additional) w new before after reply)
+        (sym (asks-no additional w short on))
+        (subst (λ (s : PartsView T M). MakesRoomBeside one_pass (room_for false size s additional) s new before after reply) is made)
 
-  -- they go up to the block's end, where the items end where the full places do
-  capacity-there : (drops ≡ true → start + (end - start) ≡ full)
-      → writer_capacity {M = M} drops (memory_info o.sort drops (vec_capacity v) (length v.items)) start
-      (end - start) ≡ vec_capacity v - start
-  capacity-there ends =
-      let last = by-both drops end (length v.items)
-      (λ owned. omega (arith, ends owned, full_is, within.1)) within.3 in
-      full-capacity M o.sort drops (vec_capacity v) start end (length v.items) within.1 last
+    -- and on a block, once he was told that he is
+    pub asked_shared : (w sole new : PartsView T M) (before between after : Pass H) (reply : Result (Unit {0}) TryReserveError)
+        → capacity_of w.role - length w.items < additional → is_on_block w.place ≡ true
+        → AsksAlone w.place before between true → sole ≡ as_unique w
+        → MakesRoomBeside one_pass (room_for false size sole additional) sole new between after reply
+        → MakesSharedRoom (asks_alone w additional) one_pass (room_for false size w additional) w new before after reply
+    asked_shared w sole new before between after reply short on asked is made =
+        subst (λ (b : Bool). MakesSharedRoom b one_pass (room_for false size w additional) w new before after reply)
+        (sym (asks-yes additional w short on)) (
+          true,
+          between,
+          asked,
+          subst (λ (s : PartsView T M). MakesRoomBeside one_pass (room_for false size s additional) s new between after reply) is made,
+        )
 
-  pub room_is : (first item_size : ℕ) (r : Room)
-      → r ≡ room_in {M = Unit {0}} drops item_size (memory_info o.sort drops size full) start (end - start)
-      additional → r ≡ room drops first item_size w additional
-  room_is first item_size r is =
-      let info : BlockInfo M = memory_info o.sort drops (vec_capacity v) (length v.items) in
-      let Q : PartsView T M → Type 0 = λ s. r ≡ room drops first item_size s additional in
-      let at : ℕ → ℕ → ℕ → Room =
-      λ n m k. room_in {M = M} drops item_size (memory_info o.sort drops n m) start k additional in
-      subst Q view
-      (is ∙ ap (λ n. at n full (end - start)) size_is
-      ∙ ap (λ n. at (vec_capacity v) n (end - start)) full_is
-      ∙ ap (at (vec_capacity v) (length v.items)) (sym long)
-      ∙ ap (λ b. if not b then Spare else at (vec_capacity v) (length v.items)
-      (length (sub v.items start end))) (sym (lt-ltb _ _ there)))
+    -- beside another owner nothing changes
+    pub refused_shared : (w new : PartsView T M) (before after : Pass H)
+        → capacity_of w.role - length w.items < additional → is_on_block w.place ≡ true
+        → AsksAlone w.place before after false → new ≡ w
+        → MakesSharedRoom (asks_alone w additional) one_pass (room_for false size w additional) w new before after (Err NotUnique)
+    refused_shared w new before after short on asked same =
+        subst (λ (b : Bool). MakesSharedRoom b one_pass (room_for false size w additional) w new before after (Err NotUnique))
+        (sym (asks-yes additional w short on)) (false, after, asked, (refl, same, refl))
 
-  pub room_not_behind : (r : Room) → IfBehind r ((additional ≤ size - start - (end - start))
-      × (drops ≡ true → start + (end - start) ≡ full)) → IfBehind r ⊥
-  room_not_behind r =
-      if-behind r ((additional ≤ size - start - (end - start))
-      × (drops ≡ true → start + (end - start) ≡ full)) ⊥
-      (λ h. let free = capacity-there h.1 in omega (arith, h.0, free, there, long, size_is))
+  module _ (size additional : ℕ) where
+    -- Room without memory. Who has the places already gets no more;
+    pub spare_reclaimed : (w : PartsView T M) (p : Pass H) → additional ≤ capacity_of w.role - length w.items
+        → ReclaimsShared (asks_alone w additional) (room_for false size w additional) w w p p true
+    spare_reclaimed w p enough =
+        let none : nat_lt (capacity_of w.role - length w.items) additional ≡ false = le-ltb (capacity_of w.role - length w.items) additional enough in
+        subst (λ (b : Bool). ReclaimsShared (b && is_on_block w.place)
+        (if not b then Spare else room_at false (if size == 1 then 8 else 4) size w.place (length w.items) additional) w w p p true)
+        (sym none) (refl, (refl, refl))
 
-  pub room_shifts : (r : Room) → IfFront r ((drops ≡ false) × ((end - start) + additional ≤ size))
-      → IfFront r (length w.items + additional ≤ size_at w.place)
-  room_shifts r =
-      if-front r ((drops ≡ false) × ((end - start) + additional ≤ size))
-      (length w.items + additional ≤ size_at w.place)
-      (λ h. subst (λ (s : PartsView T M). length s.items + additional ≤ size_at s.place) view
-      (omega (arith, h.1, long, size_is)))
+    -- on no block there is none,
+    pub idle_reclaimed : (w : PartsView T M) (p : Pass H) → capacity_of w.role - length w.items < additional
+        → is_on_block w.place ≡ false
+        → ReclaimsShared (asks_alone w additional) (room_for false size w additional) w w p p false
+    idle_reclaimed w p short on =
+        let some : nat_lt (capacity_of w.role - length w.items) additional ≡ true = lt-ltb (capacity_of w.role - length w.items) additional short in
+        subst (λ (z : Bool × Bool). ReclaimsShared (z.0 && z.1)
+        (if not z.0 then Spare else room_at false (if size == 1 then 8 else 4) size w.place (length w.items) additional) w w p p false)
+        (λ i. (sym some i, sym on i)) (refl, idle-room size additional w w.place on)
 
-  pub room_grows : (item_size : ℕ) (r : Room)
-      → r ≡ room_in {M = Unit {0}} drops item_size (memory_info o.sort drops size full) start (end - start)
-      additional
-      → IfGrowth r (λ n. (size ≤ n) × (start + (end - start) + additional ≤ n))
-      → IfGrowth r (λ n. CanGrow w n × (length w.items + additional ≤ n - offset_at w.place))
-  room_grows item_size r is =
-      let info : BlockInfo (Unit {0}) = memory_info o.sort drops size full in
-      let P : ℕ → Type 0 = λ n. (size ≤ n) × (start + (end - start) + additional ≤ n) in
-      let R : ℕ → PartsView T M → Type 0 =
-      λ n s. CanGrow s n × (length s.items + additional ≤ n - offset_at s.place) in
-      grows-not (drops && not (ends_full info (start + (end - start)))) r _ P (λ n. R n w) is
-      (λ passed n h.
-      let ends =
-      λ (owned : drops ≡ true). ends-here o.sort drops size full (start + (end - start)) passed owned in
-      let larger : vec_capacity v ≤ n = omega (arith, h.0, size_is) in
-      subst (R n) view (
-        record { stands = tt; larger = larger; behind = capacity-there ends },
-        omega (arith, h.1, long),
-      ))
+    -- beside another owner nothing changes,
+    pub refused_reclaimed : (w new : PartsView T M) (before after : Pass H)
+        → capacity_of w.role - length w.items < additional → is_on_block w.place ≡ true
+        → AsksAlone w.place before after false → new ≡ w
+        → ReclaimsShared (asks_alone w additional) (room_for false size w additional) w new before after false
+    refused_reclaimed w new before after short on asked same =
+        subst (λ (b : Bool). ReclaimsShared b (room_for false size w additional) w new before after false)
+        (sym (asks-yes additional w short on)) (false, asked, (refl, same))
+
+    -- and who is alone has it as the only one
+    pub asked_reclaimed : (drops : Bool) (w unique sole new : PartsView T M) (before after : Pass H) (found : Bool)
+        → drops ≡ false → as_shared w ≡ w
+        → capacity_of w.role - length w.items < additional → is_on_block w.place ≡ true
+        → AsksAlone w.place before after true → unique ≡ as_unique w → new ≡ as_shared sole
+        → Reclaims (room_for drops size unique additional) unique sole found
+        → ReclaimsShared (asks_alone w additional) (room_for false size w additional) w new before after found
+    asked_reclaimed drops w unique sole new before after found copied several short on asked same is made =
+        let alike = subst (λ (d : Bool). Reclaims (room_for d size unique additional) unique sole found) copied made in
+        let beside = beside-reclaimed (room_for false size w additional) w sole new found is
+        (subst (λ (s : PartsView T M). Reclaims (room_for false size s additional) s sole found) same alike) in
+        subst (λ (b : Bool). ReclaimsShared b (room_for false size w additional) w new before after found)
+        (sym (asks-yes additional w short on))
+        (true, asked, subst (λ (x : PartsView T M). Reclaims (room_for false size w additional) x new found) several beside)

@@ -10,12 +10,12 @@ use Rattle.arc_owners.specs.count.Calls.{Owner}
 use Rattle.arc_owners.specs.declared.error.TryReserveError.{TryReserveError}
 use Rattle.arc_buffer.specs.Slice.{sub}
 use Rattle.arc_buffer.proofs.Sub.{length-sub}
-use Rattle.arc_block.specs.Block.{BlockView, buffer_info, native, vector, buffer, raw, IsMemory}
+use Rattle.arc_block.specs.Block.{BlockView, buffer_info, vector, buffer, raw, IsMemory}
 use Rattle.arc_block.specs.Block.{IsBuffer}
 use Rattle.arc_block.specs.Contents.{held_in, content_items}
 use Rattle.arc_block.specs.Growth.{MayAnswer, AsksForRoom}
 use Rattle.arc_block.specs.declared.block.content.Content.{Content}
-use Rattle.arc_block.specs.declared.block.content.Content.TheVariants.{Native, Vector, Buffer, Raw}
+use Rattle.arc_block.specs.declared.block.content.Content.TheVariants.{Vector, Buffer, Raw}
 use Rattle.arc_block.specs.declared.block.content.CallersBuffer.{CallersBuffer}
 use Rattle.arc_block.specs.declared.parts.room.Room.TheVariants.{Front, Growth}
 use Rattle.std.specs.Prelude.{Result, Ok, Err, OnOk, IfErr, slice_set}
@@ -29,7 +29,7 @@ use Rattle.arc_buffer.specs.Buffers.{written_from, written_long}
 use Rattle.arc_block.specs.LendsBuffers.{with_buffer, KeepsBuffer}
 use Rattle.arc_block.specs.Writers.{with_items}
 use Rattle.arc_block.proofs.Lent.{part-written}
-use Rattle.arc_block.proofs.Writers.{slice_is_sub, part-take}
+use Rattle.arc_block.proofs.MemoryParts.{slice_is_sub, part-take}
 
 -- an item written over another one
 set-behind : {T : Type 0} (xs : List T) (at : ℕ) (x : T) → at < length xs
@@ -53,9 +53,6 @@ put_behind xs ys at x last is =
     ∙ ap (λ zs. take at xs ++ x ∷ zs) (sym (drop_all (at + 1) xs (omega (arith, last))))
 
 -- a buffer is no other sort
-not-native : native ≡ buffer true → ⊥
-not-native same = subst IsMemory same tt
-
 not-vector : vector ≡ buffer true → ⊥
 not-vector same = subst IsMemory same tt
 
@@ -305,7 +302,6 @@ module _ {T B M A : Type 0} (list : B → List T) (places : B → ℕ) (drops on
 buffer-is : {T B M A : Type 0} (list : B → List T) (places : B → ℕ) (drops : Bool) (o : Owner)
     (content : Content T B M A) → (held_in list places drops o content).facts.sort ≡ buffer true
     → (held : CallersBuffer B M) × (content ≡ Buffer held)
-buffer-is list places drops o (Native memory) is = absurd (not-native is)
 buffer-is list places drops o (Vector memory) is = absurd (not-vector is)
 buffer-is list places drops o (Buffer held) is = (held, refl)
 buffer-is list places drops o (Raw shared) is = absurd (not-raw is)
@@ -375,7 +371,6 @@ lent_held {T} {B} {M} {A} list places drops one_pass o content start end w view 
 -- the buffer's items are the block's
 pub items_held : {T B M A : Type 0} (list : B → List T) (inner : Content T B M A) (b : B)
     → KeepsBuffer inner b → list b ≡ content_items list inner
-items_held list (Native memory) b of = absurd of
 items_held list (Vector memory) b of = absurd of
 items_held list (Buffer held) b of = ap list (sym of)
 items_held list (Raw shared) b of = absurd of

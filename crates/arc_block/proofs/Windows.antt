@@ -1,30 +1,51 @@
 -- What a window's parts are seen as: over a block, and cut.
-use Rattle.std.proofs.Common.{Fits, Fits-le, ◌≡◌, ℕ, ◌+◌, ◌-◌, ◌≤◌, ◌==◌, ◌&&◌, Bool, true, false, if◌then◌else◌, List, [], length, Option, Some, None, refl, sym, ap, ◌∙◌, subst, arith}
+use Rattle.std.proofs.Common.{Fits, Fits-le, ◌≡◌, ℕ, ◌+◌, ◌-◌, ◌≤◌, ◌==◌, ◌&&◌, Bool, true, false, if◌then◌else◌, List, [], ◌∷◌, length, Option, Some, None, refl, sym, ap, ◌∙◌, subst, arith}
 use mir.Syntax.{w64}
-use Rattle.std.proofs.lemmas.Bool.{eqb-true, eq-eqb, false≢true}
+use Rattle.std.proofs.lemmas.Bool.{eqb-true, false≢true}
 use Rattle.std.proofs.lemmas.List.{nil_from_length}
 use Rattle.arc_owners.specs.declared.count.tokens.Pass.{Pass}
 use Rattle.arc_owners.specs.count.Calls.{Owner, IsFirst, MakesAnother, Asks}
 use Rattle.arc_buffer.specs.Slice.{sub}
-use Rattle.arc_buffer.proofs.Sub.{sub-sub, sub-whole, length-sub}
-use Rattle.arc_block.specs.Block.{BlockInfo, BlockView, native, vector, memory_info, native_facts, native_block, raw_info}
+use Rattle.arc_buffer.proofs.Sub.{sub-sub, length-sub}
+use Rattle.arc_block.specs.Block.{BlockInfo, BlockView, vector, memory_info, native_facts, raw_info}
 use Rattle.arc_block.specs.declared.block.TheConstants.{MAX_OWNERS}
 use Rattle.arc_block.specs.Place.{Place, nowhere, static_data, on_block, moved, part_place, at_owner}
+use Rattle.arc_block.specs.Natives.{NativeView, native_info}
 use Rattle.arc_block.specs.Table.{reader}
-use Rattle.arc_block.specs.declared.parts.storage.Storage.TheVariants.{Nothing, Static, Block, Raw}
-use Rattle.arc_block.specs.Window.{PartsView, StandsBy, parts_of, window_of, made_window, window_seen, IsWithin, IsNativeOf, IsWholeOf}
-use Rattle.arc_block.specs.Steps.{Shares, Makes, MakesOfVec, RefusesArray, RefusesTaking}
+use Rattle.arc_block.specs.declared.parts.storage.Storage.TheVariants.{Nothing, Static, Native, Block, Raw}
+use Rattle.arc_block.specs.Window.{Window, PartsView, StandsBy, NeedsBlock, parts_of, window_of, window_seen, IsWithin}
+use Rattle.arc_block.specs.Steps.{Shares, Makes, MakesOfVec, NeedsVecBlock, RefusesTaking}
 
 stays : {M : Type 0} (place : Place (Option Owner) M) → moved 0 place ≡ place
 stays nowhere = refl
 stays static_data = refl
 stays (on_block owner offset facts) = let same : offset + 0 ≡ offset = omega arith in ap (λ n. on_block owner n facts) same
 
+-- the part of a part of a native block, by the numbers of its places
+pub part-of-part : {T : Type 0} (b : NativeView T) (from to start end : ℕ) → b.first ≤ from
+    → from + end ≤ to → sub b.items ((from + start) - b.first) ((from + end) - b.first)
+    ≡ sub (sub b.items (from - b.first) (to - b.first)) start end
+part-of-part b from to start end after inside =
+    let first : from - b.first + start ≡ (from + start) - b.first = omega (arith, after) in
+    let last : from - b.first + end ≡ (from + end) - b.first = omega (arith, after) in
+    sym (sub-sub b.items (from - b.first) (to - b.first) start end (omega (arith, inside, after))
+    ∙ ap (λ n. sub b.items n (from - b.first + end)) first
+    ∙ ap (λ n. sub b.items ((from + start) - b.first) n) last)
+
 module _ {T M : Type 0} where
   -- how many items there are
   pub how_long : (inner : StandsBy T M) (from to : ℕ) (p : PartsView T M) → parts_of (window_seen inner from to) ≡ p → IsWithin inner from to → from + length p.items ≡ to
   how_long (Nothing none) from to p view within = omega (arith, ap (λ (v : PartsView T M). length v.items) view, within.0, within.1)
   how_long (Static items) from to p view within = omega (arith, ap (λ (v : PartsView T M). length v.items) view, length-sub items from to within.0 within.1, within.0)
+  how_long (Native b) from to p view within =
+      let f = within.0.from in let o = within.0.ordered in let t = within.0.to in
+      omega (
+        arith,
+        ap (λ (v : PartsView T M). length v.items) view,
+        length-sub b.items (from - b.first) (to - b.first) (omega (arith, f, o)) (omega (arith, t)),
+        f,
+        o,
+      )
   how_long (Block b) from to p view within = omega (arith, ap (λ (v : PartsView T M). length v.items) view, length-sub b.items from to within.0 within.1, within.0)
   how_long (Raw items) from to p view within = omega (arith, ap (λ (v : PartsView T M). length v.items) view, length-sub items from to within.0 within.1, within.0)
 
@@ -41,6 +62,15 @@ module _ {T M : Type 0} where
   pub kept_within : (inner : StandsBy T M) (from to start end : ℕ) → IsWithin inner from to → start ≤ end → from + end ≤ to → IsWithin inner (from + start) (from + end)
   kept_within (Nothing none) from to start end within ordered inside = (omega (arith, within.0, within.1, ordered, inside), omega (arith, within.0, within.1, inside))
   kept_within (Static items) from to start end within ordered inside = (omega (arith, ordered), omega (arith, inside, within.1))
+  kept_within (Native b) from to start end within ordered inside =
+      let f = within.0.from in let t = within.0.to in (
+        record {
+          from = omega (arith, f);
+          ordered = omega (arith, ordered);
+          to = omega (arith, inside, t);
+        },
+        within.1,
+      )
   kept_within (Block b) from to start end within ordered inside = (omega (arith, ordered), omega (arith, inside, within.1), within.2)
   kept_within (Raw items) from to start end within ordered inside = (omega (arith, ordered), omega (arith, inside, within.1))
 
@@ -55,6 +85,16 @@ module _ {T M : Type 0} where
   kept_seen (Static items) from to start end p view within ordered inside =
       let seen : PartsView T M → Type 0 = λ v. parts_of (window_seen {T = T} (Static items) (from + start) (from + end)) ≡ record { items = sub v.items start end; place = moved start v.place; role = v.role } in
       subst seen view (ap (λ xs. record { items = xs; place = static_data; role = reader }) (sym (sub-sub items from to start end inside)))
+  kept_seen (Native b) from to start end p view within ordered inside =
+      let seen : PartsView T M → Type 0 = λ v.
+      parts_of (window_seen (Native b) (from + start) (from + end)) ≡ record {
+        items = sub v.items start end;
+        place = moved start v.place;
+        role = v.role;
+      } in
+      let there : Place (Option Owner) M = on_block (Some b.owner) (from + start) (native_info b) in
+      subst seen view (ap (λ xs. record { items = xs; place = there; role = reader })
+      (part-of-part b from to start end within.0.from inside))
   kept_seen (Block b) from to start end p view within ordered inside =
       let seen : PartsView T M → Type 0 = λ v. parts_of (window_seen (Block b) (from + start) (from + end)) ≡ record { items = sub v.items start end; place = moved start v.place; role = v.role } in
       let there : Place (Option Owner) M = on_block (Some b.owner) (from + start) b.facts in
@@ -121,35 +161,6 @@ module _ {T M : Type 0} (inner : StandsBy T M) (from to : ℕ) (p : PartsView T 
       part_shares old new makes =
           let P : Place (Option Owner) M → Type 0 = λ place. Shares place old new (on_block (Some b'.owner) (from + start) b'.facts) in
           subst P (ap (λ (v : PartsView T M). v.place) part_seen) (b'.owner, makes, ap (λ x. on_block (Some b'.owner) (from + start) x) facts)
-
-  -- as many items as the block has places are all of it
-  pub whole_is_all : (size : ℕ) → IsWholeOf size (window_of p) → (length b.items ≡ size) × (b.items ≡ p.items)
-  whole_is_all size whole =
-      let places : b.facts.size ≡ size = (subst (λ (v : PartsView T M). IsNativeOf size v.place) on_block_seen whole.block).1 in
-      let long : to - from ≡ size = sym between ∙ whole.items in
-      let start : from ≡ 0 = omega (arith, here.0, here.1, here.2, places, long) in
-      let last : to ≡ length b.items = omega (arith, here.0, here.1, here.2, places, long) in
-      (omega (arith, here.0, here.1, here.2, places, long), sym (ap (λ (v : PartsView T M). v.items) on_block_seen ∙ ap (λ n. sub b.items n to) start ∙ ap (λ n. sub b.items 0 n) last ∙ sub-whole b.items))
-
-  -- which is a native one
-  pub whole_is_native : (size : ℕ) → IsWholeOf size (window_of p) → b.facts.sort ≡ native
-  whole_is_native size whole =
-      (subst (λ (v : PartsView T M). IsNativeOf size v.place) on_block_seen whole.block).0
-
-  -- they are all of a native block where the numbers say so
-  pub whole_told : (n : ℕ) → b.facts.sort ≡ native → (length p.items ≡ n) × (b.facts.size ≡ n) → IsWholeOf n (window_of p)
-  whole_told n sort told = record { items = told.0; block = subst (λ (v : PartsView T M). IsNativeOf n v.place) (sym on_block_seen) (sort, told.1) }
-
-  -- they come back on the same block, beside another owner
-  pub back_on_block : {H : Type 0} (b' : BlockView T M) → b' ≡ b → (size : ℕ) → IsWholeOf size (window_of p) → (old new : Pass H) → Asks b.owner old new false
-      → (parts_of (window_seen (Block b') from to) ≡ p) × RefusesArray size (window_of p) old new
-  back_on_block b' same size whole old new asks = (
-    ap (λ x. parts_of (window_seen (Block x) from to)) same ∙ sym on_block_seen,
-    record {
-      asked = λ _. subst (λ (v : PartsView T M). at_owner v.place ⊥ (λ o. Asks o old new false)) (sym on_block_seen) asks;
-      unasked = λ part. absurd (part whole);
-    },
-  )
 
   -- they come back where all was as wanted but the count
   pub taking_refused : {H : Type 0} (b' : BlockView T M) → b' ≡ b → (wanted : Type 0) → wanted → (old new : Pass H) → Asks b.owner old new false
@@ -218,17 +229,6 @@ none_on_nothing {T} {M} inner from to p none view is start end ordered inside =
     sym (nil_from_length (sub p.items start end) (omega (arith, long, inside, few)))
 
 module _ {T M : Type 0} (has_static drops one_pass : Bool) (items : List T) where
-  -- all of a new block
-  pub made_on_block : (b : BlockView T M) → b ≡ native_block drops b.owner items → IsFirst MAX_OWNERS one_pass b.owner → (has_static && (length items == 0)) ≡ false
-      → Makes has_static drops one_pass items (window_of (parts_of (window_seen (Block b) 0 (length items))))
-  made_on_block b is first kept =
-      let there : Bool → Place (Option Owner) M = λ nothing. if nothing then nowhere else on_block (Some b.owner) 0 (native_facts drops (length items)) in
-      let P : BlockView T M → Type 0 = λ x. window_of (parts_of (window_seen (Block x) 0 (length items))) ≡ made_window has_static drops b.owner items in record {
-        owner = b.owner;
-        made = subst P (sym is) (ap (λ xs. record { items = xs; place = there false }) (sub-whole items) ∙ ap (λ nothing. record { items = items; place = there nothing }) (sym kept));
-        first = first;
-      }
-
   -- no items, on nothing
   pub made_on_nothing : (owner : Owner) → (has_static && (length items == 0)) ≡ true
       → Makes {M = M} has_static drops one_pass items (record { items = []; place = nowhere })
@@ -240,31 +240,28 @@ module _ {T M : Type 0} (has_static drops one_pass : Bool) (items : List T) wher
         first = tt;
       }
 
-  -- what is made on a new block lies within it
-  pub made_within : (b : BlockView T M) → b ≡ native_block drops b.owner items → IsWithin (Block b) 0 (length items)
-  made_within b is = subst (λ x. IsWithin (Block x) 0 (length items)) (sym is) (omega arith, omega arith, omega arith)
-
 -- an owner, for parts that stand on nothing and have none
 pub owner_for : {H : Type 0} → Pass H → Owner
 owner_for p = record { block = p.trace.block; number = 0; born = [] }
 
-both_of : (b : Bool) (m n : ℕ) → m ≤ n → (b && (n == 0)) ≡ true → (b && (m == 0)) ≡ true
-both_of true m n less both =
-    let last : n ≡ 0 = eqb-true n 0 both in eq-eqb m 0 (omega (arith, less, last))
-both_of false m n less both = absurd (false≢true both)
+-- where a list of no items needs a block, a vector without places does
+pub none_needs : {T : Type 0} (has_static : Bool) (xs : List T) (places : ℕ) → length xs ≡ 0
+    → places ≡ 0 → NeedsBlock has_static xs → NeedsVecBlock has_static places
+none_needs true [] places few none needs = absurd needs
+none_needs true (x ∷ xs) places few none needs = absurd (omega (arith, few))
+none_needs false xs places few none needs = refl
 
 module _ {T M : Type 0} (has_static drops one_pass : Bool) (items : List T) (places : ℕ)
     (fit : length items ≤ places) where
-  -- a vector without places, on nothing
-  pub vec_on_nothing : (owner : Owner) → (has_static && (places == 0)) ≡ true
-      → MakesOfVec {M = M} has_static drops one_pass items places
-      (record { items = []; place = nowhere })
-  vec_on_nothing owner nothing =
-      let none : (has_static && (length items == 0)) ≡ true =
-      both_of has_static (length items) places fit nothing in record {
-        none = λ zero. made_on_nothing has_static drops one_pass items owner none;
-        some = λ more.
-            absurd (omega (arith, more, both_true has_static places nothing));
+  -- a vector without places, as a list of no items
+  pub vec_of_none : places ≡ 0 → (xs : List T) → length xs ≡ 0 → (w : Window T M)
+      → Makes has_static drops one_pass xs w
+      → MakesOfVec has_static drops one_pass items places w
+  vec_of_none zero xs few w made =
+      let none : items ≡ [] = nil_from_length items (omega (arith, fit, zero)) in record {
+        none = λ _. subst (λ ys. Makes has_static drops one_pass ys w)
+            (nil_from_length xs few ∙ sym none) made;
+        some = λ more. absurd (omega (arith, more, zero));
       }
 
   -- and on a block with its places

@@ -69,14 +69,6 @@ pub record BlockView (T M : Type 0) : Type 0 where
   pub items : List T
   pub facts : BlockInfo M
 
--- a native block of these items, with a place for each
-abbrev pub native_block : {T M : Type 0} → Bool → Owner → List T → BlockView T M
-native_block drops owner items = record {
-  owner = owner;
-  items = items;
-  facts = native_facts drops (length items);
-}
-
 -- a block of this sort whose only owner has its items as this vector, whose places are the block's
 abbrev pub held_as : {T M A : Type 0} → Sort → Bool → Owner → Vec T A → BlockView T M
 held_as sort drops owner items = record {

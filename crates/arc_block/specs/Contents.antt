@@ -1,46 +1,30 @@
 -- What a block keeps: its items, and what is known of it, by its sort.
-use Rattle.std.specs.Prelude.{◌≡◌, ℕ, Bool, false, List, length}
+use Rattle.std.specs.Prelude.{◌≡◌, ℕ, Bool, List, length}
 use Rattle.std.specs.Arc.{arc_value}
 use Rattle.std.specs.declared.vec.Vec.{Vec}
-use Rattle.arc_memory.specs.declared.native.Native as mem
 use Rattle.arc_memory.specs.Memory.{extent_of}
 use Rattle.arc_owners.specs.count.Calls.{Owner}
-use Rattle.arc_owners.specs.declared.mark.Mark.{Ghosts}
-use Rattle.arc_owners.specs.declared.memory.sole_box.SoleBox.{SoleBox}
-use Rattle.arc_owners.specs.memory.SoleBoxes.{sole_in, sole_value}
-use Rattle.arc_block.specs.Writers.{SoleOwner}
 use Rattle.arc_block.specs.declared.block.content.Content.{Content}
-use Rattle.arc_block.specs.declared.block.content.Content.TheVariants.{Native, Vector, Buffer, Raw}
+use Rattle.arc_block.specs.declared.block.content.Content.TheVariants.{Vector, Buffer, Raw}
 use Rattle.arc_block.specs.Block.{Sort, BlockInfo, BlockView, memory_info, buffer_info, raw_info}
-use Rattle.arc_block.specs.Block.{native, vector, buffer, raw}
+use Rattle.arc_block.specs.Block.{vector, buffer, raw}
 
 module _ {T B M A : Type 0} where
   abbrev pub content_sort : Content T B M A → Sort
-  content_sort (Native memory) = native
   content_sort (Vector memory) = vector
   content_sort (Buffer held) = buffer held.writable
   content_sort (Raw shared) = raw
 
-  -- what a block of this sort keeps, where that is memory of ours
-  abbrev pub in_memory : Sort → mem.Native T A → Content T B M A
-  in_memory native memory = Native memory
-  in_memory vector memory = Vector memory
-  in_memory (buffer writable) memory = Native memory
-  in_memory raw memory = Native memory
-
-  -- the vector has the items and the places that a block keeps, where that is memory of ours
-  abbrev pub IsMemoryOf : Content T B M A → Vec T A → Type 0
-  IsMemoryOf (Native memory) v =
+  -- the vector has the items and the places that a block keeps, which is one
+  abbrev pub IsVecOf : Content T B M A → Vec T A → Type 0
+  IsVecOf (Vector memory) v =
       (v.items ≡ memory.places.items) × (extent_of v ≡ memory.allocation)
-  IsMemoryOf (Vector memory) v =
-      (v.items ≡ memory.places.items) × (extent_of v ≡ memory.allocation)
-  IsMemoryOf (Buffer held) v = ⊥
-  IsMemoryOf (Raw shared) v = ⊥
+  IsVecOf (Buffer held) v = ⊥
+  IsVecOf (Raw shared) v = ⊥
 
 -- of callers' buffers with these items
 module _ {T B M A : Type 0} (list : B → List T) where
   abbrev pub content_items : Content T B M A → List T
-  content_items (Native memory) = memory.places.items
   content_items (Vector memory) = memory.places.items
   content_items (Buffer held) = list held.buffer
   content_items (Raw shared) = list (arc_value shared)
@@ -50,8 +34,6 @@ module _ {T B M A : Type 0} (list : B → List T) (places : B → ℕ) where
   -- A buffer's full places are counted, whatever its items are: those of its list. An `Arc` is only
   -- read, and so has no other places.
   abbrev pub content_info : (drops : Bool) → Content T B M A → BlockInfo M
-  content_info drops (Native memory) =
-      memory_info native drops memory.allocation.count (length memory.places.items)
   content_info drops (Vector memory) =
       memory_info vector drops memory.allocation.count (length memory.places.items)
   content_info drops (Buffer held) =
@@ -65,8 +47,3 @@ module _ {T B M A : Type 0} (list : B → List T) (places : B → ℕ) where
     items = content_items list content;
     facts = content_info drops content;
   }
-
--- the only owner who has a block's count, with the block's sort
-module _ {T B M A H : Type 0} {MAX : ℕ} {G : Ghosts H} where
-  abbrev pub sole_of : SoleBox (Content T B M A) A MAX H G → SoleOwner
-  sole_of box = record { owner = sole_in box; sort = content_sort (sole_value box) }

@@ -8,18 +8,31 @@ use Rattle.arc_buffer.specs.declared.kinds.Slice as kind
 use Rattle.arc_block.specs.Window.{PartsView}
 use Rattle.arc_block.specs.Writers.{with_items}
 use Rattle.arc_buffer.specs.declared.buffer.BufferMut as buffer_mut
-use Rattle.arc_block.specs.contracts.parts.sole.memory.SoleMemory as memory
+use Rattle.arc_block.specs.contracts.parts.sole.vector.SoleVector as in_vector
+use Rattle.arc_block.specs.contracts.parts.sole.native.SoleNative as native
 use Rattle.arc_block.specs.contracts.parts.sole.buffer.SoleBuffer as in_buffer
 use Rattle.arc_block.specs.contracts.parts.sole.SoleParts as either
+use Rattle.arc_block.specs.contracts.parts.shared.native.SharedNative as shared_native
+use Rattle.arc_block.specs.contracts.parts.shared.SharedParts as shared
+use Rattle.arc_block.specs.NativeWriters.{NativeWriter, with_written_items}
 
 module _ (S B M A H Item Error : RattleType) (h : mark.Ghosts H.Denot)
     (s : kind.Ghosts S.Denot Item.Denot Error.Denot)
     (b : buffer.Ghosts B.Denot Item.Denot) (a : allocator.Ghosts A.Denot)
     (parts : MutBor (PartsView Item.Denot M.Denot)) where
   -- once the borrow r ends, the items are those that r shows last
-  abbrev pub lends_memory_items : MutBor (List Item.Denot) → Fml
-  lends_memory_items r =
-      Lends (memory.the_row S B M A H Item Error h s b a) (Array Item 0) parts r
+  abbrev pub lends_vector_items : MutBor (List Item.Denot) → Fml
+  lends_vector_items r =
+      Lends (in_vector.the_row S B M A H Item Error h s b a) (Array Item 0) parts r
+      (with_items parts.now)
+
+-- the same of items on a native block
+module _ (S M A H Item Error : RattleType) (h : mark.Ghosts H.Denot)
+    (s : kind.Ghosts S.Denot Item.Denot Error.Denot) (a : allocator.Ghosts A.Denot)
+    (parts : MutBor (PartsView Item.Denot M.Denot)) where
+  abbrev pub lends_native_items : MutBor (List Item.Denot) → Fml
+  lends_native_items r =
+      Lends (native.the_row S M A H Item Error h s a) (Array Item 0) parts r
       (with_items parts.now)
 
 -- the same of items in a caller's buffer
@@ -36,4 +49,22 @@ module _ (S B M A H Item Error : RattleType) (h : mark.Ghosts H.Denot)
   abbrev pub lends_items : MutBor (List Item.Denot) → Fml
   lends_items r =
       Lends (either.the_row S B M A H Item Error s m b a h) (Array Item 0) parts r
+      (with_items parts.now)
+
+-- the same of one of several writers on a native block
+module _ (T A H : RattleType) (h : mark.Ghosts H.Denot) (a : allocator.Ghosts A.Denot)
+    (writer : MutBor (NativeWriter T.Denot)) where
+  abbrev pub lends_writer_items : MutBor (List T.Denot) → Fml
+  lends_writer_items r =
+      Lends (shared_native.the_row T A H h a) (Array T 0) writer r (with_written_items writer.now)
+
+-- the same of one of several writers, wherever he stands
+module _ (S B M A H Item Error : RattleType)
+    (s : kind.Ghosts S.Denot Item.Denot Error.Denot)
+    (m : buffer_mut.Ghosts B.Denot Item.Denot) (b : buffer.Ghosts B.Denot Item.Denot)
+    (a : allocator.Ghosts A.Denot) (h : mark.Ghosts H.Denot)
+    (parts : MutBor (PartsView Item.Denot M.Denot)) where
+  abbrev pub lends_shared_items : MutBor (List Item.Denot) → Fml
+  lends_shared_items r =
+      Lends (shared.the_row S B M A H Item Error s m b a h) (Array Item 0) parts r
       (with_items parts.now)

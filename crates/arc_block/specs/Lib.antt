@@ -1,10 +1,12 @@
 pub mod Block
 pub mod Contents
+pub mod Natives
 pub mod Place
 pub mod Table
 pub mod Owned
 pub mod Layouts
 pub mod LayoutFacts
+pub mod Inline
 pub mod Window
 pub mod Steps
 pub mod Unique
@@ -16,3 +18,4 @@ pub mod Writers
 pub mod Shared
 pub mod Growth
 pub mod Metadata
+pub mod NativeWriters

@@ -24,6 +24,19 @@ use Rattle.arc_block.specs.Window.{PartsView}
 use Rattle.arc_block.specs.Writers.{capacity_of, with_capacity, after_advance}
 use Rattle.arc_block.specs.Writers.{MakesRoom, Reclaims}
 
+-- whether a block is a vector, from which one of several writers moves before his places are split
+abbrev pub is_vector : Sort → Bool
+is_vector native = false
+is_vector vector = true
+is_vector (buffer writable) = false
+is_vector raw = false
+
+-- whether a place lies on one
+abbrev pub is_vector_at : {N M : Type 0} → Place N M → Bool
+is_vector_at nowhere = false
+is_vector_at static_data = false
+is_vector_at (on_block block offset info) = is_vector info.sort
+
 -- where one of several writers stands: on nothing, or on a block that counts its owners and has its
 -- places in memory of ours
 abbrev pub IsSharedPlace : {N M : Type 0} → Place (Option N) M → Type 0
@@ -104,6 +117,16 @@ module _ {T M : Type 0} where
   on_native drops block w = record w {
     place = on_block block 0 (memory_info native drops (capacity_of w.role) (length w.items));
   }
+
+  -- The same for a caller who keeps the passes of both blocks: one pass is the new block's, whose
+  -- first owner the writer is, and the other the vector's, with this owner's end.
+  pub record LeavesVector {H : Type 0} (drops one_pass : Bool) (w v : PartsView T M)
+      (before left after : Pass H) : Type 0 where
+    pub owner : Owner
+    pub made : v ≡ on_native drops (Some owner) w
+    pub first : IsFirst MAX_OWNERS one_pass owner
+    pub pass : IsFreshPass owner after
+    pub ended : at_owner w.place ⊥ (λ o. (last : Bool) × Leaves o before left last)
 
   module _ (H : Type 0) (real : BlockId → ℕ → List Line → Type 0) where
     -- A writer of a vector moved to a native block with as many places as he had, as its first
@@ -208,13 +231,19 @@ ReclaimsIf true room old new answer = Reclaims room old new answer
 ReclaimsIf false room old new answer = (answer ≡ false) × (new ≡ old)
 
 module _ {T M H : Type 0} where
-  -- One of several writers, who is alone or stands on no block, has this room as the only writer
-  -- has it, and is one of several again.
-  pub record MakesRoomAlone (one_pass : Bool) (room : Room) (old new : PartsView T M)
+  -- The only writer has this room, and is one of several then.
+  pub record MakesRoomBeside (one_pass : Bool) (room : Room) (old new : PartsView T M)
       (before after : Pass H) (reply : Result (Unit {0}) TryReserveError) : Type 0 where
     pub sole : PartsView T M
     pub shared : new ≡ as_shared sole
-    pub makes : MakesRoom false one_pass room (as_unique old) sole before after reply
+    pub makes : MakesRoom false one_pass room old sole before after reply
+
+  -- One of several writers, who is alone or stands on no block, has this room as the only writer
+  -- has it, and is one of several again.
+  abbrev pub MakesRoomAlone : (one_pass : Bool) → Room → (old new : PartsView T M)
+      → (before after : Pass H) → Result (Unit {0}) TryReserveError → Type 0
+  MakesRoomAlone one_pass room old new before after reply =
+      MakesRoomBeside one_pass room (as_unique old) new before after reply
 
   -- The same where the count is asked first: beside another owner it is refused, and nothing
   -- changes.

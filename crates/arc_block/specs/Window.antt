@@ -1,5 +1,5 @@
 -- What is seen of a window and of its parts, and what holds of them.
-use Rattle.std.specs.Prelude.{◌≡◌, ℕ, ◌≤◌, Bool, true, false, List, [], length}
+use Rattle.std.specs.Prelude.{◌≡◌, ℕ, ◌+◌, ◌-◌, ◌≤◌, Bool, true, false, List, [], length}
 use Rattle.std.specs.Prelude.{Option, Some, None}
 use Rattle.arc_owners.specs.count.Calls.{Owner}
 use Rattle.arc_buffer.specs.Slice.{sub}
@@ -7,9 +7,10 @@ use Rattle.arc_block.specs.Block.{Sort, native, vector, raw}
 use Rattle.arc_block.specs.Block.{IsBuffer, BlockInfo, BlockView, native_facts, raw_info}
 use Rattle.arc_block.specs.Layouts.{LayoutFacts, holds_block}
 use Rattle.arc_block.specs.Place.{Place, nowhere, static_data, on_block, IsOnBlock, made_place}
+use Rattle.arc_block.specs.Natives.{NativeView, native_info, IsAmong}
 use Rattle.arc_block.specs.Table.{RowOf, reader}
 use Rattle.arc_block.specs.declared.parts.storage.Storage.{Storage}
-use Rattle.arc_block.specs.declared.parts.storage.Storage.TheVariants.{Nothing, Static, Block, Raw}
+use Rattle.arc_block.specs.declared.parts.storage.Storage.TheVariants.{Nothing, Static, Native, Block, Raw}
 
 -- what is seen of a window: its items, and where it stands: on a block as one of its owners, where
 -- the block counts them
@@ -33,12 +34,17 @@ NeedsBlock {T} has_static items =
 
 -- what a window stands on: of an `Arc` that is a block by itself its buffer's items are seen
 abbrev pub StandsBy : Type 0 → Type 0 → Type 0
-StandsBy T M = Storage T (BlockView T M) (List T)
+StandsBy T M = Storage T (NativeView T) (BlockView T M) (List T)
 
--- the part from start to end of what a window stands on
+-- The part from start to end of what a window stands on. Of a native block these are the numbers of
+-- places, of others those of items.
 abbrev pub window_seen : {T M : Type 0} → StandsBy T M → ℕ → ℕ → Window T M
 window_seen (Nothing none) start end = record { items = []; place = nowhere }
 window_seen (Static items) start end = record { items = sub items start end; place = static_data }
+window_seen (Native block) start end = record {
+  items = sub block.items (start - block.first) (end - block.first);
+  place = on_block (Some block.owner) start (native_info block);
+}
 window_seen (Block block) start end = record {
   items = sub block.items start end;
   place = on_block (Some block.owner) start block.facts;
@@ -53,6 +59,8 @@ window_seen (Raw items) start end = record {
 abbrev pub IsWithin : {T M : Type 0} → StandsBy T M → ℕ → ℕ → Type 0
 IsWithin (Nothing none) start end = (start ≡ 0) × (end ≡ 0)
 IsWithin (Static items) start end = (start ≤ end) × (end ≤ length items)
+IsWithin (Native block) start end = IsAmong block start end
+    × (block.first + length block.items ≤ block.size)
 IsWithin (Block block) start end = (start ≤ end) × (end ≤ length block.items)
     × (length block.items ≤ block.facts.size)
 IsWithin (Raw items) start end = (start ≤ end) × (end ≤ length items)

@@ -7,20 +7,19 @@ use Rattle.std.specs.Option.{option_map}
 use Rattle.std.specs.declared.vec.Vec.{Vec}
 use Rattle.std.specs.Vec.{vec_capacity}
 use Rattle.arc_owners.specs.declared.error.TryReserveError.{TryReserveError}
-use Rattle.arc_owners.specs.declared.error.TryReserveError.TheVariants.{AllocError, NotUnique}
-use Rattle.arc_owners.specs.declared.error.TryReserveError.TheVariants.{Unsupported}
-use Rattle.arc_owners.specs.declared.error.TryReserveError.TheVariants.{CapacityOverflow}
+use Rattle.arc_owners.specs.declared.error.TryReserveError.TheVariants.{AllocError}
 use Rattle.arc_owners.specs.declared.count.tokens.Pass.{Pass}
 use Rattle.arc_owners.specs.count.Calls.{Owner, IsFirst, IsFreshPass, Asks}
+use Rattle.arc_memory.specs.declared.writer_memory.WriterMemory.{WriterMemory}
 use Rattle.arc_buffer.specs.Slice.{sub}
 use Rattle.arc_block.specs.declared.block.TheConstants.{MAX_OWNERS}
 use Rattle.arc_block.specs.declared.parts.room.Room.{Room}
 use Rattle.arc_block.specs.declared.parts.sole.SoleStorage.{SoleStorage}
-use Rattle.arc_block.specs.declared.parts.sole.SoleStorage.TheVariants.{Memory, Buffer}
+use Rattle.arc_block.specs.declared.parts.sole.SoleStorage.TheVariants.{Native, Vector, Buffer}
 use Rattle.arc_block.specs.declared.parts.room.Room.TheVariants.{Spare, Fresh, Behind, Front}
 use Rattle.arc_block.specs.declared.parts.room.Room.TheVariants.{Growth, Own, Refused}
-use Rattle.arc_block.specs.Block.{Sort, native, buffer, BlockInfo, BlockView, IsLimited}
-use Rattle.arc_block.specs.Block.{IsMemory, IsWritable, memory_info}
+use Rattle.arc_block.specs.Block.{Sort, native, vector, buffer, BlockInfo, BlockView, IsLimited}
+use Rattle.arc_block.specs.Block.{IsWritable, memory_info}
 use Rattle.arc_block.specs.Place.{Place, nowhere, static_data, on_block, IsOnBlock, moved}
 use Rattle.arc_block.specs.Table.{RowOf, Role, reader, sole_writer, one_writer_of_several}
 use Rattle.arc_block.specs.Table.{inline, forgotten}
@@ -46,11 +45,6 @@ IsWriterPlace static_data = ⊥
 IsWriterPlace (on_block None offset info) = ⊥
 IsWriterPlace (on_block (Some owner) offset info) = IsWritable info.sort
 
--- the only owner of a block, who has its memory as a vector, and the block's sort
-pub record SoleOwner : Type 0 where
-  pub owner : Owner
-  pub sort : Sort
-
 -- the part from start to end of a block, as its only owner's
 abbrev pub block_part : {T M : Type 0} → Bool → BlockView T M → (start end : ℕ) → PartsView T M
 block_part drops block start end = record {
@@ -65,36 +59,69 @@ IsBufferWithin one_pass block start end = IsLimited MAX_OWNERS one_pass block.ow
     × (start ≤ end) × (end ≤ length block.items) × (length block.items ≤ block.facts.size)
     × (block.facts.sort ≡ buffer true)
 
-module _ {T M A : Type 0} where
-  -- the part from start to end of a vector that is a block's memory, as its only owner's
-  abbrev pub sole_part : Bool → SoleOwner → Vec T A → (start end : ℕ) → PartsView T M
-  sole_part drops sole v start end =
-      let info = memory_info sole.sort drops (vec_capacity v) (length v.items) in
-      record {
-        items = sub v.items start end;
-        place = on_block (Some sole.owner) start info;
-        role = sole_writer (writer_capacity drops info start (end - start));
-      }
+-- The part from start to end of these items, which are memory of ours, as the only owner's of a
+-- block of this sort and so many places, so many of which are full. The part is at this offset.
+abbrev pub memory_part : {T M : Type 0} → Sort → Bool → Owner → (size full offset : ℕ) → List T
+    → (start end : ℕ) → PartsView T M
+memory_part sort drops owner size full offset items start end =
+    let info = memory_info sort drops size full in
+    record {
+      items = sub items start end;
+      place = on_block (Some owner) offset info;
+      role = sole_writer (writer_capacity drops info offset (end - start));
+    }
 
-  -- what is seen of a sole writer from start to end of a vector, which is the memory of a block
-  -- that has this owner; or who stands on nothing
-  abbrev pub sole_seen : Bool → Option SoleOwner → Vec T A → (start end : ℕ) → PartsView T M
-  sole_seen drops None v start end = idle_writer
-  sole_seen drops (Some sole) v start end = sole_part drops sole v start end
+-- the part from start to end of a vector that is a block's memory, as its only owner's
+abbrev pub vector_part : {T M A : Type 0} → Bool → Owner → Vec T A → (start end : ℕ)
+    → PartsView T M
+vector_part drops owner v start end =
+    memory_part vector drops owner (vec_capacity v) (length v.items) start v.items start end
+
+-- Start to end lies within the full places of a vector that is a block's memory. Items that aren't
+-- dropped one by one end where these do.
+abbrev pub IsVectorWithin : {T A : Type 0} → Bool → Bool → Owner → Vec T A → (start end : ℕ)
+    → Type 0
+IsVectorWithin drops one_pass owner v start end = IsLimited MAX_OWNERS one_pass owner
+    × (start ≤ end) × (end ≤ length v.items) × (drops ≡ false → end ≡ length v.items)
+
+module _ {T M A : Type 0} where
+  -- the part from start to end of a writer's items, whose memory is a native block's, as its only
+  -- owner's
+  abbrev pub sole_native_part : Bool → Owner → WriterMemory T A → (start end : ℕ) → PartsView T M
+  sole_native_part drops owner memory start end =
+      let first = memory.places.under.start in let items = memory.places.vec.items in
+      memory_part native drops owner memory.allocation.count (first + length items)
+      (first + start) items start end
+
+  -- what is seen of a sole writer from start to end of the items in memory that is a native block's
+  -- with this owner; or who stands on nothing
+  abbrev pub sole_native : Bool → Option Owner → WriterMemory T A → (start end : ℕ) → PartsView T M
+  sole_native drops None memory start end = idle_writer
+  sole_native drops (Some owner) memory start end = sole_native_part drops owner memory start end
 
 module _ {T A : Type 0} where
-  -- Start to end lies within the full places of a block whose places are memory of ours. Items that
-  -- aren't dropped one by one end where these do. On nothing there are no items and no memory.
-  abbrev pub IsSoleWithin : Bool → Bool → Option SoleOwner → Vec T A → (start end : ℕ) → Type 0
-  IsSoleWithin drops one_pass None v start end =
-      (start ≡ 0) × (end ≡ 0) × (v.items ≡ []) × (vec_capacity v ≡ 0)
-  IsSoleWithin drops one_pass (Some sole) v start end = IsLimited MAX_OWNERS one_pass sole.owner
-      × (start ≤ end) × (end ≤ length v.items) × (drops ≡ false → end ≡ length v.items)
-      × IsMemory sole.sort
+  -- The part from start on, behind which so many items lie, is one of a native block's items. None
+  -- lie behind items that aren't dropped one by one; others begin at the block's first place. On
+  -- nothing there are no items and no memory.
+  abbrev pub IsNativeWithin : Bool → Bool → Option Owner → WriterMemory T A → (start behind : ℕ)
+      → Type 0
+  IsNativeWithin drops one_pass None memory start behind =
+      (start ≡ 0) × (behind ≡ 0) × (memory.places.vec.items ≡ []) × (memory.allocation.count ≡ 0)
+  IsNativeWithin drops one_pass (Some owner) memory start behind =
+      IsLimited MAX_OWNERS one_pass owner × (start + behind ≤ length memory.places.vec.items)
+      × (drops ≡ false → behind ≡ 0) × (drops ≡ true → memory.places.under.start ≡ 0)
 
--- what is seen of a sole writer, whose items are memory of ours or a caller's buffer
-abbrev pub sole_on : {P : Type 0} → SoleStorage P P → P
-sole_on (Memory parts) = parts
+  -- So many of a native block's last places are left to nobody, where no items lie: none where
+  -- items are dropped one by one, and none on nothing.
+  abbrev pub CanLeave : Bool → Option Owner → WriterMemory T A → (beyond : ℕ) → Type 0
+  CanLeave drops None memory beyond = beyond ≡ 0
+  CanLeave drops (Some owner) memory beyond = (drops ≡ true → beyond ≡ 0)
+      × (length memory.places.vec.items + beyond ≤ memory.places.under.count)
+
+-- what is seen of a sole writer, whose items are memory of ours, a vector or a caller's buffer
+abbrev pub sole_on : {P : Type 0} → SoleStorage P P P → P
+sole_on (Native parts) = parts
+sole_on (Vector parts) = parts
 sole_on (Buffer parts) = parts
 
 -- how many places a writer has
@@ -110,6 +137,10 @@ abbrev pub with_capacity : Role → ℕ → Role
 with_capacity (sole_writer before) capacity = sole_writer capacity
 with_capacity (one_writer_of_several before) capacity = one_writer_of_several capacity
 with_capacity role capacity = role
+
+-- a writer without the last so many of his places
+abbrev pub with_fewer : {N T M : Type 0} → ℕ → RowOf N T M → RowOf N T M
+with_fewer less w = record w { role = with_capacity w.role (capacity_of w.role - less) }
 
 module _ {N M : Type 0} where
   -- where a writer of so many items, which stands here, has room for more of them
@@ -187,6 +218,14 @@ pub record CanGrow {T M : Type 0} (w : PartsView T M) (places : ℕ) : Type 0 wh
   pub stands : IsOnBlock w.place
   pub larger : size_at w.place ≤ places
   pub behind : capacity_of w.role ≡ size_at w.place - offset_at w.place
+
+-- A writer on a block, which isn't to have fewer places. Items that are dropped one by one are to
+-- have all places behind them.
+pub record CanGrowNative {T M : Type 0} (drops : Bool) (w : PartsView T M) (places : ℕ) : Type 0
+  where
+    pub stands : IsOnBlock w.place
+    pub larger : size_at w.place ≤ places
+    pub behind : drops ≡ true → capacity_of w.role ≡ size_at w.place - offset_at w.place
 
 -- the only writer of these items at a place; on no block he has none
 abbrev pub sole_at : {N T M : Type 0} → Bool → List T → Place N M → RowOf N T M

@@ -1,13 +1,14 @@
-//! Blocks: memory that stays where it is while a window stands on it.
+//! Blocks of a caller's making: a vector, a buffer or an `Arc` of one, which stays where it is
+//! while a window stands on it.
 ghost use Rattle.std.specs.Prelude.{◌≡◌, ◌≤◌, ◌↔◌, length, true, false, Bool, IsTrue};
-ghost use Rattle.std.specs.Prelude.{IfOk, IfErr, OnErr, IfSome, IfNone, replicate};
-ghost use Rattle.std.specs.Vec.{vec_capacity, vec_len};
+ghost use Rattle.std.specs.Prelude.{IfOk, IfErr, OnErr, IfSome, IfNone};
+ghost use Rattle.std.specs.Vec.{vec_capacity};
 ghost use Rattle.arc_owners.specs.count.Calls.{IsFirst, IsPassFor, IsFreshPass, IsNewPass, Learns};
 ghost use Rattle.arc_owners.specs.count.Calls.{Asks, FindsFull, MakesAnother, Leaves, TakesBlock};
 ghost use Rattle.arc_owners.specs.count.Calls.{IsPassOfNone, EndsByItself, EndsShown};
 ghost use Rattle.arc_buffer.specs.Slice.{sub};
-ghost use Rattle.arc_block.specs.Block.{native, vector, buffer, raw, native_block, IsLimited};
-ghost use Rattle.arc_block.specs.Block.{IsMemory, IsWritable, held_as, buffer_block, raw_block};
+ghost use Rattle.arc_block.specs.Block.{native, vector, buffer, raw, IsLimited};
+ghost use Rattle.arc_block.specs.Block.{IsWritable, held_as, buffer_block, raw_block};
 ghost use Rattle.arc_block.specs.Block.{raw_info};
 ghost use Rattle.std.specs.Arc.{arc_value};
 ghost use Rattle.std.specs.Prelude.{Some, None};
@@ -21,6 +22,7 @@ ghost use Rattle.arc_owners.specs.memory.Boxes.{owner_in, value_of};
 
 mod content;
 mod metadata;
+mod native;
 mod sole;
 
 use crate::layout::Layout;
@@ -33,6 +35,8 @@ use arc_owners::leave::RaiseLeave;
 use arc_owners::mark::{Mark, Open, Stepping};
 use arc_owners::owners::{CountedBox, Pass, Shown};
 pub use content::{CallersBuffer, Content};
+pub use native::NativeBlock;
+pub(crate) use native::NativeCount;
 pub(crate) use sole::{SoleCount, end_sole, new_count};
 use std::alloc::Allocator;
 use std::marker::Model;
@@ -48,8 +52,8 @@ pub fn max_owners() -> u64
     MAX_OWNERS
 }
 
-/// An owner of a block, which at most `MAX` owners share. The block is given back with its last
-/// owner.
+/// An owner of a block of a caller's making, which at most `MAX` owners share: a vector, a caller's
+/// buffer, or an `Arc` of one. The block is given back with its last owner.
 ///
 /// `B` is the type of callers' buffers and `M` that of their metadata.
 ///
@@ -144,70 +148,6 @@ pub fn exact<T: Drop, A: Allocator + Copy>(
     Ok(exact)
 }
 
-/// A vector with a copy of the items, and a place for each. Takes memory; refused, the answer is
-/// `AllocError`.
-pub(crate) fn copied<T: Copy + Drop, A: Allocator + Copy>(
-    alloc: A,
-    items: &[T],
-) -> Result<Vec<T, A>, AllocError>
-    ensures { IfOk result (λ v. (v.items ≡ items.now) × (vec_capacity v ≡ length items.now)) }
-{
-    // No clause of `std` says that a copy of a slice has no places more.
-    match exact(alloc, Vec::from_slice(alloc, items)?) {
-        Ok(copy) => Ok(copy),
-        Err(_) => Err(AllocError),
-    }
-}
-
-/// A vector with so many items that are this one, and a place for each. Takes memory; refused, the
-/// answer is `AllocError`.
-pub(crate) fn filled<T: Copy + Drop, A: Allocator + Copy>(
-    alloc: A,
-    item: T,
-    count: usize,
-) -> Result<Vec<T, A>, AllocError>
-    ensures { IfOk result (λ v. (v.items ≡ replicate count item) × (vec_capacity v ≡ count)) }
-{
-    let mut items = Vec::with_capacity(alloc, count)?;
-    items.resize(count, item)?;
-    // No clause of `std` says that a vector which is filled up has no places more.
-    match exact(alloc, items) {
-        Ok(items) => Ok(items),
-        Err(_) => Err(AllocError),
-    }
-}
-
-/// The items of a vector as an array.
-pub(crate) fn array_of<T: Drop, A: Allocator, const N: usize>(items: Vec<T, A>) -> [T; N]
-    requires { vec_len items ≡ N }
-    ensures { result ≡ items.items }
-{
-    match <[T; N]>::try_from(items) {
-        Ok(array) => array,
-        Err(_) => unreachable!(),
-    }
-}
-
-/// A vector with the items of an array, and a place for each. Takes memory; refused, the array
-/// comes back.
-pub(crate) fn moved<T: Drop, A: Allocator + Copy, const N: usize>(
-    alloc: A,
-    array: [T; N],
-) -> Result<Vec<T, A>, [T; N]>
-    ensures moved { IfOk result (λ v. (v.items ≡ array) × (vec_capacity v ≡ length v.items)) }
-    ensures refused { IfErr result (λ back. back ≡ array) }
-{
-    let items = match Vec::from_array(alloc, array) {
-        Ok(items) => items,
-        Err(refused) => return Err(refused.value),
-    };
-    // The vector of an empty array has a place, which no block of no items asks for.
-    match exact(alloc, items) {
-        Ok(exact) => Ok(exact),
-        Err(items) => Err(array_of(items)),
-    }
-}
-
 impl<
     S: Slice,
     B: Buffer<S::Item> + Drop,
@@ -230,28 +170,6 @@ impl<
         }
     }
 
-    /// The first owner of a new native block with the items of a vector that has exactly a place
-    /// for each, with a pass of the block.
-    ///
-    /// Takes memory; refused, the vector comes back. `MAX` is at least 2.
-    pub fn try_from_exact(
-        alloc: A,
-        items: Vec<S::Item, A>,
-    ) -> Result<(Self, Pass<H>), Vec<S::Item, A>>
-        requires most { 2 ≤ MAX }
-        requires exact { vec_capacity items ≡ length items.items }
-        ensures made { IfOk result (λ r. (r.0 ≡ native_block S.DROPS r.0.owner items.items)
-            × IsFirst MAX H.whole r.0.owner) }
-        ensures pass { IfOk result (λ r. IsFreshPass r.0.owner r.1) }
-        ensures refused { IfErr result (λ back. back ≡ items) }
-    {
-        let (_, memory) = Native::of(items);
-        match CountedBox::new(alloc, Content::Native(memory)) {
-            Ok((piece, pass)) => Ok((Self::over(piece), pass)),
-            Err(content) => Err(content.into_memory()),
-        }
-    }
-
     /// The first owner of a new block of a vector's memory, with its items and its places, and a
     /// pass of the block. No item is copied.
     ///
@@ -269,7 +187,7 @@ impl<
         let (_, memory) = Native::of(items);
         match CountedBox::new(alloc, Content::Vector(memory)) {
             Ok((piece, pass)) => Ok((Self::over(piece), pass)),
-            Err(content) => Err(content.into_memory()),
+            Err(content) => Err(content.into_vec()),
         }
     }
 
@@ -316,45 +234,6 @@ impl<
         match CountedBox::new(alloc, Content::Raw(shared)) {
             Ok((piece, pass)) => Ok((Self::over(piece), pass)),
             Err(content) => Err(content.into_raw()),
-        }
-    }
-
-    /// The first owner of a new native block with a copy of the items, and exactly a place for
-    /// each, with a pass of the block.
-    ///
-    /// Takes memory; refused, the answer is `AllocError`. `MAX` is at least 2.
-    pub fn try_from_slice(alloc: A, items: &[S::Item]) -> Result<(Self, Pass<H>), AllocError>
-    where
-        S::Item: Copy,
-        requires { 2 ≤ MAX }
-        ensures made { IfOk result (λ r. (r.0 ≡ native_block S.DROPS r.0.owner items.now)
-            × IsFirst MAX H.whole r.0.owner) }
-        ensures pass { IfOk result (λ r. IsFreshPass r.0.owner r.1) }
-    {
-        match Self::try_from_exact(alloc, copied(alloc, items)?) {
-            Ok(made) => Ok(made),
-            Err(_) => Err(AllocError),
-        }
-    }
-
-    /// The first owner of a new native block with the items of an array, and exactly a place for
-    /// each, with a pass of the block.
-    ///
-    /// Takes memory; refused, the array comes back. `MAX` is at least 2.
-    pub fn try_from_array<const N: usize>(
-        alloc: A,
-        array: [S::Item; N],
-    ) -> Result<(Self, Pass<H>), [S::Item; N]>
-        requires { 2 ≤ MAX }
-        ensures made { IfOk result (λ r. (r.0 ≡ native_block S.DROPS r.0.owner array)
-            × IsFirst MAX H.whole r.0.owner) }
-        ensures pass { IfOk result (λ r. IsFreshPass r.0.owner r.1) }
-        ensures refused { IfErr result (λ back. back ≡ array) }
-    {
-        let items = moved(alloc, array)?;
-        match Self::try_from_exact(alloc, items) {
-            Ok(made) => Ok(made),
-            Err(items) => Err(array_of(items)),
         }
     }
 
@@ -416,7 +295,6 @@ impl<
         ensures { result ≡ counted_move (layout_facts L.Layout) self.now.facts.sort }
     {
         match self.piece.get() {
-            Content::Native(_) => Move::Stays,
             Content::Raw(_) if L::RAW => Move::LeavesCount,
             _ if L::ANY => Move::Stays,
             _ => Move::HandedBack,
@@ -443,42 +321,34 @@ impl<
         }
     }
 
-    /// Whether items and count are of this crate's own making, with so many places for items.
-    pub fn is_native_of(&self, size: usize) -> bool
-        ensures { IsTrue result ↔ (self.now.facts.sort ≡ native) × (self.now.facts.size ≡ size) }
+    /// It is no native block. Does nothing: its contract is the law.
+    pub(crate) fn known_sort(&self)
+        ensures { ¬ (self.now.facts.sort ≡ native) }
     {
         match self.piece.get() {
-            Content::Native(memory) => memory.count() == size,
-            _ => false,
+            Content::Vector(_) => {}
+            Content::Buffer(_) => {}
+            Content::Raw(_) => {}
         }
     }
 
-    /// Whether its only owner may write the block under a layout that holds it: a native one, and,
-    /// where blocks may be of a caller's making, a vector, or a buffer that came in as writable.
+    /// Whether its only owner may write the block under a layout that holds it: where blocks may be
+    /// of a caller's making, a vector, or a buffer that came in as writable.
     pub fn may_write(&self, has_any: bool) -> bool
         ensures { IsTrue result ↔ MayWrite has_any self.now.facts.sort }
     {
         match self.piece.get() {
-            Content::Native(_) => true,
             Content::Vector(_) => has_any,
             Content::Buffer(held) => held.writable && has_any,
             Content::Raw(_) => false,
         }
     }
 
-    /// Whether the block keeps its items in memory of ours; else it is a caller's buffer, where it
-    /// may be written.
-    pub(crate) fn is_in_memory(&self) -> bool
-        ensures answer { IsTrue result ↔ IsMemory self.now.facts.sort }
+    /// Whether the block is a vector; else it is a caller's buffer, where it may be written.
+    pub fn is_vector(&self) -> bool
+        ensures answer { IsTrue result ↔ (self.now.facts.sort ≡ vector) }
         ensures other { result ≡ false → IsWritable self.now.facts.sort
             → self.now.facts.sort ≡ buffer true }
-    {
-        matches!(self.piece.get(), Content::Native(_) | Content::Vector(_))
-    }
-
-    /// Whether the block is a vector.
-    pub fn is_vector(&self) -> bool
-        ensures { IsTrue result ↔ (self.now.facts.sort ≡ vector) }
     {
         matches!(self.piece.get(), Content::Vector(_))
     }
@@ -574,7 +444,7 @@ impl<
             self.now.facts.sort self.now.owner pass.old pass.new result }
     {
         match self.piece.get() {
-            Content::Native(_) | Content::Vector(_) => self.piece.is_unique_as(pass),
+            Content::Vector(_) => self.piece.is_unique_as(pass),
             Content::Buffer(held) => {
                 let alone = self.piece.is_unique_as(pass);
                 alone && held.buffer.is_unique()

@@ -7,14 +7,14 @@ ghost use Rattle.std.specs.Prelude.{◌≡◌, ◌≤◌, ◌==◌, ◌&&◌, fa
 ghost use Rattle.std.specs.Prelude.{Some, IfOk, IfErr, OnErr};
 ghost use Rattle.arc_buffer.specs.Slice.{sub};
 ghost use Rattle.arc_owners.specs.count.Calls.{IsFirst, IsFreshPass, IsPassOfNone};
-ghost use Rattle.arc_block.specs.Block.{native_block};
+ghost use Rattle.arc_block.specs.Natives.{made_native};
 ghost use Rattle.arc_block.specs.LayoutFacts.{layout_facts};
 ghost use Rattle.arc_block.specs.Place.{nowhere, static_data, on_block, moved, IsCounted};
 ghost use Rattle.arc_block.specs.Table.{reader};
 ghost use Rattle.arc_block.specs.Window.{window_of, NeedsBlock, IsHeld};
 ghost use Rattle.arc_block.specs.Steps.{Makes, Begins, EndsShownAt};
 
-use crate::block::{Block, MAX_OWNERS};
+use crate::block::{Block, MAX_OWNERS, NativeBlock};
 use crate::layout::{Layout, stands_on_nothing};
 use crate::static_slice::{StaticItems, StaticSlice};
 use arc_buffer::buffer::Buffer;
@@ -22,6 +22,7 @@ use arc_buffer::kinds::Slice;
 use arc_owners::error::AllocError;
 use arc_owners::mark::{Mark, Open};
 use arc_owners::owners::Pass;
+pub use shared::SharedParts;
 use shared_buffer::SharedBuffer;
 pub use sole::SoleParts;
 use std::alloc::{Allocator, Global};
@@ -45,7 +46,12 @@ pub struct Parts<
     A: Allocator + Copy = Global,
     H: Mark = Open,
 > {
-    on: Storage<S::Item, Block<S, B, M, A, MAX_OWNERS, H>, SharedBuffer<S::Item, B, A>>,
+    on: Storage<
+        S::Item,
+        NativeBlock<S, A, MAX_OWNERS, H>,
+        Block<S, B, M, A, MAX_OWNERS, H>,
+        SharedBuffer<S::Item, B, A>,
+    >,
     start: usize,
     end: usize,
     alloc: A,
@@ -75,6 +81,7 @@ impl<S: Slice, B: Buffer<S::Item> + Drop, M: Drop, A: Allocator + Copy, H: Mark>
             alloc,
         } = self;
         match on {
+            Storage::Native(block) => drop(block),
             Storage::Block(block) => drop(block),
             Storage::Static(items) => drop(items),
             Storage::Nothing(items) => drop(items),
@@ -117,15 +124,15 @@ impl<S: Slice, B: Buffer<S::Item> + Drop, M: Drop, A: Allocator + Copy, H: Mark>
         }
     }
 
-    /// All of a block that was just made; the pass becomes the block's.
+    /// All of a native block that was just made; the pass becomes the block's.
     fn over_new<L: Layout>(
         alloc: A,
-        block: Block<S, B, M, A, MAX_OWNERS, H>,
+        block: NativeBlock<S, A, MAX_OWNERS, H>,
         end: usize,
         new: Pass<H>,
         pass: &mut Pass<H>,
     ) -> Self
-        requires made { (block ≡ native_block S.DROPS block.owner block.items)
+        requires made { (block ≡ made_native S.DROPS block.owner block.items)
             × IsFirst MAX_OWNERS H.whole block.owner × IsFreshPass block.owner new }
         requires all { end ≡ length block.items }
         requires stands { (L.STATIC && (length block.items == 0)) ≡ false }
@@ -135,14 +142,14 @@ impl<S: Slice, B: Buffer<S::Item> + Drop, M: Drop, A: Allocator + Copy, H: Mark>
     {
         *pass = new;
         Parts {
-            on: Storage::Block(block),
+            on: Storage::Native(block),
             start: 0,
             end,
             alloc,
         }
     }
 
-    /// All items of a block, of which there are so many.
+    /// All items of a block of a caller's making, of which there are so many.
     fn over_all(alloc: A, block: Block<S, B, M, A, MAX_OWNERS, H>, end: usize) -> Self
         requires all { end ≡ length block.items }
         requires places { length block.items ≤ block.facts.size }
@@ -188,7 +195,7 @@ impl<S: Slice, B: Buffer<S::Item> + Drop, M: Drop, A: Allocator + Copy, H: Mark>
         if stands_on_nothing::<L>(items.len()) {
             return Ok(Self::on_nothing(alloc));
         }
-        let (block, new) = Block::try_from_slice(alloc, items)?;
+        let (block, new) = NativeBlock::try_from_slice(alloc, items)?;
         Ok(Self::over_new::<L>(alloc, block, items.len(), new, pass))
     }
 
@@ -219,7 +226,7 @@ impl<S: Slice, B: Buffer<S::Item> + Drop, M: Drop, A: Allocator + Copy, H: Mark>
             drop(array);
             return Ok(Self::on_nothing(alloc));
         }
-        let (block, new) = Block::try_from_array(alloc, array)?;
+        let (block, new) = NativeBlock::try_from_array(alloc, array)?;
         Ok(Self::over_new::<L>(alloc, block, end, new, pass))
     }
 }
@@ -257,6 +264,7 @@ impl<S: Slice, B: Buffer<S::Item> + Drop, M: Drop, A: Allocator + Copy, H: Mark>
         ensures { result.now ≡ self.now.items }
     {
         match &self.on {
+            Storage::Native(block) => block.range(self.start, self.end),
             Storage::Block(block) => block.range(self.start, self.end),
             Storage::Static(items) => items.range(self.start, self.end),
             Storage::Nothing(items) => items.range(self.start, self.end),
@@ -271,6 +279,7 @@ impl<S: Slice, B: Buffer<S::Item> + Drop, M: Drop, A: Allocator + Copy, H: Mark>
         ensures { result.now ≡ self.now.items }
     {
         match &self.on {
+            Storage::Native(block) => block.range(self.start, self.end),
             Storage::Block(block) => block.range(self.start, self.end),
             Storage::Static(items) => items.range(self.start, self.end),
             Storage::Nothing(items) => items.range(self.start, self.end),
@@ -300,6 +309,7 @@ mod ends;
 pub mod moves;
 mod owners;
 pub mod room;
+mod shared;
 mod shared_buffer;
 mod sole;
 mod storage;

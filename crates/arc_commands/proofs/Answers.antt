@@ -19,8 +19,8 @@ use Rattle.arc_block.specs.Block.{native, vector, buffer, raw, buffer_info, raw_
 use Rattle.arc_block.specs.Moves.{layout_move}
 use Rattle.arc_block.specs.declared.parts.moves.Move.{Move}
 use Rattle.arc_block.specs.declared.parts.moves.Move.TheVariants as to
-use Rattle.arc_block.specs.Place.{Place, nowhere, static_data, on_block, moved, metadata_at}
-use Rattle.arc_block.specs.Table.{Row, Table, Role, row_at, block_of, is_alone}
+use Rattle.arc_block.specs.Place.{Place, nowhere, static_data, on_block, metadata_at}
+use Rattle.arc_block.specs.Table.{Row, Table, Role, row_at, block_of}
 use Rattle.arc_commands.proofs.Lists.{set-there, there}
 use Rattle.arc_block.specs.Table.{reader, sole_writer, one_writer_of_several, inline, forgotten}
 use Rattle.arc_block.specs.Writers.{with_capacity, capacity_of, as_sole, after_advance}
@@ -35,34 +35,35 @@ use Rattle.arc_commands.proofs.FitsRoom.{IsMade, room-fits, room-alone-fits, roo
 use Rattle.arc_commands.proofs.FitsRoom.{own-fits}
 use Rattle.arc_commands.specs.Blocks.{is_sole, is_writer}
 use Rattle.arc_commands.specs.Fits.{RowFits}
-use Rattle.arc_commands.proofs.Roles.{writes-several}
+use Rattle.arc_commands.proofs.Roles.{sole-small, writes-several}
 use Rattle.arc_commands.proofs.KeepsParts.{freeze-part}
 use Rattle.arc_commands.proofs.KeepsParts.{advance-part, truncate-part, part-part, cut-part}
 use Rattle.arc_commands.proofs.KeepsParts.{off-part, to-part}
-use Rattle.arc_commands.proofs.Fits.{in-edge, in-range, advance-fits, truncate-fits, founded-fits}
-use Rattle.arc_commands.proofs.Fits.{writer-fits, vector-fits, part-fits, cut-fits, off-fits, to-fits}
+use Rattle.arc_commands.proofs.Fits.{in-edge, in-range, founded-fits}
+use Rattle.arc_commands.proofs.Fits.{writer-fits, vector-fits}
 use Rattle.arc_commands.proofs.Fits.{reads-fit, buffer-fits, raw-fits, written-fits}
+use Rattle.arc_commands.proofs.Fits.{as-reader-fits, inside-fits, small-fits}
 use Rattle.arc_commands.specs.Step.{Setting, Shortage, no_shortage, of_table, of_clones, of_blocks}
 use Rattle.arc_commands.specs.Step.{of_buffer, is_unique_at, is_on_block, is_free, taken_as, after_move}
 use Rattle.arc_commands.specs.Step.{vector_row, count_brought, room_made, of_growth}
-use Rattle.arc_commands.specs.Step.{is_buffer_whole, is_raw_whole, is_vector_part, is_box_whole}
 use Rattle.arc_commands.specs.Step.{buffer_row, written_buffer_row, raw_row}
 use Rattle.arc_commands.specs.Step.{shortage, asking_block, filled, reclaimed, made_row}
 use Rattle.arc_commands.specs.Step.{begun, room_of, Around, around_of, Change, is_now, with_made}
 use Rattle.arc_commands.specs.Step.{gone, parted, split, answer_row, answer_any, row_by, window_of}
 use Rattle.arc_commands.specs.Step.{Step, answer, answer_by, may_write, with_block}
-use Rattle.arc_commands.specs.Step.{static_row, writer_row, truncated, is_allowed, has_call}
+use Rattle.arc_block.specs.Inline.{inline_limit}
+use Rattle.arc_commands.specs.Step.{as_small, small_row, static_row, writer_row, truncated, is_allowed, has_call}
 use Rattle.arc_commands.specs.Step.{asking, founded, is_wanting, with_owner, part_of, cut_row}
 use Rattle.arc_commands.specs.Step.{off_part, to_part, changed, is_for, in_range}
 use Rattle.arc_commands.specs.Commands.{ListCmd, ListReply}
 use Rattle.arc_commands.specs.declared.command.Cmd.TheVariants.{Slice, Clone, Sub, Uniq, Show, Len}
 use Rattle.arc_commands.specs.declared.command.Cmd.TheVariants.{Off, To, Adv, Trunc, Drop}
-use Rattle.arc_commands.specs.declared.command.Cmd.TheVariants.{Static, TakeStatic, MSlice}
+use Rattle.arc_commands.specs.declared.command.Cmd.TheVariants.{Static, TakeStatic, MSlice, Small}
 use Rattle.arc_commands.specs.declared.command.Cmd.TheVariants.{New, Cap, Zero, Room, Mut, Res, Push, Ext}
 use Rattle.arc_commands.specs.declared.command.Cmd.TheVariants.{Rec, Freeze, Vec, Take, TakeBox}
 use Rattle.arc_commands.specs.declared.command.Cmd.TheVariants.{Raw, Buf, MBuf, Meta, TakeBuf, TakeRaw}
 use Rattle.arc_commands.specs.declared.command.Reply.TheVariants as reply
-use Rattle.arc_commands.proofs.Parts.{IsPart, KeepsFit, KeepsPart, StaysOn, sole-either, sole-with}
+use Rattle.arc_commands.proofs.Parts.{IsPart, KeepsFit, KeepsPart, sole-either, sole-with}
 use Rattle.arc_commands.proofs.Parts.{part-itself}
 use Rattle.arc_commands.proofs.Parts.{stays-moved, stays-part, stays-same}
 
@@ -385,7 +386,7 @@ module _ {T M : Type 0} (setting : Setting T) (short : Shortage) (around : Aroun
   moved_each writes told more to.Stays = elim (cases_Bool (is_sole row.role)) [
     | inl sole ↦
         refits (as_reader row) reply.Ok (inl refl) sole refl
-        (λ f. reads-fit setting.drops (as_reader row) refl f.within)
+        (as-reader-fits setting.drops row (sole-small row.role sole))
     | inr shares ↦
         becomes (as_reader row) (stays-same row.place, sym shares)
         (freeze-part setting.drops row (writes-several row.role writes shares))
@@ -611,6 +612,21 @@ module _ {T M : Type 0} (setting : Setting T) (short : Shortage) (places : ℕ) 
   either_each true one other h k = h
   either_each false one other h k = k
 
+  small_each : (limit : ℕ) (items : List T)
+      → Makes (Some (small_row limit setting.layout.has_static setting.drops t.blocks items))
+  small_each limit items =
+      let nothing = setting.layout.has_static && (length items == 0) in
+      let info : BlockInfo M = native_facts setting.drops (length items) in
+      let inside : Row T M = record { items = items; place = nowhere; role = inline } in
+      let shared : Row T M =
+      as_small (made_row setting.layout.has_static setting.drops t.blocks items) in
+      either_each (nat_lt limit (length items)) shared inside
+      (founded_each short refl shared (founds items inline nothing info
+      (small-fits setting.drops t.blocks items nothing (λ none. eqb-true (length items) 0
+      (and_parts setting.layout.has_static (length items == 0) none).1))))
+      (founded_each short refl inside
+      (founds items inline true info (inside-fits setting.drops items)))
+
   vector_each : (items : List T) → length items ≤ places
       → Makes (Some (vector_row setting.layout.has_static setting.drops t.blocks items places))
   vector_each items within =
@@ -639,6 +655,9 @@ module _ {T M : Type 0} (setting : Setting T) (short : Shortage) (places : ℕ) 
   made_each (Slice items) e =
       if_each setting.calls.copies (made_row setting.layout.has_static setting.drops t.blocks items)
       (list_each items)
+  made_each (Small items) e =
+      let row = small_row (inline_limit setting.layout) setting.layout.has_static setting.drops t.blocks items in
+      if_each setting.calls.small row (small_each (inline_limit setting.layout) items)
   made_each (Vec items) e =
       if_each setting.layout.has_any (vector_row setting.layout.has_static setting.drops t.blocks items places)
       (vector_each items (subst (λ d. count_brought d ≤ places) (sym e) enough))

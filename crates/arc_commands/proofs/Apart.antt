@@ -1,25 +1,25 @@
 -- Writers stay apart: each step keeps that no place of a block is a writer's and another row's.
 use Rattle.std.proofs.Common.{inl, inr, ◌≡◌, ◌⊎◌, ℕ, ◌+◌, ◌-◌, ◌≤◌, ◌<◌, Bool, true, false}
-use Rattle.std.proofs.Common.{if◌then◌else◌, List, length, is_some, [], ◌∷◌, ◌++◌, Option, Some, None}
+use Rattle.std.proofs.Common.{if◌then◌else◌, List, length, [], ◌∷◌, ◌++◌, Option, Some, None}
 use Rattle.std.proofs.Common.{slice_get, slice_set, refl, sym, ap, ◌∙◌, subst, arith}
 use Rattle.std.specs.Prelude.{◌&&◌, not}
-use Rattle.std.specs.Option.{option_flatten, option_map_or}
+use Rattle.std.specs.Option.{option_flatten}
 use Rattle.std.proofs.lemmas.Option.{none-some, same_Some}
-use Rattle.std.proofs.lemmas.Bool.{cases_Bool, false≢true, and_parts}
+use Rattle.std.proofs.lemmas.Bool.{cases_Bool, false≢true}
 use Rattle.arc_block.specs.Block.{BlockInfo}
 use Rattle.arc_block.specs.Place.{Place, nowhere, static_data, on_block}
 use Rattle.arc_block.specs.Room.{ends_full}
 use Rattle.arc_block.specs.Table.{Row, Table, Role, StandsOn, row_at, block_of, empty_table}
 use Rattle.arc_block.specs.Table.{reader, sole_writer, one_writer_of_several, inline, forgotten}
-use Rattle.arc_block.specs.Writers.{as_sole, sole_at, capacity_of}
+use Rattle.arc_block.specs.Writers.{as_sole, sole_at}
 use Rattle.arc_block.proofs.Lists.{push-cases, set-cases}
-use Rattle.arc_commands.specs.Apart.{Covers, EndsWithin, EndsWithinAt, IsLawful, ShareNone}
+use Rattle.arc_commands.specs.Apart.{EndsWithin, EndsWithinAt, IsLawful, ShareNone}
 use Rattle.arc_commands.specs.Apart.{WritersApart, role_places}
-use Rattle.arc_commands.specs.Blocks.{RowsAgree, SaysOf, is_several, is_sole, is_writer}
+use Rattle.arc_commands.specs.Blocks.{RowsAgree, is_sole, is_writer}
 use Rattle.arc_commands.specs.Commands.{ListCmd, ListReply}
 use Rattle.arc_commands.specs.Fits.{HasPlaces, HasSharedPlaces, LieWithin, RowFits, RowsFit}
-use Rattle.arc_commands.specs.Step.{Setting, Shortage, no_shortage, shortage, Step, Run, answer}
-use Rattle.arc_commands.specs.Step.{around_of, founded, may_write, with_block, count_brought}
+use Rattle.arc_commands.specs.Step.{Setting, Shortage, shortage, Step, Run, answer}
+use Rattle.arc_commands.specs.Step.{count_brought}
 use Rattle.arc_commands.proofs.Answers.{answer_each}
 use Rattle.arc_commands.proofs.Blocks.{only-here, step_agrees}
 use Rattle.arc_commands.proofs.FitsStep.{step_fits}
@@ -34,13 +34,13 @@ chosen true offset len size capacity within is = omega (arith, within, is)
 chosen false offset len size capacity within is = omega (arith, within, is)
 
 module _ {M : Type 0} (drops : Bool) where
-  ends-read : (place : Place (Option ℕ) M) (len : ℕ) → LieWithin drops place len
-      → EndsWithinAt place len
-  ends-read nowhere len w = tt
-  ends-read static_data len w = tt
-  ends-read (on_block block offset info) len w = omega (arith, w.1, w.2)
+  ends-read : (small : Bool) (place : Place (Option ℕ) M) (len : ℕ)
+      → LieWithin drops small place len → EndsWithinAt place len
+  ends-read small nowhere len w = tt
+  ends-read small static_data len w = tt
+  ends-read small (on_block block offset info) len w = omega (arith, w.1, w.2)
 
-  ends-sole : (place : Place (Option ℕ) M) (len capacity : ℕ) → LieWithin drops place len
+  ends-sole : (place : Place (Option ℕ) M) (len capacity : ℕ) → LieWithin drops false place len
       → HasPlaces drops place len capacity → EndsWithinAt place capacity
   ends-sole nowhere len capacity w has = tt
   ends-sole static_data len capacity w has = tt
@@ -58,13 +58,13 @@ module _ {T M : Type 0} (drops : Bool) where
   ends-by : (items : List T) (place : Place (Option ℕ) M) (role : Role)
       → RowFits drops (record { items = items; place = place; role = role })
       → EndsWithinAt place (role_places role (length items))
-  ends-by items place reader f = ends-read drops place (length items) f.within
+  ends-by items place reader f = ends-read drops false place (length items) f.within
   ends-by items place (sole_writer capacity) f =
       ends-sole drops place (length items) capacity f.within (f.writer refl)
   ends-by items place (one_writer_of_several capacity) f =
       ends-among drops place capacity (f.shared refl).places
-  ends-by items place inline f = ends-read drops place (length items) f.within
-  ends-by items place forgotten f = ends-read drops place (length items) f.within
+  ends-by items place inline f = ends-read drops true place (length items) f.within
+  ends-by items place forgotten f = ends-read drops false place (length items) f.within
 
   ends-fit : (row : Row T M) → RowFits drops row → EndsWithin row
   ends-fit row f = ends-by row.items row.place row.role f

@@ -1,6 +1,6 @@
 -- Rows that stand on one block agree about it, and each step keeps that.
 use Rattle.std.proofs.Common.{inl, inr, ◌≡◌, ◌⊎◌, ℕ, ◌+◌, ◌<◌, ◌≤◌, Bool, true, false, if◌then◌else◌}
-use Rattle.std.proofs.Common.{List, length, is_some, ◌==◌}
+use Rattle.std.proofs.Common.{List, length, is_some}
 use Rattle.std.proofs.Common.{[], ◌∷◌, ◌++◌, Option, Some, None, slice_get, slice_set, refl}
 use Rattle.std.proofs.Common.{sym, ap, ◌∙◌, subst, arith}
 use Rattle.std.specs.Option.{option_flatten}
@@ -8,7 +8,7 @@ use Rattle.std.proofs.lemmas.Option.{none-some, same_Some}
 use Rattle.std.proofs.lemmas.Bool.{false≢true, and_parts}
 use Rattle.arc_block.specs.Block.{BlockInfo}
 use Rattle.arc_block.specs.Place.{Place, nowhere, static_data, on_block}
-use Rattle.arc_block.specs.Table.{Row, Table, Role, StandsOn, row_at, reader, block_of}
+use Rattle.arc_block.specs.Table.{Row, Table, Role, StandsOn, row_at, block_of}
 use Rattle.arc_block.specs.Table.{is_alone}
 use Rattle.arc_block.specs.Writers.{as_sole, sole_at}
 use Rattle.arc_block.proofs.Alone.{is_alone-means}

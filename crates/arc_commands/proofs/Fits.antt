@@ -12,17 +12,16 @@ use Rattle.arc_buffer.specs.Slice.{sub, range_answer, edge_answer}
 use Rattle.arc_buffer.proofs.Sub.{length-sub}
 use Rattle.arc_block.specs.Block.{native_facts, partly_full, full_places, memory_info}
 use Rattle.arc_block.specs.Block.{Sort, native, vector, buffer, raw, BlockInfo, buffer_info}
-use Rattle.arc_block.specs.Block.{raw_info}
 use Rattle.arc_block.specs.Place.{Place, nowhere, static_data, on_block, moved}
 use Rattle.arc_block.specs.Room.{ends_full}
 use Rattle.arc_block.specs.Table.{Row, Role, reader, sole_writer, one_writer_of_several}
 use Rattle.arc_block.specs.Table.{inline, forgotten}
 use Rattle.arc_block.specs.Writers.{capacity_of, with_capacity, writer_capacity, after_advance}
-use Rattle.arc_block.specs.Writers.{as_sole, sole_at}
-use Rattle.arc_commands.specs.Blocks.{is_several, is_sole, is_writer}
+use Rattle.arc_block.specs.Writers.{as_reader, as_sole, sole_at}
+use Rattle.arc_commands.specs.Blocks.{is_several, is_small, is_sole, is_writer}
 use Rattle.arc_commands.specs.Fits.{LieWithin, HasPlaces, HasSharedPlaces, FitsBeside, RowFits}
 use Rattle.arc_commands.specs.Fits.{counts_full}
-use Rattle.arc_commands.proofs.Roles.{reads-sole, reads-several}
+use Rattle.arc_commands.proofs.Roles.{reads-sole, reads-several, sole-small}
 use Rattle.arc_commands.specs.Step.{Setting, part_of, cut_row, off_part, to_part, truncated}
 use Rattle.arc_commands.specs.Step.{buffer_row, written_buffer_row, raw_row}
 
@@ -88,23 +87,31 @@ counted-owned raw = refl
 -- ---- places
 
 module _ {M : Type 0} (drops : Bool) where
-  within-moved : (place : Place (Option ℕ) M) (by len n : ℕ) → LieWithin drops place len → by + n ≤ len
-      → LieWithin drops (moved by place) n
-  within-moved nowhere by len n w fits = omega (arith, w, fits)
-  within-moved static_data by len n w fits = tt
-  within-moved (on_block block offset info) by len n w fits =
-      (w.0, omega (arith, w.1, fits), w.2)
+  module _ (small : Bool) where
+    within-moved : (place : Place (Option ℕ) M) (by len n : ℕ) → LieWithin drops small place len
+        → by + n ≤ len → LieWithin drops small (moved by place) n
+    within-moved nowhere by len n w fits = λ none. omega (arith, w none, fits)
+    within-moved static_data by len n w fits = tt
+    within-moved (on_block block offset info) by len n w fits =
+        (w.0, omega (arith, w.1, fits), w.2)
 
-  within-less : (place : Place (Option ℕ) M) (len n : ℕ) → LieWithin drops place len → n ≤ len
-      → LieWithin drops place n
-  within-less nowhere len n w fits = omega (arith, w, fits)
-  within-less static_data len n w fits = tt
-  within-less (on_block block offset info) len n w fits = (w.0, omega (arith, w.1, fits), w.2)
+    within-less : (place : Place (Option ℕ) M) (len n : ℕ) → LieWithin drops small place len
+        → n ≤ len → LieWithin drops small place n
+    within-less nowhere len n w fits = λ none. omega (arith, w none, fits)
+    within-less static_data len n w fits = tt
+    within-less (on_block block offset info) len n w fits = (w.0, omega (arith, w.1, fits), w.2)
 
-  within-if : (b : Bool) (place : Place (Option ℕ) M) (n : ℕ) → (b ≡ true → n ≡ 0)
-      → LieWithin drops place n → LieWithin drops (if b then nowhere else place) n
-  within-if true place n none w = none refl
-  within-if false place n none w = w
+    within-if : (b : Bool) (place : Place (Option ℕ) M) (n : ℕ) → (b ≡ true → n ≡ 0)
+        → LieWithin drops small place n → LieWithin drops small (if b then nowhere else place) n
+    within-if true place n none w = λ is. none refl
+    within-if false place n none w = w
+
+  -- what lies within its block does so in a small window too
+  within-small : (place : Place (Option ℕ) M) (len : ℕ) → LieWithin drops false place len
+      → LieWithin drops true place len
+  within-small nowhere len w = λ none. absurd (false≢true (sym none))
+  within-small static_data len w = tt
+  within-small (on_block block offset info) len w = w
 
   places-moved : (place : Place (Option ℕ) M) (by len capacity : ℕ) → by ≤ len
       → HasPlaces drops place len capacity
@@ -126,9 +133,9 @@ module _ {M : Type 0} where
   places-left static_data len n capacity has = has
   places-left (on_block block offset info) len n capacity has = has
 
-  places-own : (place : Place (Option ℕ) M) (len n capacity : ℕ) → LieWithin true place len → n < len
-      → HasPlaces true place len capacity → HasPlaces true place n n
-  places-own nowhere len n capacity w less has = absurd (omega (arith, w, less))
+  places-own : (place : Place (Option ℕ) M) (len n capacity : ℕ) → LieWithin true false place len
+      → n < len → HasPlaces true place len capacity → HasPlaces true place n n
+  places-own nowhere len n capacity w less has = absurd (omega (arith, w refl, less))
   places-own static_data len n capacity w less has = has
   places-own (on_block block offset info) len n capacity w less has =
       sym (ap (λ b. if not b then n else info.size - offset)
@@ -167,6 +174,14 @@ capacity-among (one_writer_of_several before) n several = refl
 capacity-among inline n several = absurd (false≢true several)
 capacity-among forgotten n several = absurd (false≢true several)
 
+-- a role with another capacity is a small window's where the role is
+small-with : (role : Role) (n : ℕ) → is_small (with_capacity role n) ≡ is_small role
+small-with reader n = refl
+small-with (sole_writer before) n = refl
+small-with (one_writer_of_several before) n = refl
+small-with inline n = refl
+small-with forgotten n = refl
+
 -- one of several writers has that many places less, that much further in
 among-moved : {M : Type 0} (place : Place (Option ℕ) M) (by capacity : ℕ) → by ≤ capacity
     → HasSharedPlaces place capacity → HasSharedPlaces (moved by place) (capacity - by)
@@ -179,12 +194,19 @@ among-moved (on_block block offset info) by capacity less has = (has.0, omega (a
 module _ {T M : Type 0} (drops : Bool) where
   -- a row that is read, or on a static slice, has no places to tell
   pub reads-fit : (row : Row T M) → is_writer row.role ≡ false
-      → LieWithin drops row.place (length row.items) → RowFits drops row
+      → LieWithin drops (is_small row.role) row.place (length row.items) → RowFits drops row
   reads-fit row reads w = record {
     within = w;
     writer = λ sole. absurd (false≢true (sym (reads-sole row.role reads) ∙ sole));
     shared = λ several. absurd (false≢true (sym (reads-several row.role reads) ∙ several));
   }
+
+  -- a writer's row, as a reader's
+  pub as-reader-fits : (row : Row T M) → is_small row.role ≡ false → RowFits drops row
+      → RowFits drops (as_reader row)
+  as-reader-fits row large f =
+      reads-fit (as_reader row) refl
+      (subst (λ b. LieWithin drops b row.place (length row.items)) large f.within)
 
   -- one of several writers, that much further in
   among-advanced : (row : Row T M) (by : ℕ) → by ≤ length row.items
@@ -208,8 +230,10 @@ module _ {T M : Type 0} (drops : Bool) where
       let long : length (drop by row.items) ≡ length row.items - by = length-drop by row.items in
       record {
         within =
-            within-moved drops row.place by (length row.items) (length (drop by row.items)) f.within
-            (omega (arith, long, less));
+            subst (λ b. LieWithin drops b (moved by row.place) (length (drop by row.items)))
+            (sym (small-with row.role (capacity_of row.role - by)))
+            (within-moved drops (is_small row.role) row.place by (length row.items)
+            (length (drop by row.items)) f.within (omega (arith, long, less)));
         writer = λ sole.
             let places : capacity_of (with_capacity row.role (capacity_of row.role - by))
             ≡ capacity_of row.role - by =
@@ -226,26 +250,26 @@ module _ {T M : Type 0} (drops : Bool) where
       }
 
   -- as a sole writer a row has the places that its place gives
-  at-fits : (items : List T) (place : Place (Option ℕ) M) → LieWithin drops place (length items)
-      → RowFits drops (sole_at drops items place)
-  at-fits items nowhere w = record {
-    within = refl;
+  at-fits : (small : Bool) (items : List T) (place : Place (Option ℕ) M)
+      → LieWithin drops small place (length items) → RowFits drops (sole_at drops items place)
+  at-fits small items nowhere w = record {
+    within = λ none. refl;
     writer = λ sole. refl;
     shared = λ several. absurd (false≢true several);
   }
-  at-fits items static_data w = record {
-    within = refl;
+  at-fits small items static_data w = record {
+    within = λ none. refl;
     writer = λ sole. refl;
     shared = λ several. absurd (false≢true several);
   }
-  at-fits items (on_block block offset info) w = record {
+  at-fits small items (on_block block offset info) w = record {
     within = w;
     writer = λ sole. refl;
     shared = λ several. absurd (false≢true several);
   }
 
   pub sole-fits : (row : Row T M) → RowFits drops row → RowFits drops (as_sole drops row)
-  sole-fits row f = at-fits row.items row.place f.within
+  sole-fits row f = at-fits (is_small row.role) row.items row.place f.within
 
   -- a window that is made of a list
   pub founded-fits : (block : ℕ) (items : List T) (nothing : Bool)
@@ -265,7 +289,28 @@ module _ {T M : Type 0} (drops : Bool) where
         place = if nothing then nowhere else place;
         role = reader;
       }) refl
-      (within-if drops nothing place n none (counted drops n, omega (arith, ends.0), ends.1))
+      (within-if drops false nothing place n none (counted drops n, omega (arith, ends.0), ends.1))
+
+  -- a small window that has its items in itself, or stands where a reader would
+  pub inside-fits : (items : List T)
+      → RowFits {M = M} drops (record { items = items; place = nowhere; role = inline })
+  inside-fits items =
+      reads-fit (record { items = items; place = nowhere; role = inline }) refl
+      (λ none. absurd (false≢true (sym none)))
+
+  pub small-fits : (block : ℕ) (items : List T) (nothing : Bool)
+      → (nothing ≡ true → length items ≡ 0)
+      → RowFits {M = M} drops (record {
+        items = items;
+        place = if nothing then nowhere else
+            on_block (Some block) 0 (native_facts drops (length items));
+        role = inline;
+      })
+  small-fits block items nothing none =
+      let place : Place (Option ℕ) M = if nothing then nowhere else
+      on_block (Some block) 0 (native_facts drops (length items)) in
+      reads-fit (record { items = items; place = place; role = inline }) refl
+      (within-small drops place (length items) (founded-fits block items nothing none).within)
 
   -- a window over a vector with so many places
   pub vector-fits : (block : ℕ) (items : List T) (places : ℕ) → length items ≤ places
@@ -326,7 +371,7 @@ module _ {T M : Type 0} (drops : Bool) where
       let place : Place (Option ℕ) M = on_block (Some block) 0 (partly_full drops places n) in
       record {
         within =
-            within-if drops (places == 0) place n
+            within-if drops false (places == 0) place n
             (λ none. omega (arith, eqb-true places 0 none, less))
             (counted drops n, omega (arith, ends.0), ends.1);
         writer = λ sole. has (places == 0) refl;
@@ -353,13 +398,17 @@ truncate-fits true row n less f =
     let long : length (take n row.items) ≡ n = length-take-le n row.items (omega (arith, less)) in
     record {
       within =
-          within-less true row.place (length row.items) (length (take n row.items)) f.within
-          (omega (arith, long, less));
+          subst (λ b. LieWithin true b row.place (length (take n row.items)))
+          (sym (small-with row.role n))
+          (within-less true (is_small row.role) row.place (length row.items)
+          (length (take n row.items)) f.within (omega (arith, long, less)));
       writer = λ sole.
           let places = capacity-with row.role n sole in
           subst (λ c. HasPlaces true row.place (length (take n row.items)) c) (sym places)
           (subst (λ m. HasPlaces true row.place m n) (sym long)
-          (places-own row.place (length row.items) n (capacity_of row.role) f.within less
+          (places-own row.place (length row.items) n (capacity_of row.role)
+          (subst (λ b. LieWithin true b row.place (length row.items))
+          (sole-small row.role (sole-before row.role n sole)) f.within) less
           (f.writer (sole-before row.role n sole))));
       shared = λ several. absurd (false≢true (sym (f.shared (several-before row.role n several)).kept));
     }
@@ -367,8 +416,8 @@ truncate-fits false row n less f =
     let long : length (take n row.items) ≡ n = length-take-le n row.items (omega (arith, less)) in
     record {
       within =
-          within-less false row.place (length row.items) (length (take n row.items)) f.within
-          (omega (arith, long, less));
+          within-less false (is_small row.role) row.place (length row.items)
+          (length (take n row.items)) f.within (omega (arith, long, less));
       writer = λ sole.
           places-left row.place (length row.items) (length (take n row.items))
           (capacity_of row.role) (f.writer sole);
@@ -386,9 +435,10 @@ truncate-fits false row n less f =
 module _ {T M : Type 0} (setting : Setting T) (row : Row T M) (reads : is_writer row.role ≡ false)
     (f : RowFits setting.drops row) where
   lies : (start end : ℕ) → start ≤ end → end ≤ length row.items
-      → LieWithin setting.drops (moved start row.place) (length (sub row.items start end))
+      → LieWithin setting.drops (is_small row.role) (moved start row.place)
+      (length (sub row.items start end))
   lies start end ordered within =
-      within-moved setting.drops row.place start (length row.items)
+      within-moved setting.drops (is_small row.role) row.place start (length row.items)
       (length (sub row.items start end))
       f.within (omega (arith, length-sub row.items start end ordered within, ordered, within))
 
@@ -398,7 +448,7 @@ module _ {T M : Type 0} (setting : Setting T) (row : Row T M) (reads : is_writer
       let items = sub row.items start end in
       let nothing = setting.layout.has_static && (length items == 0) in
       reads-fit setting.drops (part_of setting.layout.has_static row start end) reads
-      (within-if setting.drops nothing (moved start row.place) (length items)
+      (within-if setting.drops (is_small row.role) nothing (moved start row.place) (length items)
       (λ none. eqb-true (length items) 0 (and_parts setting.layout.has_static (length items == 0) none).1)
       (lies start end ordered within))
 

@@ -6,7 +6,7 @@ use Rattle.std.proofs.Common.{is_some, refl, sym, ap, ◌∙◌, subst, arith}
 use Rattle.std.specs.Prelude.{nat_lt, max, ◌*◌, ◌^◌}
 use Rattle.std.specs.Option.{option_map, option_map_or}
 use Rattle.std.proofs.lemmas.Bool.{false≢true, not-true, not-false, ltb-true, ltb-false, eq-eqb, eqb-true, and_parts}
-use Rattle.std.proofs.lemmas.List.{append-nil, length-append}
+use Rattle.std.proofs.lemmas.List.{length-append}
 use Rattle.arc_owners.specs.declared.error.TryReserveError.{TryReserveError}
 use Rattle.arc_owners.specs.declared.error.TryReserveError.TheVariants.{AllocError, Unsupported}
 use Rattle.arc_owners.specs.declared.error.TryReserveError.TheVariants.{CapacityOverflow}
@@ -121,7 +121,7 @@ block-fits : {M : Type 0} (drops : Bool) (sort : Sort) (full : Option ℕ) (meta
       full = option_map (λ f. f + (more - (f - (offset + len)))) full;
       metadata = meta;
     }) in
-    LieWithin drops place (len + more) × HasPlaces drops place (len + more) (places - offset)
+    LieWithin drops false place (len + more) × HasPlaces drops place (len + more) (places - offset)
 block-fits false sort None meta block offset len more places counted fits within ordered ends =
     ((counted, omega (arith, fits), omega arith), refl)
 block-fits true sort None meta block offset len more places counted fits within ordered ends =
@@ -159,13 +159,13 @@ module _ {T M : Type 0} (drops : Bool) (first size : ℕ) (old more : List T) (k
   row-at place places = record { items = old; place = place; role = sole_writer places }
 
   -- the row, of which is known how long it is
-  fit : (place : Place (Option ℕ) M) (places : ℕ) → LieWithin drops place ((length old) + (length more))
+  fit : (place : Place (Option ℕ) M) (places : ℕ) → LieWithin drops false place ((length old) + (length more))
       → HasPlaces drops place ((length old) + (length more)) places
       → RowFits drops (record { items = old ++ more; place = place; role = sole_writer places })
   fit place places within has =
       let long : (length old) + (length more) ≡ length (old ++ more) = sym (length-append old more) in
       record {
-        within = subst (λ l. LieWithin drops place l) long within;
+        within = subst (λ l. LieWithin drops false place l) long within;
         writer = λ sole. subst (λ l. HasPlaces drops place l places) long has;
         shared = λ several. absurd (false≢true several);
       }
@@ -420,7 +420,7 @@ fresh-fits {T} {M} drops block places more less =
       metadata = None;
     }) in
     record {
-      within = subst (λ l. LieWithin drops at l) (none-before m) all.0;
+      within = subst (λ l. LieWithin drops false at l) (none-before m) all.0;
       writer = λ sole. subst (λ l. HasPlaces drops at l places) (none-before m)
           (subst (λ c. HasPlaces drops at (0 + m) c) whole all.1);
       shared = λ several. absurd (false≢true several);

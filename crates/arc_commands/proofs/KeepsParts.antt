@@ -1,6 +1,6 @@
 -- Parts of a row fit where it does, and have no places beside its own.
 use Rattle.std.proofs.Common.{◌≡◌, ℕ, ◌+◌, ◌-◌, ◌≤◌, ◌<◌, ◌==◌, ◌&&◌, Bool, true, false}
-use Rattle.std.proofs.Common.{if◌then◌else◌, length, take, drop, Option, refl, sym, ap, ◌∙◌, subst}
+use Rattle.std.proofs.Common.{if◌then◌else◌, length, take, Option, refl, sym, ◌∙◌, subst}
 use Rattle.std.proofs.Common.{arith}
 use Rattle.std.proofs.lemmas.Bool.{false≢true}
 use Rattle.std.proofs.lemmas.List.{length-drop, length-take-le}
@@ -10,12 +10,12 @@ use Rattle.arc_block.specs.Place.{Place, nowhere, static_data, on_block, moved}
 use Rattle.arc_block.specs.Table.{Row, Role, reader, sole_writer, one_writer_of_several}
 use Rattle.arc_block.specs.Table.{inline, forgotten}
 use Rattle.arc_block.specs.Writers.{capacity_of, with_capacity, after_advance, as_reader}
-use Rattle.arc_commands.specs.Apart.{Covers, CoversAt, role_places}
+use Rattle.arc_commands.specs.Apart.{CoversAt, role_places}
 use Rattle.arc_commands.specs.Blocks.{is_several, is_sole, is_writer}
-use Rattle.arc_commands.specs.Fits.{RowFits}
 use Rattle.arc_commands.specs.Step.{Setting, part_of, cut_row, off_part, to_part, truncated}
-use Rattle.arc_commands.proofs.Fits.{advance-fits, reads-fit, truncate-fits, part-fits, cut-fits}
+use Rattle.arc_commands.proofs.Fits.{advance-fits, as-reader-fits, truncate-fits, part-fits, cut-fits}
 use Rattle.arc_commands.proofs.Parts.{KeepsPart, writes-with}
+use Rattle.arc_commands.proofs.Roles.{several-small}
 
 -- ---- places
 
@@ -131,7 +131,7 @@ enough forgotten len several room = absurd (false≢true several)
 pub freeze-part : {T M : Type 0} (drops : Bool) (row : Row T M) → is_several row.role ≡ true
     → KeepsPart drops row (as_reader row)
 freeze-part drops row several = record {
-  fits = λ f. reads-fit drops (as_reader row) refl f.within;
+  fits = as-reader-fits drops row (several-small row.role several);
   writes = λ writes. absurd (false≢true writes);
   places = λ sole f n covers.
       covers-less row.place (length row.items) (role_places row.role (length row.items)) n

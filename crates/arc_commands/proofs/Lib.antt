@@ -11,3 +11,5 @@ pub mod FitsStep
 pub mod Apart
 pub mod Several
 pub mod Windows
+pub mod Others
+pub mod OtherHistories

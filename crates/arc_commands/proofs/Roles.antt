@@ -1,9 +1,9 @@
 -- The roles of rows.
-use Rattle.std.proofs.Common.{◌≡◌, ℕ, true, false, refl, sym, ◌∙◌}
+use Rattle.std.proofs.Common.{◌≡◌, ℕ, true, false, refl, sym}
 use Rattle.std.proofs.lemmas.Bool.{false≢true}
 use Rattle.arc_block.specs.Table.{Role, reader, sole_writer, one_writer_of_several, inline}
 use Rattle.arc_block.specs.Table.{forgotten}
-use Rattle.arc_commands.specs.Blocks.{is_several, is_sole, is_writer}
+use Rattle.arc_commands.specs.Blocks.{is_several, is_small, is_sole, is_writer}
 
 -- what holds of each sole writer's role holds of a role that is one
 pub sole_each : (P : Role → Type 0) → ((places : ℕ) → P (sole_writer places)) → (role : Role)
@@ -45,3 +45,18 @@ writes-several (sole_writer places) writes shares = absurd (false≢true (sym sh
 writes-several (one_writer_of_several places) writes shares = refl
 writes-several inline writes shares = absurd (false≢true writes)
 writes-several forgotten writes shares = absurd (false≢true writes)
+
+-- a writer's role is no small window's
+pub sole-small : (role : Role) → is_sole role ≡ true → is_small role ≡ false
+sole-small reader sole = refl
+sole-small (sole_writer places) sole = refl
+sole-small (one_writer_of_several places) sole = refl
+sole-small inline sole = absurd (false≢true sole)
+sole-small forgotten sole = refl
+
+pub several-small : (role : Role) → is_several role ≡ true → is_small role ≡ false
+several-small reader several = refl
+several-small (sole_writer places) several = refl
+several-small (one_writer_of_several places) several = refl
+several-small inline several = absurd (false≢true several)
+several-small forgotten several = refl

@@ -1,14 +1,14 @@
 -- Parts of the places of one writer of several, and places that are joined.
-use Rattle.std.proofs.Common.{inl, inr, ◌≡◌, ◌⊎◌, ℕ, ◌+◌, ◌-◌, ◌≤◌, ◌<◌, ◌==◌, Bool, true, false}
-use Rattle.std.proofs.Common.{List, length, Option, refl, sym, ap, ◌∙◌, subst, arith, ◌&&◌}
-use Rattle.std.specs.Prelude.{nat_lt, ◌↔◌}
+use Rattle.std.proofs.Common.{inl, inr, ◌≡◌, ◌⊎◌, ℕ, ◌+◌, ◌-◌, ◌≤◌, ◌==◌, true}
+use Rattle.std.proofs.Common.{List, length, Option, arith}
+use Rattle.std.specs.Prelude.{nat_lt}
 use Rattle.std.proofs.lemmas.Bool.{and_parts, cases_Bool, eqb-true, false≢true, ltb-false, ltb-true}
 use Rattle.arc_block.specs.Place.{Place, nowhere, static_data, on_block, moved}
 use Rattle.arc_block.specs.Shared.{can_join, ends_at, front_of, joined_row}
 use Rattle.arc_block.specs.Table.{Row, Role, reader, sole_writer, one_writer_of_several, inline}
 use Rattle.arc_block.specs.Table.{forgotten}
 use Rattle.arc_block.specs.Writers.{after_advance, capacity_of}
-use Rattle.arc_commands.specs.Apart.{Covers, CoversAt, IsParted, ShareNone}
+use Rattle.arc_commands.specs.Apart.{CoversAt, IsParted}
 use Rattle.arc_commands.specs.Blocks.{is_several}
 
 -- what holds of the role of each writer of several holds of one that is

@@ -5,7 +5,15 @@ use Rattle.arc_block.specs.Place.{on_block}
 use Rattle.arc_block.specs.Table.{Row, Table, Role, StandsOn, row_at}
 use Rattle.arc_block.specs.Table.{reader, sole_writer, one_writer_of_several, inline, forgotten}
 
--- whether a role is a sole writer's
+-- whether a role is a reader's
+abbrev pub is_reader : Role → Bool
+is_reader reader = true
+is_reader (sole_writer capacity) = false
+is_reader (one_writer_of_several capacity) = false
+is_reader inline = false
+is_reader forgotten = false
+
+-- whether it is a sole writer's
 abbrev pub is_sole : Role → Bool
 is_sole reader = false
 is_sole (sole_writer capacity) = true
@@ -28,6 +36,14 @@ is_writer (sole_writer capacity) = true
 is_writer (one_writer_of_several capacity) = true
 is_writer inline = false
 is_writer forgotten = false
+
+-- whether it is a small window's
+abbrev pub is_small : Role → Bool
+is_small reader = false
+is_small (sole_writer capacity) = false
+is_small (one_writer_of_several capacity) = false
+is_small inline = true
+is_small forgotten = false
 
 module _ {T M : Type 0} where
   -- a row that stands on the block with this number says this of it

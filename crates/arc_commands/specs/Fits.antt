@@ -5,7 +5,7 @@ use Rattle.arc_block.specs.Block.{BlockInfo, IsMemory, Sort, native, vector, buf
 use Rattle.arc_block.specs.Place.{Place, nowhere, static_data, on_block}
 use Rattle.arc_block.specs.Table.{Row, Table, row_at}
 use Rattle.arc_block.specs.Writers.{capacity_of, writer_capacity}
-use Rattle.arc_commands.specs.Blocks.{is_several, is_sole}
+use Rattle.arc_commands.specs.Blocks.{is_several, is_small, is_sole}
 
 -- Whether a block of this sort counts its full places: one of ours, where items are dropped one by
 -- one, and always what a caller brought.
@@ -20,12 +20,12 @@ module _ {M : Type 0} where
   abbrev pub full_end : BlockInfo M → ℕ
   full_end info = option_map_or (λ full. full) info.full info.size
 
-  -- So many items lie within the full places of a block, where these are counted. On nothing there
-  -- are none.
-  abbrev pub LieWithin : Bool → Place (Option ℕ) M → ℕ → Type 0
-  LieWithin drops nowhere len = len ≡ 0
-  LieWithin drops static_data len = Unit {0}
-  LieWithin drops (on_block block offset info) len = (is_some info.full ≡ counts_full drops info.sort)
+  -- So many items of a small window, or of another one, lie within the full places of a block,
+  -- where these are counted. On nothing there are none, but what a small window has in itself.
+  abbrev pub LieWithin : (drops small : Bool) → Place (Option ℕ) M → ℕ → Type 0
+  LieWithin drops small nowhere len = small ≡ false → len ≡ 0
+  LieWithin drops small static_data len = Unit {0}
+  LieWithin drops small (on_block block offset info) len = (is_some info.full ≡ counts_full drops info.sort)
       × (offset + len ≤ full_end info) × (full_end info ≤ info.size)
 
   -- a sole writer of so many items, who stands here, has so many places: none on static data
@@ -53,7 +53,7 @@ pub record FitsBeside {T M : Type 0} (drops : Bool) (row : Row T M) : Type 0 whe
 -- A row's items lie within its block. A sole writer has the places that are behind them, and one of
 -- several has some of these.
 pub record RowFits {T M : Type 0} (drops : Bool) (row : Row T M) : Type 0 where
-  pub within : LieWithin drops row.place (length row.items)
+  pub within : LieWithin drops (is_small row.role) row.place (length row.items)
   pub writer : is_sole row.role ≡ true
       → HasPlaces drops row.place (length row.items) (capacity_of row.role)
   pub shared : is_several row.role ≡ true → FitsBeside drops row

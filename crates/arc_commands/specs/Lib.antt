@@ -8,3 +8,4 @@ pub mod Apart
 pub mod Additions
 pub mod Several
 pub mod State
+pub mod Others

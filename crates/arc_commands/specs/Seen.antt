@@ -15,6 +15,7 @@ use Rattle.arc_commands.specs.declared.command.Reply.TheVariants as reply
 abbrev pub map_command : {C X F B M T : Type 0} → (X → List T) → (F → List T) → (B → List T)
     → Cmd C X F B M T → ListCmd T M
 map_command f g h (command.Slice items) = command.Slice (f items)
+map_command f g h (command.Small items) = command.Small (f items)
 map_command f g h (command.Vec items) = command.Vec (f items)
 map_command f g h (command.Static items) = command.Static (g items)
 map_command f g h (command.Raw buffer) = command.Raw (h buffer)

@@ -9,6 +9,7 @@ use Rattle.arc_buffer.specs.Slice.{sub, range_answer, edge_answer}
 use Rattle.arc_block.specs.declared.block.TheConstants.{MAX_OWNERS}
 use Rattle.arc_block.specs.Block.{Sort, native, vector, buffer, raw, native_facts, partly_full}
 use Rattle.arc_block.specs.Block.{BlockInfo, memory_info, buffer_info, raw_info}
+use Rattle.arc_block.specs.Inline.{inline_limit}
 use Rattle.arc_block.specs.Layouts.{LayoutFacts}
 use Rattle.arc_block.specs.Moves.{layout_move}
 use Rattle.arc_block.specs.declared.parts.moves.Move.{Move}
@@ -32,7 +33,7 @@ use Rattle.arc_commands.specs.Commands.{ListCmd, ListReply}
 use Rattle.arc_commands.specs.declared.command.Cmd.{Cmd}
 use Rattle.arc_commands.specs.declared.command.Cmd.TheVariants.{Slice, Clone, Sub, Uniq, Show, Len}
 use Rattle.arc_commands.specs.declared.command.Cmd.TheVariants.{Off, To, Adv, Trunc, Drop}
-use Rattle.arc_commands.specs.declared.command.Cmd.TheVariants.{Static, TakeStatic, MSlice}
+use Rattle.arc_commands.specs.declared.command.Cmd.TheVariants.{Static, TakeStatic, MSlice, Small}
 use Rattle.arc_commands.specs.declared.command.Cmd.TheVariants.{New, Cap, Zero, Room, Mut, Res}
 use Rattle.arc_commands.specs.declared.command.Cmd.TheVariants.{Push, Ext}
 use Rattle.arc_commands.specs.declared.command.Cmd.TheVariants.{Rec, Freeze}
@@ -41,13 +42,14 @@ use Rattle.arc_commands.specs.declared.command.Cmd.TheVariants.{Take, TakeBox, T
 use Rattle.arc_commands.specs.declared.command.Reply.TheVariants as reply
 
 -- which calls a kind has, of those that not all kinds have: whether a list is copied, whether an
--- item more is pushed, whether a copy of items is put behind others, and whether each list is legal,
--- so that a window is made of a caller's buffer
+-- item more is pushed, whether a copy of items is put behind others, whether each list is legal, so
+-- that a window is made of a caller's buffer, and whether a window may have a few items in itself
 pub record Calls : Type 0 where
   pub copies : Bool
   pub pushes : Bool
   pub extends : Bool
   pub any_list : Bool
+  pub small : Bool
 
 -- what a table is run under: of its layout, on what windows may stand, whether under the layout of
 -- its writers a block may be of a caller's making, and on which sorts of blocks its clones may want
@@ -215,6 +217,18 @@ made_row has_static drops block items = record {
   place = made_place has_static (Some block) (native_facts drops (length items)) items;
   role = reader;
 }
+
+-- the same items at the same place, as a small window
+abbrev pub as_small : {T M : Type 0} → Row T M → Row T M
+as_small row = record row { role = inline }
+
+-- What is made of a list as a small window. Up to a limit it has the items in itself, and stands on
+-- nothing; past that it stands where a reader does that is made of them.
+abbrev pub small_row : {T M : Type 0} → (limit : ℕ) → (has_static drops : Bool) → (block : ℕ)
+    → List T → Row T M
+small_row limit has_static drops block items =
+    if nat_lt limit (length items) then as_small (made_row has_static drops block items) else
+    record { items = items; place = nowhere; role = inline }
 
 -- What is made of a vector of these items and so many places: a reader of it, on a block that is
 -- the vector. Of no places it is what is made of a list.
@@ -582,6 +596,10 @@ abbrev pub row_by : {T M : Type 0} → Setting T → (places block : ℕ) → Li
 row_by setting places block (Slice items) =
     if setting.calls.copies then Some (made_row setting.layout.has_static setting.drops block items)
     else None
+row_by setting places block (Small items) =
+    if setting.calls.small then
+    Some (small_row (inline_limit setting.layout) setting.layout.has_static setting.drops block items)
+    else None
 row_by setting places block (Vec items) =
     if setting.layout.has_any then
     Some (vector_row setting.layout.has_static setting.drops block items places) else None
@@ -616,6 +634,7 @@ count_brought other = 0
 -- the window on which a command is, None of those that make one of what they bring
 abbrev pub window_of : {C X F B M T : Type 0} → Cmd C X F B M T → Option ℕ
 window_of (Slice items) = None
+window_of (Small items) = None
 window_of (Vec items) = None
 window_of (Static items) = None
 window_of (Raw given) = None

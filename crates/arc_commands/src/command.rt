@@ -43,6 +43,8 @@ impl<X, F, B, M, T> Carried for Carries<X, F, B, M, T> {
 pub enum Cmd<C: Carried> {
     /// A window over a copy of these items.
     Slice(C::Items),
+    /// A window over a copy of these items, which has them in itself where they are few.
+    Small(C::Items),
     /// A window over all items of a vector.
     Vec(C::Items),
     /// A window over a slice that is there for good.
@@ -185,6 +187,7 @@ impl<C: Carried> Cmd<C> {
     {
         match self {
             Cmd::Slice(_) => None,
+            Cmd::Small(_) => None,
             Cmd::Vec(_) => None,
             Cmd::Static(_) => None,
             Cmd::Raw(_) => None,

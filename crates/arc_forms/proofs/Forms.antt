@@ -178,6 +178,7 @@ sorts_of word = option_map (λ v. (reads v).sorts) (named word verbs)
 sorts_again : (c : ByteCmd) → sorts_of (form c).0 ≡ Some (map sort_of (form c).1)
 sorts_again (command.Slice xs) = refl
 sorts_again (command.MSlice xs) = refl
+sorts_again (command.Small xs) = refl
 sorts_again (command.Vec xs) = refl
 sorts_again (command.Raw xs) = refl
 sorts_again (command.Buf xs metadata) = refl
@@ -188,6 +189,7 @@ sorts_again other = refl
 made_again : (c : ByteCmd) → IsSayable c → (named (form c).0 verbs >>= λ v. made (reads v).sorts (reads v).make (form c).1) ≡ Some c
 made_again (command.Slice xs) sayable = refl
 made_again (command.MSlice xs) sayable = refl
+made_again (command.Small xs) sayable = refl
 made_again (command.Vec xs) sayable = refl
 made_again (command.Raw xs) sayable = refl
 made_again (command.Buf xs metadata) sayable = refl
@@ -199,6 +201,7 @@ made_again other sayable = refl
 no_space_form : (c : ByteCmd) → list_all (λ byte. not (is_space byte)) (form c).0 ≡ true
 no_space_form (command.Slice xs) = refl
 no_space_form (command.MSlice xs) = refl
+no_space_form (command.Small xs) = refl
 no_space_form (command.Vec xs) = refl
 no_space_form (command.Raw xs) = refl
 no_space_form (command.Buf xs metadata) = refl

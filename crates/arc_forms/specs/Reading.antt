@@ -166,6 +166,7 @@ numbers_form two.Trunc = (codes "trunc", command.Trunc)
 abbrev pub items_form : JustItems → Line (SomeItems ∷ [])
 items_form items.Slice = (codes "slice", command.Slice)
 items_form items.MSlice = (codes "mslice", command.MSlice)
+items_form items.Small = (codes "small", command.Small)
 items_form items.Vec = (codes "vec", command.Vec)
 items_form items.Raw = (codes "raw", command.Raw)
 
@@ -197,7 +198,7 @@ by_word vs = map (λ v. ((reads v).word, v)) vs
 abbrev pub usual_verbs : List (List ℕ × Verb)
 usual_verbs = by_word (
     verb.Number one.Show ∷ verb.Number one.Drop ∷ verb.Items items.Slice ∷ verb.Number one.Clone ∷
-    verb.Sub ∷ verb.Push ∷ [])
+    verb.Sub ∷ verb.Push ∷ verb.Items items.Small ∷ [])
 
 abbrev pub cut_verbs : List (List ℕ × Verb)
 cut_verbs = by_word (

@@ -51,6 +51,7 @@ static_bytes = codes "abcd"
 abbrev pub form : ByteCmd → List ℕ × List Operand
 form (command.Slice xs) = (codes "slice", Items xs ∷ [])
 form (command.MSlice xs) = (codes "mslice", Items xs ∷ [])
+form (command.Small xs) = (codes "small", Items xs ∷ [])
 form (command.Vec xs) = (codes "vec", Items xs ∷ [])
 form (command.Raw xs) = (codes "raw", Items xs ∷ [])
 form (command.Buf xs metadata) = (codes "buf", Items xs ∷ Number metadata ∷ [])

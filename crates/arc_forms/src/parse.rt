@@ -101,6 +101,7 @@ enum TwoNumbers {
 enum JustItems {
     Slice,
     MSlice,
+    Small,
     Vec,
     Raw,
 }
@@ -134,8 +135,8 @@ fn word(line: &[u8]) -> (&[u8], Rest)
     (line, None)
 }
 
-/// The number that a word says.
-fn number_in(word: &[u8]) -> Option<usize>
+/// The number that a word says: at most 18 digits, the first one 0 in `0` alone.
+pub fn number_in(word: &[u8]) -> Option<usize>
     ensures { result ≡ number_of word.now }
 {
     if word.is_empty() || word.len() > MOST_DIGITS {
@@ -331,6 +332,7 @@ fn usual_verb_named(word: &[u8]) -> Option<Verb>
         b"clone" => Some(Verb::Number(OneNumber::Clone)),
         b"sub" => Some(Verb::Sub),
         b"push" => Some(Verb::Push),
+        b"small" => Some(Verb::Items(JustItems::Small)),
         _ => None,
     }
 }
@@ -571,6 +573,7 @@ fn with_items<A: Allocator>(
         Ok(items) => Ok(Some(match verb {
             JustItems::Slice => Cmd::Slice(items),
             JustItems::MSlice => Cmd::MSlice(items),
+            JustItems::Small => Cmd::Small(items),
             JustItems::Vec => Cmd::Vec(items),
             JustItems::Raw => Cmd::Raw(items),
         })),

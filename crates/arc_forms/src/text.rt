@@ -21,7 +21,7 @@ pub type ByteReply<X, A> = Reply<
 >;
 
 /// The hex digit of a number below 16.
-fn digit_of(number: u8) -> u8
+pub fn digit_of(number: u8) -> u8
     requires { number < 16 }
     ensures { result ≡ hex_digit number }
 {

@@ -6,7 +6,7 @@ use mir.Syntax.{ty_array}
 use base.Logic.{ent, emp, id⊢}
 use base.Fml.{Fml, ftrue, froom}
 use types.Logic.{Logic, sem}
-use types.Kit.{‵, ◌⊛◌, ◌$◌, ◌∵◌, !, qed, by, move, keep, split, use0, use1, use2, rewrite, fjoin, done}
+use types.Kit.{‵, ◌⊛◌, ◌$◌, ◌∵◌, !, qed, move, keep, split, use0, use1, use2, rewrite, fjoin, done}
 use Rattle.core.specs.Allocator.{block_with_items}
 use Rattle.core.specs.Mem.Slots.Ownership.{Filled}
 use Rattle.std_alloc.specs.Vec.Ownership.{owns_if, has_block}

@@ -1,7 +1,8 @@
 -- Places side by side are what each of them holds. Assumes `Logic`.
 --     spots_of, spots_as      what lies side by side, place by place, and back
---     spots_cut, spots_bare      cut at a place, and as room, whatever they hold
-use Rattle.std.proofs.Common.{◌≡◌, ℕ, zero, suc, ◌+◌, ◌-◌, ◌*◌, ◌≤◌, List, [], ◌∷◌, length, take, drop, Some, None, refl, sym, ap, ◌∙◌, arith, zero-mul, suc-mul, add-zero, add_assoc, add_comm}
+--     spots_cut, spots_glue      cut at a place, and put together
+--     spots_bare      as room, whatever they hold
+use Rattle.std.proofs.Common.{◌≡◌, ℕ, zero, suc, ◌+◌, ◌-◌, ◌*◌, ◌≤◌, List, [], ◌∷◌, ◌++◌, length, take, drop, Some, None, refl, sym, ap, ◌∙◌, arith, zero-mul, suc-mul, add-zero, add_assoc, add_comm}
 use seplogic.Ra.Ura.{Ura}
 use base.Logic.{ent, sep, emp, id⊢}
 use base.Fml.{Fml, ftrue, fsep, froom}
@@ -80,6 +81,13 @@ module _ (E : El) {M : Type 1} {𝓤 : Ura M} (𝓛 : Logic 𝓤) (b : ℕ) wher
   spots_cut (suc n) o p [] e = qed 𝓛 (‵ ftrue ∷ []) ∵ nothing ! $ done !
   spots_cut (suc n) o p (z ∷ zs) e = qed 𝓛 (‵ (spots (z ∷ zs) o) ∷ []) ∵ fsplit ! $ move ! (1 ∷ []) $
       use1 𝓛 (‵ (spots (take n zs) (o + s)) ⊛ ‵ (spots (drop n zs) p)) (spots_cut n (o + s) p zs (sym (one_further o n s) ∙ e)) $ split ! $ move ! (2 ∷ 0 ∷ []) $ fjoin ! $ done !
+
+  pub spots_glue : (n o p : ℕ) (ys zs : List Spot) → length ys ≡ n → o + n * s ≡ p → ent 𝓤 (sep 𝓤 (sem 𝓛 (spots ys o)) (sem 𝓛 (spots zs p))) (sem 𝓛 (spots (ys ++ zs) o))
+  spots_glue zero o p [] zs f e = qed 𝓛 (‵ (spots [] o) ∷ ‵ (spots zs p) ∷ []) ∵ drop_entry ! $ rewrite ! 0 (λ (k : ℕ). ‵ (spots zs k)) (sym (sym (no_further o s) ∙ e)) refl $ done !
+  spots_glue zero o p (y ∷ ys) zs f e = absurd (omega arith)
+  spots_glue (suc n) o p [] zs f e = absurd (omega arith)
+  spots_glue (suc n) o p (y ∷ ys) zs f e = qed 𝓛 (‵ (spots (y ∷ ys) o) ∷ ‵ (spots zs p) ∷ []) ∵ fsplit ! $ move ! (1 ∷ 2 ∷ []) $
+      use2 𝓛 (‵ (spots (ys ++ zs) (o + s))) (spots_glue n (o + s) p ys zs (omega arith) (sym (one_further o n s) ∙ e)) $ move ! (1 ∷ 0 ∷ []) $ fjoin ! $ done !
 
   holds_room : (y : Spot) (o : ℕ) → ent 𝓤 (sem 𝓛 (holds (R E) y b o)) (sem 𝓛 (froom (elτ E) b o))
   holds_room None o = qed 𝓛 (‵ (holds (R E) None b o) ∷ []) ∵ as_written ! (elτ E) b o $ done !

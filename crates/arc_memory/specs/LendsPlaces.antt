@@ -1,6 +1,6 @@
 -- What a writer's places hold, where their items are lent to be changed.
-use Rattle.std.specs.Prelude.{List}
-use Rattle.std.specs.Vec.{with_items}
+use Rattle.std.specs.Prelude.{ℕ, List}
+use Rattle.std.specs.Vec.{with_items, with_items_from}
 use Rattle.std.specs.Borrow.{Lends, Fml, RattleType, MutBor, Array}
 use Rattle.arc_memory.specs.declared.writer_places.WriterPlaces.{WriterPlaces}
 use Rattle.arc_memory.specs.contracts.writer_places.WriterPlaces.{the_row}
@@ -17,17 +17,29 @@ abbrev pub LendsPlaces : (T : RattleType) → MutBor (WriterPlaces T.Denot) → 
     → Fml
 LendsPlaces T places r = Lends (the_row T) (Array T 0) places r (with_written places.now)
 
--- the same of a writer's memory
-abbrev pub with_all_written : {T A : Type 0} → WriterMemory T A → List T → WriterMemory T A
-with_all_written m ws = record {
-  places = with_written m.places ws;
+-- the same of the items from this one on
+abbrev pub with_written_from : {T : Type 0} → ℕ → WriterPlaces T → List T → WriterPlaces T
+with_written_from start w ws =
+    record w { vec = with_items_from w.vec start ws; lies = w.lies; begins = w.begins }
+
+abbrev pub LendsPlacesFrom : (T : RattleType) → ℕ → MutBor (WriterPlaces T.Denot)
+    → MutBor (List T.Denot) → Fml
+LendsPlacesFrom T start places r =
+    Lends (the_row T) (Array T 0) places r (with_written_from start places.now)
+
+-- and of a writer's memory
+abbrev pub with_all_written : {T A : Type 0} → ℕ → WriterMemory T A → List T → WriterMemory T A
+with_all_written start m ws = record {
+  before = m.before;
+  places = with_written_from start m.places ws;
   allocation = m.allocation;
-  base = m.base;
-  all = m.all;
+  front = m.front;
+  unused = m.unused;
+  own = m.own;
   kept = m.kept;
 }
 
-abbrev pub LendsMemory : (T A : RattleType) → Ghosts A.Denot → MutBor (WriterMemory T.Denot A.Denot)
-    → MutBor (List T.Denot) → Fml
-LendsMemory T A a memory r =
-    Lends (memory_row T A a) (Array T 0) memory r (with_all_written memory.now)
+abbrev pub LendsMemory : (T A : RattleType) → Ghosts A.Denot → ℕ
+    → MutBor (WriterMemory T.Denot A.Denot) → MutBor (List T.Denot) → Fml
+LendsMemory T A a start memory r =
+    Lends (memory_row T A a) (Array T 0) memory r (with_all_written start memory.now)

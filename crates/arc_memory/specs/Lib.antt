@@ -5,8 +5,11 @@ pub mod Allocations
 pub mod Headers
 pub mod Rights
 pub mod HeaderPlaces
+pub mod WriterMemories
 pub mod WriterPlaces
 pub mod LeaseNotes
 pub mod WriterParts
 pub mod LentRanges
 pub mod SharedWriters
+pub mod KeptPlaces
+pub mod LendsWriters

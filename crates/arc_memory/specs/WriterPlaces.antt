@@ -1,5 +1,5 @@
 -- A writer's places, as contracts see them.
-use Rattle.std.specs.Prelude.{◌≡◌, ℕ}
+use Rattle.std.specs.Prelude.{◌≡◌}
 use Rattle.arc_memory.specs.declared.places.Places.{Places}
 use Rattle.arc_memory.specs.declared.writer_places.WriterPlaces.{WriterPlaces}
 

@@ -1,14 +1,16 @@
 //! A reader of items in memory that is lent for the lease of a block's owners.
 ghost use Rattle.std.specs.Prelude.{◌≡◌, ◌+◌, ◌-◌, ◌≤◌, IfOk, IfErr, IfSome, length, take, drop};
-ghost use Rattle.std.specs.Prelude.{is_ok, is_some};
+ghost use Rattle.std.specs.Prelude.{is_ok, is_some, true, false, None, IfNone};
+ghost use base.Fraction.{full_share};
 ghost use base.Stored.{Coded-set};
-ghost use Rattle.arc_owners.specs.count.LentNotes.{note_coded};
+ghost use Rattle.arc_owners.specs.count.LentNotes.{LentNote, note_coded};
 ghost use Rattle.arc_owners.specs.memory.Boxes.{lifetime_in, note_in};
 ghost use Rattle.arc_memory.specs.LeaseNotes.{note_of};
 
 use crate::frozen_places::FrozenPlaces;
 use arc_owners::error::CountFull;
-use arc_owners::lifetime::EndedLifetime;
+use arc_owners::leave::RaiseLeave;
+use arc_owners::lifetime::{EndedLifetime, LifetimeToken};
 use arc_owners::mark::Mark;
 use arc_owners::owners::{CountedBox, Pass, SoleBox};
 use std::alloc::Allocator;
@@ -26,9 +28,48 @@ pub struct FrozenReader<T, V: Drop, A: Allocator + Copy, const MAX: u64, H: Mark
 
 impl<T, V: Drop, A: Allocator + Copy, const MAX: u64, H: Mark> FrozenReader<T, V, A, MAX, H> {
     ghost use Rattle.arc_owners.specs.count.Calls.{IsPassFor, Asks, MakesAnother, FindsFull};
-    ghost use Rattle.arc_owners.specs.count.Calls.{Leaves};
+    ghost use Rattle.arc_owners.specs.count.Calls.{Leaves, EndsByItself, IsPassOfNone};
     ghost use Rattle.arc_owners.specs.memory.Boxes.{owner_in, value_of};
+    ghost use Rattle.arc_owners.specs.memory.SoleBoxes.{sole_in, sole_value};
     ghost use Rattle.arc_memory.specs.WriterParts.{IsSameOwner, IsSoleAgain, IsSameRange};
+
+    /// The first reader of this range: the only owner lends the value anew, for the lifetime for
+    /// which the places were lent. It adds no entry and takes no memory.
+    #[inline(always)]
+    pub fn lend(
+        count: SoleBox<V, A, MAX, H>,
+        lifetime: LifetimeToken,
+        range: FrozenPlaces<T>,
+    ) -> Self
+        requires whole { lifetime.share ≡ full_share }
+        requires lent { range.memory.lifetime ≡ lifetime.lifetime }
+        ensures same { (owner_in result.owner ≡ sole_in count)
+            × (value_of result.owner ≡ sole_value count) }
+        ensures range { IsSameRange range result.range }
+    {
+        Self::lend_noted(count, lifetime, range)
+    }
+
+    /// The same, where this note says of the range in which memory it lies.
+    #[inline(always)]
+    fn lend_noted(
+        count: SoleBox<V, A, MAX, H>,
+        lifetime: LifetimeToken,
+        range: FrozenPlaces<T>,
+    ) -> Self
+        ghost note: { LentNote }
+        requires whole { lifetime.share ≡ full_share }
+        requires lent { range.memory.lifetime ≡ lifetime.lifetime }
+        requires noted { note_of range.memory ≡ note }
+        ensures same { (owner_in result.owner ≡ sole_in count)
+            × (value_of result.owner ≡ sole_value count) }
+        ensures range { IsSameRange range result.range }
+    {
+        FrozenReader {
+            owner: count.lend_for(lifetime),
+            range,
+        }
+    }
 
     /// The items from the place `start` on and before the place `end` of the allocation. It reads
     /// no memory.
@@ -45,6 +86,43 @@ impl<T, V: Drop, A: Allocator + Copy, const MAX: u64, H: Mark> FrozenReader<T, V
             (take (end - self.now.range.start) self.now.range.items) }
     {
         unsafe { self.range.as_slice(self.owner.lifetime(), base, start, end) }
+    }
+
+    /// One attempt to make another reader of the same range: one owner more of the same block.
+    /// Nothing where another thread's step came between, and then no entry is added. Takes no
+    /// memory, and copies nothing.
+    ///
+    /// # Errors
+    ///
+    /// `CountFull` exactly where `MAX` owners live.
+    ///
+    /// # History
+    ///
+    /// Up, or Full where refused.
+    #[inline(always)]
+    pub fn try_again_once_as(
+        &self,
+        leave: RaiseLeave,
+        pass: &mut Pass<H>,
+    ) -> Option<Result<Self, CountFull>>
+        requires pass { IsPassFor (owner_in self.now.owner) pass.old }
+        ensures made { IfSome result (λ r. IfOk r (λ other.
+            MakesAnother (owner_in self.now.owner) pass.old pass.new (owner_in other.owner)
+            × (value_of other.owner ≡ value_of self.now.owner))) }
+        ensures range { IfSome result (λ r. IfOk r (λ other.
+            IsSameRange self.now.range other.range)) }
+        ensures full { IfSome result (λ r.
+            IfErr r (λ _. FindsFull (owner_in self.now.owner) pass.old pass.new)) }
+        ensures again { IfNone result (pass.new ≡ pass.old) }
+    {
+        match self.owner.try_clone_once_as(leave, pass) {
+            Some(Ok(owner)) => Some(Ok(FrozenReader {
+                owner,
+                range: self.range.again(),
+            })),
+            Some(Err(e)) => Some(Err(e)),
+            None => None,
+        }
     }
 
     /// Another reader of the places from `start` on and before `end` of the allocation: one owner
@@ -116,6 +194,7 @@ impl<T, V: Drop, A: Allocator + Copy, const MAX: u64, H: Mark> FrozenReader<T, V
     /// # History
     ///
     /// Down.
+    #[inline(always)]
     pub fn release_as(self, pass: &mut Pass<H>) -> Option<(V, EndedLifetime)>
         requires pass { IsPassFor (owner_in self.owner) pass.old }
         ensures entry { Leaves (owner_in self.owner) pass.old pass.new (is_some result) }
@@ -124,5 +203,20 @@ impl<T, V: Drop, A: Allocator + Copy, const MAX: u64, H: Mark> FrozenReader<T, V
     {
         let FrozenReader { owner, range: _ } = self;
         owner.release_with_end_as(pass)
+    }
+
+    /// What a drop does: under `Open` this reader ends with a new pass, and the last owner gets the
+    /// value, and that the lifetime has ended; under `Whole` it is forgotten, without a step. Takes
+    /// no memory. The pass is the one that the owner ended with; under `Whole` it is of no block.
+    #[inline(always)]
+    pub fn let_go(self) -> (Option<(V, EndedLifetime)>, Pass<H>)
+        ensures value { IfSome result.0 (λ r. r.0 ≡ value_of self.owner) }
+        ensures lifetime { IfSome result.0 (λ r. r.1.lifetime ≡ self.range.memory.lifetime) }
+        ensures forgotten { H.whole ≡ true → (result.0 ≡ None) × IsPassOfNone result.1 }
+        ensures ended { H.whole ≡ false
+            → EndsByItself (owner_in self.owner) result.1 (is_some result.0) }
+    {
+        let FrozenReader { owner, range: _ } = self;
+        owner.let_go_with_end()
     }
 }

@@ -6,8 +6,7 @@ ghost use Rattle.arc_memory.specs.LentMemory.{LentMemory-set};
 use crate::base::Base;
 use crate::frozen_places::FrozenPlaces;
 use crate::kept_places::KeptPlaces;
-use crate::native_memory::NativeMemory;
-use crate::writer_places::WriterPlaces;
+use crate::writer_memory::WriterMemory;
 use arc_owners::lifetime::EndedLifetime;
 use std::alloc::Allocator;
 
@@ -44,12 +43,21 @@ impl<T: Drop, A: Allocator> KeptItems<T, A> {
         }
     }
 
-    /// All items, once the lifetime has ended, with their memory: dropped, each is, and the memory
-    /// is freed.
-    pub fn regain(self, ended: EndedLifetime) -> NativeMemory<T, A>
+    /// How many places the memory has.
+    pub fn count(&self) -> usize
+        ensures { result ≡ self.now.kept.inheritance.memory.whole }
+    {
+        self.kept.allocation.count()
+    }
+
+    /// All items, once the lifetime has ended, with their memory, for its only writer. No item is
+    /// moved, and no memory read.
+    #[inline(always)]
+    pub fn regain(self, ended: EndedLifetime) -> WriterMemory<T, A>
         requires ended { ended.lifetime ≡ self.kept.inheritance.memory.lifetime }
-        ensures items { result.places.items ≡ self.full.items }
-        ensures allocation { result.allocation ≡ self.kept.allocation }
+        ensures items { result.places.vec.items ≡ self.full.items }
+        ensures memory { (result.allocation ≡ self.kept.allocation)
+            × (result.places.under.start ≡ 0) }
     {
         let KeptItems {
             kept,
@@ -57,10 +65,6 @@ impl<T: Drop, A: Allocator> KeptItems<T, A> {
             base,
             len,
         } = self;
-        let (before, places, allocation) = kept.regain_frozen(ended, &full);
-        let count = allocation.count();
-        let places = before.join(places);
-        let writer = unsafe { WriterPlaces::of(places, base.at, 0, len, count) };
-        NativeMemory::of(writer, allocation)
+        unsafe { kept.regain_frozen_writer(ended, &full, base.at, 0, len) }
     }
 }

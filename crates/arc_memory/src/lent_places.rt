@@ -61,7 +61,7 @@ impl<T> Model for OpenPlaces<T> {
 }
 
 impl<T> LentPlaces<T> {
-    ghost use Rattle.arc_memory.specs.Allocations.{IsPartOfLent};
+    ghost use Rattle.arc_memory.specs.Allocations.{IsPart, IsPartOfLent};
 
     /// Places, lent for a lifetime: one part of all of them, and that they come back.
     pub fn lend(
@@ -76,6 +76,29 @@ impl<T> LentPlaces<T> {
         ensures comes_back { (result.1.memory ≡ result.0.memory)
             × (result.1.start ≡ places.start) × (result.1.count ≡ places.count) }
     {
+        let (none, all) = places.split(0);
+        Self::lend_behind(none, all, lifetime)
+    }
+
+    /// Places with empty ones before them, lent for a lifetime as one memory: the part of the
+    /// places behind the empty ones, and that all of them come back. The empty ones are given up.
+    pub fn lend_behind(
+        before: Places<T>,
+        places: Places<T>,
+        lifetime: &LifetimeToken,
+    ) -> (LentPlaces<T>, PlacesInheritance<T>)
+        requires next { IsPart before places × (places.start ≡ before.start + before.count) }
+        requires empty { before.items ≡ [] }
+        ensures lifetime { result.0.memory.lifetime ≡ lifetime.now.lifetime }
+        ensures memory { (result.0.memory.base ≡ places.base)
+            × (result.0.memory.whole ≡ places.whole) }
+        ensures part { (result.0.start ≡ places.start) × (result.0.count ≡ places.count)
+            × (result.0.items ≡ places.items) }
+        ensures comes_back { (result.1.memory ≡ result.0.memory)
+            × (result.1.start ≡ before.start)
+            × (result.1.count ≡ before.count + places.count) }
+    {
+        let Places { marker: _ } = before;
         let Places { marker: _ } = places;
         let _ = lifetime;
         (

@@ -6,9 +6,9 @@
 //! writers (`LentPlaces`), who may freeze their items for readers (`FrozenPlaces`). Memory that is
 //! lent whole can be the value of a counted box (`LentAllocation`). Memory that is lent for the
 //! lease of a block's owners has several writers (`WriterPart`) and readers (`FrozenReader`), and
-//! leaves in the counted box what is kept for its end (`KeptPlaces`). An allocation of our own is
-//! one writer's (`WriterMemory`) or its readers' (`NativeMemory`), who moves no item to become the
-//! other; no block uses it yet. `HeaderAllocator` leaves room for a header behind what it hands
+//! leaves in the counted box what is kept for its end (`Kept`). An allocation of our own is
+//! one writer's (`WriterMemory`), who lends its places and has them back, and moves no item for it;
+//! no block uses it yet. `HeaderAllocator` leaves room for a header behind what it hands
 //! out, so that a vector's memory has room for a count; no block uses it yet.
 #![tactic(auto)]
 
@@ -19,13 +19,13 @@ pub use frozen_places::FrozenPlaces;
 pub use frozen_reader::FrozenReader;
 pub use header_allocator::HeaderAllocator;
 pub use header_room::{HeaderRoom, RightWithoutHeader};
+pub use kept::Kept;
 pub use kept_items::KeptItems;
 pub use kept_places::KeptPlaces;
 pub use lent_allocation::LentAllocation;
 pub use lent_places::{LentPlaces, OpenPlaces, PlacesInheritance};
 pub use lodging::Lodging;
 pub use native::Native;
-pub use native_memory::NativeMemory;
 pub use open_writer::OpenWriter;
 pub use places::Places;
 pub use shared_writer::SharedWriter;
@@ -43,14 +43,15 @@ mod frozen_reader;
 mod header_allocator;
 mod header_block;
 mod header_room;
+mod kept;
 mod kept_items;
 mod kept_places;
 mod lent_allocation;
 mod lent_places;
 mod lodging;
 mod native;
-mod native_memory;
 mod open_writer;
+mod place_arrays;
 mod place_slots;
 mod places;
 mod shared_writer;

@@ -1,6 +1,7 @@
 //! One of several writers on a block, as it is between its steps on the count: with its places.
-ghost use Rattle.std.specs.Prelude.{◌≡◌, ◌+◌, ◌-◌, ◌≤◌, ◌⊎◌, [], ◌++◌, Bool, length, take, drop};
-ghost use Rattle.std.specs.Prelude.{IfOk, IfErr, IfSome, is_ok, is_some};
+ghost use Rattle.std.specs.Prelude.{◌≡◌, ◌+◌, ◌-◌, ◌<◌, ◌≤◌, ◌⊎◌, ◌∷◌, [], ◌++◌, Bool, length};
+ghost use Rattle.std.specs.Prelude.{take, drop, IfOk, IfErr, IfSome, is_ok, is_some, true, false};
+ghost use Rattle.std.specs.Prelude.{None};
 
 use crate::frozen_reader::FrozenReader;
 use crate::lent_places::LentPlaces;
@@ -9,8 +10,9 @@ use crate::writer_part::WriterPart;
 use crate::writer_places::WriterPlaces;
 use arc_owners::error::CountFull;
 use arc_owners::lifetime::EndedLifetime;
-use arc_owners::mark::Mark;
+use arc_owners::mark::{Mark, Stepping};
 use arc_owners::owners::{Pass, SoleBox};
+use core::mem::replace_with;
 use std::alloc::Allocator;
 use std::sync::Wait;
 
@@ -28,13 +30,15 @@ pub struct SharedWriter<T, V: Drop, A: Allocator + Copy, const MAX: u64, H: Mark
 
 impl<T, V: Drop, A: Allocator + Copy, const MAX: u64, H: Mark> SharedWriter<T, V, A, MAX, H> {
     ghost use Rattle.arc_owners.specs.count.Calls.{IsPassFor, Asks, MakesAnother, FindsFull};
-    ghost use Rattle.arc_owners.specs.count.Calls.{Leaves};
+    ghost use Rattle.arc_owners.specs.count.Calls.{Leaves, Learns, EndsByItself, IsPassOfNone};
     ghost use Rattle.arc_owners.specs.memory.Boxes.{owner_in, value_of};
     ghost use Rattle.arc_owners.specs.memory.SoleBoxes.{sole_in, sole_value};
     ghost use Rattle.arc_memory.specs.LentRanges.{part_range, front_range, back_range};
     ghost use Rattle.arc_memory.specs.LentRanges.{longer_range};
     ghost use Rattle.arc_memory.specs.SharedWriters.{writer_owner, writer_value, writer_range};
     ghost use Rattle.arc_memory.specs.SharedWriters.{writer_items, IsSameWriter, HasRange};
+    ghost use Rattle.arc_memory.specs.LendsWriters.{LendsWriter};
+    ghost use Rattle.std.specs.Borrow.{sem};
 
     /// The writer of a part.
     ///
@@ -74,6 +78,76 @@ impl<T, V: Drop, A: Allocator + Copy, const MAX: u64, H: Mark> SharedWriter<T, V
     {
         let SharedWriter { rest, places } = self;
         rest.close(places.into_places())
+    }
+
+    /// The items.
+    #[inline(always)]
+    pub fn as_slice(&self) -> &[T]
+        ensures { result.now ≡ writer_items self.now }
+    {
+        self.places.as_slice()
+    }
+
+    /// The items, to be changed in their places: what is written there they are afterwards. It adds
+    /// no entry.
+    #[inline(always)]
+    pub fn as_mut_slice(&mut self) -> &mut [T]
+        ensures* writes_back { sem 𝓛 (LendsWriter T.row V.row A.row MAX.row H.row H.Mark
+            A.Allocator self.entry result) }
+        ensures value { result.now ≡ writer_items self.old }
+    {
+        self.places.as_mut_slice()
+    }
+
+    /// An item more, behind the others, where there is a place for it. It adds no entry.
+    #[inline(always)]
+    pub fn push_reserved(&mut self, item: T)
+        requires { length (writer_items self.old) < (writer_range self.old).count }
+        ensures owner { IsSameWriter self.old self.new }
+        ensures items { HasRange self.new (writer_range self.old)
+            (writer_items self.old ++ item ∷ []) }
+    {
+        self.places.push_reserved(item);
+    }
+
+    /// Leaves the first `len` items, and all places. The items behind them are forgotten: it is for
+    /// items that need no drop. It adds no entry.
+    #[inline(always)]
+    pub fn truncate(&mut self, len: usize)
+        ensures owner { IsSameWriter self.old self.new }
+        ensures items { HasRange self.new (writer_range self.old)
+            (take len (writer_items self.old)) }
+    {
+        self.places.truncate(len);
+    }
+
+    /// Takes the first `at` places off, with the items that lie there, which are forgotten: it is
+    /// for items that need no drop. It adds no entry and takes no memory.
+    #[inline(always)]
+    pub fn advance(&mut self, at: usize)
+        requires { at ≤ (writer_range self.old).count }
+        ensures owner { IsSameWriter self.old self.new }
+        ensures back { HasRange self.new (back_range at (writer_range self.old))
+            (drop at (writer_items self.old)) }
+    {
+        replace_with(self, at, Self::without_front);
+    }
+
+    /// This writer of the places behind the first `at`.
+    fn without_front(self, at: usize) -> (Self, ())
+        requires { at ≤ (writer_range self).count }
+        ensures owner { IsSameWriter self result.0 }
+        ensures back { HasRange result.0 (back_range at (writer_range self))
+            (drop at (writer_items self)) }
+    {
+        let (base, start) = (self.places.base(), self.places.start());
+        let capacity = self.places.capacity();
+        let (_, others) = cut_lengths(self.places.as_slice(), at);
+        let part = self.into_part().without_front(at);
+        (
+            unsafe { Self::of(part, base, start + at, others, capacity - at) },
+            (),
+        )
     }
 
     /// This writer of the first `at` places, and another one of those behind them, with the items
@@ -231,6 +305,31 @@ impl<T, V: Drop, A: Allocator + Copy, const MAX: u64, H: Mark> SharedWriter<T, V
         self.into_part().release_as(pass)
     }
 
+    /// What a drop does: under `Open` this writer ends with a new pass, and the last owner gets the
+    /// value, and that the lifetime has ended; under `Whole` it is forgotten, without a step. What
+    /// lies in its places is forgotten. Takes no memory. The pass is the one that the owner ended
+    /// with; under `Whole` it is of no block.
+    pub fn let_go(self) -> (Option<(V, EndedLifetime)>, Pass<H>)
+        ensures value { IfSome result.0 (λ r. r.0 ≡ writer_value self) }
+        ensures lifetime { IfSome result.0 (λ r.
+            r.1.lifetime ≡ (writer_range self).memory.lifetime) }
+        ensures forgotten { H.whole ≡ true → (result.0 ≡ None) × IsPassOfNone result.1 }
+        ensures ended { H.whole ≡ false
+            → EndsByItself (writer_owner self) result.1 (is_some result.0) }
+    {
+        self.into_part().let_go()
+    }
+
+    /// Afterwards the first pass has seen at least what the other had. It adds no entry and takes
+    /// no memory.
+    pub fn learn(&self, pass: &mut Pass<H>, other: &Pass<H>)
+        requires pass { IsPassFor (writer_owner self.now) pass.old }
+        requires other { IsPassFor (writer_owner self.now) other.now }
+        ensures { Learns (writer_owner self.now).block pass.old other.now pass.new }
+    {
+        self.rest.rest.learn(pass, other);
+    }
+
     /// A reader of the items for as long as the block is lent: nobody changes them again. Other
     /// writers go on. The places behind them are given up. It adds no entry and takes no memory.
     pub fn freeze(self) -> FrozenReader<T, V, A, MAX, H>
@@ -242,6 +341,36 @@ impl<T, V: Drop, A: Allocator + Copy, const MAX: u64, H: Mark> SharedWriter<T, V
     {
         let len = self.places.len();
         self.into_part().freeze(len)
+    }
+}
+
+impl<T, V: Drop, A: Allocator + Copy, const MAX: u64, H: Stepping> SharedWriter<T, V, A, MAX, H> {
+    ghost use Rattle.arc_owners.specs.count.Calls.{IsNewPass};
+    ghost use Rattle.arc_memory.specs.SharedWriters.{writer_owner};
+
+    /// A new pass, which has seen at least the entry that made this owner, and made nothing. It
+    /// adds no entry and takes no memory.
+    pub fn pass(&self) -> Pass<H>
+        ensures { IsNewPass (writer_owner self.now) result }
+    {
+        self.rest.rest.pass()
+    }
+}
+
+impl<T: Copy, V: Drop, A: Allocator + Copy, const MAX: u64, H: Mark> SharedWriter<T, V, A, MAX, H> {
+    ghost use Rattle.arc_memory.specs.SharedWriters.{writer_range, writer_items};
+    ghost use Rattle.arc_memory.specs.SharedWriters.{IsSameWriter, HasRange};
+
+    /// A copy of these items, behind the others, where there are places for them. It adds no entry.
+    #[inline(always)]
+    pub fn extend_from_slice(&mut self, items: &[T])
+        requires { length (writer_items self.old) + length items.now
+            ≤ (writer_range self.old).count }
+        ensures owner { IsSameWriter self.old self.new }
+        ensures items { HasRange self.new (writer_range self.old)
+            (writer_items self.old ++ items.now) }
+    {
+        self.places.extend_from_slice(items);
     }
 }
 

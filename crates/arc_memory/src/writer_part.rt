@@ -1,6 +1,6 @@
 //! One of several writers on a block, whose memory is lent for the lease of the block's owners.
 ghost use Rattle.std.specs.Prelude.{◌≡◌, ◌+◌, ◌-◌, ◌≤◌, ◌⊎◌, [], ◌++◌, Bool, length, take, drop};
-ghost use Rattle.std.specs.Prelude.{IfOk, IfErr, IfSome, is_ok, is_some};
+ghost use Rattle.std.specs.Prelude.{IfOk, IfErr, IfSome, is_ok, is_some, true, false, None};
 ghost use base.Fraction.{full_share};
 ghost use base.Stored.{Coded-set};
 ghost use Rattle.arc_owners.specs.count.LentNotes.{LentNote, note_coded};
@@ -30,7 +30,7 @@ pub struct WriterPart<T, V: Drop, A: Allocator + Copy, const MAX: u64, H: Mark> 
 
 impl<T, V: Drop, A: Allocator + Copy, const MAX: u64, H: Mark> WriterPart<T, V, A, MAX, H> {
     ghost use Rattle.arc_owners.specs.count.Calls.{IsPassFor, Asks, MakesAnother, FindsFull};
-    ghost use Rattle.arc_owners.specs.count.Calls.{Leaves};
+    ghost use Rattle.arc_owners.specs.count.Calls.{Leaves, EndsByItself, IsPassOfNone};
     ghost use Rattle.arc_owners.specs.memory.Boxes.{owner_in, value_of};
     ghost use Rattle.arc_owners.specs.memory.Boxes.{owner_in_rest, value_of_rest};
     ghost use Rattle.arc_owners.specs.memory.SoleBoxes.{sole_in, sole_value};
@@ -184,6 +184,22 @@ impl<T, V: Drop, A: Allocator + Copy, const MAX: u64, H: Mark> WriterPart<T, V, 
         }
     }
 
+    /// This writer of the places behind the first `at`. What lies in these is forgotten: it is for
+    /// items that need no drop. It adds no entry and takes no memory.
+    pub fn without_front(self, at: usize) -> Self
+        requires { at ≤ self.part.count }
+        ensures owner { result.owner ≡ self.owner }
+        ensures memory { (result.part.memory ≡ self.part.memory)
+            × (result.part.start ≡ self.part.start + at) }
+        ensures places { (result.part.count ≡ self.part.count - at)
+            × (result.part.items ≡ drop at self.part.items) }
+    {
+        let WriterPart { owner, part } = self;
+        let (front, back) = part.split(at);
+        front.forget();
+        WriterPart { owner, part: back }
+    }
+
     /// Both parts as this writer's: the other's places begin where these end, and both are owners
     /// of one block, so it is one memory. These are full, or the others hold nothing. The other
     /// owner ends. Takes no memory.
@@ -255,6 +271,22 @@ impl<T, V: Drop, A: Allocator + Copy, const MAX: u64, H: Mark> WriterPart<T, V, 
         let WriterPart { owner, part } = self;
         part.forget();
         owner.release_with_end_as(pass)
+    }
+
+    /// What a drop does: under `Open` this writer ends with a new pass, and the last owner gets the
+    /// value, and that the lifetime has ended; under `Whole` it is forgotten, without a step. What
+    /// lies in its places is forgotten. Takes no memory. The pass is the one that the owner ended
+    /// with; under `Whole` it is of no block.
+    pub fn let_go(self) -> (Option<(V, EndedLifetime)>, Pass<H>)
+        ensures value { IfSome result.0 (λ r. r.0 ≡ value_of self.owner) }
+        ensures lifetime { IfSome result.0 (λ r. r.1.lifetime ≡ self.part.memory.lifetime) }
+        ensures forgotten { H.whole ≡ true → (result.0 ≡ None) × IsPassOfNone result.1 }
+        ensures ended { H.whole ≡ false
+            → EndsByItself (owner_in self.owner) result.1 (is_some result.0) }
+    {
+        let WriterPart { owner, part } = self;
+        part.forget();
+        owner.let_go_with_end()
     }
 
     /// A reader of the items, of which there are `len`, for as long as the block is lent: nobody

@@ -1,8 +1,9 @@
-//! Blocks: made, read, shared, asked whether they are alone, taken back, ended and refused.
+//! Native blocks: made, read, shared, asked whether they are alone, taken back, ended and refused.
 ghost use Rattle.std.specs.Prelude.{◌≡◌, IfSome};
 ghost use Rattle.arc_owners.specs.count.Calls.{IsPassFor, MakesAnother};
+ghost use Rattle.arc_block.specs.Natives.{IsAmong};
 
-use arc_block::block::{Block, Content};
+use arc_block::block::NativeBlock;
 use arc_buffer::kinds::Plain;
 use arc_owners::error::CountFull;
 use arc_owners::leave::RaiseLeave;
@@ -14,7 +15,7 @@ use std::test::Fail;
 use std::thread::{self, Threads};
 
 /// An owner of bytes, which three may share.
-type Bytes<A> = Block<Plain<u8>, Vec<u8>, (), A, 3, Open>;
+type Bytes<A> = NativeBlock<Plain<u8>, A, 3, Open>;
 
 /// Another owner of a block on which no other thread steps, so that one attempt is enough.
 fn shared<A: Allocator + Copy>(
@@ -25,7 +26,7 @@ fn shared<A: Allocator + Copy>(
     requires { IsPassFor block.now.owner pass.old }
     ensures made { IfSome result (λ other.
         MakesAnother block.now.owner pass.old pass.new other.owner) }
-    ensures items { IfSome result (λ other. other.items ≡ block.now.items) }
+    ensures alike { IfSome result (λ other. other ≡ record block.now { owner = other.owner }) }
 {
     match block.try_share_once_as(leave, pass) {
         Some(Ok(made)) => Some(made),
@@ -57,7 +58,7 @@ fn shared_up_to_three(leave: RaiseLeave, alloc: Global) -> Option<[bool; 6]> {
     let beside = first.is_unique_as(&mut pass);
     let last = first.release_as(&mut pass);
     let fourth = shared(leave, &third, &mut pass)?;
-    Some([same, alone, full, beside, last, fourth.is_native_of(5)])
+    Some([same, alone, full, beside, last, fourth.is_of_places(5)])
 }
 
 /// Whether each of three owners is the last one, and what the third sees before: whether it is
@@ -87,13 +88,13 @@ fn shared_by_three(rt: HostRuntime) -> Result<(), Fail> {
 
 /// An owner that isn't given the items beside another one, and a pass that has seen that one's end.
 fn refused_beside(leave: RaiseLeave, alloc: Global) -> Option<(Bytes<Global>, Pass<Open>)>
-    ensures { IfSome result (λ r. IsPassFor r.0.owner r.1) }
+    ensures { IfSome result (λ r. IsPassFor r.0.owner r.1 × IsAmong r.0 0 5) }
 {
     let Ok((first, mut pass)) = Bytes::try_from_slice(alloc, b"Hello") else {
         return None;
     };
     let second = shared(leave, &first, &mut pass)?;
-    let Err(first) = first.try_into_content_as(&mut pass) else {
+    let Err(first) = first.try_into_memory_as(0, 5, &mut pass) else {
         return None;
     };
     let mut other = second.pass();
@@ -105,7 +106,7 @@ fn refused_beside(leave: RaiseLeave, alloc: Global) -> Option<(Bytes<Global>, Pa
 /// Whether the items are then those of the block, and its places.
 fn given_alone(leave: RaiseLeave, alloc: Global) -> Option<(bool, usize)> {
     let (first, mut pass) = refused_beside(leave, alloc)?;
-    let Ok(Content::Native(memory)) = first.try_into_content_as(&mut pass) else {
+    let Ok(memory) = first.try_into_memory_as(0, 5, &mut pass) else {
         return None;
     };
     Some((memory.as_slice() == b"Hello".as_slice(), memory.count()))
@@ -129,7 +130,7 @@ fn in_two_threads(
         return None;
     };
     let second = shared(leave, &first, &mut pass)?;
-    let both = thread::join(rt, || first.is_native_of(5), move || second.is_native_of(5));
+    let both = thread::join(rt, || first.is_of_places(5), move || second.is_of_places(5));
     Some((both, first.is_unique_as(&mut pass)))
 }
 

@@ -30,7 +30,8 @@ fn first_writer<A: Allocator + Copy>(
         return None;
     };
     let lifetime = LifetimeToken::new();
-    let (part, kept) = KeptPlaces::lend(allocation, places, &lifetime);
+    let (none, places) = places.split(0);
+    let (part, kept) = KeptPlaces::lend(allocation, none, places, &lifetime);
     match SoleBox::new(alloc, kept) {
         Ok((sole, pass)) => {
             let part = WriterPart::lend(sole, lifetime, part);

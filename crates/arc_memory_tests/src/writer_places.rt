@@ -1,5 +1,8 @@
-//! A writer's places: items pushed, copied in, cut and dropped, in memory that is given back.
-use arc_memory::{Allocation, WriterMemory, WriterPlaces};
+//! A writer's places and memory: items pushed, copied in, cut, moved and dropped, lent and had back,
+//! in memory that is given back.
+ghost use Rattle.std.specs.Prelude.{◌≡◌, ◌<◌, length, drop};
+
+use arc_memory::{Allocation, KeptItems, LifetimeToken, WriterMemory, WriterPlaces};
 use linked_list_allocator::LocalHeap;
 use std::alloc::Allocator;
 use std::test::Fail;
@@ -56,47 +59,138 @@ fn boxes_cleared(heap: &LocalHeap) -> Option<[bool; 2]> {
     Some([pushed, cleared])
 }
 
-/// Whether the items are these after memory of two places grew to five, and as readers see them;
-/// how many items and places there are at last. It is dropped with its items.
-fn grown<T: Copy + Drop + PartialEq, A: Allocator + Copy>(
-    alloc: A,
-    [first, second]: [T; 2],
-) -> Option<([bool; 2], [usize; 2])> {
-    let mut memory = WriterMemory::new(alloc, 2).ok()?;
-    memory.push_reserved(first);
-    memory.push_reserved(second);
-    memory.grow(alloc, 5).ok()?;
-    memory.extend_from_slice(&[first, first]);
-    memory.truncate(2);
-    let grown = memory.as_slice() == [first, second].as_slice();
-    let memory = memory.into_native();
-    let read = memory.as_slice() == [first, second].as_slice();
-    let memory = memory.into_writer();
-    Some(([grown, read], [memory.len(), memory.count()]))
+/// Whether these are a writer's items; where its places begin, how many items and places they are,
+/// and how many the allocation has.
+fn seen<T: Copy + Drop + PartialEq, A: Allocator>(
+    memory: &WriterMemory<T, A>,
+    items: &[T],
+) -> (bool, [usize; 4]) {
+    (
+        memory.as_slice() == items,
+        [
+            memory.start(),
+            memory.len(),
+            memory.capacity(),
+            memory.count(),
+        ],
+    )
 }
 
-/// Of two boxes in memory that is read: whether all is given back when it is dropped.
-fn boxes_dropped(heap: &LocalHeap) -> Option<bool> {
+/// Memory whose first place is given up, so that its writer's begin behind it.
+fn without_first<T: Drop, A: Allocator>(memory: WriterMemory<T, A>) -> WriterMemory<T, A>
+    requires start { memory.places.under.start ≡ 0 }
+    requires some { 0 < length memory.places.vec.items }
+    ensures items { result.places.vec.items ≡ drop 1 memory.places.vec.items }
+    ensures start { result.places.under.start ≡ 1 }
+    ensures allocation { result.allocation ≡ memory.allocation }
+{
+    let (base, len) = (memory.base(), memory.len());
+    let lifetime = LifetimeToken::new();
+    let (part, kept) = memory.lend(&lifetime);
+    let (front, back) = part.split(1);
+    front.forget();
+    unsafe { kept.regain_writer(lifetime.end(), back, base, 1, len - 1) }
+}
+
+/// Of memory of three places with two items: what is seen once the first place was given up, after
+/// it grew to five places, and once the last of two items was moved to the front.
+fn from_second<T: Copy + Drop + PartialEq, A: Allocator + Copy>(
+    alloc: A,
+    [first, second]: [T; 2],
+) -> Option<[(bool, [usize; 4]); 3]> {
+    let mut memory = WriterMemory::new(alloc, 3).ok()?;
+    memory.extend_from_slice(&[first, second]);
+    let mut memory = without_first(memory);
+    let back = seen(&memory, &[second]);
+    memory.grow(alloc, 5).ok()?;
+    memory.extend_from_slice(&[first]);
+    let grown = seen(&memory, &[second, first]);
+    memory.to_front(1);
+    Some([back, grown, seen(&memory, &[first])])
+}
+
+/// Of memory that is made of an array: what is seen, and the items as an array again.
+fn array_and_back<T: Copy + Drop + PartialEq, A: Allocator>(
+    alloc: A,
+    items: [T; 3],
+) -> Option<((bool, [usize; 4]), [T; 3])> {
+    match WriterMemory::from_array(alloc, items) {
+        Ok(memory) => {
+            let made = seen(&memory, &items);
+            Some((made, memory.into_array()))
+        }
+        Err(_) => None,
+    }
+}
+
+/// Of memory that is filled with two copies of an item: what is seen.
+fn copies<T: Copy + Drop + PartialEq, A: Allocator>(
+    alloc: A,
+    item: T,
+) -> Option<(bool, [usize; 4])> {
+    match WriterMemory::filled(alloc, item, 2) {
+        Ok(memory) => Some(seen(&memory, &[item, item])),
+        Err(_) => None,
+    }
+}
+
+/// The array, where there is no memory for it.
+fn array_refused<A: Allocator>(alloc: A, items: [u64; 4]) -> Option<[u64; 4]> {
+    WriterMemory::from_array(alloc, items).err()
+}
+
+/// Drops all items of full memory once they were frozen as one range and have come back.
+fn end_regained<T: Drop, A: Allocator>(memory: WriterMemory<T, A>)
+    requires start { memory.places.under.start ≡ 0 }
+    requires full { length memory.places.vec.items ≡ memory.places.under.count }
+{
+    let (base, len) = (memory.base(), memory.len());
+    let lifetime = LifetimeToken::new();
+    let (part, kept) = memory.lend(&lifetime);
+    let kept = KeptItems::of(kept, part.freeze(&lifetime), base, len);
+    drop(kept.regain(lifetime.end()));
+}
+
+/// Of two boxes that were frozen as one range: whether all memory is given back once the range has
+/// come back and is dropped.
+fn boxes_regained(heap: &LocalHeap) -> Option<bool> {
     let before = heap.used();
     let (first, second) = (Box::new(heap, 7u64).ok()?, Box::new(heap, 8u64).ok()?);
     let mut memory = WriterMemory::new(heap, 2).ok()?;
     memory.push_reserved(first);
     memory.push_reserved(second);
-    let memory = memory.into_native();
     let held = before < heap.used();
-    drop(memory);
+    end_regained(memory);
     Some(held && heap.used() == before)
 }
 
 #[test]
 fn writers_memory(rt: HostRuntime) -> Result<(), Fail> {
     let heap = LocalHeap::new(rt.alloc(), 1024)?;
-    let wanted = Some(([true; 2], [2, 5]));
-    assert!(rt; grown(&heap, [1u8, 2]) == wanted);
-    assert!(rt; grown(&heap, [1u64, 2]) == wanted);
-    assert!(rt; grown(&heap, [(), ()]) == wanted);
-    assert!(rt; boxes_dropped(&heap) == Some(true));
+    let wanted = Some([
+        (true, [1, 1, 2, 3]),
+        (true, [1, 2, 4, 5]),
+        (true, [0, 1, 5, 5]),
+    ]);
+    assert!(rt; from_second(&heap, [1u8, 2]) == wanted);
+    assert!(rt; from_second(&heap, [1u64, 2]) == wanted);
+    assert!(rt; from_second(&heap, [(), ()]) == wanted);
+    assert!(rt; boxes_regained(&heap) == Some(true));
     assert!(rt; WriterMemory::<u64, _>::new(&heap, 4096).is_err());
+    assert!(rt; heap.used() == 0);
+    Ok(())
+}
+
+#[test]
+fn arrays_and_copies(rt: HostRuntime) -> Result<(), Fail> {
+    let heap = LocalHeap::new(rt.alloc(), 1024)?;
+    let full = (true, [0, 3, 3, 3]);
+    assert!(rt; array_and_back(&heap, [1u8, 2, 3]) == Some((full, [1, 2, 3])));
+    assert!(rt; array_and_back(&heap, [1u64, 2, 3]) == Some((full, [1, 2, 3])));
+    assert!(rt; copies(&heap, 7u8) == Some((true, [0, 2, 2, 2])));
+    assert!(rt; copies(&heap, ()) == Some((true, [0, 2, 2, 2])));
+    let small = LocalHeap::new(rt.alloc(), 16)?;
+    assert!(rt; array_refused(&small, [1, 2, 3, 4]) == Some([1, 2, 3, 4]));
     assert!(rt; heap.used() == 0);
     Ok(())
 }

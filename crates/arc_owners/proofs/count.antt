@@ -1,4 +1,5 @@
 pub mod Begins
+pub mod Blocks
 pub mod Calls
 pub mod Cells
 pub mod Ends

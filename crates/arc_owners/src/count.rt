@@ -2,7 +2,7 @@
 //! of it.
 
 mod counted;
-mod owner_without_lifetime;
+pub(crate) mod owner_without_lifetime;
 mod passes;
 mod raw;
 pub(crate) mod share_without_lifetime;
@@ -10,6 +10,7 @@ mod sole;
 pub(crate) mod tokens;
 pub(crate) mod word;
 
+pub use owner_without_lifetime::OwnerWithoutLifetime;
 pub use share_without_lifetime::ShareWithoutLifetime;
 pub use tokens::{LifetimeEnd, Owners, Pass, Release, Share, Sole};
 pub use word::{OwnerToken, WordBorrow};

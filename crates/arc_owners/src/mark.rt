@@ -5,8 +5,9 @@
 ghost use Rattle.std.specs.Prelude.{◌≡◌, ◌≤◌, ℕ, Bool, true, false, List, refl};
 ghost use Rattle.arc_owners.specs.count.Invariant.{BlockId, Line};
 ghost use Rattle.arc_owners.specs.count.Steps.{IsHeld, IsSole, IsOf, IsLodged, IsOpened};
-ghost use Rattle.arc_owners.specs.count.Steps.{EndsWithNew, IsFork};
+ghost use Rattle.arc_owners.specs.count.Steps.{EndsWithNew, IsFork, IsForkOf};
 
+use crate::count::owner_without_lifetime::OwnerWithoutLifetime;
 use crate::count::word::{EndTokens, OwnerToken, PassState, Word, WordBorrow};
 
 mod sealed {
@@ -75,6 +76,11 @@ pub trait Stepping: Mark {
         requires mark { own.now.block.whole ≡ Self.Mark.whole }
         ensures new { IsFork own.now result };
 
+    /// The same of an owner whose share of the lifetime is elsewhere.
+    fn fork_without(own: &OwnerWithoutLifetime<Self>) -> PassState
+        requires mark { own.now.block.whole ≡ Self.Mark.whole }
+        ensures new { IsForkOf own.now.block own.now.born result };
+
     ghost many: { Self.Mark.whole ≡ false };
 }
 
@@ -137,6 +143,13 @@ impl Stepping for Open {
         requires held { own.now.held ≡ true }
         requires mark { own.now.block.whole ≡ false }
         ensures new { IsFork own.now result }
+    {
+        own.fork()
+    }
+
+    fn fork_without(own: &OwnerWithoutLifetime<Self>) -> PassState
+        requires mark { own.now.block.whole ≡ false }
+        ensures new { IsForkOf own.now.block own.now.born result }
     {
         own.fork()
     }

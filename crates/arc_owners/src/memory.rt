@@ -1,5 +1,6 @@
 //! A value beside the count of its owners, and what is lent to the owners for as long as one lives.
 
+mod apart;
 mod box_parts;
 mod box_place;
 mod counted_box;

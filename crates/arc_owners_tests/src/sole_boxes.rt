@@ -103,7 +103,7 @@ fn sole_from_the_beginning(rt: HostRuntime) -> Result<(), Fail> {
     let Ok((sole, mut pass)) = SoleBox::<u64, _, 3, Open>::new(&heap, 7) else {
         return Err(AllocError.into());
     };
-    assert!(rt; *sole.get() == 7);
+    assert!(rt; (*sole.get(), sole.is_unique_as(&mut pass)) == (7, true));
     let first = sole.lend();
     assert!(rt; first.is_unique_as(&mut pass));
     assert!(rt; first.release_as(&mut pass) == Some(7));

@@ -1,3 +1,4 @@
 pub mod Steps
 pub mod Cuts
 pub mod Borrow
+pub mod Ends

@@ -8,3 +8,4 @@ pub mod Arguments
 pub mod Devices
 pub mod Rows
 pub mod Layouts
+mod Storms

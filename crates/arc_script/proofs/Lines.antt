@@ -6,12 +6,11 @@ use Rattle.std.proofs.lemmas.Bool.{eqb-false, not-true}
 use Rattle.std.proofs.lemmas.List.{map-append}
 use Rattle.std.proofs.lemmas.List.Concat.{flat_map-append}
 use Rattle.std.proofs.lemmas.List.Elements.{All-contains, recursion_from_All}
-use Rattle.arc_block.specs.Table.{Table, empty_table}
+use Rattle.arc_block.specs.Table.{empty_table}
 use Rattle.arc_forms.specs.Commands.{ByteCmd, ByteReply}
-use Rattle.arc_commands.specs.declared.command.Reply.TheVariants as reply
 use Rattle.arc_commands.specs.RunOf.{RunOf}
 use Rattle.arc_commands.specs.Step.{no_shortage, answer, count_brought}
-use Rattle.arc_forms.specs.Text.{line_feed, Says, answer_text}
+use Rattle.arc_forms.specs.Text.{line_feed, answer_text}
 use Rattle.arc_script.specs.declared.layout.ScriptLayout.{ScriptLayout}
 use Rattle.arc_script.specs.Script.{ended, HasNoFeed, AreLines, script_setting, ByteTable, Answers, BeginsReplyText}
 use Rattle.arc_forms.proofs.Forms.{reading, reading_says, unread_is_none}

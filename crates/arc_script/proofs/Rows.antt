@@ -4,7 +4,6 @@ use Rattle.std.specs.Prelude.{codes, map}
 use Rattle.std.specs.Fmt.{digits}
 use Rattle.std.specs.List.{AllByRecursion}
 use Rattle.arc_block.specs.Table.{empty_table}
-use Rattle.arc_script.specs.declared.layout.ScriptLayout.{ScriptLayout}
 use Rattle.arc_script.specs.declared.layout.ScriptLayout.TheVariants.{Arc}
 use Rattle.arc_script.specs.Script.{ended, last_line, HasNoFeed, IsReplyText}
 use Rattle.arc_forms.specs.Text.{answer_text}

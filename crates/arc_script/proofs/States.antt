@@ -16,7 +16,6 @@ use Rattle.arc_script.specs.Underway.{IsThrough, IsBrokenOff, Holds, Ends, MayEn
 use Rattle.arc_forms.specs.Commands.{LineCmd}
 use Rattle.arc_forms.specs.Commands.{ByteReply}
 use Rattle.arc_script.specs.declared.script.ScriptError.{ScriptError}
-use Rattle.std.specs.declared.vec.Vec.{Vec}
 use Rattle.arc_script.proofs.Lines.{begins}
 use Rattle.arc_commands.proofs.Runs.{run_seen}
 

@@ -1,5 +1,6 @@
 -- Why a run was given up.
-use Rattle.std.specs.Prelude.{◌≡◌, ◌<◌}
+use Rattle.std.specs.Prelude.{◌≡◌, ◌<◌, ℕ, List, [], ◌∷◌, ◌++◌, codes}
+use Rattle.arc_forms.specs.Text.{line_feed}
 use Rattle.arc_script.specs.Traffic.{Traffic, NoFault, faults}
 use Rattle.arc_script.specs.declared.script.ScriptError.{ScriptError}
 use Rattle.arc_script.specs.declared.script.ScriptError.TheVariants.{Read, Write, Alloc}
@@ -20,3 +21,9 @@ IsCause reader reader' writer writer' Write = (reader'.failures ≡ reader.failu
     × (faults writer < faults writer')
 IsCause reader reader' writer writer' Alloc = (reader'.failures ≡ reader.failures)
     × NoFault writer writer'
+
+-- the line in which a fault is told
+abbrev pub fault_text : ScriptError → List ℕ
+fault_text Alloc = codes "allocation error" ++ line_feed ∷ []
+fault_text Read = codes "read failed" ++ line_feed ∷ []
+fault_text Write = codes "write failed" ++ line_feed ∷ []

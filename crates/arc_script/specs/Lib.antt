@@ -6,3 +6,4 @@ pub mod Engine
 pub mod Faults
 pub mod Arguments
 pub mod Program
+pub mod Storms

@@ -6,7 +6,8 @@ use Rattle.arc_script.specs.Arguments.{Answer, AreWords}
 use Rattle.arc_script.specs.Script.{IsReplyText, BeginsReplyText}
 use Rattle.arc_forms.specs.Text.{line_feed}
 use Rattle.arc_script.specs.Traffic.{Traffic, Exchanges, NoFault, Tells}
-use Rattle.arc_script.specs.Faults.{IsCause}
+use Rattle.arc_script.specs.Faults.{IsCause, fault_text}
+use Rattle.arc_script.specs.Storms.{AsksForStorm, IsStorm}
 use Rattle.arc_script.specs.declared.script.ScriptError.{ScriptError}
 use Rattle.arc_script.specs.declared.layout.ScriptLayout.{ScriptLayout}
 use Rattle.arc_script.specs.declared.layout.ScriptLayout.TheVariants as under
@@ -23,9 +24,10 @@ layout_word under.Raw = codes "raw"
 abbrev pub AsksFor : ScriptLayout → List (String Global) → Type 0
 AsksFor layout words = map string_bytes words ≡ layout_word layout ∷ []
 
--- they ask for none
-abbrev pub AsksForNone : List (String Global) → Type 0
-AsksForNone words = (layout : ScriptLayout) → ¬ AsksFor layout words
+-- they ask neither for a script nor for a storm
+pub record AsksForNone (words : List (String Global)) : Type 0 where
+  pub script : (layout : ScriptLayout) → ¬ AsksFor layout words
+  pub storm : (workers : ℕ) → ¬ AsksForStorm workers words
 
 -- the status of a run
 abbrev pub status_of : Result (Unit {0}) ScriptError → ℕ
@@ -33,12 +35,6 @@ status_of (Ok done) = 0
 status_of (Err Alloc) = 1
 status_of (Err Read) = 3
 status_of (Err Write) = 4
-
--- the line in which a fault is told
-abbrev pub fault_text : ScriptError → List ℕ
-fault_text Alloc = codes "allocation error" ++ line_feed ∷ []
-fault_text Read = codes "read failed" ++ line_feed ∷ []
-fault_text Write = codes "write failed" ++ line_feed ∷ []
 
 -- the line that tells how the program is called
 abbrev pub usage_text : List ℕ
@@ -73,6 +69,8 @@ pub record Runs (words : List (String Global)) (reader reader' writer writer' : 
     (faults faults' : Traffic) (status : ℕ) : Type 0 where
   pub script : (layout : ScriptLayout) → AsksFor layout words
       → IsRun layout reader reader' writer writer' faults faults' status
+  pub storm : (workers : ℕ) → AsksForStorm workers words
+      → (reader' ≡ reader) × IsStorm writer writer' faults faults' status
   pub usage : AsksForNone words → (status ≡ 2) × (reader' ≡ reader) × (writer' ≡ writer)
       × Tells usage_text faults faults'
 

@@ -34,13 +34,13 @@ pub record AreLines (input : List ℕ) (lines : List (List ℕ)) : Type 0 where
   pub last : HasNoFeed rest
   pub are : lines ≡ whole ++ last_line rest
 
--- A byte window may be cut anywhere; an item is one byte and has a zero, and items are copied,
--- pushed and put behind others.
+-- A byte window may be cut anywhere; an item is one byte and has a zero; items are copied, pushed
+-- and put behind others, and a window may have a few in itself.
 abbrev pub byte_setting : LayoutFacts → (writes_any : Bool) → (clone_wants : Sort → Bool)
     → Setting ℕ
 byte_setting layout writes_any clone_wants =
     setting_of layout writes_any clone_wants false (λ items at. true) 1 (Some 0)
-    (record { copies = true; pushes = true; extends = true; any_list = true })
+    (record { copies = true; pushes = true; extends = true; any_list = true; small = true })
 
 -- static data, and blocks of a caller's making
 abbrev pub of_any : (by_itself : Bool) → (lone : ℕ → ℕ → Bool) → LayoutFacts

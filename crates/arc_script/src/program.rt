@@ -5,9 +5,11 @@ ghost use Rattle.std.specs.declared.alloc.Global.{Global};
 ghost use Rattle.std.specs.declared.env.FillError.TheVariants.{NotPresent};
 ghost use Rattle.arc_script.specs.Arguments.{AreWords, IsTextOf, IsWord};
 ghost use Rattle.arc_script.specs.Traffic.{Gives, GivesAll, Takes, Tells};
-ghost use Rattle.arc_script.specs.Program.{AsksFor, AsksForNone, IsRun, RunsGiven, fault_text};
+ghost use Rattle.arc_script.specs.Faults.{fault_text};
+ghost use Rattle.arc_script.specs.Program.{AsksFor, AsksForNone, IsRun, RunsGiven};
 ghost use Rattle.arc_script.specs.Program.{layout_word, status_of};
 ghost use Rattle.arc_script.specs.Program.{usage_text};
+ghost use Rattle.arc_script.specs.Storms.{AsksForStorm, IsStorm};
 
 use crate::io::{Sink, Source};
 use crate::layout::ScriptLayout;
@@ -18,6 +20,10 @@ use std::env::FillError;
 use std::rt::Env;
 use std::str;
 use std::sync::Wait;
+use std::thread::Threads;
+use storms::{run_storm, workers_of};
+
+mod storms;
 
 /// How long a word of the program's may be, in bytes: each that it knows is shorter.
 const WORD: usize = 64;
@@ -66,13 +72,21 @@ fn fault_line(error: ScriptError) -> &'static [u8]
     }
 }
 
+/// Writes a line to standard error, as far as it takes it: whether all of it was written changes
+/// nothing.
+fn tell<F: Sink>(faults: &mut F, line: &[u8])
+    ensures { Tells line.now (F.traffic faults.old) (F.traffic faults.new) }
+{
+    let _ = write_out(faults, line);
+}
+
 /// The status that a fault ends with, and its line on standard error. A failed write of the line
 /// changes no status.
 fn report<F: Sink>(faults: &mut F, error: ScriptError) -> u8
     ensures status { result ≡ status_of (Err error) }
     ensures told { Tells (fault_text error) (F.traffic faults.old) (F.traffic faults.new) }
 {
-    let _ = write_out(faults, fault_line(error));
+    tell(faults, fault_line(error));
     match error {
         ScriptError::Alloc => 1,
         ScriptError::Read => 3,
@@ -84,17 +98,18 @@ fn report<F: Sink>(faults: &mut F, error: ScriptError) -> u8
 ///
 /// For one word that stands for a layout, `arc`, `boxed`, `vec` or `raw`, it runs the script that
 /// the reader gives with windows under that: 0 where all of it was answered,
-/// 1 where memory was refused, 3 where a read failed, 4 where a write failed or took nothing; a
-/// fault is told to `faults` in one line. For any other words it tells the usage there, and answers
-/// 2 before any input is read.
-pub fn run_args<R: Source, W: Sink, F: Sink, A: Allocator + Copy>(
-    rt: &impl Wait,
-    alloc: A,
-    words: &[String],
-    reader: &mut R,
-    writer: &mut W,
-    faults: &mut F,
-) -> u8
+/// 1 where memory was refused, 3 where a read failed, 4 where a write failed or took nothing. For
+/// `storm` with a number from 1 to 64 so many threads clone one window; it writes the vector that
+/// comes back: 0 where that was written, 1 where something was refused, 4 where the write failed;
+/// no input is read. A fault is told to `faults` in one line. For any other words it tells the
+/// usage there, and answers 2 before any input is read.
+pub fn run_args<
+    T: Threads + Wait + Sync + AllocGlobal,
+    R: Source,
+    W: Sink,
+    F: Sink,
+    A: Allocator + Copy,
+>(rt: &T, alloc: A, words: &[String], reader: &mut R, writer: &mut W, faults: &mut F) -> u8
     ensures script { (layout : ScriptLayout) → AsksFor layout words.now
         → IsRun layout (R.traffic reader.old) (R.traffic reader.new) (W.traffic writer.old)
         (W.traffic writer.new) (F.traffic faults.old) (F.traffic faults.new) result }
@@ -102,15 +117,22 @@ pub fn run_args<R: Source, W: Sink, F: Sink, A: Allocator + Copy>(
         (R.remaining reader.old) (R.remaining reader.new) }
     ensures taken { Takes (W.traffic writer.old) (W.traffic writer.new)
         (W.contents writer.old) (W.contents writer.new) }
-    ensures drained { result ≡ 0
-        → GivesAll (R.traffic reader.old) (R.traffic reader.new) (R.remaining reader.old) }
+    ensures drained { result ≡ 0 → (R.traffic reader.new ≡ R.traffic reader.old)
+        ⊎ GivesAll (R.traffic reader.old) (R.traffic reader.new) (R.remaining reader.old) }
+    ensures storm { (workers : ℕ) → AsksForStorm workers words.now
+        → (R.traffic reader.new ≡ R.traffic reader.old)
+        × IsStorm (W.traffic writer.old) (W.traffic writer.new)
+        (F.traffic faults.old) (F.traffic faults.new) result }
     ensures usage { AsksForNone words.now → (result ≡ 2)
         × (R.traffic reader.new ≡ R.traffic reader.old)
         × (W.traffic writer.new ≡ W.traffic writer.old)
         × Tells usage_text (F.traffic faults.old) (F.traffic faults.new) }
 {
     let Some(layout) = layout_of(words) else {
-        let _ = write_out(faults, b"usage: arcs arc|boxed|vec|raw|storm N\n");
+        if let Some(workers) = workers_of(words) {
+            return run_storm(rt, workers, writer, faults);
+        }
+        tell(faults, b"usage: arcs arc|boxed|vec|raw|storm N\n");
         return 2;
     };
     match run_script(rt, alloc, reader, writer, layout) {
@@ -144,7 +166,8 @@ fn word_for(layout: ScriptLayout) -> &'static str
 /// The layout for which the words ask, `None` where they are no one word for one.
 #[tactic(auto, using(crate::proofs::Layouts::asks_for_none))]
 fn layout_of(words: &[String]) -> Option<ScriptLayout>
-    ensures { MatchOption result (AsksForNone words.now) (λ layout. AsksFor layout words.now) }
+    ensures { MatchOption result ((layout : ScriptLayout) → ¬ AsksFor layout words.now)
+        (λ layout. AsksFor layout words.now) }
 {
     if asks_for(words, ScriptLayout::Arc) {
         return Some(ScriptLayout::Arc);
@@ -203,8 +226,8 @@ pub fn words<G: Arguments>(given: &G, alloc: Global) -> Result<Vec<String>, Allo
 
 /// Runs the program on the words that it was given, as `run_args` says, and answers its status. 1
 /// where memory is refused for them; that is told to `faults` too.
-pub fn start<G: Arguments, R: Source, W: Sink, F: Sink>(
-    rt: &impl Wait,
+pub fn start<T: Threads + Wait + Sync + AllocGlobal, G: Arguments, R: Source, W: Sink, F: Sink>(
+    rt: &T,
     alloc: Global,
     given: &G,
     reader: &mut R,
@@ -218,8 +241,8 @@ pub fn start<G: Arguments, R: Source, W: Sink, F: Sink>(
         (R.remaining reader.old) (R.remaining reader.new) }
     ensures taken { Takes (W.traffic writer.old) (W.traffic writer.new)
         (W.contents writer.old) (W.contents writer.new) }
-    ensures drained { result ≡ 0
-        → GivesAll (R.traffic reader.old) (R.traffic reader.new) (R.remaining reader.old) }
+    ensures drained { result ≡ 0 → (R.traffic reader.new ≡ R.traffic reader.old)
+        ⊎ GivesAll (R.traffic reader.old) (R.traffic reader.new) (R.remaining reader.old) }
 {
     match words(given, alloc) {
         Ok(words) => run_args(rt, alloc, &words, reader, writer, faults),

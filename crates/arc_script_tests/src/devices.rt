@@ -59,7 +59,7 @@ impl Read for Pieces<'_> {
     }
 }
 
-/// A writer into memory. It takes at most `size` bytes a call.
+/// A writer into memory. It takes at most `size` bytes a call, and may fail or take nothing at one.
 #[derive(Drop)]
 pub struct Taken {
     /// What was taken.
@@ -69,6 +69,8 @@ pub struct Taken {
     pub calls: usize,
     /// The call that fails.
     pub fails_at: Option<usize>,
+    /// The call that takes nothing.
+    pub empty_at: Option<usize>,
 }
 
 impl Taken {
@@ -82,6 +84,7 @@ impl Taken {
             size,
             calls: 0,
             fails_at: None,
+            empty_at: None,
         }
     }
 
@@ -95,6 +98,18 @@ impl Taken {
             size,
             calls: 0,
             fails_at: Some(call),
+            empty_at: None,
+        }
+    }
+
+    /// The same, of which this call takes nothing.
+    pub fn empty_at(alloc: Global, size: usize, call: usize) -> Self {
+        Taken {
+            bytes: Vec::new(alloc),
+            size,
+            calls: 0,
+            fails_at: None,
+            empty_at: Some(call),
         }
     }
 }
@@ -104,6 +119,9 @@ impl Write for Taken {
         self.calls = self.calls.saturating_add(1);
         if self.fails_at == Some(self.calls) {
             return Err(io::Error::from(ErrorKind::Other));
+        }
+        if self.empty_at == Some(self.calls) {
+            return Ok(0);
         }
         let n = self.size.min(buf.len());
         self.bytes.extend_from_slice(&buf[..n])?;

@@ -10,10 +10,11 @@ use std::alloc::{AllocError, Allocator, Global};
 use std::env::FillError;
 use std::sync::Wait;
 use std::test::Fail;
+use std::thread::Threads;
 
 /// Runs the program over memory.
 fn program<A: Allocator + Copy>(
-    rt: &(impl Wait + AllocGlobal),
+    rt: &(impl Threads + Wait + Sync + AllocGlobal),
     alloc: A,
     words: &[&str],
     reader: &mut Pieces,
@@ -196,7 +197,7 @@ struct Ended {
 
 /// The script in an allocator of its own, of which so much is read a call.
 fn run_of<A: Allocator + Copy>(
-    rt: &(impl Wait + AllocGlobal),
+    rt: &(impl Threads + Wait + Sync + AllocGlobal),
     alloc: A,
     script: &[u8],
     size: usize,

@@ -88,6 +88,14 @@ fn failed_reads(rt: HostRuntime) {
     }
 }
 
+/// Whether a run ends at this call of its writer, and has written this.
+fn is_cut_at(rt: &impl Wait, alloc: Global, writer: Taken, call: usize, begun: &[u8]) -> bool {
+    let all = Pieces::new(HELLO, usize::MAX);
+    let (ran, [_, calls], bytes) = hello_by(rt, alloc, all, writer);
+    (ran, calls, bytes.as_slice()) == (Err(ScriptError::Write), call, begun)
+}
+
+/// Each write in turn fails, or takes nothing.
 #[test]
 fn failed_writes(rt: HostRuntime) {
     let whole = Taken::new(rt.alloc(), 3);
@@ -96,18 +104,14 @@ fn failed_writes(rt: HostRuntime) {
     assert!(rt; (ran, calls) == (Ok(()), 6));
     for call in 1..=6 {
         let failing = Taken::failing(rt.alloc(), 3, call);
-        let all = Pieces::new(HELLO, usize::MAX);
-        let (ran, [_, calls], bytes) = hello_by(&rt, rt.alloc(), all, failing);
+        let empty = Taken::empty_at(rt.alloc(), 3, call);
         let begun = &HELLO_REPLIES[..3 * (call - 1)];
-        let found = (ran, calls, bytes.as_slice());
-        assert!(rt;
-            found == (Err(ScriptError::Write), call, begun),
-            "at call {call}"
-        );
+        let found = [
+            is_cut_at(&rt, rt.alloc(), failing, call, begun),
+            is_cut_at(&rt, rt.alloc(), empty, call, begun),
+        ];
+        assert!(rt; found == [true, true], "at call {call}");
     }
-    let full = Taken::new(rt.alloc(), 0);
-    let (ran, [_, calls], bytes) = hello_by(&rt, rt.alloc(), Pieces::new(HELLO, usize::MAX), full);
-    assert!(rt; (ran, bytes.len(), calls) == (Err(ScriptError::Write), 0, 1));
 }
 
 /// A script that ends with a long word: so begun, and with 20,000 digits 0.
@@ -153,7 +157,8 @@ fn is_refused(
 }
 
 /// One piece of input, in the midst of which memory is refused: for a line that isn't whole in it,
-/// for the items of one that is, and for the reply to one. The replies to the lines before come out.
+/// for the items of one that is, and for the reply to one. The replies to the lines before come
+/// out.
 #[test]
 fn refused_in_a_piece(rt: HostRuntime) -> Result<(), Fail> {
     for (before, word, behind, size, replies) in [

@@ -1,4 +1,1 @@
 pub mod Frames
-pub mod Inline
-pub mod Lends
-pub mod Small

@@ -1,6 +1,6 @@
 //! Windows that have short lists in themselves.
 
-pub use crate::small::{
+pub use arc_small::{
     SmallArcByteText, SmallArcBytes, SmallArcSlice, SmallArcStr, SmallByteText, SmallBytes,
     SmallSlice, SmallStr,
 };

@@ -26,6 +26,5 @@ mod queue;
 #[cfg(test)]
 mod readme;
 mod slice;
-mod small;
 #[cfg(test)]
 mod words;

@@ -22,7 +22,8 @@ use Rattle.arc_block.specs.Block.{buffer}
 use Rattle.arc_block.specs.Owned.{Stand}
 use Rattle.arc_block.specs.Place.{Place, nowhere, static_data, on_block, metadata_at}
 use Rattle.std.specs.Option.{option_map_or}
-use Rattle.arc_block.specs.Table.{Row, Role, reader, sole_writer, block_of}
+use Rattle.arc_block.specs.Table.{Row, Role, reader, sole_writer, one_writer_of_several, inline}
+use Rattle.arc_block.specs.Table.{forgotten, block_of}
 use Rattle.arc_block.specs.Writers.{new_writer, with_more, with_room}
 use Rattle.arc_block.specs.Writers.{after_advance, capacity_of}
 use Rattle.arc_commands.specs.Additions.{RowAdds, Joins, Founds, MayBegin, Stays}
@@ -32,15 +33,16 @@ use Rattle.arc_commands.specs.Step.{filled, in_range, is_allowed, is_now}
 use Rattle.arc_commands.specs.Step.{is_on_block}
 use Rattle.arc_commands.specs.Step.{parted, room_of, shortage, truncated}
 use Rattle.arc_commands.specs.Step.{with_made, gone}
-use Rattle.arc_commands.specs.Blocks.{is_sole}
+use Rattle.arc_commands.specs.Blocks.{is_reader, is_small, is_sole, is_writer}
 use Rattle.arc_commands.specs.Commands.{ListCmd, ListReply}
 use Rattle.arc_commands.specs.declared.command.Cmd.TheVariants as command
 use Rattle.arc_commands.specs.declared.command.Reply.TheVariants as reply
 use Rattle.arc_commands.proofs.Roles.{sole_each}
 use Rattle.arc_slots.specs.Answers.{Answers, around_in}
 use Rattle.arc_slots.specs.Calls.{Along, Beside, RefusesAt}
-use Rattle.arc_slots.specs.Parts.{is_itself, part_answer, part_command, part_row, rest_of}
-use Rattle.arc_slots.specs.Slots.{SlotView, row_of, stand_of}
+use Rattle.arc_slots.specs.Parts.{is_itself, is_part_of, part_answer, part_command, part_row}
+use Rattle.arc_slots.specs.Parts.{rest_of}
+use Rattle.arc_slots.specs.Slots.{IsSlotRole, SlotView, row_of, stand_of}
 use Rattle.arc_slots.specs.Splits.{IsSplit}
 use Rattle.arc_slots.specs.Stands.{HasPassFor, numbered, stand_at}
 use Rattle.arc_slots.specs.Writing.{Fills, additional_of, can_write, is_fresh}
@@ -72,6 +74,22 @@ metadata-numbered b (on_block (Some o) offset info) = refl
 refused-same : (e f : TryReserveError)
     → ◌≡◌ {A = Result (Unit {0}) TryReserveError} (Err e) (Err f) → e ≡ f
 refused-same e f is = same_Some e f (ap result_err is)
+
+-- what holds of each role that a slot's window has holds of one that is
+pub slot_each : (P : Role → Type 0) → P reader → ((places : ℕ) → P (sole_writer places)) → P inline
+    → (role : Role) → IsSlotRole role → P role
+slot_each P reads writes small reader known = reads
+slot_each P reads writes small (sole_writer places) known = writes places
+slot_each P reads writes small (one_writer_of_several places) known = absurd known
+slot_each P reads writes small inline known = small
+slot_each P reads writes small forgotten known = absurd known
+
+small_each : (P : Role → Type 0) → P inline → (role : Role) → is_small role ≡ true → P role
+small_each P small reader is = absurd (false≢true is)
+small_each P small (sole_writer places) is = absurd (false≢true is)
+small_each P small (one_writer_of_several places) is = absurd (false≢true is)
+small_each P small inline is = small
+small_each P small forgotten is = absurd (false≢true is)
 
 module _ {T M : Type 0} (setting : Setting T) (windows : ℕ) (s : SlotView T M)
     (passes : List (Pass Whole)) where
@@ -133,7 +151,42 @@ module _ {T M : Type 0} (setting : Setting T) (windows : ℕ) (s : SlotView T M)
 
   -- ---- a part that is handed out
 
-  module _ (i : ℕ) (reads : s.role ≡ reader) (part : Part) where
+  -- what a part of a window of this role is for
+  part-for : (i : ℕ) (role : Role) (part : Part) → is_part_of role part ≡ true
+      → allowed (part_command i part) role ≡ true
+  part-for i reader All is = refl
+  part-for i reader (Range start end) is = refl
+  part-for i reader (Back at) is = refl
+  part-for i reader (Front at) is = refl
+  part-for i (sole_writer places) part is = absurd (false≢true is)
+  part-for i (one_writer_of_several places) part is = absurd (false≢true is)
+  part-for i inline All is = refl
+  part-for i inline (Range start end) is = refl
+  part-for i inline (Back at) is = absurd (false≢true is)
+  part-for i inline (Front at) is = absurd (false≢true is)
+  part-for i forgotten part is = absurd (false≢true is)
+
+  part-not : (i : ℕ) (role : Role) (part : Part) → is_part_of role part ≡ false
+      → allowed (part_command i part) role ≡ false
+  part-not i reader part is = absurd (false≢true (sym is))
+  part-not i (sole_writer places) All is = refl
+  part-not i (sole_writer places) (Range start end) is = refl
+  part-not i (sole_writer places) (Back at) is = refl
+  part-not i (sole_writer places) (Front at) is = refl
+  part-not i (one_writer_of_several places) All is = refl
+  part-not i (one_writer_of_several places) (Range start end) is = refl
+  part-not i (one_writer_of_several places) (Back at) is = refl
+  part-not i (one_writer_of_several places) (Front at) is = refl
+  part-not i inline All is = absurd (false≢true (sym is))
+  part-not i inline (Range start end) is = absurd (false≢true (sym is))
+  part-not i inline (Back at) is = refl
+  part-not i inline (Front at) is = refl
+  part-not i forgotten All is = refl
+  part-not i forgotten (Range start end) is = refl
+  part-not i forgotten (Back at) is = refl
+  part-not i forgotten (Front at) is = refl
+
+  module _ (i : ℕ) (part : Part) where
     abbrev c : Command
     c = part_command i part
 
@@ -148,51 +201,66 @@ module _ {T M : Type 0} (setting : Setting T) (windows : ℕ) (s : SlotView T M)
         parted setting short around row new_part (if out then new_part else rest_of row part)
         (if out then row else new_part)
 
-  module _ (i : ℕ) (reads : s.role ≡ reader) where
-    hand-is : (part : Part) (short : Shortage)
+  -- it is handed out of no window of this role
+  pub part-kind : (i : ℕ) (part : Part) → is_part_of s.role part ≡ false
+      → Said (part_command i part) reply.Kind (Some s) None passes
+  part-kind i All is =
+      same (command.Clone i) reply.Kind
+      (not-for no_shortage (command.Clone i) (part-not i s.role All is)) (refl, refl, refl)
+  part-kind i (Range start end) is =
+      same (command.Sub i start end) reply.Kind (not-for no_shortage (command.Sub i start end)
+      (part-not i s.role (Range start end) is)) (refl, refl, refl)
+  part-kind i (Back at) is =
+      same (command.Off i at) reply.Kind
+      (not-for no_shortage (command.Off i at) (part-not i s.role (Back at) is)) (refl, refl, refl)
+  part-kind i (Front at) is =
+      same (command.To i at) reply.Kind
+      (not-for no_shortage (command.To i at) (part-not i s.role (Front at) is)) (refl, refl, refl)
+
+  module _ (i : ℕ) where
+    hand-is : (part : Part) (short : Shortage) → is_part_of s.role part ≡ true
         → part_answer setting.boundary s.window.items part ≡ Ok tt
-        → answer_any setting short around (part_command i part) row ≡ hands i reads part short
-    hand-is All short ok =
-        for-role short (command.Clone i) (reads-for reads (command.Clone i) true refl)
-    hand-is (Range start end) short ok =
-        for-role short (command.Sub i start end)
-        (reads-for reads (command.Sub i start end) true refl)
-        ∙ ap (λ a. in_range a row (hands i reads (Range start end) short)) ok
-    hand-is (Back at) short ok =
-        for-role short (command.Off i at) (reads-for reads (command.Off i at) true refl)
-        ∙ ap (λ a. in_range a row (hands i reads (Back at) short)) ok
-    hand-is (Front at) short ok =
-        for-role short (command.To i at) (reads-for reads (command.To i at) true refl)
-        ∙ ap (λ a. in_range a row (hands i reads (Front at) short)) ok
+        → answer_any setting short around (part_command i part) row ≡ hands i part short
+    hand-is All short is ok = for-role short (command.Clone i) (part-for i s.role All is)
+    hand-is (Range start end) short is ok =
+        for-role short (command.Sub i start end) (part-for i s.role (Range start end) is)
+        ∙ ap (λ a. in_range a row (hands i (Range start end) short)) ok
+    hand-is (Back at) short is ok =
+        for-role short (command.Off i at) (part-for i s.role (Back at) is)
+        ∙ ap (λ a. in_range a row (hands i (Back at) short)) ok
+    hand-is (Front at) short is ok =
+        for-role short (command.To i at) (part-for i s.role (Front at) is)
+        ∙ ap (λ a. in_range a row (hands i (Front at) short)) ok
 
     -- it isn't one of the window
-    pub part-range : (part : Part) (e : RangeError)
+    pub part-range : (part : Part) (e : RangeError) → is_part_of s.role part ≡ true
         → part_answer setting.boundary s.window.items part ≡ Err e
         → Said (part_command i part) (reply.Range e) (Some s) None passes
-    part-range All e is = absurd (cc)
-    part-range (Range start end) e is =
+    part-range All e for is = absurd (cc)
+    part-range (Range start end) e for is =
         same (command.Sub i start end) (reply.Range e)
-        (for-role no_shortage (command.Sub i start end)
-        (reads-for reads (command.Sub i start end) true refl)
-        ∙ ap (λ a. in_range a row (hands i reads (Range start end) no_shortage)) is)
+        (for-role no_shortage (command.Sub i start end) (part-for i s.role (Range start end) for)
+        ∙ ap (λ a. in_range a row (hands i (Range start end) no_shortage)) is)
         (refl, refl, refl)
-    part-range (Back at) e is =
+    part-range (Back at) e for is =
         same (command.Off i at) (reply.Range e)
-        (for-role no_shortage (command.Off i at) (reads-for reads (command.Off i at) true refl)
-        ∙ ap (λ a. in_range a row (hands i reads (Back at) no_shortage)) is) (refl, refl, refl)
-    part-range (Front at) e is =
+        (for-role no_shortage (command.Off i at) (part-for i s.role (Back at) for)
+        ∙ ap (λ a. in_range a row (hands i (Back at) no_shortage)) is) (refl, refl, refl)
+    part-range (Front at) e for is =
         same (command.To i at) (reply.Range e)
-        (for-role no_shortage (command.To i at) (reads-for reads (command.To i at) true refl)
-        ∙ ap (λ a. in_range a row (hands i reads (Front at) no_shortage)) is) (refl, refl, refl)
+        (for-role no_shortage (command.To i at) (part-for i s.role (Front at) for)
+        ∙ ap (λ a. in_range a row (hands i (Front at) no_shortage)) is) (refl, refl, refl)
 
     -- memory for the window was refused
-    pub part-alloc : (part : Part) → part_answer setting.boundary s.window.items part ≡ Ok tt
+    pub part-alloc : (part : Part) → is_part_of s.role part ≡ true
+        → part_answer setting.boundary s.window.items part ≡ Ok tt
         → Said (part_command i part) reply.Alloc (Some s) None passes
-    part-alloc part ok =
-        same (part_command i part) reply.Alloc (hand-is part of_table ok)
+    part-alloc part for ok =
+        same (part_command i part) reply.Alloc (hand-is part of_table for ok)
         (part-none setting i here passes row part)
 
     module _ (has : HasPassFor passes here) (passes' : List (Pass Whole)) (part : Part)
+        (for : is_part_of s.role part ≡ true)
         (ok : part_answer setting.boundary s.window.items part ≡ Ok tt) where
       -- an owner more was refused
       pub part-refused : (e : OwnerError)
@@ -203,20 +271,20 @@ module _ {T M : Type 0} (setting : Setting T) (windows : ℕ) (s : SlotView T M)
         begins = false;
         places = 0;
         change =
-            hand-is part of_clones ok
+            hand-is part of_clones for ok
             ∙ ap (λ (b : Bool). if b then is_now (reply.Owner AllocError) row else
-            if around.full && is_some (block_of (new_part i reads part).place) then
+            if around.full && is_some (block_of (new_part i part).place) then
             is_now (reply.Owner CountFull) row else
-            with_made around (if out i reads part then new_part i reads part else rest_of row part)
-            (if out i reads part then row else new_part i reads part)) why.0;
+            with_made around (if out i part then new_part i part else rest_of row part)
+            (if out i part then row else new_part i part)) why.0;
         blocks =
-            many-refused passes passes' setting.clone_wants (new_part i reads part).place here AllocError
+            many-refused passes passes' setting.clone_wants (new_part i part).place here AllocError
             why;
         adds =
             (part-adds setting i here passes row part here None passes').1 (
               refl,
               refl,
-              refuses-at passes passes' setting.clone_wants (new_part i reads part).place AllocError here
+              refuses-at passes passes' setting.clone_wants (new_part i part).place AllocError here
                   why,
             );
       }
@@ -224,38 +292,38 @@ module _ {T M : Type 0} (setting : Setting T) (windows : ℕ) (s : SlotView T M)
         begins = false;
         places = 0;
         change =
-            hand-is part no_shortage ok
+            hand-is part no_shortage for ok
             ∙ ap (λ (b : Bool). if b then is_now (reply.Owner CountFull) row else
-            with_made around (if out i reads part then new_part i reads part else rest_of row part)
-            (if out i reads part then row else new_part i reads part))
+            with_made around (if out i part then new_part i part else rest_of row part)
+            (if out i part then row else new_part i part))
             (full-beside here has why);
         blocks =
-            many-refused passes passes' setting.clone_wants (new_part i reads part).place here CountFull
+            many-refused passes passes' setting.clone_wants (new_part i part).place here CountFull
             why;
         adds =
             (part-adds setting i here passes row part here None passes').2 (
               refl,
               refl,
-              refuses-at passes passes' setting.clone_wants (new_part i reads part).place CountFull here
+              refuses-at passes passes' setting.clone_wants (new_part i part).place CountFull here
                   why,
             );
       }
         where
           full-beside : (st : Stand) → HasPassFor passes st
-              → RefusesAt setting.clone_wants (new_part i reads part).place st passes passes' CountFull
+              → RefusesAt setting.clone_wants (new_part i part).place st passes passes' CountFull
               → ((around_in 0 windows passes st).full
-              && is_some (block_of (new_part i reads part).place)) ≡ true
+              && is_some (block_of (new_part i part).place)) ≡ true
           full-beside None has why = absurd why
           full-beside (Some (n, o)) has why =
-              ap (λ b. b && is_some (block_of (new_part i reads part).place))
+              ap (λ b. b && is_some (block_of (new_part i part).place))
               (full-told passes passes' windows n o has why.1)
               ∙ ap is_some why.0
 
       -- it was made: the window's owner has the one part, and that one the other
       part-made : (kept made other : SlotView T M)
-          → row_of kept ≡ (if out i reads part then new_part i reads part else rest_of row part)
-          → row_of made ≡ (if out i reads part then row else new_part i reads part)
-          → row_of other ≡ new_part i reads part
+          → row_of kept ≡ (if out i part then new_part i part else rest_of row part)
+          → row_of made ≡ (if out i part then row else new_part i part)
+          → row_of other ≡ new_part i part
           → Beside here passes passes' (stand_of (Some other))
           → Joins here (stand_of (Some kept)) (Some (stand_of (Some made))) passes passes'
           (is_itself row part)
@@ -269,11 +337,11 @@ module _ {T M : Type 0} (setting : Setting T) (windows : ℕ) (s : SlotView T M)
             begins = false;
             places = 0;
             change =
-                hand-is part no_shortage ok
+                hand-is part no_shortage for ok
                 ∙ ap (λ (b : Bool). if b then is_now (reply.Owner CountFull) row else
-                with_made around (if out i reads part then new_part i reads part else rest_of row part)
-                (if out i reads part then row else new_part i reads part)) room
-                ∙ ap (λ x. with_made around x (if out i reads part then row else new_part i reads part))
+                with_made around (if out i part then new_part i part else rest_of row part)
+                (if out i part then row else new_part i part)) room
+                ∙ ap (λ x. with_made around x (if out i part then row else new_part i part))
                 (sym kept-is)
                 ∙ ap (with_made around (row_of kept)) (sym made-is);
             blocks = many-beside passes passes' here (stand_of (Some other)) beside;
@@ -282,13 +350,13 @@ module _ {T M : Type 0} (setting : Setting T) (windows : ℕ) (s : SlotView T M)
                 (Some (stand_of (Some made))) passes').0 joins windows;
           }
 
-      pub itself : (handed kept : SlotView T M) → out i reads part ≡ true
-          → IsSplit s handed kept row (new_part i reads part) passes passes'
+      pub itself : (handed kept : SlotView T M) → out i part ≡ true
+          → IsSplit s handed kept row (new_part i part) passes passes'
           → Said (part_command i part) (reply.New windows) (Some kept) (Some handed) passes'
       itself handed kept is h =
           part-made kept handed kept
-          (h.made_is ∙ ap (λ b. if b then new_part i reads part else rest_of row part) (sym is))
-          (h.same_is ∙ ap (λ b. if b then row else new_part i reads part) (sym is)) h.made_is h.added (
+          (h.made_is ∙ ap (λ b. if b then new_part i part else rest_of row part) (sym is))
+          (h.same_is ∙ ap (λ b. if b then row else new_part i part) (sym is)) h.made_is h.added (
             stand_of (Some kept),
             raises-beside passes passes' here (stand_of (Some kept)) h.added,
             ap (λ b. if b then stand_of (Some kept) else here) (sym is),
@@ -296,34 +364,18 @@ module _ {T M : Type 0} (setting : Setting T) (windows : ℕ) (s : SlotView T M)
                 ∙ ap (λ b. Some (if b then here else stand_of (Some kept))) (sym is),
           )
 
-      pub beside : (handed kept : SlotView T M) → out i reads part ≡ false
-          → IsSplit s kept handed (rest_of row part) (new_part i reads part) passes passes'
+      pub beside : (handed kept : SlotView T M) → out i part ≡ false
+          → IsSplit s kept handed (rest_of row part) (new_part i part) passes passes'
           → Said (part_command i part) (reply.New windows) (Some kept) (Some handed) passes'
       beside handed kept is h =
           part-made kept handed handed
-          (h.same_is ∙ ap (λ b. if b then new_part i reads part else rest_of row part) (sym is))
-          (h.made_is ∙ ap (λ b. if b then row else new_part i reads part) (sym is)) h.made_is h.added (
+          (h.same_is ∙ ap (λ b. if b then new_part i part else rest_of row part) (sym is))
+          (h.made_is ∙ ap (λ b. if b then row else new_part i part) (sym is)) h.made_is h.added (
             stand_of (Some handed),
             raises-beside passes passes' here (stand_of (Some handed)) h.added,
             h.owner ∙ ap (λ b. if b then stand_of (Some handed) else here) (sym is),
             ap (λ b. Some (if b then here else stand_of (Some handed))) (sym is),
           )
-
-  -- a part of a window that is written
-  pub part-kind : is_sole s.role ≡ true → (i : ℕ) (part : Part)
-      → Said (part_command i part) reply.Kind (Some s) None passes
-  part-kind writes i All =
-      same (command.Clone i) reply.Kind (not-for no_shortage (command.Clone i)
-      (writes-for writes (command.Clone i) false (λ n. refl))) (refl, refl, refl)
-  part-kind writes i (Range start end) =
-      same (command.Sub i start end) reply.Kind (not-for no_shortage (command.Sub i start end)
-      (writes-for writes (command.Sub i start end) false (λ n. refl))) (refl, refl, refl)
-  part-kind writes i (Back at) =
-      same (command.Off i at) reply.Kind (not-for no_shortage (command.Off i at)
-      (writes-for writes (command.Off i at) false (λ n. refl))) (refl, refl, refl)
-  part-kind writes i (Front at) =
-      same (command.To i at) reply.Kind (not-for no_shortage (command.To i at)
-      (writes-for writes (command.To i at) false (λ n. refl))) (refl, refl, refl)
 
   -- ---- the end of the window
 
@@ -444,13 +496,36 @@ module _ {T M : Type 0} (setting : Setting T) (windows : ℕ) (s : SlotView T M)
       (is_now reply.Ok (truncated setting.drops row len)) else is_now reply.Ok row) long)
       (refl, refl, refl)
 
-  -- what is for a reader and for each sole writer is for a slot's window
-  pub for-each : (is_sole s.role ≡ false → s.role ≡ reader) → (c : Command)
-      → allowed c reader ≡ true → ((places : ℕ) → allowed c (sole_writer places) ≡ true) → IsFor c
-  for-each role c reads writes = elim (cases_Bool (is_sole s.role)) [
-    | inl sole ↦ writes-for sole c true writes
-    | inr other ↦ reads-for (role other) c true reads
-  ]
+  -- what is for a reader, for each sole writer and for a small window is for a slot's window
+  pub for-each : IsSlotRole s.role → (c : Command) → allowed c reader ≡ true
+      → ((places : ℕ) → allowed c (sole_writer places) ≡ true) → allowed c inline ≡ true
+      → IsFor c
+  for-each known c reads writes small =
+      slot_each (λ role. allowed c role ≡ true) reads writes small s.role known
+
+  -- and what is for the first two, for one that is no small one
+  pub for-large : IsSlotRole s.role → is_small s.role ≡ false → (c : Command)
+      → allowed c reader ≡ true → ((places : ℕ) → allowed c (sole_writer places) ≡ true)
+      → IsFor c
+  for-large known large c reads writes =
+      slot_each (λ role. is_small role ≡ false → allowed c role ≡ true) (λ is. reads)
+      (λ places is. writes places) (λ is. absurd (false≢true (sym is))) s.role known large
+
+  -- what isn't for small windows
+  pub small-kind : (c : Command) → is_small s.role ≡ true → allowed c inline ≡ false
+      → RowAdds here here None passes passes setting row c reply.Kind
+      → Said c reply.Kind (Some s) None passes
+  small-kind c is not adds =
+      same c reply.Kind
+      (not-for no_shortage c (small_each (λ role. allowed c role ≡ false) not s.role is)) adds
+
+  -- what is for readers alone
+  pub reader-kind : (c : Command) → is_reader s.role ≡ false
+      → ((role : Role) → is_reader role ≡ false → allowed c role ≡ false)
+      → RowAdds here here None passes passes setting row c reply.Kind
+      → Said c reply.Kind (Some s) None passes
+  reader-kind c is not adds =
+      same c reply.Kind (not-for no_shortage c (not s.role is)) adds
 
   -- ---- what is only told
 
@@ -496,25 +571,35 @@ module _ {T M : Type 0} (setting : Setting T) (windows : ℕ) (s : SlotView T M)
       (writes-for writes (command.Room i) true (λ n. refl))
       ∙ ap (λ n. is_now (reply.Number n) row) (sym is)) (refl, refl, refl)
 
-  pub room-kind : (i : ℕ) → s.role ≡ reader → Said (command.Room i) reply.Kind (Some s) None passes
-  room-kind i reads =
-      same (command.Room i) reply.Kind
-      (not-for no_shortage (command.Room i) (reads-for reads (command.Room i) false refl))
-      (refl, refl, refl)
+  -- what is for writers alone
+  writers-for : (c : Command) (role : Role) → is_writer role ≡ false → allowed c reader ≡ false
+      → allowed c inline ≡ false → allowed c forgotten ≡ false → allowed c role ≡ false
+  writers-for c reader other reads small gone = reads
+  writers-for c (sole_writer places) other reads small gone = absurd (false≢true (sym other))
+  writers-for c (one_writer_of_several places) other reads small gone =
+      absurd (false≢true (sym other))
+  writers-for c inline other reads small gone = small
+  writers-for c forgotten other reads small gone = gone
+
+  pub room-kind : (i : ℕ) → is_writer s.role ≡ false
+      → Said (command.Room i) reply.Kind (Some s) None passes
+  room-kind i other =
+      same (command.Room i) reply.Kind (not-for no_shortage (command.Room i)
+      (writers-for (command.Room i) s.role other refl refl refl)) (refl, refl, refl)
 
   -- ---- what is written into a window
 
-  pub write-kind : (i : ℕ) (what : Writing (List T) T) → s.role ≡ reader
+  pub write-kind : (i : ℕ) (what : Writing (List T) T) → is_writer s.role ≡ false
       → Said (write_command i what) reply.Kind (Some s) None passes
-  write-kind i (writing.Nothing additional) reads =
+  write-kind i (writing.Nothing additional) other =
       same (command.Res i additional) reply.Kind (not-for no_shortage (command.Res i additional)
-      (reads-for reads (command.Res i additional) false refl)) (refl, refl, refl)
-  write-kind i (writing.Item item) reads =
+      (writers-for (command.Res i additional) s.role other refl refl refl)) (refl, refl, refl)
+  write-kind i (writing.Item item) other =
       same (command.Push i item) reply.Kind (not-for no_shortage (command.Push i item)
-      (reads-for reads (command.Push i item) false refl)) (refl, refl, refl)
-  write-kind i (writing.Items items) reads =
+      (writers-for (command.Push i item) s.role other refl refl refl)) (refl, refl, refl)
+  write-kind i (writing.Items items) other =
       same (command.Ext i items) reply.Kind (not-for no_shortage (command.Ext i items)
-      (reads-for reads (command.Ext i items) false refl)) (refl, refl, refl)
+      (writers-for (command.Ext i items) s.role other refl refl refl)) (refl, refl, refl)
 
   module _ (writes : is_sole s.role ≡ true) (i : ℕ) where
     module _ (what : Writing (List T) T) where

@@ -33,12 +33,12 @@ use Rattle.arc_block.specs.declared.parts.room.Room.TheVariants.{Spare, Fresh, B
 use Rattle.arc_block.specs.declared.parts.room.Room.TheVariants.{Growth, Own, Refused}
 use Rattle.arc_commands.specs.Additions.{Founds}
 use Rattle.arc_commands.specs.Blocks.{is_sole}
-use Rattle.arc_slots.specs.Slots.{SlotView, held, role_fits, row_of, stand_of, writer_slot}
+use Rattle.arc_slots.specs.Slots.{AnyWindow, SlotView, held, role_fits, row_of, stand_of}
+use Rattle.arc_slots.specs.Slots.{window_in, writer_slot}
 use Rattle.arc_slots.specs.Stands.{numbered, is_numbered, stand_at, TakenOut, put_back}
 use Rattle.arc_commands.specs.Step.{made_row}
 use Rattle.arc_slots.specs.Writing.{is_fresh, is_new, Fills, FreezesBy}
-use Rattle.arc_slots.specs.declared.slot.Held.{Held}
-use Rattle.arc_slots.specs.declared.slot.Held.TheVariants.{Read, Write}
+use Rattle.arc_slots.specs.declared.window.Held.TheVariants.{Write}
 use Rattle.arc_commands.proofs.Roles.{sole_each}
 use Rattle.arc_slots.proofs.Taken.{back-same}
 
@@ -74,13 +74,14 @@ numbered_each P none static uncounted block (Some n) (on_block (Some o) offset i
     block n o offset info
 
 -- a slot whose window is written
-module _ {T M : Type 0} (h : Held (Window T M) (PartsView T M)) (w : PartsView T M)
+module _ {T M K : Type 0} (small : K → PartsView T M) (h : AnyWindow T M K) (w : PartsView T M)
     (b : Option ℕ) (is : h ≡ Write w) where
-  pub writes-view : held h b ≡ writer_slot w b
-  writes-view = ap (λ x. held x b) is
+  pub writes-view : held small h b ≡ writer_slot w b
+  writes-view = ap (λ x. held small x b) is
 
-  pub writes-fits : is_numbered b (held h b).window.place ≡ true → is_numbered b w.place ≡ true
-  writes-fits fits = ap (λ x. is_numbered b (held x b).window.place) (sym is) ∙ fits
+  pub writes-fits : is_numbered b (window_in small h).place ≡ true
+      → is_numbered b w.place ≡ true
+  writes-fits fits = ap (λ x. is_numbered b (window_in small x).place) (sym is) ∙ fits
 
   pub writes-sole : role_fits h ≡ true → is_sole w.role ≡ true
   writes-sole sole = ap role_fits (sym is) ∙ sole
@@ -427,17 +428,17 @@ module _ {T M : Type 0} (b : Option ℕ) (w : PartsView T M) (fits : is_numbered
         let fine : ◌≡◌ {A = Result (Unit {0}) TryReserveError} (Err e) (Ok tt) = made.0 in absurd (cc)
 
 -- the same of a slot, whose window is written
-module _ {T M : Type 0} (h : Held (Window T M) (PartsView T M)) (w : PartsView T M)
-    (b : Option ℕ) (is : h ≡ Write w) (s : SlotView T M) (view : held h b ≡ s)
-    (fact : (is_numbered b (held h b).window.place ≡ true) × (role_fits h ≡ true)) where
+module _ {T M K : Type 0} (small : K → PartsView T M) (h : AnyWindow T M K) (w : PartsView T M)
+    (b : Option ℕ) (is : h ≡ Write w) (s : SlotView T M) (view : held small h b ≡ s)
+    (fact : (is_numbered b (window_in small h).place ≡ true) × (role_fits h ≡ true)) where
   seen : writer_slot w b ≡ s
-  seen = sym (writes-view h w b is) ∙ view
+  seen = sym (writes-view small h w b is) ∙ view
 
   fit : is_numbered b w.place ≡ true
-  fit = writes-fits h w b is fact.0
+  fit = writes-fits small h w b is fact.0
 
   writer : is_sole w.role ≡ true
-  writer = writes-sole h w b is fact.1
+  writer = writes-sole small h w b is fact.1
 
   module _ (drops : Bool) (first size k : ℕ) where
     room-seen : room drops first size w k ≡ room drops first size (row_of s) k
@@ -522,7 +523,7 @@ module _ {T M : Type 0} (h : Held (Window T M) (PartsView T M)) (w : PartsView T
 -- ---- a writer that reads from now on
 
 abbrev read_slot : {T M : Type 0} → Window T M → Option ℕ → SlotView T M
-read_slot v n = held (Read v) n
+read_slot v n = record { window = v; role = reader; block = n }
 
 new-if : (holds : Bool) → is_new (if holds then to.Stays else to.HandedBack) ≡ false
 new-if true = refl
@@ -652,11 +653,11 @@ module _ {T M : Type 0} (layout : LayoutFacts) (drops : Bool) (items : List T) (
     frozen_each (Some k) (on_block (Some o) offset info) fits writes =
         from-block info.sort writes (Some k) (on_block (Some o) offset info)
 
-module _ {T M : Type 0} (h : Held (Window T M) (PartsView T M)) (w : PartsView T M)
-    (b : Option ℕ) (is : h ≡ Write w) (s : SlotView T M) (view : held h b ≡ s)
-    (fits : is_numbered b (held h b).window.place ≡ true) (layout : LayoutFacts) where
+module _ {T M K : Type 0} (small : K → PartsView T M) (h : AnyWindow T M K) (w : PartsView T M)
+    (b : Option ℕ) (is : h ≡ Write w) (s : SlotView T M) (view : held small h b ≡ s)
+    (fits : is_numbered b (window_in small h).place ≡ true) (layout : LayoutFacts) where
   seen-slot : writer_slot w b ≡ s
-  seen-slot = sym (writes-view h w b is) ∙ view
+  seen-slot = sym (writes-view small h w b is) ∙ view
 
   pub slot-frozen : IsWriterPlace w.place → (drops : Bool) (passes left : List (Pass Whole))
       (p q : Pass Whole) (v : Window T M) (n : Option ℕ) (passes' : List (Pass Whole))
@@ -671,7 +672,7 @@ module _ {T M : Type 0} (h : Held (Window T M) (PartsView T M)) (w : PartsView T
       subst (λ (t : SlotView T M). FreezesBy (layout_move layout (row_of t).place) drops t
       (read_slot v n) passes passes') seen-slot
       (frozen_each layout drops w.items w.role passes left p q v n passes' begins b
-      w.place (writes-fits h w b is fits) writes took frozen
+      w.place (writes-fits small h w b is fits) writes took frozen
       (begun ∙ ap (λ (t : SlotView T M). is_new (layout_move layout (row_of t).place))
       (sym seen-slot)) same new)
 
@@ -682,7 +683,7 @@ module _ {T M : Type 0} (h : Held (Window T M) (PartsView T M)) (w : PartsView T
       → is_new (layout_move layout (row_of s).place) ≡ true → length left < m
   room-to-read writes passes left p m took room begins =
       let told : (not (is_some b) && not layout.has_static) ≡ true =
-      sym (new_is layout b w.place (writes-fits h w b is fits) writes)
+      sym (new_is layout b w.place (writes-fits small h w b is fits) writes)
       ∙ ap (λ (t : SlotView T M). is_new (layout_move layout (row_of t).place)) seen-slot
       ∙ begins in
       let none : b ≡ None = none-is b (and_parts (not (is_some b)) (not layout.has_static) told).0 in

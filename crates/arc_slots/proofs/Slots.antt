@@ -11,12 +11,11 @@ use Rattle.arc_owners.specs.declared.error.OwnerError.TheVariants.{AllocError, C
 use Rattle.arc_block.specs.Block.{Sort, BlockInfo}
 use Rattle.arc_block.specs.Place.{Place, nowhere, static_data, on_block, at_owner, moved}
 use Rattle.arc_block.specs.Steps.{IsPassAt, Shares, Refuses}
-use Rattle.arc_block.specs.Table.{Row, reader}
+use Rattle.arc_block.specs.Table.{Row, Role, reader}
 use Rattle.arc_block.specs.Window.{Window, PartsView}
 use Rattle.arc_block.specs.Writers.{sole_at}
-use Rattle.arc_slots.specs.Slots.{held, row_of, writer_slot}
-use Rattle.arc_slots.specs.declared.slot.Held.{Held}
-use Rattle.arc_slots.specs.declared.slot.Held.TheVariants.{Read, Write}
+use Rattle.arc_slots.specs.Slots.{AnyWindow, held, row_of, window_in, writer_slot}
+use Rattle.arc_slots.specs.declared.window.Held.TheVariants.{Read}
 use Rattle.arc_slots.specs.Calls.{Through, Along, Beside, RefusesAt, AddsNothing}
 use Rattle.arc_slots.specs.Stands.{numbered, is_numbered, stand_at, HasPassFor, TakenOut, put_back}
 use Rattle.arc_slots.specs.Stands.{HasNumber}
@@ -26,19 +25,15 @@ use Rattle.arc_slots.proofs.Taken.{back-same, left-number}
 abbrev At : Type 0 → Type 0
 At M = Place (Option Owner) M
 
-pub held-block : {T M : Type 0} (h : Held (Window T M) (PartsView T M)) (b : Option ℕ)
-    → (held h b).block ≡ b
-held-block (Read w) b = refl
-held-block (Write w) b = refl
-
 -- a slot whose window is read
-module _ {T M : Type 0} (h : Held (Window T M) (PartsView T M)) (w : Window T M) (b : Option ℕ)
-    (is : h ≡ Read w) where
-  pub reads-view : held h b ≡ record { window = w; role = reader; block = b }
-  reads-view = ap (λ x. held x b) is
+module _ {T M K : Type 0} (small : K → PartsView T M) (h : AnyWindow T M K) (w : Window T M)
+    (b : Option ℕ) (is : h ≡ Read w) where
+  pub reads-view : held small h b ≡ record { window = w; role = reader; block = b }
+  reads-view = ap (λ x. held small x b) is
 
-  pub reads-fits : is_numbered b (held h b).window.place ≡ true → is_numbered b w.place ≡ true
-  reads-fits fits = ap (λ x. is_numbered b (held x b).window.place) (sym is) ∙ fits
+  pub reads-fits : is_numbered b (window_in small h).place ≡ true
+      → is_numbered b w.place ≡ true
+  reads-fits fits = ap (λ x. is_numbered b (window_in small x).place) (sym is) ∙ fits
 
 -- what a call does to the pass of the owner by which it goes
 abbrev Call : Type 0 → Type 1
@@ -92,14 +87,16 @@ shares-numbered p new None (on_block (Some o) offset facts) there made = ap (num
 shares-numbered p new (Some n) (on_block (Some o) offset facts) there made =
     ap (numbered (Some n)) made.2
 
--- a row that is read
-abbrev read_row : {T M : Type 0} → List T → Place (Option ℕ) M → Row T M
-read_row items place = record { items = items; place = place; role = reader }
+-- rows of the same items at the same place, of the same role
+abbrev any_row : {T M : Type 0} → Role → List T → Place (Option ℕ) M → Row T M
+any_row role items place = record { items = items; place = place; role = role }
 
-pub same-reader : {T M : Type 0} {items items' : List T} {place place' : Place (Option ℕ) M}
-    → items' ≡ items → place' ≡ place → read_row items' place' ≡ read_row items place
-same-reader {items = items} {place' = place'} same there =
-    ap (λ xs. read_row xs place') same ∙ ap (read_row items) there
+pub same-row : {T M : Type 0} {items items' : List T} {place place' : Place (Option ℕ) M}
+    {role role' : Role} → items' ≡ items → place' ≡ place → role' ≡ role
+    → any_row role' items' place' ≡ any_row role items place
+same-row {items = items} {place = place} {place' = place'} {role' = role'} same there can =
+    ap (λ xs. any_row role' xs place') same ∙ ap (any_row role' items) there
+    ∙ ap (λ r. any_row r items place) can
 
 -- the only writer of what stands on a block with this number is one of that number's row
 pub sole-numbered : {T M : Type 0} (drops : Bool) (b : Option ℕ) (items : List T) (place : At M)

@@ -1,9 +1,9 @@
 -- A window that is made beside another one and handed out: which command makes it, whether there
 -- is such a part, and which row is made and which stays.
-use Rattle.std.specs.Prelude.{ℕ, ◌==◌, Bool, false, List, length, Result, Ok}
+use Rattle.std.specs.Prelude.{ℕ, ◌==◌, Bool, true, false, List, length, Result, Ok}
 use Rattle.arc_owners.specs.declared.error.RangeError.{RangeError}
 use Rattle.arc_buffer.specs.Slice.{IsEdge, IsRange, range_answer, edge_answer}
-use Rattle.arc_block.specs.Table.{Row}
+use Rattle.arc_block.specs.Table.{Row, Role, inline, reader}
 use Rattle.arc_commands.specs.Step.{cut_row, off_part, part_of, to_part}
 use Rattle.arc_commands.specs.Commands.{ListCmd}
 use Rattle.arc_commands.specs.declared.command.Cmd.TheVariants as command
@@ -31,6 +31,14 @@ module _ {T : Type 0} where
   IsPart boundary items (Range start end) = IsRange boundary items start end
   IsPart boundary items (Back at) = IsEdge boundary items at
   IsPart boundary items (Front at) = IsEdge boundary items at
+
+-- whether such a part is handed out of a window of this role: each of a reader, and of a small window
+-- a clone and a range
+abbrev pub is_part_of : Role → Part → Bool
+is_part_of reader part = true
+is_part_of inline Whole = true
+is_part_of inline (Range start end) = true
+is_part_of role part = false
 
 module _ {T M : Type 0} where
   -- Whether the window itself is handed out, and what was made stays under its number. So it is of

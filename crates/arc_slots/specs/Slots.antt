@@ -5,12 +5,13 @@ use Rattle.arc_owners.specs.declared.count.tokens.Pass.{Pass}
 use Rattle.arc_owners.specs.declared.mark.Whole.{Whole}
 use Rattle.arc_block.specs.Window.{Window, PartsView, window_of}
 use Rattle.arc_block.specs.Owned.{Stand}
-use Rattle.arc_block.specs.Table.{Row, Role, reader}
+use Rattle.arc_block.specs.Table.{Row, Role, forgotten, inline, one_writer_of_several, reader}
+use Rattle.arc_block.specs.Table.{sole_writer}
 use Rattle.arc_commands.specs.Blocks.{is_sole}
 use Rattle.arc_commands.specs.State.{State}
 use Rattle.arc_slots.specs.Stands.{numbered, stand_at}
-use Rattle.arc_slots.specs.declared.slot.Held.{Held}
-use Rattle.arc_slots.specs.declared.slot.Held.TheVariants.{Read, Write}
+use Rattle.arc_slots.specs.declared.window.Held.{Held}
+use Rattle.arc_slots.specs.declared.window.Held.TheVariants.{Read, Small, Write}
 
 -- what is seen of a slot: its window, what that may do, and the number of the block on which it
 -- stands
@@ -19,24 +20,49 @@ pub record SlotView (T M : Type 0) : Type 0 where
   pub role : Role
   pub block : Option ℕ
 
+-- the role of a slot's window: it is read, or a sole writer's, or a small one
+abbrev pub IsSlotRole : Role → Type 0
+IsSlotRole reader = Unit {0}
+IsSlotRole (sole_writer places) = Unit {0}
+IsSlotRole (one_writer_of_several places) = ⊥
+IsSlotRole inline = Unit {0}
+IsSlotRole forgotten = ⊥
+
+-- the window that a slot holds, of small ones K
+abbrev pub AnyWindow : (T M K : Type 0) → Type 0
+AnyWindow T M K = Held (Window T M) (PartsView T M) K
+
+module _ {T M K : Type 0} where
+  -- the window by itself, where a small one is seen as these parts
+  abbrev pub window_in : (K → PartsView T M) → AnyWindow T M K → Window T M
+  window_in small (Read window) = window
+  window_in small (Write window) = window_of window
+  window_in small (Small window) = window_of (small window)
+
+  -- what it may do
+  abbrev pub role_in : AnyWindow T M K → Role
+  role_in (Read window) = reader
+  role_in (Write window) = window.role
+  role_in (Small window) = inline
+
+  -- it, on the block with this number, as it is seen of a slot
+  abbrev pub held : (K → PartsView T M) → AnyWindow T M K → Option ℕ → SlotView T M
+  held small h block = record { window = window_in small h; role = role_in h; block = block }
+
+  -- a window that is written is a sole writer
+  abbrev pub role_fits : AnyWindow T M K → Bool
+  role_fits (Read window) = true
+  role_fits (Write window) = is_sole window.role
+  role_fits (Small window) = true
+
 module _ {T M : Type 0} where
-  -- a window, on the block with this number, as it is seen of a slot
-  abbrev pub held : Held (Window T M) (PartsView T M) → Option ℕ → SlotView T M
-  held (Read window) block = record { window = window; role = reader; block = block }
-  held (Write window) block = record {
+  -- a writer's window, on the block with this number, as it is seen of a slot
+  abbrev pub writer_slot : PartsView T M → Option ℕ → SlotView T M
+  writer_slot window block = record {
     window = window_of window;
     role = window.role;
     block = block;
   }
-
-  -- a writer's window, on the block with this number, as it is seen of a slot
-  abbrev pub writer_slot : PartsView T M → Option ℕ → SlotView T M
-  writer_slot window block = held (Write window) block
-
-  -- a window that is written is a sole writer
-  abbrev pub role_fits : Held (Window T M) (PartsView T M) → Bool
-  role_fits (Read window) = true
-  role_fits (Write window) = is_sole window.role
 
   -- a slot as a row
   abbrev pub row_of : SlotView T M → Row T M

@@ -3,7 +3,7 @@
 ghost use Rattle.std.specs.Mem.{FitsInMemory, type_size};
 ghost use Rattle.arc_block.specs.LayoutFacts.{layout_facts};
 
-use crate::kinds::{CallsOf, Commands, TableReply};
+use crate::kinds::{CallsOf, Commands, SmallOf, TableKind, TableReply};
 use crate::part::Part;
 use crate::passes::Passes;
 use crate::slot::{Slot, Writing};
@@ -24,6 +24,7 @@ impl<S: Commands<A>, L: Layout, B: BufferMut<S::Item> + Drop, M: Drop, A: Alloca
 >
 where
     L::Writable: LayoutMut,
+    S::Small: SmallOf<S, L, B, M, A>,
 {
     ghost use Rattle.std.specs.Prelude.{◌≡◌, ℕ, None, Some, true, is_some, length, IfOk};
     ghost use Rattle.arc_commands.specs.Step.{setting_of};
@@ -53,7 +54,7 @@ where
             (Some self.new) result.1 passes.new.of_blocks.items }
         ensures room { is_some result.1 ≡ true → has_room ≡ true }
     {
-        if self.is_written() {
+        if !self.has_part(part) {
             return (Reply::Kind, None);
         }
         if let Err(e) = self.check_part(part) {
@@ -77,7 +78,7 @@ where
             self.now passes.old.of_blocks.items (seen_reply S.items_in S.items_in_box B.list result)
             (Some self.now) None passes.new.of_blocks.items }
     {
-        if self.is_written() {
+        if !self.is_read() {
             return Reply::Kind;
         }
         if self.is_unique(passes) {
@@ -120,6 +121,9 @@ where
     {
         let _ = passes;
         self.known_role();
+        if self.is_small() {
+            return Reply::Kind;
+        }
         match self.metadata() {
             Some(metadata) => Reply::Meta(*metadata),
             None => Reply::None,
@@ -248,6 +252,9 @@ where
     {
         let _ = passes;
         self.known_role();
+        if self.is_small() {
+            return Reply::Kind;
+        }
         if len >= self.len() {
             return Reply::Ok;
         }
@@ -289,7 +296,7 @@ where
             self passes.old.of_blocks.items (seen_reply S.items_in S.items_in_box B.list result.0)
             (Some result.1) None passes.new.of_blocks.items }
     {
-        if self.is_written() {
+        if !self.is_read() {
             return (Reply::Kind, self);
         }
         match self.try_into_mut(passes) {
@@ -299,7 +306,7 @@ where
     }
 }
 
-impl<S: Slice, L: Layout, B: BufferMut<S::Item> + Drop, M: Drop, A: Allocator + Copy> Slot<
+impl<S: TableKind, L: Layout, B: BufferMut<S::Item> + Drop, M: Drop, A: Allocator + Copy> Slot<
     S,
     L,
     B,
@@ -308,6 +315,7 @@ impl<S: Slice, L: Layout, B: BufferMut<S::Item> + Drop, M: Drop, A: Allocator + 
 >
 where
     L::Writable: LayoutMut,
+    S::Small: SmallOf<S, L, B, M, A>,
 {
     ghost use Rattle.std.specs.Prelude.{◌≡◌, ℕ, None, Some, length};
     ghost use Rattle.arc_commands.specs.Step.{Setting};

@@ -11,7 +11,7 @@ ghost use Rattle.arc_slots.specs.Slots.{stand_of};
 ghost use Rattle.arc_slots.specs.Stands.{HasBlockPass, HasPassFor, LivesOn};
 ghost use Rattle.arc_slots.specs.Taking.{take_command};
 
-use crate::kinds::{Commands, TableCmd, TableReply, vec_of};
+use crate::kinds::{Commands, SmallOf, TableCmd, TableKind, TableReply, vec_of};
 use crate::list::set_slot;
 use crate::part::Part;
 use crate::passes::Passes;
@@ -32,6 +32,7 @@ fn freeze_at<S: Commands<A>, L: Layout, B: BufferMut<S::Item> + Drop, M: Drop, A
 ) -> TableReply<S, B, M, A>
 where
     L::Writable: LayoutMut,
+    S::Small: SmallOf<S, L, B, M, A>,
     requires { HasPassFor passes.old.of_blocks.items (stand_of place.old) }
     ensures { IfSome place.old (λ s. (next i : ℕ) → Answers (setting_of (layout_facts L.Layout)
         L.Writable.ANY L.clone_wants
@@ -54,6 +55,7 @@ fn mut_at<S: Commands<A>, L: Layout, B: BufferMut<S::Item> + Drop, M: Drop, A: A
 ) -> TableReply<S, B, M, A>
 where
     L::Writable: LayoutMut,
+    S::Small: SmallOf<S, L, B, M, A>,
     requires { HasPassFor passes.old.of_blocks.items (stand_of place.old) }
     ensures { IfSome place.old (λ s. (next i : ℕ) → Answers (setting_of (layout_facts L.Layout)
         L.Writable.ANY L.clone_wants
@@ -72,7 +74,7 @@ where
 /// The window ends, if there is one, whatever the table is run under. Takes no memory.
 #[tactic(auto, using(crate::proofs::Taken::has_both))]
 pub fn drop_at<
-    S: Slice,
+    S: TableKind,
     L: Layout,
     B: BufferMut<S::Item> + Drop,
     M: Drop,
@@ -81,6 +83,7 @@ pub fn drop_at<
 >(place: &mut Option<Slot<S, L, B, M, A>>, passes: &mut Passes<A>) -> Reply<G>
 where
     L::Writable: LayoutMut,
+    S::Small: SmallOf<S, L, B, M, A>,
     requires pass { HasBlockPass passes.old.of_blocks.items (stand_of place.old) }
     requires lives { LivesOn passes.old.of_blocks.items (stand_of place.old) }
     ensures dropped { IfSome place.old (λ s. (setting : Setting S.Item) (next i : ℕ)
@@ -107,6 +110,7 @@ fn take_at<S: Commands<A>, L: Layout, B: BufferMut<S::Item> + Drop, M: Drop, A: 
 ) -> TableReply<S, B, M, A>
 where
     L::Writable: LayoutMut,
+    S::Small: SmallOf<S, L, B, M, A>,
     requires { HasPassFor passes.old.of_blocks.items (stand_of place.old) }
     ensures { IfSome place.old (λ s. (next i : ℕ) → Answers (setting_of (layout_facts L.Layout)
         L.Writable.ANY L.clone_wants
@@ -130,6 +134,7 @@ fn static_at<S: Commands<A>, L: Layout, B: BufferMut<S::Item> + Drop, M: Drop, A
 ) -> TableReply<S, B, M, A>
 where
     L::Writable: LayoutMut,
+    S::Small: SmallOf<S, L, B, M, A>,
     ensures { IfSome place.old (λ s. (next i : ℕ) → Answers (setting_of (layout_facts L.Layout)
         L.Writable.ANY L.clone_wants
         S.DROPS S.boundary (type_size S.Item.row) S.Zero.zero S.Calls.calls) next
@@ -165,6 +170,7 @@ pub fn answer<
 ) -> (TableReply<S, B, M, A>, Option<Slot<S, L, B, M, A>>)
 where
     L::Writable: LayoutMut,
+    S::Small: SmallOf<S, L, B, M, A>,
     requires item { FitsInMemory S.Item.row }
     requires pass { HasPassFor passes.old.of_blocks.items (stand_of place.old) }
     ensures there { IfSome place.old (λ s. Answers (setting_of (layout_facts L.Layout)
@@ -212,6 +218,7 @@ where
         Cmd::TakeStatic { .. } => (static_at(place, passes), None),
         // These are on no window.
         Cmd::Slice(_) => (Reply::Kind, None),
+        Cmd::Small(_) => (Reply::Kind, None),
         Cmd::Vec(_) => (Reply::Kind, None),
         Cmd::Static(_) => (Reply::Kind, None),
         Cmd::Raw(_) => (Reply::Kind, None),

@@ -1,6 +1,6 @@
 //! What a table's commands may ask of a kind, beside what all its kinds have.
 ghost use Rattle.std.specs.Prelude.{◌≡◌, ◌≤◌, List, Option, Some, None, true, is_some, replicate};
-ghost use Rattle.std.specs.Prelude.{IfNone, IfOk, IfSome, OnErr};
+ghost use Rattle.std.specs.Prelude.{IfNone, IfOk, IfSome, OnErr, refl};
 ghost use Rattle.std.specs.Vec.{vec_items};
 ghost use Rattle.std.specs.String.{string_bytes};
 ghost use Rattle.std.specs.declared.vec.Vec.{Vec};
@@ -24,13 +24,20 @@ use arc_owners::mark::Whole;
 use arc_owners::owners::Pass;
 use arc_write::slice_mut::ArcSliceMut;
 pub use calls::{AllCalls, CallsOf, OwnedCalls, TextCalls};
+pub use smalls::{HasSmall, NoSmall, NoWindow, SmallKind, SmallOf, Smalls};
 use std::alloc::Allocator;
 use std::boxed::{BoxedSlice, BoxedStr};
 use std::sync::Arc;
 
+/// A kind of which a table may have windows, and whether it has small ones.
+pub trait TableKind: Subsliceable {
+    /// `HasSmall` where it has, else `NoSmall`.
+    type Small: Smalls;
+}
+
 /// The kinds as a table over A has them: what its commands bring, and which of the calls that not
 /// all kinds have each has.
-pub trait Commands<A: Allocator>: Emptyable + Subsliceable {
+pub trait Commands<A: Allocator>: Emptyable + TableKind {
     /// A list that a command brings, and a vector that is taken back: a `String` of `Text`, a `Vec`
     /// of the others.
     type Items: Wraps<Vec<Self::Item, A>> + Drop;
@@ -87,6 +94,9 @@ pub trait Commands<A: Allocator>: Emptyable + Subsliceable {
 
     /// That a list is legal is a fact: it says no more than that it holds.
     ghost legal_is_fact: { (xs : List Self.Item) → ∥ Self.is_legal xs ∥₁ → Self.is_legal xs };
+
+    /// Its calls say that it has small windows where it has.
+    ghost small_is: { Self.Calls.calls.small ≡ Self.Small.small };
 }
 
 /// What a table of windows of kind S is asked, with callers' buffers B, metadata M, and A for
@@ -152,11 +162,19 @@ pub(crate) fn known_legal<S: Commands<A>, A: Allocator>()
     ensures { (xs : List S.Item) → ∥ S.is_legal xs ∥₁ }
 {}
 
+/// A kind has small windows where its calls say so. Does nothing: its contract is the law.
+pub(crate) fn known_small<S: Commands<A>, A: Allocator>()
+    ensures { S.Calls.calls.small ≡ S.Small.small }
+{}
+
 /// Items of plain data that a table may have. A type whose items have no zero is one by
-/// `impl TableItem for Type { type Zero = NoZero; }`.
+/// `impl TableItem for Type { type Zero = NoZero; type Small = NoSmall; }`.
 pub trait TableItem: Copy + Drop {
     /// `HasZero` where the type has a zero, else `NoZero`.
     type Zero: ZeroOf<Plain<Self>>;
+
+    /// `HasSmall` of bytes, else `NoSmall`.
+    type Small: Smalls;
 }
 
 /// Whether a kind S has a zero, and windows over zeros.
@@ -240,6 +258,22 @@ where
     }
 }
 
+impl<T: TableItem> TableKind for Plain<T> {
+    type Small = T::Small;
+}
+
+impl TableKind for ByteText {
+    type Small = HasSmall;
+}
+
+impl TableKind for Text {
+    type Small = HasSmall;
+}
+
+impl<T: Drop> TableKind for Owned<T> {
+    type Small = NoSmall;
+}
+
 impl<T: TableItem, A: Allocator> Commands<A> for Plain<T> {
     type Items = Vec<T, A>;
 
@@ -249,7 +283,7 @@ impl<T: TableItem, A: Allocator> Commands<A> for Plain<T> {
 
     type Zero = T::Zero;
 
-    type Calls = AllCalls;
+    type Calls = AllCalls<T::Small>;
 
     ghost items_in = { vec_items };
 
@@ -274,6 +308,8 @@ impl<T: TableItem, A: Allocator> Commands<A> for Plain<T> {
     ghost any_is_legal = { λ _ _. tt };
 
     ghost legal_is_fact = { λ _ _. tt };
+
+    ghost small_is = { refl };
 }
 
 impl<A: Allocator> Commands<A> for ByteText {
@@ -285,7 +321,7 @@ impl<A: Allocator> Commands<A> for ByteText {
 
     type Zero = HasZero;
 
-    type Calls = AllCalls;
+    type Calls = AllCalls<HasSmall>;
 
     ghost items_in = { vec_items };
 
@@ -310,6 +346,8 @@ impl<A: Allocator> Commands<A> for ByteText {
     ghost any_is_legal = { λ _ _. tt };
 
     ghost legal_is_fact = { λ _ _. tt };
+
+    ghost small_is = { refl };
 }
 
 impl<A: Allocator> Commands<A> for Text {
@@ -346,6 +384,8 @@ impl<A: Allocator> Commands<A> for Text {
     ghost any_is_legal = { λ is _. absurd (false≢true is) };
 
     ghost legal_is_fact = { λ xs had. IsUtf8-had xs had };
+
+    ghost small_is = { refl };
 }
 
 impl<T: Drop, A: Allocator> Commands<A> for Owned<T> {
@@ -382,31 +422,46 @@ impl<T: Drop, A: Allocator> Commands<A> for Owned<T> {
     ghost any_is_legal = { λ _ _. tt };
 
     ghost legal_is_fact = { λ _ _. tt };
+
+    ghost small_is = { refl };
 }
 
 impl TableItem for () {
     type Zero = NoZero;
+
+    type Small = NoSmall;
 }
 
 impl TableItem for bool {
     type Zero = NoZero;
+
+    type Small = NoSmall;
 }
 
 impl TableItem for char {
     type Zero = NoZero;
+
+    type Small = NoSmall;
 }
 
 impl<'a, T> TableItem for &'a T {
     type Zero = NoZero;
+
+    type Small = NoSmall;
 }
 
 impl<T: TableItem, U: TableItem> TableItem for (T, U) {
     type Zero = NoZero;
+
+    type Small = NoSmall;
 }
 
 impl<T: TableItem, const N: usize> TableItem for [T; N] {
     type Zero = NoZero;
+
+    type Small = NoSmall;
 }
 
 mod calls;
 mod numbers;
+mod smalls;

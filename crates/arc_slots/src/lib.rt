@@ -10,3 +10,4 @@ pub mod part;
 pub mod passes;
 pub mod slot;
 pub mod take;
+pub mod window;

@@ -13,9 +13,10 @@ ghost use Rattle.arc_commands.specs.declared.command.Cmd.TheVariants as command;
 ghost use Rattle.arc_slots.specs.Makers.{Makes};
 ghost use Rattle.arc_slots.specs.Slots.{row_of, stand_of};
 
-use crate::kinds::{CallsOf, Commands, TableCmd, TableReply, ZeroOf, known_legal, vec_of};
+use crate::kinds::{CallsOf, Commands, SmallOf, TableCmd, TableReply, ZeroOf, known_legal, vec_of};
 use crate::passes::Passes;
-use crate::slot::{Held, Slot};
+use crate::slot::Slot;
+use crate::window::Held;
 use arc_block::layout::{Layout, LayoutMut, stands_on_nothing};
 use arc_block::parts::{Parts, SoleParts};
 use arc_buffer::buffer::{Buffer, BufferMut};
@@ -25,6 +26,7 @@ use arc_owners::mark::Whole;
 use arc_owners::owners::Pass;
 use arc_read::slice::ArcSlice;
 use arc_write::slice_mut::ArcSliceMut;
+use small::over_few;
 use std::alloc::Allocator;
 use std::sync::Arc;
 
@@ -37,6 +39,7 @@ fn writer<S: Commands<A>, L: Layout, B: BufferMut<S::Item> + Drop, M: Drop, A: A
 ) -> Slot<S, L, B, M, A>
 where
     L::Writable: LayoutMut,
+    S::Small: SmallOf<S, L, B, M, A>,
     requires idle { places ≡ 0 → window ≡ idle_writer }
     requires new { 1 ≤ places → IsNewWriter S.DROPS true window.items places window pass }
     requires room { 1 ≤ places
@@ -61,6 +64,7 @@ fn reader<S: Commands<A>, L: Layout, B: BufferMut<S::Item> + Drop, M: Drop, A: A
 ) -> Result<Slot<S, L, B, M, A>, AllocError>
 where
     L::Writable: LayoutMut,
+    S::Small: SmallOf<S, L, B, M, A>,
     requires call { S.Calls.calls.copies ≡ true }
     requires legal { ∥ S.is_legal items.now ∥₁ }
     requires room { length passes.old.of_blocks.items < vec_capacity passes.old.of_blocks }
@@ -101,6 +105,7 @@ fn over_copy<S: Commands<A>, L: Layout, B: BufferMut<S::Item> + Drop, M: Drop, A
 ) -> (TableReply<S, B, M, A>, Option<Slot<S, L, B, M, A>>)
 where
     L::Writable: LayoutMut,
+    S::Small: SmallOf<S, L, B, M, A>,
     ensures made { Makes (setting_of (layout_facts L.Layout) L.Writable.ANY L.clone_wants S.DROPS
         S.boundary
         (type_size S.Item.row) S.Zero.zero S.Calls.calls) next (command.Slice (S.items_in items))
@@ -132,6 +137,7 @@ fn vector<S: Commands<A>, L: Layout, B: BufferMut<S::Item> + Drop, M: Drop, A: A
 ) -> Result<Slot<S, L, B, M, A>, AllocError>
 where
     L::Writable: LayoutMut,
+    S::Small: SmallOf<S, L, B, M, A>,
     requires layout { L.ANY ≡ true }
     requires legal { ∥ S.is_legal items.items ∥₁ }
     requires room { length passes.old.of_blocks.items < vec_capacity passes.old.of_blocks }
@@ -168,6 +174,7 @@ fn over_vec<S: Commands<A>, L: Layout, B: BufferMut<S::Item> + Drop, M: Drop, A:
 ) -> (TableReply<S, B, M, A>, Option<Slot<S, L, B, M, A>>)
 where
     L::Writable: LayoutMut,
+    S::Small: SmallOf<S, L, B, M, A>,
     ensures made { Makes (setting_of (layout_facts L.Layout) L.Writable.ANY L.clone_wants S.DROPS
         S.boundary
         (type_size S.Item.row) S.Zero.zero S.Calls.calls) next (command.Vec (S.items_in items))
@@ -212,6 +219,7 @@ fn buffer_reader<
 ) -> Result<Slot<S, L, B, M, A>, AllocError>
 where
     L::Writable: LayoutMut,
+    S::Small: SmallOf<S, L, B, M, A>,
     requires layout { L.ANY ≡ true }
     requires call { S.Calls.calls.any_list ≡ true }
     requires room { length passes.old.of_blocks.items < vec_capacity passes.old.of_blocks }
@@ -250,6 +258,7 @@ fn over_buffer<
 ) -> (TableReply<S, B, M, A>, Option<Slot<S, L, B, M, A>>)
 where
     L::Writable: LayoutMut,
+    S::Small: SmallOf<S, L, B, M, A>,
     ensures made { Makes (setting_of (layout_facts L.Layout) L.Writable.ANY L.clone_wants S.DROPS
         S.boundary
         (type_size S.Item.row) S.Zero.zero S.Calls.calls) next (command.Buf (B.list given) metadata)
@@ -290,6 +299,7 @@ fn buffer_writer<
 ) -> Result<Slot<S, L, B, M, A>, AllocError>
 where
     L::Writable: LayoutMut,
+    S::Small: SmallOf<S, L, B, M, A>,
     requires layout { L.Writable.ANY ≡ true }
     requires call { S.Calls.calls.any_list ≡ true }
     requires room { length passes.old.of_blocks.items < vec_capacity passes.old.of_blocks }
@@ -328,6 +338,7 @@ fn over_written_buffer<
 ) -> (TableReply<S, B, M, A>, Option<Slot<S, L, B, M, A>>)
 where
     L::Writable: LayoutMut,
+    S::Small: SmallOf<S, L, B, M, A>,
     ensures made { Makes (setting_of (layout_facts L.Layout) L.Writable.ANY L.clone_wants S.DROPS
         S.boundary
         (type_size S.Item.row) S.Zero.zero S.Calls.calls) next
@@ -364,6 +375,7 @@ fn raw_reader<
 >(alloc: A, shared: Arc<B, A>, passes: &mut Passes<A>) -> Result<Slot<S, L, B, M, A>, AllocError>
 where
     L::Writable: LayoutMut,
+    S::Small: SmallOf<S, L, B, M, A>,
     requires layout { L.ANY ≡ true }
     requires call { S.Calls.calls.any_list ≡ true }
     requires room { length passes.old.of_blocks.items < vec_capacity passes.old.of_blocks }
@@ -399,6 +411,7 @@ fn over_raw<S: Commands<A>, L: Layout, B: BufferMut<S::Item> + Drop, M: Drop, A:
 ) -> (TableReply<S, B, M, A>, Option<Slot<S, L, B, M, A>>)
 where
     L::Writable: LayoutMut,
+    S::Small: SmallOf<S, L, B, M, A>,
     ensures made { Makes (setting_of (layout_facts L.Layout) L.Writable.ANY L.clone_wants S.DROPS
         S.boundary
         (type_size S.Item.row) S.Zero.zero S.Calls.calls) next (command.Raw (B.list given))
@@ -443,6 +456,7 @@ fn over_static<
 ) -> (TableReply<S, B, M, A>, Option<Slot<S, L, B, M, A>>)
 where
     L::Writable: LayoutMut,
+    S::Small: SmallOf<S, L, B, M, A>,
     ensures made { Makes (setting_of (layout_facts L.Layout) L.Writable.ANY L.clone_wants S.DROPS
         S.boundary
         (type_size S.Item.row) S.Zero.zero S.Calls.calls) next (command.Static (S.static_in items))
@@ -473,6 +487,7 @@ fn idle<S: Commands<A>, L: Layout, B: BufferMut<S::Item> + Drop, M: Drop, A: All
 ) -> (TableReply<S, B, M, A>, Option<Slot<S, L, B, M, A>>)
 where
     L::Writable: LayoutMut,
+    S::Small: SmallOf<S, L, B, M, A>,
     ensures made { Makes (setting_of (layout_facts L.Layout) L.Writable.ANY L.clone_wants S.DROPS
         S.boundary
         (type_size S.Item.row) S.Zero.zero S.Calls.calls) next command.New
@@ -507,6 +522,7 @@ fn with_places<
 ) -> (TableReply<S, B, M, A>, Option<Slot<S, L, B, M, A>>)
 where
     L::Writable: LayoutMut,
+    S::Small: SmallOf<S, L, B, M, A>,
     ensures made { Makes (setting_of (layout_facts L.Layout) L.Writable.ANY L.clone_wants S.DROPS
         S.boundary
         (type_size S.Item.row) S.Zero.zero S.Calls.calls) next (command.Cap places)
@@ -544,6 +560,7 @@ fn over_zeros<
 ) -> (TableReply<S, B, M, A>, Option<Slot<S, L, B, M, A>>)
 where
     L::Writable: LayoutMut,
+    S::Small: SmallOf<S, L, B, M, A>,
     ensures made { Makes (setting_of (layout_facts L.Layout) L.Writable.ANY L.clone_wants S.DROPS
         S.boundary
         (type_size S.Item.row) S.Zero.zero S.Calls.calls) next (command.Zero count)
@@ -587,6 +604,7 @@ fn over_written_copy<
 ) -> (TableReply<S, B, M, A>, Option<Slot<S, L, B, M, A>>)
 where
     L::Writable: LayoutMut,
+    S::Small: SmallOf<S, L, B, M, A>,
     ensures made { Makes (setting_of (layout_facts L.Layout) L.Writable.ANY L.clone_wants S.DROPS
         S.boundary
         (type_size S.Item.row) S.Zero.zero S.Calls.calls) next (command.MSlice (S.items_in items))
@@ -628,6 +646,7 @@ pub fn make<S: Commands<A>, L: Layout, B: BufferMut<S::Item> + Drop, M: Drop, A:
 ) -> (TableReply<S, B, M, A>, Option<Slot<S, L, B, M, A>>)
 where
     L::Writable: LayoutMut,
+    S::Small: SmallOf<S, L, B, M, A>,
     ensures made { Makes (setting_of (layout_facts L.Layout) L.Writable.ANY L.clone_wants S.DROPS
         S.boundary
         (type_size S.Item.row) S.Zero.zero S.Calls.calls) next
@@ -638,6 +657,7 @@ where
 {
     match command {
         Cmd::Slice(items) => over_copy(alloc, items, next, has_room, passes),
+        Cmd::Small(items) => over_few(alloc, items, next, has_room, passes),
         Cmd::Vec(items) => over_vec(alloc, items, next, has_room, passes),
         Cmd::Static(items) => over_static(alloc, items, next, has_room, passes),
         Cmd::Raw(given) => over_raw(alloc, given, next, has_room, passes),
@@ -677,3 +697,5 @@ where
         Cmd::TakeStatic { .. } => (Reply::Kind, None),
     }
 }
+
+mod small;

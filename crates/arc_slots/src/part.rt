@@ -1,11 +1,13 @@
 //! Windows that are made beside others.
-ghost use Rattle.std.specs.Prelude.{◌≡◌, IsOk};
+ghost use Rattle.std.specs.Prelude.{◌≡◌, Bool, true, IsOk};
 
+use crate::kinds::{SmallOf, TableKind};
 use crate::passes::Passes;
 use crate::slot::Slot;
+use crate::window::Held;
 use arc_block::layout::{Layout, LayoutMut};
 use arc_buffer::buffer::BufferMut;
-use arc_buffer::kinds::{Slice, Subsliceable};
+use arc_buffer::kinds::Slice;
 use arc_owners::error::{OwnerError, RangeError};
 use std::alloc::Allocator;
 use std::sync::Wait;
@@ -23,7 +25,7 @@ pub enum Part {
     Front(usize),
 }
 
-impl<S: Subsliceable, L: Layout, B: BufferMut<S::Item> + Drop, M: Drop, A: Allocator + Copy> Slot<
+impl<S: TableKind, L: Layout, B: BufferMut<S::Item> + Drop, M: Drop, A: Allocator + Copy> Slot<
     S,
     L,
     B,
@@ -32,22 +34,37 @@ impl<S: Subsliceable, L: Layout, B: BufferMut<S::Item> + Drop, M: Drop, A: Alloc
 >
 where
     L::Writable: LayoutMut,
+    S::Small: SmallOf<S, L, B, M, A>,
 {
-    ghost use Rattle.std.specs.Prelude.{false, true, None, Some, IfErr, IfOk};
+    ghost use Rattle.std.specs.Prelude.{false, None, Some, IfErr, IfOk};
     ghost use Rattle.arc_slots.specs.Calls.{RefusesAt};
-    ghost use Rattle.arc_slots.specs.Parts.{IsPart, is_itself, part_answer, rest_of, part_row};
+    ghost use Rattle.arc_slots.specs.Parts.{IsPart, is_itself, is_part_of, part_answer, part_row};
+    ghost use Rattle.arc_slots.specs.Parts.{rest_of};
     ghost use Rattle.arc_slots.specs.Slots.{row_of, stand_of};
-    ghost use Rattle.arc_block.specs.Table.{reader};
     ghost use Rattle.arc_slots.specs.Splits.{IsSplit};
     ghost use Rattle.arc_slots.specs.Stands.{HasPassFor};
 
-    /// Whether the window, which is one that is read, has such a part.
+    /// Whether such a part is handed out of a window of this role.
+    pub fn has_part(&self, part: Part) -> bool
+        ensures { result ≡ is_part_of self.now.role part }
+    {
+        match &self.window {
+            Held::Read(_) => true,
+            Held::Write(_) => false,
+            Held::Small(_) => match part {
+                Part::Whole | Part::Range { .. } => true,
+                Part::Back(_) | Part::Front(_) => false,
+            },
+        }
+    }
+
+    /// Whether the window, of whose role such a part is handed out, has it.
     ///
     /// # Errors
     ///
     /// Those of `check_range`, and of `check_at` for a back or a front.
     pub fn check_part(&self, part: Part) -> Result<(), RangeError>
-        requires { self.now.role ≡ reader }
+        requires { is_part_of self.now.role part ≡ true }
         ensures answer { result ≡ part_answer S.boundary self.now.window.items part }
         ensures ok { IsOk result → IsPart S.boundary self.now.window.items part }
     {
@@ -58,7 +75,7 @@ where
         }
     }
 
-    /// Hands out a part of the window, which is one that is read, as another one: by `try_clone`,
+    /// Hands out a part of the window, of whose role that is done, as another one: by `try_clone`,
     /// `try_subslice`, `try_split_off` or `try_split_to`. Refused, the window is as before.
     ///
     /// # Errors
@@ -78,7 +95,7 @@ where
         part: Part,
         passes: &mut Passes<A>,
     ) -> Result<Self, OwnerError>
-        requires reads { self.old.role ≡ reader }
+        requires role { is_part_of self.old.role part ≡ true }
         requires within { IsPart S.boundary self.old.window.items part }
         requires pass { HasPassFor passes.old.of_blocks.items (stand_of (Some self.old)) }
         ensures itself { IfOk result (λ handed. is_itself (row_of self.old) part ≡ true

@@ -3,21 +3,19 @@ ghost use Rattle.std.specs.Prelude.{◌≡◌, ◌==◌, ◌&&◌, if◌then◌e
 ghost use Rattle.arc_block.specs.LayoutFacts.{layout_facts};
 ghost use Rattle.std.specs.Prelude.{Err};
 ghost use Rattle.std.specs.Mem.{FitsInMemory, type_size};
-ghost use Rattle.arc_owners.specs.count.Calls.{Leaves};
-ghost use Rattle.arc_block.specs.Place.{at_owner};
 ghost use Rattle.arc_block.specs.Steps.{IsPassAt};
 ghost use Rattle.arc_block.specs.Writers.{room_for, MakesRoom, Pushes};
-ghost use Rattle.arc_slots.specs.Slots.{held};
 ghost use Rattle.arc_slots.specs.Writing.{IsLegal, can_write, seen_writing, items_of};
 ghost use Rattle.arc_slots.specs.Writing.{additional_of};
 
-use crate::kinds::{CallsOf, Commands};
+use crate::kinds::{CallsOf, Commands, SmallOf, TableKind};
 use crate::passes::Passes;
+use crate::window::{AnyWindow, Held, clone_window, cut_window, end_window};
 use arc_block::layout::{Layout, LayoutMut, stands_on_nothing};
 use arc_block::parts::Parts;
 use arc_block::static_slice::StaticSlice;
 use arc_buffer::buffer::BufferMut;
-use arc_buffer::kinds::{Slice, Subsliceable};
+use arc_buffer::kinds::Slice;
 use arc_owners::error::{OwnerError, RangeError, TryReserveError};
 use arc_owners::mark::Whole;
 use arc_owners::owners::Pass;
@@ -27,40 +25,33 @@ use std::alloc::Allocator;
 use std::marker::Model;
 use std::sync::Wait;
 
-/// A window that is read, or one that is written.
-pub enum Held<R, W> {
-    Read(R),
-    Write(W),
-}
-
 /// A window, and the number of the block that it stands on, if it stands on one. It can't be
 /// dropped: each ends by `release`, since a window that is dropped would stay an owner of its block
 /// for good.
-pub struct Slot<S: Slice, L: Layout, B: BufferMut<S::Item> + Drop, M: Drop, A: Allocator + Copy>
+pub struct Slot<S: TableKind, L: Layout, B: BufferMut<S::Item> + Drop, M: Drop, A: Allocator + Copy>
 where
     L::Writable: LayoutMut,
+    S::Small: SmallOf<S, L, B, M, A>,
 {
-    pub window: Held<
-        ArcSlice<S, L, B, M, A, Whole>,
-        ArcSliceMut<S, L::Writable, 1, B, M, A, Whole>,
-    >,
+    pub window: AnyWindow<S, L, L::Writable, B, M, A>,
     pub block: Option<usize>,
 }
 
-impl<S: Slice, L: Layout, B: BufferMut<S::Item> + Drop, M: Drop, A: Allocator + Copy> Model
+impl<S: TableKind, L: Layout, B: BufferMut<S::Item> + Drop, M: Drop, A: Allocator + Copy> Model
     for Slot<S, L, B, M, A>
 where
     L::Writable: LayoutMut,
+    S::Small: SmallOf<S, L, B, M, A>,
 {
     ghost use Rattle.std.specs.Prelude.{◌≡◌, true};
     ghost use Rattle.arc_slots.specs.Stands.{is_numbered};
-    ghost use Rattle.arc_slots.specs.Slots.{SlotView, held, role_fits};
+    ghost use Rattle.arc_slots.specs.Slots.{SlotView, held, role_fits, window_in};
 
     ghost Value = { SlotView S.Item M };
 
-    ghost view = { λ s. held s.window s.block };
+    ghost view = { λ s. held S.Small.seen s.window s.block };
 
-    ghost invariant = { λ s. (is_numbered s.block (held s.window s.block).window.place ≡ true)
+    ghost invariant = { λ s. (is_numbered s.block (window_in S.Small.seen s.window).place ≡ true)
         × (role_fits s.window ≡ true) };
 }
 
@@ -137,29 +128,7 @@ fn part_block<L: Layout>(block: Option<usize>, len: usize) -> Option<usize>
     block
 }
 
-/// Ends a window.
-fn end_window<
-    S: Slice,
-    L: Layout,
-    K: LayoutMut,
-    B: BufferMut<S::Item> + Drop,
-    M: Drop,
-    A: Allocator + Copy,
->(
-    window: Held<ArcSlice<S, L, B, M, A, Whole>, ArcSliceMut<S, K, 1, B, M, A, Whole>>,
-    pass: &mut Pass<Whole>,
-)
-    requires { IsPassAt (held window None).window.place pass.old }
-    ensures { at_owner (held window None).window.place (pass.new ≡ pass.old) (λ o. (last : Bool)
-        × Leaves o pass.old pass.new last) }
-{
-    match window {
-        Held::Read(window) => window.release_as(pass),
-        Held::Write(window) => window.release_as(pass),
-    }
-}
-
-impl<S: Slice, L: Layout, B: BufferMut<S::Item> + Drop, M: Drop, A: Allocator + Copy> Slot<
+impl<S: TableKind, L: Layout, B: BufferMut<S::Item> + Drop, M: Drop, A: Allocator + Copy> Slot<
     S,
     L,
     B,
@@ -168,6 +137,7 @@ impl<S: Slice, L: Layout, B: BufferMut<S::Item> + Drop, M: Drop, A: Allocator + 
 >
 where
     L::Writable: LayoutMut,
+    S::Small: SmallOf<S, L, B, M, A>,
 {
     ghost use Rattle.std.specs.Prelude.{◌≡◌, ◌<◌, ◌≤◌, ◌↔◌, length, Bool, false, None, Some};
     ghost use Rattle.std.specs.Prelude.{IfOk, IfErr, IsOk, take, drop, true, is_some, MatchOption};
@@ -181,12 +151,12 @@ where
     ghost use Rattle.arc_owners.specs.count.Calls.{Leaves};
     ghost use Rattle.arc_slots.specs.Stands.{HasPassFor, is_numbered};
     ghost use Rattle.arc_slots.specs.Calls.{Along, AsksPlace, Beside, MayAsk, RefusesAt};
-    ghost use Rattle.arc_commands.specs.Step.{cut_row, off_part, to_part};
+    ghost use Rattle.arc_commands.specs.Step.{cut_row, off_part, part_of, to_part};
     ghost use Rattle.arc_commands.specs.Step.{is_on_block, is_writable_at, may_write_at, truncated};
     ghost use Rattle.arc_block.specs.Moves.{IsRefused, layout_move};
     ghost use Rattle.arc_slots.specs.Splits.{IsSplit};
-    ghost use Rattle.arc_commands.specs.Blocks.{is_sole};
-    ghost use Rattle.arc_slots.specs.Slots.{row_of, stand_of};
+    ghost use Rattle.arc_commands.specs.Blocks.{is_reader, is_small, is_sole, is_writer};
+    ghost use Rattle.arc_slots.specs.Slots.{IsSlotRole, row_of, stand_of};
     ghost use Rattle.arc_slots.specs.Writing.{Fills, FreezesBy, is_fresh, is_new};
     ghost use Rattle.arc_block.specs.Writers.{Reclaims};
     ghost use Rattle.std.specs.Vec.{vec_capacity};
@@ -229,44 +199,73 @@ where
     /// Whether the window is one that is written.
     pub fn is_written(&self) -> bool
         ensures answer { result ≡ is_sole self.now.role }
-        ensures reads { result ≡ false → self.now.role ≡ reader }
+        ensures other { result ≡ false → is_writer self.now.role ≡ false }
     {
         match &self.window {
             Held::Read(_) => false,
             Held::Write(_) => true,
+            Held::Small(_) => false,
         }
     }
 
-    /// A window is read, or it is its block's only owner's, who writes. Does nothing: its contract
-    /// is the law.
+    /// Whether the window is one that is read, and no small one.
+    pub fn is_read(&self) -> bool
+        ensures answer { result ≡ is_reader self.now.role }
+        ensures reads { result ≡ true → self.now.role ≡ reader }
+    {
+        match &self.window {
+            Held::Read(_) => true,
+            Held::Write(_) => false,
+            Held::Small(_) => false,
+        }
+    }
+
+    /// Whether the window is a small one.
+    pub fn is_small(&self) -> bool
+        ensures { result ≡ is_small self.now.role }
+    {
+        match &self.window {
+            Held::Read(_) => false,
+            Held::Write(_) => false,
+            Held::Small(_) => true,
+        }
+    }
+
+    /// A window is read, or it is its block's only owner's, who writes, or a small one. Does
+    /// nothing: its contract is the law.
     pub fn known_role(&self)
-        ensures { is_sole self.now.role ≡ false → self.now.role ≡ reader }
+        ensures { IsSlotRole self.now.role }
     {
         match &self.window {
             Held::Read(_) => (),
             Held::Write(_) => (),
+            Held::Small(_) => (),
         }
     }
 
     /// How many places the window has, if it is one that is written.
     pub fn capacity(&self) -> Option<usize>
-        ensures { MatchOption result (self.now.role ≡ reader) (λ places.
+        ensures { MatchOption result (is_writer self.now.role ≡ false) (λ places.
             (is_sole self.now.role ≡ true) × (places ≡ capacity_of self.now.role)) }
     {
         match &self.window {
             Held::Read(_) => None,
             Held::Write(window) => Some(window.capacity()),
+            Held::Small(_) => None,
         }
     }
 
-    /// The metadata of the window's block, if that was made with some.
+    /// The metadata of the block on which the window, which is no small one, stands, if that was
+    /// made with some.
     pub fn metadata(&self) -> Option<&M>
+        requires { is_small self.now.role ≡ false }
         ensures some { IfSome result (λ m. metadata_at self.now.window.place ≡ Some m.now) }
         ensures none { result ≡ None → metadata_at self.now.window.place ≡ None }
     {
         match &self.window {
             Held::Read(window) => window.metadata(),
             Held::Write(window) => window.metadata(),
+            Held::Small(_) => unreachable!(),
         }
     }
 
@@ -277,21 +276,21 @@ where
         match &self.window {
             Held::Read(window) => window.as_slice(),
             Held::Write(window) => window.as_slice(),
+            Held::Small(window) => S::Small::as_slice(window),
         }
     }
 
-    /// Whether `start` to `end` is a range of the window, which is one that is read.
+    /// Whether `start` to `end` is a range of the window, which isn't one that is written.
     pub fn check_range(&self, start: usize, end: usize) -> Result<(), RangeError>
-    where
-        S: Subsliceable,
-        requires { self.now.role ≡ reader }
+        requires { is_sole self.now.role ≡ false }
         ensures answer { result ≡ range_answer S.boundary self.now.window.items start end }
         ensures ok { IsOk result ↔ IsRange S.boundary self.now.window.items start end }
     {
-        let Held::Read(window) = &self.window else {
-            unreachable!()
-        };
-        window.check_range(start, end)
+        match &self.window {
+            Held::Read(window) => window.check_range(start, end),
+            Held::Small(window) => S::Small::check_range(window, start, end),
+            Held::Write(_) => unreachable!(),
+        }
     }
 
     /// How many items the window has.
@@ -301,26 +300,24 @@ where
         match &self.window {
             Held::Read(window) => window.len(),
             Held::Write(window) => window.len(),
+            Held::Small(window) => S::Small::as_slice(window).len(),
         }
     }
 
     /// Whether the window may be cut at `at`.
     pub fn check_at(&self, at: usize) -> Result<(), RangeError>
-    where
-        S: Subsliceable,
         ensures answer { result ≡ edge_answer S.boundary self.now.window.items at }
         ensures ok { IsOk result ↔ IsEdge S.boundary self.now.window.items at }
     {
         match &self.window {
             Held::Read(window) => window.check_at(at),
             Held::Write(window) => window.check_at(at),
+            Held::Small(window) => S::Small::check_at(window, at),
         }
     }
 
     /// Takes the first `by` items off the window, which stays on its block.
     pub fn advance(&mut self, by: usize)
-    where
-        S: Subsliceable,
         requires { IsEdge S.boundary self.old.window.items by }
         ensures row { row_of self.new ≡ after_advance by (row_of self.old) }
         ensures stand { stand_of (Some self.new) ≡ stand_of (Some self.old) }
@@ -328,13 +325,13 @@ where
         match &mut self.window {
             Held::Read(window) => window.advance(by),
             Held::Write(window) => window.advance(by),
+            Held::Small(window) => S::Small::advance(window, by),
         }
     }
 
-    /// Leaves the window's first `len` items. It stays on its block.
+    /// Leaves the first `len` items of the window, which is no small one. It stays on its block.
     pub fn truncate(&mut self, len: usize)
-    where
-        S: Subsliceable,
+        requires large { is_small self.old.role ≡ false }
         requires at { IsEdge S.boundary self.old.window.items len }
         requires shorter { len < length self.old.window.items }
         ensures row { row_of self.new ≡ truncated S.DROPS (row_of self.old) len }
@@ -343,6 +340,7 @@ where
         match &mut self.window {
             Held::Read(window) => window.truncate(len),
             Held::Write(window) => window.truncate(len),
+            Held::Small(_) => unreachable!(),
         }
     }
 
@@ -361,7 +359,7 @@ where
     ///
     /// On a block Up, or Full where refused.
     pub fn try_clone(&self, rt: &impl Wait, passes: &mut Passes<A>) -> Result<Self, OwnerError>
-        requires reads { self.now.role ≡ reader }
+        requires cuts { is_sole self.now.role ≡ false }
         requires pass { HasPassFor passes.old.of_blocks.items (stand_of (Some self.now)) }
         ensures row { IfOk result (λ slot. row_of slot ≡ row_of self.now) }
         ensures stand { IfOk result (λ slot.
@@ -370,15 +368,12 @@ where
         ensures refused { IfErr result (RefusesAt L.clone_wants (row_of self.now).place
             (stand_of (Some self.now)) passes.old.of_blocks.items passes.new.of_blocks.items) }
     {
-        let Held::Read(window) = &self.window else {
-            unreachable!()
-        };
         let mut pass = passes.lend(self.block);
-        let made = window.try_clone_as(rt, &mut pass);
+        let made = clone_window(&self.window, rt, &mut pass);
         passes.give_back(self.block, pass);
         match made {
             Ok(window) => Ok(Slot {
-                window: Held::Read(window),
+                window,
                 block: self.block,
             }),
             Err(e) => Err(e),
@@ -406,18 +401,11 @@ where
         end: usize,
         passes: &mut Passes<A>,
     ) -> Result<Self, OwnerError>
-    where
-        S: Subsliceable,
         requires range { IsRange S.boundary self.now.window.items start end }
-        requires reads { self.now.role ≡ reader }
+        requires cuts { is_sole self.now.role ≡ false }
         requires pass { HasPassFor passes.old.of_blocks.items (stand_of (Some self.now)) }
         ensures row { IfOk result (λ slot.
-            row_of slot ≡ record {
-              items = sub self.now.window.items start end;
-              place = part_place L.STATIC (sub self.now.window.items start end) start
-                  (row_of self.now).place;
-              role = reader;
-            }) }
+            row_of slot ≡ part_of L.STATIC (row_of self.now) start end) }
         ensures stand { IfOk result (λ slot.
             Beside (stand_of (Some self.now)) passes.old.of_blocks.items
             passes.new.of_blocks.items (stand_of (Some slot))) }
@@ -426,15 +414,12 @@ where
             (row_of self.now).place) (stand_of (Some self.now)) passes.old.of_blocks.items
             passes.new.of_blocks.items) }
     {
-        let Held::Read(window) = &self.window else {
-            unreachable!()
-        };
         let mut pass = passes.lend(self.block);
-        let made = window.try_subslice_as(rt, start, end, &mut pass);
+        let made = cut_window(&self.window, rt, start, end, &mut pass);
         passes.give_back(self.block, pass);
         match made {
             Ok(window) => Ok(Slot {
-                window: Held::Read(window),
+                window,
                 block: part_block::<L>(self.block, end - start),
             }),
             Err(e) => Err(e),
@@ -462,8 +447,6 @@ where
         at: usize,
         passes: &mut Passes<A>,
     ) -> Result<Self, OwnerError>
-    where
-        S: Subsliceable,
         requires reads { self.old.role ≡ reader }
         requires at { IsEdge S.boundary self.old.window.items at }
         requires pass { HasPassFor passes.old.of_blocks.items (stand_of (Some self.old)) }
@@ -520,8 +503,6 @@ where
         at: usize,
         passes: &mut Passes<A>,
     ) -> Result<Self, OwnerError>
-    where
-        S: Subsliceable,
         requires reads { self.old.role ≡ reader }
         requires at { IsEdge S.boundary self.old.window.items at }
         requires pass { HasPassFor passes.old.of_blocks.items (stand_of (Some self.old)) }

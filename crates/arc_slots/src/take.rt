@@ -9,9 +9,10 @@ ghost use Rattle.arc_block.specs.Table.{reader};
 ghost use Rattle.arc_commands.specs.Seen.{seen_reply};
 ghost use Rattle.arc_slots.specs.Taking.{CanHave, is_writers, take_reply};
 
-use crate::kinds::{Commands, TableReply, box_of, items_of};
+use crate::kinds::{Commands, SmallOf, TableKind, TableReply, box_of, items_of};
 use crate::passes::Passes;
-use crate::slot::{Held, Slot};
+use crate::slot::Slot;
+use crate::window::Held;
 use arc_block::layout::{Layout, LayoutMut};
 use arc_block::parts::{Parts, SoleParts};
 use arc_block::static_slice::StaticSlice;
@@ -134,7 +135,7 @@ fn try_sole_into_reply<S: Commands<A>, B: BufferMut<S::Item> + Drop, M: Drop, A:
     }
 }
 
-impl<S: Slice, L: Layout, B: BufferMut<S::Item> + Drop, M: Drop, A: Allocator + Copy> Slot<
+impl<S: TableKind, L: Layout, B: BufferMut<S::Item> + Drop, M: Drop, A: Allocator + Copy> Slot<
     S,
     L,
     B,
@@ -143,6 +144,7 @@ impl<S: Slice, L: Layout, B: BufferMut<S::Item> + Drop, M: Drop, A: Allocator + 
 >
 where
     L::Writable: LayoutMut,
+    S::Small: SmallOf<S, L, B, M, A>,
 {
     ghost use Rattle.std.specs.Prelude.{false, Some, length};
     ghost use Rattle.arc_commands.specs.Blocks.{is_sole};
@@ -276,6 +278,7 @@ impl<S: Commands<A>, L: Layout, B: BufferMut<S::Item> + Drop, M: Drop, A: Alloca
 >
 where
     L::Writable: LayoutMut,
+    S::Small: SmallOf<S, L, B, M, A>,
 {
     ghost use Rattle.std.specs.Prelude.{ℕ, None, Some};
     ghost use Rattle.arc_commands.specs.Step.{setting_of};
@@ -295,7 +298,7 @@ where
             result.1 None passes.now.of_blocks.items }
     {
         let _ = passes;
-        if self.is_written() {
+        if !self.is_read() {
             return (Reply::Kind, Some(self));
         }
         match self.try_into_static() {
@@ -319,11 +322,14 @@ where
             (seen_reply S.items_in S.items_in_box B.list result.0)
             result.1 None passes.new.of_blocks.items }
     {
-        if !self.is_written() {
+        if self.is_read() {
             return match self.try_take(what, passes) {
                 Ok(reply) => (reply, None),
                 Err(slot) => (Reply::Refused, Some(slot)),
             };
+        }
+        if !self.is_written() {
+            return (Reply::Kind, Some(self));
         }
         if !what.for_writers() {
             return (Reply::Kind, Some(self));

@@ -14,23 +14,23 @@ use Rattle.arc_owners.specs.declared.count.tokens.Pass.{Pass}
 use Rattle.arc_block.specs.declared.block.TheConstants.{MAX_OWNERS}
 use Rattle.arc_block.specs.Owned.{Stand, IsKept}
 use Rattle.arc_block.specs.Place.{Place, nowhere, static_data, on_block}
-use Rattle.arc_block.specs.Table.{Row, Table, block_of, is_alone, owners, reader, row_at}
-use Rattle.arc_commands.specs.Blocks.{is_sole}
+use Rattle.arc_block.specs.Table.{Row, Table, block_of, is_alone, owners, row_at}
 use Rattle.arc_commands.specs.Additions.{AddsBy, Founds, MakerAdds, RowAdds, stand_in}
 use Rattle.arc_commands.specs.Additions.{with_stand}
 use Rattle.arc_commands.specs.State.{State}
 use Rattle.arc_commands.specs.Step.{Setting, Around, around_of, answer_any, answer_by}
-use Rattle.arc_commands.specs.Step.{changed, count_brought, founded, is_full, no_shortage, of_table, row_by}
+use Rattle.arc_commands.specs.Step.{changed, count_brought, founded, is_allowed, is_full, no_shortage, of_table, row_by}
 use Rattle.arc_commands.specs.Step.{shortage, static_row, window_of, with_block, with_row}
 use Rattle.arc_commands.specs.Commands.{ListCmd, ListReply}
 use Rattle.arc_commands.specs.declared.command.Cmd.TheVariants as command
 use Rattle.arc_commands.specs.declared.command.Reply.TheVariants as reply
 use Rattle.arc_slots.specs.Answers.{Answers, around_in, live_on}
 use Rattle.arc_slots.specs.Makers.{Makes}
-use Rattle.arc_slots.specs.Slots.{SlotView, row_of, stand_of, stands_of, state_of, with_slot}
+use Rattle.arc_slots.specs.Slots.{IsSlotRole, SlotView, row_of, stand_of, stands_of, state_of}
+use Rattle.arc_slots.specs.Slots.{with_slot}
 use Rattle.arc_slots.proofs.Keeps.{founded-kept, known-pass, many-live, row-kept}
 use Rattle.arc_slots.specs.Stands.{HasPassFor}
-use Rattle.arc_slots.proofs.Answered.{for-each, not-for, reads-for, same, shown, writes-for}
+use Rattle.arc_slots.proofs.Answered.{for-each, not-for, same, shown, slot_each}
 use Rattle.arc_slots.proofs.Taken.{set-back}
 use Rattle.arc_slots.proofs.Told.{none-stands, row-block, stand_block}
 use Rattle.arc_table.proofs.Done.{Done, Fact, done}
@@ -395,18 +395,18 @@ module _ {T M : Type 0} (setting : Setting T) (slots : List (Option (SlotView T 
 
   -- a window that is shown stays
   pub shown-there : (i : ℕ) (s : SlotView T M) → slice_get slots i ≡ Some (Some s)
-      → (is_sole s.role ≡ false → s.role ≡ reader) → setting.calls.copies ≡ true
+      → IsSlotRole s.role → setting.calls.copies ≡ true
       → Done setting old (command.Show i) (reply.Items s.window.items) slots passes
   shown-there i s there role copies =
       subst (λ ss. Done setting old (command.Show i) (reply.Items s.window.items) ss passes)
       (set-back slots i (Some s) there)
       (answered i s there (command.Show i) refl (reply.Items s.window.items) (Some s) None passes
       (shown setting (length slots) s passes i
-      (for-each setting (length slots) s passes role (command.Show i) copies (λ n. copies))))
+      (for-each setting (length slots) s passes role (command.Show i) copies (λ n. copies) copies)))
 
   -- and so does one of a kind without copies
   pub unshown-there : (i : ℕ) (s : SlotView T M) → slice_get slots i ≡ Some (Some s)
-      → (is_sole s.role ≡ false → s.role ≡ reader) → setting.calls.copies ≡ false
+      → IsSlotRole s.role → setting.calls.copies ≡ false
       → Done setting old (command.Show i) reply.Kind slots passes
   unshown-there i s there role none =
       subst (λ ss. Done setting old (command.Show i) reply.Kind ss passes)
@@ -414,12 +414,8 @@ module _ {T M : Type 0} (setting : Setting T) (slots : List (Option (SlotView T 
       (answered i s there (command.Show i) refl reply.Kind (Some s) None passes
       (same setting (length slots) s passes (command.Show i) reply.Kind
       (not-for setting (length slots) s passes no_shortage (command.Show i)
-      (elim (cases_Bool (is_sole s.role)) [
-        | inl sole ↦
-            writes-for setting (length slots) s passes sole (command.Show i) false (λ n. none)
-        | inr other ↦
-            reads-for setting (length slots) s passes (role other) (command.Show i) false none
-      ])) (refl, refl, refl)))
+      (slot_each (λ r. is_allowed {T = T} {M = M} setting.calls (command.Show i) r ≡ false) none (λ n. none)
+      none s.role role)) (refl, refl, refl)))
 
 -- what is the same is seen as the same
 pub seen-so : {S X Y : Type 0} (f : X → Y) (x y : X) (place : Option S)

@@ -7,7 +7,7 @@ use arc_buffer::buffer::BufferMut;
 use arc_buffer::kinds::Slice;
 use arc_commands::command::Reply;
 use arc_slots::command::{answer, drop_at};
-use arc_slots::kinds::{CallsOf, Commands, LentReply, TableCmd, TableReply};
+use arc_slots::kinds::{CallsOf, Commands, LentReply, SmallOf, TableCmd, TableKind, TableReply};
 use arc_slots::list::{Slots, end_slots};
 use arc_slots::maker::make;
 use arc_slots::passes::Passes;
@@ -23,7 +23,7 @@ use std::sync::Wait;
 /// being alone is what the table says. It can't be dropped: it ends by `end`, which releases every
 /// window that is left.
 pub struct Table<
-    S: Slice,
+    S: TableKind,
     L: Layout = DefaultLayout,
     B: BufferMut<<S as Slice>::Item> + Drop = Vec<<S as Slice>::Item>,
     M: Copy + Drop = (),
@@ -31,16 +31,23 @@ pub struct Table<
 >
 where
     L::Writable: LayoutMut,
+    S::Small: SmallOf<S, L, B, M, A>,
 {
     slots: Slots<Slot<S, L, B, M, A>, A>,
     passes: Passes<A>,
     alloc: A,
 }
 
-impl<S: Slice, L: Layout, B: BufferMut<S::Item> + Drop, M: Copy + Drop, A: Allocator + Copy> Model
-    for Table<S, L, B, M, A>
+impl<
+    S: TableKind,
+    L: Layout,
+    B: BufferMut<S::Item> + Drop,
+    M: Copy + Drop,
+    A: Allocator + Copy,
+> Model for Table<S, L, B, M, A>
 where
     L::Writable: LayoutMut,
+    S::Small: SmallOf<S, L, B, M, A>,
 {
     ghost use Rattle.arc_block.specs.declared.block.TheConstants.{MAX_OWNERS};
     ghost use Rattle.arc_block.specs.Owned.{IsKept};
@@ -71,6 +78,7 @@ impl<
 > Table<S, L, B, M, A>
 where
     L::Writable: LayoutMut,
+    S::Small: SmallOf<S, L, B, M, A>,
 {
     ghost use Rattle.std.specs.Prelude.{◌≡◌, [], None, Some, length, slice_set};
     ghost use Rattle.arc_block.specs.declared.block.TheConstants.{MAX_OWNERS};

@@ -274,7 +274,7 @@ fn memory_refused(rt: HostRuntime) -> Result<(), Fail> {
         let mut back = 0u32;
         let mut short = 0u32;
         let mut whole = 0u32;
-        for units in 1..128usize {
+        for units in 1..256usize {
             let heap = LocalHeap::new(rt.alloc(), units * 16)?;
             let ran = in_little(&rt, &heap, need);
             assert!(rt;

@@ -83,6 +83,7 @@ fn owned(rt: HostRuntime) -> Result<(), Fail> {
     let lacking = [
         told(table.step(&rt, Cmd::Slice(Vec::new(rt.alloc())))),
         told(table.step(&rt, Cmd::MSlice(Vec::new(rt.alloc())))),
+        told(table.step(&rt, Cmd::Small(Vec::new(rt.alloc())))),
         told(table.step(&rt, Cmd::Zero { count: 1 })),
     ];
     let made = told(table.step(&rt, Cmd::New));
@@ -123,7 +124,7 @@ fn owned(rt: HostRuntime) -> Result<(), Fail> {
     let alone = told(table.step(&rt, Cmd::Uniq { window: 1 }));
     let dropped = told(table.step(&rt, Cmd::Drop { window: 0 }));
     let _ = table.end();
-    assert!(rt; lacking == [Said::Kind, Said::Kind, Said::Kind]);
+    assert!(rt; lacking == [Said::Kind; 4]);
     assert!(rt; made == Said::New(0));
     assert!(rt; written == [Said::Ok, Said::Ok]);
     assert!(rt; [extended, shown] == [Said::Kind, Said::Kind]);

@@ -10,6 +10,8 @@ mod commands;
 mod kinds;
 #[cfg(test)]
 mod needs;
+#[cfg(test)]
+mod small;
 pub mod tables;
 #[cfg(test)]
 mod vectors;

@@ -25,13 +25,15 @@ enum Need {
     Zeros,
     /// A window over a vector of 4 items; how many it has.
     Vector,
+    /// A small window over 40 items; how many it has.
+    Small,
 }
 
 const SHORT: Said = Said::Reserve(TryReserveError::AllocError);
 
 /// Each need, with the answers where its window couldn't be made, where what is asked is refused,
 /// and where it is done.
-const NEEDS: [(Need, [[Said; 2]; 3]); 6] = [
+const NEEDS: [(Need, [[Said; 2]; 3]); 7] = [
     (
         Need::Freeze,
         [
@@ -78,6 +80,14 @@ const NEEDS: [(Need, [[Said; 2]; 3]); 6] = [
             [Said::NoWindow, Said::NoWindow],
             [Said::Alloc, Said::NoWindow],
             [Said::New(0), Said::Number(4)],
+        ],
+    ),
+    (
+        Need::Small,
+        [
+            [Said::NoWindow, Said::NoWindow],
+            [Said::Alloc, Said::NoWindow],
+            [Said::New(0), Said::Number(40)],
         ],
     ),
 ];
@@ -148,6 +158,17 @@ fn over_vector<A: Allocator + Copy>(rt: &impl Wait, alloc: A) -> [Said; 2] {
     [made, many]
 }
 
+fn shared<A: Allocator + Copy>(rt: &impl Wait, alloc: A) -> [Said; 2] {
+    let Ok(items) = Vec::from_slice(alloc, &[7u8; 40]) else {
+        return [Said::NoWindow; 2];
+    };
+    let mut table: ByteTable<A> = Table::new(alloc);
+    let made = told(table.step(rt, Cmd::Small(items)));
+    let many = told(table.step(rt, Cmd::Len { window: 0 }));
+    let _ = table.end();
+    [made, many]
+}
+
 /// The reply, and what the table then says of its window.
 fn answers<A: Allocator + Copy>(rt: &impl Wait, alloc: A, need: Need) -> [Said; 2] {
     match need {
@@ -157,6 +178,7 @@ fn answers<A: Allocator + Copy>(rt: &impl Wait, alloc: A, need: Need) -> [Said; 
         Need::Writer => written(rt, alloc),
         Need::Zeros => zeroed(rt, alloc),
         Need::Vector => over_vector(rt, alloc),
+        Need::Small => shared(rt, alloc),
     }
 }
 

@@ -3,7 +3,7 @@ use crate::tables::{Said, told};
 use arc_block::layout::DefaultLayout;
 use arc_buffer::kinds::{ByteText, Plain};
 use arc_table::command::{Cmd, Reply};
-use arc_table::kinds::{NoZero, TableItem};
+use arc_table::kinds::{NoSmall, NoZero, TableItem};
 use arc_table::table::Table;
 use std::test::Fail;
 
@@ -16,6 +16,8 @@ enum Color {
 
 impl TableItem for Color {
     type Zero = NoZero;
+
+    type Small = NoSmall;
 }
 
 /// Byte text has a zero, and so have numbers with a sign.

@@ -1,7 +1,12 @@
-//! Read windows that become those of another layout, and an `Arc` that is a block by itself.
-use arc_block::layout::{AnyBufferLayout, ArcLayout, DefaultLayout, Layout, RawLayout};
+//! Windows that become those of another layout, a vector's owners under one without static data,
+//! and an `Arc` that is a block by itself.
+use arc_block::layout::{
+    AnyBufferLayout, ArcLayout, DefaultLayout, DefaultLayoutMut, Layout, LayoutMut, RawLayout,
+    VecLayout,
+};
 use arc_buffer::kinds::{Owned, Plain};
 use arc_read::slice::ArcSlice;
+use arc_write::slice_mut::ArcBytesMut;
 use linked_list_allocator::LocalHeap;
 use std::alloc::{Allocator, Global};
 use std::sync::{Arc, Wait};
@@ -257,5 +262,95 @@ fn held_or_handed_back(rt: HostRuntime) -> Result<(), Fail> {
     assert!(rt; moves(rt.alloc()) == Some(wanted));
     assert!(rt; none_moved(rt.alloc()) == Some([false, true, true]));
     assert!(rt; items_dropped(&rt, rt.alloc()) == Some(((2, 1), 1)));
+    Ok(())
+}
+
+/// Whether the front of a vector's window that is split at 0 has no items, and whether the window,
+/// which has all of them and doesn't give its vector beside that, gives it afterwards.
+fn given_after_none(rt: &impl Wait, window: Bytes<Any>) -> Option<[bool; 3]> {
+    let mut window = window;
+    if window.check_at(0).is_err() {
+        return None;
+    }
+    let none = window.try_split_to(rt, 0).ok()?;
+    let window = window.try_into_vec().err()?;
+    let is_none = none.is_empty();
+    drop(none);
+    let is_kept = window.as_slice() == [0u8, 1, 2, 3].as_slice();
+    let items = window.try_into_vec().ok()?;
+    let is_given = items.as_slice() == [0u8, 1, 2, 3].as_slice();
+    Some([is_none, is_kept, is_given])
+}
+
+/// What is told of a window over four bytes.
+fn none_beside_a_vector(rt: &impl Wait, alloc: Global) -> Option<[bool; 3]> {
+    let items = Vec::from_slice(alloc, &[0, 1, 2, 3]).ok()?;
+    given_after_none(rt, Bytes::try_from_vec(alloc, items).ok()?)
+}
+
+/// Where there is no static data a part without items is an owner of its block.
+#[test]
+fn none_is_an_owner(rt: HostRuntime) -> Result<(), Fail> {
+    assert!(rt; none_beside_a_vector(&rt, rt.alloc()) == Some([true; 3]));
+    Ok(())
+}
+
+/// Windows that write bytes, beside buffers with a number as metadata.
+type Writer<L> = ArcBytesMut<L, Vec<u8>, u32>;
+
+/// Three bytes with five places to spare.
+fn spacious(alloc: Global) -> Option<Vec<u8>> {
+    let mut bytes = Vec::with_capacity(alloc, 8).ok()?;
+    bytes.extend_from_slice(&[1, 2, 3]).ok()?;
+    Some(bytes)
+}
+
+/// Whether a writer goes to the layout, or comes back, whether it has the three bytes then, its
+/// places, and its metadata.
+fn writer_gone<L: LayoutMut, K: LayoutMut>(window: Writer<L>) -> (bool, bool, usize, Option<u32>) {
+    match window.try_with_layout::<K>() {
+        Ok(moved) => (
+            true,
+            moved.eq_slice(&[1, 2, 3]),
+            moved.capacity(),
+            moved.metadata().copied(),
+        ),
+        Err(window) => (
+            false,
+            window.eq_slice(&[1, 2, 3]),
+            window.capacity(),
+            window.metadata().copied(),
+        ),
+    }
+}
+
+/// A writer over a buffer of three bytes, with metadata.
+fn buffer_written(alloc: Global) -> Option<Writer<DefaultLayoutMut>> {
+    Writer::try_from_buffer_with_metadata(alloc, spacious(alloc)?, 7).ok()
+}
+
+/// What is told of moves of a buffer, a vector and a native block.
+fn writers_moved(alloc: Global) -> Option<[(bool, bool, usize, Option<u32>); 4]> {
+    Some([
+        writer_gone::<_, VecLayout>(buffer_written(alloc)?),
+        writer_gone::<_, Static>(buffer_written(alloc)?),
+        writer_gone::<_, Static>(Writer::<DefaultLayoutMut>::try_from_vec(
+            alloc,
+            spacious(alloc)?,
+        ).ok()?),
+        writer_gone::<_, Static>(Writer::<VecLayout>::try_from_slice(alloc, &[1, 2, 3]).ok()?),
+    ])
+}
+
+/// A writer goes where its block is held, with its places and metadata, and else comes back.
+#[test]
+fn writers_held_or_handed_back(rt: HostRuntime) -> Result<(), Fail> {
+    let wanted = [
+        (true, true, 8, Some(7)),
+        (false, true, 8, Some(7)),
+        (false, true, 8, None),
+        (true, true, 3, None),
+    ];
+    assert!(rt; writers_moved(rt.alloc()) == Some(wanted));
     Ok(())
 }

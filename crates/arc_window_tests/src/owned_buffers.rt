@@ -6,9 +6,12 @@ ghost use Rattle.std.proofs.lemmas.List.{with_items_is};
 ghost use Rattle.arc_buffer.specs.Buffers.{vec_written};
 
 use crate::living::{Values, first_three, last_two, living, values};
-use arc_block::layout::{DefaultLayout, DefaultLayoutMut};
+use arc_block::layout::{
+    AnyBufferLayout, ArcLayout, BoxedSliceLayout, DefaultLayout, DefaultLayoutMut, RawLayout,
+    VecLayout,
+};
 use arc_buffer::buffer::{AsMutBuffer, BufferMut, Lend, LendMut};
-use arc_buffer::kinds::Owned;
+use arc_buffer::kinds::{Owned, Plain};
 use arc_owners::mark::{Open, Whole};
 use arc_owners::owners::Pass;
 use arc_read::slice::ArcSlice;
@@ -226,5 +229,59 @@ fn dropped_once_or_kept(rt: HostRuntime) -> Result<(), Fail> {
     let heap = LocalHeap::new(rt.alloc(), 16)?;
     let found = refused(rt.alloc(), &heap);
     assert!(rt; found == Some(([[2; 5]; 2], [1; 5])));
+    Ok(())
+}
+
+/// Bytes in a buffer, with a value as metadata.
+type Named<L> = ArcSlice<Plain<u8>, L, Vec<u8>, Arc<u8>>;
+
+/// The value that metadata is.
+fn value_of(metadata: Option<&Arc<u8>>) -> Option<u8> {
+    match metadata {
+        Some(value) => Some(**value),
+        None => None,
+    }
+}
+
+/// The metadata of a window and of its clone; how many owners of it there are beside both, beside
+/// the clone alone, and beside neither.
+fn of_both<L: AnyBufferLayout>(
+    rt: &impl Wait,
+    window: Named<L>,
+    metadata: &Arc<u8>,
+) -> Option<([Option<u8>; 2], [usize; 3])> {
+    let clone = window.try_clone(rt).ok()?;
+    let told = [value_of(window.metadata()), value_of(clone.metadata())];
+    let both = Arc::strong_count(metadata);
+    drop(window);
+    let one = Arc::strong_count(metadata);
+    drop(clone);
+    Some((told, [both, one, Arc::strong_count(metadata)]))
+}
+
+/// What is told of a buffer of a byte under a layout.
+fn metadata_under<L: AnyBufferLayout>(
+    rt: &impl Wait,
+    alloc: Global,
+) -> Option<([Option<u8>; 2], [usize; 3])> {
+    let metadata = Arc::new(alloc, 7u8).ok()?;
+    let buffer = Vec::from_slice(alloc, &[42]).ok()?;
+    let other = Arc::try_clone(&metadata).ok()?;
+    let window = Named::<L>::try_from_buffer_with_metadata(alloc, buffer, other).ok()?;
+    of_both(rt, window, &metadata)
+}
+
+/// Under each layout that holds buffers a clone has the same metadata, which is dropped once, after
+/// both.
+#[test]
+fn metadata_dropped_once(rt: HostRuntime) -> Result<(), Fail> {
+    let told = [
+        metadata_under::<DefaultLayout>(&rt, rt.alloc()),
+        metadata_under::<ArcLayout<true, false>>(&rt, rt.alloc()),
+        metadata_under::<BoxedSliceLayout>(&rt, rt.alloc()),
+        metadata_under::<VecLayout>(&rt, rt.alloc()),
+        metadata_under::<RawLayout>(&rt, rt.alloc()),
+    ];
+    assert!(rt; told == [Some(([Some(7); 2], [2, 2, 1])); 5]);
     Ok(())
 }

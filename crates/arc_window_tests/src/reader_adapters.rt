@@ -12,6 +12,7 @@ use std::collections::{BTreeMap, HashMap};
 use std::convert::{AsSlice, AsStr};
 use std::hash::{DefaultHasher, Hash, Hasher};
 use std::io::{ErrorKind, Read};
+use std::sync::Wait;
 use std::test::Fail;
 
 /// Whether a window over these bytes is written so, in lower case digits and in upper case ones.
@@ -256,5 +257,53 @@ fn printed(rt: HostRuntime) -> Result<(), Fail> {
     assert!(rt; byte_text_prints(alloc, b"a\xc3\xa9\xff", texts) == Some([true; 4]));
     let framed = "Frame {\n    number: 1,\n    body: b\"ab\",\n}";
     assert!(rt; laid_out(rt.alloc(), b"ab", "b\"ab\"", framed) == Some([true; 2]));
+    Ok(())
+}
+
+/// A window over a vector of these bytes.
+fn over_vector(alloc: Global, bytes: &[u8]) -> Option<Key> {
+    Key::try_from_vec(alloc, Vec::from_slice(alloc, bytes).ok()?).ok()
+}
+
+/// A window over a native block of these bytes.
+fn over_native(alloc: Global, bytes: &[u8]) -> Option<Key> {
+    Key::try_from_slice(alloc, bytes).ok()
+}
+
+/// Whether the three bytes behind the first of a window are equal to those of another window, and
+/// whether their hashes are.
+fn part_beside(rt: &impl Wait, window: Key, other: Key) -> Option<[bool; 2]> {
+    if window.check_range(1, 4).is_err() {
+        return None;
+    }
+    let part = window.try_subslice(rt, 1, 4).ok()?;
+    drop(window);
+    Some([part == other, hash_of(&part) == hash_of(&other)])
+}
+
+/// What is told of a part of these bytes beside a window of those: both over native blocks, the
+/// first over a vector, the second, and both.
+fn parts_beside(
+    rt: &impl Wait,
+    alloc: Global,
+    bytes: &[u8],
+    other: &[u8],
+) -> Option<[[bool; 2]; 4]> {
+    Some([
+        part_beside(rt, over_native(alloc, bytes)?, over_native(alloc, other)?)?,
+        part_beside(rt, over_vector(alloc, bytes)?, over_native(alloc, other)?)?,
+        part_beside(rt, over_native(alloc, bytes)?, over_vector(alloc, other)?)?,
+        part_beside(rt, over_vector(alloc, bytes)?, over_vector(alloc, other)?)?,
+    ])
+}
+
+/// Where a window's bytes stand plays no part in whether it is equal to another one, nor in its
+/// hash.
+#[test]
+fn parts_compared(rt: HostRuntime) -> Result<(), Fail> {
+    let told = parts_beside(&rt, rt.alloc(), b"xabc", b"abc");
+    assert!(rt; told == Some([[true; 2]; 4]));
+    let told = parts_beside(&rt, rt.alloc(), b"xabc", b"xab");
+    assert!(rt; told == Some([[false; 2]; 4]));
     Ok(())
 }

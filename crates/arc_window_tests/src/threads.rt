@@ -1,6 +1,6 @@
 //! Windows in other threads, which read, write and end them: over items, callers' buffers and
 //! metadata that may go there.
-use arc_block::layout::{DefaultLayout, DefaultLayoutMut};
+use arc_block::layout::{DefaultLayout, DefaultLayoutMut, RawLayout};
 use arc_buffer::kinds::{Owned, Plain};
 use arc_read::slice::ArcSlice;
 use arc_write::slice_mut::{ArcBytesMut, ArcSliceMut};
@@ -20,6 +20,12 @@ type TextsMut = ArcSliceMut<Owned<String>, DefaultLayoutMut, 1>;
 
 /// Bytes that are read, beside buffers and metadata of types of their own.
 type Named = ArcSlice<Plain<u8>, DefaultLayout, String, Vec<String>>;
+
+/// Bytes on an `Arc` that is a block by itself.
+type RawBytes = ArcSlice<Plain<u8>, RawLayout>;
+
+/// Values on such an `Arc`, which have more owners.
+type RawValues = ArcSlice<Owned<Arc<u8>>, RawLayout>;
 
 /// Two texts.
 fn texts(alloc: Global) -> Option<[String; 2]> {
@@ -196,6 +202,63 @@ fn sorts_go_to_threads(rt: HostRuntime) -> Result<(), Fail> {
     }
     for sort in [Sort::Native, Sort::Vector, Sort::Buffer] {
         assert!(rt; pushed_told(&rt, rt.alloc(), sort) == Some((true, true)));
+    }
+    Ok(())
+}
+
+/// How often each thread clones.
+const CLONED: u32 = 100;
+
+/// How many of the clones that are made of a window, and end at once, have its two bytes.
+fn cloned(rt: &impl Wait, window: &RawBytes) -> u32 {
+    let mut found = 0u32;
+    for _ in 0..CLONED {
+        if let Ok(clone) = window.try_clone(rt) {
+            if clone.as_slice() == [1, 2].as_slice() {
+                found = found.wrapping_add(1);
+            }
+        }
+    }
+    found
+}
+
+/// The same in two threads.
+fn cloned_by_two<R: Threads + Wait + Sync>(rt: &R, window: &RawBytes) -> (u32, u32) {
+    thread::join(rt, || cloned(rt, window), || cloned(rt, window))
+}
+
+/// What two threads tell of clones of a window on an `Arc` by itself, and how many owners that has
+/// when they have ended.
+fn cloned_told<R: Threads + Wait + Sync>(rt: &R, alloc: Global) -> Option<((u32, u32), usize)> {
+    let bytes = Vec::from_slice(alloc, &[1, 2]).ok()?;
+    let window = RawBytes::try_from_raw_buffer(alloc, Arc::new(alloc, bytes).ok()?).ok()?;
+    let found = cloned_by_two(rt, &window);
+    let shared = window.try_into_raw_buffer().ok()?;
+    Some((found, Arc::strong_count(&shared)))
+}
+
+/// How many values two windows have, of which another thread ends one and this one the other.
+fn ended_by_two(rt: &impl Threads, there: RawValues, here: RawValues) -> (usize, usize) {
+    thread::join(rt, move || there.len(), move || here.len())
+}
+
+/// The same of a window over one value and of its clone, and how many owners the value has then.
+fn ended_by_two_told<R: Threads + Wait>(rt: &R, alloc: Global) -> Option<((usize, usize), usize)> {
+    let value = Arc::new(alloc, 7u8).ok()?;
+    let values = Vec::from_array(alloc, [Arc::try_clone(&value).ok()?]).ok()?;
+    let here = RawValues::try_from_raw_buffer(alloc, Arc::new(alloc, values).ok()?).ok()?;
+    let there = here.try_clone(rt).ok()?;
+    let counted = ended_by_two(rt, there, here);
+    Some((counted, Arc::strong_count(&value)))
+}
+
+/// An `Arc` that is a block by itself is cloned by several threads, and what it holds is dropped
+/// once, in whichever thread ends its last window.
+#[test]
+fn arcs_go_to_threads(rt: HostRuntime) -> Result<(), Fail> {
+    assert!(rt; cloned_told(&rt, rt.alloc()) == Some(((CLONED, CLONED), 1)));
+    for _ in 0..100u32 {
+        assert!(rt; ended_by_two_told(&rt, rt.alloc()) == Some(((1, 1), 1)));
     }
     Ok(())
 }

@@ -1,8 +1,8 @@
 //! What a block keeps beside the count of its owners.
 ghost use Rattle.std.specs.Prelude.{◌≡◌};
-ghost use Rattle.arc_block.specs.Block.{raw, IsMemory, IsBuffer, memory_sort};
+ghost use Rattle.arc_block.specs.Block.{vector, raw, IsBuffer};
 ghost use Rattle.arc_block.specs.declared.block.content.Content.TheVariants.{Buffer, Raw};
-ghost use Rattle.arc_block.specs.Contents.{content_sort, content_items, in_memory, IsMemoryOf};
+ghost use Rattle.arc_block.specs.Contents.{content_sort, content_items, IsVecOf};
 
 use arc_buffer::buffer::Buffer;
 use arc_memory::Native;
@@ -18,11 +18,9 @@ pub struct CallersBuffer<B, M> {
     pub writable: bool,
 }
 
-/// What a block keeps beside the count of its owners, by its sort.
+/// What a block of a caller's making keeps beside the count of its owners, by its sort.
 #[derive(Drop)]
 pub enum Content<T: Drop, B, M, A: Allocator> {
-    /// Places of this crate's own making, with the items in them.
-    Native(Native<T, A>),
     /// A vector's places, with the items in them.
     Vector(Native<T, A>),
     /// A caller's buffer.
@@ -37,7 +35,6 @@ impl<T: Drop, B: Buffer<T>, M, A: Allocator> Shows<T> for Content<T, B, M, A> {
     #[inline(always)]
     fn show(&self) -> &[T] {
         match self {
-            Content::Native(memory) => memory.as_slice(),
             Content::Vector(memory) => memory.as_slice(),
             Content::Buffer(held) => held.buffer.as_slice(),
             Content::Raw(shared) => shared.as_slice(),
@@ -49,13 +46,12 @@ impl<T: Drop, B: Drop, M: Drop, A: Allocator> Content<T, B, M, A> {
     ghost use Rattle.std.specs.Borrow.{sem};
     ghost use Rattle.arc_block.specs.LendsBuffers.{LendsBuffer, KeepsBuffer};
 
-    /// The places of a native block or a vector's as a vector, with the items in them.
-    pub(crate) fn into_memory(self) -> Vec<T, A>
-        requires { IsMemory (content_sort self) }
-        ensures { IsMemoryOf self result }
+    /// The vector, with its items.
+    pub(crate) fn into_vec(self) -> Vec<T, A>
+        requires { content_sort self ≡ vector }
+        ensures { IsVecOf self result }
     {
         match self {
-            Content::Native(memory) => memory.into_vec(),
             Content::Vector(memory) => memory.into_vec(),
             _ => unreachable!(),
         }
@@ -93,36 +89,6 @@ impl<T: Drop, B: Drop, M: Drop, A: Allocator> Content<T, B, M, A> {
         match self {
             Content::Buffer(held) => &mut held.buffer,
             _ => unreachable!(),
-        }
-    }
-
-    /// Whether these are a vector's places.
-    pub(crate) fn is_vector(&self) -> bool
-        requires { IsMemory (content_sort self.now) }
-        ensures { memory_sort result ≡ content_sort self.now }
-    {
-        matches!(self, Content::Vector(_))
-    }
-
-    /// These places, as a vector or as a native block keeps them.
-    pub(crate) fn of_memory(is_vector: bool, memory: Native<T, A>) -> Self
-        ensures { result ≡ in_memory (memory_sort is_vector) memory }
-    {
-        if is_vector {
-            Content::Vector(memory)
-        } else {
-            Content::Native(memory)
-        }
-    }
-
-    /// These places, as a block of the same sort keeps them.
-    pub(crate) fn with_memory(&self, memory: Native<T, A>) -> Self
-        requires { IsMemory (content_sort self.now) }
-        ensures { result ≡ in_memory (content_sort self.now) memory }
-    {
-        match self {
-            Content::Vector(_) => Content::Vector(memory),
-            _ => Content::Native(memory),
         }
     }
 }

@@ -27,7 +27,7 @@ impl<
         match self.piece.get() {
             Content::Buffer(held) => Some(held.buffer.borrow_metadata()),
             Content::Raw(shared) => Some(shared.borrow_metadata()),
-            Content::Native(_) | Content::Vector(_) => None,
+            Content::Vector(_) => None,
         }
     }
 }

@@ -1,13 +1,13 @@
-//! Blocks with one owner, who has their items as a vector.
+//! Blocks of a caller's making with one owner, who has the vector of one that is a vector.
 //!
-//! So they are read and written by the vector's own code, and nothing is asked of the count.
+//! So its items are read and written by the vector's own code, and nothing is asked of the count.
 //! Meanwhile the memory of the count holds none of them.
 ghost use Rattle.std.specs.Prelude.{◌≡◌, ◌≤◌, true, false, is_ok, IfOk, IfErr};
 ghost use Rattle.arc_owners.specs.count.Calls.{IsFirst, IsPassFor, IsFreshPass, Asks};
 ghost use Rattle.arc_owners.specs.count.Calls.{IsPassOfNone, EndsByItself};
 ghost use Rattle.arc_owners.specs.memory.SoleBoxes.{sole_in, sole_value};
-ghost use Rattle.arc_block.specs.Block.{memory_sort, held_as, IsLimited, IsMemory};
-ghost use Rattle.arc_block.specs.Contents.{content_sort, held_in};
+ghost use Rattle.arc_block.specs.Block.{vector, held_as, IsLimited};
+ghost use Rattle.arc_block.specs.Contents.{held_in};
 
 use super::{Block, Content};
 use arc_buffer::buffer::Buffer;
@@ -22,8 +22,8 @@ use std::mem;
 /// The count of a block, with its only owner, who has the block's items elsewhere.
 pub(crate) type SoleCount<T, B, M, A, const MAX: u64, H> = SoleBox<Content<T, B, M, A>, A, MAX, H>;
 
-/// The only owner of a new block, a vector or a native one, with a pass of it, who has its items
-/// elsewhere. `MAX` is at least 2.
+/// The only owner of a new block that is a vector, with a pass of it, who has the vector.
+/// `MAX` is at least 2.
 ///
 /// # Errors
 ///
@@ -34,15 +34,13 @@ pub(crate) type SoleCount<T, B, M, A, const MAX: u64, H> = SoleBox<Content<T, B,
 /// Once.
 pub(crate) fn new_count<T: Drop, B: Drop, M: Drop, A: Allocator + Copy, const MAX: u64, H: Mark>(
     alloc: A,
-    is_vector: bool,
 ) -> Result<(SoleCount<T, B, M, A, MAX, H>, Pass<H>), AllocError>
     requires { 2 ≤ MAX }
-    ensures made { IfOk result (λ r. IsFirst MAX H.whole (sole_in r.0)
-        × (content_sort (sole_value r.0) ≡ memory_sort is_vector)) }
+    ensures made { IfOk result (λ r. IsFirst MAX H.whole (sole_in r.0)) }
     ensures pass { IfOk result (λ r. IsFreshPass (sole_in r.0) r.1) }
 {
     let (_, empty) = Native::of(Vec::new(alloc));
-    match SoleBox::new(alloc, Content::of_memory(is_vector, empty)) {
+    match SoleBox::new(alloc, Content::Vector(empty)) {
         Ok(made) => Ok(made),
         Err(empty) => {
             drop(empty);
@@ -78,26 +76,23 @@ impl<
     const MAX: u64,
     H: Mark,
 > Block<S, B, M, A, MAX, H> {
-    /// The same owner of the same block, which may be shared from now on. It adds no entry and
-    /// takes no memory.
+    /// The same owner of the same block, a vector, which may be shared from now on. It adds no
+    /// entry and takes no memory.
     pub(crate) fn of_sole(
         count: SoleCount<S::Item, B, M, A, MAX, H>,
         items: Vec<S::Item, A>,
     ) -> Self
-        requires limited { IsLimited MAX H.whole (sole_in count) }
-        requires memory { IsMemory (content_sort (sole_value count)) }
-        ensures { result
-            ≡ held_as (content_sort (sole_value count)) S.DROPS (sole_in count) items }
+        requires { IsLimited MAX H.whole (sole_in count) }
+        ensures { result ≡ held_as vector S.DROPS (sole_in count) items }
     {
         let mut count = count;
         let (_, memory) = Native::of(items);
-        let content = count.get().with_memory(memory);
-        drop(mem::replace(count.get_mut(), content));
+        drop(mem::replace(count.get_mut(), Content::Vector(memory)));
         Block::over(count.lend())
     }
 
-    /// The only owner of the same block, and its items, where no other one lives. Else the block is
-    /// handed back. Takes no memory.
+    /// The only owner of the same block, a vector, and that, where no other one lives. Else the
+    /// block is handed back. Takes no memory.
     ///
     /// # History
     ///
@@ -108,10 +103,9 @@ impl<
         pass: &mut Pass<H>,
     ) -> Result<(SoleCount<S::Item, B, M, A, MAX, H>, Vec<S::Item, A>), Self>
         requires pass { IsPassFor self.owner pass.old }
-        requires memory { IsMemory self.facts.sort }
+        requires sort { self.facts.sort ≡ vector }
         ensures entry { Asks self.owner pass.old pass.new (is_ok result) }
-        ensures sole { IfOk result (λ r.
-            (held_as (content_sort (sole_value r.0)) S.DROPS (sole_in r.0) r.1 ≡ self)
+        ensures sole { IfOk result (λ r. (held_as vector S.DROPS (sole_in r.0) r.1 ≡ self)
             × IsLimited MAX H.whole (sole_in r.0)) }
         ensures others { IfErr result (λ back. back ≡ self) }
     {
@@ -119,9 +113,8 @@ impl<
         match piece.try_into_sole_as(pass) {
             Ok(mut count) => {
                 let (_, empty) = Native::of(Vec::new(alloc));
-                let empty = count.get().with_memory(empty);
-                let items = mem::replace(count.get_mut(), empty).into_memory();
-                Ok((count, items))
+                let content = mem::replace(count.get_mut(), Content::Vector(empty));
+                Ok((count, content.into_vec()))
             }
             Err(piece) => Err(Block { piece, base, shown }),
         }

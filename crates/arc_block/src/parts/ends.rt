@@ -27,7 +27,11 @@ impl<S: Slice, B: Buffer<S::Item> + Drop, M: Drop, A: Allocator + Copy, H: Mark>
         ensures { IsTrue result ↔ IsWholeOf n (window_of self.now) }
     {
         match &self.on {
-            Storage::Block(block) => block.is_native_of(n) && self.len() == n,
+            Storage::Native(block) => block.is_of_places(n) && self.len() == n,
+            Storage::Block(block) => {
+                block.known_sort();
+                false
+            }
             _ => false,
         }
     }
@@ -62,20 +66,21 @@ impl<S: Slice, B: Buffer<S::Item> + Drop, M: Drop, A: Allocator + Copy, H: Mark>
             end,
             alloc,
         } = self;
-        let Storage::Block(block) = on else {
-            unreachable!()
-        };
-        match block.try_into_content_as(pass) {
-            Ok(content) => match <[S::Item; N]>::try_from(content.into_memory()) {
-                Ok(array) => Ok(array),
-                Err(_) => unreachable!(),
+        match on {
+            Storage::Native(block) => match block.try_into_memory_as(start, end, pass) {
+                Ok(memory) => Ok(memory.into_array()),
+                Err(block) => Err(Parts {
+                    on: Storage::Native(block),
+                    start,
+                    end,
+                    alloc,
+                }),
             },
-            Err(block) => Err(Parts {
-                on: Storage::Block(block),
-                start,
-                end,
-                alloc,
-            }),
+            Storage::Block(block) => {
+                block.known_sort();
+                unreachable!()
+            }
+            _ => unreachable!(),
         }
     }
 
@@ -96,8 +101,14 @@ impl<S: Slice, B: Buffer<S::Item> + Drop, M: Drop, A: Allocator + Copy, H: Mark>
             end: _,
             alloc: _,
         } = self;
-        if let Storage::Block(block) = on {
-            let _ = block.release_as(pass);
+        match on {
+            Storage::Native(block) => {
+                let _ = block.release_as(pass);
+            }
+            Storage::Block(block) => {
+                let _ = block.release_as(pass);
+            }
+            _ => {}
         }
     }
 
@@ -120,6 +131,7 @@ impl<S: Slice, B: Buffer<S::Item> + Drop, M: Drop, A: Allocator + Copy, H: Mark>
             alloc: _,
         } = self;
         match on {
+            Storage::Native(block) => block.let_go(),
             Storage::Block(block) => block.let_go(),
             _ => Pass::none(),
         }
@@ -143,13 +155,15 @@ impl<S: Slice, B: Buffer<S::Item> + Drop, M: Drop, A: Allocator + Copy, H: Mark>
             end: _,
             alloc: _,
         } = self;
-        if let Storage::Block(block) = on {
-            match block.try_into_content_as(pass) {
+        match on {
+            Storage::Native(block) => block.drop_with_unique_hint_as(pass),
+            Storage::Block(block) => match block.try_into_content_as(pass) {
                 Ok(content) => drop(content),
                 Err(shared) => {
                     let _ = shared.release_as(pass);
                 }
-            }
+            },
+            _ => {}
         }
     }
 
@@ -165,6 +179,7 @@ impl<S: Slice, B: Buffer<S::Item> + Drop, M: Drop, A: Allocator + Copy, H: Mark>
             alloc,
         } = self;
         let on = match on {
+            Storage::Native(block) => Storage::Native(block.into_kind()),
             Storage::Block(block) => Storage::Block(block.into_kind()),
             Storage::Static(items) => Storage::Static(items),
             Storage::Nothing(items) => Storage::Nothing(items),
@@ -190,7 +205,7 @@ impl<S: Slice, B: Buffer<S::Item> + Drop, M: Drop, A: Allocator + Copy, H: Mark>
         ensures refused { IfErr result (λ parts. (parts ≡ self) × IsOnBlock self.place) }
     {
         match &self.on {
-            Storage::Block(_) | Storage::Raw(_) => Err(self),
+            Storage::Native(_) | Storage::Block(_) | Storage::Raw(_) => Err(self),
             Storage::Static(items) => Ok(StaticSlice {
                 items: items.again(),
                 start: self.start,

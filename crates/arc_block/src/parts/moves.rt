@@ -51,6 +51,7 @@ impl<S: Slice, B: Buffer<S::Item> + Drop, M: Drop, A: Allocator + Copy, H: Mark>
             Storage::Nothing(_) => Move::NewEmpty,
             Storage::Static(_) if L::STATIC => Move::Stays,
             Storage::Static(_) => Move::HandedBack,
+            Storage::Native(_) => Move::Stays,
             Storage::Block(block) => block.move_to::<L>(),
             Storage::Raw(_) if L::RAW => Move::Stays,
             Storage::Raw(_) if L::ANY => Move::NewCount,

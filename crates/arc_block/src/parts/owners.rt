@@ -60,6 +60,10 @@ impl<S: Slice, B: Buffer<S::Item> + Drop, M: Drop, A: Allocator + Copy, H: Mark>
         ensures again { IfNone result (pass.new ≡ pass.old) }
     {
         let on = match &self.on {
+            Storage::Native(block) => match block.try_share_once_as(leave, pass)? {
+                Ok(block) => Storage::Native(block),
+                Err(e) => return Some(Err(e.into())),
+            },
             Storage::Block(block) => match block.try_share_once_as(leave, pass)? {
                 Ok(block) => Storage::Block(block),
                 Err(e) => return Some(Err(e.into())),
@@ -124,6 +128,15 @@ impl<S: Slice, B: Buffer<S::Item> + Drop, M: Drop, A: Allocator + Copy, H: Mark>
         let _last = self.end;
         let (from, to) = (self.start + start, self.start + end);
         match &self.on {
+            Storage::Native(block) => match block.try_share_once_as(leave, pass)? {
+                Ok(block) => Some(Ok(Parts {
+                    on: Storage::Native(block),
+                    start: from,
+                    end: to,
+                    alloc: self.alloc,
+                })),
+                Err(e) => Some(Err(e.into())),
+            },
             Storage::Block(block) => match block.try_share_once_as(leave, pass)? {
                 Ok(block) => Some(Ok(Parts {
                     on: Storage::Block(block),
@@ -168,6 +181,7 @@ impl<S: Slice, B: Buffer<S::Item> + Drop, M: Drop, A: Allocator + Copy, H: Mark>
             self.now.place pass.old pass.new result }
     {
         match &self.on {
+            Storage::Native(block) => block.is_unique_as(pass),
             Storage::Block(block) => block.is_unique_by_sort_as(pass),
             _ => false,
         }
@@ -180,8 +194,10 @@ impl<S: Slice, B: Buffer<S::Item> + Drop, M: Drop, A: Allocator + Copy, H: Mark>
         ensures { at_owner self.now.place (pass.new ≡ pass.old) (λ o.
             Learns o.block pass.old other.now pass.new) }
     {
-        if let Storage::Block(block) = &self.on {
-            block.learn(pass, other);
+        match &self.on {
+            Storage::Native(block) => block.learn(pass, other),
+            Storage::Block(block) => block.learn(pass, other),
+            _ => {}
         }
     }
 
@@ -192,6 +208,7 @@ impl<S: Slice, B: Buffer<S::Item> + Drop, M: Drop, A: Allocator + Copy, H: Mark>
             IsLimited 9223372036854775807 H.whole o) }
     {
         match &self.on {
+            Storage::Native(block) => block.max_owners(),
             Storage::Block(block) => block.max_owners(),
             _ => max_owners(),
         }
@@ -211,6 +228,7 @@ impl<S: Slice, B: Buffer<S::Item> + Drop, M: Drop, A: Allocator + Copy, H: Stepp
         ensures { at_owner self.now.place (IsPassOfNone result) (λ o. IsNewPass o result) }
     {
         match &self.on {
+            Storage::Native(block) => block.pass(),
             Storage::Block(block) => block.pass(),
             _ => Pass::none(),
         }

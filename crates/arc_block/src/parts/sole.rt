@@ -19,17 +19,21 @@ use arc_owners::error::{AllocError, TryReserveError};
 use arc_owners::mark::{Mark, Open};
 use arc_owners::owners::Pass;
 use buffer::SoleBuffer;
-use memory::SoleMemory;
+use native::SoleNative;
 use std::alloc::{Allocator, Global};
 use std::marker::Model;
+use vector::SoleVector;
 
-/// What a sole writer's parts are: items in memory of ours, or in a caller's buffer.
+/// What a sole writer's parts are: items in memory of ours, in a vector, or in a caller's buffer.
 ///
-/// This tag tells which, so that nothing of the block is read for it.
+/// This tag tells which, so that nothing of the block is read for it. Where all three are matched,
+/// the buffer's arm stands first: the compiler makes the first arm the last that it tests.
 #[derive(Drop)]
-pub(crate) enum SoleStorage<M, B> {
-    /// A native block's memory, a vector's, or none.
-    Memory(M),
+pub(crate) enum SoleStorage<N, V, B> {
+    /// A native block's memory, or none.
+    Native(N),
+    /// A vector.
+    Vector(V),
     /// A caller's buffer.
     Buffer(B),
 }
@@ -45,7 +49,7 @@ pub struct SoleParts<
     A: Allocator + Copy = Global,
     H: Mark = Open,
 > {
-    on: SoleStorage<SoleMemory<S, B, M, A, H>, SoleBuffer<S, B, M, A, H>>,
+    on: SoleStorage<SoleNative<S, M, A, H>, SoleVector<S, B, M, A, H>, SoleBuffer<S, B, M, A, H>>,
 }
 
 impl<S: Slice, B: BufferMut<S::Item> + Drop, M: Drop, A: Allocator + Copy, H: Mark> Model
@@ -65,8 +69,9 @@ impl<S: Slice, B: BufferMut<S::Item> + Drop, M: Drop, A: Allocator + Copy, H: Ma
     {
         let SoleParts { on } = self;
         match on {
-            SoleStorage::Memory(parts) => drop(parts),
             SoleStorage::Buffer(parts) => drop(parts),
+            SoleStorage::Native(parts) => drop(parts),
+            SoleStorage::Vector(parts) => drop(parts),
         }
     }
 }
@@ -78,12 +83,22 @@ impl<S: Slice, B: BufferMut<S::Item> + Drop, M: Drop, A: Allocator + Copy, H: Ma
     A,
     H,
 > {
-    /// Items in memory of ours.
-    pub(crate) fn in_memory(parts: SoleMemory<S, B, M, A, H>) -> Self
+    /// Items in memory of ours, or nothing.
+    #[inline(always)]
+    pub(crate) fn in_native(parts: SoleNative<S, M, A, H>) -> Self
         ensures { result ≡ parts }
     {
         SoleParts {
-            on: SoleStorage::Memory(parts),
+            on: SoleStorage::Native(parts),
+        }
+    }
+
+    /// Items in a vector.
+    pub(crate) fn in_vector(parts: SoleVector<S, B, M, A, H>) -> Self
+        ensures { result ≡ parts }
+    {
+        SoleParts {
+            on: SoleStorage::Vector(parts),
         }
     }
 
@@ -100,7 +115,7 @@ impl<S: Slice, B: BufferMut<S::Item> + Drop, M: Drop, A: Allocator + Copy, H: Ma
     pub fn on_nothing(alloc: A) -> Self
         ensures { result ≡ record { items = []; place = nowhere; role = sole_writer 0 } }
     {
-        Self::in_memory(SoleMemory::on_nothing(alloc))
+        Self::in_native(SoleNative::on_nothing(alloc))
     }
 
     /// Whether they stand on a caller's buffer.
@@ -108,8 +123,9 @@ impl<S: Slice, B: BufferMut<S::Item> + Drop, M: Drop, A: Allocator + Copy, H: Ma
         ensures { IsTrue result ↔ IsOfBuffer self.now.place }
     {
         match &self.on {
-            SoleStorage::Memory(parts) => parts.is_on_buffer(),
             SoleStorage::Buffer(parts) => parts.is_on_buffer(),
+            SoleStorage::Native(parts) => parts.is_on_buffer(),
+            SoleStorage::Vector(parts) => parts.is_on_buffer(),
         }
     }
 
@@ -119,8 +135,9 @@ impl<S: Slice, B: BufferMut<S::Item> + Drop, M: Drop, A: Allocator + Copy, H: Ma
         ensures { IsWriterPlace self.now.place }
     {
         match &self.on {
-            SoleStorage::Memory(parts) => parts.known_place(),
             SoleStorage::Buffer(parts) => parts.known_place(),
+            SoleStorage::Native(parts) => parts.known_place(),
+            SoleStorage::Vector(parts) => parts.known_place(),
         }
     }
 
@@ -130,8 +147,9 @@ impl<S: Slice, B: BufferMut<S::Item> + Drop, M: Drop, A: Allocator + Copy, H: Ma
         ensures { result ≡ length self.now.items }
     {
         match &self.on {
-            SoleStorage::Memory(parts) => parts.len(),
             SoleStorage::Buffer(parts) => parts.len(),
+            SoleStorage::Native(parts) => parts.len(),
+            SoleStorage::Vector(parts) => parts.len(),
         }
     }
 
@@ -141,8 +159,9 @@ impl<S: Slice, B: BufferMut<S::Item> + Drop, M: Drop, A: Allocator + Copy, H: Ma
         ensures { result.now ≡ self.now.items }
     {
         match &self.on {
-            SoleStorage::Memory(parts) => parts.as_slice(),
             SoleStorage::Buffer(parts) => parts.as_slice(),
+            SoleStorage::Native(parts) => parts.as_slice(),
+            SoleStorage::Vector(parts) => parts.as_slice(),
         }
     }
 
@@ -153,8 +172,9 @@ impl<S: Slice, B: BufferMut<S::Item> + Drop, M: Drop, A: Allocator + Copy, H: Ma
         ensures enough { length self.now.items ≤ result }
     {
         match &self.on {
-            SoleStorage::Memory(parts) => parts.capacity(),
             SoleStorage::Buffer(parts) => parts.capacity(),
+            SoleStorage::Native(parts) => parts.capacity(),
+            SoleStorage::Vector(parts) => parts.capacity(),
         }
     }
 
@@ -178,8 +198,8 @@ impl<S: Slice, B: BufferMut<S::Item> + Drop, M: Drop, A: Allocator + Copy, H: Ma
             MakesWriter S.DROPS H.whole [] capacity parts pass.old pass.new) }
         ensures refused { OnErr result ((1 ≤ capacity) × (pass.new ≡ pass.old)) }
     {
-        match SoleMemory::try_with_capacity_as(alloc, capacity, pass) {
-            Ok(parts) => Ok(Self::in_memory(parts)),
+        match SoleNative::try_with_capacity_as(alloc, capacity, pass) {
+            Ok(parts) => Ok(Self::in_native(parts)),
             Err(e) => Err(e),
         }
     }
@@ -206,8 +226,8 @@ impl<S: Slice, B: BufferMut<S::Item> + Drop, M: Drop, A: Allocator + Copy, H: Ma
             MakesWriter S.DROPS H.whole items.now (length items.now) parts pass.old pass.new) }
         ensures refused { OnErr result ((1 ≤ length items.now) × (pass.new ≡ pass.old)) }
     {
-        match SoleMemory::try_from_slice_as(alloc, items, pass) {
-            Ok(parts) => Ok(Self::in_memory(parts)),
+        match SoleNative::try_from_slice_as(alloc, items, pass) {
+            Ok(parts) => Ok(Self::in_native(parts)),
             Err(e) => Err(e),
         }
     }
@@ -231,8 +251,8 @@ impl<S: Slice, B: BufferMut<S::Item> + Drop, M: Drop, A: Allocator + Copy, H: Ma
             (replicate count S.zero_item) count parts pass.old pass.new) }
         ensures refused { OnErr result ((1 ≤ count) × (pass.new ≡ pass.old)) }
     {
-        match SoleMemory::try_zeroed_as(alloc, count, pass) {
-            Ok(parts) => Ok(Self::in_memory(parts)),
+        match SoleNative::try_zeroed_as(alloc, count, pass) {
+            Ok(parts) => Ok(Self::in_native(parts)),
             Err(e) => Err(e),
         }
     }
@@ -257,8 +277,8 @@ impl<S: Slice, B: BufferMut<S::Item> + Drop, M: Drop, A: Allocator + Copy, H: Ma
         ensures refused { IfErr result (λ back. (back ≡ array) × (1 ≤ length array)
             × (pass.new ≡ pass.old)) }
     {
-        match SoleMemory::try_from_array_as::<N>(alloc, array, pass) {
-            Ok(parts) => Ok(Self::in_memory(parts)),
+        match SoleNative::try_from_array_as::<N>(alloc, array, pass) {
+            Ok(parts) => Ok(Self::in_native(parts)),
             Err(e) => Err(e),
         }
     }
@@ -305,15 +325,19 @@ impl<S: Slice, B: BufferMut<S::Item> + Drop, M: Drop, A: Allocator + Copy, H: Ma
             result) }
     {
         match &mut self.on {
-            SoleStorage::Memory(parts) => parts.try_reserve_as(additional, pass),
             SoleStorage::Buffer(parts) => parts.try_reserve_as(additional, pass),
+            SoleStorage::Native(parts) => parts.try_reserve_as(additional, pass),
+            SoleStorage::Vector(parts) => parts.try_reserve_as(additional, pass),
         }
     }
 }
 
+mod alone;
 mod buffer;
 mod buffers;
 mod ends;
-mod memory;
+pub(crate) mod native;
+mod shared;
+mod vector;
 mod vectors;
 mod write;

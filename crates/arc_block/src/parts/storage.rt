@@ -1,16 +1,18 @@
 //! What parts stand on.
 use crate::static_slice::StaticItems;
 
-/// What a window stands on: nothing, a slice that is there for good, a block as one of its owners,
-/// or an `Arc` of a caller's buffer that is a block by itself.
+/// What a window stands on: nothing, a slice that is there for good, a native block or one of a
+/// caller's making, as one of its owners, or an `Arc` of a caller's buffer that is a block by
+/// itself.
 ///
 /// Each variant begins with where items begin, also where there are none: so a read is the same
-/// sum and difference whatever a window stands on, and the compiler makes one of the four. The
+/// sum and difference whatever a window stands on, and the compiler makes one of them all. The
 /// items of an `Arc` are read in another way.
 #[derive(Drop)]
-pub(crate) enum Storage<T, B, R> {
+pub(crate) enum Storage<T, N, B, R> {
     Nothing(StaticItems<T>),
     Static(StaticItems<T>),
+    Native(N),
     Block(B),
     Raw(R),
 }

@@ -14,7 +14,7 @@ ghost use Rattle.arc_block.specs.Steps.{TakesAt, RefusesTaking};
 use super::Parts;
 use super::storage::Storage;
 use crate::block::Block;
-use crate::layout::{Layout, stands_on_nothing};
+use crate::layout::Layout;
 use arc_buffer::buffer::Buffer;
 use arc_buffer::kinds::Slice;
 use arc_owners::mark::Mark;
@@ -64,17 +64,16 @@ impl<S: Slice, B: Buffer<S::Item> + Drop, M: Drop, A: Allocator + Copy, H: Mark>
         ensures refused { IfErr result (λ back. (back ≡ items)
             × NeedsVecBlock L.STATIC (vec_capacity items) × (pass.new ≡ pass.old)) }
     {
-        let end = items.len();
-        if stands_on_nothing::<L>(items.capacity()) {
-            drop(items);
-            return Ok(Self::on_nothing(alloc));
-        }
         if items.capacity() == 0 {
-            return match Block::try_from_exact(alloc, items) {
-                Ok((block, new)) => Ok(Self::over_new::<L>(alloc, block, end, new, pass)),
-                Err(back) => Err(back),
+            return match Self::try_from_array_as::<L, 0>(alloc, [], pass) {
+                Ok(parts) => {
+                    drop(items);
+                    Ok(parts)
+                }
+                Err(_) => Err(items),
             };
         }
+        let end = items.len();
         match Block::try_from_vec(alloc, items) {
             Ok((block, new)) => {
                 *pass = new;
@@ -185,7 +184,7 @@ impl<S: Slice, B: Buffer<S::Item> + Drop, M: Drop, A: Allocator + Copy, H: Mark>
             unreachable!()
         };
         match block.try_into_content_as(pass) {
-            Ok(content) => Ok(cut_to(content.into_memory(), start, end)),
+            Ok(content) => Ok(cut_to(content.into_vec(), start, end)),
             Err(block) => Err(Parts {
                 on: Storage::Block(block),
                 start,

@@ -7,12 +7,14 @@ use mathlib.Core.Option.{Option, some}
 use mathlib.Core.List.{IsPrefix}
 use seplogic.Ra.Ura.{Ura}
 use base.Fraction.{full_share}
-use base.FractionLaws.{Counts, Counts-all}
+use base.FractionLaws.{Counts, Counts-all, not-OpDef-full_share}
+use seplogic.Ra.Pcs.{OpDef}
 use base.Share
 use base.Share.{quarter, three_quarters}
 use base.Stored.{coded_ℕ}
-use base.Logic.{SProp, ent, sep, ex, guard, upd, emp, id⊢, via, upd_i}
-use base.Fml.{Fml, Share, ftrue, fsep, flft, finv, fnamed}
+use base.Logic.{SProp, ent, sep, wand, ex, all, guard, upd, emp, never, never_e, apply∗, id⊢, via}
+use base.Logic.{upd_i}
+use base.Fml.{Lft, Fml, Share, ftrue, fsep, flft, finv, fnamed}
 use base.Growing.{latest, at_least}
 use types.Logic.{Logic, sem}
 use types.Owned.{basic, named_past}
@@ -21,7 +23,7 @@ use types.Keyed.{entries_new, entries_take, entries_from, ticket, token}
 use types.RcWeak.{part, rest, cut}
 use types.Tokens.{lft_new}
 use types.Kit.{‵, raw, ◌⊛◌, some as any, given, later, ◌$◌, ◌∵◌, !, qed, by, move, drop, split}
-use types.Kit.{split3, fsplit, fjoin, fpack, pick, learn, show, check, assume, frame, group}
+use types.Kit.{split3, fsplit, fjoin, fpack, keep, pick, learn, show, check, assume, frame, group}
 use types.Kit.{done, use0, use1, use2, use3, rewrite, suffices, settle, updating, await, now}
 use denote.Steps.{nothing}
 use Rattle.arc_owners.specs.history.Histories.{Counted, LivesAlone, IsLegal, is_counted}
@@ -33,11 +35,14 @@ use Rattle.arc_owners.specs.count.Invariant.{seat_coded, fresh_seat, halved, gho
 use Rattle.arc_owners.specs.count.Invariant.{right, located, lines_order, history_at_least}
 use Rattle.arc_owners.specs.count.Invariant.{authority, withheld, places, is_there, told, pool}
 use Rattle.arc_owners.specs.count.Invariant.{stake, how_many, living, State, Fits, contents, behind}
-use Rattle.arc_owners.specs.count.Invariant.{known, right_owns, trace_owns, pass_holds}
+use Rattle.arc_owners.specs.count.Invariant.{known, right_owns, right_shown, trace_owns, pass_holds}
+use Rattle.arc_owners.specs.count.Invariant.{kept}
 use Rattle.arc_owners.proofs.count.Operations.{left}
 use Rattle.arc_owners.proofs.count.Places.{pauses, outside}
 use Rattle.arc_owners.proofs.count.Rolls.{get-more, get-last, living-relet, living-in}
+use Rattle.arc_owners.proofs.count.Blocks.{one_block}
 use Rattle.arc_owners.proofs.count.Cells.{row_new, row_adds, row_finds, row_writes, cell_parts}
+use Rattle.arc_owners.proofs.count.Cells.{row_takes, Set, cell_whole, cell_agrees}
 use Rattle.arc_owners.proofs.count.Parts.{top, pool_sole, pool_alone, tally_in}
 use Rattle.arc_owners.proofs.count.States.{relet, fits-relet, one-lives}
 use Rattle.arc_owners.proofs.history.Steps.{one_is}
@@ -45,9 +50,13 @@ use Rattle.arc_owners.proofs.history.Legality.{legal-nil, legal-front}
 use Rattle.arc_owners.proofs.count.Rolls.{entries-after}
 use Rattle.arc_owners.proofs.count.Opened.{shuts, opens, opened_by, opened, Shown, made_kept}
 use Rattle.arc_owners.proofs.count.Opened.{latest_of, rolled, seated, seat}
-use Rattle.arc_owners.proofs.count.Shared.{known_twice}
+use Rattle.arc_owners.proofs.count.Shared.{known_twice, shown_read}
 use Rattle.arc_owners.proofs.count.Moves.{finishes}
 use Rattle.arc_owners.specs.declared.history.entry.Entry.TheVariants.{Down}
+
+abbrev first_of : List ℕ → ℕ
+first_of [] = 0
+first_of (n ∷ ns) = n
 
 abbrev first_state : Lease → State
 first_state l = record {
@@ -475,6 +484,119 @@ module _ {M : Type 1} {𝓤 : Ura M} (𝓛 : Logic 𝓤) where
         move ! (3 ∷ 4 ∷ 0 ∷ 5 ∷ 6 ∷ 7 ∷ []) $ group ! 6 $ use1 𝓛 (‵ J) (shuts 𝓛 t a f) $
         frame ! $ check ! (f.leased p m other.1 ∙ sym (f.leased o l one.1)) $
         move ! (1 ∷ 0 ∷ []) $ done !)))))
+
+    abbrev Leases : BlockId → Lease → Lease → Lft → Share → Lft → Share → Pr
+    Leases u l m κ q τ r = guard 𝓤 (u ≡ t → m ≡ l) (⟦ flft τ r ⟧ ∗ ⟦ flft κ q ⟧)
+
+    -- where two owners are of one block, their leases are one
+    pub leases_told : (born : List Line) (o : ℕ) (l : Lease) (κ : Lft) (q : Share) (u : BlockId)
+        (made : List Line) (p : ℕ) (m : Lease) (τ : Lft) (r : Share)
+        → ⟦ right_shown t o l born κ ⟧ ∗ ⟦ right_shown u p m made τ ⟧
+        ∗ ⟦ flft τ r ⟧ ∗ ⟦ flft κ q ⟧ ⊢ H.⇛ (Leases u l m κ q τ r)
+    leases_told born o l κ q u made p m τ r = elim (one_block u t) [
+      | inl same ↦
+          qed 𝓛 (‵ (right_shown t o l born κ) ∷ ‵ (right_shown u p m made τ)
+          ∷ ‵ (flft τ r) ∷ ‵ (flft κ q) ∷ []) ∵ updating ! $ move ! (1 ∷ 2 ∷ []) $
+          rewrite ! 0 (λ (k : BlockId). ‵ (right_shown k p m made τ)) same refl $
+          use2 𝓛 (later (any (λ (e : Share). ‵ (right t p m e)
+          ⊛ raw (wand 𝓤 (⟦ right t p m e ⟧) (H.⇛ (At.lft τ r))))))
+          (shown_read 𝓛 t p m made τ r) $ await ! tt $ pick ! (λ e₂. split ! $
+          -- [the other right; its way back; the owner; a token]
+          move ! (2 ∷ []) $ fsplit ! $
+          use1 𝓛 (‵ (known t born) ⊛ ‵ (known t born)) (known_twice 𝓛 t born) $ split ! $
+          move ! (1 ∷ 2 ∷ []) $ fjoin ! $
+          -- [the owner; the invariant; the other right; its way back; a token]
+          move ! (0 ∷ 4 ∷ []) $
+          use2 𝓛 (later (any (λ (e : Share). ‵ (right t o l e)
+          ⊛ raw (wand 𝓤 (⟦ right t o l e ⟧) (H.⇛ (At.lft κ q))))))
+          (shown_read 𝓛 t o l born κ q) $ await ! tt $ pick ! (λ e₁. split ! $
+          -- [the right; its way back; the invariant; the other right; its way back]
+          move ! (2 ∷ 0 ∷ 3 ∷ []) $
+          use3 𝓛 (later (given (m ≡ l) (‵ (right t o l e₁) ⊛ ‵ (right t p m e₂))))
+          (same_leases born o l e₁ p m e₂) $ await ! tt $ learn ! (λ so. split ! $
+          -- [the right; the other right; the ways back]
+          move ! (0 ∷ 2 ∷ []) $
+          use2 𝓛 (later (‵ (flft κ q))) (apply∗ 𝓤 (⟦ right t o l e₁ ⟧) (H.⇛ (At.lft κ q))) $
+          await ! tt $ move ! (1 ∷ 2 ∷ []) $
+          use2 𝓛 (later (‵ (flft τ r))) (apply∗ 𝓤 (⟦ right t p m e₂ ⟧) (H.⇛ (At.lft τ r))) $
+          await ! tt $ now ! $ check ! (λ _. so) $ done !)))
+      | inr other ↦
+          qed 𝓛 (‵ (right_shown t o l born κ) ∷ ‵ (right_shown u p m made τ)
+          ∷ ‵ (flft τ r) ∷ ‵ (flft κ q) ∷ []) ∵ updating ! $ drop ! $ drop ! $
+          now ! $ check ! (λ same. absurd (other same)) $ done !
+    ]
+
+    -- beside a sole owner no other has a right
+    lives_alone : (born : List Line) (o : ℕ) (l : Lease) (p : ℕ) (m : Lease) (r : Share)
+        → l.is_lent ≡ false
+        → ⟦ known t born ⟧ ∗ ⟦ right t o l quarter ⟧ ∗ ⟦ right t p m r ⟧ ⊢ H.⇛ (never 𝓤)
+    lives_alone born o l p m r unlent = let R : Fml = right t o l quarter in
+        let S : Fml = right t p m r in let Z : Pr = never 𝓤 in
+        qed 𝓛 (‵ (known t born) ∷ ‵ R ∷ ‵ S ∷ []) ∵ fsplit ! $ move ! (1 ∷ []) $ drop ! $
+        by ! (within (⟦ R ⟧ ∗ ⟦ S ⟧) Z (opens 𝓛 t (⟦ R ⟧ ∗ ⟦ S ⟧) (upd 𝓤 (⟦ J ⟧ ∗ Z)) (λ a f.
+        qed 𝓛 (‵ (latest_of 𝓛 t a.lines) ∷ ‵ (located t a.lines) ∷ ‵ (rolled 𝓛 t a.roll)
+        ∷ ‵ (seated 𝓛 t a.seats) ∷ ‵ (tally t (how_many a.roll))
+        ∷ ‵ (pool a.lease (how_many a.roll)) ∷ ‵ R ∷ ‵ S ∷ []) ∵
+        move ! (2 ∷ 6 ∷ []) $
+        use2 𝓛 (given ((o < length a.roll) × (get_or a.roll o (false, no_lease) ≡ (true, l)))
+        (‵ (rolled 𝓛 t a.roll) ⊛ ‵ R))
+        (row_finds lease_coded 𝓛 t.rights no_lease a.roll 0 o o quarter l (omega arith)) $
+        learn ! (λ one. split ! $
+        -- [roll; right; latest; located; seats; tally; pool; the other right]
+        move ! (0 ∷ 7 ∷ []) $
+        use2 𝓛 (given ((p < length a.roll) × (get_or a.roll p (false, no_lease) ≡ (true, m)))
+        (‵ (rolled 𝓛 t a.roll) ⊛ ‵ S))
+        (row_finds lease_coded 𝓛 t.rights no_lease a.roll 0 p p r m (omega arith)) $
+        learn ! (λ other. split ! $ let leased : l ≡ a.lease = f.leased o l one.1 in
+        -- [roll; the other right; right; latest; located; seats; tally; pool]
+        move ! (7 ∷ []) $ use1 𝓛 (given (how_many a.roll ≡ 1) (raw (emp 𝓤)))
+        (pool_sole 𝓛 t a.lease (how_many a.roll)
+        (ap (λ (k : Lease). k.is_lent) (sym leased) ∙ unlent) (one-lives a.roll o l one.1)) $
+        learn ! (λ few. drop ! $
+        let mine : living 0 a.roll ≡ o ∷ [] = one_is (living 0 a.roll) o
+        (living-in 0 o o a.roll l (omega arith) one.1) few in
+        let its : living 0 a.roll ≡ p ∷ [] = one_is (living 0 a.roll) p
+        (living-in 0 p p a.roll m (omega arith) other.1) few in
+        let same : p ≡ o = ap first_of (sym its ∙ mine) in
+        -- [roll; the other right; right]
+        use1 𝓛 (‵ (kept lease_coded t.rights o (get_or a.roll o (false, no_lease)))
+        ⊛ raw (all 𝓤 (Set lease_coded 𝓛 t.rights no_lease 0 a.roll o o)))
+        (row_takes lease_coded 𝓛 t.rights no_lease a.roll 0 o o (omega arith) one.0) $ split ! $
+        rewrite ! 0 (λ (x : Bool × Lease). ‵ (kept lease_coded t.rights o x)) one.1 refl $
+        move ! (3 ∷ 0 ∷ []) $
+        use2 𝓛 (given (l ≡ l) (‵ (right t o l full_share)))
+        (cell_whole lease_coded 𝓛 t.rights o l l) $ learn ! (λ _. move ! (2 ∷ []) $
+        rewrite ! 0 (λ (k : ℕ). ‵ (right t k m r)) same refl $ move ! (1 ∷ 0 ∷ []) $
+        use2 𝓛 (given ((l ≡ m) × OpDef Share.op full_share r)
+        (‵ (right t o l full_share) ⊛ ‵ (right t o m r)))
+        (cell_agrees lease_coded 𝓛 t.rights o full_share r l m) $
+        learn ! (λ e. absurd (not-OpDef-full_share r e.1)))))))))
+
+    abbrev Apart : BlockId → ℕ → Lease → List Line → Lft → Share → Pr
+    Apart u o l born τ r = guard 𝓤 (¬ (u ≡ t)) (⟦ right_owns true t o l born ⟧ ∗ ⟦ flft τ r ⟧)
+
+    -- so another owner is of another block
+    pub apart : (born : List Line) (o : ℕ) (l : Lease) (u : BlockId) (made : List Line) (p : ℕ)
+        (m : Lease) (τ : Lft) (r : Share) → l.is_lent ≡ false
+        → ⟦ right_owns true t o l born ⟧ ∗ ⟦ right_shown u p m made τ ⟧ ∗ ⟦ flft τ r ⟧
+        ⊢ H.⇛ (Apart u o l born τ r)
+    apart born o l u made p m τ r unlent = elim (one_block u t) [
+      | inl same ↦
+          qed 𝓛 (‵ (right_owns true t o l born) ∷ ‵ (right_shown u p m made τ)
+          ∷ ‵ (flft τ r) ∷ []) ∵ updating ! $ move ! (1 ∷ 2 ∷ []) $
+          rewrite ! 0 (λ (k : BlockId). ‵ (right_shown k p m made τ)) same refl $
+          use2 𝓛 (later (any (λ (e : Share). ‵ (right t p m e)
+          ⊛ raw (wand 𝓤 (⟦ right t p m e ⟧) (H.⇛ (At.lft τ r))))))
+          (shown_read 𝓛 t p m made τ r) $ await ! tt $ pick ! (λ e. split ! $
+          -- [the other right; its way back; the owner]
+          move ! (2 ∷ []) $ fsplit ! $ move ! (1 ∷ []) $ fsplit ! $ move ! (2 ∷ 0 ∷ 3 ∷ []) $
+          use3 𝓛 (later (raw (never 𝓤))) (lives_alone born o l p m e unlent) $ await ! tt $
+          keep ! (0 ∷ []) $ by ! (never_e 𝓤 _))
+      | inr other ↦
+          qed 𝓛 (‵ (right_owns true t o l born) ∷ ‵ (right_shown u p m made τ)
+          ∷ ‵ (flft τ r) ∷ []) ∵ updating ! $ move ! (1 ∷ []) $ drop ! $
+          now ! $ check ! other $ done !
+    ]
 
     front-legal : (a : State) → Fits t a → (seen : List Line) → IsPrefix seen a.lines
         → IsLegal t.most t.began (entries_of seen)

@@ -31,7 +31,7 @@ use Rattle.arc_owners.specs.count.Invariant.{BlockId, Line, Lease, lease_coded, 
 use Rattle.arc_owners.specs.count.Invariant.{seat_coded, fresh_seat, halved, lines_order}
 use Rattle.arc_owners.specs.count.Invariant.{history_at_least, withheld, pooled, pool, staked}
 use Rattle.arc_owners.specs.count.Invariant.{tokens, right, contents, known, behind, right_owns}
-use Rattle.arc_owners.specs.count.Invariant.{right_without}
+use Rattle.arc_owners.specs.count.Invariant.{right_without, right_shown, told}
 use Rattle.arc_owners.specs.count.Invariant.{right_shares, trace_owns, trace_shares, end_tokens}
 use Rattle.arc_owners.specs.count.Invariant.{stake, counting, word_borrow_as, word_borrow}
 use Rattle.arc_owners.proofs.count.Cells.{row_keyless, cell_cut, cell_joins}
@@ -208,12 +208,31 @@ module _ {M : Type 1} {𝓤 : Ura M} (𝓛 : Logic 𝓤) (t : BlockId) where
         (token_lends l.is_lent λ'))
     right_lends false born λ' = Lends-nothing 𝓛 ftrue λ'
 
-    pub right_read : (born : List Line) (κ : Lft) (q : Share)
-        → ent 𝓤 (sep 𝓤 ⟦ right_shares true t o l born κ ⟧ (A.lft κ q))
-        (H.⇛ (ex 𝓤 (λ (s : Share). sep 𝓤 ⟦ R s ⟧ (wand 𝓤 ⟦ R s ⟧ (H.⇛ (A.lft κ q))))))
-    right_read born κ q = qed 𝓛 (‵ (right_shares true t o l born κ) ∷ ‵ (base.Fml.flft κ q) ∷ []) ∵
-        fsplit ! $ drop ! $ fsplit ! $ keep ! (0 ∷ 2 ∷ []) $
+    abbrev Read : Lft → Share → SProp 𝓤
+    Read κ q = H.⇛ (ex 𝓤 (λ (s : Share). sep 𝓤 ⟦ R s ⟧ (wand 𝓤 ⟦ R s ⟧ (H.⇛ (A.lft κ q)))))
+
+    pub shown_read : (born : List Line) (κ : Lft) (q : Share)
+        → ent 𝓤 (sep 𝓤 ⟦ right_shown t o l born κ ⟧ (A.lft κ q)) (Read κ q)
+    shown_read born κ q = qed 𝓛 (‵ (right_shown t o l born κ) ∷ ‵ (base.Fml.flft κ q) ∷ []) ∵
+        fsplit ! $ drop ! $
         by ! (shr_bor-Acc_by 𝓛 R right_halves κ ((κ, q) ∷ []) (Incl-refl κ))
+
+    pub shares_shown : (born : List Line) (κ : Lft)
+        → ent 𝓤 ⟦ right_shares true t o l born κ ⟧ ⟦ right_shown t o l born κ ⟧
+    shares_shown born κ = qed 𝓛 (‵ (right_shares true t o l born κ) ∷ []) ∵
+        fsplit3 ! $ move ! (0 ∷ 1 ∷ []) $ fjoin ! $ keep ! (0 ∷ []) $ done !
+
+    pub right_read : (born : List Line) (κ : Lft) (q : Share)
+        → ent 𝓤 (sep 𝓤 ⟦ right_shares true t o l born κ ⟧ (A.lft κ q)) (Read κ q)
+    right_read born κ q = qed 𝓛 (‵ (right_shares true t o l born κ) ∷ ‵ (base.Fml.flft κ q) ∷ []) ∵
+        use1 𝓛 (‵ (right_shown t o l born κ)) (shares_shown born κ) $ by ! (shown_read born κ q)
+
+    -- so has a `&` to one whose part of the lifetime is elsewhere
+    pub without_lends : (born : List Line) (e : Share) (λ' : Lft)
+        → Lends 𝓛 (right_without t o l born e) (right_shown t o l born) λ'
+    without_lends born e λ' = Lends-both 𝓛 (known t born) (fsep (R quarter) (told (Counts 64 e 1)))
+        (said (known t born)) (one R) λ' (lends_twice 𝓛 (known t born) (known_twice born) λ')
+        (Lends-first 𝓛 (R quarter) (told (Counts 64 e 1)) (one R) λ' (fractured λ'))
 
   pub trace_lends : (b : Bool) (p : ℕ) (ready : Bool) (seen : List Line) (λ' : Lft)
       → Lends 𝓛 (trace_owns b t p ready seen) (said (trace_shares b t seen)) λ'
@@ -242,6 +261,15 @@ right_shr true t o l born = beside_shr_laws (said (known t born))
     (one_shr_laws (λ q. right t o l q)) (tokens_shr l.is_lent l))
 right_shr false t o l born = nothing_shr_laws
 
+pub shown_shr : (t : BlockId) (o : ℕ) (l : Lease) (born : List Line)
+    → ShrLaws (right_shown t o l born)
+shown_shr t o l born = beside_shr_laws (said (known t born)) (one (λ q. right t o l q))
+    (record {
+      contraction = λ M 𝓤 𝓛 κ. known_twice 𝓛 t born;
+      mono = λ M 𝓤 𝓛 κ' κ. snd∗ 𝓤 (sem 𝓛 (before κ' κ)) (sem 𝓛 (known t born));
+    })
+    (one_shr_laws (λ q. right t o l q))
+
 pub trace_shr : (b : Bool) (t : BlockId) (seen : List Line) → ShrLaws (said (trace_shares b t seen))
 trace_shr b t seen = record {
   contraction = λ M 𝓤 𝓛 κ. trace_twice 𝓛 t b seen;
@@ -255,6 +283,11 @@ right_shared_keyless true t o l born κ = (
   ((λ q. entry_keyless (halved lease_coded) t.rights o _), tokens_keyless l.is_lent l κ),
 )
 right_shared_keyless false t o l born κ = tt
+
+pub shown_keyless : (t : BlockId) (o : ℕ) (l : Lease) (born : List Line) (κ : Lft)
+    → Keyless (right_shown t o l born κ)
+shown_keyless t o l born κ =
+    (known_keyless t born, λ q. entry_keyless (halved lease_coded) t.rights o _)
 
 pub word_borrow_shr : (t : BlockId) (p : Ptr) (a : ℕ) → ShrLaws (said (word_borrow t p a))
 word_borrow_shr t p a = record {

@@ -369,6 +369,10 @@ abbrev pub right_owns : Bool → BlockId → ℕ → Lease → List Line → Fml
 right_owns true t o l born = share_owns t o l born
 right_owns false t o l born = ftrue
 
+-- what a `&` to an owner has of its right
+abbrev pub right_shown : BlockId → ℕ → Lease → List Line → Lft → Fml
+right_shown t o l born κ = fsep (known t born) (fshr_bor κ (λ q. right t o l q))
+
 abbrev pub right_shares : Bool → BlockId → ℕ → Lease → List Line → Lft → Fml
 right_shares true t o l born κ = fsep (known t born)
     (fsep (fshr_bor κ (λ q. right t o l q)) (tokens l.is_lent l κ))

@@ -12,7 +12,11 @@ use denote.RawPtr.{Ptr}
 use Rattle.arc_owners.specs.count.Invariant.{BlockId, Line, Written, Filled, MadeOne, AddedTo}
 use Rattle.arc_owners.specs.count.Invariant.{entries_of, made_by, Lease, lease_after}
 
--- the right is held, by an owner of this block, to whom the block is lent
+-- the right is held, by an owner of this block
+abbrev pub IsRightOf : {H : Type 0} → BlockId → OwnerToken H → Type 0
+IsRightOf t r = (r.held ≡ true) × (r.block ≡ t)
+
+-- the same, to whom the block is lent
 abbrev pub IsHeld : {H : Type 0} → BlockId → OwnerToken H → Type 0
 IsHeld t r = (r.held ≡ true) × (r.block ≡ t) × (r.lease.is_lent ≡ true)
 
@@ -84,10 +88,14 @@ SeesSole own p r =
     × (made_by p.number r.lines ≡ made_by p.number p.lines)
     × (own.block.whole ≡ true → r.lines ≡ p.lines) × LivesAlone own.owner (entries_of r.lines)
 
--- a new pass of an owner's block: it has seen how the owner was made, and made nothing
-abbrev pub IsFork : {H : Type 0} → OwnerToken H → PassState → Type 0
-IsFork own new = IsOf own.block new × (new.ready ≡ false) × IsPrefix own.born new.lines
+-- a new pass of a block: it has seen these lines, and made nothing
+abbrev pub IsForkOf : BlockId → List Line → PassState → Type 0
+IsForkOf t born new = IsOf t new × (new.ready ≡ false) × IsPrefix born new.lines
     × (made_by new.number new.lines ≡ [])
+
+-- of an owner's block, which has seen how the owner was made
+abbrev pub IsFork : {H : Type 0} → OwnerToken H → PassState → Type 0
+IsFork own new = IsForkOf own.block own.born new
 
 -- this owner ended with a new pass, which this one is afterwards, and whether it was the last one
 pub record EndsWithNew {H : Type 0} (own : OwnerToken H) (after : PassState)

@@ -4,14 +4,17 @@ ghost use base.Fml.{Share};
 ghost use base.SetCodes.{coded_share};
 ghost use base.Stored.{coded_list};
 ghost use Rattle.arc_owners.specs.count.Invariant.{BlockId, block_id_coded, Line, line_coded};
-ghost use Rattle.arc_owners.specs.count.Invariant.{Lease, lease_coded, right_without};
+ghost use Rattle.arc_owners.specs.count.Invariant.{Lease, lease_coded};
+ghost use Rattle.arc_owners.specs.count.Invariant.{right_without, right_shown};
 
-use super::word::OwnerToken;
+use super::word::{OwnerToken, PassState};
 use crate::lifetime::LifetimeToken;
+use crate::mark::Open;
 use std::marker::{Model, PhantomData};
 
 /// The right of an owner to whom a block is lent, without its share of the lifetime for which it
-/// is. No step can be made with it. It has no bytes, and is neither copied nor dropped.
+/// is. No step can be made with it, but a new pass can be had. It has no bytes, and is neither
+/// copied nor dropped.
 pub struct OwnerWithoutLifetime<H> {
     pub(crate) marker: PhantomData<H>,
     pub(crate) ghost block: { BlockId } by { block_id_coded },
@@ -23,6 +26,8 @@ pub struct OwnerWithoutLifetime<H> {
 
 impl<H> Model for OwnerWithoutLifetime<H> {
     ghost also_owns = { λ r. right_without r.block r.owner r.lease r.born r.share };
+
+    ghost also_shares = { λ r _ κ. right_shown r.block r.owner r.lease r.born κ };
 }
 
 impl<H> OwnerWithoutLifetime<H> {
@@ -41,6 +46,32 @@ impl<H> OwnerWithoutLifetime<H> {
             marker: PhantomData,
         }
     }
+
+    /// Two owners of one block have one lease.
+    pub(crate) fn same_lease(&self, other: &OwnerToken<H>)
+        requires { other.now.held ≡ true }
+        ensures { other.now.block ≡ self.now.block → other.now.lease ≡ self.now.lease }
+    {
+        let _ = other;
+    }
+}
+
+impl OwnerWithoutLifetime<Open> {
+    ghost use Rattle.std.specs.Prelude.{false};
+    ghost use Rattle.arc_owners.specs.count.Steps.{IsForkOf};
+
+    /// A new pass of this owner's block. A right under `Open` alone gives one, as of an owner that
+    /// has its share.
+    pub(crate) fn fork(&self) -> PassState
+        requires { self.now.block.whole ≡ false }
+        ensures { IsForkOf self.now.block self.now.born result }
+    {
+        PassState {
+            marker: PhantomData,
+        }
+    }
 }
 
 unsafe impl<H> Send for OwnerWithoutLifetime<H> {}
+
+unsafe impl<H> Sync for OwnerWithoutLifetime<H> {}

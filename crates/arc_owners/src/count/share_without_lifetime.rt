@@ -3,9 +3,9 @@
 ghost use Rattle.std.specs.Prelude.{◌≡◌, true};
 
 use super::owner_without_lifetime::OwnerWithoutLifetime;
-use super::tokens::Share;
+use super::tokens::{Pass, Share};
 use crate::lifetime::LifetimeToken;
-use crate::mark::{Mark, Open};
+use crate::mark::{Mark, Open, Stepping};
 use std::marker::PhantomData;
 
 /// One owner of a block, without its share of the lifetime for which the block is lent. It makes no
@@ -70,6 +70,22 @@ impl<H: Mark> ShareWithoutLifetime<H> {
         Share {
             right: right.with_lifetime(lifetime),
             mark,
+        }
+    }
+}
+
+impl<H: Stepping> ShareWithoutLifetime<H> {
+    ghost use Rattle.arc_owners.specs.count.Calls.{IsNewPass};
+    ghost use Rattle.arc_owners.specs.count.Lifetimes.{owner_of_rest};
+
+    /// A new pass of the owner's block, which has seen at least the entry that made this owner, and
+    /// made nothing. It adds no entry and takes no memory.
+    pub fn pass(&self) -> Pass<H>
+        ensures { IsNewPass (owner_of_rest self.now) result }
+    {
+        Pass {
+            trace: H::fork_without(&self.right),
+            mark: PhantomData,
         }
     }
 }

@@ -60,7 +60,7 @@ impl<H> Model for OwnerToken<H> {
 /// What a caller has seen of a block's history, and made of it, where it is of a block. It has no
 /// bytes.
 pub struct PassState {
-    marker: PhantomData<()>,
+    pub(crate) marker: PhantomData<()>,
     pub(crate) ghost bound: { Bool },
     pub(crate) ghost block: { BlockId } by { block_id_coded },
     pub(crate) ghost number: { ℕ },
@@ -104,6 +104,7 @@ impl Model for EndTokens {
 impl Word {
     ghost use Rattle.std.specs.Prelude.{◌==◌};
     ghost use Rattle.arc_owners.specs.count.Steps.{IsHeld, IsOf, IsNext, IsOpened, SamePass, Wrote};
+    ghost use Rattle.arc_owners.specs.count.Steps.{IsRightOf};
     ghost use Rattle.arc_owners.specs.count.Steps.{FullIf, RaisedIf, Ends, Claimed, IsLodged};
     ghost use Rattle.std.specs.Prelude.{◌≢◌, ◌≤◌, []};
 
@@ -126,7 +127,7 @@ impl Word {
 
     /// Reads the number, which tells whether the owner is alone.
     pub(crate) fn load<H>(&self, by: &OwnerToken<H>, pass: &mut PassState) -> u64
-        requires { IsHeld self.now by.now × IsOf self.now pass.old }
+        requires { IsRightOf self.now by.now × IsOf self.now pass.old }
         ensures { SamePass self.now pass.old pass.new
             × Wrote self.now pass.old pass.new (Alone by.now.owner (result == 1)) }
     {
@@ -304,12 +305,18 @@ impl<H> OwnerToken<H> {
 
     /// Two owners of one block have one lease.
     pub(crate) fn same_lease(&self, other: &OwnerToken<H>)
-        requires { (self.now.held ≡ true) × (other.now.held ≡ true)
-            × (other.now.block ≡ self.now.block) }
-        ensures { other.now.lease ≡ self.now.lease }
+        requires { (self.now.held ≡ true) × (other.now.held ≡ true) }
+        ensures { other.now.block ≡ self.now.block → other.now.lease ≡ self.now.lease }
     {
         let _ = other;
     }
+
+    /// This owner is of another block than a sole owner who has its block back.
+    pub(crate) fn lives_apart(&self, sole: &mut OwnerToken<H>)
+        requires { (self.now.held ≡ true) × (sole.old.held ≡ true)
+            × (sole.old.lease.is_lent ≡ false) }
+        ensures { (sole.new ≡ sole.old) × (¬ (self.now.block ≡ sole.old.block)) }
+    {}
 
     /// Its share of the lifetime.
     pub(crate) fn lifetime(&self) -> &LifetimeToken

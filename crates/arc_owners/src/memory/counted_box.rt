@@ -395,6 +395,25 @@ impl<V: Drop, A: Allocator + Copy, const MAX: u64, H: Mark> CountedBox<V, A, MAX
         ensures forgotten { H.whole ≡ true → (result.0 ≡ None) × IsPassOfNone result.1 }
         ensures ended { H.whole ≡ false → EndsByItself (owner_in self) result.1 (is_some result.0) }
     {
+        let (last, pass) = self.let_go_with_end();
+        match last {
+            Some((value, ended)) => {
+                ended.forget();
+                (Some(value), pass)
+            }
+            None => (None, pass),
+        }
+    }
+
+    /// The same; the last one also gets that the lifetime has ended for which the value was lent,
+    /// for what else was lent for it.
+    #[inline(always)]
+    pub fn let_go_with_end(self) -> (Option<(V, EndedLifetime)>, Pass<H>)
+        ensures value { IfSome result.0 (λ r. r.0 ≡ value_of self) }
+        ensures lifetime { IfSome result.0 (λ r. r.1.lifetime ≡ lifetime_in self) }
+        ensures forgotten { H.whole ≡ true → (result.0 ≡ None) × IsPassOfNone result.1 }
+        ensures ended { H.whole ≡ false → EndsByItself (owner_in self) result.1 (is_some result.0) }
+    {
         let (share, kept) = self.parted();
         let word = Inner::word_place(kept.memory.at);
         let (last, spoils, trace) = unsafe { H::let_go(word, &kept.lodging, share.right) };
@@ -403,9 +422,7 @@ impl<V: Drop, A: Allocator + Copy, const MAX: u64, H: Mark> CountedBox<V, A, MAX
             mark: PhantomData,
         };
         if last {
-            let (value, ended) = kept.take(LifetimeEnd { spoils });
-            ended.forget();
-            (Some(value), pass)
+            (Some(kept.take(LifetimeEnd { spoils })), pass)
         } else {
             (None, pass)
         }

@@ -5,9 +5,10 @@ use super::counted_box::{CountedBox, Housed};
 use super::inner::Inner;
 use super::lent_value::LentValue;
 use crate::count::share_without_lifetime::ShareWithoutLifetime;
+use crate::count::tokens::Pass;
 use crate::count::word::WordBorrow;
 use crate::lifetime::LifetimeToken;
-use crate::mark::{Mark, Open};
+use crate::mark::{Mark, Open, Stepping};
 use std::alloc::Allocator;
 
 /// One owner of a counted box, without its share of the lifetime for which the value is lent. It
@@ -31,6 +32,7 @@ impl<V: Drop, A: Allocator + Copy, const MAX: u64, H: Mark> CountedBoxWithoutLif
     MAX,
     H,
 > {
+    ghost use Rattle.arc_owners.specs.count.Calls.{IsPassFor, Learns};
     ghost use Rattle.arc_owners.specs.memory.Boxes.{owner_in, value_of, lifetime_in, note_in};
     ghost use Rattle.arc_owners.specs.memory.Boxes.{owner_in_rest, value_of_rest};
     ghost use Rattle.arc_owners.specs.memory.Boxes.{lifetime_in_rest, share_taken_from};
@@ -56,5 +58,32 @@ impl<V: Drop, A: Allocator + Copy, const MAX: u64, H: Mark> CountedBoxWithoutLif
             lodging,
             share: share.with_lifetime(lifetime),
         }
+    }
+    /// Afterwards the first pass has seen at least what the other had. It adds no entry and takes
+    /// no memory.
+    pub fn learn(&self, pass: &mut Pass<H>, other: &Pass<H>)
+        requires pass { IsPassFor (owner_in_rest self.now) pass.old }
+        requires other { IsPassFor (owner_in_rest self.now) other.now }
+        ensures { Learns (owner_in_rest self.now).block pass.old other.now pass.new }
+    {
+        pass.learn(other);
+    }
+}
+
+impl<V: Drop, A: Allocator + Copy, const MAX: u64, H: Stepping> CountedBoxWithoutLifetime<
+    V,
+    A,
+    MAX,
+    H,
+> {
+    ghost use Rattle.arc_owners.specs.count.Calls.{IsNewPass};
+    ghost use Rattle.arc_owners.specs.memory.Boxes.{owner_in_rest};
+
+    /// A new pass, which has seen at least the entry that made this owner, and made nothing. It
+    /// adds no entry and takes no memory.
+    pub fn pass(&self) -> Pass<H>
+        ensures { IsNewPass (owner_in_rest self.now) result }
+    {
+        self.share.pass()
     }
 }

@@ -42,7 +42,7 @@ impl<V: Drop, A: Allocator + Copy, const MAX: u64, H: Mark> SoleBox<V, A, MAX, H
     ghost use Rattle.std.specs.Prelude.{◌≡◌, ◌≤◌, IfOk, IfErr, IfSome, is_some, true, false, None};
     ghost use Rattle.arc_owners.specs.history.Histories.{LivesAlone};
     ghost use Rattle.arc_owners.specs.count.Calls.{IsPassFor, IsPassOfNone, IsFirst, IsFreshPass};
-    ghost use Rattle.arc_owners.specs.count.Calls.{Learns, Leaves, SeesAlone, EndsByItself};
+    ghost use Rattle.arc_owners.specs.count.Calls.{Learns, Leaves, SeesAlone, EndsByItself, Asks};
     ghost use Rattle.arc_owners.specs.count.Calls.{EndsWithoutStep, seen, history_of, sole_owner};
     ghost use Rattle.arc_owners.specs.memory.Boxes.{owner_in, value_of, lifetime_in, note_in};
     ghost use Rattle.arc_owners.specs.count.LentNotes.{LentNote, no_note};
@@ -112,6 +112,17 @@ impl<V: Drop, A: Allocator + Copy, const MAX: u64, H: Mark> SoleBox<V, A, MAX, H
         ensures { SeesAlone (sole_in self.now) pass.old pass.new }
     {
         self.sole.only(pass);
+    }
+
+    /// Whether no other owner lives, by one load, as an owner asks to whom the value is lent. Adds
+    /// Alone with the answer. Takes no memory.
+    #[tactic(auto, using(crate::proofs::count::Calls::asks_of))]
+    pub fn is_unique_as(&self, pass: &mut Pass<H>) -> bool
+        requires pass { IsPassFor (sole_in self.now) pass.old }
+        ensures entry { Asks (sole_in self.now) pass.old pass.new result }
+    {
+        let word = &self.memory.get().word;
+        word.load(&self.sole.right, &mut pass.trace) == 1
     }
 
     /// Lends the value anew, under the same history: the same owner of the same value, for a new

@@ -1,6 +1,8 @@
 //! `Buf` of read windows over bytes and byte text.
 ghost use Rattle.std.specs.Prelude.{◌≡◌, ◌≤◌, [], length, drop};
 ghost use Rattle.arc_block.specs.Place.{moved};
+ghost use Rattle.arc_read.specs.Ends.{end_place};
+ghost use Rattle.bytes.specs.Adapters.{kept_spare};
 ghost use Rattle.bytes.specs.Unread.{IsChunkOf};
 
 use crate::slice::ArcSlice;
@@ -15,6 +17,8 @@ impl<L: Layout, B: Buffer<u8> + Drop, M: Drop, A: Allocator + Copy, H: Mark> Buf
     for ArcSlice<Plain<u8>, L, B, M, A, H> {
     ghost unread = { λ w. w.items };
 
+    ghost kept = { λ w. kept_spare (end_place w.place w.items) };
+
     fn remaining(&self) -> usize {
         self.len()
     }
@@ -30,6 +34,8 @@ impl<L: Layout, B: Buffer<u8> + Drop, M: Drop, A: Allocator + Copy, H: Mark> Buf
     fn advance(&mut self, count: usize)
         requires { count ≤ length self.old.items }
         ensures value { self.new.items ≡ drop count self.old.items }
+        ensures kept { kept_spare (end_place self.new.place self.new.items)
+            ≡ kept_spare (end_place self.old.place self.old.items) }
         ensures place { self.new.place ≡ moved count self.old.place }
     {
         ArcSlice::advance(self, count);
@@ -40,6 +46,8 @@ impl<L: Layout, B: Buffer<u8> + Drop, M: Drop, A: Allocator + Copy, H: Mark> Buf
     for ArcSlice<ByteText, L, B, M, A, H> {
     ghost unread = { λ w. w.items };
 
+    ghost kept = { λ w. kept_spare (end_place w.place w.items) };
+
     fn remaining(&self) -> usize {
         self.len()
     }
@@ -55,6 +63,8 @@ impl<L: Layout, B: Buffer<u8> + Drop, M: Drop, A: Allocator + Copy, H: Mark> Buf
     fn advance(&mut self, count: usize)
         requires { count ≤ length self.old.items }
         ensures value { self.new.items ≡ drop count self.old.items }
+        ensures kept { kept_spare (end_place self.new.place self.new.items)
+            ≡ kept_spare (end_place self.old.place self.old.items) }
         ensures place { self.new.place ≡ moved count self.old.place }
     {
         ArcSlice::advance(self, count);

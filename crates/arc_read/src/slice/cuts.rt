@@ -164,6 +164,30 @@ impl<
         }
         unreachable!()
     }
+
+    /// `try_subslice_as` where another thread's step came between already, apart so that the first
+    /// attempt is inlined alone.
+    #[inline(never)]
+    pub(super) fn try_subslice_again_as(
+        &self,
+        rt: &impl Wait,
+        start: usize,
+        end: usize,
+        pass: &mut Pass<H>,
+    ) -> Result<Self, OwnerError>
+    where
+        S: Subsliceable,
+        requires range { IsRange S.boundary self.now.items start end }
+        requires pass { IsPassAt self.now.place pass.old }
+        ensures items { IfOk result (λ part. part.items ≡ sub self.now.items start end) }
+        ensures slice { IfOk result (λ part. part.items ≡ slice_range self.now.items start end) }
+        ensures place { IfOk result (λ part.
+            Shares (sub_place L.STATIC self.now start end) pass.old pass.new part.place) }
+        ensures refused { IfErr result (λ e.
+            Refuses L.clone_wants (sub_place L.STATIC self.now start end) pass.old pass.new e) }
+    {
+        self.try_subslice_as(rt, start, end, pass)
+    }
 }
 
 impl<

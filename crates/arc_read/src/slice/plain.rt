@@ -142,7 +142,7 @@ impl<
             pass.show();
             return made;
         }
-        let made = self.try_subslice_as(rt, start, end, &mut pass);
+        let made = self.try_subslice_again_as(rt, start, end, &mut pass);
         pass.show();
         made
     }

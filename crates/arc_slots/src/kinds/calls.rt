@@ -10,6 +10,7 @@ ghost use Rattle.arc_block.specs.Window.{NeedsBlock};
 ghost use Rattle.arc_block.specs.Writers.{MakesRoom, MakesWriter, Pushes, room_for};
 ghost use Rattle.arc_commands.specs.Step.{Calls};
 
+use super::smalls::Smalls;
 use arc_block::layout::{Layout, LayoutMut};
 use arc_buffer::buffer::BufferMut;
 use arc_buffer::kinds::{CopySlice, Extendable, Slice, Text};
@@ -19,6 +20,7 @@ use arc_owners::owners::Pass;
 use arc_read::slice::ArcSlice;
 use arc_write::slice_mut::ArcSliceMut;
 use std::alloc::Allocator;
+use std::marker::PhantomData;
 use std::str;
 
 /// Which calls a kind S has, of those that not all kinds have, and these calls: each is answered
@@ -174,8 +176,10 @@ pub trait CallsOf<S: Slice> {
         ensures none { IfNone result ((window.new ≡ window.old) × (pass.new ≡ pass.old)) };
 }
 
-/// All of them: the calls of `Plain` and `ByteText`.
-pub struct AllCalls;
+/// All of them: the calls of `Plain` and `ByteText`. W says whether there are small windows.
+pub struct AllCalls<W: Smalls> {
+    of: PhantomData<W>,
+}
 
 /// Text is copied whole, also behind other text, and no byte is pushed.
 pub struct TextCalls;
@@ -183,11 +187,17 @@ pub struct TextCalls;
 /// Items that are moved are pushed, and never copied.
 pub struct OwnedCalls;
 
-impl<S: CopySlice + Extendable> CallsOf<S> for AllCalls
+impl<S: CopySlice + Extendable, W: Smalls> CallsOf<S> for AllCalls<W>
 where
     S::Item: Copy,
 {
-    ghost calls = { record { copies = true; pushes = true; extends = true; any_list = true } };
+    ghost calls = { record {
+      copies = true;
+      pushes = true;
+      extends = true;
+      any_list = true;
+      small = W.small;
+    } };
 
     fn copies() -> bool {
         true
@@ -252,7 +262,7 @@ where
 }
 
 /// The items of a legal list of `Text`, as a `str`.
-fn as_text(items: &[u8]) -> &str
+pub(super) fn as_text(items: &[u8]) -> &str
     requires { ∥ IsUtf8 items.now ∥₁ }
     ensures { result.now ≡ items.now }
 {
@@ -260,7 +270,13 @@ fn as_text(items: &[u8]) -> &str
 }
 
 impl CallsOf<Text> for TextCalls {
-    ghost calls = { record { copies = true; pushes = false; extends = true; any_list = false } };
+    ghost calls = { record {
+      copies = true;
+      pushes = false;
+      extends = true;
+      any_list = false;
+      small = true;
+    } };
 
     fn copies() -> bool {
         true
@@ -325,7 +341,13 @@ impl CallsOf<Text> for TextCalls {
 }
 
 impl<S: Extendable> CallsOf<S> for OwnedCalls {
-    ghost calls = { record { copies = false; pushes = true; extends = false; any_list = true } };
+    ghost calls = { record {
+      copies = false;
+      pushes = true;
+      extends = false;
+      any_list = true;
+      small = false;
+    } };
 
     fn copies() -> bool {
         false

@@ -8,7 +8,7 @@ use super::Table;
 use arc_block::layout::{Layout, LayoutMut};
 use arc_buffer::buffer::BufferMut;
 use arc_owners::error::AllocError;
-use arc_slots::kinds::{Commands, TableCmd, TableReply};
+use arc_slots::kinds::{Commands, SmallOf, TableCmd, TableReply};
 use std::alloc::Allocator;
 use std::sync::Wait;
 
@@ -21,6 +21,7 @@ impl<
 > Table<S, L, B, M, A>
 where
     L::Writable: LayoutMut,
+    S::Small: SmallOf<S, L, B, M, A>,
 {
     ghost use Rattle.arc_commands.specs.RunOf.{RunOf};
     ghost use Rattle.arc_commands.specs.Seen.{map_command, seen_reply};

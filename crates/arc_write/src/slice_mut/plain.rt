@@ -270,6 +270,7 @@ impl<
     /// # History
     ///
     /// That of `try_reserve_as`.
+    #[inline(always)]
     pub fn try_extend_from_slice(&mut self, items: &[S::Item]) -> Result<(), TryReserveError>
     where
         S: CopySlice,

@@ -161,6 +161,7 @@ impl<
     /// # History
     ///
     /// As `try_reserve_as`.
+    #[inline(always)]
     pub fn try_extend_from_slice_as(
         &mut self,
         items: &[S::Item],

@@ -240,5 +240,6 @@ impl<S: Slice, B: BufferMut<S::Item> + Drop, M: Drop, A: Allocator + Copy, H: Ma
     }
 }
 
+mod alone;
 mod ends;
 mod write;

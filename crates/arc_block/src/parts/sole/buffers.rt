@@ -76,7 +76,8 @@ impl<S: Slice, B: BufferMut<S::Item> + Drop, M: Drop, A: Allocator + Copy, H: Ma
     {
         let SoleParts { on } = self;
         match on {
-            SoleStorage::Memory(parts) => Err(Self::in_memory(parts.not_buffer())),
+            SoleStorage::Native(parts) => Err(Self::in_native(parts.not_buffer())),
+            SoleStorage::Vector(parts) => Err(Self::in_vector(parts.not_buffer())),
             SoleStorage::Buffer(parts) => match parts.try_into_buffer_as(pass) {
                 Ok(buffer) => Ok(buffer),
                 Err(back) => Err(Self::in_buffer(back)),
@@ -90,7 +91,8 @@ impl<S: Slice, B: BufferMut<S::Item> + Drop, M: Drop, A: Allocator + Copy, H: Ma
         ensures none { IfNone result (metadata_at self.now.place ≡ None) }
     {
         match &self.on {
-            SoleStorage::Memory(parts) => parts.metadata(),
+            SoleStorage::Native(parts) => parts.metadata(),
+            SoleStorage::Vector(parts) => parts.metadata(),
             SoleStorage::Buffer(parts) => parts.metadata(),
         }
     }
@@ -104,7 +106,8 @@ impl<S: Slice, B: BufferMut<S::Item> + Drop, M: Drop, A: Allocator + Copy, H: Ma
         ensures none { IfNone result (¬ IsOnCallers self.now.place) }
     {
         match &self.on {
-            SoleStorage::Memory(parts) => parts.borrowed_metadata(),
+            SoleStorage::Native(parts) => parts.borrowed_metadata::<B>(),
+            SoleStorage::Vector(parts) => parts.borrowed_metadata(),
             SoleStorage::Buffer(parts) => Some(parts.borrowed_metadata()),
         }
     }

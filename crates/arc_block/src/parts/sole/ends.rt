@@ -4,6 +4,7 @@ ghost use Rattle.arc_owners.specs.count.Calls.{Asks, Leaves, Learns, IsNewPass, 
 ghost use Rattle.arc_block.specs.LayoutFacts.{layout_facts};
 ghost use Rattle.arc_owners.specs.count.Calls.{SeesAlone, IsPassFor};
 ghost use Rattle.arc_block.specs.declared.parts.storage.Storage.TheVariants.{Block as In};
+ghost use Rattle.arc_block.specs.declared.parts.storage.Storage.TheVariants.{Native as On};
 ghost use Rattle.arc_block.specs.Block.{IsWritable};
 ghost use Rattle.arc_block.specs.Place.{at_owner, IsOnBlock};
 ghost use Rattle.arc_block.specs.Table.{reader};
@@ -15,9 +16,10 @@ ghost use Rattle.arc_block.specs.Window.{IsWithin, parts_of, window_seen};
 ghost use Rattle.arc_block.specs.Moves.{IsRefused, layout_move};
 
 use super::buffer::SoleBuffer;
-use super::memory::SoleMemory;
+use super::native::SoleNative;
+use super::vector::SoleVector;
 use super::{SoleParts, SoleStorage};
-use crate::block::{Block, MAX_OWNERS};
+use crate::block::{Block, MAX_OWNERS, NativeBlock};
 use crate::layout::Layout;
 use crate::parts::Parts;
 use crate::parts::storage::Storage;
@@ -55,10 +57,10 @@ impl<S: Slice, B: BufferMut<S::Item> + Drop, M: Drop, A: Allocator + Copy, H: Ma
             sole ≡ as_sole S.DROPS (parts_of (window_seen (In block) start end))) }
         ensures others { IfErr result (λ back. back ≡ block) }
     {
-        if block.is_in_memory() {
+        if block.is_vector() {
             return match block.try_into_sole_as(alloc, pass) {
                 Ok((count, items)) => {
-                    Ok(Self::in_memory(SoleMemory::over(alloc, count, items, start, end)))
+                    Ok(Self::in_vector(SoleVector::over(alloc, count, items, start, end)))
                 }
                 Err(block) => Err(block),
             };
@@ -69,6 +71,37 @@ impl<S: Slice, B: BufferMut<S::Item> + Drop, M: Drop, A: Allocator + Copy, H: Ma
         }
     }
 
+    /// The items from `start` to before `end` of a native block, as their only writer, where no
+    /// other owner lives. Else the block comes back.
+    ///
+    /// # History
+    ///
+    /// Alone with the answer.
+    fn try_of_native_as(
+        alloc: A,
+        block: NativeBlock<S, A, MAX_OWNERS, H>,
+        start: usize,
+        end: usize,
+        pass: &mut Pass<H>,
+    ) -> Result<Self, NativeBlock<S, A, MAX_OWNERS, H>>
+        requires pass { IsPassFor block.owner pass.old }
+        requires within { IsWithin {T = S.Item} {M = M} (On block) start end }
+        ensures entry { Asks block.owner pass.old pass.new (is_ok result) }
+        ensures sole { IfOk result (λ sole.
+            sole ≡ as_sole S.DROPS (parts_of (window_seen (On block) start end))) }
+        ensures others { IfErr result (λ back. back ≡ block) }
+    {
+        match block.try_into_sole_as(start, end, pass) {
+            Ok((count, memory)) => {
+                // Of items that need no drop the memory has those from `start` on alone.
+                let first = memory.start();
+                let (start, end) = (start - first, end - first);
+                Ok(Self::in_native(SoleNative::over(alloc, count, memory, start, end)))
+            }
+            Err(shared) => Err(shared),
+        }
+    }
+
     /// The same items and places, which others may read from now on. It adds nothing and takes no
     /// memory.
     pub fn freeze(self) -> Parts<S, B, M, A, H>
@@ -76,7 +109,8 @@ impl<S: Slice, B: BufferMut<S::Item> + Drop, M: Drop, A: Allocator + Copy, H: Ma
     {
         let SoleParts { on } = self;
         match on {
-            SoleStorage::Memory(parts) => parts.freeze(),
+            SoleStorage::Native(parts) => parts.freeze(),
+            SoleStorage::Vector(parts) => parts.freeze(),
             SoleStorage::Buffer(parts) => parts.freeze(),
         }
     }
@@ -110,9 +144,13 @@ impl<S: Slice, B: BufferMut<S::Item> + Drop, M: Drop, A: Allocator + Copy, H: Ma
     {
         let SoleParts { on } = self;
         match on {
-            SoleStorage::Memory(parts) => match parts.try_freeze_as::<L>(pass) {
+            SoleStorage::Native(parts) => match parts.try_freeze_as::<L, B>(pass) {
                 Ok(parts) => Ok(parts),
-                Err(back) => Err(Self::in_memory(back)),
+                Err(back) => Err(Self::in_native(back)),
+            },
+            SoleStorage::Vector(parts) => match parts.try_freeze_as::<L>(pass) {
+                Ok(parts) => Ok(parts),
+                Err(back) => Err(Self::in_vector(back)),
             },
             SoleStorage::Buffer(parts) => match parts.try_freeze_as::<L>(pass) {
                 Ok(parts) => Ok(parts),
@@ -126,7 +164,8 @@ impl<S: Slice, B: BufferMut<S::Item> + Drop, M: Drop, A: Allocator + Copy, H: Ma
         ensures { IsTrue result ↔ IsBlockHeld (layout_facts L.Layout) self.now.place }
     {
         match &self.on {
-            SoleStorage::Memory(parts) => parts.is_held::<L>(),
+            SoleStorage::Native(parts) => parts.is_held::<L>(),
+            SoleStorage::Vector(parts) => parts.is_held::<L>(),
             SoleStorage::Buffer(parts) => parts.is_held::<L>(),
         }
     }
@@ -151,10 +190,11 @@ impl<S: Slice, B: BufferMut<S::Item> + Drop, M: Drop, A: Allocator + Copy, H: Ma
     {
         let SoleParts { on } = self;
         match on {
-            SoleStorage::Memory(parts) => match parts.try_into_array_as::<N>(pass) {
+            SoleStorage::Native(parts) => match parts.try_into_array_as::<N>(pass) {
                 Ok(array) => Ok(array),
-                Err(back) => Err(Self::in_memory(back)),
+                Err(back) => Err(Self::in_native(back)),
             },
+            SoleStorage::Vector(parts) => Err(Self::in_vector(parts.not_array())),
             SoleStorage::Buffer(parts) => Err(Self::in_buffer(parts.not_memory())),
         }
     }
@@ -166,7 +206,8 @@ impl<S: Slice, B: BufferMut<S::Item> + Drop, M: Drop, A: Allocator + Copy, H: Ma
     {
         let SoleParts { on } = self;
         match on {
-            SoleStorage::Memory(parts) => SoleParts::in_memory(parts.into_kind()),
+            SoleStorage::Native(parts) => SoleParts::in_native(parts.into_kind()),
+            SoleStorage::Vector(parts) => SoleParts::in_vector(parts.into_kind()),
             SoleStorage::Buffer(parts) => SoleParts::in_buffer(parts.into_kind()),
         }
     }
@@ -183,7 +224,8 @@ impl<S: Slice, B: BufferMut<S::Item> + Drop, M: Drop, A: Allocator + Copy, H: Ma
     {
         let SoleParts { on } = self;
         match on {
-            SoleStorage::Memory(parts) => parts.release_as(pass),
+            SoleStorage::Native(parts) => parts.release_as(pass),
+            SoleStorage::Vector(parts) => parts.release_as(pass),
             SoleStorage::Buffer(parts) => parts.release_as(pass),
         }
     }
@@ -201,7 +243,8 @@ impl<S: Slice, B: BufferMut<S::Item> + Drop, M: Drop, A: Allocator + Copy, H: Ma
     {
         let SoleParts { on } = self;
         match on {
-            SoleStorage::Memory(parts) => parts.let_go(),
+            SoleStorage::Native(parts) => parts.let_go(),
+            SoleStorage::Vector(parts) => parts.let_go(),
             SoleStorage::Buffer(parts) => parts.let_go(),
         }
     }
@@ -214,7 +257,8 @@ impl<S: Slice, B: BufferMut<S::Item> + Drop, M: Drop, A: Allocator + Copy, H: Ma
             SeesAlone o pass.old pass.new) }
     {
         match &self.on {
-            SoleStorage::Memory(parts) => parts.only(pass),
+            SoleStorage::Native(parts) => parts.only(pass),
+            SoleStorage::Vector(parts) => parts.only(pass),
             SoleStorage::Buffer(parts) => parts.only(pass),
         }
     }
@@ -227,7 +271,8 @@ impl<S: Slice, B: BufferMut<S::Item> + Drop, M: Drop, A: Allocator + Copy, H: Ma
             Learns o.block pass.old other.now pass.new) }
     {
         match &self.on {
-            SoleStorage::Memory(parts) => parts.learn(pass, other),
+            SoleStorage::Native(parts) => parts.learn(pass, other),
+            SoleStorage::Vector(parts) => parts.learn(pass, other),
             SoleStorage::Buffer(parts) => parts.learn(pass, other),
         }
     }
@@ -246,7 +291,8 @@ impl<S: Slice, B: BufferMut<S::Item> + Drop, M: Drop, A: Allocator + Copy, H: St
         ensures { at_owner self.now.place (IsPassOfNone result) (λ o. IsNewPass o result) }
     {
         match &self.on {
-            SoleStorage::Memory(parts) => parts.pass(),
+            SoleStorage::Native(parts) => parts.pass(),
+            SoleStorage::Vector(parts) => parts.pass(),
             SoleStorage::Buffer(parts) => parts.pass(),
         }
     }
@@ -290,6 +336,17 @@ impl<S: Slice, B: BufferMut<S::Item> + Drop, M: Drop, A: Allocator + Copy, H: Ma
             alloc,
         } = self;
         match on {
+            Storage::Native(block) => {
+                match SoleParts::try_of_native_as(alloc, block, start, end, pass) {
+                    Ok(sole) => Ok(sole),
+                    Err(block) => Err(Parts {
+                        on: Storage::Native(block),
+                        start,
+                        end,
+                        alloc,
+                    }),
+                }
+            }
             Storage::Block(block) if !block.may_write(L::ANY) => Err(Parts {
                 on: Storage::Block(block),
                 start,

@@ -8,7 +8,7 @@ ghost use Rattle.arc_block.specs.Steps.{IsPassAt};
 ghost use Rattle.arc_block.specs.Window.{IsVecPart, IsBoxWhole};
 ghost use Rattle.arc_block.specs.Writers.{MakesWriterOver, size_at};
 
-use super::memory::SoleMemory;
+use super::vector::SoleVector;
 use super::{SoleParts, SoleStorage};
 use arc_buffer::buffer::BufferMut;
 use arc_buffer::kinds::Slice;
@@ -44,8 +44,12 @@ impl<S: Slice, B: BufferMut<S::Item> + Drop, M: Drop, A: Allocator + Copy, H: Ma
         ensures refused { IfErr result (λ back. (back ≡ items) × (1 ≤ vec_capacity items)
             × (pass.new ≡ pass.old)) }
     {
-        match SoleMemory::try_from_vec_as(alloc, items, pass) {
-            Ok(parts) => Ok(Self::in_memory(parts)),
+        if items.capacity() == 0 {
+            drop(items);
+            return Ok(Self::on_nothing(alloc));
+        }
+        match SoleVector::try_from_vec_as(alloc, items, pass) {
+            Ok(parts) => Ok(Self::in_vector(parts)),
             Err(back) => Err(back),
         }
     }
@@ -72,9 +76,10 @@ impl<S: Slice, B: BufferMut<S::Item> + Drop, M: Drop, A: Allocator + Copy, H: Ma
     {
         let SoleParts { on } = self;
         match on {
-            SoleStorage::Memory(parts) => match parts.try_into_vec_as(pass) {
+            SoleStorage::Native(parts) => Err(Self::in_native(parts.not_vector())),
+            SoleStorage::Vector(parts) => match parts.try_into_vec_as(pass) {
                 Ok(items) => Ok(items),
-                Err(back) => Err(Self::in_memory(back)),
+                Err(back) => Err(Self::in_vector(back)),
             },
             SoleStorage::Buffer(parts) => Err(Self::in_buffer(parts.not_memory())),
         }
@@ -102,9 +107,10 @@ impl<S: Slice, B: BufferMut<S::Item> + Drop, M: Drop, A: Allocator + Copy, H: Ma
     {
         let SoleParts { on } = self;
         match on {
-            SoleStorage::Memory(parts) => match parts.try_into_box_vec_as(pass) {
+            SoleStorage::Native(parts) => Err(Self::in_native(parts.not_vector())),
+            SoleStorage::Vector(parts) => match parts.try_into_box_vec_as(pass) {
                 Ok(items) => Ok(items),
-                Err(back) => Err(Self::in_memory(back)),
+                Err(back) => Err(Self::in_vector(back)),
             },
             SoleStorage::Buffer(parts) => Err(Self::in_buffer(parts.not_memory())),
         }

@@ -40,8 +40,9 @@ impl<S: Slice, B: BufferMut<S::Item> + Drop, M: Drop, A: Allocator + Copy, H: Ma
         ensures value { result.now ≡ self.old.items }
     {
         match &mut self.on {
-            SoleStorage::Memory(parts) => parts.as_mut_slice(),
             SoleStorage::Buffer(parts) => parts.as_mut_slice(),
+            SoleStorage::Native(parts) => parts.as_mut_slice(),
+            SoleStorage::Vector(parts) => parts.as_mut_slice(),
         }
     }
 
@@ -52,8 +53,9 @@ impl<S: Slice, B: BufferMut<S::Item> + Drop, M: Drop, A: Allocator + Copy, H: Ma
             self.old self.new result }
     {
         match &mut self.on {
-            SoleStorage::Memory(parts) => parts.try_reclaim(additional),
             SoleStorage::Buffer(parts) => parts.try_reclaim(additional),
+            SoleStorage::Native(parts) => parts.try_reclaim(additional),
+            SoleStorage::Vector(parts) => parts.try_reclaim(additional),
         }
     }
 
@@ -91,8 +93,22 @@ impl<S: Slice, B: BufferMut<S::Item> + Drop, M: Drop, A: Allocator + Copy, H: Ma
             (without_item result)) }
     {
         match &mut self.on {
-            SoleStorage::Memory(parts) => parts.try_push_as(item, pass),
             SoleStorage::Buffer(parts) => parts.try_push_as(item, pass),
+            SoleStorage::Native(parts) => parts.try_push_as(item, pass),
+            SoleStorage::Vector(parts) => parts.try_push_as(item, pass),
+        }
+    }
+
+    /// An item more, behind the others, where there is a place for it.
+    #[inline(always)]
+    pub(crate) fn push_reserved(&mut self, item: S::Item)
+        requires { length self.old.items + 1 ≤ capacity_of self.old.role }
+        ensures { self.new ≡ with_more (item ∷ []) self.old }
+    {
+        match &mut self.on {
+            SoleStorage::Native(parts) => parts.push_reserved(item),
+            SoleStorage::Vector(parts) => parts.push_reserved(item),
+            SoleStorage::Buffer(parts) => parts.push_reserved(item),
         }
     }
 
@@ -103,18 +119,21 @@ impl<S: Slice, B: BufferMut<S::Item> + Drop, M: Drop, A: Allocator + Copy, H: Ma
         ensures { self.new ≡ after_advance count self.old }
     {
         match &mut self.on {
-            SoleStorage::Memory(parts) => parts.advance(count),
             SoleStorage::Buffer(parts) => parts.advance(count),
+            SoleStorage::Native(parts) => parts.advance(count),
+            SoleStorage::Vector(parts) => parts.advance(count),
         }
     }
 
     /// Leaves the first so many items, if there are more.
+    #[inline(always)]
     pub fn truncate(&mut self, len: usize)
         ensures { self.new ≡ after_truncate S.DROPS len self.old }
     {
         match &mut self.on {
-            SoleStorage::Memory(parts) => parts.truncate(len),
             SoleStorage::Buffer(parts) => parts.truncate(len),
+            SoleStorage::Native(parts) => parts.truncate(len),
+            SoleStorage::Vector(parts) => parts.truncate(len),
         }
     }
 }
@@ -142,6 +161,7 @@ where
     /// # History
     ///
     /// As `try_reserve_as`.
+    #[inline(always)]
     #[tactic(auto, using(crate::proofs::Growth::never_asked))]
     pub fn try_extend_from_slice_as(
         &mut self,
@@ -162,19 +182,22 @@ where
             (size_at self.new.place) result) }
     {
         match &mut self.on {
-            SoleStorage::Memory(parts) => parts.try_extend_from_slice_as(items, pass),
             SoleStorage::Buffer(parts) => parts.try_extend_from_slice_as(items, pass),
+            SoleStorage::Native(parts) => parts.try_extend_from_slice_as(items, pass),
+            SoleStorage::Vector(parts) => parts.try_extend_from_slice_as(items, pass),
         }
     }
 
     /// A copy of the items more, behind the others, where there are places for them.
+    #[inline(always)]
     pub fn extend_reserved(&mut self, items: &[S::Item])
         requires { length self.old.items + length items.now ≤ capacity_of self.old.role }
         ensures { self.new ≡ with_more items.now self.old }
     {
         match &mut self.on {
-            SoleStorage::Memory(parts) => parts.extend_reserved(items),
             SoleStorage::Buffer(parts) => parts.extend_reserved(items),
+            SoleStorage::Native(parts) => parts.extend_reserved(items),
+            SoleStorage::Vector(parts) => parts.extend_reserved(items),
         }
     }
 }

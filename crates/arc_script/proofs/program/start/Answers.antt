@@ -14,6 +14,7 @@ returns-in-Ok-clause-ran g c =
       words,
       record {
         script = c.run_args.ensures.script;
+        storm = c.run_args.ensures.storm;
         usage = c.run_args.ensures.usage;
       },
     )

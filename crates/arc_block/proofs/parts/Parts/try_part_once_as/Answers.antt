@@ -5,6 +5,7 @@ use Rattle.arc_owners.specs.count.Calls.{MakesAnother}
 use Rattle.arc_block.specs.Block.{raw}
 use Rattle.arc_block.specs.LayoutFacts.{layout_facts}
 use Rattle.arc_block.proofs.Raws.{raw_items, raw_refuses}
+use Rattle.arc_block.proofs.NativeWindows.{native_items, native_shares, native_within}
 use Rattle.arc_block.proofs.Windows.{part_items, part_shares, part_within}
 use Rattle.arc_block.proofs.Windows.{slice_items, slice_shares, slice_within, places_fit}
 use Rattle.arc_block.proofs.Windows.{none_there, none_on_nothing}
@@ -12,23 +13,54 @@ use Rattle.arc_block.proofs.parts.Parts.try_part_once_as.Goals as goal
 
 pub returns-in-Ok-clause-items : goal.returns-in-Ok-clause-items
 returns-in-Ok-clause-items g c =
-    let alike = subst (λ r. IfOk r (λ other. (other.items ≡ c.in-Block.block.items)
-    × (other.facts ≡ c.in-Block.block.facts))) c.in-Ok.is c.in_ok-block-in-Block.ensures.alike in
-    part_items _ _ _ c.args.self.now _ c.self.view_is c.in-Block.is c.self.invariant
+    let alike = subst (λ r. IfOk r (λ other. other ≡ record c.in-Native.block {
+      owner = other.owner;
+    })) c.in-Ok.is c.in_ok-block-in-Native.ensures.alike in
+    native_items _ _ _ c.args.self.now _ c.self.view_is c.in-Native.is c.self.invariant
     g.L.Layout.STATIC c.args.start c.args.end c.requires.range.0 c.requires.range.1
-    (sym c.if-stands_on_nothing.ensures) c.in-Ok.block alike.0 alike.1
+    (sym c.if-stands_on_nothing.ensures) c.in-Ok.block alike
 
 pub returns-in-Ok-clause-place : goal.returns-in-Ok-clause-place
 returns-in-Ok-clause-place g c =
-    let alike = subst (λ r. IfOk r (λ other. (other.items ≡ c.in-Block.block.items)
-    × (other.facts ≡ c.in-Block.block.facts))) c.in-Ok.is c.in_ok-block-in-Block.ensures.alike in
+    let alike = subst (λ r. IfOk r (λ other. other ≡ record c.in-Native.block {
+      owner = other.owner;
+    })) c.in-Ok.is c.in_ok-block-in-Native.ensures.alike in
     let made = subst (λ r. IfOk r (λ other.
-    MakesAnother c.in-Block.block.owner c.args.pass.now c.try_share_once_as.new.pass other.owner))
-    c.in-Ok.is c.in_ok-block-in-Block.ensures.made in
+    MakesAnother c.in-Native.block.owner c.args.pass.now c.try_share_once_as.new.pass other.owner))
+    c.in-Ok.is c.in_ok-block-in-Native.ensures.made in
+    native_shares _ _ _ c.args.self.now _ c.self.view_is c.in-Native.is c.self.invariant
+    g.L.Layout.STATIC c.args.start c.args.end c.requires.range.0 c.requires.range.1
+    (sym c.if-stands_on_nothing.ensures) c.in-Ok.block alike
+    c.args.pass.now c.try_share_once_as.new.pass made
+
+pub invariant_of-result : goal.invariant_of-result
+invariant_of-result g c =
+    let alike = subst (λ r. IfOk r (λ other. other ≡ record c.in-Native.block {
+      owner = other.owner;
+    })) c.in-Ok.is c.in_ok-block-in-Native.ensures.alike in
+    native_within _ _ _ c.args.self.now _ c.self.view_is c.in-Native.is c.self.invariant
+    g.L.Layout.STATIC c.args.start c.args.end c.requires.range.0 c.requires.range.1
+    (sym c.if-stands_on_nothing.ensures) c.in-Ok.block alike
+
+pub returns-in-Ok-2-clause-items : goal.returns-in-Ok-2-clause-items
+returns-in-Ok-2-clause-items g c =
+    let alike = subst (λ r. IfOk r (λ other. (other.items ≡ c.in-Block.block.items)
+    × (other.facts ≡ c.in-Block.block.facts))) c.in-Ok-2.is c.in_ok-block-in-Block.ensures.alike in
+    part_items _ _ _ c.args.self.now _ c.self.view_is c.in-Block.is c.self.invariant
+    g.L.Layout.STATIC c.args.start c.args.end c.requires.range.0 c.requires.range.1
+    (sym c.if-stands_on_nothing.ensures) c.in-Ok-2.block alike.0 alike.1
+
+pub returns-in-Ok-2-clause-place : goal.returns-in-Ok-2-clause-place
+returns-in-Ok-2-clause-place g c =
+    let alike = subst (λ r. IfOk r (λ other. (other.items ≡ c.in-Block.block.items)
+    × (other.facts ≡ c.in-Block.block.facts))) c.in-Ok-2.is c.in_ok-block-in-Block.ensures.alike in
+    let made = subst (λ r. IfOk r (λ other.
+    MakesAnother c.in-Block.block.owner c.args.pass.now c.try_share_once_as-in-Block.new.pass other.owner))
+    c.in-Ok-2.is c.in_ok-block-in-Block.ensures.made in
     part_shares _ _ _ c.args.self.now _ c.self.view_is c.in-Block.is c.self.invariant
     g.L.Layout.STATIC c.args.start c.args.end c.requires.range.0 c.requires.range.1
-    (sym c.if-stands_on_nothing.ensures) c.in-Ok.block alike.0 alike.1
-    c.args.pass.now c.try_share_once_as.new.pass made
+    (sym c.if-stands_on_nothing.ensures) c.in-Ok-2.block alike.0 alike.1
+    c.args.pass.now c.try_share_once_as-in-Block.new.pass made
 
 pub returns-in-Static-clause-items : goal.returns-in-Static-clause-items
 returns-in-Static-clause-items g c =
@@ -41,13 +73,13 @@ returns-in-Static-clause-place g c =
     c.args.start c.args.end c.requires.range.0 c.requires.range.1 g.L.Layout.STATIC
     c.args.pass.now (sym c.if-stands_on_nothing.ensures)
 
-pub invariant_of-result : goal.invariant_of-result
-invariant_of-result g c =
+pub invariant_of-result-in-Ok-2 : goal.invariant_of-result-in-Ok-2
+invariant_of-result-in-Ok-2 g c =
     let alike = subst (λ r. IfOk r (λ other. (other.items ≡ c.in-Block.block.items)
-    × (other.facts ≡ c.in-Block.block.facts))) c.in-Ok.is c.in_ok-block-in-Block.ensures.alike in
+    × (other.facts ≡ c.in-Block.block.facts))) c.in-Ok-2.is c.in_ok-block-in-Block.ensures.alike in
     part_within _ _ _ c.args.self.now _ c.self.view_is c.in-Block.is c.self.invariant
     g.L.Layout.STATIC c.args.start c.args.end c.requires.range.0 c.requires.range.1
-    (sym c.if-stands_on_nothing.ensures) c.in-Ok.block alike.0 alike.1
+    (sym c.if-stands_on_nothing.ensures) c.in-Ok-2.block alike.0 alike.1
 
 pub invariant_of-result-in-Static : goal.invariant_of-result-in-Static
 invariant_of-result-in-Static g c =

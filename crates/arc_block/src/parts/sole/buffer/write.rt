@@ -114,6 +114,7 @@ impl<S: Slice, B: BufferMut<S::Item> + Drop, M: Drop, A: Allocator + Copy, H: Ma
     }
 
     /// `try_push_as` of a sole writer's parts.
+    #[inline(always)]
     pub(crate) fn try_push_as(
         &mut self,
         item: S::Item,
@@ -181,6 +182,7 @@ where
     S::Item: Copy,
 {
     /// `try_extend_from_slice_as` of a sole writer's parts.
+    #[inline(never)]
     pub(crate) fn try_extend_from_slice_as(
         &mut self,
         items: &[S::Item],

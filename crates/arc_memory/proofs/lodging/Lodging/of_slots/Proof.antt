@@ -1,5 +1,5 @@
 -- `of_slots` has back what lies in the places from the slots that were there, as many items as are asked for.
-use Rattle.std.proofs.Common.{◌≡◌, ℕ, ◌+◌, ◌-◌, ◌*◌, ◌^◌, ◌<◌, ◌≤◌, Bool, List, [], ◌∷◌, ◌++◌, length, refl, sym, ◌∙◌, subst, arith, w64, take, length-take-le}
+use Rattle.std.proofs.Common.{◌≡◌, ℕ, ◌*◌, ◌^◌, ◌≤◌, Bool, List, [], ◌∷◌, ◌++◌, length, refl, sym, ◌∙◌, subst, arith, w64, take, length-take-le}
 use mir.Syntax.{a_type}
 use mir.Val.{Val, WT, vint}
 use mir.MapTy.{inst_fn}

@@ -20,15 +20,15 @@ pub returns-in-Ok-clause-answer : goal.returns-in-Ok-clause-answer
 returns-in-Ok-clause-answer g c i =
     let s = c.args.self.now in
     let passes = c.args.passes.now.of_blocks.items in
-    let reads = c.is_written.ensures.reads c.if-is_written.false in
+    let for = sym c.has_part.ensures ∙ c.if-not-has_part.false in
     let ok = sym c.check_part.ensures.answer ∙ c.in_default.is in
     let after = c.try_part.new.passes.of_blocks.items in
     elim (cases_Bool (is_itself (row_of s) c.args.part)) [
       | inl all ↦
-          itself (setting g) c.args.next s passes i reads c.requires after c.args.part ok c.in-Ok.slot
+          itself (setting g) c.args.next s passes i c.requires after c.args.part for ok c.in-Ok.slot
           c.try_part.new.self all (c.in-Ok.ensures.itself all)
       | inr other ↦
-          beside (setting g) c.args.next s passes i reads c.requires after c.args.part ok c.in-Ok.slot
+          beside (setting g) c.args.next s passes i c.requires after c.args.part for ok c.in-Ok.slot
           c.try_part.new.self other (c.in-Ok.ensures.beside other)
     ]
 
@@ -36,11 +36,11 @@ pub returns-in-Err-try_part-clause-answer : goal.returns-in-Err-try_part-clause-
 returns-in-Err-try_part-clause-answer g c i =
     let s = c.args.self.now in
     let passes = c.args.passes.now.of_blocks.items in
-    let reads = c.is_written.ensures.reads c.if-is_written.false in
+    let for = sym c.has_part.ensures ∙ c.if-not-has_part.false in
     let ok = sym c.check_part.ensures.answer ∙ c.in_default.is in
     let after = c.try_part.new.passes.of_blocks.items in
     let e = c.in-Err-try_part.e in
     subst (λ x. Answers (setting g) c.args.next (part_command i c.args.part) s passes (reply.Owner e)
     (Some x) None after) (sym c.in-Err-try_part.ensures.kept)
-    (part-refused (setting g) c.args.next s passes i reads c.requires after c.args.part ok e
+    (part-refused (setting g) c.args.next s passes i c.requires after c.args.part for ok e
     c.in-Err-try_part.ensures.refused)

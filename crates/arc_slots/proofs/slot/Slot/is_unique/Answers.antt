@@ -11,9 +11,9 @@ give_back-requires g c =
     let b = c.self.inside.block in
     let w = c.in-Read.window in
     let view =
-    sym (reads-view c.self.inside.window w b c.in-Read.is) ∙ c.self.view_is in
+    sym (reads-view g.S.Small.SmallOf.seen c.self.inside.window w b c.in-Read.is) ∙ c.self.view_is in
     let fits =
-    reads-fits c.self.inside.window w b c.in-Read.is c.self.invariant.0 in
+    reads-fits g.S.Small.SmallOf.seen c.self.inside.window w b c.in-Read.is c.self.invariant.0 in
     let passes = c.args.passes.now.of_blocks.items in
     let has =
     subst (λ s. HasPassFor passes (stand_of (Some s))) (sym view) c.requires.pass in
@@ -25,9 +25,9 @@ returns g c =
     let b = c.self.inside.block in
     let w = c.in-Read.window in
     let view =
-    sym (reads-view c.self.inside.window w b c.in-Read.is) ∙ c.self.view_is in
+    sym (reads-view g.S.Small.SmallOf.seen c.self.inside.window w b c.in-Read.is) ∙ c.self.view_is in
     let fits =
-    reads-fits c.self.inside.window w b c.in-Read.is c.self.invariant.0 in
+    reads-fits g.S.Small.SmallOf.seen c.self.inside.window w b c.in-Read.is c.self.invariant.0 in
     let passes = c.args.passes.now.of_blocks.items in
     let after = c.give_back.new.self.of_blocks.items in
     let answer = c.is_unique_as-alone.result in

@@ -20,7 +20,7 @@ returns-in-Ok g c next i =
     let passes = c.args.passes.now.of_blocks.items in
     let after = c.try_into_mut.new.passes.of_blocks.items in
     wrote (setting g) next s passes after c.requires
-    (c.is_written.ensures.reads c.if-is_written.false) i c.in-Ok.ensures.alone c.in-Ok.ensures.may
+    (c.is_read.ensures.reads c.if-not-is_read.false) i c.in-Ok.ensures.alone c.in-Ok.ensures.may
     c.in-Ok.ensures.owner c.in-Ok.slot c.in-Ok.ensures.stand c.in-Ok.ensures.row
 
 pub returns-in-Err : goal.returns-in-Err
@@ -31,5 +31,5 @@ returns-in-Err g c next i =
     subst (λ x. Answers (setting g) next (command.Mut i) s passes reply.Refused (Some x) None after)
     (sym c.in-Err.ensures.back)
     (unwritten (setting g) next s passes after c.requires
-    (c.is_written.ensures.reads c.if-is_written.false) i c.in-Err.ensures.beside
+    (c.is_read.ensures.reads c.if-not-is_read.false) i c.in-Err.ensures.beside
     c.in-Err.ensures.may_not)

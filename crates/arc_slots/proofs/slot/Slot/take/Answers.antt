@@ -23,7 +23,7 @@ returns-in-Ok g c next i =
     subst (λ r. Answers (setting g) next (take_command i c.args.what) s passes r None None after)
     (sym c.in-Ok.ensures.reply)
     (took (setting g) next s passes c.requires
-    (c.is_written.ensures.reads c.if-not-is_written.true) i c.args.what after c.in-Ok.ensures.taken)
+    (c.is_read.ensures.reads c.if-is_read.true) i c.args.what after c.in-Ok.ensures.taken)
 
 pub returns-in-Err : goal.returns-in-Err
 returns-in-Err g c next i =
@@ -33,7 +33,7 @@ returns-in-Err g c next i =
     subst (λ x. Answers (setting g) next (take_command i c.args.what) s passes reply.Refused
     (Some x) None after) (sym c.in-Err.ensures.back)
     (untook (setting g) next s passes c.requires
-    (c.is_written.ensures.reads c.if-not-is_written.true) i c.args.what after
+    (c.is_read.ensures.reads c.if-is_read.true) i c.args.what after
     c.in-Err.ensures.refused)
 
 pub returns-in-Ok-try_take_written : goal.returns-in-Ok-try_take_written

@@ -2,10 +2,9 @@
 use Rattle.arc_block.specs.LayoutFacts.{layout_facts}
 use Rattle.std.proofs.Common.{Some, ◌<◌, length, sym, ap, ◌∙◌, subst}
 use Rattle.std.specs.Vec.{vec_capacity}
-use Rattle.arc_slots.specs.Slots.{held, stand_of}
+use Rattle.arc_slots.specs.Slots.{stand_of, writer_slot}
 use Rattle.arc_slots.specs.Stands.{HasPassFor}
 use Rattle.arc_slots.proofs.Filled.{slot-frozen, room-to-read, writes-view, writes-fits}
-use Rattle.arc_slots.specs.declared.slot.Held.TheVariants.{Write}
 use Rattle.arc_slots.proofs.Slots.{still-number}
 use Rattle.arc_slots.proofs.Taken.{back-same}
 use Rattle.arc_slots.proofs.slot.Slot.try_freeze.Goals as goal
@@ -17,14 +16,14 @@ keep-block-requires-clause-number g c =
     let h = c.self.inside.window in
     let passes = c.args.passes.now.of_blocks.items in
     still-number passes c.lend-pass.new.self.of_blocks.items c.lend-pass.result b w.place
-    (writes-fits h w b c.in-Write.is c.self.invariant.0)
+    (writes-fits g.S.Small.SmallOf.seen h w b c.in-Write.is c.self.invariant.0)
     (subst (λ s. HasPassFor passes (stand_of (Some s)))
-    (sym (sym (writes-view h w b c.in-Write.is) ∙ c.self.view_is)) c.requires.pass)
+    (sym (sym (writes-view g.S.Small.SmallOf.seen h w b c.in-Write.is) ∙ c.self.view_is)) c.requires.pass)
     c.lend-pass.ensures.taken
 
 pub keep-block-requires-clause-room : goal.keep-block-requires-clause-room
 keep-block-requires-clause-room g c begins =
-    room-to-read c.self.inside.window c.in-Write.window c.self.inside.block c.in-Write.is c.args.self
+    room-to-read g.S.Small.SmallOf.seen c.self.inside.window c.in-Write.window c.self.inside.block c.in-Write.is c.args.self
     c.self.view_is c.self.invariant.0 (layout_facts g.L.Layout)
     c.known_place.ensures c.args.passes.now.of_blocks.items
     c.lend-pass.new.self.of_blocks.items c.lend-pass.result
@@ -35,7 +34,7 @@ keep-block-requires-clause-room g c begins =
 
 pub returns-in-Ok-clause-frozen : goal.returns-in-Ok-clause-frozen
 returns-in-Ok-clause-frozen g c =
-    slot-frozen c.self.inside.window c.in-Write.window c.self.inside.block c.in-Write.is c.args.self
+    slot-frozen g.S.Small.SmallOf.seen c.self.inside.window c.in-Write.window c.self.inside.block c.in-Write.is c.args.self
     c.self.view_is c.self.invariant.0 (layout_facts g.L.Layout)
     c.known_place.ensures g.S.Slice.DROPS
     c.args.passes.now.of_blocks.items c.lend-pass.new.self.of_blocks.items c.lend-pass.result
@@ -51,17 +50,17 @@ give_back-requires g c =
     let h = c.self.inside.window in
     let passes = c.args.passes.now.of_blocks.items in
     still-number passes c.lend-pass.new.self.of_blocks.items c.lend-pass.result b w.place
-    (writes-fits h w b c.in-Write.is c.self.invariant.0)
+    (writes-fits g.S.Small.SmallOf.seen h w b c.in-Write.is c.self.invariant.0)
     (subst (λ s. HasPassFor passes (stand_of (Some s)))
-    (sym (sym (writes-view h w b c.in-Write.is) ∙ c.self.view_is)) c.requires.pass)
+    (sym (sym (writes-view g.S.Small.SmallOf.seen h w b c.in-Write.is) ∙ c.self.view_is)) c.requires.pass)
     c.lend-pass.ensures.taken
 
 pub returns-in-Err-clause-back : goal.returns-in-Err-clause-back
 returns-in-Err-clause-back g c =
     let b = c.self.inside.block in
     let w = c.in-Write.window in (
-      ap (λ u. held (Write u) b) c.in-Err.ensures.refused.0
-          ∙ sym (writes-view c.self.inside.window w b c.in-Write.is) ∙ c.self.view_is,
+      ap (λ u. writer_slot u b) c.in-Err.ensures.refused.0
+          ∙ sym (writes-view g.S.Small.SmallOf.seen c.self.inside.window w b c.in-Write.is) ∙ c.self.view_is,
       c.give_back.ensures
           ∙ back-same c.args.passes.now.of_blocks.items c.lend-pass.new.self.of_blocks.items
           c.lend-pass.result b c.lend-pass.ensures.taken c.try_freeze_as.new.pass

@@ -15,9 +15,9 @@ give_back-requires g c =
     let b = c.self.inside.block in
     let w = c.in-Read.window in
     let view =
-    sym (reads-view c.self.inside.window w b c.in-Read.is) ∙ c.self.view_is in
+    sym (reads-view g.S.Small.SmallOf.seen c.self.inside.window w b c.in-Read.is) ∙ c.self.view_is in
     let fits =
-    reads-fits c.self.inside.window w b c.in-Read.is c.self.invariant.0 in
+    reads-fits g.S.Small.SmallOf.seen c.self.inside.window w b c.in-Read.is c.self.invariant.0 in
     let passes = c.args.passes.now.of_blocks.items in
     let has =
     subst (λ s. HasPassFor passes (stand_of (Some s))) (sym view) c.requires.pass in
@@ -29,9 +29,9 @@ returns-in-Ok-clause-alone g c =
     let b = c.self.inside.block in
     let w = c.in-Read.window in
     let view =
-    sym (reads-view c.self.inside.window w b c.in-Read.is) ∙ c.self.view_is in
+    sym (reads-view g.S.Small.SmallOf.seen c.self.inside.window w b c.in-Read.is) ∙ c.self.view_is in
     let fits =
-    reads-fits c.self.inside.window w b c.in-Read.is c.self.invariant.0 in
+    reads-fits g.S.Small.SmallOf.seen c.self.inside.window w b c.in-Read.is c.self.invariant.0 in
     let passes = c.args.passes.now.of_blocks.items in
     let has =
     subst (λ s. HasPassFor passes (stand_of (Some s))) (sym view) c.requires.pass in
@@ -50,9 +50,9 @@ returns-in-Ok-clause-may g c =
     let b = c.self.inside.block in
     let w = c.in-Read.window in
     let view =
-    sym (reads-view c.self.inside.window w b c.in-Read.is) ∙ c.self.view_is in
+    sym (reads-view g.S.Small.SmallOf.seen c.self.inside.window w b c.in-Read.is) ∙ c.self.view_is in
     let fits =
-    reads-fits c.self.inside.window w b c.in-Read.is c.self.invariant.0 in
+    reads-fits g.S.Small.SmallOf.seen c.self.inside.window w b c.in-Read.is c.self.invariant.0 in
     let passes = c.args.passes.now.of_blocks.items in
     let has =
     subst (λ s. HasPassFor passes (stand_of (Some s))) (sym view) c.requires.pass in
@@ -69,9 +69,9 @@ returns-in-Ok-clause-owner g c =
     let b = c.self.inside.block in
     let w = c.in-Read.window in
     let view =
-    sym (reads-view c.self.inside.window w b c.in-Read.is) ∙ c.self.view_is in
+    sym (reads-view g.S.Small.SmallOf.seen c.self.inside.window w b c.in-Read.is) ∙ c.self.view_is in
     let fits =
-    reads-fits c.self.inside.window w b c.in-Read.is c.self.invariant.0 in
+    reads-fits g.S.Small.SmallOf.seen c.self.inside.window w b c.in-Read.is c.self.invariant.0 in
     let passes = c.args.passes.now.of_blocks.items in
     let has =
     subst (λ s. HasPassFor passes (stand_of (Some s))) (sym view) c.requires.pass in
@@ -87,9 +87,9 @@ returns-in-Err-clause-beside g c =
     let b = c.self.inside.block in
     let w = c.in-Read.window in
     let view =
-    sym (reads-view c.self.inside.window w b c.in-Read.is) ∙ c.self.view_is in
+    sym (reads-view g.S.Small.SmallOf.seen c.self.inside.window w b c.in-Read.is) ∙ c.self.view_is in
     let fits =
-    reads-fits c.self.inside.window w b c.in-Read.is c.self.invariant.0 in
+    reads-fits g.S.Small.SmallOf.seen c.self.inside.window w b c.in-Read.is c.self.invariant.0 in
     let passes = c.args.passes.now.of_blocks.items in
     let has =
     subst (λ s. HasPassFor passes (stand_of (Some s))) (sym view) c.requires.pass in
@@ -108,9 +108,9 @@ returns-in-Err-clause-may_not g c =
     let b = c.self.inside.block in
     let w = c.in-Read.window in
     let view =
-    sym (reads-view c.self.inside.window w b c.in-Read.is) ∙ c.self.view_is in
+    sym (reads-view g.S.Small.SmallOf.seen c.self.inside.window w b c.in-Read.is) ∙ c.self.view_is in
     let fits =
-    reads-fits c.self.inside.window w b c.in-Read.is c.self.invariant.0 in
+    reads-fits g.S.Small.SmallOf.seen c.self.inside.window w b c.in-Read.is c.self.invariant.0 in
     let passes = c.args.passes.now.of_blocks.items in
     let has =
     subst (λ s. HasPassFor passes (stand_of (Some s))) (sym view) c.requires.pass in
@@ -128,9 +128,9 @@ returns-in-Ok-clause-row g c =
     let w = c.in-Read.window in
     let drops = g.S.Slice.DROPS in
     let view =
-    sym (reads-view c.self.inside.window w b c.in-Read.is) ∙ c.self.view_is in
+    sym (reads-view g.S.Small.SmallOf.seen c.self.inside.window w b c.in-Read.is) ∙ c.self.view_is in
     let fits =
-    reads-fits c.self.inside.window w b c.in-Read.is c.self.invariant.0 in
+    reads-fits g.S.Small.SmallOf.seen c.self.inside.window w b c.in-Read.is c.self.invariant.0 in
     subst (λ (s : SlotView g.row.S-Item.Denot g.row.M.Denot).
     row_of c.written.result ≡ as_sole drops (row_of s)) view
     (ap row_of c.written.ensures

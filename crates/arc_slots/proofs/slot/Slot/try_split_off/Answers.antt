@@ -14,9 +14,9 @@ give_back-requires g c =
     let b = c.self.inside.block in
     let w = c.in-Read.front in
     let view =
-    sym (reads-view c.self.inside.window w b c.in-Read.is) ∙ c.self.view_is in
+    sym (reads-view g.S.Small.SmallOf.seen c.self.inside.window w b c.in-Read.is) ∙ c.self.view_is in
     let fits =
-    reads-fits c.self.inside.window w b c.in-Read.is c.self.invariant.0 in
+    reads-fits g.S.Small.SmallOf.seen c.self.inside.window w b c.in-Read.is c.self.invariant.0 in
     let passes = c.args.passes.now.of_blocks.items in
     let has =
     subst (λ s. HasPassFor passes (stand_of (Some s))) (sym view) c.requires.pass in
@@ -28,9 +28,9 @@ returns-then-at-eq0-clause-start g c =
     let b = c.self.inside.block in
     let w = c.in-Read.front in
     let view =
-    sym (reads-view c.self.inside.window w b c.in-Read.is) ∙ c.self.view_is in
+    sym (reads-view g.S.Small.SmallOf.seen c.self.inside.window w b c.in-Read.is) ∙ c.self.view_is in
     let fits =
-    reads-fits c.self.inside.window w b c.in-Read.is c.self.invariant.0 in
+    reads-fits g.S.Small.SmallOf.seen c.self.inside.window w b c.in-Read.is c.self.invariant.0 in
     let passes = c.args.passes.now.of_blocks.items in
     let after = c.give_back.new.self.of_blocks.items in
     let has =
@@ -50,9 +50,9 @@ returns-clause-later g c =
     let b = c.self.inside.block in
     let w = c.in-Read.front in
     let view =
-    sym (reads-view c.self.inside.window w b c.in-Read.is) ∙ c.self.view_is in
+    sym (reads-view g.S.Small.SmallOf.seen c.self.inside.window w b c.in-Read.is) ∙ c.self.view_is in
     let fits =
-    reads-fits c.self.inside.window w b c.in-Read.is c.self.invariant.0 in
+    reads-fits g.S.Small.SmallOf.seen c.self.inside.window w b c.in-Read.is c.self.invariant.0 in
     let passes = c.args.passes.now.of_blocks.items in
     let after = c.give_back.new.self.of_blocks.items in
     let has =

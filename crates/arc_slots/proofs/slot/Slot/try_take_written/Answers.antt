@@ -7,7 +7,7 @@ use Rattle.arc_slots.specs.Taking.{can_have, CanHave}
 use Rattle.arc_slots.proofs.Have.{have-is, have-numbered, have-says}
 use Rattle.arc_slots.proofs.Filled.{writes-fits, writes-view}
 use Rattle.arc_slots.proofs.Takes.{by-writer, fit-writer, parts-number, sole-back}
-use Rattle.arc_slots.proofs.Takes.{sole-unwanted}
+use Rattle.arc_slots.proofs.Takes.{sole-leaves, sole-unwanted, sole-wanted}
 use Rattle.arc_slots.proofs.slot.Slot.try_take_written.Given.{Over}
 use Rattle.arc_slots.proofs.slot.Slot.try_take_written.Goals.{After-into_parts}
 use Rattle.arc_slots.proofs.slot.Slot.try_take_written.Goals as goal
@@ -22,7 +22,7 @@ seen : (g : Over) (c : After-into_parts g)
 seen g c =
     by-writer c.self.inside.block c.args.self c.into_parts.result c.in-Write.window
     c.into_parts.ensures.parts
-    (sym (writes-view c.self.inside.window c.in-Write.window c.self.inside.block c.in-Write.is)
+    (sym (writes-view g.S.Small.SmallOf.seen c.self.inside.window c.in-Write.window c.self.inside.block c.in-Write.is)
     ∙ c.self.view_is)
 
 fits : (g : Over) (c : After-into_parts g)
@@ -30,7 +30,7 @@ fits : (g : Over) (c : After-into_parts g)
 fits g c =
     fit-writer c.self.inside.block c.args.self c.into_parts.result c.in-Write.window
     c.into_parts.ensures.parts
-    (writes-fits c.self.inside.window c.in-Write.window c.self.inside.block c.in-Write.is
+    (writes-fits g.S.Small.SmallOf.seen c.self.inside.window c.in-Write.window c.self.inside.block c.in-Write.is
     c.self.invariant.0)
 
 pub give_back-requires : goal.give_back-requires
@@ -40,6 +40,34 @@ give_back-requires g c =
     c.args.passes.now.of_blocks.items c.lend-pass.new.self.of_blocks.items c.lend-pass.result
     c.requires.pass c.lend-pass.ensures.taken
 
+pub returns-in-Ok-clause-taken : goal.returns-in-Ok-clause-taken
+returns-in-Ok-clause-taken g c =
+    let a = (goal.at.returns-in-Ok-clause-taken g c).After-into_parts in
+    let b = c.self.inside.block in
+    let q = c.into_parts.result in
+    let drops = g.S.Slice.DROPS in
+    sole-wanted b c.args.self c.in-Write.window.role q (seen g a) (fits g a)
+    c.args.passes.now.of_blocks.items c.lend-pass.new.self.of_blocks.items c.lend-pass.result
+    c.requires.pass c.lend-pass.ensures.taken (can_have drops c.args.what)
+    (can_have drops c.args.what) (have-numbered b drops c.args.what)
+    (CanHave drops c.args.what q.items q.place) (have-is q.items drops c.args.what q.place)
+    (have-says q.items drops c.args.what q.place) c.try_sole_into_reply-taken.new.pass
+    c.give_back.new.self.of_blocks.items c.give_back.ensures c.in-Ok.ensures.taken
+
+pub returns-in-Ok-clause-left : goal.returns-in-Ok-clause-left
+returns-in-Ok-clause-left g c =
+    let a = (goal.at.returns-in-Ok-clause-left g c).After-into_parts in
+    let b = c.self.inside.block in
+    let q = c.into_parts.result in
+    let drops = g.S.Slice.DROPS in
+    sole-leaves b c.args.self c.in-Write.window.role q (seen g a) (fits g a)
+    c.args.passes.now.of_blocks.items c.lend-pass.new.self.of_blocks.items c.lend-pass.result
+    c.requires.pass c.lend-pass.ensures.taken (can_have drops c.args.what)
+    (can_have drops c.args.what) (have-numbered b drops c.args.what)
+    (CanHave drops c.args.what q.items q.place) (have-is q.items drops c.args.what q.place)
+    (have-says q.items drops c.args.what q.place) c.try_sole_into_reply-taken.new.pass
+    c.give_back.new.self.of_blocks.items c.give_back.ensures c.in-Ok.ensures.entry
+
 pub returns-in-Err-clause-back : goal.returns-in-Err-clause-back
 returns-in-Err-clause-back g c =
     let a = (goal.at.returns-in-Err-clause-back g c).After-into_parts in
@@ -48,7 +76,7 @@ returns-in-Err-clause-back g c =
     let drops = g.S.Slice.DROPS in (
       ap (λ (w : PartsView g.row.S-Item.Denot g.row.M.Denot). writer_slot w b)
           (c.from_parts.ensures ∙ c.in-Err.ensures.back ∙ c.into_parts.ensures.parts)
-          ∙ sym (writes-view c.self.inside.window c.in-Write.window b c.in-Write.is)
+          ∙ sym (writes-view g.S.Small.SmallOf.seen c.self.inside.window c.in-Write.window b c.in-Write.is)
           ∙ c.self.view_is,
       sole-back b c.args.self c.in-Write.window.role q (seen g a) (fits g a)
           c.args.passes.now.of_blocks.items c.lend-pass.new.self.of_blocks.items c.lend-pass.result

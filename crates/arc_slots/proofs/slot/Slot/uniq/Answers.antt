@@ -19,7 +19,7 @@ returns g c next i =
     let passes = c.args.passes.now.of_blocks.items in
     let after = c.is_unique.new.passes.of_blocks.items in
     answered.uniq (setting g) next s passes after c.requires
-    (c.is_written.ensures.reads c.if-is_written.false) i false
+    (c.is_read.ensures.reads c.if-not-is_read.false) i false
     (subst (AsksPlace (row_of s).place (stand_of (Some s)) passes after) c.if-is_unique.false
     c.is_unique.ensures)
 
@@ -29,6 +29,6 @@ returns-then-is_unique g c next i =
     let passes = c.args.passes.now.of_blocks.items in
     let after = c.is_unique.new.passes.of_blocks.items in
     answered.uniq (setting g) next s passes after c.requires
-    (c.is_written.ensures.reads c.if-is_written.false) i true
+    (c.is_read.ensures.reads c.if-not-is_read.false) i true
     (subst (AsksPlace (row_of s).place (stand_of (Some s)) passes after) c.if-is_unique.true
     c.is_unique.ensures)

@@ -23,9 +23,9 @@ keep-self-inside-requires-clause-number g c =
     let h = c.self.inside.window in
     let passes = c.args.passes.now.of_blocks.items in
     still-number passes c.lend-pass.new.self.of_blocks.items c.lend-pass.result b w.place
-    (writes-fits h w b c.in-Write.is c.self.invariant.0)
+    (writes-fits g.S.Small.SmallOf.seen h w b c.in-Write.is c.self.invariant.0)
     (subst (λ s. HasPassFor passes (stand_of (Some s)))
-    (sym (sym (writes-view h w b c.in-Write.is) ∙ c.self.view_is)) c.requires.pass)
+    (sym (sym (writes-view g.S.Small.SmallOf.seen h w b c.in-Write.is) ∙ c.self.view_is)) c.requires.pass)
     c.lend-pass.ensures.taken
 
 pub give_back-requires : goal.give_back-requires
@@ -35,9 +35,9 @@ give_back-requires g c =
     let h = c.self.inside.window in
     let passes = c.args.passes.now.of_blocks.items in
     still-number passes c.lend-pass.new.self.of_blocks.items c.lend-pass.result b w.place
-    (writes-fits h w b c.in-Write.is c.self.invariant.0)
+    (writes-fits g.S.Small.SmallOf.seen h w b c.in-Write.is c.self.invariant.0)
     (subst (λ s. HasPassFor passes (stand_of (Some s)))
-    (sym (sym (writes-view h w b c.in-Write.is) ∙ c.self.view_is)) c.requires.pass)
+    (sym (sym (writes-view g.S.Small.SmallOf.seen h w b c.in-Write.is) ∙ c.self.view_is)) c.requires.pass)
     c.lend-pass.ensures.taken
 
 -- whether a first block is wanted goes by how many items are written
@@ -53,7 +53,7 @@ pub keep-self-inside-requires-clause-room : goal.keep-self-inside-requires-claus
 keep-self-inside-requires-clause-room g c begins =
     let wants = c.wants_block-begins.ensures ∙ fresh-is g
     (goal.at.keep-self-inside-requires-clause-room g c).After-additional in
-    room-for-pass c.self.inside.window c.in-Write.window c.self.inside.block c.in-Write.is
+    room-for-pass g.S.Small.SmallOf.seen c.self.inside.window c.in-Write.window c.self.inside.block c.in-Write.is
     c.args.self.now c.self.view_is c.self.invariant g.S.Slice.DROPS (first g)
     (type_size g.row.S-Item) (additional_of (seen_writing c.args.what)) (items_of (seen_writing c.args.what)) c.args.passes.now.of_blocks.items
     c.lend-pass.new.self.of_blocks.items c.lend-pass.result
@@ -66,7 +66,7 @@ invariant_of-self g c =
     let wants = c.wants_block-begins.ensures ∙ fresh-is g
     (goal.at.invariant_of-self g c).After-additional in
     let all =
-    slot-fills c.self.inside.window c.in-Write.window c.self.inside.block c.in-Write.is
+    slot-fills g.S.Small.SmallOf.seen c.self.inside.window c.in-Write.window c.self.inside.block c.in-Write.is
     c.args.self.now c.self.view_is c.self.invariant g.S.Slice.DROPS (first g)
     (type_size g.row.S-Item) (additional_of (seen_writing c.args.what)) (items_of (seen_writing c.args.what)) c.args.passes.now.of_blocks.items
     c.lend-pass.new.self.of_blocks.items c.lend-pass.result
@@ -80,7 +80,7 @@ pub returns-in-Ok : goal.returns-in-Ok
 returns-in-Ok g c =
     let wants = c.wants_block-begins.ensures ∙ fresh-is g
     (goal.at.returns-in-Ok g c).After-additional in
-    (slot-fills c.self.inside.window c.in-Write.window c.self.inside.block c.in-Write.is
+    (slot-fills g.S.Small.SmallOf.seen c.self.inside.window c.in-Write.window c.self.inside.block c.in-Write.is
     c.args.self.now c.self.view_is c.self.invariant g.S.Slice.DROPS (first g)
     (type_size g.row.S-Item) (additional_of (seen_writing c.args.what)) (items_of (seen_writing c.args.what)) c.args.passes.now.of_blocks.items
     c.lend-pass.new.self.of_blocks.items c.lend-pass.result
@@ -92,7 +92,7 @@ returns-in-Ok g c =
 pub invariant_of-self-in-Err : goal.invariant_of-self-in-Err
 invariant_of-self-in-Err g c =
     let all =
-    slot-unfilled c.self.inside.window c.in-Write.window c.self.inside.block c.in-Write.is
+    slot-unfilled g.S.Small.SmallOf.seen c.self.inside.window c.in-Write.window c.self.inside.block c.in-Write.is
     c.args.self.now c.self.view_is c.self.invariant g.S.Slice.DROPS (first g)
     (type_size g.row.S-Item) (additional_of (seen_writing c.args.what)) (items_of (seen_writing c.args.what)) c.args.passes.now.of_blocks.items
     c.lend-pass.new.self.of_blocks.items c.lend-pass.result
@@ -102,7 +102,7 @@ invariant_of-self-in-Err g c =
 
 pub returns-in-Err : goal.returns-in-Err
 returns-in-Err g c =
-    (slot-unfilled c.self.inside.window c.in-Write.window c.self.inside.block c.in-Write.is
+    (slot-unfilled g.S.Small.SmallOf.seen c.self.inside.window c.in-Write.window c.self.inside.block c.in-Write.is
     c.args.self.now c.self.view_is c.self.invariant g.S.Slice.DROPS (first g)
     (type_size g.row.S-Item) (additional_of (seen_writing c.args.what)) (items_of (seen_writing c.args.what)) c.args.passes.now.of_blocks.items
     c.lend-pass.new.self.of_blocks.items c.lend-pass.result

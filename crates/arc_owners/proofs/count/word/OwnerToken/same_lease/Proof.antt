@@ -5,11 +5,10 @@ use mir.MapTy.{inst_fn}
 use Rattle.std.proofs.Common.{◌≡◌, Bool, List, [], ◌∷◌, refl}
 use mir.Syntax.{named, a_type}
 use mir.Val.{Val, vunit, vptr}
-use base.Logic.{SProp, emp, wand, apply∗}
-use base.Fml.{Fml, Share, ftrue, fsep, flft, fhide}
-use types.Logic.{sem}
-use types.Kit.{‵, raw, ◌⊛◌, some, given, later, ◌$◌, ◌∵◌, !, qed, by, move, keep, drop, split}
-use types.Kit.{fsplit, fjoin, pick, learn, use1, use2, use3, await, rewrite, feq_i}
+use base.Logic.{SProp, emp}
+use base.Fml.{Fml, ftrue, fsep, flft, fhide}
+use types.Kit.{‵, raw, ◌⊛◌, given, later, ◌$◌, ◌∵◌, !, qed, by, move, keep, drop, split}
+use types.Kit.{fsplit, fjoin, join, learn, use1, use3, await, rewrite, feq_i}
 use types.Run.{unit_lit, of_opd, returns, enter}
 use types.ByLocal.{alloc_all, pass_all, free_all, look_at, sets}
 use contract.Monad.{fact_i, fact}
@@ -27,10 +26,10 @@ use denote.Triple.Walked.{Stays, stay_dropped, walk_of, Goes-dropped}
 use Rattle.core.specs.contracts.marker.PhantomData as marker
 use Rattle.std.proofs.raw_atomic.Walks.{proved}
 use Rattle.logbook.proofs.Fields.{Token, ends}
-use Rattle.arc_owners.specs.count.Invariant.{BlockId, known, right, right_shares}
+use Rattle.arc_owners.specs.count.Invariant.{right_shown, right_shares}
 use Rattle.arc_owners.specs.contracts.count.word.OwnerToken as OwnerToken
 use Rattle.arc_owners.proofs.count.Begins as begins
-use Rattle.arc_owners.proofs.count.Shared.{right_read, known_twice}
+use Rattle.arc_owners.proofs.count.Shared.{shares_shown}
 use Rattle.arc_owners.specs.contracts.count.word.OwnerToken.same_lease as f
 use Rattle.arc_owners.proofs.count.word.OwnerToken.same_lease.Statement.{statement}
 use Rattle.arc_owners.proofs.count.word.OwnerToken.same_lease.Code as code
@@ -78,15 +77,11 @@ same_lease_spec 𝓤 𝓛 𝓜 𝓡 wired T L =
     (OwnerToken.the_codes R.Denot R.coded (marker.the_row R).coded)
     (OwnerToken.the_heap R) (OwnerToken.the_lent R) κs.1.0 other b₂ o₂) $
     split ! $ drop ! $ unhide ! $
-    rewrite ! 0 (λ (k : Bool × BlockId).
-    ‵ (right_shares k.0 k.1 other.owner other.lease other.born κs.1.0))
-    (λ i. (asked.1 i, asked.2 i)) refl $ move ! (0 ∷ 2 ∷ []) $
-    use2 𝓛 (later (some (λ (r : Share). ‵ (right me other.owner other.lease r)
-    ⊛ raw (wand 𝓤 (sem 𝓛 (right me other.owner other.lease r))
-    (H.⇛ (𝓛.A.lft κs.1.0 qs.1.0))))))
-    (right_read 𝓛 me other.owner other.lease other.born κs.1.0 qs.1.0) $
-    await ! tt $ pick ! (λ r₂. split ! $ move ! (2 ∷ []) $
-    -- [the owner; the other right; its way back; the tokens]
+    rewrite ! 0 (λ (k : Bool). ‵ (right_shares k other.block other.owner other.lease other.born
+    κs.1.0)) asked.1 refl $
+    use1 𝓛 (‵ (right_shown other.block other.owner other.lease other.born κs.1.0))
+    (shares_shown 𝓛 other.block other.owner other.lease other.born κs.1.0) $ move ! (1 ∷ []) $
+    -- [the owner; the other owner; the tokens]
     use1 𝓛 (‵ (hidden_shr (Token R) κs.0 (own.marker, tt) b₁ o₁)
     ⊛ ‵ (fhide (right_shares own.held me own.owner own.lease own.born κs.0)))
     (lent_out 𝓛 (OwnerToken.struct R)
@@ -94,27 +89,12 @@ same_lease_spec 𝓤 𝓛 𝓜 𝓡 wired T L =
     (OwnerToken.the_heap R) (OwnerToken.the_lent R) κs.0 own b₁ o₁) $
     split ! $ drop ! $ unhide ! $
     rewrite ! 0 (λ (k : Bool). ‵ (right_shares k me own.owner own.lease own.born κs.0))
-    asked.0 refl $ fsplit ! $
-    use1 𝓛 (‵ (known me own.born) ⊛ ‵ (known me own.born)) (known_twice 𝓛 me own.born) $ split ! $
-    move ! (1 ∷ 2 ∷ []) $ fjoin ! $
-    -- [the owner; the invariant; the other right; its way back; the tokens]
-    move ! (0 ∷ 4 ∷ []) $
-    use2 𝓛 (later (some (λ (r : Share). ‵ (right me own.owner own.lease r)
-    ⊛ raw (wand 𝓤 (sem 𝓛 (right me own.owner own.lease r)) (H.⇛ (𝓛.A.lft κs.0 qs.0))))))
-    (right_read 𝓛 me own.owner own.lease own.born κs.0 qs.0) $
-    await ! tt $ pick ! (λ r₁. split ! $
-    -- [the right; its way back; the invariant; the other right; its way back; a token]
-    move ! (2 ∷ 0 ∷ 3 ∷ []) $
-    use3 𝓛 (later (given (other.lease ≡ own.lease) (‵ (right me own.owner own.lease r₁)
-    ⊛ ‵ (right me other.owner other.lease r₂))))
-    (begins.same_leases 𝓛 me own.born own.owner own.lease r₁ other.owner other.lease r₂) $
-    await ! tt $ learn ! (λ so. split ! $
-    -- [the right; the other right; the ways back; a token]
-    move ! (0 ∷ 2 ∷ []) $ use2 𝓛 (later (‵ (flft κs.0 qs.0)))
-    (apply∗ 𝓤 (sem 𝓛 (right me own.owner own.lease r₁)) (H.⇛ (𝓛.A.lft κs.0 qs.0))) $
-    await ! tt $ move ! (1 ∷ 2 ∷ []) $ use2 𝓛 (later (‵ (flft κs.1.0 qs.1.0)))
-    (apply∗ 𝓤 (sem 𝓛 (right me other.owner other.lease r₂)) (H.⇛ (𝓛.A.lft κs.1.0 qs.1.0))) $
-    await ! tt $
+    asked.0 refl $ use1 𝓛 (‵ (right_shown me own.owner own.lease own.born κs.0))
+    (shares_shown 𝓛 me own.owner own.lease own.born κs.0) $ move ! (2 ∷ 3 ∷ []) $ join ! $ move ! (1 ∷ 2 ∷ 0 ∷ []) $
+    use3 𝓛 (later (given (other.block ≡ me → other.lease ≡ own.lease)
+    (‵ (flft κs.1.0 qs.1.0) ⊛ ‵ (flft κs.0 qs.0))))
+    (begins.leases_told 𝓛 me own.born own.owner own.lease κs.0 qs.0 other.block other.born
+    other.owner other.lease κs.1.0 qs.1.0) $ await ! tt $ learn ! (λ so. split ! $
     -- [the tokens, of the other first]
     sets ! (of_opd ! (unit_lit !)) refl (tt, tt) $
     feq_i ! (List Val) (vunit ∷ []) (vunit ∷ []) refl $
@@ -122,4 +102,4 @@ same_lease_spec 𝓤 𝓛 𝓜 𝓡 wired T L =
     nothing ! $ nothing ! $ fjoin ! $ nothing ! $ fjoin ! $
     returns ! (look_at ! 0 refl) $ free_all ! refl $ keep ! (1 ∷ 0 ∷ 2 ∷ []) $
     by ! (ends 𝓛 En hs c y vunit tt (tt, (tt, tt)) (tt, (tt, tt))
-    (fact_i 𝓤 _ (emp 𝓤) so))))))))
+    (fact_i 𝓤 _ (emp 𝓤) so))))))

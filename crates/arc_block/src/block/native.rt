@@ -1,0 +1,440 @@
+//! Native blocks: items in memory of this crate's own making, which is lent for the lease of the
+//! block's owners.
+//!
+//! What its counted box keeps is that the memory comes back at the end. An owner reads by where the
+//! memory begins, and touches neither the count nor what is kept.
+ghost use Rattle.std.specs.Prelude.{◌≡◌, ◌≤◌, ◌+◌, ◌-◌, ◌↔◌, Bool, true, false, IsTrue};
+ghost use Rattle.std.specs.Prelude.{IfOk, IfErr, IfSome, IfNone, is_some};
+ghost use Rattle.arc_owners.specs.count.Calls.{IsPassFor, IsNewPass, Learns, Asks, FindsFull};
+ghost use Rattle.arc_owners.specs.count.Calls.{MakesAnother, Leaves, AsksAndLeaves, EndsByItself};
+ghost use Rattle.arc_owners.specs.count.Calls.{IsPassOfNone, EndsShown, TakesBlock};
+ghost use Rattle.arc_memory.specs.KeptPlaces.{IfKept};
+ghost use Rattle.arc_buffer.specs.Slice.{sub};
+ghost use Rattle.std.specs.Prelude.{length, is_ok};
+ghost use Rattle.arc_owners.specs.count.Calls.{Owner, IsFirst, IsFreshPass};
+ghost use Rattle.arc_owners.specs.memory.Boxes.{owner_in, value_of};
+ghost use Rattle.arc_owners.specs.memory.SoleBoxes.{sole_in};
+ghost use Rattle.arc_block.specs.Block.{IsLimited};
+ghost use Rattle.arc_block.specs.Natives.{IsAmong, IsKeptFor, made_native, native_over};
+ghost use Rattle.arc_block.specs.Natives.{native_taken, native_seen, range_seen};
+
+use arc_buffer::kinds::Slice;
+use arc_memory::{Base, FrozenPlaces, FrozenReader, Kept, KeptItems, KeptPlaces, WriterMemory};
+use arc_owners::error::{AllocError, CountFull};
+use arc_owners::leave::RaiseLeave;
+use arc_owners::lifetime::{EndedLifetime, LifetimeToken};
+use arc_owners::mark::{Mark, Open, Stepping};
+use arc_owners::owners::{Pass, SoleBox};
+use std::alloc::Allocator;
+use std::marker::Model;
+use std::mem;
+
+/// The count of a native block, with its only owner.
+pub(crate) type NativeCount<T, A, const MAX: u64, H> = SoleBox<Kept<T, A>, A, MAX, H>;
+
+/// An owner of a native block, which at most `MAX` owners share, and who reads items that lie side
+/// by side in the block. Its memory is given back with its last owner.
+///
+/// Dropped, it ends with a new pass under the mark `Open`. Under `Whole` it is a forgotten owner:
+/// the block stays for good.
+pub struct NativeBlock<S: Slice, A: Allocator + Copy, const MAX: u64, H: Mark = Open> {
+    base: Base<S::Item>,
+    reader: FrozenReader<S::Item, Kept<S::Item, A>, A, MAX, H>,
+}
+
+/// Gives the block back that the last owner had, where it was the last one, and says whether it
+/// was.
+#[inline(always)]
+fn give_back<T: Drop, A: Allocator>(last: Option<(Kept<T, A>, EndedLifetime)>) -> bool
+    requires { IfSome last (λ r. IfKept r.0 (λ memory. memory.lifetime ≡ r.1.lifetime)) }
+    ensures { result ≡ is_some last }
+{
+    match last {
+        Some((kept, ended)) => {
+            kept.free(ended);
+            true
+        }
+        None => false,
+    }
+}
+
+impl<S: Slice, A: Allocator + Copy, const MAX: u64, H: Mark> Model for NativeBlock<S, A, MAX, H> {
+    ghost use Rattle.std.specs.Prelude.{◌≡◌};
+    ghost use Rattle.arc_owners.specs.memory.Boxes.{owner_in, value_of};
+    ghost use Rattle.arc_block.specs.Block.{IsLimited};
+    ghost use Rattle.arc_block.specs.Natives.{NativeView, native_seen, IsKeptFor};
+
+    ghost Value = { NativeView S.Item };
+
+    ghost view = { λ b. native_seen S.DROPS b.reader };
+
+    ghost invariant = { λ b. IsLimited MAX H.whole (owner_in b.reader.owner)
+        × (b.base.at ≡ b.reader.range.memory.base)
+        × IsKeptFor S.DROPS b.reader.range (value_of b.reader.owner) };
+}
+
+impl<S: Slice, A: Allocator + Copy, const MAX: u64, H: Mark> Drop for NativeBlock<S, A, MAX, H> {
+    #[inline(always)]
+    fn drop(self)
+        ensures ended { H.whole ≡ false → EndsShown H H.real self.owner }
+    {
+        self.let_go().show();
+    }
+}
+
+impl<S: Slice, A: Allocator + Copy, const MAX: u64, H: Mark> NativeBlock<S, A, MAX, H> {
+    /// One attempt to make one owner more of the same block, through this one, who reads the same
+    /// items: nothing where another thread's step came between, and then no entry is added. Who
+    /// calls it tries again.
+    ///
+    /// Takes no memory and copies no item.
+    ///
+    /// # Errors
+    ///
+    /// `CountFull` exactly where `MAX` owners live.
+    ///
+    /// # History
+    ///
+    /// Up, or Full where refused.
+    #[inline(always)]
+    #[tactic(auto, using(crate::proofs::Natives::kept_alike))]
+    pub fn try_share_once_as(
+        &self,
+        leave: RaiseLeave,
+        pass: &mut Pass<H>,
+    ) -> Option<Result<Self, CountFull>>
+        requires pass { IsPassFor self.now.owner pass.old }
+        ensures made { IfSome result (λ r. IfOk r (λ other.
+            MakesAnother self.now.owner pass.old pass.new other.owner)) }
+        ensures alike { IfSome result (λ r. IfOk r (λ other.
+            other ≡ record self.now { owner = other.owner })) }
+        ensures full { IfSome result (λ r.
+            IfErr r (λ _. FindsFull self.now.owner pass.old pass.new)) }
+        ensures again { IfNone result (pass.new ≡ pass.old) }
+    {
+        let base = Base { at: self.base.at };
+        match self.reader.try_again_once_as(leave, pass) {
+            Some(Ok(reader)) => Some(Ok(NativeBlock { base, reader })),
+            Some(Err(e)) => Some(Err(e)),
+            None => None,
+        }
+    }
+
+    /// The items from the place `start` of the block on and before the place `end`. It reads no
+    /// memory.
+    #[inline(always)]
+    pub fn range(&self, start: usize, end: usize) -> &[S::Item]
+        requires { IsAmong self.now start end }
+        ensures { result.now
+            ≡ sub self.now.items (start - self.now.first) (end - self.now.first) }
+    {
+        unsafe { self.reader.as_slice(self.base.at, start, end) }
+    }
+
+    /// Whether the block has so many places for items.
+    #[tactic(auto, using(crate::proofs::Natives::kept_places))]
+    pub fn is_of_places(&self, size: usize) -> bool
+        ensures { IsTrue result ↔ (self.now.size ≡ size) }
+    {
+        self.reader.owner.get().count() == size
+    }
+
+    /// How many owners the block may have at once, and under which mark it is.
+    pub fn max_owners(&self) -> u64
+        ensures answer { result ≡ MAX }
+        ensures block { IsLimited MAX H.whole self.now.owner }
+    {
+        let _ = &self.reader;
+        MAX
+    }
+
+    /// Whether no other owner lives, by one load. Adds Alone with the answer. Takes no memory.
+    #[inline(always)]
+    pub fn is_unique_as(&self, pass: &mut Pass<H>) -> bool
+        requires pass { IsPassFor self.now.owner pass.old }
+        ensures entry { Asks self.now.owner pass.old pass.new result }
+    {
+        self.reader.owner.is_unique_as(pass)
+    }
+
+    /// Ends this owner by one subtraction, and answers whether it was the last one: then the block
+    /// is given back. Adds its Down. Takes no memory.
+    #[inline(always)]
+    pub fn release_as(self, pass: &mut Pass<H>) -> bool
+        requires pass { IsPassFor self.owner pass.old }
+        ensures entry { Leaves self.owner pass.old pass.new result }
+    {
+        let NativeBlock { base: _, reader } = self;
+        give_back(reader.release_as(pass))
+    }
+
+    /// What a drop does: under `Open` this owner ends with a new pass, and the last one gives the
+    /// block back; under `Whole` it is forgotten, without a step. Takes no memory. The pass is the
+    /// one that the owner ended with; under `Whole` it is of no block.
+    #[inline(always)]
+    pub fn let_go(self) -> Pass<H>
+        ensures forgotten { H.whole ≡ true → IsPassOfNone result }
+        ensures ended { H.whole ≡ false → (last : Bool) × EndsByItself self.owner result last }
+    {
+        let NativeBlock { base: _, reader } = self;
+        let (last, pass) = reader.let_go();
+        let _ = give_back(last);
+        pass
+    }
+
+    /// Ends this owner: it reads the count first, and gives the block back without a further step
+    /// where no other owner lives, else it counts down. Takes no memory.
+    ///
+    /// # History
+    ///
+    /// Alone with what was found, then Down.
+    #[tactic(auto, using(crate::proofs::Natives::kept_ended, crate::proofs::Natives::kept_alike))]
+    pub fn drop_with_unique_hint_as(self, pass: &mut Pass<H>)
+        requires pass { IsPassFor self.owner pass.old }
+        ensures entries { AsksAndLeaves self.owner pass.old pass.new }
+    {
+        let NativeBlock { base, reader } = self;
+        match reader.try_into_sole_as(pass) {
+            Ok((count, ended, _)) => count.into_value_as(pass).free(ended),
+            Err(reader) => {
+                let _ = NativeBlock::<S, A, MAX, H> { base, reader }.release_as(pass);
+            }
+        }
+    }
+
+    /// Afterwards the first pass has seen at least what the other had. It adds no entry and takes
+    /// no memory.
+    pub fn learn(&self, pass: &mut Pass<H>, other: &Pass<H>)
+        requires pass { IsPassFor self.now.owner pass.old }
+        requires other { IsPassFor self.now.owner other.now }
+        ensures { Learns self.now.owner.block pass.old other.now pass.new }
+    {
+        self.reader.owner.learn(pass, other);
+    }
+}
+
+impl<S: Slice, A: Allocator + Copy, const MAX: u64, H: Mark> NativeBlock<S, A, MAX, H> {
+    /// The same owner, of items of another kind. Takes no memory and adds nothing.
+    pub fn into_kind<K: Slice<Item = S::Item>>(self) -> NativeBlock<K, A, MAX, H>
+        requires { K.DROPS ≡ S.DROPS }
+        ensures { result ≡ self }
+    {
+        let NativeBlock { base, reader } = self;
+        NativeBlock { base, reader }
+    }
+}
+
+impl<S: Slice, A: Allocator + Copy, const MAX: u64, H: Stepping> NativeBlock<S, A, MAX, H> {
+    /// A new pass, which has seen at least the entry that made this owner, and made nothing. It
+    /// adds no entry and takes no memory.
+    pub fn pass(&self) -> Pass<H>
+        ensures { IsNewPass self.now.owner result }
+    {
+        self.reader.owner.pass()
+    }
+}
+
+/// What the counted box of a block keeps of these places, which are frozen: all `len` of its full
+/// ones, where their items are dropped one by one.
+#[inline(always)]
+fn kept_of<S: Slice, A: Allocator>(
+    kept: KeptPlaces<S::Item, A>,
+    range: &FrozenPlaces<S::Item>,
+    base: *const S::Item,
+    len: usize,
+) -> Kept<S::Item, A>
+    requires lent { range.now.memory ≡ kept.inheritance.memory }
+    requires front { S.DROPS ≡ true → range.now.start ≡ 0 }
+    requires sizes { (base ≡ range.now.memory.base) × (len ≡ length range.now.items) }
+    ensures { IsKeptFor S.DROPS range.now result }
+{
+    if S::DROPS {
+        return Kept::Items(KeptItems::of(kept, range.again(), base, len));
+    }
+    Kept::Places(kept)
+}
+
+/// The memory that a block kept, once the lifetime has ended for which it was lent, with the items
+/// in the places from `start` on and before `end`; where they are dropped one by one with all.
+///
+/// The memory begins at `base`.
+#[inline(always)]
+#[tactic(auto, using(crate::proofs::Natives::places_taken, crate::proofs::Natives::items_taken))]
+fn regain<S: Slice, A: Allocator>(
+    kept: Kept<S::Item, A>,
+    ended: EndedLifetime,
+    range: &FrozenPlaces<S::Item>,
+    base: *const S::Item,
+    start: usize,
+    end: usize,
+) -> WriterMemory<S::Item, A>
+    requires kept { IsKeptFor S.DROPS range.now kept }
+    requires ended { ended.lifetime ≡ range.now.memory.lifetime }
+    requires place { base ≡ range.now.memory.base }
+    requires range { (range.now.start ≤ start) × (start ≤ end)
+        × (end ≤ range.now.start + length range.now.items) }
+    ensures taken { (o : Owner) → native_over S.DROPS o result
+        ≡ native_taken S.DROPS (range_seen S.DROPS o range.now) start end }
+    ensures front { S.DROPS ≡ true → result.places.under.start ≡ 0 }
+{
+    match kept {
+        Kept::Nothing => unreachable!(),
+        Kept::Places(kept) => {
+            let part = range.part(start, end);
+            unsafe { kept.regain_frozen_writer(ended, &part, base, start, end - start) }
+        }
+        Kept::Items(kept) => kept.regain(ended),
+    }
+}
+
+impl<S: Slice, A: Allocator + Copy, const MAX: u64, H: Mark> NativeBlock<S, A, MAX, H> {
+    /// The first owner of a new block with a copy of the items, and exactly a place for each, with
+    /// a pass of the block.
+    ///
+    /// Takes memory; refused, the answer is `AllocError`. `MAX` is at least 2.
+    pub fn try_from_slice(alloc: A, items: &[S::Item]) -> Result<(Self, Pass<H>), AllocError>
+    where
+        S::Item: Copy,
+        requires { 2 ≤ MAX }
+        ensures made { IfOk result (λ r. (r.0 ≡ made_native S.DROPS r.0.owner items.now)
+            × IsFirst MAX H.whole r.0.owner) }
+        ensures pass { IfOk result (λ r. IsFreshPass r.0.owner r.1) }
+    {
+        match WriterMemory::from_slice(alloc, items) {
+            Ok(memory) => match SoleBox::new(alloc, Kept::Nothing) {
+                Ok((count, pass)) => Ok((Self::of_sole(count, memory), pass)),
+                Err(_) => Err(AllocError),
+            },
+            Err(AllocError) => Err(AllocError),
+        }
+    }
+
+    /// The first owner of a new block with the items of an array, and exactly a place for each,
+    /// with a pass of the block.
+    ///
+    /// Takes memory; refused, the array comes back. `MAX` is at least 2.
+    pub fn try_from_array<const N: usize>(
+        alloc: A,
+        array: [S::Item; N],
+    ) -> Result<(Self, Pass<H>), [S::Item; N]>
+        requires { 2 ≤ MAX }
+        ensures made { IfOk result (λ r. (r.0 ≡ made_native S.DROPS r.0.owner array)
+            × IsFirst MAX H.whole r.0.owner) }
+        ensures pass { IfOk result (λ r. IsFreshPass r.0.owner r.1) }
+        ensures refused { IfErr result (λ back. back ≡ array) }
+    {
+        match WriterMemory::from_array(alloc, array) {
+            Ok(memory) => match SoleBox::new(alloc, Kept::Nothing) {
+                Ok((count, pass)) => Ok((Self::of_sole(count, memory), pass)),
+                Err(_) => Err(memory.into_array()),
+            },
+            Err(back) => Err(back),
+        }
+    }
+
+    /// The same owner of the same block, whose memory is lent anew: it may be shared from now on.
+    /// It adds no entry and takes no memory.
+    #[inline(always)]
+    pub(crate) fn of_sole(
+        count: NativeCount<S::Item, A, MAX, H>,
+        memory: WriterMemory<S::Item, A>,
+    ) -> Self
+        requires limited { IsLimited MAX H.whole (sole_in count) }
+        requires front { S.DROPS ≡ true → memory.places.under.start ≡ 0 }
+        ensures { result ≡ native_over S.DROPS (sole_in count) memory }
+    {
+        let (at, len) = (memory.base(), memory.len());
+        let lifetime = LifetimeToken::new();
+        let (part, kept) = memory.lend(&lifetime);
+        let (full, behind) = part.split(len);
+        behind.give_up();
+        let range = full.freeze(&lifetime);
+        let kept = kept_of::<S, A>(kept, &range, at, len);
+        let mut count = count;
+        drop(mem::replace(count.get_mut(), kept));
+        NativeBlock {
+            base: Base { at },
+            reader: FrozenReader::lend(count, lifetime, range),
+        }
+    }
+
+    /// An owner who reads a range of the block's places, in memory that begins at this base.
+    #[inline(always)]
+    pub(crate) fn of_reader(
+        base: Base<S::Item>,
+        reader: FrozenReader<S::Item, Kept<S::Item, A>, A, MAX, H>,
+    ) -> Self
+        requires limited { IsLimited MAX H.whole (owner_in reader.owner) }
+        requires base { base.at ≡ reader.range.memory.base }
+        requires kept { IsKeptFor S.DROPS reader.range (value_of reader.owner) }
+        ensures { result ≡ native_seen S.DROPS reader }
+    {
+        NativeBlock { base, reader }
+    }
+
+    /// The only owner of the same block, where no other one lives, and the block's memory, with the
+    /// items in the places from `start` on and before `end`: those of another place are forgotten,
+    /// unless they are dropped one by one, when all items stay. Else the block is handed back. No
+    /// item is moved. Takes no memory.
+    ///
+    /// # History
+    ///
+    /// Alone with the answer.
+    #[tactic(auto, using(crate::proofs::Natives::kept_alike))]
+    pub(crate) fn try_into_sole_as(
+        self,
+        start: usize,
+        end: usize,
+        pass: &mut Pass<H>,
+    ) -> Result<(NativeCount<S::Item, A, MAX, H>, WriterMemory<S::Item, A>), Self>
+        requires pass { IsPassFor self.owner pass.old }
+        requires range { IsAmong self start end }
+        ensures entry { Asks self.owner pass.old pass.new (is_ok result) }
+        ensures sole { IfOk result (λ r. (native_over S.DROPS (sole_in r.0) r.1
+            ≡ native_taken S.DROPS self start end) × IsLimited MAX H.whole (sole_in r.0)) }
+        ensures front { IfOk result (λ r. S.DROPS ≡ true → r.1.places.under.start ≡ 0) }
+        ensures others { IfErr result (λ back. back ≡ self) }
+    {
+        let NativeBlock { base, reader } = self;
+        match reader.try_into_sole_as(pass) {
+            Ok((mut count, ended, range)) => {
+                let kept = mem::replace(count.get_mut(), Kept::Nothing);
+                let memory = regain::<S, A>(kept, ended, &range, base.at, start, end);
+                Ok((count, memory))
+            }
+            Err(reader) => Err(NativeBlock { base, reader }),
+        }
+    }
+
+    /// The block's memory, taken where no other owner lives, with the items in the places from
+    /// `start` on and before `end`: those of another place are forgotten, unless they are dropped
+    /// one by one, when all items stay. Else the block is handed back. Takes no memory.
+    ///
+    /// # History
+    ///
+    /// Taken, Alone and Down. Refused, Alone with no.
+    #[tactic(auto, using(crate::proofs::Natives::kept_alike))]
+    pub fn try_into_memory_as(
+        self,
+        start: usize,
+        end: usize,
+        pass: &mut Pass<H>,
+    ) -> Result<WriterMemory<S::Item, A>, Self>
+        requires pass { IsPassFor self.owner pass.old }
+        requires range { IsAmong self start end }
+        ensures taken { IfOk result (λ memory. native_over S.DROPS self.owner memory
+            ≡ native_taken S.DROPS self start end) }
+        ensures alone { IfOk result (λ _. TakesBlock self.owner pass.old pass.new) }
+        ensures others { IfErr result (λ back. (back ≡ self)
+            × Asks self.owner pass.old pass.new false) }
+    {
+        let NativeBlock { base, reader } = self;
+        match reader.try_into_sole_as(pass) {
+            Ok((count, ended, range)) => {
+                let kept = count.into_value_as(pass);
+                Ok(regain::<S, A>(kept, ended, &range, base.at, start, end))
+            }
+            Err(reader) => Err(NativeBlock { base, reader }),
+        }
+    }
+}

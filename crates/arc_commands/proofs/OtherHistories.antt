@@ -1,0 +1,191 @@
+-- No command adds to the history of a block on which its window doesn't stand, and the other
+-- windows stand where they stood.
+use Rattle.std.proofs.Common.{◌≡◌, ℕ, Bool, true, false, List, length}
+use Rattle.std.proofs.Common.{Option, Some, None, slice_get, slice_set, refl, ap, ◌∙◌}
+use Rattle.std.specs.Prelude.{MatchOption}
+use Rattle.std.proofs.lemmas.Option.{none-some}
+use Rattle.arc_owners.specs.declared.count.tokens.Pass.{Pass}
+use Rattle.arc_owners.specs.declared.history.entry.Entry.{Entry}
+use Rattle.arc_owners.specs.count.Calls.{Owner}
+use Rattle.arc_block.specs.Block.{Sort, native, vector, buffer, raw}
+use Rattle.arc_block.specs.Owned.{Stand}
+use Rattle.arc_block.specs.Place.{Place, nowhere, static_data, on_block}
+use Rattle.arc_block.specs.Table.{Row, Table, row_at}
+use Rattle.arc_block.proofs.Lists.{get-front, get-set_other}
+use Rattle.arc_commands.specs.Additions.{Standing, Adds, AddsBy, AddsTo, AddsAt, Raises, Founds}
+use Rattle.arc_commands.specs.Additions.{MayBegin, Takes, TakesAs, AsksIf}
+use Rattle.arc_commands.specs.Additions.{AsksInVain, AsksInVainAt, RowAdds, MakerAdds, with_stand}
+use Rattle.arc_commands.specs.Additions.{stand_in, raised, asked, refused, ended}
+use Rattle.arc_commands.specs.Blocks.{is_sole}
+use Rattle.arc_commands.specs.Commands.{ListCmd, ListReply}
+use Rattle.arc_commands.specs.Others.{OtherHistoriesStay}
+use Rattle.arc_commands.specs.Step.{Setting, window_of, is_writable_at, is_vector_part}
+use Rattle.arc_commands.specs.Step.{is_box_whole, is_buffer_whole, is_raw_whole}
+use Rattle.arc_commands.specs.declared.command.Cmd.TheVariants as command
+use Rattle.arc_commands.specs.declared.command.Reply.TheVariants as reply
+
+-- behind the stands that are there one more may be
+with-stand-stays : (stands : List Stand) (made : Option Stand) (j : ℕ) (stand : Stand)
+    → slice_get stands j ≡ Some stand → slice_get (with_stand stands made) j ≡ Some stand
+with-stand-stays stands None j stand at = at
+with-stand-stays stands (Some made) j stand at = get-front stands j stand made at
+
+module _ {H : Type 0} where
+  -- the passes of all blocks stay but for that on which a window stands here
+  abbrev PassesStay : Stand → (old new : List (Pass H)) → Type 0
+  PassesStay here old new = (n : ℕ) (pass : Pass H) → ((o : Owner) → ¬ (here ≡ Some (n, o)))
+      → slice_get old n ≡ Some pass → slice_get new n ≡ Some pass
+
+  same-stay : (here : Stand) (old new : List (Pass H)) → new ≡ old → PassesStay here old new
+  same-stay here old new is n pass apart at = ap (λ ps. slice_get ps n) is ∙ at
+
+  adds-stay : (number : ℕ) (o : Owner) (entries : Owner → List Entry → List Entry)
+      (old new : List (Pass H)) → AddsTo number o entries old new
+      → PassesStay (Some (number, o)) old new
+  adds-stay number o entries old new adds n pass apart at =
+      ap (λ ps. slice_get ps n) adds.others
+      ∙ get-set_other old number n adds.after (λ same. apart o (ap (λ m. Some (m, o)) same)) ∙ at
+
+  at-stay : (here : Stand) (entries : Owner → List Entry → List Entry) (old new : List (Pass H))
+      → AddsAt here entries old new → PassesStay here old new
+  at-stay None entries old new adds = same-stay None old new adds
+  at-stay (Some (number, o)) entries old new adds = adds-stay number o entries old new adds
+
+  raises-stay : (here other : Stand) (old new : List (Pass H)) → Raises here other old new
+      → PassesStay here old new
+  raises-stay here None old new adds = same-stay here old new adds
+  raises-stay None (Some made) old new adds = absurd adds
+  raises-stay (Some (number, o)) (Some made) old new adds =
+      adds-stay number o (raised made.1.number) old new adds.1
+
+  founds-stay : (here there : Stand) (old new : List (Pass H)) → Founds there old new
+      → PassesStay here old new
+  founds-stay here None old new adds n pass apart at = same-stay here old new adds n pass apart at
+  founds-stay here (Some (number, owner)) old new adds n pass apart at =
+      ap (λ ps. slice_get ps n) adds.4 ∙ get-front old n pass adds.2 at
+
+  begins-stay : (here there : Stand) (old new : List (Pass H)) → MayBegin here there old new
+      → PassesStay here old new
+  begins-stay None there old new adds = founds-stay None there old new adds
+  begins-stay (Some here) there old new adds = same-stay (Some here) old new adds.1
+
+  module _ (here there : Stand) (made : Option Stand) (old new : List (Pass H)) where
+    takes-stay : Takes here there made old new → PassesStay here old new
+    takes-stay adds n pass apart at =
+        at-stay here ended adds.2 new adds.4 n pass apart
+        (at-stay here (asked true) old adds.2 adds.3 n pass apart at)
+
+    takes-as-stay : (sole : Bool) → TakesAs here there made old new sole → PassesStay here old new
+    takes-as-stay true adds = at-stay here ended old new adds.2
+    takes-as-stay false adds = takes-stay adds
+
+    asks-stay : (asks : Bool) → AsksIf here there made old new asks → PassesStay here old new
+    asks-stay true adds = at-stay here (asked false) old new adds.2
+    asks-stay false adds = same-stay here old new adds.2
+
+    vain-stay : (sort : Sort) → AsksInVain here there made old new sort → PassesStay here old new
+    vain-stay native adds = at-stay here (asked false) old new adds.2
+    vain-stay vector adds = at-stay here (asked false) old new adds.2
+    vain-stay (buffer writable) adds = at-stay here (asked adds.0) old new adds.1.2
+    vain-stay raw adds = same-stay here old new adds.2
+
+    in-vain-stay : {M : Type 0} (place : Place (Option ℕ) M)
+        → AsksInVainAt here there made old new place → PassesStay here old new
+    in-vain-stay nowhere adds = same-stay here old new adds.2
+    in-vain-stay static_data adds = same-stay here old new adds.2
+    in-vain-stay (on_block block offset info) adds = vain-stay info.sort adds
+
+    row-stay : {T M : Type 0} (setting : Setting T) (row : Row T M) (c : ListCmd T M)
+        (r : ListReply T M) → RowAdds here there made old new setting row c r
+        → PassesStay here old new
+    row-stay setting row (command.Clone i) (reply.New number) adds =
+        raises-stay here adds.0 old new adds.1
+    row-stay setting row (command.Sub i start end) (reply.New number) adds =
+        raises-stay here adds.0 old new adds.1
+    row-stay setting row (command.Off i at) (reply.New number) adds =
+        raises-stay here adds.0 old new adds.1
+    row-stay setting row (command.To i at) (reply.New number) adds =
+        raises-stay here adds.0 old new adds.1
+    row-stay setting row (command.Clone i) (reply.Owner e) adds =
+        at-stay here (refused e) old new adds.2
+    row-stay setting row (command.Sub i start end) (reply.Owner e) adds =
+        at-stay here (refused e) old new adds.2
+    row-stay setting row (command.Off i at) (reply.Owner e) adds =
+        at-stay here (refused e) old new adds.2
+    row-stay setting row (command.To i at) (reply.Owner e) adds =
+        at-stay here (refused e) old new adds.2
+    row-stay setting row (command.Uniq i) reply.Yes adds = at-stay here (asked true) old new adds.2
+    row-stay setting row (command.Uniq i) reply.No adds = in-vain-stay row.place adds
+    row-stay setting row (command.Mut i) reply.Ok adds = at-stay here (asked true) old new adds.2
+    row-stay setting row (command.Mut i) reply.Refused adds =
+        asks-stay (is_writable_at setting.writes_any row.place) adds
+    row-stay setting row (command.Res i additional) reply.Ok adds =
+        begins-stay here there old new adds.0
+    row-stay setting row (command.Push i item) reply.Ok adds =
+        begins-stay here there old new adds.0
+    row-stay setting row (command.Ext i items) reply.Ok adds =
+        begins-stay here there old new adds.0
+    row-stay setting row (command.Freeze i) reply.Ok adds = begins-stay here there old new adds.0
+    row-stay setting row (command.Drop i) reply.Ok adds = at-stay here ended old new adds.2
+    row-stay setting row (command.Take i) (reply.Vec items) adds =
+        takes-as-stay (is_sole row.role) adds
+    row-stay setting row (command.TakeBuf i) (reply.Buffer items) adds =
+        takes-as-stay (is_sole row.role) adds
+    row-stay setting row (command.TakeRaw i) (reply.Raw items) adds = takes-stay adds
+    row-stay setting row (command.TakeBox i) (reply.Boxed items) adds = takes-stay adds
+    row-stay setting row (command.Take i) reply.Refused adds =
+        asks-stay (is_vector_part setting.drops row.place (length row.items)) adds
+    row-stay setting row (command.TakeBox i) reply.Refused adds =
+        asks-stay (is_box_whole row.place (length row.items)) adds
+    row-stay setting row (command.TakeBuf i) reply.Refused adds =
+        asks-stay (is_buffer_whole row.place (length row.items)) adds
+    row-stay setting row (command.TakeRaw i) reply.Refused adds =
+        asks-stay (is_raw_whole row.place (length row.items)) adds
+    row-stay setting row (command.TakeStatic i) (reply.Static items) adds =
+        same-stay here old new adds.3
+    row-stay setting row c r adds = same-stay here old new adds.2
+
+  maker-stay : {T M : Type 0} (c : ListCmd T M) (r : ListReply T M) (made : Option Stand)
+      (old new : List (Pass H)) → MakerAdds c r made old new → PassesStay None old new
+  maker-stay (command.Static items) (reply.New number) made old new adds =
+      same-stay None old new adds.1
+  maker-stay c (reply.New number) made old new adds = founds-stay None adds.0 old new adds.2
+  maker-stay c r made old new adds = same-stay None old new adds.1
+
+  module _ {T M : Type 0} (setting : Setting T) (t : Table T M) (old : Standing H)
+      (c : ListCmd T M) (r : ListReply T M) (new : Standing H) where
+    made-stay : AddsBy setting t old c r new None → OtherHistoriesStay c old new
+    made-stay adds = record {
+      stands = λ j stand apart at.
+          ap (λ ss. slice_get ss j) adds.2 ∙ with-stand-stays old.stands adds.0 j stand at;
+      passes = λ n pass apart at.
+          maker-stay c r adds.0 old.passes new.passes adds.1 n pass (λ o is. none-some (n, o) is)
+          at;
+    }
+
+    on-stay : (i : ℕ) → window_of c ≡ Some i → (here : Option (Row T M))
+        → MatchOption here (new ≡ old) (λ row. (there : Stand) × (made : Option Stand)
+        × RowAdds (stand_in old i) there made old.passes new.passes setting row c r
+        × (new.stands ≡ with_stand (slice_set old.stands i there) made))
+        → OtherHistoriesStay c old new
+    on-stay i on None adds = record {
+      stands = λ j stand apart at. ap (λ (s : Standing H). slice_get s.stands j) adds ∙ at;
+      passes = λ n pass apart at. ap (λ (s : Standing H). slice_get s.passes n) adds ∙ at;
+    }
+    on-stay i on (Some row) adds = record {
+      stands = λ j stand apart at.
+          ap (λ ss. slice_get ss j) adds.3
+          ∙ with-stand-stays (slice_set old.stands i adds.0) adds.1 j stand
+          (get-set_other old.stands i j adds.0 (λ same. apart (on ∙ ap Some same)) ∙ at);
+      passes = λ n pass apart at.
+          row-stay (stand_in old i) adds.0 adds.1 old.passes new.passes setting row c r adds.2 n
+          pass (λ o here. apart (i, o, on, here)) at;
+    }
+
+    by-stay : (window : Option ℕ) → window_of c ≡ window → AddsBy setting t old c r new window
+        → OtherHistoriesStay c old new
+    by-stay None on adds = made-stay adds
+    by-stay (Some i) on adds = on-stay i on (row_at t i) adds
+
+    pub adds-stay-others : Adds setting t old c r new → OtherHistoriesStay c old new
+    adds-stay-others adds = by-stay (window_of c) refl adds

@@ -1,0 +1,24 @@
+//! Laws of the table of lists.
+ghost use Rattle.std.specs.Prelude.{List, ℕ};
+ghost use Rattle.arc_block.specs.Table.{Table};
+ghost use Rattle.arc_commands.specs.Commands.{ListCmd, ListReply};
+ghost use Rattle.arc_commands.specs.Others.{NoneIsOn, OtherRowsStay, OthersStay, RowStays};
+ghost use Rattle.arc_commands.specs.State.{CarriesOut, State};
+ghost use Rattle.arc_commands.specs.Step.{Run, Setting, Step};
+
+/// No command changes another row: what stands under a number that it isn't on, a row or that it
+/// has gone, stands there afterwards, and so it is of a run none of whose commands is on it. And
+/// one that is carried out adds nothing to the history of a block on which its window doesn't
+/// stand, and leaves the other windows where they stood. Does nothing: its contract is the law, for
+/// items and metadata of any type.
+pub fn others_stay<T, M>()
+    ensures step { (setting : Setting T) (old : Table T M) (command : ListCmd T M)
+        (reply : ListReply T M) (new : Table T M) → Step setting old command reply new
+        → OtherRowsStay command old new }
+    ensures run { (setting : Setting T) (old : Table T M) (commands : List (ListCmd T M))
+        (replies : List (ListReply T M)) (new : Table T M) (j : ℕ)
+        → Run setting old commands replies new → NoneIsOn commands j → RowStays j old new }
+    ensures carried_out { (setting : Setting T) (old : State T M) (command : ListCmd T M)
+        (reply : ListReply T M) (new : State T M) → CarriesOut setting old command reply new
+        → OthersStay command old new }
+{}

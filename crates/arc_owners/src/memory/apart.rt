@@ -1,0 +1,39 @@
+//! Owners of two blocks: what tells that they aren't of one.
+ghost use Rattle.std.specs.Prelude.{◌≡◌};
+
+use super::counted_box::CountedBox;
+use super::counted_box_without_lifetime::CountedBoxWithoutLifetime;
+use super::sole_box::SoleBox;
+use crate::mark::Mark;
+use std::alloc::Allocator;
+
+impl<V: Drop, A: Allocator + Copy, const MAX: u64, H: Mark> SoleBox<V, A, MAX, H> {
+    ghost use Rattle.arc_owners.specs.memory.Boxes.{owner_in, owner_in_rest};
+    ghost use Rattle.arc_owners.specs.memory.SoleBoxes.{sole_in, sole_value, sole_place};
+
+    /// An owner to whom a value is lent is of another block than a sole owner. It does nothing:
+    /// what it says is so.
+    pub fn apart_from<W: Drop>(&self, other: &CountedBox<W, A, MAX, H>)
+        ensures { ¬ ((owner_in other.now).block ≡ (sole_in self.now).block) }
+    {
+        self.sole.right.same_lease(&other.share.right);
+    }
+
+    /// The same of an owner whose share of the lifetime is elsewhere.
+    pub fn apart_from_rest<W: Drop>(&self, other: &CountedBoxWithoutLifetime<W, A, MAX, H>)
+        ensures { ¬ ((owner_in_rest other.now).block ≡ (sole_in self.now).block) }
+    {
+        other.share.right.same_lease(&self.sole.right);
+    }
+
+    /// Another sole owner is of another block. This one is borrowed to be changed, so that they are
+    /// two, and stays as it is.
+    pub fn apart_from_sole<W: Drop>(&mut self, other: &SoleBox<W, A, MAX, H>)
+        ensures same { (sole_in self.new ≡ sole_in self.old)
+            × (sole_value self.new ≡ sole_value self.old)
+            × (sole_place self.new ≡ sole_place self.old) }
+        ensures apart { ¬ ((sole_in other.now).block ≡ (sole_in self.old).block) }
+    {
+        other.sole.right.lives_apart(&mut self.sole.right);
+    }
+}

@@ -1,0 +1,87 @@
+//! The program's word for a storm of clones: how many threads it asks for, and what is written.
+ghost use Rattle.std.specs.Prelude.{◌≡◌, ◌++◌, ◌∷◌, [], ℕ, ◌<◌, MatchOption, String};
+ghost use Rattle.std.specs.declared.alloc.Global.{Global};
+ghost use Rattle.arc_forms.specs.Text.{hex, line_feed};
+ghost use Rattle.arc_script.specs.Traffic.{Takes};
+ghost use Rattle.arc_script.specs.Storms.{AsksForStorm, IsStorm, storm_fault_text};
+
+use super::{report, tell};
+use crate::io::Sink;
+use crate::script::write_out;
+use crate::storm::{OpenGate, StormError, storm};
+use arc_forms::parse::number_in;
+use arc_forms::text::digit_of;
+use arc_owners::error::OwnerError;
+use std::sync::Wait;
+use std::thread::Threads;
+
+/// The most workers that the program lets in.
+const MOST_WORKERS: usize = 64;
+
+/// The number of workers for which the words ask, `None` where they ask for no storm.
+pub(crate) fn workers_of(words: &[String]) -> Option<usize>
+    ensures { MatchOption result
+        ((workers : ℕ) → ¬ AsksForStorm workers words.now)
+        (λ workers. AsksForStorm workers words.now) }
+{
+    let [word, number] = words else {
+        return None;
+    };
+    if word.as_str() != "storm" {
+        return None;
+    }
+    let Some(workers) = number_in(number.as_bytes()) else {
+        return None;
+    };
+    if workers < 1 {
+        return None;
+    }
+    if workers > MOST_WORKERS {
+        return None;
+    }
+    Some(workers)
+}
+
+/// The line in which a refusal is told.
+fn refusal_line(error: StormError) -> &'static [u8]
+    ensures { result.now ≡ storm_fault_text error }
+{
+    match error {
+        StormError::Alloc | StormError::Owner(OwnerError::AllocError) => b"allocation error\n",
+        StormError::Owner(OwnerError::CountFull) => b"count full\n",
+        StormError::Thread => b"thread refused\n",
+        StormError::Taken => b"not unique\n",
+    }
+}
+
+/// An item as a line: two digits.
+fn item_line(item: u8) -> [u8; 3]
+    ensures { result ≡ hex (item ∷ []) ++ line_feed ∷ [] }
+{
+    [digit_of(item / 16), digit_of(item % 16), b'\n']
+}
+
+/// Lets so many threads clone one window, writes the vector that comes back, and answers the
+/// program's status; a fault is told in one line.
+pub(crate) fn run_storm<R: Threads + Wait + Sync + AllocGlobal, W: Sink, F: Sink>(
+    rt: &R,
+    workers: usize,
+    writer: &mut W,
+    faults: &mut F,
+) -> u8
+    ensures ran { IsStorm (W.traffic writer.old) (W.traffic writer.new)
+        (F.traffic faults.old) (F.traffic faults.new) result }
+    ensures taken { Takes (W.traffic writer.old) (W.traffic writer.new)
+        (W.contents writer.old) (W.contents writer.new) }
+{
+    match storm(rt, rt.alloc(), &OpenGate, workers) {
+        Ok(bytes) => match write_out(writer, &item_line(bytes[0])) {
+            Ok(()) => 0,
+            Err(error) => report(faults, error),
+        },
+        Err(error) => {
+            tell(faults, refusal_line(error));
+            1
+        }
+    }
+}

@@ -1,0 +1,408 @@
+//! Small windows of the kinds that have them.
+ghost use Rattle.std.specs.Prelude.{◌≡◌, ◌<◌, ◌↔◌, [], Bool, true, false, length, drop, is_some};
+ghost use Rattle.std.specs.Prelude.{IfErr, IfNone, IfOk, IfSome, IsOk, OnErr};
+ghost use Rattle.arc_owners.specs.count.Calls.{IsPassOfNone, Leaves};
+ghost use Rattle.arc_buffer.specs.Slice.{IsEdge, IsRange, edge_answer, range_answer, sub};
+ghost use Rattle.arc_block.specs.Inline.{inline_limit};
+ghost use Rattle.arc_block.specs.LayoutFacts.{layout_facts};
+ghost use Rattle.arc_block.specs.Place.{at_owner, moved, nowhere};
+ghost use Rattle.arc_block.specs.Steps.{Begins, IsPassAt, Refuses, Shares};
+ghost use Rattle.arc_block.specs.Table.{inline};
+ghost use Rattle.arc_block.specs.Window.{PartsView, window_of};
+ghost use Rattle.arc_read.specs.Cuts.{sub_place};
+ghost use Rattle.arc_small.specs.Small.{MakesSmall};
+
+use super::calls::as_text;
+use arc_block::layout::Layout;
+use arc_buffer::buffer::BufferMut;
+use arc_buffer::kinds::{ByteText, Plain, Subsliceable, Text};
+use arc_owners::error::{AllocError, OwnerError, RangeError};
+use arc_owners::mark::Whole;
+use arc_owners::owners::Pass;
+use arc_small::SmallArcSlice;
+use std::alloc::Allocator;
+use std::sync::Wait;
+
+/// Whether a kind has small windows: `HasSmall` or `NoSmall`.
+pub trait Smalls {
+    /// Whether it has.
+    ghost small: { Bool };
+
+    /// Whether it has.
+    fn has_small() -> bool
+        ensures { result ≡ small };
+}
+
+/// The small windows of a kind S, and their calls.
+pub trait SmallOf<
+    S: Subsliceable,
+    L: Layout,
+    B: BufferMut<S::Item> + Drop,
+    M: Drop,
+    A: Allocator + Copy,
+>: Smalls {
+    /// A small window: a `SmallArcSlice`, or none where the kind has none.
+    type Window;
+
+    /// What is seen of one.
+    ghost seen: { Self.Window → PartsView S.Item M };
+
+    /// A small window over a copy of the items, which are legal, as
+    /// `SmallArcSlice::try_from_slice_as` makes it, or `None` where there is none.
+    ///
+    /// # Errors
+    ///
+    /// `AllocError` where memory for a block is refused; the pass is then as before.
+    ///
+    /// # Allocates
+    ///
+    /// Where there are more items than the limit.
+    ///
+    /// # History
+    ///
+    /// That of the block, if there is one, begins: the window is owner 0.
+    fn try_make_as(
+        alloc: A,
+        items: &[S::Item],
+        pass: &mut Pass<Whole>,
+    ) -> Option<Result<Self::Window, AllocError>>
+        requires legal { ∥ S.is_legal items.now ∥₁ }
+        requires pass { IsPassOfNone pass.old }
+        ensures has { is_some result ≡ Self.small }
+        ensures made { IfSome result (λ made. IfOk made (λ window. MakesSmall
+            (inline_limit (layout_facts L.Layout)) L.STATIC S.DROPS true items.now
+            (seen window))) }
+        ensures pass { IfSome result (λ made. IfOk made (λ window.
+            Begins (window_of (seen window)) pass.old pass.new)) }
+        ensures refused { IfSome result (λ made. OnErr made (pass.new ≡ pass.old)) }
+        ensures none { IfNone result (pass.new ≡ pass.old) };
+
+    /// The items of a small window.
+    fn as_slice(window: &Self::Window) -> &[S::Item]
+        ensures { result.now ≡ (seen window.now).items };
+
+    /// Whether `start` to `end` is a range of a small window.
+    fn check_range(window: &Self::Window, start: usize, end: usize) -> Result<(), RangeError>
+        ensures answer { result ≡ range_answer S.boundary (seen window.now).items start end }
+        ensures ok { IsOk result ↔ IsRange S.boundary (seen window.now).items start end };
+
+    /// Whether a small window may be cut at `at`.
+    fn check_at(window: &Self::Window, at: usize) -> Result<(), RangeError>
+        ensures answer { result ≡ edge_answer S.boundary (seen window.now).items at }
+        ensures ok { IsOk result ↔ IsEdge S.boundary (seen window.now).items at };
+
+    /// Takes the first `by` items off a small window, which stays where it stands.
+    fn advance(window: &mut Self::Window, by: usize)
+        requires { IsEdge S.boundary (seen window.old).items by }
+        ensures { seen window.new ≡ record {
+          items = drop by (seen window.old).items;
+          place = moved by (seen window.old).place;
+          role = (seen window.old).role;
+        } };
+
+    /// Another small window with the same items, as `SmallArcSlice::try_clone_as` makes it.
+    ///
+    /// # Errors
+    ///
+    /// Those of that call.
+    ///
+    /// # Allocates
+    ///
+    /// As that call.
+    ///
+    /// # History
+    ///
+    /// As that call.
+    fn try_clone_as(
+        window: &Self::Window,
+        rt: &impl Wait,
+        pass: &mut Pass<Whole>,
+    ) -> Result<Self::Window, OwnerError>
+        requires pass { IsPassAt (seen window.now).place pass.old }
+        ensures items { IfOk result (λ made. (seen made).items ≡ (seen window.now).items) }
+        ensures place { IfOk result (λ made.
+            Shares (seen window.now).place pass.old pass.new (seen made).place) }
+        ensures refused { IfErr result (λ e.
+            Refuses L.clone_wants (seen window.now).place pass.old pass.new e) };
+
+    /// A small window over the items from `start` to `end`, as `SmallArcSlice::try_subslice_as`
+    /// makes it.
+    ///
+    /// # Errors
+    ///
+    /// Those of that call.
+    ///
+    /// # Allocates
+    ///
+    /// As that call.
+    ///
+    /// # History
+    ///
+    /// As that call.
+    fn try_subslice_as(
+        window: &Self::Window,
+        rt: &impl Wait,
+        start: usize,
+        end: usize,
+        pass: &mut Pass<Whole>,
+    ) -> Result<Self::Window, OwnerError>
+        requires range { IsRange S.boundary (seen window.now).items start end }
+        requires pass { IsPassAt (seen window.now).place pass.old }
+        ensures items { IfOk result (λ made.
+            (seen made).items ≡ sub (seen window.now).items start end) }
+        ensures place { IfOk result (λ made.
+            Shares (sub_place L.STATIC (window_of (seen window.now)) start end)
+            pass.old pass.new (seen made).place) }
+        ensures refused { IfErr result (λ e.
+            Refuses L.clone_wants (sub_place L.STATIC (window_of (seen window.now)) start end)
+            pass.old pass.new e) };
+
+    /// Ends a small window. The last owner gives its block back.
+    ///
+    /// # History
+    ///
+    /// On a block Down.
+    fn release_as(window: Self::Window, pass: &mut Pass<Whole>)
+        requires { IsPassAt (seen window).place pass.old }
+        ensures { at_owner (seen window).place (pass.new ≡ pass.old) (λ o. (last : Bool)
+            × Leaves o pass.old pass.new last) };
+}
+
+/// A kind of bytes, of which there are small windows.
+pub trait SmallKind: Subsliceable<Item = u8> {
+    /// A small window over a copy of the bytes, which are legal, as
+    /// `SmallArcSlice::try_from_slice_as` or `try_from_str_as` makes it.
+    ///
+    /// # Errors
+    ///
+    /// Those of that call.
+    ///
+    /// # Allocates
+    ///
+    /// As that call.
+    ///
+    /// # History
+    ///
+    /// As that call.
+    fn try_small_as<L: Layout, B: BufferMut<u8> + Drop, M: Drop, A: Allocator + Copy>(
+        alloc: A,
+        items: &[u8],
+        pass: &mut Pass<Whole>,
+    ) -> Result<SmallArcSlice<Self, L, B, M, A, Whole>, AllocError>
+        requires legal { ∥ Self.is_legal items.now ∥₁ }
+        requires pass { IsPassOfNone pass.old }
+        ensures made { IfOk result (λ window. MakesSmall (inline_limit (layout_facts L.Layout))
+            L.STATIC Self.DROPS true items.now window) }
+        ensures pass { IfOk result (λ window. Begins (window_of window) pass.old pass.new) }
+        ensures refused { OnErr result (pass.new ≡ pass.old) };
+}
+
+/// There are small windows, of a kind of bytes.
+pub struct HasSmall;
+
+/// There are none.
+pub struct NoSmall;
+
+/// What stands for a small window of a kind that has none: it has no items, and stands on nothing.
+/// No table has one, since none is made.
+pub struct NoWindow;
+
+impl SmallKind for Plain<u8> {
+    fn try_small_as<L: Layout, B: BufferMut<u8> + Drop, M: Drop, A: Allocator + Copy>(
+        alloc: A,
+        items: &[u8],
+        pass: &mut Pass<Whole>,
+    ) -> Result<SmallArcSlice<Plain<u8>, L, B, M, A, Whole>, AllocError> {
+        SmallArcSlice::try_from_slice_as(alloc, items, pass)
+    }
+}
+
+impl SmallKind for ByteText {
+    fn try_small_as<L: Layout, B: BufferMut<u8> + Drop, M: Drop, A: Allocator + Copy>(
+        alloc: A,
+        items: &[u8],
+        pass: &mut Pass<Whole>,
+    ) -> Result<SmallArcSlice<ByteText, L, B, M, A, Whole>, AllocError> {
+        SmallArcSlice::try_from_slice_as(alloc, items, pass)
+    }
+}
+
+impl SmallKind for Text {
+    fn try_small_as<L: Layout, B: BufferMut<u8> + Drop, M: Drop, A: Allocator + Copy>(
+        alloc: A,
+        items: &[u8],
+        pass: &mut Pass<Whole>,
+    ) -> Result<SmallArcSlice<Text, L, B, M, A, Whole>, AllocError> {
+        let text = as_text(items);
+        SmallArcSlice::<Text, L, B, M, A, Whole>::try_from_str_as(alloc, text, pass)
+    }
+}
+
+impl Smalls for HasSmall {
+    ghost small = { true };
+
+    fn has_small() -> bool {
+        true
+    }
+}
+
+impl Smalls for NoSmall {
+    ghost small = { false };
+
+    fn has_small() -> bool {
+        false
+    }
+}
+
+impl<S: SmallKind, L: Layout, B: BufferMut<u8> + Drop, M: Drop, A: Allocator + Copy> SmallOf<
+    S,
+    L,
+    B,
+    M,
+    A,
+> for HasSmall {
+    type Window = SmallArcSlice<S, L, B, M, A, Whole>;
+
+    ghost seen = { λ window. window };
+
+    fn try_make_as(
+        alloc: A,
+        items: &[u8],
+        pass: &mut Pass<Whole>,
+    ) -> Option<Result<SmallArcSlice<S, L, B, M, A, Whole>, AllocError>> {
+        Some(S::try_small_as(alloc, items, pass))
+    }
+
+    fn as_slice(window: &SmallArcSlice<S, L, B, M, A, Whole>) -> &[u8] {
+        window.as_slice()
+    }
+
+    fn check_range(
+        window: &SmallArcSlice<S, L, B, M, A, Whole>,
+        start: usize,
+        end: usize,
+    ) -> Result<(), RangeError> {
+        window.check_range(start, end)
+    }
+
+    fn check_at(window: &SmallArcSlice<S, L, B, M, A, Whole>, at: usize) -> Result<(), RangeError> {
+        window.check_at(at)
+    }
+
+    fn advance(window: &mut SmallArcSlice<S, L, B, M, A, Whole>, by: usize) {
+        window.advance(by);
+    }
+
+    fn try_clone_as(
+        window: &SmallArcSlice<S, L, B, M, A, Whole>,
+        rt: &impl Wait,
+        pass: &mut Pass<Whole>,
+    ) -> Result<SmallArcSlice<S, L, B, M, A, Whole>, OwnerError> {
+        window.try_clone_as(rt, pass)
+    }
+
+    fn try_subslice_as(
+        window: &SmallArcSlice<S, L, B, M, A, Whole>,
+        rt: &impl Wait,
+        start: usize,
+        end: usize,
+        pass: &mut Pass<Whole>,
+    ) -> Result<SmallArcSlice<S, L, B, M, A, Whole>, OwnerError> {
+        window.try_subslice_as(rt, start, end, pass)
+    }
+
+    fn release_as(window: SmallArcSlice<S, L, B, M, A, Whole>, pass: &mut Pass<Whole>) {
+        window.release_as(pass);
+    }
+}
+
+impl<
+    S: Subsliceable,
+    L: Layout,
+    B: BufferMut<S::Item> + Drop,
+    M: Drop,
+    A: Allocator + Copy,
+> SmallOf<S, L, B, M, A> for NoSmall {
+    type Window = NoWindow;
+
+    ghost seen = { λ window. record { items = []; place = nowhere; role = inline } };
+
+    fn try_make_as(
+        alloc: A,
+        items: &[S::Item],
+        pass: &mut Pass<Whole>,
+    ) -> Option<Result<NoWindow, AllocError>> {
+        let _ = alloc;
+        let _ = items;
+        let _ = pass;
+        None
+    }
+
+    fn as_slice(window: &NoWindow) -> &[S::Item] {
+        let _ = window;
+        &[]
+    }
+
+    fn check_range(window: &NoWindow, start: usize, end: usize) -> Result<(), RangeError> {
+        let _ = window;
+        if end > 0 {
+            return Err(RangeError::OutOfRange);
+        }
+        if start > end {
+            return Err(RangeError::InvalidRange);
+        }
+        if S::is_boundary(&[], start) && S::is_boundary(&[], end) {
+            Ok(())
+        } else {
+            Err(RangeError::NotBoundary)
+        }
+    }
+
+    fn check_at(window: &NoWindow, at: usize) -> Result<(), RangeError> {
+        let _ = window;
+        if at > 0 {
+            return Err(RangeError::OutOfRange);
+        }
+        if S::is_boundary(&[], at) {
+            Ok(())
+        } else {
+            Err(RangeError::NotBoundary)
+        }
+    }
+
+    fn advance(window: &mut NoWindow, by: usize) {
+        let _ = window;
+        let _ = by;
+    }
+
+    fn try_clone_as(
+        window: &NoWindow,
+        rt: &impl Wait,
+        pass: &mut Pass<Whole>,
+    ) -> Result<NoWindow, OwnerError> {
+        let _ = window;
+        let _ = rt;
+        let _ = pass;
+        Ok(NoWindow)
+    }
+
+    fn try_subslice_as(
+        window: &NoWindow,
+        rt: &impl Wait,
+        start: usize,
+        end: usize,
+        pass: &mut Pass<Whole>,
+    ) -> Result<NoWindow, OwnerError> {
+        let _ = window;
+        let _ = rt;
+        let _ = start;
+        let _ = end;
+        let _ = pass;
+        Ok(NoWindow)
+    }
+
+    fn release_as(window: NoWindow, pass: &mut Pass<Whole>) {
+        let NoWindow = window;
+        let _ = pass;
+    }
+}

@@ -1,0 +1,146 @@
+//! The window of a slot, of any role.
+ghost use Rattle.std.specs.Prelude.{◌≡◌, Bool, true, false, IfErr, IfOk};
+ghost use Rattle.arc_owners.specs.count.Calls.{Leaves};
+ghost use Rattle.arc_buffer.specs.Slice.{IsRange, sub};
+ghost use Rattle.arc_block.specs.Place.{at_owner};
+ghost use Rattle.arc_block.specs.Steps.{IsPassAt, Refuses, Shares};
+ghost use Rattle.arc_commands.specs.Blocks.{is_sole};
+ghost use Rattle.arc_read.specs.Cuts.{sub_place};
+ghost use Rattle.arc_slots.specs.Slots.{role_fits, role_in, window_in};
+
+use crate::kinds::{SmallOf, TableKind};
+use arc_block::layout::{Layout, LayoutMut};
+use arc_buffer::buffer::BufferMut;
+use arc_buffer::kinds::Slice;
+use arc_owners::error::OwnerError;
+use arc_owners::mark::Whole;
+use arc_owners::owners::Pass;
+use arc_read::slice::ArcSlice;
+use arc_write::slice_mut::ArcSliceMut;
+use std::alloc::Allocator;
+use std::sync::Wait;
+
+/// A window that is read, one that is written, or a small one.
+pub enum Held<R, W, K> {
+    Read(R),
+    Write(W),
+    Small(K),
+}
+
+/// The window of a slot, of which K is a writer's layout.
+pub type AnyWindow<S, L, K, B, M, A> = Held<
+    ArcSlice<S, L, B, M, A, Whole>,
+    ArcSliceMut<S, K, 1, B, M, A, Whole>,
+    SmallWindow<S, L, B, M, A>,
+>;
+
+/// A small window of kind S, if S has any.
+pub type SmallWindow<S, L, B, M, A> = <<S as TableKind>::Small as SmallOf<S, L, B, M, A>>::Window;
+
+/// Another window with the same items, by `try_clone_as` of a reader's or of a small one.
+pub(crate) fn clone_window<
+    S: TableKind,
+    L: Layout,
+    K: LayoutMut,
+    B: BufferMut<S::Item> + Drop,
+    M: Drop,
+    A: Allocator + Copy,
+>(
+    window: &AnyWindow<S, L, K, B, M, A>,
+    rt: &impl Wait,
+    pass: &mut Pass<Whole>,
+) -> Result<AnyWindow<S, L, K, B, M, A>, OwnerError>
+where
+    S::Small: SmallOf<S, L, B, M, A>,
+    requires cuts { is_sole (role_in window.now) ≡ false }
+    requires fits { role_fits window.now ≡ true }
+    requires pass { IsPassAt (window_in S.Small.seen window.now).place pass.old }
+    ensures items { IfOk result (λ made. (window_in S.Small.seen made).items
+        ≡ (window_in S.Small.seen window.now).items) }
+    ensures role { IfOk result (λ made. role_in made ≡ role_in window.now) }
+    ensures place { IfOk result (λ made. Shares (window_in S.Small.seen window.now).place
+        pass.old pass.new (window_in S.Small.seen made).place) }
+    ensures fits { IfOk result (λ made. role_fits made ≡ true) }
+    ensures refused { IfErr result (λ e. Refuses L.clone_wants
+        (window_in S.Small.seen window.now).place pass.old pass.new e) }
+{
+    match window {
+        Held::Read(window) => match window.try_clone_as(rt, pass) {
+            Ok(made) => Ok(Held::Read(made)),
+            Err(e) => Err(e),
+        },
+        Held::Small(window) => match S::Small::try_clone_as(window, rt, pass) {
+            Ok(made) => Ok(Held::Small(made)),
+            Err(e) => Err(e),
+        },
+        Held::Write(_) => unreachable!(),
+    }
+}
+
+/// A window over the items from `start` to `end`, by `try_subslice_as` of a reader's or of a small
+/// one.
+pub(crate) fn cut_window<
+    S: TableKind,
+    L: Layout,
+    K: LayoutMut,
+    B: BufferMut<S::Item> + Drop,
+    M: Drop,
+    A: Allocator + Copy,
+>(
+    window: &AnyWindow<S, L, K, B, M, A>,
+    rt: &impl Wait,
+    start: usize,
+    end: usize,
+    pass: &mut Pass<Whole>,
+) -> Result<AnyWindow<S, L, K, B, M, A>, OwnerError>
+where
+    S::Small: SmallOf<S, L, B, M, A>,
+    requires cuts { is_sole (role_in window.now) ≡ false }
+    requires fits { role_fits window.now ≡ true }
+    requires range { IsRange S.boundary (window_in S.Small.seen window.now).items start end }
+    requires pass { IsPassAt (window_in S.Small.seen window.now).place pass.old }
+    ensures items { IfOk result (λ made. (window_in S.Small.seen made).items
+        ≡ sub (window_in S.Small.seen window.now).items start end) }
+    ensures role { IfOk result (λ made. role_in made ≡ role_in window.now) }
+    ensures place { IfOk result (λ made. Shares
+        (sub_place L.STATIC (window_in S.Small.seen window.now) start end)
+        pass.old pass.new (window_in S.Small.seen made).place) }
+    ensures fits { IfOk result (λ made. role_fits made ≡ true) }
+    ensures refused { IfErr result (λ e. Refuses L.clone_wants
+        (sub_place L.STATIC (window_in S.Small.seen window.now) start end)
+        pass.old pass.new e) }
+{
+    match window {
+        Held::Read(window) => match window.try_subslice_as(rt, start, end, pass) {
+            Ok(made) => Ok(Held::Read(made)),
+            Err(e) => Err(e),
+        },
+        Held::Small(window) => match S::Small::try_subslice_as(window, rt, start, end, pass) {
+            Ok(made) => Ok(Held::Small(made)),
+            Err(e) => Err(e),
+        },
+        Held::Write(_) => unreachable!(),
+    }
+}
+
+/// Ends a window.
+pub(crate) fn end_window<
+    S: TableKind,
+    L: Layout,
+    K: LayoutMut,
+    B: BufferMut<S::Item> + Drop,
+    M: Drop,
+    A: Allocator + Copy,
+>(window: AnyWindow<S, L, K, B, M, A>, pass: &mut Pass<Whole>)
+where
+    S::Small: SmallOf<S, L, B, M, A>,
+    requires { IsPassAt (window_in S.Small.seen window).place pass.old }
+    ensures { at_owner (window_in S.Small.seen window).place (pass.new ≡ pass.old) (λ o.
+        (last : Bool) × Leaves o pass.old pass.new last) }
+{
+    match window {
+        Held::Read(window) => window.release_as(pass),
+        Held::Write(window) => window.release_as(pass),
+        Held::Small(window) => S::Small::release_as(window, pass),
+    }
+}

@@ -1,0 +1,3 @@
+pub mod Inline
+pub mod Lends
+pub mod Small

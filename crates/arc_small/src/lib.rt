@@ -1,0 +1,15 @@
+//! Small windows: lists of bytes that lie in the window itself where they are short.
+#![tactic(auto)]
+
+pub use arc::SmallArcSlice;
+pub use limit::inline_limit;
+pub use names::{
+    SmallArcByteText, SmallArcBytes, SmallArcStr, SmallByteText, SmallBytes, SmallStr,
+};
+pub use slice::SmallSlice;
+
+mod adapters;
+mod arc;
+mod limit;
+mod names;
+mod slice;

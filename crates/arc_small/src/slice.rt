@@ -1,0 +1,270 @@
+//! `SmallSlice`, a short list of bytes in a value of its own.
+ghost use Rattle.std.specs.Prelude.{◌≡◌, ◌==◌, ◌<◌, ◌≤◌, ◌↔◌, [], length, drop, take};
+ghost use Rattle.std.specs.Prelude.{slice_range};
+ghost use Rattle.std.specs.Prelude.{IsOk, IsSome, IfSome};
+ghost use Rattle.arc_buffer.specs.Slice.{IsEdge, IsRange, sub, edge_answer, range_answer};
+ghost use Rattle.arc_block.specs.Inline.{inline_limit};
+ghost use Rattle.arc_block.specs.LayoutFacts.{layout_facts};
+
+use super::limit::inline_limit;
+use arc_block::layout::{DefaultLayout, Layout};
+use arc_buffer::kinds::{AnyItems, CopySlice, Emptyable, Plain, Slice, Subsliceable, Text};
+use arc_owners::error::RangeError;
+use std::marker::{Model, PhantomData};
+use std::str;
+
+/// A list of bytes that has no more than a limit of its layout's, in the value itself. It is
+/// copied freely, and no call of it takes memory or adds to a history.
+///
+/// It has thirty places under every layout. The limit is 22 under `ArcLayout` and
+/// `BoxedSliceLayout`, and 30 under `VecLayout` and `RawLayout`.
+#[derive_where(Clone, Copy)]
+pub struct SmallSlice<S: Slice<Item = u8>, L: Layout = DefaultLayout> {
+    bytes: [u8; 30],
+    start: u8,
+    end: u8,
+    of: PhantomData<(S, L)>,
+}
+
+impl<S: Slice<Item = u8>, L: Layout> Model for SmallSlice<S, L> {
+    ghost use Rattle.std.specs.Prelude.{◌+◌, length};
+    ghost use Rattle.arc_buffer.specs.Slice.{sub};
+    ghost use Rattle.arc_block.specs.Inline.{inline_limit};
+    ghost use Rattle.arc_block.specs.LayoutFacts.{layout_facts};
+    ghost use Rattle.arc_small.specs.Inline.{Inlined, inlined, all_bytes, IsInlined};
+    ghost use Rattle.arc_small.specs.Inline.{put_together};
+
+    ghost Value = { Inlined };
+
+    ghost view = { λ s. inlined s.bytes s.start s.end };
+
+    ghost invariant = { λ s. IsInlined (inline_limit (layout_facts L.Layout)) s.bytes s.start s.end
+        × ∥ S.is_legal (sub s.bytes s.start s.end) ∥₁ };
+
+    ghost inverse = { λ v. record {
+      bytes = all_bytes v;
+      start = length v.front;
+      end = length v.front + length v.items;
+      of = record {};
+    } };
+
+    ghost inverse_ok = { λ s h. put_together (λ bytes start end.
+        record { bytes = bytes; start = start; end = end; of = record {} })
+        (inline_limit (layout_facts L.Layout)) s.bytes s.start s.end h.0 };
+}
+
+impl<S: Slice<Item = u8>, L: Layout> SmallSlice<S, L> {
+    /// The list without bytes.
+    pub fn empty() -> Self
+    where
+        S: Emptyable,
+        ensures { result.items ≡ [] }
+    {
+        SmallSlice {
+            bytes: [0; 30],
+            start: 0,
+            end: 0,
+            of: PhantomData,
+        }
+    }
+
+    /// A copy of the bytes, which are legal, where they are within the limit.
+    fn of_legal(items: &[u8]) -> Option<Self>
+        requires { ∥ S.is_legal items.now ∥₁ }
+        ensures some { IsSome result ↔ length items.now ≤ inline_limit (layout_facts L.Layout) }
+        ensures items { IfSome result (λ small. small.items ≡ items.now) }
+    {
+        if items.len() > inline_limit::<L>() {
+            return None;
+        }
+        let mut bytes = [0; 30];
+        bytes[..items.len()].copy_from_slice(items);
+        Some(SmallSlice {
+            bytes,
+            start: 0,
+            end: items.len() as u8,
+            of: PhantomData,
+        })
+    }
+
+    /// A copy of the bytes, where they are within the limit, of a kind of which each list is legal.
+    pub(super) fn of_any(items: &[u8]) -> Option<Self>
+    where
+        S: AnyItems,
+        ensures some { IsSome result ↔ length items.now ≤ inline_limit (layout_facts L.Layout) }
+        ensures items { IfSome result (λ small. small.items ≡ items.now) }
+    {
+        Self::of_legal(items)
+    }
+
+    /// A copy of the bytes, where they are within the limit.
+    pub fn new(items: &[u8]) -> Option<Self>
+    where
+        S: CopySlice,
+        ensures some { IsSome result ↔ length items.now ≤ inline_limit (layout_facts L.Layout) }
+        ensures items { IfSome result (λ small. small.items ≡ items.now) }
+    {
+        Self::of_legal(items)
+    }
+
+    /// The same list once more.
+    #[inline(always)]
+    pub(super) fn copied(&self) -> Self
+        ensures { result ≡ self.now }
+    {
+        SmallSlice {
+            bytes: self.bytes,
+            start: self.start,
+            end: self.end,
+            of: PhantomData,
+        }
+    }
+
+    /// How many bytes the list has.
+    #[inline(always)]
+    pub fn len(&self) -> usize
+        ensures answer { result ≡ length self.now.items }
+        ensures limit { result ≤ inline_limit (layout_facts L.Layout) }
+    {
+        (self.end - self.start) as usize
+    }
+
+    /// Whether the list has no bytes.
+    #[inline(always)]
+    pub fn is_empty(&self) -> bool
+        ensures { result ≡ (length self.now.items == 0) }
+    {
+        self.len() == 0
+    }
+
+    /// The bytes.
+    #[inline(always)]
+    pub fn as_slice(&self) -> &[u8]
+        ensures { result.now ≡ self.now.items }
+    {
+        &self.bytes[..self.end as usize][self.start as usize..]
+    }
+
+    /// The bytes, which are a legal list of the kind, within the limit.
+    pub(crate) fn as_legal_slice(&self) -> &[u8]
+        ensures items { result.now ≡ self.now.items }
+        ensures legal { ∥ S.is_legal result.now ∥₁ }
+    {
+        &self.bytes[..self.end as usize][self.start as usize..]
+    }
+}
+
+const _: () = prove!(size_of::<SmallSlice<Plain<u8>>>() == 32);
+
+impl<S: Subsliceable<Item = u8>, L: Layout> SmallSlice<S, L> {
+    /// Whether `start` to `end` is a range of the list.
+    ///
+    /// # Errors
+    ///
+    /// `OutOfRange` where the end is past the length, else `InvalidRange` where the start is past
+    /// the end, else `NotBoundary` where the kind may not be cut at one of them.
+    pub fn check_range(&self, start: usize, end: usize) -> Result<(), RangeError>
+        ensures answer { result ≡ range_answer S.boundary self.now.items start end }
+        ensures ok { IsOk result ↔ IsRange S.boundary self.now.items start end }
+    {
+        if end > self.len() {
+            return Err(RangeError::OutOfRange);
+        }
+        if start > end {
+            return Err(RangeError::InvalidRange);
+        }
+        let items = self.as_slice();
+        if S::is_boundary(items, start) && S::is_boundary(items, end) {
+            Ok(())
+        } else {
+            Err(RangeError::NotBoundary)
+        }
+    }
+
+    /// Whether the list may be cut at `at`.
+    ///
+    /// # Errors
+    ///
+    /// `OutOfRange` where that is past the length, else `NotBoundary` where the kind may not be cut
+    /// there.
+    pub fn check_at(&self, at: usize) -> Result<(), RangeError>
+        ensures answer { result ≡ edge_answer S.boundary self.now.items at }
+        ensures ok { IsOk result ↔ IsEdge S.boundary self.now.items at }
+    {
+        if at > self.len() {
+            return Err(RangeError::OutOfRange);
+        }
+        if S::is_boundary(self.as_slice(), at) {
+            Ok(())
+        } else {
+            Err(RangeError::NotBoundary)
+        }
+    }
+
+    /// The list may be cut at both ends.
+    fn has_edges(&self)
+        ensures start { IsEdge S.boundary self.now.items 0 }
+        ensures end { IsEdge S.boundary self.now.items (length self.now.items) }
+    {
+        let _ = &self.bytes;
+    }
+
+    /// Leaves the bytes from `start` to `end`.
+    #[inline(always)]
+    fn keep(&mut self, start: usize, end: usize)
+        requires { IsRange S.boundary self.old.items start end }
+        ensures { self.new.items ≡ sub self.old.items start end }
+    {
+        self.end = self.start + end as u8;
+        self.start += start as u8;
+    }
+
+    /// The bytes from `start` to `end`.
+    pub fn subslice(&self, start: usize, end: usize) -> Self
+        requires { IsRange S.boundary self.now.items start end }
+        ensures items { result.items ≡ sub self.now.items start end }
+        ensures slice { result.items ≡ slice_range self.now.items start end }
+    {
+        let mut part = self.copied();
+        part.keep(start, end);
+        part
+    }
+
+    /// Takes the first `n` bytes off the list.
+    pub fn advance(&mut self, n: usize)
+        requires { IsEdge S.boundary self.old.items n }
+        ensures { self.new.items ≡ drop n self.old.items }
+    {
+        self.has_edges();
+        let end = self.len();
+        self.keep(n, end);
+    }
+
+    /// Leaves the list's first `n` bytes, or all where it has no more.
+    pub fn truncate(&mut self, n: usize)
+        requires { n < length self.old.items → IsEdge S.boundary self.old.items n }
+        ensures { self.new.items ≡ take n self.old.items }
+    {
+        if n < self.len() {
+            self.has_edges();
+            self.keep(0, n);
+        }
+    }
+}
+
+impl<L: Layout> SmallSlice<Text, L> {
+    /// A copy of the text, where it is within the limit.
+    pub fn new_str(text: &str) -> Option<Self>
+        ensures some { IsSome result ↔ length text.now ≤ inline_limit (layout_facts L.Layout) }
+        ensures items { IfSome result (λ small. small.items ≡ text.now) }
+    {
+        Self::of_legal(text.as_bytes())
+    }
+
+    /// The text.
+    pub fn as_str(&self) -> &str
+        ensures { result.now ≡ self.now.items }
+    {
+        unsafe { str::from_utf8_unchecked(self.as_legal_slice()) }
+    }
+}
