@@ -10,6 +10,8 @@ mod callers;
 #[cfg(test)]
 mod extend;
 #[cfg(test)]
+mod given_back;
+#[cfg(test)]
 mod items;
 #[cfg(test)]
 mod layouts;
@@ -27,6 +29,8 @@ mod reader_adapters;
 mod readers;
 #[cfg(test)]
 mod refused_buffers;
+#[cfg(test)]
+mod refused_in_turn;
 #[cfg(test)]
 mod seen;
 #[cfg(test)]

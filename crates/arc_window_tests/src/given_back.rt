@@ -1,0 +1,256 @@
+//! Items that are dropped one by one, callers' buffers and metadata, over a heap that counts:
+//! whichever request for memory is refused, each is dropped once or comes back, and all memory is
+//! given back.
+use crate::living::{Values, first_three, living, values};
+use arc_block::layout::{DefaultLayout, DefaultLayoutMut};
+use arc_buffer::kinds::Owned;
+use arc_owners::error::TryReserveError;
+use arc_read::slice::ArcSlice;
+use arc_write::slice_mut::ArcSliceMut;
+use counting_heap::CountingHeap;
+use std::alloc::Global;
+use std::sync::{Arc, Wait};
+use std::test::Fail;
+
+type Heap<'a> = &'a CountingHeap<Global>;
+
+type Reader<'a> = ArcSlice<Owned<Arc<u8>>, DefaultLayout, Vec<Arc<u8>>, Arc<u8>, Heap<'a>>;
+
+type Writer<'a> = ArcSliceMut<Owned<Arc<u8>>, DefaultLayoutMut, 1, Vec<Arc<u8>>, Arc<u8>, Heap<'a>>;
+
+/// What a window is made of and how it ends.
+#[derive(Clone, Copy)]
+enum Row {
+    /// A writer that is cut short.
+    CutShort,
+    /// A writer whose items move to a larger block.
+    Grown,
+    /// A frozen window that is cut, and ends beside others.
+    Frozen,
+    /// Items that are taken back as an array.
+    Array,
+    /// Items that are taken back as their vector.
+    Vector,
+    /// A buffer with metadata beside a clone.
+    Metadata,
+    /// A buffer that is taken back.
+    Buffer,
+}
+
+/// All rows.
+const ROWS: &[Row] = &[
+    Row::CutShort,
+    Row::Grown,
+    Row::Frozen,
+    Row::Array,
+    Row::Vector,
+    Row::Metadata,
+    Row::Buffer,
+];
+
+/// How many owners there are of values of which the first three are somewhere else too.
+const THREE: [usize; 5] = [2, 2, 2, 1, 1];
+
+/// A writer of the first three values. Where memory is refused they come back, and go in again.
+fn written<'a>(heap: Heap<'a>, values: &Values) -> Option<Writer<'a>> {
+    match Writer::try_from_array(heap, first_three(values)?) {
+        Ok(window) => Some(window),
+        Err(back) => {
+            if living(values) != THREE {
+                return None;
+            }
+            Writer::try_from_array(heap, back).ok()
+        }
+    }
+}
+
+/// Whether an item is refused behind two of three, and comes back.
+fn is_refused(window: &mut Writer<'_>, values: &Values) -> Option<bool> {
+    window.truncate(2);
+    let sizes = [window.len(), window.capacity()];
+    let (e, back) = window.try_push(Arc::try_clone(&values[3]).ok()?).err()?;
+    let with = living(values);
+    drop(back);
+    let wanted = ([2, 2], TryReserveError::Unsupported, [2, 2, 2, 2, 1], THREE);
+    Some((sizes, e, with, living(values)) == wanted)
+}
+
+fn cut_short(heap: Heap<'_>, values: &Values) -> Option<bool> {
+    let mut window = written(heap, values)?;
+    is_refused(&mut window, values)
+}
+
+/// Puts an item behind the others. Where memory is refused it comes back, and is put there again.
+fn pushed(window: &mut Writer<'_>, item: &Arc<u8>) -> Option<()> {
+    match window.try_push(Arc::try_clone(item).ok()?) {
+        Ok(()) => Some(()),
+        Err((TryReserveError::AllocError, back)) => {
+            if Arc::strong_count(item) != 2 {
+                return None;
+            }
+            window.try_push(back).ok()
+        }
+        Err(_) => None,
+    }
+}
+
+/// Whether all five items are in a window, which is then cut to two of them and has dropped none.
+fn grown(heap: Heap<'_>, values: &Values) -> Option<bool> {
+    let mut window = Writer::new(heap);
+    for value in values.as_slice() {
+        pushed(&mut window, value)?;
+    }
+    let places = window.capacity();
+    if window.check_at(1).is_err() {
+        return None;
+    }
+    window.advance(1);
+    window.truncate(2);
+    let sizes = [places, window.len(), window.capacity()];
+    Some((sizes, living(values)) == ([8, 2, 2], [2; 5]))
+}
+
+/// Whether a window, its clone and what is split off of it keep all items until the last one ends.
+fn ended_in_turn(rt: &impl Wait, window: Reader<'_>, values: &Values) -> Option<bool> {
+    let mut window = window;
+    let clone = window.try_clone(rt).ok()?;
+    if window.check_at(1).is_err() {
+        return None;
+    }
+    let back = window.try_split_off(rt, 1).ok()?;
+    drop(window);
+    let one = living(values);
+    drop(clone);
+    let two = living(values);
+    drop(back);
+    Some([one, two, living(values)] == [THREE, THREE, [1; 5]])
+}
+
+fn frozen(rt: &impl Wait, heap: Heap<'_>, values: &Values) -> Option<bool> {
+    let window = written(heap, values)?.try_freeze::<DefaultLayout>().ok()?;
+    ended_in_turn(rt, window, values)
+}
+
+/// Whether the items that come back are the window's, and are then the caller's.
+fn array(heap: Heap<'_>, values: &Values) -> Option<bool> {
+    let window = written(heap, values)?.try_freeze::<DefaultLayout>().ok()?;
+    let items = window.try_into_array::<3>().ok()?;
+    let with = living(values);
+    drop(items);
+    Some((with, living(values)) == (THREE, [1; 5]))
+}
+
+/// A window of a vector of the first three values. Where memory is refused it comes back, and goes
+/// in again.
+fn of_vector<'a>(heap: Heap<'a>, values: &Values) -> Option<Reader<'a>> {
+    let items = match Vec::from_array(heap, first_three(values)?) {
+        Ok(items) => items,
+        Err(_) => Vec::from_array(heap, first_three(values)?).ok()?,
+    };
+    match Reader::try_from_vec(heap, items) {
+        Ok(window) => Some(window),
+        Err(back) => {
+            if living(values) != THREE {
+                return None;
+            }
+            Reader::try_from_vec(heap, back).ok()
+        }
+    }
+}
+
+/// Whether the vector isn't given beside a clone, and then is, with all items.
+fn vector(rt: &impl Wait, heap: Heap<'_>, values: &Values) -> Option<bool> {
+    let window = of_vector(heap, values)?;
+    let clone = window.try_clone(rt).ok()?;
+    let window = window.try_into_vec().err()?;
+    drop(clone);
+    let beside = living(values);
+    let items = window.try_into_vec().ok()?;
+    let with = living(values);
+    drop(items);
+    Some([beside, with, living(values)] == [THREE, THREE, [1; 5]])
+}
+
+/// A window of a buffer of the first three values with the fifth as metadata. Where memory is
+/// refused both come back, and go in again.
+fn of_buffer<'a>(alloc: Global, heap: Heap<'a>, values: &Values) -> Option<Reader<'a>> {
+    let items = Vec::from_array(alloc, first_three(values)?).ok()?;
+    let metadata = Arc::try_clone(&values[4]).ok()?;
+    match Reader::try_from_buffer_with_metadata(heap, items, metadata) {
+        Ok(window) => Some(window),
+        Err((items, metadata)) => {
+            if living(values) != [2, 2, 2, 1, 2] {
+                return None;
+            }
+            Reader::try_from_buffer_with_metadata(heap, items, metadata).ok()
+        }
+    }
+}
+
+/// Whether both windows over a buffer have its metadata, and that and the items are dropped with
+/// the second one.
+fn metadata(rt: &impl Wait, alloc: Global, heap: Heap<'_>, values: &Values) -> Option<bool> {
+    let window = of_buffer(alloc, heap, values)?;
+    let clone = window.try_clone(rt).ok()?;
+    let have = [window.metadata().is_some(), clone.metadata().is_some()];
+    drop(window);
+    let beside = living(values);
+    drop(clone);
+    Some((have, beside, living(values)) == ([true; 2], [2, 2, 2, 1, 2], [1; 5]))
+}
+
+/// Whether a buffer comes back with its items, and its metadata is dropped.
+fn buffer(alloc: Global, heap: Heap<'_>, values: &Values) -> Option<bool> {
+    let items = of_buffer(alloc, heap, values)?.try_into_buffer().ok()?;
+    let with = living(values);
+    drop(items);
+    Some((with, living(values)) == (THREE, [1; 5]))
+}
+
+/// Whether all went as it is to go.
+fn run(rt: &impl Wait, alloc: Global, heap: Heap<'_>, values: &Values, row: Row) -> Option<bool> {
+    match row {
+        Row::CutShort => cut_short(heap, values),
+        Row::Grown => grown(heap, values),
+        Row::Frozen => frozen(rt, heap, values),
+        Row::Array => array(heap, values),
+        Row::Vector => vector(rt, heap, values),
+        Row::Metadata => metadata(rt, alloc, heap, values),
+        Row::Buffer => buffer(alloc, heap, values),
+    }
+}
+
+/// Whether it does with each request refused in turn, at least one of them, and all items and
+/// memory are given back each time.
+fn in_turn(rt: &impl Wait, alloc: Global, heap: Heap<'_>, values: &Values, row: Row) -> bool {
+    for request in 1..1000u64 {
+        heap.refuse(request);
+        let told = run(rt, alloc, heap, values, row);
+        if (told, living(values), heap.pieces()) != (Some(true), [1; 5], 0) {
+            return false;
+        }
+        if heap.refusals() == 0 {
+            return request > 1;
+        }
+    }
+    false
+}
+
+/// How many rows go as they are to go.
+fn passed(rt: &impl Wait, alloc: Global, heap: Heap<'_>) -> Option<usize> {
+    let values = values(alloc)?;
+    let mut count = 0usize;
+    for row in ROWS {
+        if in_turn(rt, alloc, heap, &values, *row) {
+            count = count.saturating_add(1);
+        }
+    }
+    Some(count)
+}
+
+#[test]
+fn given_back(rt: HostRuntime) -> Result<(), Fail> {
+    let heap = CountingHeap::new(rt.alloc());
+    assert!(rt; passed(&rt, rt.alloc(), &heap) == Some(ROWS.len()));
+    Ok(())
+}
