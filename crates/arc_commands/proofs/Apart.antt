@@ -1,8 +1,8 @@
 -- Writers stay apart: each step keeps that no place of a block is a writer's and another row's.
 use Rattle.std.proofs.Common.{inl, inr, ◌≡◌, ◌⊎◌, ℕ, ◌+◌, ◌-◌, ◌≤◌, ◌<◌, Bool, true, false}
 use Rattle.std.proofs.Common.{if◌then◌else◌, List, length, [], ◌∷◌, ◌++◌, Option, Some, None}
-use Rattle.std.proofs.Common.{slice_get, slice_set, refl, sym, ap, ◌∙◌, subst, arith}
-use Rattle.std.specs.Prelude.{◌&&◌, not}
+use Rattle.std.proofs.Common.{slice_get, slice_set, is_some, refl, sym, ap, ◌∙◌, subst, arith}
+use Rattle.std.specs.Prelude.{not}
 use Rattle.std.specs.Option.{option_flatten}
 use Rattle.std.proofs.lemmas.Option.{none-some, same_Some}
 use Rattle.std.proofs.lemmas.Bool.{cases_Bool, false≢true}
@@ -11,20 +11,28 @@ use Rattle.arc_block.specs.Place.{Place, nowhere, static_data, on_block}
 use Rattle.arc_block.specs.Room.{ends_full}
 use Rattle.arc_block.specs.Table.{Row, Table, Role, StandsOn, row_at, block_of, empty_table}
 use Rattle.arc_block.specs.Table.{reader, sole_writer, one_writer_of_several, inline, forgotten}
-use Rattle.arc_block.specs.Writers.{as_sole, sole_at}
+use Rattle.arc_block.specs.Writers.{as_sole, capacity_of, sole_at}
+use Rattle.arc_block.specs.Shared.{can_join, joined_row}
+use Rattle.arc_block.specs.Table.{is_alone}
 use Rattle.arc_block.proofs.Lists.{push-cases, set-cases}
-use Rattle.arc_commands.specs.Apart.{EndsWithin, EndsWithinAt, IsLawful, ShareNone}
+use Rattle.arc_commands.specs.Apart.{CoversAt, EndsWithin, EndsWithinAt, IsLawful, ShareNone}
 use Rattle.arc_commands.specs.Apart.{WritersApart, role_places}
-use Rattle.arc_commands.specs.Blocks.{RowsAgree, is_sole, is_writer}
+use Rattle.arc_commands.specs.Blocks.{RowsAgree, is_several, is_sole, is_writer}
+use Rattle.arc_commands.specs.Several.{are_apart}
 use Rattle.arc_commands.specs.Commands.{ListCmd, ListReply}
-use Rattle.arc_commands.specs.Fits.{HasPlaces, HasSharedPlaces, LieWithin, RowFits, RowsFit}
-use Rattle.arc_commands.specs.Step.{Setting, Shortage, shortage, Step, Run, answer}
+use Rattle.arc_commands.specs.Fits.{EndsAt, HasPlaces, HasSharedPlaces, LieWithin, RowFits, RowsFit}
+use Rattle.arc_commands.specs.Changes.{Setting, Shortage}
+use Rattle.arc_commands.specs.Step.{shortage, Step, Run, answer}
 use Rattle.arc_commands.specs.Step.{count_brought}
 use Rattle.arc_commands.proofs.Answers.{answer_each}
-use Rattle.arc_commands.proofs.Blocks.{only-here, step_agrees}
-use Rattle.arc_commands.proofs.FitsStep.{step_fits}
+use Rattle.arc_commands.proofs.Blocks.{begins, moved-to, only-here, only-lone, put-there}
+use Rattle.arc_commands.proofs.Blocks.{step_agrees}
+use Rattle.arc_commands.proofs.FitsStep.{each-set, not-apart, step_fits, this}
 use Rattle.arc_commands.proofs.Lists.{there}
-use Rattle.arc_commands.proofs.Parts.{IsPart, KeepsPart, StaysOn}
+use Rattle.arc_commands.proofs.Outcomes.{IsLone}
+use Rattle.arc_commands.proofs.Parts.{IsPart, KeepsPart, Parts, StaysOn}
+use Rattle.arc_commands.proofs.Several.{joined_parted}
+use Rattle.arc_commands.proofs.Roles.{several-writes}
 
 -- ---- a row ends within its block
 
@@ -32,6 +40,13 @@ chosen : (b : Bool) (offset len size capacity : ℕ) → offset + len ≤ size
     → capacity ≡ (if b then len else size - offset) → offset + capacity ≤ size
 chosen true offset len size capacity within is = omega (arith, within, is)
 chosen false offset len size capacity within is = omega (arith, within, is)
+
+ends-at : {M : Type 0} (drops : Bool) (info : BlockInfo M) (offset len capacity : ℕ)
+    → offset + len ≤ info.size → EndsAt drops info offset len capacity
+    → offset + capacity ≤ info.size
+ends-at false info offset len capacity within ends = ends.1
+ends-at true info offset len capacity within ends =
+    chosen (not (ends_full info (offset + len))) offset len info.size capacity within ends
 
 module _ {M : Type 0} (drops : Bool) where
   ends-read : (small : Bool) (place : Place (Option ℕ) M) (len : ℕ)
@@ -45,14 +60,14 @@ module _ {M : Type 0} (drops : Bool) where
   ends-sole nowhere len capacity w has = tt
   ends-sole static_data len capacity w has = tt
   ends-sole (on_block block offset info) len capacity w has =
-      chosen (drops && not (ends_full info (offset + len))) offset len info.size capacity
-      (omega (arith, w.1, w.2)) has
+      ends-at drops info offset len capacity (omega (arith, w.1, w.2)) has
 
   ends-among : (place : Place (Option ℕ) M) (capacity : ℕ) → HasSharedPlaces place capacity
       → EndsWithinAt place capacity
   ends-among nowhere capacity has = tt
   ends-among static_data capacity has = tt
-  ends-among (on_block block offset info) capacity has = has.1
+  ends-among (on_block None offset info) capacity has = absurd has
+  ends-among (on_block (Some block) offset info) capacity has = has.1
 
 module _ {T M : Type 0} (drops : Bool) where
   ends-by : (items : List T) (place : Place (Option ℕ) M) (role : Role)
@@ -68,6 +83,22 @@ module _ {T M : Type 0} (drops : Bool) where
 
   ends-fit : (row : Row T M) → RowFits drops row → EndsWithin row
   ends-fit row f = ends-by row.items row.place row.role f
+
+-- ---- two rows on one block
+
+-- a place of one of several writers is one of a block's
+covered-block : {M : Type 0} (place : Place (Option ℕ) M) (n places capacity : ℕ)
+    → CoversAt place places n → HasSharedPlaces place capacity → is_some (block_of place) ≡ true
+covered-block nowhere n places capacity covers has = absurd covers
+covered-block static_data n places capacity covers has = absurd covers
+covered-block (on_block None offset info) n places capacity covers has = absurd has
+covered-block (on_block (Some block) offset info) n places capacity covers has = refl
+
+on-both : (here there : Option ℕ) (block : ℕ) → are_apart here there ≡ false → here ≡ Some block
+    → is_some there ≡ true → there ≡ Some block
+on-both None there block same is some = absurd (none-some block is)
+on-both (Some n) None block same is some = absurd (false≢true some)
+on-both (Some n) (Some m) block same is some = ap Some (sym (not-apart n m same)) ∙ is
 
 -- ---- lists of rows
 
@@ -199,25 +230,25 @@ module _ {T M : Type 0} where
     becomes i row part at is keeps =
         apart-set t.rows i part apart (beside-part i row part at is keeps)
 
-    -- of a row that is read two parts
-    splits : (i : ℕ) (row kept handed : Row T M) → row_at t i ≡ Some row
-        → is_writer row.role ≡ false → IsPart row kept → IsPart row handed
-        → KeepsPart drops row kept → KeepsPart drops row handed
-        → Apart (slice_set t.rows i (Some kept) ++ Some handed ∷ [])
-    splits i row kept handed at reads one other keeps also =
-        apart-push (slice_set t.rows i (Some kept)) handed (becomes i row kept at one keeps)
+    -- of a row that isn't a sole writer's two parts
+    splits : (i : ℕ) (row kept made : Row T M) → row_at t i ≡ Some row
+        → Parts drops row kept made → Apart (slice_set t.rows i (Some kept) ++ Some made ∷ [])
+    splits i row kept made at parts =
+        apart-push (slice_set t.rows i (Some kept)) made
+        (becomes i row kept at parts.first parts.keeps)
         (λ j block beside second on there-too writes.
         elim (set-cases t.rows i j (Some beside) (Some kept) second) [
           | inl old ↦
-              beside-part i row handed at other also j block beside old.1 (λ e. old.0 (sym e)) on
-              there-too writes
+              beside-part i row made at parts.second parts.also j block beside old.1
+              (λ e. old.0 (sym e)) on there-too writes
           | inr set ↦
-              elim writes [
-                | inl writing ↦ absurd (false≢true (sym reads ∙ also.writes writing))
-                | inr writing ↦
-                    absurd (false≢true (sym reads ∙ keeps.writes
-                    (subst Writes (sym (same_Some kept beside set.1)) writing)))
-              ]
+              let same : kept ≡ beside = same_Some kept beside set.1 in
+              let writing : is_writer row.role ≡ true = elim writes [
+                | inl one ↦ parts.also.writes one
+                | inr other ↦ parts.keeps.writes (subst Writes (sym same) other)
+              ] in
+              subst (λ r. ShareNone made r) same
+              (turned kept made (parts.apart writing (fit i row at)))
         ])
 
     -- a row comes in the place of one, on whose block no other stands
@@ -229,13 +260,40 @@ module _ {T M : Type 0} where
         apart-set t.rows i new apart (λ j block other second differ on beside writes n mine its.
         none j block other second differ on beside)
 
-    -- a sole writer's row becomes one on its block
-    refits : (i : ℕ) (row new : Row T M) → row_at t i ≡ Some row → is_sole row.role ≡ true
+    -- a row beside which no other stands becomes one on its block
+    refits : (i : ℕ) (row new : Row T M) → row_at t i ≡ Some row
+        → IsLone (is_alone t row.place) row
         → block_of new.place ≡ block_of row.place → Apart (slice_set t.rows i (Some new))
-    refits i row new at sole put =
+    refits i row new at lone put =
         alone-set i new (λ j block other second differ on beside.
-        nobody i j block row other (there (slice_get t.rows i) row at) second (λ e. differ (sym e))
-        sole (sym put ∙ on) beside)
+        differ (only-lone t agree i row at lone j block other second (sym put ∙ on) beside))
+
+    -- what is beside two rows on one block is beside both of them joined
+    joined : (i j : ℕ) (row other : Row T M) → ¬ (i ≡ j) → row_at t i ≡ Some row
+        → row_at t j ≡ Some other → is_several row.role ≡ true → is_several other.role ≡ true
+        → are_apart (block_of row.place) (block_of other.place) ≡ false
+        → can_join row other ≡ true
+        → Apart (slice_set (slice_set t.rows j None) i (Some (joined_row row other)))
+    joined i j row other differ at second one two same can =
+        let rows = slice_set t.rows j None in
+        let parted = joined_parted row other one two can in
+        apart-set rows i (joined_row row other) (apart-gone t.rows j apart)
+        (λ k block third here distinct on beside writes n mine its.
+        elim (set-cases t.rows j k (Some third) None here) [
+          | inl old ↦
+              elim ((parted.all n).0 mine) [
+                | inl first ↦
+                    apart i k block row third (there (slice_get t.rows i) row at) old.1
+                    (λ e. distinct (sym e)) (several-writes row.role one) on beside n first its
+                | inr last ↦
+                    apart j k block other third (there (slice_get t.rows j) other second) old.1
+                    old.0 (several-writes other.role two)
+                    (on-both (block_of row.place) (block_of other.place) block same on
+                    (covered-block other.place n _ (capacity_of other.role) last
+                    ((fit j other second).shared two).places)) beside n last its
+              ]
+          | inr set ↦ absurd (none-some third set.1)
+        ])
 
     sole-on : (items : List T) (place : Place (Option ℕ) M) (block : ℕ)
         → block_of (sole_at drops items place).place ≡ Some block → block_of place ≡ Some block
@@ -283,35 +341,56 @@ module _ {T M : Type 0} where
       (record { row = other; alive = ap option_flatten second; stands = beside })
 
   module _ (setting : Setting T) where
+    -- a row becomes one on a block more, or on none
+    begun-apart : (t : Table T M) → RowsAgree t → RowsFit setting.drops t → Apart t.rows → (i : ℕ)
+        (items : List T) (role : Role) (nothing : Bool) (info : BlockInfo M)
+        → let place = if nothing then nowhere else on_block (Some t.blocks) 0 info in
+        Apart (slice_set t.rows i (Some (record { items = items; place = place; role = role })))
+    begun-apart t agree fit apart i items role nothing info =
+        let place = if nothing then nowhere else on_block (Some t.blocks) 0 info in
+        let d = setting.drops in
+        alone-set d t agree fit apart i (record { items = items; place = place; role = role })
+        (λ j block other second differ on beside.
+        fresh d t agree fit apart nothing info j block other second on beside)
+
     answer-apart : (short : Shortage) (places : ℕ) (t : Table T M) (c : ListCmd T M)
         → count_brought c ≤ places → RowsAgree t → RowsFit setting.drops t → Apart t.rows
         → Apart (answer setting short places t c).1.rows
     answer-apart short places t c enough agree fit apart =
         let d = setting.drops in
-        answer_each setting short places t c enough (λ reply new. Apart new.rows)
-        (λ reply tells. apart)
-        (λ items role nothing info fits.
-        let place = if nothing then nowhere else on_block (Some t.blocks) 0 info in
-        apart-push t.rows (record { items = items; place = place; role = role }) apart
-        (λ j block other at on beside writes n mine its.
-        fresh d t agree fit apart nothing info j block other at on beside))
-        (λ row reads none fits. apart-push t.rows row apart
-        (λ j block other at on beside writes n mine its. none-some block (sym none ∙ on)))
-        (λ i row kept handed at reads one other fits also.
-        splits d t agree fit apart i row kept handed at reads one other fits also)
-        (λ i row part at is keeps. becomes d t agree fit apart i row part at is keeps)
-        (λ i row at may. alone-set d t agree fit apart i (as_sole d row)
-        (λ j block other second differ on beside.
-        differ (only-here t agree setting places i row at may j block other second
-        (sole-on d t agree fit apart row.items row.place block on) beside)))
-        (λ i row new r tells at sole put fits.
-        refits d t agree fit apart i row new at sole put)
-        (λ i row items role nothing info at fits.
-        let place = if nothing then nowhere else on_block (Some t.blocks) 0 info in
-        alone-set d t agree fit apart i (record { items = items; place = place; role = role })
-        (λ j block other second differ on beside.
-        fresh d t agree fit apart nothing info j block other second on beside))
-        (λ r tells i. apart-gone t.rows i apart) c refl
+        answer_each setting short places t c enough (λ reply new. Apart new.rows) (record {
+          same = λ reply tells. apart;
+          founds = λ items role nothing info fits.
+              let place = if nothing then nowhere else on_block (Some t.blocks) 0 info in
+              apart-push t.rows (record { items = items; place = place; role = role }) apart
+              (λ j block other at on beside writes n mine its.
+              fresh d t agree fit apart nothing info j block other at on beside);
+          apart = λ row reads none fits.
+              apart-push t.rows row apart
+              (λ j block other at on beside writes n mine its. none-some block (sym none ∙ on));
+          splits = λ i row kept made at parts. splits d t agree fit apart i row kept made at parts;
+          becomes = λ i row part at is keeps.
+              becomes d t agree fit apart i row part at is keeps;
+          writes = λ i row at may.
+              alone-set d t agree fit apart i (as_sole d row)
+              (λ j block other second differ on beside.
+              differ (only-here t agree setting places i row at may j block other second
+              (sole-on d t agree fit apart row.items row.place block on) beside));
+          refits = λ i row new r tells at lone put fits.
+              refits d t agree fit apart i row new at lone put;
+          begins = λ i row items role nothing info at fits.
+              begun-apart t agree fit apart i items role nothing info;
+          moves = λ i row items role info kept made at fits parts.
+              let whole : Row T M =
+              record { items = items; place = on_block (Some t.blocks) 0 info; role = role } in
+              splits d (moved-to t i whole) (begins t agree i items role false info)
+              (each-set d t.rows i (Some whole) fit (this d whole (fits (fit i row at))))
+              (begun-apart t agree fit apart i items role false info) i whole kept made
+              (put-there t i (t.blocks + 1) row whole at) parts;
+          joins = λ i j row other differ at second one two same can.
+              joined d t agree fit apart i j row other differ at second one two same can;
+          goes = λ r tells i. apart-gone t.rows i apart;
+        }) c refl
 
     step-apart : (t : Table T M) (c : ListCmd T M) (r : ListReply T M) (new : Table T M)
         → Step setting t c r new → RowsAgree t → RowsFit setting.drops t → Apart t.rows
@@ -324,7 +403,7 @@ module _ {T M : Type 0} where
         → Step setting t c r new → IsLawful setting.drops t → IsLawful setting.drops new
     step_lawful t c r new step l =
         let agree = step_agrees setting t c r new step l.agree in
-        let fit = step_fits setting t c r new step l.fit in
+        let fit = step_fits setting t c r new step l.agree l.fit in
         record {
           agree = agree;
           fit = fit;

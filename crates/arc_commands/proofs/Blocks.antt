@@ -12,16 +12,18 @@ use Rattle.arc_block.specs.Table.{Row, Table, Role, StandsOn, row_at, block_of}
 use Rattle.arc_block.specs.Table.{is_alone}
 use Rattle.arc_block.specs.Writers.{as_sole, sole_at}
 use Rattle.arc_block.proofs.Alone.{is_alone-means}
-use Rattle.arc_block.proofs.Lists.{push-cases, set-cases}
+use Rattle.arc_block.specs.Shared.{joined_row}
+use Rattle.arc_block.proofs.Lists.{get-set, get-set_other, push-cases, set-cases}
 use Rattle.arc_commands.specs.Blocks.{SaysOf, RowsAgree, is_sole}
-use Rattle.arc_commands.specs.Step.{Setting, Shortage, no_shortage, shortage, Step, Run, answer}
-use Rattle.arc_commands.specs.Step.{around_of, founded, may_write, may_write_at, may_write_sort}
-use Rattle.arc_commands.specs.Step.{with_block, count_brought}
+use Rattle.arc_commands.specs.Changes.{Setting, Shortage, no_shortage, may_write, may_write_at}
+use Rattle.arc_commands.specs.Changes.{may_write_sort}
+use Rattle.arc_commands.specs.Step.{shortage, Step, Run, answer}
+use Rattle.arc_commands.specs.Step.{around_of, founded, with_block, count_brought}
 use Rattle.arc_commands.proofs.Lists.{there}
 use Rattle.arc_commands.specs.Commands.{ListCmd, ListReply}
 use Rattle.arc_commands.proofs.Answers.{answer_each}
-use Rattle.arc_commands.proofs.Parts.{StaysOn, IsPart}
-use Rattle.arc_commands.proofs.Roles.{reads-sole}
+use Rattle.arc_commands.proofs.Outcomes.{IsLone}
+use Rattle.arc_commands.proofs.Parts.{StaysOn, IsPart, sole-with}
 
 not-writing : (b : Bool) → (b ≡ true → ⊥) → b ≡ false
 not-writing true none = absurd (none refl)
@@ -363,7 +365,7 @@ module _ {T M : Type 0} where
       sole-on drops items static_data block on = on
       sole-on drops items (on_block n offset info) block on = on
 
-      -- beside a row that may be written no other stands
+      -- a row that may be written is alone, where it stands on a block
       alone-there : (has_any alone : Bool) (place : Place (Option ℕ) M) (len : ℕ)
           → is_some (block_of place) ≡ true → may_write_at has_any alone place len ≡ true
           → alone ≡ true
@@ -372,14 +374,11 @@ module _ {T M : Type 0} where
       alone-there has_any alone (on_block block offset info) len on may =
           (and_parts (may_write_sort has_any info.sort) alone may).1
 
-      pub only-here : (setting : Setting T) (places i : ℕ) (row : Row T M) → row_at t i ≡ Some row
-          → may_write setting (around_of places t row) row ≡ true
+      -- beside a row that is alone no other stands
+      only-alone : (i : ℕ) (row : Row T M) → row_at t i ≡ Some row → is_alone t row.place ≡ true
           → (j block : ℕ) (other : Row T M) → slice_get t.rows j ≡ Some (Some other)
           → OnBlock block row → OnBlock block other → j ≡ i
-      only-here setting places i row at may j block other here on beside =
-          let alone : is_alone t row.place ≡ true =
-          alone-there setting.writes_any (is_alone t row.place) row.place (length row.items)
-          (ap is_some on) may in
+      only-alone i row at alone j block other here on beside =
           let a = (is_alone-means t i row at).0 alone in
           let same : row ≡ a.owner.row =
           same_Some row a.owner.row (sym at ∙ a.owner.alive) in
@@ -387,6 +386,23 @@ module _ {T M : Type 0} where
           same_Some block a.block
           (sym on ∙ ap (λ (r : Row T M). block_of r.place) same ∙ a.owner.stands) in
           a.only j (stands-at j a.block other here (beside ∙ ap Some one))
+
+      pub only-lone : (i : ℕ) (row : Row T M) → row_at t i ≡ Some row
+          → IsLone (is_alone t row.place) row
+          → (j block : ℕ) (other : Row T M) → slice_get t.rows j ≡ Some (Some other)
+          → OnBlock block row → OnBlock block other → j ≡ i
+      only-lone i row at (inl sole) j block other here on beside =
+          alone-now i j block row other (there (slice_get t.rows i) row at) here sole on beside
+      only-lone i row at (inr alone) j block other here on beside =
+          only-alone i row at alone j block other here on beside
+
+      pub only-here : (setting : Setting T) (places i : ℕ) (row : Row T M) → row_at t i ≡ Some row
+          → may_write setting (around_of places t row) row ≡ true
+          → (j block : ℕ) (other : Row T M) → slice_get t.rows j ≡ Some (Some other)
+          → OnBlock block row → OnBlock block other → j ≡ i
+      only-here setting places i row at may j block other here on beside =
+          only-alone i row at (alone-there setting.writes_any (is_alone t row.place) row.place
+          (length row.items) (ap is_some on) may) j block other here on beside
 
       writes : (setting : Setting T) (places i : ℕ) (row : Row T M) → row_at t i ≡ Some row
           → may_write setting (around_of places t row) row ≡ true → RowsAgree
@@ -414,74 +430,74 @@ module _ {T M : Type 0} where
           → OnBlock block other → block < t.blocks
       known j block other at on = within-blocks j block other at other.place refl on
 
-      -- of a sole writer's row another one on its block, which may say another thing of it
+      -- Of a row another one on its block, on which no other stands, so that it may say another
+      -- thing of it.
       module _ (i : ℕ) (row new : Row T M) (at : row_at t i ≡ Some row)
-          (sole : is_sole row.role ≡ true) (put : block_of new.place ≡ block_of row.place) where
-        abbrev refitted : Table T M
-        refitted = record { rows = slice_set t.rows i (Some new); blocks = t.blocks }
+          (lone : IsLone (is_alone t row.place) row) (put : block_of new.place ≡ block_of row.place)
+        where
+          abbrev refitted : Table T M
+          refitted = record { rows = slice_set t.rows i (Some new); blocks = t.blocks }
 
-        -- a row says what it said, and isn't this one, or it is this one
-        abbrev Says : ℕ → BlockInfo M → Type 0
-        Says block info =
-            ((j : ℕ) × (other : Row T M) × (offset : ℕ) × ¬ (i ≡ j)
-            × (slice_get t.rows j ≡ Some (Some other)) × (other.place ≡ on_block (Some block) offset info))
-            ⊎ ((offset : ℕ) × (new.place ≡ on_block (Some block) offset info))
+          -- a row says what it said, and isn't this one, or it is this one
+          abbrev Says : ℕ → BlockInfo M → Type 0
+          Says block info =
+              ((j : ℕ) × (other : Row T M) × (offset : ℕ) × ¬ (i ≡ j)
+              × (slice_get t.rows j ≡ Some (Some other)) × (other.place ≡ on_block
+              (Some block) offset info))
+              ⊎ ((offset : ℕ) × (new.place ≡ on_block (Some block) offset info))
 
-        says : (block : ℕ) (info : BlockInfo M) → SaysOf refitted block info → Says block info
-        says block info (j, other, offset, here, is) =
-            elim (set-cases t.rows i j (Some other) (Some new)
-            (there (slice_get refitted.rows j) other here)) [
-              | inl old ↦ inl (j, other, offset, old.0, old.1, is)
-              | inr set ↦
-                  inr (offset, ap (λ (r : Row T M). r.place) (same-row new other set.1) ∙ is)
-            ]
+          says : (block : ℕ) (info : BlockInfo M) → SaysOf refitted block info → Says block info
+          says block info (j, other, offset, here, is) =
+              elim (set-cases t.rows i j (Some other) (Some new)
+              (there (slice_get refitted.rows j) other here)) [
+                | inl old ↦ inl (j, other, offset, old.0, old.1, is)
+                | inr set ↦
+                    inr (offset, ap (λ (r : Row T M). r.place) (same-row new other set.1) ∙ is)
+              ]
 
-        row-here : slice_get t.rows i ≡ Some (Some row)
-        row-here = there (slice_get t.rows i) row at
+          row-here : slice_get t.rows i ≡ Some (Some row)
+          row-here = there (slice_get t.rows i) row at
 
-        -- beside it no other row stands
-        beside-none : (j block offset : ℕ) (other : Row T M) (one info : BlockInfo M) → ¬ (i ≡ j)
-            → slice_get t.rows j ≡ Some (Some other) → other.place ≡ on_block (Some block) offset one
-            → (o : ℕ) → new.place ≡ on_block (Some block) o info → ⊥
-        beside-none j block offset other one info apart here is o there-too =
-            let on : OnBlock block row = sym put ∙ ap block_of there-too in
-            apart (sym (alone-now i j block row other row-here here sole on (ap block_of is)))
+          -- beside it no other row stands
+          beside-none : (j block offset : ℕ) (other : Row T M) (one info : BlockInfo M) → ¬ (i ≡ j)
+              → slice_get t.rows j ≡ Some (Some other) → other.place ≡ on_block
+              (Some block) offset one
+              → (o : ℕ) → new.place ≡ on_block (Some block) o info → ⊥
+          beside-none j block offset other one info apart here is o there-too =
+              let on : OnBlock block row = sym put ∙ ap block_of there-too in
+              apart (sym (only-lone i row at lone j block other here on (ap block_of is)))
 
-        one-says : (block : ℕ) (one other : BlockInfo M) → Says block one → Says block other
-            → one ≡ other
-        one-says block one other (inl a) (inl b) =
-            agree.same block one other
-            (a.0, a.1, a.2, ap option_flatten a.4, a.5) (b.0, b.1, b.2, ap option_flatten b.4, b.5)
-        one-says block one other (inl a) (inr b) =
-            absurd (beside-none a.0 block a.2 a.1 one other a.3 a.4 a.5 b.0 b.1)
-        one-says block one other (inr a) (inl b) =
-            absurd (beside-none b.0 block b.2 b.1 other one b.3 b.4 b.5 a.0 a.1)
-        one-says block one other (inr a) (inr b) =
-            same_Some one other (sym (ap info_at a.1) ∙ ap info_at b.1)
+          one-says : (block : ℕ) (one other : BlockInfo M) → Says block one → Says block other
+              → one ≡ other
+          one-says block one other (inl a) (inl b) =
+              agree.same block one other
+              (a.0, a.1, a.2, ap option_flatten a.4, a.5)
+              (b.0, b.1, b.2, ap option_flatten b.4, b.5)
+          one-says block one other (inl a) (inr b) =
+              absurd (beside-none a.0 block a.2 a.1 one other a.3 a.4 a.5 b.0 b.1)
+          one-says block one other (inr a) (inl b) =
+              absurd (beside-none b.0 block b.2 b.1 other one b.3 b.4 b.5 a.0 a.1)
+          one-says block one other (inr a) (inr b) =
+              same_Some one other (sym (ap info_at a.1) ∙ ap info_at b.1)
 
-        block-known : (block : ℕ) (info : BlockInfo M) → Says block info → block < t.blocks
-        block-known block info (inl a) =
-            agree.numbered block info (a.0, a.1, a.2, ap option_flatten a.4, a.5)
-        block-known block info (inr a) =
-            known i block row row-here (sym put ∙ ap block_of a.1)
+          block-known : (block : ℕ) (info : BlockInfo M) → Says block info → block < t.blocks
+          block-known block info (inl a) =
+              agree.numbered block info (a.0, a.1, a.2, ap option_flatten a.4, a.5)
+          block-known block info (inr a) =
+              known i block row row-here (sym put ∙ ap block_of a.1)
 
-        refits : RowsAgree refitted
-        refits = record {
-          same = λ block one other a b.
-              one-says block one other (says block one a) (says block other b);
-          numbered = λ block info a. block-known block info (says block info a);
-          alone =
-              alone-of refitted (alone-set t.rows i (Some new) alone-now (λ other is.
-              subst (Stood t.rows i) (same-row new other is) (record {
-                row = row;
-                there = row-here;
-                on = λ block on. sym put ∙ on;
-                writes = λ writing. sole;
-              })));
-        }
+          refits : RowsAgree refitted
+          refits = record {
+            same = λ block one other a b.
+                one-says block one other (says block one a) (says block other b);
+            numbered = λ block info a. block-known block info (says block info a);
+            alone =
+                alone-of refitted (alone-writes t.rows i row new alone-now row-here
+                (λ block on. sym put ∙ on) (only-lone i row at lone));
+          }
 
       -- a row becomes one on a block more, or on none
-      begins : (i : ℕ) (items : List T) (role : Role) (nothing : Bool) (info : BlockInfo M)
+      pub begins : (i : ℕ) (items : List T) (role : Role) (nothing : Bool) (info : BlockInfo M)
           → let place = if nothing then nowhere else on_block (Some t.blocks) 0 info in
           RowsAgree (record {
             rows = slice_set t.rows i (Some (record { items = items; place = place; role = role }));
@@ -549,6 +565,31 @@ module _ {T M : Type 0} where
           (alone-push rows handed (alone-set t.rows i (Some kept) alone-now stays)
           (joins i row handed at shares other rows (stood-set t.rows i (Some kept) stays)))
 
+      -- two rows are joined in the place of one, and the other goes
+      joined : (i j : ℕ) (row other : Row T M) → ¬ (i ≡ j) → row_at t i ≡ Some row
+          → RowsAgree (record {
+            rows = slice_set (slice_set t.rows j None) i (Some (joined_row row other));
+            blocks = t.blocks;
+          })
+      joined i j row other apart at =
+          let whole = joined_row row other in
+          let rows = slice_set t.rows j None in
+          let gone : Alone rows =
+          alone-set t.rows j None alone-now (λ new none. absurd (none-some new none)) in
+          let here : slice_get rows i ≡ Some (Some row) =
+          get-set_other t.rows j i None (λ same. apart (sym same))
+          ∙ there (slice_get t.rows i) row at in
+          agree-after (record { rows = slice_set rows i (Some whole); blocks = t.blocks })
+          (each-set IsSaid rows i (Some whole) (each-set IsSaid t.rows j None said-each tt)
+          (said-there i row at row.place refl)) refl
+          (alone-set rows i (Some whole) gone (λ new is.
+          subst (Stood rows i) (same-row whole new is) (record {
+            row = row;
+            there = here;
+            on = λ block on. on;
+            writes = λ writes. sym (sole-with row.role _) ∙ writes;
+          })))
+
       founds : (items : List T) (role : Role) (nothing : Bool) (info : BlockInfo M)
           → let place = if nothing then nowhere else on_block (Some t.blocks) 0 info in
           RowsAgree (record {
@@ -573,21 +614,45 @@ module _ {T M : Type 0} where
           (alone-push t.rows row alone-now
           (apart row (λ block on. omega (arith, same_Some t.blocks block on))))
 
+  -- a row that moved to a block more
+  abbrev pub moved-to : Table T M → ℕ → Row T M → Table T M
+  moved-to t i whole = record {
+    rows = slice_set t.rows i (Some whole);
+    blocks = t.blocks + 1;
+  }
+
+  -- a row that stands under a number stands there once it was put there
+  pub put-there : (t : Table T M) (i blocks : ℕ) (row new : Row T M) → row_at t i ≡ Some row
+      → row_at (record { rows = slice_set t.rows i (Some new); blocks = blocks }) i ≡ Some new
+  put-there t i blocks row new at =
+      ap option_flatten (get-set t.rows i (Some row) (Some new)
+      (there (slice_get t.rows i) row at))
+
   module _ (setting : Setting T) where
     answer-agrees : (short : Shortage) (places : ℕ) (t : Table T M) (c : ListCmd T M)
         → count_brought c ≤ places → RowsAgree t
         → RowsAgree (answer setting short places t c).1
     answer-agrees short places t c enough agree =
-        answer_each setting short places t c enough (λ reply new. RowsAgree new) (λ reply tells. agree)
-        (λ items role nothing info fits. founds t agree items role nothing info)
-        (λ row reads none fits. on-none t agree row none)
-        (λ i row kept handed at shares one other fits also.
-        splits t agree i row kept handed at (reads-sole row.role shares) one other)
-        (λ i row part at is fits. becomes t agree i row part at is)
-        (writes t agree setting places)
-        (λ i row new r tells at sole put fits. refits t agree i row new at sole put)
-        (λ i row items role nothing info at fits. begins t agree i items role nothing info)
-        (λ r tells i. goes t agree i) c refl
+        answer_each setting short places t c enough (λ reply new. RowsAgree new) (record {
+          same = λ reply tells. agree;
+          founds = λ items role nothing info fits. founds t agree items role nothing info;
+          apart = λ row reads none fits. on-none t agree row none;
+          splits = λ i row kept made at parts.
+              splits t agree i row kept made at parts.shares parts.first parts.second;
+          becomes = λ i row part at is fits. becomes t agree i row part at is;
+          writes = writes t agree setting places;
+          refits = λ i row new r tells at lone put fits. refits t agree i row new at lone put;
+          begins = λ i row items role nothing info at fits.
+              begins t agree i items role nothing info;
+          moves = λ i row items role info kept made at fits parts.
+              let whole : Row T M =
+              record { items = items; place = on_block (Some t.blocks) 0 info; role = role } in
+              splits (moved-to t i whole) (begins t agree i items role false info) i whole kept made
+              (put-there t i (t.blocks + 1) row whole at) parts.shares parts.first parts.second;
+          joins = λ i j row other apart at beside one two there can.
+              joined t agree i j row other apart at;
+          goes = λ r tells i. goes t agree i;
+        }) c refl
 
     pub step_agrees : (t : Table T M) (c : ListCmd T M) (r : ListReply T M) (new : Table T M)
         → Step setting t c r new → RowsAgree t → RowsAgree new

@@ -14,16 +14,17 @@ use Rattle.arc_block.specs.Block.{native_facts, partly_full, full_places, memory
 use Rattle.arc_block.specs.Block.{Sort, native, vector, buffer, raw, BlockInfo, buffer_info}
 use Rattle.arc_block.specs.Place.{Place, nowhere, static_data, on_block, moved}
 use Rattle.arc_block.specs.Room.{ends_full}
+use Rattle.arc_block.specs.Shared.{split_answer}
 use Rattle.arc_block.specs.Table.{Row, Role, reader, sole_writer, one_writer_of_several}
 use Rattle.arc_block.specs.Table.{inline, forgotten}
 use Rattle.arc_block.specs.Writers.{capacity_of, with_capacity, writer_capacity, after_advance}
 use Rattle.arc_block.specs.Writers.{as_reader, as_sole, sole_at}
 use Rattle.arc_commands.specs.Blocks.{is_several, is_small, is_sole, is_writer}
-use Rattle.arc_commands.specs.Fits.{LieWithin, HasPlaces, HasSharedPlaces, FitsBeside, RowFits}
-use Rattle.arc_commands.specs.Fits.{counts_full}
+use Rattle.arc_commands.specs.Fits.{LieWithin, EndsAt, HasPlaces, HasSharedPlaces, FitsBeside}
+use Rattle.arc_commands.specs.Fits.{RowFits, counts_full}
 use Rattle.arc_commands.proofs.Roles.{reads-sole, reads-several, sole-small}
-use Rattle.arc_commands.specs.Step.{Setting, part_of, cut_row, off_part, to_part, truncated}
-use Rattle.arc_commands.specs.Step.{buffer_row, written_buffer_row, raw_row}
+use Rattle.arc_commands.specs.Changes.{Setting, part_of, cut_row, off_part, to_part, truncated}
+use Rattle.arc_commands.specs.Changes.{buffer_row, written_buffer_row, raw_row}
 
 -- ---- ranges that were tested
 
@@ -52,6 +53,9 @@ module _ {T : Type 0} (boundary : List T → ℕ → Bool) (xs : List T) where
     not-past (nat_lt (length xs) end) (length xs) end _ _ refl ok,
   )
 
+  pub in-split : (capacity at : ℕ) → split_answer boundary xs capacity at ≡ Ok tt → at ≤ capacity
+  in-split capacity at ok = not-past (nat_lt capacity at) capacity at _ _ refl ok
+
 -- ---- numbers
 
 less-by : (b : Bool) (by len capacity size offset : ℕ)
@@ -67,7 +71,7 @@ ends-before None size offset len n counted fits less = absurd (false≢true coun
 ends-before (Some f) size offset len n counted fits less =
     ne_eqb (offset + n) f (λ e. omega (arith, fits, less, e))
 
-counted : (drops : Bool) (n : ℕ) → is_some (full_places drops n) ≡ drops
+pub counted : (drops : Bool) (n : ℕ) → is_some (full_places drops n) ≡ drops
 counted true n = refl
 counted false n = refl
 
@@ -85,6 +89,24 @@ counted-owned (buffer writable) = refl
 counted-owned raw = refl
 
 -- ---- places
+
+module _ {M : Type 0} where
+  -- a sole writer's places, that much further in
+  ends-moved : (drops : Bool) (info : BlockInfo M) (offset by len capacity : ℕ) → by ≤ len
+      → EndsAt drops info offset len capacity
+      → EndsAt drops info (offset + by) (len - by) (capacity - by)
+  ends-moved false info offset by len capacity fits ends =
+      (omega (arith, ends.0), omega (arith, fits, ends.0, ends.1))
+  ends-moved true info offset by len capacity fits ends =
+      let same : offset + len ≡ offset + by + (len - by) = omega (arith, fits) in
+      less-by (not (ends_full info (offset + len))) by len capacity info.size offset ends
+      ∙ ap (λ end. if not (ends_full info end) then len - by else info.size - (offset + by)) same
+
+  -- all that are behind so many items in a block
+  ends-behind : (drops : Bool) (info : BlockInfo M) (offset len : ℕ) → offset + len ≤ info.size
+      → EndsAt drops info offset len (writer_capacity drops info offset len)
+  ends-behind false info offset len within = (omega (arith, within), omega (arith, within))
+  ends-behind true info offset len within = refl
 
 module _ {M : Type 0} (drops : Bool) where
   module _ (small : Bool) where
@@ -119,19 +141,17 @@ module _ {M : Type 0} (drops : Bool) where
   places-moved nowhere by len capacity fits has = omega (arith, has)
   places-moved static_data by len capacity fits has = has
   places-moved (on_block block offset info) by len capacity fits has =
-      let same : offset + len ≡ offset + by + (len - by) = omega (arith, fits) in
-      less-by (drops && not (ends_full info (offset + len))) by len capacity info.size offset has
-      ∙ ap (λ end. if drops && not (ends_full info end) then len - by else
-      info.size - (offset + by)) same
+      ends-moved drops info offset by len capacity fits has
 
 -- What is not dropped one by one leaves its places when it is cut off; what is ends before the
 -- block's full places then, and so has none behind it.
 module _ {M : Type 0} where
-  places-left : (place : Place (Option ℕ) M) (len n capacity : ℕ) → HasPlaces false place len capacity
-      → HasPlaces false place n capacity
-  places-left nowhere len n capacity has = has
-  places-left static_data len n capacity has = has
-  places-left (on_block block offset info) len n capacity has = has
+  places-left : (place : Place (Option ℕ) M) (len n capacity : ℕ) → n ≤ len
+      → HasPlaces false place len capacity → HasPlaces false place n capacity
+  places-left nowhere len n capacity less has = has
+  places-left static_data len n capacity less has = has
+  places-left (on_block block offset info) len n capacity less has =
+      (omega (arith, less, has.0), has.1)
 
   places-own : (place : Place (Option ℕ) M) (len n capacity : ℕ) → LieWithin true false place len
       → n < len → HasPlaces true place len capacity → HasPlaces true place n n
@@ -183,11 +203,13 @@ small-with inline n = refl
 small-with forgotten n = refl
 
 -- one of several writers has that many places less, that much further in
-among-moved : {M : Type 0} (place : Place (Option ℕ) M) (by capacity : ℕ) → by ≤ capacity
+pub among-moved : {M : Type 0} (place : Place (Option ℕ) M) (by capacity : ℕ) → by ≤ capacity
     → HasSharedPlaces place capacity → HasSharedPlaces (moved by place) (capacity - by)
 among-moved nowhere by capacity less has = omega (arith, has)
 among-moved static_data by capacity less has = has
-among-moved (on_block block offset info) by capacity less has = (has.0, omega (arith, less, has.1))
+among-moved (on_block None offset info) by capacity less has = has
+among-moved (on_block (Some block) offset info) by capacity less has =
+    (has.0, omega (arith, less, has.1))
 
 -- ---- rows
 
@@ -264,7 +286,7 @@ module _ {T M : Type 0} (drops : Bool) where
   }
   at-fits small items (on_block block offset info) w = record {
     within = w;
-    writer = λ sole. refl;
+    writer = λ sole. ends-behind drops info offset (length items) (omega (arith, w.1, w.2));
     shared = λ several. absurd (false≢true several);
   }
 
@@ -350,12 +372,12 @@ module _ {T M : Type 0} (drops : Bool) where
       info : BlockInfo M
       info = buffer_info true places (length items) (Some metadata)
 
-      whole : (d : Bool) → places ≡ writer_capacity d info 0 (length items)
+      whole : (d : Bool) → EndsAt d info 0 (length items) places
       whole true =
           let end : (0 + length items == length items) ≡ true =
           eq-eqb (0 + length items) (length items) (omega arith) in
           (omega arith) ∙ sym (ap (λ b. if not b then length items else places - 0) end)
-      whole false = omega arith
+      whole false = (less, omega arith)
 
   -- a writer with so many places, which are at least as many as its items
   pub writer-fits : (block : ℕ) (items : List T) (places : ℕ) → length items ≤ places
@@ -378,18 +400,18 @@ module _ {T M : Type 0} (drops : Bool) where
         shared = λ several. absurd (false≢true several);
       }
     where
-      whole : (d : Bool) (n places : ℕ)
-          → places ≡ writer_capacity {M = M} d (partly_full d places n) 0 n
-      whole true n places =
+      whole : (d : Bool) (n places : ℕ) → n ≤ places
+          → EndsAt {M = M} d (partly_full d places n) 0 n places
+      whole true n places less =
           let end : (0 + n == n) ≡ true = eq-eqb (0 + n) n (omega arith) in
           (omega arith) ∙ sym (ap (λ b. if not b then n else places - 0) end)
-      whole false n places = omega arith
+      whole false n places less = (less, omega arith)
 
       has : (b : Bool) → (places == 0) ≡ b
           → HasPlaces {M = M} drops (if b then nowhere else
           on_block (Some block) 0 (partly_full drops places (length items))) (length items) places
       has true is = eqb-true places 0 is
-      has false is = whole drops (length items) places
+      has false is = whole drops (length items) places less
 
 -- the row's first items
 pub truncate-fits : {T M : Type 0} (drops : Bool) (row : Row T M) (n : ℕ) → n < length row.items
@@ -420,7 +442,7 @@ truncate-fits false row n less f =
           (length (take n row.items)) f.within (omega (arith, long, less));
       writer = λ sole.
           places-left row.place (length row.items) (length (take n row.items))
-          (capacity_of row.role) (f.writer sole);
+          (capacity_of row.role) (omega (arith, long, less)) (f.writer sole);
       shared = λ several.
           let was = f.shared several in
           record {

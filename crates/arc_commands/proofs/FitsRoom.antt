@@ -13,6 +13,7 @@ use Rattle.arc_owners.specs.declared.error.TryReserveError.TheVariants.{Capacity
 use Rattle.arc_block.specs.Block.{Sort, native, BlockInfo, full_places, vector, buffer, raw}
 use Rattle.arc_block.specs.Place.{Place, nowhere, static_data, on_block}
 use Rattle.arc_block.specs.Room.{ends_full, growth, room_in}
+use Rattle.arc_block.specs.Shared.{asks_alone, is_on_block}
 use Rattle.arc_block.specs.Table.{Row, sole_writer}
 use Rattle.arc_block.specs.Writers.{capacity_of, room, room_at, with_room, with_more, with_full}
 use Rattle.arc_block.specs.Writers.{new_writer, offset_at}
@@ -21,7 +22,7 @@ use Rattle.arc_block.specs.declared.parts.room.Room.TheVariants.{Spare, Fresh, B
 use Rattle.arc_block.specs.declared.parts.room.Room.TheVariants.{Growth, Own, Refused}
 use Rattle.arc_block.proofs.More.{more_none}
 use Rattle.arc_commands.specs.Blocks.{is_sole}
-use Rattle.arc_commands.specs.Fits.{LieWithin, HasPlaces, RowFits, counts_full}
+use Rattle.arc_commands.specs.Fits.{EndsAt, LieWithin, HasPlaces, RowFits, counts_full}
 use Rattle.arc_commands.proofs.Fits.{counted-owned}
 use Rattle.arc_commands.proofs.Roles.{sole_each}
 use Rattle.arc_commands.proofs.Lists.{none-of, none-or-some}
@@ -41,7 +42,7 @@ module _ {M : Type 0} (drops : Bool) (size : ℕ) (info : BlockInfo M) (offset l
   abbrev Lacking : Type 0
   Lacking = info.size ≤ offset + len + k
 
-  abbrev Tells : Room → Type 0
+  abbrev pub Tells : Room → Type 0
   Tells Spare = ⊥
   Tells (Fresh places) = ⊥
   Tells Behind = Ends × (k ≤ info.size - offset - len)
@@ -105,7 +106,7 @@ module _ {M : Type 0} (drops : Bool) (size : ℕ) (info : BlockInfo M) (offset l
   first true is = tt
   first false is = second (ends-so drops (ends_full info (offset + len)) (sym is)) _ refl
 
-  room-tells : Tells (room_in drops size info offset len k)
+  pub room-tells : Tells (room_in drops size info offset len k)
   room-tells = first _ refl
 
 -- So many items, and then so many more, for which there are places, where they end where the full
@@ -123,11 +124,13 @@ block-fits : {M : Type 0} (drops : Bool) (sort : Sort) (full : Option ℕ) (meta
     }) in
     LieWithin drops false place (len + more) × HasPlaces drops place (len + more) (places - offset)
 block-fits false sort None meta block offset len more places counted fits within ordered ends =
-    ((counted, omega (arith, fits), omega arith), refl)
+    ((counted, omega (arith, fits), omega arith), (omega (arith, fits), omega (arith, fits)))
 block-fits true sort None meta block offset len more places counted fits within ordered ends =
     absurd (false≢true (counted ∙ counted-owned sort))
-block-fits false sort (Some f) meta block offset len more places counted fits within ordered ends =
-    ((counted, omega (arith, within), omega (arith, fits, within, ordered)), refl)
+block-fits false sort (Some f) meta block offset len more places counted fits within ordered ends = (
+  (counted, omega (arith, within), omega (arith, fits, within, ordered)),
+  (omega (arith, fits), omega (arith, fits)),
+)
 block-fits true sort (Some f) meta block offset len more places counted fits within ordered ends =
     let at : offset + len ≡ f = eqb-true (offset + len) f (ends refl) in
     let full = f + (more - (f - (offset + len))) in
@@ -136,6 +139,40 @@ block-fits true sort (Some f) meta block offset len more places counted fits wit
       (counted, omega (arith, at), omega (arith, at, fits)),
       sym (ap (λ b. if not b then len + more else places - offset) last),
     )
+
+-- So it is where a sole writer has so many places, though the block may have more of them.
+module _ {M : Type 0} (block : Option ℕ) (offset len more places : ℕ) (info : BlockInfo M) where
+  spare-owned : (b : Bool) → not (ends_full info (offset + len)) ≡ b
+      → LieWithin true false (on_block block offset info) len
+      → places ≡ (if b then len else info.size - offset) → len + more ≤ places → 1 ≤ more
+      → LieWithin true false (with_full len more (on_block block offset info)) (len + more)
+      × HasPlaces true (with_full len more (on_block block offset info)) (len + more) places
+  spare-owned true is w has fits some = absurd (omega (arith, has, fits, some))
+  spare-owned false is w has fits some =
+      let all =
+      block-fits true info.sort info.full info.metadata block offset len more info.size w.0
+      (omega (arith, has, fits, some)) w.1 w.2 (λ owned. not-not (ends_full info (offset + len)) is)
+      in (
+        all.0,
+        subst (λ c. HasPlaces true (with_full len more (on_block block offset info)) (len + more) c)
+            (sym has) all.1,
+      )
+    where
+      not-not : (c : Bool) → not c ≡ false → c ≡ true
+      not-not true is = refl
+      not-not false is = absurd (false≢true (sym is))
+
+  spare-block : (drops : Bool) → LieWithin drops false (on_block block offset info) len
+      → EndsAt drops info offset len places → len + more ≤ places → 1 ≤ more
+      → LieWithin drops false (with_full len more (on_block block offset info)) (len + more)
+      × HasPlaces drops (with_full len more (on_block block offset info)) (len + more) places
+  spare-block true w ends fits some =
+      spare-owned (not (ends_full info (offset + len))) refl w ends fits some
+  spare-block false w ends fits some =
+      let all =
+      block-fits false info.sort info.full info.metadata block offset len more info.size w.0
+      (omega (arith, ends.1, fits)) w.1 w.2 (λ owned. absurd (false≢true owned)) in
+      (all.0, (fits, ends.1))
 
 -- full places that are counted within some are so within more, and what lies within them does
 ends-within : (full : Option ℕ) (end size places : ℕ) → end ≤ option_map_or (λ f. f) full size
@@ -186,21 +223,10 @@ module _ {T M : Type 0} (drops : Bool) (first size : ℕ) (old more : List T) (k
   spare-more static_data places f spare some = absurd (f.writer refl)
   spare-more (on_block block offset info) places f spare some =
       let less : k ≤ places - (length old) = ltb-false (places - (length old)) k spare in
-      at-end (drops && not (ends_full info (offset + (length old)))) refl (f.writer refl) less
-    where
-      at-end : (b : Bool) → (drops && not (ends_full info (offset + (length old)))) ≡ b
-          → places ≡ (if b then (length old) else info.size - offset) → k ≤ places - (length old)
-          → RowFits drops (with_more more (row-at (on_block block offset info) places))
-      at-end true is has less = absurd (omega (arith, has, less, some, enough))
-      at-end false is has less =
-          let w = f.within in
-          let all =
-          block-fits drops info.sort info.full info.metadata block offset (length old)
-          (length more) info.size w.0 (omega (arith, has, less, some, enough))
-          (omega (arith, w.1)) w.2 (ends-so drops _ is) in
-          fit (with_full (length old) (length more) (on_block block offset info)) places all.0
-          (subst (λ c. HasPlaces drops (with_full (length old) (length more) (on_block block offset info)) ((length old) + (length more)) c)
-          (sym has) all.1)
+      let all =
+      spare-block block offset (length old) (length more) places info drops f.within
+      (f.writer refl) (omega (arith, less, some, enough)) some in
+      fit (with_full (length old) (length more) (on_block block offset info)) places all.0 all.1
 
   -- the places of the row are enough
   spare-fits : (place : Place (Option ℕ) M) (places : ℕ) → RowFits drops (row-at place places)
@@ -444,3 +470,50 @@ fresh-fits {T} {M} drops block places more less =
 
     none-before : (l : ℕ) → 0 + l ≡ l
     none-before l = omega arith
+
+-- there is spare room for so many items where a writer has as many places left
+is-spare : {M : Type 0} (drops : Bool) (first size : ℕ) (place : Place (Option ℕ) M)
+    (len left k : ℕ) (b : Bool) → nat_lt left k ≡ b
+    → (if not b then Spare else room_at drops first size place len k) ≡ Spare → k ≤ left
+is-spare drops first size place len left k false is spare = ltb-false left k is
+is-spare drops first size nowhere len left k true is spare = absurd (cc)
+is-spare drops first size static_data len left k true is spare = absurd (cc)
+is-spare drops first size (on_block block offset info) len left k true is spare =
+    absurd (subst (Tells drops size info offset len k) spare
+    (room-tells drops size info offset len k))
+
+pub room-spare : {T M : Type 0} (drops : Bool) (first size : ℕ) (row : Row T M) (k : ℕ)
+    → room drops first size row k ≡ Spare → k ≤ capacity_of row.role - length row.items
+room-spare drops first size row k spare =
+    is-spare drops first size row.place (length row.items)
+    (capacity_of row.role - length row.items) k _ refl spare
+
+-- room on the row's own block, beside what is spare
+abbrev pub IsMore : Room → Type 0
+IsMore Behind = Unit {0}
+IsMore Front = Unit {0}
+IsMore (Growth places) = Unit {0}
+IsMore room = ⊥
+
+pub more-made : (r : Room) → IsMore r → IsMade r
+more-made Spare more = absurd more
+more-made (Fresh places) more = absurd more
+more-made (Own additional) more = absurd more
+more-made (Refused e) more = absurd more
+more-made Behind more = tt
+more-made Front more = tt
+more-made (Growth places) more = tt
+
+-- there one of several has to be alone
+is-asked : {M : Type 0} (drops : Bool) (first size : ℕ) (place : Place (Option ℕ) M) (len k : ℕ)
+    (b : Bool) → IsMore (if not b then Spare else room_at drops first size place len k)
+    → (b && is_on_block place) ≡ true
+is-asked drops first size place len k false more = absurd more
+is-asked drops first size nowhere len k true more = absurd more
+is-asked drops first size static_data len k true more = absurd more
+is-asked drops first size (on_block block offset info) len k true more = refl
+
+pub room-asks : {T M : Type 0} (drops : Bool) (first size : ℕ) (row : Row T M) (k : ℕ)
+    → IsMore (room drops first size row k) → asks_alone row k ≡ true
+room-asks drops first size row k more =
+    is-asked drops first size row.place (length row.items) k _ more

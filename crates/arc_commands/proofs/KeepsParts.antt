@@ -1,6 +1,7 @@
 -- Parts of a row fit where it does, and have no places beside its own.
 use Rattle.std.proofs.Common.{◌≡◌, ℕ, ◌+◌, ◌-◌, ◌≤◌, ◌<◌, ◌==◌, ◌&&◌, Bool, true, false}
-use Rattle.std.proofs.Common.{if◌then◌else◌, length, take, Option, refl, sym, ◌∙◌, subst}
+use Rattle.std.proofs.Common.{if◌then◌else◌, length, take, drop, List, ◌++◌, Option, refl, sym}
+use Rattle.std.proofs.Common.{ap, ◌∙◌, subst}
 use Rattle.std.proofs.Common.{arith}
 use Rattle.std.proofs.lemmas.Bool.{false≢true}
 use Rattle.std.proofs.lemmas.List.{length-drop, length-take-le}
@@ -12,10 +13,15 @@ use Rattle.arc_block.specs.Table.{inline, forgotten}
 use Rattle.arc_block.specs.Writers.{capacity_of, with_capacity, after_advance, as_reader}
 use Rattle.arc_commands.specs.Apart.{CoversAt, role_places}
 use Rattle.arc_commands.specs.Blocks.{is_several, is_sole, is_writer}
-use Rattle.arc_commands.specs.Step.{Setting, part_of, cut_row, off_part, to_part, truncated}
+use Rattle.arc_commands.specs.Changes.{Setting, part_of, cut_row, off_part, to_part, truncated}
 use Rattle.arc_commands.proofs.Fits.{advance-fits, as-reader-fits, truncate-fits, part-fits, cut-fits}
-use Rattle.arc_commands.proofs.Parts.{KeepsPart, writes-with}
-use Rattle.arc_commands.proofs.Roles.{several-small}
+use Rattle.arc_block.specs.Shared.{extended, front_of}
+use Rattle.arc_commands.specs.Fits.{RowFits}
+use Rattle.arc_commands.proofs.Among.{back-fits, extended-fits, front-fits}
+use Rattle.arc_commands.proofs.Parts.{KeepsPart, Parts, sole-with, stays-moved, stays-same}
+use Rattle.arc_commands.proofs.Parts.{writes-with}
+use Rattle.arc_commands.proofs.Roles.{several-is, several-small, several-sole, several-with}
+use Rattle.arc_commands.proofs.Several.{split_parted}
 
 -- ---- places
 
@@ -137,6 +143,91 @@ freeze-part drops row several = record {
       covers-less row.place (length row.items) (role_places row.role (length row.items)) n
       (enough row.role (length row.items) several (f.shared several).room) covers;
 }
+
+-- ---- parts of the places of one of several writers
+
+among-places : (role : Role) (len : ℕ) → is_several role ≡ true
+    → role_places role len ≡ capacity_of role
+among-places role len several =
+    ap (λ r. role_places r len) (several-is role several)
+
+with-places : (role : Role) (places len : ℕ) → is_several role ≡ true
+    → role_places (with_capacity role places) len ≡ places
+with-places role places len several =
+    ap (λ r. role_places r len) (several-with role places several)
+
+module _ {T M : Type 0} (drops : Bool) (row : Row T M) (several : is_several row.role ≡ true)
+  where
+    pub extended-part : (items : List T)
+        → (RowFits drops row → length row.items + length items ≤ capacity_of row.role)
+        → KeepsPart drops row (extended items row)
+    extended-part items within = record {
+      fits = extended-fits drops row several items within;
+      writes = λ writes. writes;
+      places = λ sole f n covers.
+          covers-less row.place (role_places row.role (length (row.items ++ items)))
+          (role_places row.role (length row.items)) n
+          (omega (
+            arith,
+            among-places row.role (length (row.items ++ items)) several,
+            among-places row.role (length row.items) several,
+          )) covers;
+    }
+
+    module _ (at : ℕ) (within : RowFits drops row → at ≤ capacity_of row.role) where
+      front-part : KeepsPart drops row (front_of at row)
+      front-part = record {
+        fits = front-fits drops row several at within;
+        writes = λ writes. sym (writes-with row.role at) ∙ writes;
+        places = λ sole f n covers.
+            covers-less row.place
+            (role_places (with_capacity row.role at) (length (take at row.items)))
+            (role_places row.role (length row.items)) n
+            (omega (
+              arith,
+              with-places row.role at (length (take at row.items)) several,
+              among-places row.role (length row.items) several,
+              within f,
+            )) covers;
+      }
+
+      back-part : KeepsPart drops row (after_advance at row)
+      back-part = record {
+        fits = back-fits drops row several at within;
+        writes = λ writes. sym (writes-with row.role (capacity_of row.role - at)) ∙ writes;
+        places = λ sole f n covers.
+            let behind = capacity_of row.role - at in
+            covers-moved row.place at
+            (role_places (with_capacity row.role behind) (length (drop at row.items)))
+            (role_places row.role (length row.items)) n
+            (omega (
+              arith,
+              with-places row.role behind (length (drop at row.items)) several,
+              among-places row.role (length row.items) several,
+              within f,
+            )) covers;
+      }
+
+      pub off-parts : Parts drops row (front_of at row) (after_advance at row)
+      off-parts = record {
+        shares = several-sole row.role several;
+        first = (stays-same row.place, sole-with row.role at);
+        second = (stays-moved at row.place, sole-with row.role (capacity_of row.role - at));
+        keeps = front-part;
+        also = back-part;
+        apart = λ writes f. (split_parted row at several (within f)).apart;
+      }
+
+      pub to-parts : Parts drops row (after_advance at row) (front_of at row)
+      to-parts = record {
+        shares = several-sole row.role several;
+        first = (stays-moved at row.place, sole-with row.role (capacity_of row.role - at));
+        second = (stays-same row.place, sole-with row.role at);
+        keeps = back-part;
+        also = front-part;
+        apart = λ writes f n one other.
+            (split_parted row at several (within f)).apart n other one;
+      }
 
 -- ---- parts of a row that is read
 

@@ -78,3 +78,10 @@ pub set-there : {X : Type 0} (xs : List X) (i : ℕ) (x : X) → slice_get xs i 
 set-there [] i x at = refl
 set-there (y ∷ xs) zero x at = ap (λ z. z ∷ xs) (sym (same_Some y x at))
 set-there (y ∷ xs) (suc i) x at = ap (λ zs. y ∷ zs) (set-there xs i x at)
+
+-- the place that is set last
+pub set-twice : {X : Type 0} (xs : List X) (i : ℕ) (x y : X)
+    → slice_set (slice_set xs i x) i y ≡ slice_set xs i y
+set-twice [] i x y = refl
+set-twice (z ∷ xs) zero x y = refl
+set-twice (z ∷ xs) (suc i) x y = ap (λ zs. z ∷ zs) (set-twice xs i x y)

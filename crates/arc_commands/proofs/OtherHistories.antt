@@ -1,9 +1,12 @@
 -- No command adds to the history of a block on which its window doesn't stand, and the other
 -- windows stand where they stood.
-use Rattle.std.proofs.Common.{◌≡◌, ℕ, Bool, true, false, List, length}
+use Rattle.std.proofs.Common.{inl, inr, ◌≡◌, ℕ, ◌<◌, Bool, true, false, List, length}
 use Rattle.std.proofs.Common.{Option, Some, None, slice_get, slice_set, refl, ap, ◌∙◌}
+use Rattle.std.proofs.Common.{arith}
 use Rattle.std.specs.Prelude.{MatchOption}
-use Rattle.std.proofs.lemmas.Option.{none-some}
+use Rattle.std.proofs.lemmas.Option.{none-some, same_Some, slice_get_within}
+use Rattle.arc_owners.specs.declared.error.TryReserveError.{TryReserveError}
+use Rattle.arc_owners.specs.declared.error.TryReserveError.TheVariants as reserve
 use Rattle.arc_owners.specs.declared.count.tokens.Pass.{Pass}
 use Rattle.arc_owners.specs.declared.history.entry.Entry.{Entry}
 use Rattle.arc_owners.specs.count.Calls.{Owner}
@@ -16,11 +19,15 @@ use Rattle.arc_commands.specs.Additions.{Standing, Adds, AddsBy, AddsTo, AddsAt,
 use Rattle.arc_commands.specs.Additions.{MayBegin, Takes, TakesAs, AsksIf}
 use Rattle.arc_commands.specs.Additions.{AsksInVain, AsksInVainAt, RowAdds, MakerAdds, with_stand}
 use Rattle.arc_commands.specs.Additions.{stand_in, raised, asked, refused, ended}
-use Rattle.arc_commands.specs.Blocks.{is_sole}
+use Rattle.arc_commands.specs.Additions.{AddsOn, AsksFirst, HasMade, HasRefused, JoinAdds, Joins}
+use Rattle.arc_commands.specs.Additions.{MovesAndJoins, Splits, asks_first}
+use Rattle.arc_commands.specs.Blocks.{is_several, is_sole}
+use Rattle.arc_commands.specs.Changes.{Setting, is_box_whole, is_buffer_whole, is_on_block}
+use Rattle.arc_commands.specs.Changes.{is_raw_whole, is_vector_part, is_writable_at}
+use Rattle.arc_commands.specs.Several.{is_vector_at}
 use Rattle.arc_commands.specs.Commands.{ListCmd, ListReply}
 use Rattle.arc_commands.specs.Others.{OtherHistoriesStay}
-use Rattle.arc_commands.specs.Step.{Setting, window_of, is_writable_at, is_vector_part}
-use Rattle.arc_commands.specs.Step.{is_box_whole, is_buffer_whole, is_raw_whole}
+use Rattle.arc_commands.specs.Step.{other_of, window_of}
 use Rattle.arc_commands.specs.declared.command.Cmd.TheVariants as command
 use Rattle.arc_commands.specs.declared.command.Reply.TheVariants as reply
 
@@ -79,6 +86,51 @@ module _ {H : Type 0} where
     takes-as-stay true adds = at-stay here ended old new adds.2
     takes-as-stay false adds = takes-stay adds
 
+    joins-stay : (handed_out : Bool) → Joins here there made old new handed_out
+        → PassesStay here old new
+    joins-stay handed_out adds = raises-stay here adds.0 old new adds.1
+
+    -- a block more has a number that no pass had
+    on-new : (stand : Stand) (between begun : List (Pass H)) → Founds stand between begun → (n : ℕ)
+        → n < length between → (o : Owner) → ¬ (stand ≡ Some (n, o))
+    on-new None between begun founds n less o is = none-some (n, o) is
+    on-new (Some (number, owner)) between begun founds n less o is =
+        let same : number ≡ n =
+        ap (λ (s : ℕ × Owner). s.0) (same_Some (number, owner) (n, o) is) in
+        absurd (omega (arith, founds.0, same, less))
+
+    moves-stay : MovesAndJoins here there made old new → PassesStay here old new
+    moves-stay m n pass apart at =
+        let one : slice_get m.between n ≡ Some pass =
+        at-stay here ended old m.between m.left n pass apart at in
+        let two : slice_get m.begun_with n ≡ Some pass =
+        founds-stay here there m.between m.begun_with m.begins n pass apart one in
+        raises-stay there m.other m.begun_with new m.raises n pass
+        (on-new there m.between m.begun_with m.begins n
+        (slice_get_within m.between n pass one)) two
+
+    splits-stay : (several on_vector handed_out : Bool)
+        → Splits here there made old new several on_vector handed_out → PassesStay here old new
+    splits-stay false on_vector handed_out adds = joins-stay handed_out adds
+    splits-stay true false handed_out adds = joins-stay false adds
+    splits-stay true true handed_out adds = moves-stay adds
+
+    first-stay : (asks alone : Bool) → AsksFirst here there made old new asks alone
+        → PassesStay here old new
+    first-stay true alone adds = at-stay here (asked alone) old new adds.2
+    first-stay false alone adds = same-stay here old new adds.2
+
+    made-room-stay : (asks : Bool) → HasMade here there made old new asks → PassesStay here old new
+    made-room-stay true adds = at-stay here (asked true) old new adds.2
+    made-room-stay false adds = begins-stay here there old new adds.0
+
+    no-room-stay : (asks : Bool) (e : TryReserveError) → HasRefused here there made old new asks e
+        → PassesStay here old new
+    no-room-stay asks reserve.NotUnique adds = first-stay asks false adds
+    no-room-stay asks reserve.AllocError adds = first-stay asks true adds
+    no-room-stay asks reserve.Unsupported adds = first-stay asks true adds
+    no-room-stay asks reserve.CapacityOverflow adds = first-stay asks true adds
+
     asks-stay : (asks : Bool) → AsksIf here there made old new asks → PassesStay here old new
     asks-stay true adds = at-stay here (asked false) old new adds.2
     asks-stay false adds = same-stay here old new adds.2
@@ -103,9 +155,9 @@ module _ {H : Type 0} where
     row-stay setting row (command.Sub i start end) (reply.New number) adds =
         raises-stay here adds.0 old new adds.1
     row-stay setting row (command.Off i at) (reply.New number) adds =
-        raises-stay here adds.0 old new adds.1
+        splits-stay (is_several row.role) (is_vector_at row.place) _ adds
     row-stay setting row (command.To i at) (reply.New number) adds =
-        raises-stay here adds.0 old new adds.1
+        splits-stay (is_several row.role) (is_vector_at row.place) _ adds
     row-stay setting row (command.Clone i) (reply.Owner e) adds =
         at-stay here (refused e) old new adds.2
     row-stay setting row (command.Sub i start end) (reply.Owner e) adds =
@@ -119,12 +171,26 @@ module _ {H : Type 0} where
     row-stay setting row (command.Mut i) reply.Ok adds = at-stay here (asked true) old new adds.2
     row-stay setting row (command.Mut i) reply.Refused adds =
         asks-stay (is_writable_at setting.writes_any row.place) adds
+    row-stay setting row (command.Unique i) reply.Ok adds =
+        at-stay here (asked true) old new adds.2
+    row-stay setting row (command.Unique i) reply.Refused adds =
+        asks-stay (is_on_block row.place) adds
     row-stay setting row (command.Res i additional) reply.Ok adds =
-        begins-stay here there old new adds.0
+        made-room-stay (asks_first row additional) adds
     row-stay setting row (command.Push i item) reply.Ok adds =
-        begins-stay here there old new adds.0
+        made-room-stay (asks_first row 1) adds
     row-stay setting row (command.Ext i items) reply.Ok adds =
-        begins-stay here there old new adds.0
+        made-room-stay (asks_first row (length items)) adds
+    row-stay setting row (command.Res i additional) (reply.Reserve e) adds =
+        no-room-stay (asks_first row additional) e adds
+    row-stay setting row (command.Push i item) (reply.Reserve e) adds =
+        no-room-stay (asks_first row 1) e adds
+    row-stay setting row (command.Ext i items) (reply.Reserve e) adds =
+        no-room-stay (asks_first row (length items)) e adds
+    row-stay setting row (command.Rec i additional) reply.Yes adds =
+        first-stay (asks_first row additional) true adds
+    row-stay setting row (command.Rec i additional) reply.No adds =
+        first-stay (asks_first row additional) adds.0 adds.1
     row-stay setting row (command.Freeze i) reply.Ok adds = begins-stay here there old new adds.0
     row-stay setting row (command.Drop i) reply.Ok adds = at-stay here ended old new adds.2
     row-stay setting row (command.Take i) (reply.Vec items) adds =
@@ -176,10 +242,10 @@ module _ {H : Type 0} where
       stands = λ j stand apart at.
           ap (λ ss. slice_get ss j) adds.3
           ∙ with-stand-stays (slice_set old.stands i adds.0) adds.1 j stand
-          (get-set_other old.stands i j adds.0 (λ same. apart (on ∙ ap Some same)) ∙ at);
+          (get-set_other old.stands i j adds.0 (λ same. apart (inl (on ∙ ap Some same))) ∙ at);
       passes = λ n pass apart at.
           row-stay (stand_in old i) adds.0 adds.1 old.passes new.passes setting row c r adds.2 n
-          pass (λ o here. apart (i, o, on, here)) at;
+          pass (λ o here. apart (i, o, inl on, here)) at;
     }
 
     by-stay : (window : Option ℕ) → window_of c ≡ window → AddsBy setting t old c r new window
@@ -187,5 +253,36 @@ module _ {H : Type 0} where
     by-stay None on adds = made-stay adds
     by-stay (Some i) on adds = on-stay i on (row_at t i) adds
 
+    -- the other window of a join ended
+    join-stay : (j : ℕ) → other_of c ≡ Some j → JoinAdds old r new j → OtherHistoriesStay c old new
+    join-stay j on adds = ended-or-same r adds
+      where
+        gone : AddsAt (stand_in old j) ended old.passes new.passes
+            → new.stands ≡ slice_set old.stands j None → OtherHistoriesStay c old new
+        gone ends stands = record {
+          stands = λ k stand apart at.
+              ap (λ ss. slice_get ss k) stands
+              ∙ get-set_other old.stands j k None (λ same. apart (inr (on ∙ ap Some same))) ∙ at;
+          passes = λ n pass apart at.
+              at-stay (stand_in old j) ended old.passes new.passes ends n pass
+              (λ o here. apart (j, o, inr on, here)) at;
+        }
+
+        same : new ≡ old → OtherHistoriesStay c old new
+        same is = record {
+          stands = λ k stand apart at. ap (λ (s : Standing H). slice_get s.stands k) is ∙ at;
+          passes = λ n pass apart at. ap (λ (s : Standing H). slice_get s.passes n) is ∙ at;
+        }
+
+        ended-or-same : (answer : ListReply T M) → JoinAdds old answer new j
+            → OtherHistoriesStay c old new
+        ended-or-same reply.Ok adds = gone adds.0 adds.1
+        ended-or-same answer adds = same adds
+
+    both-stay : (window other : Option ℕ) → window_of c ≡ window → other_of c ≡ other
+        → AddsOn setting t old c r new window other → OtherHistoriesStay c old new
+    both-stay window None on one adds = by-stay window on adds
+    both-stay window (Some j) on two adds = join-stay j two adds
+
     pub adds-stay-others : Adds setting t old c r new → OtherHistoriesStay c old new
-    adds-stay-others adds = by-stay (window_of c) refl adds
+    adds-stay-others adds = both-stay (window_of c) (other_of c) refl refl adds

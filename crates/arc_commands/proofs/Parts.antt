@@ -6,7 +6,7 @@ use Rattle.arc_block.specs.Table.{Row, Role}
 use Rattle.arc_block.specs.Table.{reader, sole_writer, one_writer_of_several, inline, forgotten}
 use Rattle.arc_block.specs.Writers.{with_capacity}
 use Rattle.arc_commands.specs.Blocks.{is_sole, is_writer}
-use Rattle.arc_commands.specs.Apart.{Covers}
+use Rattle.arc_commands.specs.Apart.{Covers, ShareNone}
 use Rattle.arc_commands.specs.Fits.{RowFits}
 
 -- a part stands on the block on which the whole does, or on none
@@ -79,3 +79,12 @@ pub writes-either : (b : Bool) (role other : Role) → is_writer other ≡ is_wr
     → is_writer (if b then other else role) ≡ is_writer role
 writes-either true role other same = same
 writes-either false role other same = refl
+
+-- Two parts of a row that isn't a sole writer's: of a writer's they share no place.
+pub record Parts {T M : Type 0} (drops : Bool) (row one other : Row T M) : Type 0 where
+  pub shares : is_sole row.role ≡ false
+  pub first : IsPart row one
+  pub second : IsPart row other
+  pub keeps : KeepsPart drops row one
+  pub also : KeepsPart drops row other
+  pub apart : is_writer row.role ≡ true → RowFits drops row → ShareNone one other

@@ -1,8 +1,9 @@
 -- The roles of rows.
-use Rattle.std.proofs.Common.{◌≡◌, ℕ, true, false, refl, sym}
+use Rattle.std.proofs.Common.{◌≡◌, ℕ, true, false, refl, sym, ap}
 use Rattle.std.proofs.lemmas.Bool.{false≢true}
 use Rattle.arc_block.specs.Table.{Role, reader, sole_writer, one_writer_of_several, inline}
 use Rattle.arc_block.specs.Table.{forgotten}
+use Rattle.arc_block.specs.Writers.{capacity_of, with_capacity}
 use Rattle.arc_commands.specs.Blocks.{is_several, is_small, is_sole, is_writer}
 
 -- what holds of each sole writer's role holds of a role that is one
@@ -60,3 +61,36 @@ several-small (sole_writer places) several = refl
 several-small (one_writer_of_several places) several = refl
 several-small inline several = absurd (false≢true several)
 several-small forgotten several = refl
+
+-- one of several has this role, and with other places that
+pub several-is : (role : Role) → is_several role ≡ true
+    → role ≡ one_writer_of_several (capacity_of role)
+several-is reader several = absurd (false≢true several)
+several-is (sole_writer places) several = absurd (false≢true several)
+several-is (one_writer_of_several places) several = refl
+several-is inline several = absurd (false≢true several)
+several-is forgotten several = absurd (false≢true several)
+
+pub several-with : (role : Role) (places : ℕ) → is_several role ≡ true
+    → with_capacity role places ≡ one_writer_of_several places
+several-with reader places several = absurd (false≢true several)
+several-with (sole_writer before) places several = absurd (false≢true several)
+several-with (one_writer_of_several before) places several = refl
+several-with inline places several = absurd (false≢true several)
+several-with forgotten places several = absurd (false≢true several)
+
+-- he is a writer, and not the only one
+pub several-writes : (role : Role) → is_several role ≡ true → is_writer role ≡ true
+several-writes role several = ap is_writer (several-is role several)
+
+pub several-sole : (role : Role) → is_several role ≡ true → is_sole role ≡ false
+several-sole role several = ap is_sole (several-is role several)
+
+-- a writer who isn't one of several is the only one
+pub writes-sole : (role : Role) → is_writer role ≡ true → is_several role ≡ false
+    → is_sole role ≡ true
+writes-sole reader writes shares = absurd (false≢true writes)
+writes-sole (sole_writer places) writes shares = refl
+writes-sole (one_writer_of_several places) writes shares = absurd (false≢true (sym shares))
+writes-sole inline writes shares = absurd (false≢true writes)
+writes-sole forgotten writes shares = absurd (false≢true writes)

@@ -1,6 +1,7 @@
 -- What each command adds to the histories of the blocks, and where the windows stand after it.
 use Rattle.std.specs.Prelude.{◌≡◌, ℕ, ◌==◌, Bool, true, false, if◌then◌else◌, List, [], ◌∷◌, ◌++◌}
 use Rattle.std.specs.Prelude.{length, Option, Some, None, slice_get, slice_set, MatchOption}
+use Rattle.std.specs.Prelude.{◌&&◌, is_some}
 use Rattle.std.specs.Option.{option_flatten}
 use Rattle.arc_owners.specs.declared.count.tokens.Pass.{Pass}
 use Rattle.arc_owners.specs.declared.history.entry.Entry.{Entry}
@@ -10,21 +11,30 @@ use Rattle.arc_owners.specs.count.Calls.{Owner, IsPassFor, IsFirst, IsFreshPass,
 use Rattle.arc_owners.specs.count.Calls.{history_of, seen}
 use Rattle.arc_owners.specs.declared.error.OwnerError.{OwnerError}
 use Rattle.arc_owners.specs.declared.error.OwnerError.TheVariants.{AllocError, CountFull}
+use Rattle.arc_owners.specs.declared.error.TryReserveError.{TryReserveError}
+use Rattle.arc_owners.specs.declared.error.TryReserveError.TheVariants as reserve
 use Rattle.arc_block.specs.declared.block.TheConstants.{MAX_OWNERS}
 use Rattle.arc_block.specs.Block.{Sort, native, vector, buffer, raw}
 use Rattle.arc_block.specs.Owned.{Stand}
 use Rattle.arc_block.specs.Place.{Place, nowhere, static_data, on_block}
+use Rattle.arc_block.specs.Shared.{asks_alone}
 use Rattle.arc_block.specs.Table.{Row, Table, row_at}
-use Rattle.arc_commands.specs.Step.{Setting, window_of, is_writable_at, is_vector_part}
-use Rattle.arc_commands.specs.Step.{is_box_whole, is_buffer_whole, is_raw_whole}
-use Rattle.arc_commands.specs.Blocks.{is_sole}
+use Rattle.arc_commands.specs.Blocks.{is_several, is_sole}
+use Rattle.arc_commands.specs.Changes.{Setting, is_box_whole, is_buffer_whole, is_on_block}
+use Rattle.arc_commands.specs.Changes.{is_raw_whole, is_vector_part, is_writable_at}
+use Rattle.arc_commands.specs.Several.{is_vector_at}
+use Rattle.arc_commands.specs.Step.{other_of, window_of}
 use Rattle.arc_commands.specs.Commands.{ListCmd, ListReply}
 use Rattle.arc_commands.specs.declared.command.Cmd.TheVariants.{Clone, Sub, Off, To, Uniq}
 use Rattle.arc_commands.specs.declared.command.Cmd.TheVariants.{Drop, Static, TakeStatic, Take}
 use Rattle.arc_commands.specs.declared.command.Cmd.TheVariants.{TakeBox, TakeBuf, TakeRaw}
-use Rattle.arc_commands.specs.declared.command.Cmd.TheVariants.{Mut, Res, Push, Ext}
-use Rattle.arc_commands.specs.declared.command.Cmd.TheVariants.{Freeze}
+use Rattle.arc_commands.specs.declared.command.Cmd.TheVariants.{Mut, Res, Push, Ext, Rec}
+use Rattle.arc_commands.specs.declared.command.Cmd.TheVariants.{Freeze, Unique}
 use Rattle.arc_commands.specs.declared.command.Reply.TheVariants as reply
+
+-- whether one of several writers asks first whether he is alone, for room for so many items more
+abbrev pub asks_first : {T M : Type 0} → Row T M → (additional : ℕ) → Bool
+asks_first row additional = is_several row.role && asks_alone row additional
 
 -- where the windows of a table stand, and the passes of the blocks by their numbers
 pub record Standing (H : Type 0) : Type 0 where
@@ -141,6 +151,43 @@ module _ {H : Type 0} where
     AsksIf true = Enters (asked false)
     AsksIf false = AddsNone
 
+    -- The window ended as an owner of a vector, and is the first owner of a block more, on which
+    -- another was made.
+    pub record MovesAndJoins : Type 0 where
+      pub between : List (Pass H)
+      pub begun_with : List (Pass H)
+      pub other : Stand
+      pub left : AddsAt here ended old between
+      pub stands : is_some there ≡ true
+      pub begins : Founds there between begun_with
+      pub raises : Raises there other begun_with new
+      pub joins : is_some other ≡ true
+      pub handed_out : made ≡ Some other
+
+    -- A window was split, which of a reader may hand out the window itself. One of several writers
+    -- of a vector moves to a block more first.
+    abbrev pub Splits : (several on_vector handed_out : Bool) → Type 0
+    Splits false on_vector handed_out = Joins handed_out
+    Splits true false handed_out = Joins false
+    Splits true true handed_out = MovesAndJoins
+
+    -- where the count is asked first, it said that the window is alone, or that it isn't
+    abbrev pub AsksFirst : (asks alone : Bool) → Type 0
+    AsksFirst true alone = Enters (asked alone)
+    AsksFirst false alone = AddsNone
+
+    -- room was made
+    abbrev pub HasMade : (asks : Bool) → Type 0
+    HasMade true = Enters (asked true)
+    HasMade false = Stays
+
+    -- None was made: beside another owner, as the count said, or after it said that there is none.
+    abbrev pub HasRefused : (asks : Bool) → TryReserveError → Type 0
+    HasRefused asks reserve.NotUnique = AsksFirst asks false
+    HasRefused asks reserve.AllocError = AsksFirst asks true
+    HasRefused asks reserve.Unsupported = AsksFirst asks true
+    HasRefused asks reserve.CapacityOverflow = AsksFirst asks true
+
     -- Whether nobody else has a part of a block of this sort, and somebody may have: the count was
     -- asked, which said no. A caller's buffer may say no though the owner is alone, and of an `Arc`
     -- nobody was asked.
@@ -161,8 +208,10 @@ module _ {H : Type 0} where
         → ListReply T M → Type 0
     RowAdds setting row (Clone i) (reply.New number) = Joins false
     RowAdds setting row (Sub i start end) (reply.New number) = Joins false
-    RowAdds setting row (Off i at) (reply.New number) = Joins (at == 0)
-    RowAdds setting row (To i at) (reply.New number) = Joins (at == length row.items)
+    RowAdds setting row (Off i at) (reply.New number) =
+        Splits (is_several row.role) (is_vector_at row.place) (at == 0)
+    RowAdds setting row (To i at) (reply.New number) =
+        Splits (is_several row.role) (is_vector_at row.place) (at == length row.items)
     RowAdds setting row (Clone i) (reply.Owner e) = Enters (refused e)
     RowAdds setting row (Sub i start end) (reply.Owner e) = Enters (refused e)
     RowAdds setting row (Off i at) (reply.Owner e) = Enters (refused e)
@@ -172,9 +221,19 @@ module _ {H : Type 0} where
     RowAdds setting row (Mut i) reply.Ok = Enters (asked true)
     RowAdds setting row (Mut i) reply.Refused =
         AsksIf (is_writable_at setting.writes_any row.place)
-    RowAdds setting row (Res i additional) reply.Ok = Stays
-    RowAdds setting row (Push i item) reply.Ok = Stays
-    RowAdds setting row (Ext i items) reply.Ok = Stays
+    RowAdds setting row (Unique i) reply.Ok = Enters (asked true)
+    RowAdds setting row (Unique i) reply.Refused = AsksIf (is_on_block row.place)
+    RowAdds setting row (Res i additional) reply.Ok = HasMade (asks_first row additional)
+    RowAdds setting row (Push i item) reply.Ok = HasMade (asks_first row 1)
+    RowAdds setting row (Ext i items) reply.Ok = HasMade (asks_first row (length items))
+    RowAdds setting row (Res i additional) (reply.Reserve e) =
+        HasRefused (asks_first row additional) e
+    RowAdds setting row (Push i item) (reply.Reserve e) = HasRefused (asks_first row 1) e
+    RowAdds setting row (Ext i items) (reply.Reserve e) =
+        HasRefused (asks_first row (length items)) e
+    RowAdds setting row (Rec i additional) reply.Yes = AsksFirst (asks_first row additional) true
+    RowAdds setting row (Rec i additional) reply.No =
+        (alone : Bool) × AsksFirst (asks_first row additional) alone
     RowAdds setting row (Freeze i) reply.Ok = Stays
     RowAdds setting row (Drop i) reply.Ok = Goes ended
     RowAdds setting row (Take i) (reply.Vec items) = TakesAs (is_sole row.role)
@@ -216,7 +275,20 @@ module _ {H : Type 0} where
       × RowAdds (stand_in old i) there made old.passes new.passes setting row c reply
       × (new.stands ≡ with_stand (slice_set old.stands i there) made))
 
+  -- what is added by a join of two windows, of which this is the other: it has ended
+  abbrev pub JoinAdds : {T M : Type 0} → Standing H → ListReply T M → Standing H → (other : ℕ)
+      → Type 0
+  JoinAdds old reply.Ok new j = AddsAt (stand_in old j) ended old.passes new.passes
+      × (new.stands ≡ slice_set old.stands j None)
+  JoinAdds old reply new j = new ≡ old
+
+  -- what a command adds that is on the first window, or on none, or on both
+  abbrev pub AddsOn : {T M : Type 0} → Setting T → Table T M → Standing H → ListCmd T M
+      → ListReply T M → Standing H → (window other : Option ℕ) → Type 0
+  AddsOn setting t old c reply new window None = AddsBy setting t old c reply new window
+  AddsOn setting t old c reply new window (Some j) = JoinAdds old reply new j
+
   -- what a command adds, by what it is answered
   abbrev pub Adds : {T M : Type 0} → Setting T → Table T M → Standing H → ListCmd T M
       → ListReply T M → Standing H → Type 0
-  Adds setting t old c reply new = AddsBy setting t old c reply new (window_of c)
+  Adds setting t old c reply new = AddsOn setting t old c reply new (window_of c) (other_of c)

@@ -1,11 +1,13 @@
 pub mod Commands
 pub mod RunOf
+pub mod Changes
+pub mod Several
 pub mod Step
 pub mod Seen
 pub mod Blocks
 pub mod Fits
 pub mod Apart
 pub mod Additions
-pub mod Several
 pub mod State
 pub mod Others
+pub mod Worked

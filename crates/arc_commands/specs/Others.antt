@@ -1,6 +1,6 @@
--- What a command leaves as it was: the rows of all windows but the one that it is on, where these
--- stand, and the histories of all blocks but the one on which that stands.
-use Rattle.std.specs.Prelude.{◌≡◌, ℕ, List, [], ◌∷◌, Option, Some, slice_get}
+-- What a command leaves as it was: the rows of all windows but those that it is on, where these
+-- stand, and the histories of all blocks but those on which those stand.
+use Rattle.std.specs.Prelude.{◌≡◌, ◌⊎◌, ℕ, List, [], ◌∷◌, Option, Some, slice_get}
 use Rattle.arc_owners.specs.declared.count.tokens.Pass.{Pass}
 use Rattle.arc_owners.specs.count.Calls.{Owner}
 use Rattle.arc_block.specs.Owned.{Stand}
@@ -8,11 +8,11 @@ use Rattle.arc_block.specs.Table.{Row, Table}
 use Rattle.arc_commands.specs.Additions.{Standing, stand_in}
 use Rattle.arc_commands.specs.Commands.{ListCmd}
 use Rattle.arc_commands.specs.State.{State}
-use Rattle.arc_commands.specs.Step.{window_of}
+use Rattle.arc_commands.specs.Step.{other_of, window_of}
 
--- a command is on the window with this number; none of these is
+-- a command is on the window with this number, as the first or as the other; none of these is
 abbrev pub IsOn : {T M : Type 0} → ListCmd T M → ℕ → Type 0
-IsOn c i = window_of c ≡ Some i
+IsOn c i = (window_of c ≡ Some i) ⊎ (other_of c ≡ Some i)
 
 abbrev pub NoneIsOn : {T M : Type 0} → List (ListCmd T M) → ℕ → Type 0
 NoneIsOn [] i = Unit {0}

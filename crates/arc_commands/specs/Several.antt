@@ -1,25 +1,23 @@
--- What commands on rows of several writers are answered: who becomes one of them, or the only one,
--- how their places are split and joined, and how they make room.
-use Rattle.std.specs.Prelude.{◌≡◌, ℕ, ◌==◌, Bool, true, false, if◌then◌else◌, List, []}
+-- What becomes of a row of one writer of several: who is one of them, or the only one, how their
+-- places are split and joined, and how they make room.
+use Rattle.std.specs.Prelude.{ℕ, ◌==◌, Bool, true, false, if◌then◌else◌, List, []}
 use Rattle.std.specs.Prelude.{Option, Some, None, ◌&&◌, not, is_some}
 use Rattle.std.specs.Option.{option_map_or}
-use Rattle.arc_owners.specs.declared.count.tokens.Pass.{Pass}
 use Rattle.arc_owners.specs.declared.error.OwnerError.TheVariants as owner_error
-use Rattle.arc_owners.specs.declared.error.TryReserveError.{TryReserveError}
 use Rattle.arc_owners.specs.declared.error.TryReserveError.TheVariants as reserve
+use Rattle.arc_buffer.specs.Slice.{edge_answer}
 use Rattle.arc_block.specs.declared.parts.room.Room.{Room}
 use Rattle.arc_block.specs.declared.parts.room.Room.TheVariants as from
-use Rattle.arc_block.specs.Owned.{Stand}
+use Rattle.arc_block.specs.Block.{Sort, native, vector, buffer, raw}
 use Rattle.arc_block.specs.Place.{Place, nowhere, static_data, on_block}
 use Rattle.arc_block.specs.Shared.{as_shared, as_unique, asks_alone, can_join, extended, front_of}
 use Rattle.arc_block.specs.Shared.{joined_row, on_native, split_answer}
 use Rattle.arc_block.specs.Table.{Row, block_of}
 use Rattle.arc_block.specs.Writers.{after_advance, capacity_of, new_writer, with_room}
-use Rattle.arc_commands.specs.Additions.{AddsAt, Enters, Founds, Raises, asked, ended}
+use Rattle.arc_commands.specs.Changes.{Around, Change, Setting, Shortage, asking, asking_block}
+use Rattle.arc_commands.specs.Changes.{begun, in_range, is_now, is_vector, of_clones, reclaimed}
+use Rattle.arc_commands.specs.Changes.{room_of, with_made}
 use Rattle.arc_commands.specs.Commands.{ListReply}
-use Rattle.arc_commands.specs.Step.{Around, Change, Setting, Shortage, asking, asking_block, begun}
-use Rattle.arc_commands.specs.Step.{in_range, is_buffer, is_now, is_vector, of_clones, room_of}
-use Rattle.arc_commands.specs.Step.{with_made}
 use Rattle.arc_commands.specs.declared.command.Reply.TheVariants as reply
 
 -- whether two rows stand on two blocks
@@ -27,13 +25,23 @@ abbrev pub are_apart : Option ℕ → Option ℕ → Bool
 are_apart None there = false
 are_apart (Some block) there = option_map_or (λ other. not (block == other)) there false
 
-module _ {N M : Type 0} where
-  -- whether a place lies on a caller's buffer, or on a vector
-  abbrev pub is_buffer_at : Place N M → Bool
-  is_buffer_at nowhere = false
-  is_buffer_at static_data = false
-  is_buffer_at (on_block block offset info) = is_buffer info.sort
+-- whether the places of a block are memory of ours
+abbrev pub is_memory : Sort → Bool
+is_memory native = true
+is_memory vector = true
+is_memory (buffer writable) = false
+is_memory raw = false
 
+module _ {N M : Type 0} where
+  -- Whether several may write what stands here: on nothing, or on a block that counts its owners,
+  -- in memory of ours and not in a caller's buffer. What is dropped one by one has one writer.
+  abbrev pub can_share : (drops : Bool) → Place (Option N) M → Bool
+  can_share drops nowhere = not drops
+  can_share drops static_data = false
+  can_share drops (on_block None offset info) = false
+  can_share drops (on_block (Some block) offset info) = not drops && is_memory info.sort
+
+  -- whether a place lies on a vector
   abbrev pub is_vector_at : Place N M → Bool
   is_vector_at nowhere = false
   is_vector_at static_data = false
@@ -43,9 +51,10 @@ module _ {T M : Type 0} where
   -- ---- roles
 
   -- a sole writer is one of several from now on, but over a caller's buffer
-  abbrev pub shared_change : Row T M → Change T M
-  shared_change row = if is_buffer_at row.place then is_now reply.Refused row else
-      is_now reply.Ok (as_shared row)
+  abbrev pub shared_change : Setting T → Row T M → Change T M
+  shared_change setting row =
+      if can_share setting.drops row.place then is_now reply.Ok (as_shared row) else
+      is_now reply.Refused row
 
   -- one of several is the only writer from now on, if he stands on a block and is alone there
   abbrev pub unique_change : Around → Row T M → Change T M
@@ -88,6 +97,12 @@ module _ {T M : Type 0} where
       in_range (split_answer setting.boundary row.items (capacity_of row.role) at) row
       (parts_change setting short around (front_of at) (after_advance at) row)
 
+  -- the part of the first so many places is made, up to those of all items
+  abbrev pub split_to_change : Setting T → Shortage → Around → (at : ℕ) → Row T M → Change T M
+  split_to_change setting short around at row =
+      in_range (edge_answer setting.boundary row.items at) row
+      (parts_change setting short around (after_advance at) (front_of at) row)
+
   -- ---- a join
 
   -- The reply to a join, and the row with the places of both, after which the other has gone; or
@@ -125,33 +140,8 @@ module _ {T M : Type 0} where
       if is_beside around additional row then is_now (reply.Reserve reserve.NotUnique) row else
       filled_alone setting short around items (room_of setting row additional) row
 
--- ---- what is added to the histories
-
-module _ {H : Type 0} (here there : Stand) (made : Option Stand) (old new : List (Pass H)) where
-  -- The window ended as an owner of the vector, and is the first owner of a block more, on which
-  -- another was made.
-  pub record MovesAndJoins : Type 0 where
-    pub between : List (Pass H)
-    pub begun_with : List (Pass H)
-    pub other : Stand
-    pub left : AddsAt here ended old between
-    pub stands : is_some there ≡ true
-    pub begins : Founds there between begun_with
-    pub raises : Raises there other begun_with new
-    pub handed_out : made ≡ Some other
-
-  -- Something was written: after the count said that the window is alone, where it had to be, and
-  -- was refused after it said so, or that it isn't.
-  abbrev pub AsksFirst : (asks alone : Bool) → Type 0
-  AsksFirst true alone = Enters here there made old new (asked alone)
-  AsksFirst false alone = (there ≡ here) × (made ≡ None) × (new ≡ old)
-
-  abbrev pub RefusesShared : (asks : Bool) → TryReserveError → Type 0
-  RefusesShared asks reserve.NotUnique = AsksFirst asks false
-  RefusesShared asks reserve.AllocError = AsksFirst asks true
-  RefusesShared asks reserve.Unsupported = AsksFirst asks true
-  RefusesShared asks reserve.CapacityOverflow = AsksFirst asks true
-
--- two windows were joined: the other's ended, and this one stays
-abbrev pub JoinsWindows : {H : Type 0} → (other : Stand) → (old new : List (Pass H)) → Type 0
-JoinsWindows other old new = AddsAt other ended old new
+  -- room without memory; there is none beside another owner
+  abbrev pub reclaimed_shared : Setting T → Around → (additional : ℕ) → Row T M → Change T M
+  reclaimed_shared setting around additional row =
+      if is_beside around additional row then is_now reply.No row else
+      reclaimed row (room_of setting row additional)

@@ -7,7 +7,8 @@ use Rattle.arc_owners.specs.declared.mark.Whole.{Whole}
 use Rattle.arc_block.specs.Table.{Table, block_of, empty_table, row_at}
 use Rattle.arc_commands.specs.RunOf.{RunOf}
 use Rattle.arc_commands.specs.Additions.{Standing, Adds}
-use Rattle.arc_commands.specs.Step.{Setting, Step}
+use Rattle.arc_commands.specs.Changes.{Setting}
+use Rattle.arc_commands.specs.Step.{Step}
 use Rattle.arc_commands.specs.Commands.{ListCmd, ListReply}
 use Rattle.arc_commands.specs.declared.command.Cmd.TheVariants.{Drop}
 

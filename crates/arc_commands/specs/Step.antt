@@ -1,33 +1,29 @@
 -- One step of a table of lists: what each command is answered, and the table after it.
 use Rattle.std.specs.Prelude.{◌≡◌, ℕ, ◌+◌, ◌==◌, Bool, true, false, if◌then◌else◌, List, [], ◌∷◌}
-use Rattle.std.specs.Prelude.{◌++◌, length, Option, Some, None, slice_set, Result, Ok, Err, take}
-use Rattle.std.specs.Prelude.{◌&&◌, ◌||◌, ◌≤◌, is_some, max, nat_lt, replicate}
+use Rattle.std.specs.Prelude.{◌++◌, length, Option, Some, None, slice_set}
+use Rattle.std.specs.Prelude.{◌&&◌, ◌≤◌, is_some, nat_lt, not, replicate}
 use Rattle.std.specs.Option.{option_map, option_map_or}
-use Rattle.arc_owners.specs.declared.error.RangeError.{RangeError}
-use Rattle.arc_owners.specs.declared.error.OwnerError.TheVariants.{AllocError, CountFull}
-use Rattle.arc_buffer.specs.Slice.{sub, range_answer, edge_answer}
-use Rattle.arc_block.specs.declared.block.TheConstants.{MAX_OWNERS}
-use Rattle.arc_block.specs.Block.{Sort, native, vector, buffer, raw, native_facts, partly_full}
-use Rattle.arc_block.specs.Block.{BlockInfo, memory_info, buffer_info, raw_info}
+use Rattle.arc_owners.specs.declared.error.OwnerError.TheVariants.{AllocError}
+use Rattle.arc_owners.specs.declared.error.TryReserveError.TheVariants as reserve
+use Rattle.arc_buffer.specs.Slice.{range_answer, edge_answer}
 use Rattle.arc_block.specs.Inline.{inline_limit}
-use Rattle.arc_block.specs.Layouts.{LayoutFacts}
-use Rattle.arc_block.specs.Moves.{layout_move}
-use Rattle.arc_block.specs.declared.parts.moves.Move.{Move}
-use Rattle.arc_block.specs.declared.parts.moves.Move.TheVariants.{Stays, HandedBack, NewEmpty}
-use Rattle.arc_block.specs.declared.parts.moves.Move.TheVariants.{NewCount, LeavesCount}
-use Rattle.arc_block.specs.Place.{Place, nowhere, static_data, on_block, made_place, part_place}
-use Rattle.arc_block.specs.Place.{moved, metadata_at}
-use Rattle.arc_block.specs.Table.{Row, RowOf, Table, row_at, block_of, owners, is_alone}
+use Rattle.arc_block.specs.Place.{metadata_at}
+use Rattle.arc_block.specs.Table.{Row, Table, row_at, block_of, is_alone}
 use Rattle.arc_block.specs.Table.{Role, reader, sole_writer, one_writer_of_several, inline}
 use Rattle.arc_block.specs.Table.{forgotten}
-use Rattle.arc_block.specs.Writers.{capacity_of, with_capacity, as_sole, after_advance}
-use Rattle.arc_block.specs.Writers.{room_for, with_room, new_writer, with_more, as_reader}
-use Rattle.arc_block.specs.Writers.{offset_at}
-use Rattle.arc_block.specs.declared.parts.room.Room.{Room as RoomFrom}
-use Rattle.arc_block.specs.declared.parts.room.Room.TheVariants as from
-use Rattle.arc_owners.specs.declared.error.TryReserveError.{TryReserveError}
-use Rattle.arc_owners.specs.declared.error.TryReserveError.TheVariants as reserve
-use Rattle.arc_commands.specs.Blocks.{is_sole}
+use Rattle.arc_block.specs.Writers.{capacity_of, as_sole, after_advance}
+use Rattle.arc_commands.specs.Blocks.{is_several}
+use Rattle.arc_commands.specs.Changes.{Around, Calls, Change, Setting, Shortage, asking}
+use Rattle.arc_commands.specs.Changes.{buffer_row, cut_row, filled, frozen, gone, in_range}
+use Rattle.arc_commands.specs.Changes.{is_box_whole, is_buffer_whole, is_full, is_now, is_on_block}
+use Rattle.arc_commands.specs.Changes.{is_raw_whole, is_unique_at, is_vector_part, made_row}
+use Rattle.arc_commands.specs.Changes.{may_write, no_shortage, of_blocks, of_buffer, of_clones}
+use Rattle.arc_commands.specs.Changes.{of_growth, of_table, off_part, part_of, parted, raw_row}
+use Rattle.arc_commands.specs.Changes.{reclaimed, room_of, small_row, split, static_row, taken_as}
+use Rattle.arc_commands.specs.Changes.{to_part, truncated, vector_row, writer_row}
+use Rattle.arc_commands.specs.Changes.{written_buffer_row}
+use Rattle.arc_commands.specs.Several.{filled_shared, join_answer, reclaimed_shared, shared_change}
+use Rattle.arc_commands.specs.Several.{split_off_change, split_to_change, unique_change}
 use Rattle.arc_commands.specs.RunOf.{RunOf}
 use Rattle.arc_commands.specs.Commands.{ListCmd, ListReply}
 use Rattle.arc_commands.specs.declared.command.Cmd.{Cmd}
@@ -35,60 +31,11 @@ use Rattle.arc_commands.specs.declared.command.Cmd.TheVariants.{Slice, Clone, Su
 use Rattle.arc_commands.specs.declared.command.Cmd.TheVariants.{Off, To, Adv, Trunc, Drop}
 use Rattle.arc_commands.specs.declared.command.Cmd.TheVariants.{Static, TakeStatic, MSlice, Small}
 use Rattle.arc_commands.specs.declared.command.Cmd.TheVariants.{New, Cap, Zero, Room, Mut, Res}
-use Rattle.arc_commands.specs.declared.command.Cmd.TheVariants.{Push, Ext}
+use Rattle.arc_commands.specs.declared.command.Cmd.TheVariants.{Push, Ext, Share, Unique, Join}
 use Rattle.arc_commands.specs.declared.command.Cmd.TheVariants.{Rec, Freeze}
 use Rattle.arc_commands.specs.declared.command.Cmd.TheVariants.{Vec, Raw, Buf, MBuf, Meta}
 use Rattle.arc_commands.specs.declared.command.Cmd.TheVariants.{Take, TakeBox, TakeBuf, TakeRaw}
 use Rattle.arc_commands.specs.declared.command.Reply.TheVariants as reply
-
--- which calls a kind has, of those that not all kinds have: whether a list is copied, whether an
--- item more is pushed, whether a copy of items is put behind others, whether each list is legal, so
--- that a window is made of a caller's buffer, and whether a window may have a few items in itself
-pub record Calls : Type 0 where
-  pub copies : Bool
-  pub pushes : Bool
-  pub extends : Bool
-  pub any_list : Bool
-  pub small : Bool
-
--- what a table is run under: of its layout, on what windows may stand, whether under the layout of
--- its writers a block may be of a caller's making, and on which sorts of blocks its clones may want
--- memory; of its kind, whether blocks count their full places, where a list may be cut, how
--- many bytes an item has, its zero, if it has one, and which calls it has
-pub record Setting (T : Type 0) : Type 0 where
-  pub layout : LayoutFacts
-  pub writes_any : Bool
-  pub clone_wants : Sort → Bool
-  pub drops : Bool
-  pub boundary : List T → ℕ → Bool
-  pub item_size : ℕ
-  pub zero : Option T
-  pub calls : Calls
-
-abbrev pub setting_of : {T : Type 0} → LayoutFacts → (writes_any : Bool) → (Sort → Bool) → Bool
-    → (List T → ℕ → Bool) → ℕ → Option T → Calls → Setting T
-setting_of layout writes_any clone_wants drops boundary item_size zero calls = record {
-  layout = layout;
-  writes_any = writes_any;
-  clone_wants = clone_wants;
-  drops = drops;
-  boundary = boundary;
-  item_size = item_size;
-  zero = zero;
-  calls = calls;
-}
-
--- What a step leaves free: where memory was refused. Nowhere, or for what the table asks for itself
--- (room, a block, a copy of items), or for an owner more, where the layout's clones want some, or
--- for the block of a window that is there: its first one, or a larger one. Or that a caller's
--- buffer said that somebody else has a part of it, or why it makes no room.
-pub data Shortage : Type 0 where
-  no_shortage : Shortage
-  of_table : Shortage
-  of_clones : Shortage
-  of_blocks : Shortage
-  of_buffer : Shortage
-  of_growth : TryReserveError → Shortage
 
 -- where it was refused, and what a buffer said, as the reply to a command tells
 abbrev pub shortage : {T M : Type 0} → ListReply T M → ListCmd T M → Shortage
@@ -109,7 +56,9 @@ is_for (Clone i) inline = true
 is_for (Sub i start end) reader = true
 is_for (Sub i start end) inline = true
 is_for (Off i at) reader = true
+is_for (Off i at) (one_writer_of_several capacity) = true
 is_for (To i at) reader = true
+is_for (To i at) (one_writer_of_several capacity) = true
 is_for (Uniq i) reader = true
 is_for (Meta i) reader = true
 is_for (Meta i) (sole_writer capacity) = true
@@ -131,11 +80,18 @@ is_for (Len i) role = true
 is_for (Room i) (sole_writer capacity) = true
 is_for (Room i) (one_writer_of_several capacity) = true
 is_for (Res i additional) (sole_writer capacity) = true
+is_for (Res i additional) (one_writer_of_several capacity) = true
 is_for (Push i item) (sole_writer capacity) = true
+is_for (Push i item) (one_writer_of_several capacity) = true
 is_for (Ext i items) (sole_writer capacity) = true
+is_for (Ext i items) (one_writer_of_several capacity) = true
 is_for (Rec i additional) (sole_writer capacity) = true
+is_for (Rec i additional) (one_writer_of_several capacity) = true
 is_for (Freeze i) (sole_writer capacity) = true
 is_for (Freeze i) (one_writer_of_several capacity) = true
+is_for (Share i) (sole_writer capacity) = true
+is_for (Unique i) (one_writer_of_several capacity) = true
+is_for (Join i j) (one_writer_of_several capacity) = true
 is_for (Drop i) role = true
 is_for command role = false
 
@@ -144,389 +100,24 @@ abbrev pub has_call : {T M : Type 0} → Calls → ListCmd T M → Bool
 has_call calls (Show i) = calls.copies
 has_call calls (Push i item) = calls.pushes
 has_call calls (Ext i items) = calls.extends
+has_call calls (Share i) = calls.shares
+has_call calls (Unique i) = calls.shares
+has_call calls (Join i j) = calls.shares
 has_call calls command = true
 
 -- whether a command is for this role, and the kind has its call
 abbrev pub is_allowed : {T M : Type 0} → Calls → ListCmd T M → Role → Bool
 is_allowed calls command role = is_for command role && has_call calls command
 
--- what a row knows of what is around it: whether no other row stands on its block, whether that has
--- as many owners as it may have, how many blocks and windows were made, and how many places its
--- block has then, if it is a caller's buffer that makes its own room
-pub record Around : Type 0 where
-  pub alone : Bool
-  pub full : Bool
-  pub blocks : ℕ
-  pub windows : ℕ
-  pub places : ℕ
-
--- What comes of a command on a row: the reply, the row then, or None where it has gone, the row
--- that was made, and whether a block more begins, on which one of the two stands.
-pub record Change (T M : Type 0) : Type 0 where
-  pub reply : ListReply T M
-  pub row : Option (Row T M)
-  pub made : Option (Row T M)
-  pub begins : Bool
-
--- this is the reply, and the row is this one
-abbrev pub is_now : {T M : Type 0} → ListReply T M → Row T M → Change T M
-is_now reply row = record { reply = reply; row = Some row; made = None; begins = false }
-
--- the row is this one, on a block more if it stands on one
-abbrev pub begun : {T M : Type 0} → Row T M → Change T M
-begun row = record {
-  reply = reply.Ok;
-  row = Some row;
-  made = None;
-  begins = is_some (block_of row.place);
-}
-
--- the row is this one, and that one was made
-abbrev pub with_made : {T M : Type 0} → Around → Row T M → Row T M → Change T M
-with_made around row made = record {
-  reply = reply.New around.windows;
-  row = Some row;
-  made = Some made;
-  begins = false;
-}
-
--- the row has gone
-abbrev pub gone : {T M : Type 0} → ListReply T M → Change T M
-gone reply = record { reply = reply; row = None; made = None; begins = false }
-
--- memory is asked for: where it is refused, the row stays as it is
-abbrev pub asking : {T M : Type 0} → Shortage → Row T M → Change T M → Change T M
-asking no_shortage row change = change
-asking of_table row change = is_now reply.Alloc row
-asking of_clones row change = change
-asking of_blocks row change = change
-asking of_buffer row change = change
-asking (of_growth e) row change = change
-
--- memory is asked for, for the block of the window: where it is refused, this is the reply, and the
--- row stays as it is
-abbrev pub asking_block : {T M : Type 0} → Shortage → ListReply T M → Row T M
-    → Change T M → Change T M
-asking_block of_blocks answer row change = is_now answer row
-asking_block short answer row change = change
-
--- what is made of a list: a reader of it, on the block with this number, or on nothing
-abbrev pub made_row : {T M : Type 0} → (has_static drops : Bool) → (block : ℕ) → List T → Row T M
-made_row has_static drops block items = record {
-  items = items;
-  place = made_place has_static (Some block) (native_facts drops (length items)) items;
-  role = reader;
-}
-
--- the same items at the same place, as a small window
-abbrev pub as_small : {T M : Type 0} → Row T M → Row T M
-as_small row = record row { role = inline }
-
--- What is made of a list as a small window. Up to a limit it has the items in itself, and stands on
--- nothing; past that it stands where a reader does that is made of them.
-abbrev pub small_row : {T M : Type 0} → (limit : ℕ) → (has_static drops : Bool) → (block : ℕ)
-    → List T → Row T M
-small_row limit has_static drops block items =
-    if nat_lt limit (length items) then as_small (made_row has_static drops block items) else
-    record { items = items; place = nowhere; role = inline }
-
--- What is made of a vector of these items and so many places: a reader of it, on a block that is
--- the vector. Of no places it is what is made of a list.
-abbrev pub vector_row : {T M : Type 0} → (has_static drops : Bool) → (block : ℕ) → List T → ℕ
-    → Row T M
-vector_row has_static drops block items places =
-    if places == 0 then made_row has_static drops block items else record {
-      items = items;
-      place = on_block (Some block) 0 (memory_info vector drops places (length items));
-      role = reader;
-    }
-
--- A writer of these items, which are all that a new block of so many places holds. Of no places
--- there is no block.
-abbrev pub writer_row : {T M : Type 0} → (drops : Bool) → (block : ℕ) → List T → ℕ → Row T M
-writer_row drops block items places =
-    let facts = partly_full drops places (length items) in
-    let place = if places == 0 then nowhere else on_block (Some block) 0 facts in
-    record { items = items; place = place; role = sole_writer places }
-
--- A reader of all items of a caller's buffer with so many places, on a block that keeps it, with
--- this metadata.
-abbrev pub buffer_row : {T M : Type 0} → (block : ℕ) → List T → (places : ℕ) → M → Row T M
-buffer_row block items places metadata = record {
-  items = items;
-  place = on_block (Some block) 0 (buffer_info false places (length items) (Some metadata));
-  role = reader;
-}
-
--- the same as their writer, in a buffer that may be written
-abbrev pub written_buffer_row : {T M : Type 0} → (block : ℕ) → List T → (places : ℕ) → M → Row T M
-written_buffer_row block items places metadata = record {
-  items = items;
-  place = on_block (Some block) 0 (buffer_info true places (length items) (Some metadata));
-  role = sole_writer places;
-}
-
--- A reader of all items of a caller's buffer behind an `Arc`: on that, where it is a block by
--- itself, and else on a block that keeps it.
-abbrev pub raw_row : {T M : Type 0} → (by_itself : Bool) → (block : ℕ) → List T → Row T M
-raw_row by_itself block items = record {
-  items = items;
-  place = on_block (if by_itself then None else Some block) 0 (raw_info (length items));
-  role = reader;
-}
-
--- a window over a slice that is there for good, which no block holds
-abbrev pub static_row : {T M : Type 0} → List T → Row T M
-static_row items = record { items = items; place = static_data; role = reader }
-
--- whether the layout wants memory for an owner more at this place, and it was refused
-abbrev pub is_wanting : {M : Type 0} → Shortage → (Sort → Bool) → Place (Option ℕ) M → Bool
-is_wanting of_clones wants (on_block block offset info) = wants info.sort
-is_wanting short wants place = false
-
--- whether the block on which a place lies has as many owners as it may have
-abbrev pub is_full : {T M : Type 0} → Table T M → Place (Option ℕ) M → Bool
-is_full t place = option_map_or (λ block. owners t block == MAX_OWNERS) (block_of place) false
-
--- an owner more at the place of this part, and then this comes of it
-abbrev pub with_owner : {T M : Type 0} → Setting T → Shortage → Around → (row part : Row T M)
-    → Change T M → Change T M
-with_owner setting short around row part change =
-    if is_wanting short setting.clone_wants part.place then is_now (reply.Owner AllocError) row else
-    if around.full && is_some (block_of part.place) then is_now (reply.Owner CountFull) row else
-    change
-
--- the part from start to end of a row, as a row that is read
-abbrev pub part_of : {T M : Type 0} → (has_static : Bool) → Row T M → ℕ → ℕ → Row T M
-part_of has_static row start end =
-    let items = sub row.items start end in
-    record {
-      items = items;
-      place = part_place has_static items start row.place;
-      role = row.role;
-    }
-
--- whether the only owner of a block of this sort may write it under a layout, which holds it
-abbrev pub may_write_sort : (has_any : Bool) → Sort → Bool
-may_write_sort has_any native = true
-may_write_sort has_any vector = has_any
-may_write_sort has_any (buffer writable) = writable && has_any
-may_write_sort has_any raw = false
-
--- whether a place lies on a block
-abbrev pub is_on_block : {N M : Type 0} → Place N M → Bool
-is_on_block nowhere = false
-is_on_block static_data = false
-is_on_block (on_block block offset info) = true
-
--- whether a place lies on such a block
-abbrev pub is_writable_at : {N M : Type 0} → (has_any : Bool) → Place N M → Bool
-is_writable_at has_any nowhere = false
-is_writable_at has_any static_data = false
-is_writable_at has_any (on_block block offset info) = may_write_sort has_any info.sort
-
--- whether so many items that stand here may be written from now on, where their owner is alone, or
--- isn't: on no block there have to be none
-abbrev pub may_write_at : {N M : Type 0} → (has_any alone : Bool) → Place N M → (len : ℕ) → Bool
-may_write_at has_any alone nowhere len = len == 0
-may_write_at has_any alone static_data len = len == 0
-may_write_at has_any alone (on_block block offset info) len =
-    may_write_sort has_any info.sort && alone
-
--- whether a row may be written from now on
-abbrev pub may_write : {T M : Type 0} → Setting T → Around → Row T M → Bool
-may_write setting around row =
-    may_write_at setting.writes_any around.alone row.place (length row.items)
-
--- Whether nobody else has a part of a block of this sort. Of an `Arc` the answer is no, and a
--- caller's buffer may say so.
-abbrev pub is_unique : Shortage → (alone : Bool) → Sort → Bool
-is_unique short alone native = alone
-is_unique short alone vector = alone
-is_unique of_buffer alone (buffer writable) = false
-is_unique short alone (buffer writable) = alone
-is_unique short alone raw = false
-
--- whether nobody else has a part of what stands at a place. On no block the answer is no
-abbrev pub is_unique_at : {N M : Type 0} → Shortage → (alone : Bool) → Place N M → Bool
-is_unique_at short alone nowhere = false
-is_unique_at short alone static_data = false
-is_unique_at short alone (on_block block offset info) = is_unique short alone info.sort
-
--- whether a block is of this sort
-abbrev pub is_vector : Sort → Bool
-is_vector native = false
-is_vector vector = true
-is_vector (buffer writable) = false
-is_vector raw = false
-
--- whether so many items from there on are all of the block's full places
-abbrev pub is_all_full : {M : Type 0} → (offset len : ℕ) → BlockInfo M → Bool
-is_all_full offset len info = (offset == 0) && option_map_or (λ full. full == len) info.full false
-
--- Whether so many items that stand here can be had as their block's vector: as any part of one, but
--- items that are dropped one by one as all of it.
-abbrev pub is_vector_part : {N M : Type 0} → (drops : Bool) → Place N M → (len : ℕ) → Bool
-is_vector_part drops nowhere len = false
-is_vector_part drops static_data len = false
-is_vector_part drops (on_block block offset info) len =
-    is_vector info.sort && (if drops then is_all_full offset len info else true)
-
--- whether they can be had as its box, of which they are all places
-abbrev pub is_box_whole : {N M : Type 0} → Place N M → (len : ℕ) → Bool
-is_box_whole nowhere len = false
-is_box_whole static_data len = false
-is_box_whole (on_block block offset info) len =
-    is_vector info.sort && ((offset == 0) && (info.size == len))
-
--- whether a block is a caller's buffer, or an `Arc` of one
-abbrev pub is_buffer : Sort → Bool
-is_buffer native = false
-is_buffer vector = false
-is_buffer (buffer writable) = true
-is_buffer raw = false
-
-abbrev pub is_raw : Sort → Bool
-is_raw native = false
-is_raw vector = false
-is_raw (buffer writable) = false
-is_raw raw = true
-
--- whether so many items that stand here can be had as their block's buffer, or as its `Arc`: as all
--- of it
-abbrev pub is_buffer_whole : {N M : Type 0} → Place N M → (len : ℕ) → Bool
-is_buffer_whole nowhere len = false
-is_buffer_whole static_data len = false
-is_buffer_whole (on_block block offset info) len =
-    is_buffer info.sort && is_all_full offset len info
-
-abbrev pub is_raw_whole : {N M : Type 0} → Place N M → (len : ℕ) → Bool
-is_raw_whole nowhere len = false
-is_raw_whole static_data len = false
-is_raw_whole (on_block block offset info) len = is_raw info.sort && is_all_full offset len info
-
--- whether nobody else has a part of what is taken out at this place, where its owner is alone, or
--- isn't: nobody where no owners are counted
-abbrev pub is_free : {M : Type 0} → (alone : Bool) → Place (Option ℕ) M → Bool
-is_free alone nowhere = false
-is_free alone static_data = false
-is_free alone (on_block None offset info) = true
-is_free alone (on_block (Some block) offset info) = alone
-
--- What a row stands on is taken out, where it is as the command wants it and nobody else has a part
--- of it, and answered so. A sole writer is alone.
-abbrev pub taken_as : {T M : Type 0} → (wanted : Bool) → Around → Row T M → ListReply T M
-    → Change T M
-taken_as wanted around row answer =
-    if wanted && (is_sole row.role || is_free around.alone row.place) then gone answer else
-    is_now reply.Refused row
-
--- The row's first items. What is dropped one by one stays in the block behind them, so a writer of
--- these has no places beside their own.
-abbrev pub truncated : {T M : Type 0} → Bool → Row T M → ℕ → Row T M
-truncated drops row len = record {
-  items = take len row.items;
-  place = row.place;
-  role = if drops then with_capacity row.role len else row.role;
-}
-
--- the part from start to end of a row, as the same owner: it stays where it stands
-abbrev pub cut_row : {T M : Type 0} → Row T M → ℕ → ℕ → Row T M
-cut_row row start end = record {
-  items = sub row.items start end;
-  place = moved start row.place;
-  role = row.role;
-}
-
--- the part that is made by a split: the back, or at the front end a front with no items
-abbrev pub off_part : {T M : Type 0} → (has_static : Bool) → Row T M → ℕ → Row T M
-off_part has_static row at =
-    if at == 0 then part_of has_static row 0 0 else part_of has_static row at (length row.items)
-
--- the front, or at the back end a back with no items
-abbrev pub to_part : {T M : Type 0} → (has_static : Bool) → Row T M → ℕ → Row T M
-to_part has_static row at =
-    if at == length row.items then part_of has_static row at at else part_of has_static row 0 at
-
--- A part is made as an owner more: the window keeps one row, and another one is made.
-abbrev pub parted : {T M : Type 0} → Setting T → Shortage → Around → (row part kept made : Row T M)
-    → Change T M
-parted setting short around row part kept made =
-    asking short row (with_owner setting short around row part (with_made around kept made))
-
--- The same of a split. The part that was made is handed out, and the other stays; or the row itself
--- is handed out, and what was made stays under its number.
-abbrev pub split : {T M : Type 0} → Setting T → Shortage → Around → Bool → (row cut part : Row T M)
-    → Change T M
-split setting short around handed_out row cut part =
-    parted setting short around row part (if handed_out then part else cut)
-    (if handed_out then row else part)
-
--- where a writer has room for so many items more; a first block has places for so many
-abbrev pub room_of : {N T M : Type 0} → Setting T → RowOf N T M → ℕ → RoomFrom
-room_of setting row additional =
-    room_for setting.drops setting.item_size row additional
-
--- A caller's buffer makes its own room, as much as is asked of it or more: so many places then, or
--- those that are wanted, where they are more. Or it refuses, for this reason.
-abbrev pub room_made : {T M : Type 0} → Shortage → Around → Row T M → List T → (additional : ℕ)
-    → Change T M
-room_made of_blocks around row items additional = is_now (reply.Reserve reserve.AllocError) row
-room_made (of_growth e) around row items additional = is_now (reply.Reserve e) row
-room_made short around row items additional =
-    let wanted = offset_at row.place + length row.items + additional in
-    is_now reply.Ok (with_more items (with_room (from.Growth (max wanted around.places)) row))
-
--- The row has this room, and these items behind its others. Memory is asked for a first block, and
--- for a larger one. A caller's buffer makes its own room.
-abbrev pub filled : {T M : Type 0} → Setting T → Shortage → Around → Row T M → List T → RoomFrom
-    → Change T M
-filled setting short around row items (from.Refused e) = is_now (reply.Reserve e) row
-filled setting short around row items (from.Fresh places) =
-    asking_block short (reply.Reserve reserve.AllocError) row
-    (begun (with_more items (new_writer setting.drops (Some around.blocks) [] places)))
-filled setting short around row items (from.Growth places) =
-    asking_block short (reply.Reserve reserve.AllocError) row
-    (is_now reply.Ok (with_more items (with_room (from.Growth places) row)))
-filled setting short around row items (from.Own additional) =
-    room_made short around row items additional
-filled setting short around row items room =
-    is_now reply.Ok (with_more items (with_room room row))
-
--- the row has this room, if that takes no memory
-abbrev pub reclaimed : {T M : Type 0} → Row T M → RoomFrom → Change T M
-reclaimed row (from.Refused e) = is_now reply.No row
-reclaimed row (from.Fresh places) = is_now reply.No row
-reclaimed row (from.Growth places) = is_now reply.No row
-reclaimed row (from.Own additional) = is_now reply.No row
-reclaimed row room = is_now reply.Yes (with_room room row)
-
--- The writer is a reader from now on, by where his window goes under the layout: where he stands,
--- or on a block more, of no places. Or he is handed back. No writer stands on an `Arc`, which may
--- have to be counted, or to leave its count.
-abbrev pub after_move : {T M : Type 0} → Setting T → Shortage → Around → Row T M → Move → Change T M
-after_move setting short around row Stays = is_now reply.Ok (as_reader row)
-after_move setting short around row HandedBack = is_now reply.Refused row
-after_move setting short around row NewCount = is_now reply.Refused row
-after_move setting short around row LeavesCount = is_now reply.Refused row
-after_move setting short around row NewEmpty =
-    asking_block short reply.Refused row
-    (begun (made_row false setting.drops around.blocks row.items))
-
-abbrev pub frozen : {T M : Type 0} → Setting T → Shortage → Around → Row T M → Change T M
-frozen setting short around row =
-    after_move setting short around row
-    (layout_move setting.layout row.place)
-
--- only in range
-abbrev pub in_range : {T M : Type 0} → Result (Unit {0}) RangeError → Row T M → Change T M
-    → Change T M
-in_range (Ok done) row change = change
-in_range (Err e) row change = is_now (reply.Range e) row
+-- A writer's row has room for so many items more, and these behind its others.
+abbrev pub written : {T M : Type 0} → Setting T → Shortage → Around → List T → (additional : ℕ)
+    → Row T M → Change T M
+written setting short around items additional row =
+    if is_several row.role then filled_shared setting short around items additional row else
+    filled setting short around row items (room_of setting row additional)
 
 -- What comes of a command on a row for which it is, where memory was refused so: after the test of
--- the range, what it asks for, and then what it does. No command makes a row of one writer of several
--- yet; of that row splits and what is written are answered `Kind` (`is_for`).
+-- the range, what it asks for, and then what it does. A join is on two rows (`answer_two`).
 abbrev pub answer_row : {T M : Type 0} → Setting T → Shortage → Around → ListCmd T M
     → Row T M → Change T M
 answer_row setting short around (Clone i) row = parted setting short around row row row row
@@ -535,10 +126,12 @@ answer_row setting short around (Sub i start end) row =
     (let part = part_of setting.layout.has_static row start end in
     parted setting short around row part row part)
 answer_row setting short around (Off i at) row =
+    if is_several row.role then split_off_change setting short around at row else
     in_range (edge_answer setting.boundary row.items at) row
     (split setting short around (at == 0) row (cut_row row 0 at)
     (off_part setting.layout.has_static row at))
 answer_row setting short around (To i at) row =
+    if is_several row.role then split_to_change setting short around at row else
     in_range (edge_answer setting.boundary row.items at) row
     (split setting short around (at == length row.items) row (cut_row row at (length row.items))
     (to_part setting.layout.has_static row at))
@@ -551,14 +144,17 @@ answer_row setting short around (Mut i) row =
     if may_write setting around row then is_now reply.Ok (as_sole setting.drops row) else
     is_now reply.Refused row
 answer_row setting short around (Res i additional) row =
-    filled setting short around row [] (room_of setting row additional)
+    written setting short around [] additional row
 answer_row setting short around (Push i item) row =
-    filled setting short around row (item ∷ []) (room_of setting row 1)
+    written setting short around (item ∷ []) 1 row
 answer_row setting short around (Ext i items) row =
-    filled setting short around row items (room_of setting row (length items))
+    written setting short around items (length items) row
 answer_row setting short around (Rec i additional) row =
+    if is_several row.role then reclaimed_shared setting around additional row else
     reclaimed row (room_of setting row additional)
 answer_row setting short around (Freeze i) row = frozen setting short around row
+answer_row setting short around (Share i) row = shared_change setting row
+answer_row setting short around (Unique i) row = unique_change around row
 answer_row setting short around (Adv i by) row =
     in_range (edge_answer setting.boundary row.items by) row
     (is_now reply.Ok (after_advance by row))
@@ -659,6 +255,9 @@ window_of (Push i item) = Some i
 window_of (Ext i items) = Some i
 window_of (Rec i additional) = Some i
 window_of (Freeze i) = Some i
+window_of (Share i) = Some i
+window_of (Unique i) = Some i
+window_of (Join i j) = Some i
 window_of (Adv i by) = Some i
 window_of (Trunc i len) = Some i
 window_of (Drop i) = Some i
@@ -667,6 +266,11 @@ window_of (TakeBox i) = Some i
 window_of (TakeBuf i) = Some i
 window_of (TakeRaw i) = Some i
 window_of (TakeStatic i) = Some i
+
+-- the other window, of a command on two
+abbrev pub other_of : {C X F B M T : Type 0} → Cmd C X F B M T → Option ℕ
+other_of (Join i j) = Some j
+other_of command = None
 
 -- what a row knows of its table, and of a caller's buffer that has so many places
 abbrev pub around_of : {T M : Type 0} → (places : ℕ) → Table T M → Row T M → Around
@@ -720,13 +324,44 @@ answer_by setting short places t c (Some i) =
     option_map_or (λ row. changed t i (answer_any setting short (around_of places t row) c row))
     (row_at t i) (reply.NoWindow, t)
 
+-- two rows were joined, and the other has gone; or they stay
+abbrev pub joined : {T M : Type 0} → Table T M → (i j : ℕ) → ListReply T M × Option (Row T M)
+    → ListReply T M × Table T M
+joined t i j (answer, None) = (answer, t)
+joined t i j (answer, Some whole) = (
+  answer,
+  record { rows = slice_set (slice_set t.rows j None) i (Some whole); blocks = t.blocks },
+)
+
+-- whether a command on two windows is for these, which are two
+abbrev pub is_for_both : {T M : Type 0} → Calls → ListCmd T M → (i j : ℕ) → (row other : Row T M)
+    → Bool
+is_for_both calls c i j row other =
+    is_allowed calls c row.role && is_allowed calls c other.role && not (i == j)
+
+-- what a join of the windows with these numbers is answered
+abbrev pub answer_two : {T M : Type 0} → Setting T → Table T M → ListCmd T M → (i j : ℕ)
+    → ListReply T M × Table T M
+answer_two setting t c i j =
+    option_map_or (λ row. option_map_or (λ other.
+    if is_for_both setting.calls c i j row other then joined t i j (join_answer row other) else
+    (reply.Kind, t)) (row_at t j) (reply.NoWindow, t)) (row_at t i) (reply.NoWindow, t)
+
+-- what a command is answered that is on the first window, or on none, or on both
+abbrev pub answer_on : {T M : Type 0} → Setting T → Shortage → (places : ℕ) → Table T M
+    → ListCmd T M → (window other : Option ℕ) → ListReply T M × Table T M
+answer_on setting short places t c window None = answer_by setting short places t c window
+answer_on setting short places t c window (Some j) =
+    option_map_or (λ i. answer_two setting t c i j) window (reply.NoWindow, t)
+
 -- What a command is answered, and the table after it, where memory was refused so, and what the
--- command brings, or the buffer that makes room for it, has so many places: after the tests of number, role and range, in this order, what
--- it asks for, and then what it does (`answer_row`, and `row_by` of what makes a window of what it
--- brings).
+-- command brings, or the buffer that makes room for it, has so many places: after the tests of
+-- number, role and range, in this order, what it asks for, and then what it does (`answer_row`,
+-- `answer_two` of a join, and `row_by` of what makes a window of what it brings).
 abbrev pub answer : {T M : Type 0} → Setting T → Shortage → (places : ℕ) → Table T M → ListCmd T M
     → ListReply T M × Table T M
-answer setting short places t c = answer_by setting short places t c (window_of c)
+answer setting short places t c =
+    answer_on setting short places t c (window_of c) (other_of c)
 
 -- From old, the table may give this reply to the command and go on to new: it is the answer, where
 -- memory was refused as the reply tells, and a vector or a buffer that the command brings, or a

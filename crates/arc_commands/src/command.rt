@@ -141,6 +141,20 @@ pub enum Cmd<C: Carried> {
     Mut {
         window: usize,
     },
+    /// Makes a window that is written alone one of several that are written on its block.
+    Share {
+        window: usize,
+    },
+    /// Makes a window that is one of several the only one, if it is alone.
+    Unique {
+        window: usize,
+    },
+    /// Puts the places of another window of the same block, which begin where those of the first
+    /// end, behind these; then the other is gone.
+    Join {
+        window: usize,
+        other: usize,
+    },
     /// Takes the first `by` items off a window.
     Adv {
         window: usize,
@@ -179,9 +193,10 @@ pub enum Cmd<C: Carried> {
 
 impl<C: Carried> Cmd<C> {
     ghost use Rattle.std.specs.Prelude.{◌≡◌};
-    ghost use Rattle.arc_commands.specs.Step.{window_of};
+    ghost use Rattle.arc_commands.specs.Step.{other_of, window_of};
 
-    /// The window on which it is, `None` of those that make one of what they bring.
+    /// The window on which it is, `None` of those that make one of what they bring. Of a join the
+    /// first.
     pub fn window(&self) -> Option<usize>
         ensures { result ≡ window_of self.now }
     {
@@ -212,6 +227,9 @@ impl<C: Carried> Cmd<C> {
             Cmd::Rec { window, .. } => Some(*window),
             Cmd::Freeze { window } => Some(*window),
             Cmd::Mut { window } => Some(*window),
+            Cmd::Share { window } => Some(*window),
+            Cmd::Unique { window } => Some(*window),
+            Cmd::Join { window, .. } => Some(*window),
             Cmd::Adv { window, .. } => Some(*window),
             Cmd::Trunc { window, .. } => Some(*window),
             Cmd::Drop { window } => Some(*window),
@@ -220,6 +238,16 @@ impl<C: Carried> Cmd<C> {
             Cmd::TakeBuf { window } => Some(*window),
             Cmd::TakeRaw { window } => Some(*window),
             Cmd::TakeStatic { window } => Some(*window),
+        }
+    }
+
+    /// The other window, of a command on two.
+    pub fn other(&self) -> Option<usize>
+        ensures { result ≡ other_of self.now }
+    {
+        match self {
+            Cmd::Join { other, .. } => Some(*other),
+            _ => None,
         }
     }
 

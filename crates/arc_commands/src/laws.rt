@@ -4,7 +4,11 @@ ghost use Rattle.arc_block.specs.Table.{Table};
 ghost use Rattle.arc_commands.specs.Commands.{ListCmd, ListReply};
 ghost use Rattle.arc_commands.specs.Others.{NoneIsOn, OtherRowsStay, OthersStay, RowStays};
 ghost use Rattle.arc_commands.specs.State.{CarriesOut, State};
-ghost use Rattle.arc_commands.specs.Step.{Run, Setting, Step};
+ghost use Rattle.arc_commands.specs.Changes.{Setting};
+ghost use Rattle.arc_commands.specs.Step.{Run, Step};
+ghost use Rattle.arc_commands.specs.Worked.{MayAnswer, alone_for_more, joined_on_nothing};
+ghost use Rattle.arc_commands.specs.Worked.{joined_when_full, leaves_its_vector, not_with_itself};
+ghost use Rattle.arc_commands.specs.Worked.{only_one_again, whole_again};
 
 /// No command changes another row: what stands under a number that it isn't on, a row or that it
 /// has gone, stands there afterwards, and so it is of a run none of whose commands is on it. And
@@ -21,4 +25,16 @@ pub fn others_stay<T, M>()
     ensures carried_out { (setting : Setting T) (old : State T M) (command : ListCmd T M)
         (reply : ListReply T M) (new : State T M) → CarriesOut setting old command reply new
         → OthersStay command old new }
+{}
+
+/// What a table of bytes may answer to some scripts of several writers. Does nothing: its contract
+/// is the law.
+pub fn several_worked()
+    ensures joined_when_full { MayAnswer joined_when_full }
+    ensures alone_for_more { MayAnswer alone_for_more }
+    ensures not_with_itself { MayAnswer not_with_itself }
+    ensures whole_again { MayAnswer whole_again }
+    ensures only_one_again { MayAnswer only_one_again }
+    ensures joined_on_nothing { MayAnswer joined_on_nothing }
+    ensures leaves_its_vector { MayAnswer leaves_its_vector }
 {}
