@@ -145,6 +145,8 @@ number_form one.Len = (codes "len", command.Len)
 number_form one.Room = (codes "room", command.Room)
 number_form one.Freeze = (codes "freeze", command.Freeze)
 number_form one.Mut = (codes "mut", command.Mut)
+number_form one.Share = (codes "share", command.Share)
+number_form one.Unique = (codes "unique", command.Unique)
 number_form one.Drop = (codes "drop", command.Drop)
 number_form one.Meta = (codes "meta", command.Meta)
 number_form one.Take = (codes "take", command.Take)
@@ -161,6 +163,7 @@ numbers_form two.Res = (codes "res", command.Res)
 numbers_form two.Rec = (codes "rec", command.Rec)
 numbers_form two.Adv = (codes "adv", command.Adv)
 numbers_form two.Trunc = (codes "trunc", command.Trunc)
+numbers_form two.Join = (codes "join", command.Join)
 
 -- items
 abbrev pub items_form : JustItems → Line (SomeItems ∷ [])
@@ -193,8 +196,8 @@ reads (verb.ItemsNumber v) = entry (SomeItems ∷ ANumber ∷ []) (items_number_
 abbrev pub by_word : List Verb → List (List ℕ × Verb)
 by_word vs = map (λ v. ((reads v).word, v)) vs
 
--- all forms, in five groups: those of windows that most lines are about, cuts and lengths, what
--- makes windows, buffers and what is taken back, and the others
+-- all forms, in six groups: those of windows that most lines are about, cuts and lengths, what
+-- makes windows, buffers and what is taken back, windows that turn and are joined, and the others
 abbrev pub usual_verbs : List (List ℕ × Verb)
 usual_verbs = by_word (
     verb.Number one.Show ∷ verb.Number one.Drop ∷ verb.Items items.Slice ∷ verb.Number one.Clone ∷
@@ -219,11 +222,19 @@ buffer_verbs = by_word (
 abbrev pub other_verbs : List (List ℕ × Verb)
 other_verbs = by_word (
     verb.Number one.Uniq ∷ verb.Numbers two.Res ∷ verb.Numbers two.Rec ∷ verb.Number one.Room ∷
-    verb.Number one.Freeze ∷ verb.Number one.Mut ∷ verb.Number one.TakeStatic ∷ [])
+    verb.Number one.TakeStatic ∷ [])
 
--- those that few lines have
+abbrev pub turning_verbs : List (List ℕ × Verb)
+turning_verbs = by_word (
+    verb.Number one.Freeze ∷ verb.Number one.Mut ∷ verb.Number one.Share ∷
+    verb.Number one.Unique ∷ verb.Numbers two.Join ∷ [])
+
+-- the last of those that few lines have, and all of them
+abbrev pub last_verbs : List (List ℕ × Verb)
+last_verbs = other_verbs ++ turning_verbs
+
 abbrev pub rare_verbs : List (List ℕ × Verb)
-rare_verbs = making_verbs ++ (buffer_verbs ++ other_verbs)
+rare_verbs = making_verbs ++ (buffer_verbs ++ last_verbs)
 
 abbrev pub verbs : List (List ℕ × Verb)
 verbs = usual_verbs ++ (cut_verbs ++ rare_verbs)

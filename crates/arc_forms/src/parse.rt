@@ -14,7 +14,8 @@ ghost use Rattle.arc_forms.specs.Reading.{ANumber, SomeItems, BringsItems, comma
 ghost use Rattle.arc_forms.specs.Reading.{is_hex_digit, items_of, number_of, operand_of};
 ghost use Rattle.arc_forms.specs.Reading.{operands_of, pairs, words_in, named, read_behind};
 ghost use Rattle.arc_forms.specs.Reading.{buffer_verbs, cut_verbs, making_verbs, other_verbs};
-ghost use Rattle.arc_forms.specs.Reading.{rare_verbs, usual_verbs, verbs};
+ghost use Rattle.arc_forms.specs.Reading.{last_verbs, rare_verbs, turning_verbs, usual_verbs};
+ghost use Rattle.arc_forms.specs.Reading.{verbs};
 ghost use Rattle.arc_forms.specs.Reading.{number_form, numbers_form};
 ghost use Rattle.arc_forms.specs.Reading.{AByte, byte_of, read_as};
 ghost use Rattle.arc_forms.specs.Reading.{words_of_line};
@@ -76,6 +77,8 @@ enum OneNumber {
     Room,
     Freeze,
     Mut,
+    Share,
+    Unique,
     Drop,
     Meta,
     Take,
@@ -94,6 +97,7 @@ enum TwoNumbers {
     Rec,
     Adv,
     Trunc,
+    Join,
 }
 
 /// The forms of items.
@@ -317,7 +321,17 @@ fn rare_verb_named(word: &[u8]) -> Option<Verb>
     if let Some(verb) = buffer_verb_named(word) {
         return Some(verb);
     }
-    other_verb_named(word)
+    last_verb_named(word)
+}
+
+/// The same, of the last of these.
+fn last_verb_named(word: &[u8]) -> Option<Verb>
+    ensures { result ≡ named word.now last_verbs }
+{
+    if let Some(verb) = other_verb_named(word) {
+        return Some(verb);
+    }
+    turning_verb_named(word)
 }
 
 /// The form whose first word this is, of those that most lines have.
@@ -397,9 +411,22 @@ fn other_verb_named(word: &[u8]) -> Option<Verb>
         b"res" => Some(Verb::Numbers(TwoNumbers::Res)),
         b"rec" => Some(Verb::Numbers(TwoNumbers::Rec)),
         b"room" => Some(Verb::Number(OneNumber::Room)),
+        b"takestatic" => Some(Verb::Number(OneNumber::TakeStatic)),
+        _ => None,
+    }
+}
+
+/// The same, of windows that turn, and are joined.
+#[inline(always)]
+fn turning_verb_named(word: &[u8]) -> Option<Verb>
+    ensures { result ≡ named word.now turning_verbs }
+{
+    match word {
         b"freeze" => Some(Verb::Number(OneNumber::Freeze)),
         b"mut" => Some(Verb::Number(OneNumber::Mut)),
-        b"takestatic" => Some(Verb::Number(OneNumber::TakeStatic)),
+        b"share" => Some(Verb::Number(OneNumber::Share)),
+        b"unique" => Some(Verb::Number(OneNumber::Unique)),
+        b"join" => Some(Verb::Numbers(TwoNumbers::Join)),
         _ => None,
     }
 }
@@ -469,6 +496,8 @@ fn number_command<A: Allocator>(verb: OneNumber, number: usize) -> Command<A>
         OneNumber::Room => Cmd::Room { window },
         OneNumber::Freeze => Cmd::Freeze { window },
         OneNumber::Mut => Cmd::Mut { window },
+        OneNumber::Share => Cmd::Share { window },
+        OneNumber::Unique => Cmd::Unique { window },
         OneNumber::Drop => Cmd::Drop { window },
         OneNumber::Meta => Cmd::Meta { window },
         OneNumber::Take => Cmd::Take { window },
@@ -510,6 +539,10 @@ fn numbers_command<A: Allocator>(verb: TwoNumbers, window: usize, number: usize)
         TwoNumbers::Trunc => Cmd::Trunc {
             window,
             len: number,
+        },
+        TwoNumbers::Join => Cmd::Join {
+            window,
+            other: number,
         },
     }
 }
