@@ -25,7 +25,7 @@ use Rattle.arc_block.specs.Table.{reader, sole_writer, one_writer_of_several, in
 use Rattle.arc_block.specs.Writers.{as_sole}
 use Rattle.arc_block.specs.declared.parts.room.Room.{Room as RoomFrom}
 use Rattle.arc_block.specs.declared.parts.room.Room.TheVariants as from
-use Rattle.arc_commands.specs.Blocks.{is_several, is_sole}
+use Rattle.arc_commands.specs.Blocks.{is_several, is_writer}
 use Rattle.arc_commands.specs.Changes.{Around, Change, Setting, Shortage, after_move, as_small}
 use Rattle.arc_commands.specs.Changes.{buffer_row, filled, is_now, is_unique_at, made_row}
 use Rattle.arc_commands.specs.Changes.{may_write}
@@ -51,6 +51,7 @@ use Rattle.arc_commands.proofs.Fits.{founded-fits, writer-fits, vector-fits}
 use Rattle.arc_commands.proofs.Fits.{reads-fit, buffer-fits, raw-fits, written-fits}
 use Rattle.arc_commands.proofs.Fits.{inside-fits, small-fits}
 use Rattle.arc_commands.proofs.Lists.{set-there, set-twice, there}
+use Rattle.arc_commands.proofs.Outcomes.{TurnsAsMay}
 use Rattle.arc_commands.proofs.Outcomes.{IsLone, MayTell, MayTellMore, StaysPut, Writes}
 use Rattle.arc_commands.proofs.Outcomes.{any_each, reserves, pushes, extends}
 use Rattle.arc_commands.proofs.Parts.{IsPart, KeepsFit, KeepsPart, Parts}
@@ -70,13 +71,14 @@ pub record Outcomes {T M : Type 0} (setting : Setting T) (short : Shortage) (pla
   where
     pub same : (r : ListReply T M) → MayTell short this r → Holds r t
     pub founds : (items : List T) (role : Role) (nothing : Bool) (info : BlockInfo M)
+        → is_several role ≡ false
         → let place = if nothing then nowhere else on_block (Some t.blocks) 0 info in
         RowFits {M = M} setting.drops (record { items = items; place = place; role = role })
         → Holds (reply.New (length t.rows)) (record {
           rows = t.rows ++ Some (record { items = items; place = place; role = role }) ∷ [];
           blocks = with_block (is_some (block_of place)) t.blocks;
         })
-    pub apart : (row : Row T M) → is_sole row.role ≡ false → block_of row.place ≡ None
+    pub apart : (row : Row T M) → is_writer row.role ≡ false → block_of row.place ≡ None
         → RowFits setting.drops row
         → Holds (reply.New (length t.rows)) (founded no_shortage t row).1
     pub splits : (i : ℕ) (row kept made : Row T M) → row_at t i ≡ Some row
@@ -92,11 +94,13 @@ pub record Outcomes {T M : Type 0} (setting : Setting T) (short : Shortage) (pla
         → may_write setting (around_of places t row) row ≡ true → Holds reply.Ok
         (record { rows = slice_set t.rows i (Some (as_sole setting.drops row)); blocks = t.blocks })
     pub refits : (i : ℕ) (row new : Row T M) (r : ListReply T M) → MayTell short this r
-        → row_at t i ≡ Some row → IsLone (is_alone t row.place) row → StaysPut row new
+        → row_at t i ≡ Some row → IsLone (is_alone t row.place) row
+        → TurnsAsMay setting.calls.shares row.role new.role → StaysPut row new
         → KeepsFit setting.drops row new
         → Holds r (record { rows = slice_set t.rows i (Some new); blocks = t.blocks })
     pub begins : (i : ℕ) (row : Row T M) (items : List T) (role : Role) (nothing : Bool)
         (info : BlockInfo M) → row_at t i ≡ Some row
+        → TurnsAsMay setting.calls.shares row.role role
         → let place = if nothing then nowhere else on_block (Some t.blocks) 0 info in
         KeepsFit setting.drops row (record { items = items; place = place; role = role })
         → Holds reply.Ok (record {
@@ -105,6 +109,7 @@ pub record Outcomes {T M : Type 0} (setting : Setting T) (short : Shortage) (pla
         })
     pub moves : (i : ℕ) (row : Row T M) (items : List T) (role : Role) (info : BlockInfo M)
         (kept made : Row T M) → row_at t i ≡ Some row
+        → TurnsAsMay setting.calls.shares row.role role
         → let whole : Row T M =
         record { items = items; place = on_block (Some t.blocks) 0 info; role = role } in
         KeepsFit setting.drops row whole → Parts setting.drops whole kept made
@@ -164,7 +169,7 @@ module _ {T M : Type 0} (setting : Setting T) (short : Shortage) (places : ℕ) 
   writer_each items places within =
       founded_each short refl (writer_row setting.drops t.blocks items places)
       (each.founds items (sole_writer places) (places == 0)
-      (partly_full setting.drops places (length items))
+      (partly_full setting.drops places (length items)) refl
       (writer-fits setting.drops t.blocks items places within))
 
   zero_each : (count : ℕ) (x : Option T)
@@ -184,7 +189,7 @@ module _ {T M : Type 0} (setting : Setting T) (short : Shortage) (places : ℕ) 
   list_each items =
       let nothing = setting.layout.has_static && (length items == 0) in
       founded_each short refl (made_row setting.layout.has_static setting.drops t.blocks items)
-      (each.founds items reader nothing (native_facts setting.drops (length items))
+      (each.founds items reader nothing (native_facts setting.drops (length items)) refl
       (founded-fits setting.drops t.blocks items nothing
       (λ none. eqb-true (length items) 0
       (and_parts setting.layout.has_static (length items == 0) none).1)))
@@ -203,11 +208,11 @@ module _ {T M : Type 0} (setting : Setting T) (short : Shortage) (places : ℕ) 
       let shared : Row T M =
       as_small (made_row setting.layout.has_static setting.drops t.blocks items) in
       either_each (nat_lt limit (length items)) shared inside
-      (founded_each short refl shared (each.founds items inline nothing info
+      (founded_each short refl shared (each.founds items inline nothing info refl
       (small-fits setting.drops t.blocks items nothing (λ none. eqb-true (length items) 0
       (and_parts setting.layout.has_static (length items == 0) none).1))))
       (founded_each short refl inside
-      (each.founds items inline true info (inside-fits setting.drops items)))
+      (each.founds items inline true info refl (inside-fits setting.drops items)))
 
   vector_each : (items : List T) → length items ≤ places
       → Makes (Some (vector_row setting.layout.has_static setting.drops t.blocks items places))
@@ -220,7 +225,7 @@ module _ {T M : Type 0} (setting : Setting T) (short : Shortage) (places : ℕ) 
       } in
       either_each (places == 0) (made_row setting.layout.has_static setting.drops t.blocks items) row
       (list_each items)
-      (founded_each short refl row (each.founds items reader false info
+      (founded_each short refl row (each.founds items reader false info refl
       (vector-fits setting.drops t.blocks items places within)))
 
   raw_each : (items : List T) (by_itself : Bool) → Makes (Some (raw_row by_itself t.blocks items))
@@ -230,7 +235,7 @@ module _ {T M : Type 0} (setting : Setting T) (short : Shortage) (places : ℕ) 
       (raw-fits setting.drops true t.blocks items))
   raw_each items false =
       founded_each short refl (raw_row false t.blocks items)
-      (each.founds items reader false (raw_info (length items))
+      (each.founds items reader false (raw_info (length items)) refl
       (raw-fits setting.drops false t.blocks items))
 
   made_each : (c : ListCmd T M) → c ≡ this → Makes (row_by setting places t.blocks c)
@@ -257,7 +262,7 @@ module _ {T M : Type 0} (setting : Setting T) (short : Shortage) (places : ℕ) 
       if_each (setting.calls.any_list && setting.layout.has_any)
       (buffer_row t.blocks given places metadata)
       (founded_each short refl (buffer_row t.blocks given places metadata)
-      (each.founds given reader false info
+      (each.founds given reader false info refl
       (buffer-fits setting.drops t.blocks given places metadata within)))
   made_each (MBuf given metadata) e =
       let within = subst (λ d. count_brought d ≤ places) (sym e) enough in
@@ -265,7 +270,7 @@ module _ {T M : Type 0} (setting : Setting T) (short : Shortage) (places : ℕ) 
       if_each (setting.calls.any_list && setting.writes_any)
       (written_buffer_row t.blocks given places metadata)
       (founded_each short refl (written_buffer_row t.blocks given places metadata)
-      (each.founds given (sole_writer places) false info
+      (each.founds given (sole_writer places) false info refl
       (written-fits setting.drops t.blocks given places metadata within)))
   made_each New e = writer_each [] 0 (omega arith)
   made_each (Cap wanted) e = writer_each [] wanted (omega arith)
@@ -290,7 +295,7 @@ module _ {T M : Type 0} (setting : Setting T) (short : Shortage) (places : ℕ) 
         writes = each.writes i row at;
         refits = λ new r tells. each.refits i row new r tells at;
         begins = λ items role nothing info. each.begins i row items role nothing info at;
-        moves = λ items role info kept made fits parts.
+        moves = λ items role info kept made may fits parts.
             subst (λ rows. Holds (reply.New (length t.rows))
             (record { rows = rows ++ Some made ∷ []; blocks = t.blocks + 1 }))
             (set-twice t.rows i (Some (record {
@@ -298,7 +303,7 @@ module _ {T M : Type 0} (setting : Setting T) (short : Shortage) (places : ℕ) 
               place = on_block (Some t.blocks) 0 info;
               role = role;
             })) (Some kept))
-            (each.moves i row items role info kept made at fits parts);
+            (each.moves i row items role info kept made at may fits parts);
         goes = λ r tells. each.goes r tells i;
       }) c e
 
@@ -497,14 +502,14 @@ module _ {T M : Type 0} (setting : Setting T) (places : ℕ) (t : Table T M) (c 
   answer_told =
       answer_each setting no_shortage places t c enough (λ reply new. Told reply) (record {
         same = told;
-        founds = λ items role nothing info fits. inl refl;
+        founds = λ items role nothing info one fits. inl refl;
         apart = λ row reads none fits. inl refl;
         splits = λ i row kept made at parts. inl refl;
         becomes = λ i row part at is fits. inl refl;
         writes = λ i row at may. inl refl;
-        refits = λ i row new r tells at lone put fits. told r tells;
-        begins = λ i row items role nothing info at fits. inl refl;
-        moves = λ i row items role info kept made at fits parts. inl refl;
+        refits = λ i row new r tells at lone may put fits. told r tells;
+        begins = λ i row items role nothing info at may fits. inl refl;
+        moves = λ i row items role info kept made at may fits parts. inl refl;
         joins = λ i j row other apart at beside one two there can. inl refl;
         goes = λ r tells i. told r tells;
       }) c refl

@@ -27,7 +27,8 @@ use Rattle.arc_commands.specs.Step.{count_brought}
 use Rattle.arc_commands.proofs.Answers.{answer_each}
 use Rattle.arc_commands.proofs.Blocks.{begins, moved-to, only-here, only-lone, put-there}
 use Rattle.arc_commands.proofs.Blocks.{step_agrees}
-use Rattle.arc_commands.proofs.FitsStep.{each-set, not-apart, step_fits, this}
+use Rattle.arc_commands.proofs.EachRow.{each-set, this}
+use Rattle.arc_commands.proofs.FitsStep.{not-apart, step_fits}
 use Rattle.arc_commands.proofs.Lists.{there}
 use Rattle.arc_commands.proofs.Outcomes.{IsLone}
 use Rattle.arc_commands.proofs.Parts.{IsPart, KeepsPart, Parts, StaysOn}
@@ -360,7 +361,7 @@ module _ {T M : Type 0} where
         let d = setting.drops in
         answer_each setting short places t c enough (λ reply new. Apart new.rows) (record {
           same = λ reply tells. apart;
-          founds = λ items role nothing info fits.
+          founds = λ items role nothing info one fits.
               let place = if nothing then nowhere else on_block (Some t.blocks) 0 info in
               apart-push t.rows (record { items = items; place = place; role = role }) apart
               (λ j block other at on beside writes n mine its.
@@ -376,15 +377,15 @@ module _ {T M : Type 0} where
               (λ j block other second differ on beside.
               differ (only-here t agree setting places i row at may j block other second
               (sole-on d t agree fit apart row.items row.place block on) beside));
-          refits = λ i row new r tells at lone put fits.
+          refits = λ i row new r tells at lone may put fits.
               refits d t agree fit apart i row new at lone put;
-          begins = λ i row items role nothing info at fits.
+          begins = λ i row items role nothing info at may fits.
               begun-apart t agree fit apart i items role nothing info;
-          moves = λ i row items role info kept made at fits parts.
+          moves = λ i row items role info kept made at may fits parts.
               let whole : Row T M =
               record { items = items; place = on_block (Some t.blocks) 0 info; role = role } in
               splits d (moved-to t i whole) (begins t agree i items role false info)
-              (each-set d t.rows i (Some whole) fit (this d whole (fits (fit i row at))))
+              (each-set (RowFits d) t.rows i (Some whole) fit (this (RowFits d) whole (fits (fit i row at))))
               (begun-apart t agree fit apart i items role false info) i whole kept made
               (put-there t i (t.blocks + 1) row whole at) parts;
           joins = λ i j row other differ at second one two same can.

@@ -635,16 +635,16 @@ module _ {T M : Type 0} where
     answer-agrees short places t c enough agree =
         answer_each setting short places t c enough (λ reply new. RowsAgree new) (record {
           same = λ reply tells. agree;
-          founds = λ items role nothing info fits. founds t agree items role nothing info;
+          founds = λ items role nothing info one fits. founds t agree items role nothing info;
           apart = λ row reads none fits. on-none t agree row none;
           splits = λ i row kept made at parts.
               splits t agree i row kept made at parts.shares parts.first parts.second;
           becomes = λ i row part at is fits. becomes t agree i row part at is;
           writes = writes t agree setting places;
-          refits = λ i row new r tells at lone put fits. refits t agree i row new at lone put;
-          begins = λ i row items role nothing info at fits.
+          refits = λ i row new r tells at lone may put fits. refits t agree i row new at lone put;
+          begins = λ i row items role nothing info at may fits.
               begins t agree i items role nothing info;
-          moves = λ i row items role info kept made at fits parts.
+          moves = λ i row items role info kept made at may fits parts.
               let whole : Row T M =
               record { items = items; place = on_block (Some t.blocks) 0 info; role = role } in
               splits (moved-to t i whole) (begins t agree i items role false info) i whole kept made

@@ -178,7 +178,7 @@ sole-before (one_writer_of_several before) n sole = sole
 sole-before inline n sole = sole
 sole-before forgotten n sole = sole
 
-several-before : (role : Role) (n : ℕ) → is_several (with_capacity role n) ≡ true
+pub several-before : (role : Role) (n : ℕ) → is_several (with_capacity role n) ≡ true
     → is_several role ≡ true
 several-before reader n several = several
 several-before (sole_writer before) n several = several

@@ -9,7 +9,9 @@ pub mod Blocks
 pub mod Fits
 pub mod FitsRoom
 pub mod Among
+pub mod EachRow
 pub mod FitsStep
+pub mod Unshared
 pub mod Apart
 pub mod Several
 pub mod Windows

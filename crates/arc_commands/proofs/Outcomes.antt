@@ -55,6 +55,7 @@ use Rattle.arc_commands.specs.declared.command.Reply.TheVariants as reply
 use Rattle.arc_commands.proofs.Among.{roomy-fits, shared-fits, unique-fits}
 use Rattle.arc_commands.proofs.Among.{among-fits, native-fits}
 use Rattle.arc_commands.proofs.Fits.{in-edge, in-range, in-split, founded-fits, as-reader-fits}
+use Rattle.arc_commands.proofs.Fits.{several-before}
 use Rattle.arc_commands.proofs.Fits.{counted}
 use Rattle.arc_commands.proofs.FitsRoom.{IsMade, room-fits, room-alone-fits, room-enough}
 use Rattle.arc_commands.proofs.FitsRoom.{fresh-fits}
@@ -138,6 +139,11 @@ StaysPut row new = block_of new.place ≡ block_of row.place
 abbrev pub IsLone : {T M : Type 0} → (alone : Bool) → Row T M → Type 0
 IsLone alone row = (is_sole row.role ≡ true) ⊎ (alone ≡ true)
 
+-- a row is one of several writers' from now on only where several may write
+abbrev pub TurnsAsMay : (shares : Bool) → (old new : Role) → Type 0
+TurnsAsMay shares old new =
+    is_several new ≡ true → (is_several old ≡ true) ⊎ (shares ≡ true)
+
 -- What holds of each way in which a command on a row may be answered: the row stays, or another one
 -- was made beside it, or it became a part of itself, or where no other stands on its block another
 -- one there, or one on a block more, also split in two there, or it went.
@@ -151,13 +157,15 @@ pub record RowOutcomes {T M : Type 0} (setting : Setting T) (short : Shortage) (
   pub writes : may_write setting around row ≡ true
       → Holds (is_now reply.Ok (as_sole setting.drops row))
   pub refits : (new : Row T M) (r : ListReply T M) → MayTell short this r
-      → IsLone around.alone row → StaysPut row new → KeepsFit setting.drops row new
-      → Holds (is_now r new)
+      → IsLone around.alone row → TurnsAsMay setting.calls.shares row.role new.role
+      → StaysPut row new → KeepsFit setting.drops row new → Holds (is_now r new)
   pub begins : (items : List T) (role : Role) (nothing : Bool) (info : BlockInfo M)
+      → TurnsAsMay setting.calls.shares row.role role
       → let place = if nothing then nowhere else on_block (Some around.blocks) 0 info in
       KeepsFit setting.drops row (record { items = items; place = place; role = role })
       → Holds (begun (record { items = items; place = place; role = role }))
   pub moves : (items : List T) (role : Role) (info : BlockInfo M) (kept made : Row T M)
+      → TurnsAsMay setting.calls.shares row.role role
       → let whole : Row T M =
       record { items = items; place = on_block (Some around.blocks) 0 info; role = role } in
       KeepsFit setting.drops row whole → Parts setting.drops whole kept made
@@ -357,12 +365,27 @@ module _ {T M : Type 0} (setting : Setting T) (short : Shortage) (around : Aroun
       ap (λ (x : Row T M). block_of x.place) (sym (more_none (with_room r row)))
       ∙ stays-put r [] row.place row.role
 
+  -- with this room it is one of several writers' where it was
+  room-several : (r : RoomFrom) → is_several (with_room r row).role ≡ true
+      → is_several row.role ≡ true
+  room-several from.Spare several = several
+  room-several (from.Fresh places) several = several
+  room-several from.Behind several = several-before row.role _ several
+  room-several from.Front several = several-before row.role _ several
+  room-several (from.Growth places) several = several-before row.role _ several
+  room-several (from.Own additional) several = several
+  room-several (from.Refused e) several = several
+
+  room-turns : (r : RoomFrom) → TurnsAsMay setting.calls.shares row.role (with_room r row).role
+  room-turns r several = inl (room-several r several)
+
   module _ (sole : is_sole row.role ≡ true) where
     module _ (items : List T) (k : ℕ) (enough : length items ≤ k) (writing : Writes this) where
       on-block : (r : RoomFrom) → r ≡ room_of setting row k → IsMade r
           → Holds (is_now reply.Ok (with_more items (with_room r row)))
       on-block r is made =
           each.refits (with_more items (with_room r row)) reply.Ok (inl refl) (inl sole)
+          (room-turns r)
           (stays-put r items row.place row.role)
           (λ f. subst (λ x. RowFits setting.drops (with_more items (with_room x row))) (sym is)
           (room-fits setting.drops _ setting.item_size row items k enough sole f
@@ -383,7 +406,7 @@ module _ {T M : Type 0} (setting : Setting T) (short : Shortage) (around : Aroun
           let wanted = offset_at row.place + length row.items + j in
           let made = max wanted around.places in
           each.refits (with_more items (with_room (from.Growth made) row)) reply.Ok (inl refl)
-          (inl sole)
+          (inl sole) (room-turns (from.Growth made))
           (stays-put (from.Growth made) items row.place row.role)
           (λ f. own-fits setting.drops _ setting.item_size row items k j made enough sole f
           (sym is) (omega arith))
@@ -406,7 +429,8 @@ module _ {T M : Type 0} (setting : Setting T) (short : Shortage) (around : Aroun
       filled_each (from.Own additional) is = made-itself additional short refl is
       filled_each (from.Fresh places) is =
           asking_block_each short refl (reply.Reserve reserve.AllocError) refl _
-          (each.begins items (sole_writer places) false _ (λ f.
+          (each.begins items (sole_writer places) false _ (λ several. absurd (false≢true several))
+          (λ f.
           fresh-fits setting.drops around.blocks places items
           (omega (
             arith,
@@ -425,7 +449,8 @@ module _ {T M : Type 0} (setting : Setting T) (short : Shortage) (around : Aroun
       has-room : (r : RoomFrom) → r ≡ room_of setting row k → IsMade r
           → Holds (is_now reply.Yes (with_room r row))
       has-room r is made =
-          each.refits (with_room r row) reply.Yes (inl refl) (inl sole) (stays-alone r)
+          each.refits (with_room r row) reply.Yes (inl refl) (inl sole) (room-turns r)
+          (stays-alone r)
           (λ f. subst (λ x. RowFits setting.drops (with_room x row)) (sym is)
           (room-alone-fits setting.drops _ setting.item_size row k sole f (subst IsMade is made)))
 
@@ -460,7 +485,7 @@ module _ {T M : Type 0} (setting : Setting T) (short : Shortage) (around : Aroun
         → Holds (is_now answer (record (with_room r row) { items = items }))
     has-more items k within answer told r is more free =
         each.refits (record (with_room r row) { items = items }) answer (inl told)
-        (inr (alone-for k r is more free)) (stays-alone r)
+        (inr (alone-for k r is more free)) (room-turns r) (stays-alone r)
         (λ f. subst (λ x. RowFits setting.drops (record (with_room x row) { items = items }))
         (sym is) (roomy-fits setting.drops _ setting.item_size row items k within several
         (more-made _ (subst IsMore is more)) f))
@@ -483,7 +508,7 @@ module _ {T M : Type 0} (setting : Setting T) (short : Shortage) (around : Aroun
       alone_each (from.Fresh places) is free =
           let info : BlockInfo M = memory_info native setting.drops places 0 in
           asking_block_each short refl (reply.Reserve reserve.AllocError) refl _
-          (each.begins items (one_writer_of_several places) false info (λ f.
+          (each.begins items (one_writer_of_several places) false info (λ still. inl several) (λ f.
           among-fits setting.drops items (on_block (Some around.blocks) 0 info) places
           (f.shared several).kept (tt, omega arith) (counted setting.drops 0)
           (omega (
@@ -551,7 +576,7 @@ module _ {T M : Type 0} (setting : Setting T) (short : Shortage) (around : Aroun
           let whole = on_native setting.drops (Some around.blocks) row in
           each.moves row.items row.role
           (memory_info native setting.drops (capacity_of row.role) (length row.items)) (keeps whole)
-          (makes whole) (native-fits setting.drops row several around.blocks) moved
+          (makes whole) (λ still. inl several) (native-fits setting.drops row several around.blocks) moved
 
       away_each : (s : Shortage) → s ≡ short
           → Holds (moved_parts setting s around keeps makes row)
@@ -601,7 +626,8 @@ module _ {T M : Type 0} (setting : Setting T) (short : Shortage) (around : Aroun
       → MayTellMore this → (move : Move) → Holds (after_move setting short around row move)
   moved_each writes told more to.Stays = elim (cases_Bool (is_sole row.role)) [
     | inl sole ↦
-        each.refits (as_reader row) reply.Ok (inl refl) (inl sole) refl
+        each.refits (as_reader row) reply.Ok (inl refl) (inl sole)
+        (λ several. absurd (false≢true several)) refl
         (as-reader-fits setting.drops row (sole-small row.role sole))
     | inr shares ↦
         each.becomes (as_reader row) (stays-same row.place, sym shares)
@@ -612,7 +638,8 @@ module _ {T M : Type 0} (setting : Setting T) (short : Shortage) (around : Aroun
   moved_each writes told more to.LeavesCount = same reply.Refused (inr (inr more))
   moved_each writes told more to.NewEmpty =
       asking_block_each short refl reply.Refused told _
-      (each.begins row.items reader false (native_facts setting.drops (length row.items)) (λ f.
+      (each.begins row.items reader false (native_facts setting.drops (length row.items))
+      (λ several. absurd (false≢true several)) (λ f.
       founded-fits setting.drops around.blocks row.items false (λ none. absurd (false≢true none))))
 
   taken_each : (wanted : Bool) (answer : ListReply T M) → MayTell short this reply.Refused
@@ -626,19 +653,20 @@ module _ {T M : Type 0} (setting : Setting T) (short : Shortage) (around : Aroun
   meta_each (Some metadata) = same (reply.Meta metadata) (inl refl)
 
   -- a sole writer is one of several from now on, and one of several the only one
-  shared_each : is_sole row.role ≡ true → shortage reply.Refused this ≡ no_shortage
-      → Holds (shared_change setting row)
-  shared_each sole told =
+  shared_each : is_sole row.role ≡ true → setting.calls.shares ≡ true
+      → shortage reply.Refused this ≡ no_shortage → Holds (shared_change setting row)
+  shared_each sole shares told =
       either-is (can_share setting.drops row.place) (is_now reply.Ok (as_shared row))
       (is_now reply.Refused row)
-      (λ can. each.refits (as_shared row) reply.Ok (inl refl) (inl sole) refl
+      (λ can. each.refits (as_shared row) reply.Ok (inl refl) (inl sole) (λ several. inr shares) refl
       (shared-fits setting.drops row sole can)) (same reply.Refused (inl told))
 
   unique_each : is_several row.role ≡ true → shortage reply.Refused this ≡ no_shortage
       → Holds (unique_change around row)
   unique_each several told =
       either-is around.alone (is_now reply.Ok (as_unique row)) (is_now reply.Refused row)
-      (λ alone. each.refits (as_unique row) reply.Ok (inl refl) (inr alone) refl
+      (λ alone. each.refits (as_unique row) reply.Ok (inl refl) (inr alone)
+      (λ both. absurd (false≢true both)) refl
       (unique-fits setting.drops row several)) (same reply.Refused (inl told))
 
   -- what a writer writes
@@ -652,20 +680,21 @@ module _ {T M : Type 0} (setting : Setting T) (short : Shortage) (around : Aroun
       (λ one. filled_each (writes-sole row.role (writes-only c none small is) one) items k
       enough writing (room_of setting row k) refl)
 
-  row_each : (c : Command) → c ≡ this → IsFor c → Holds (answer_row setting short around c row)
-  row_each (Clone i) e is =
+  row_each : (c : Command) → c ≡ this → IsFor c → has_call setting.calls c ≡ true
+      → Holds (answer_row setting short around c row)
+  row_each (Clone i) e is has =
       let keeps = part-itself setting.drops row in
       parted_each row row row
       (read-parts row row (reads-only (Clone i) (λ places. refl) (λ places. refl) is) itself
       itself keeps keeps)
-  row_each (Sub i start end) e is =
+  row_each (Sub i start end) e is has =
       let part = part_of setting.layout.has_static row start end in
       let only = reads-only (Sub i start end) (λ places. refl) (λ places. refl) is in
       in_range_each (range_answer setting.boundary row.items start end) _ (λ ok.
       let ranged = in-range setting.boundary row.items start end ok in
       parted_each part row part (read-parts row part only itself (part_is start end)
       (part-itself setting.drops row) (part-part setting row only start end ranged.0 ranged.1)))
-  row_each (Off i at) e is =
+  row_each (Off i at) e is has =
       either-of (is_several row.role) (split_off_change setting short around at row) _
       (λ several. split_off_each several at) (λ none.
       let shares = reads-alone (Off i at) (λ places. refl) is none in
@@ -675,7 +704,7 @@ module _ {T M : Type 0} (setting : Setting T) (short : Shortage) (around : Aroun
       (stays-moved 0 row.place, refl) (off_is at)
       (cut-part setting row shares 0 at (omega arith) within)
       (off-part setting row shares at within)))
-  row_each (To i at) e is =
+  row_each (To i at) e is has =
       either-of (is_several row.role) (split_to_change setting short around at row) _
       (λ several. split_to_each several at) (λ none.
       let shares = reads-alone (To i at) (λ places. refl) is none in
@@ -685,26 +714,26 @@ module _ {T M : Type 0} (setting : Setting T) (short : Shortage) (around : Aroun
       (to_part setting.layout.has_static row at) shares (stays-moved at row.place, refl) (to_is at)
       (cut-part setting row shares at (length row.items) within (omega arith))
       (to-part setting row shares at within)))
-  row_each (Uniq i) e is =
+  row_each (Uniq i) e is has =
       same (if is_unique_at short around.alone row.place then reply.Yes else reply.No)
       (inr (inr (inl (i, inl (sym e)))))
-  row_each (Show i) e is =
+  row_each (Show i) e is has =
       asking_each short refl (is_now (reply.Items row.items) row)
       (same (reply.Items row.items) (inl refl))
-  row_each (Len i) e is = same (reply.Number (length row.items)) (inl refl)
-  row_each (Room i) e is = same (reply.Number (capacity_of row.role)) (inl refl)
-  row_each (Mut i) e is =
+  row_each (Len i) e is has = same (reply.Number (length row.items)) (inl refl)
+  row_each (Room i) e is has = same (reply.Number (capacity_of row.role)) (inl refl)
+  row_each (Mut i) e is has =
       either-is (may_write setting around row) (is_now reply.Ok (as_sole setting.drops row))
       (is_now reply.Refused row) each.writes
       (same reply.Refused (inl (sym (ap (λ d. shortage reply.Refused d) e))))
-  row_each (Res i k) e is =
+  row_each (Res i k) e is has =
       written_each (Res i k) refl refl is [] k (omega arith) (subst Writes e (reserves i k))
-  row_each (Push i x) e is =
+  row_each (Push i x) e is has =
       written_each (Push i x) refl refl is (x ∷ []) 1 (omega arith) (subst Writes e (pushes i x))
-  row_each (Ext i xs) e is =
+  row_each (Ext i xs) e is has =
       written_each (Ext i xs) refl refl is xs (length xs) (omega arith)
       (subst Writes e (extends i xs))
-  row_each (Rec i k) e is =
+  row_each (Rec i k) e is has =
       let told = sym (ap (λ d. shortage reply.No d) e) in
       either-of (is_several row.role) (reclaimed_shared setting around k row)
       (reclaimed row (room_of setting row k))
@@ -712,22 +741,22 @@ module _ {T M : Type 0} (setting : Setting T) (short : Shortage) (around : Aroun
       (λ one. reclaimed_each
       (writes-sole row.role (writes-only (Rec i k) refl refl is) one) k told
       (room_of setting row k) refl)
-  row_each (Share i) e is =
-      shared_each (for-sole T M i row.role is) (sym (ap (λ d. shortage reply.Refused d) e))
-  row_each (Unique i) e is =
+  row_each (Share i) e is has =
+      shared_each (for-sole T M i row.role is) has (sym (ap (λ d. shortage reply.Refused d) e))
+  row_each (Unique i) e is has =
       unique_each (for-several T M i row.role is) (sym (ap (λ d. shortage reply.Refused d) e))
-  row_each (Freeze i) e is =
+  row_each (Freeze i) e is has =
       moved_each (writes-only (Freeze i) refl refl is)
       (sym (ap (λ d. shortage reply.Refused d) e)) (inl (i, inr (sym e)))
       (layout_move setting.layout row.place)
-  row_each (Adv i by) e is =
+  row_each (Adv i by) e is has =
       let part = after_advance by row in
       in_range_each (edge_answer setting.boundary row.items by) (is_now reply.Ok part) (λ ok.
       each.becomes part (
         stays-moved by row.place,
         sole-with row.role (capacity_of row.role - by),
       ) (advance-part setting.drops row by (in-edge setting.boundary row.items by ok)))
-  row_each (Trunc i len) e is =
+  row_each (Trunc i len) e is has =
       let part = truncated setting.drops row len in
       let ranged : Outcome =
       in_range (edge_answer setting.boundary row.items len) row (is_now reply.Ok part) in
@@ -738,30 +767,31 @@ module _ {T M : Type 0} (setting : Setting T) (short : Shortage) (around : Aroun
         sole-either setting.drops row.role (with_capacity row.role len) (sole-with row.role len),
       ) (truncate-part setting.drops row len (ltb-true len (length row.items) less))))
       (same reply.Ok (inl refl))
-  row_each (Drop i) e is = each.goes reply.Ok (inl refl)
-  row_each (Take i) e is =
+  row_each (Drop i) e is has = each.goes reply.Ok (inl refl)
+  row_each (Take i) e is has =
       taken_each _ (reply.Vec row.items) (inl (sym (ap (λ d. shortage reply.Refused d) e)))
       (inl refl)
-  row_each (TakeBox i) e is =
+  row_each (TakeBox i) e is has =
       taken_each _ (reply.Boxed row.items) (inl (sym (ap (λ d. shortage reply.Refused d) e)))
       (inl refl)
-  row_each (TakeBuf i) e is =
+  row_each (TakeBuf i) e is has =
       taken_each _ (reply.Buffer row.items) (inl (sym (ap (λ d. shortage reply.Refused d) e)))
       (inl refl)
-  row_each (TakeRaw i) e is =
+  row_each (TakeRaw i) e is has =
       taken_each _ (reply.Raw row.items) (inl (sym (ap (λ d. shortage reply.Refused d) e)))
       (inl refl)
-  row_each (Meta i) e is = meta_each (metadata_at row.place)
-  row_each (TakeStatic i) e is =
+  row_each (Meta i) e is has = meta_each (metadata_at row.place)
+  row_each (TakeStatic i) e is has =
       either (is_on_block row.place) (is_now reply.Refused row)
       (gone (reply.Static row.items))
       (same reply.Refused (inl (sym (ap (λ d. shortage reply.Refused d) e))))
       (each.goes (reply.Static row.items) (inl refl))
-  row_each making e is = same reply.Kind (inl refl)
+  row_each making e is has = same reply.Kind (inl refl)
 
   pub any_each : (c : Command) → c ≡ this → Holds (answer_any setting short around c row)
   any_each c e =
       either-is (is_allowed setting.calls c row.role) (answer_row setting short around c row)
       (is_now reply.Kind row)
-      (λ is. row_each c e (and_parts (is_for c row.role) (has_call setting.calls c) is).0)
+      (λ is. let both = and_parts (is_for c row.role) (has_call setting.calls c) is in
+      row_each c e both.0 both.1)
       (same reply.Kind (inl refl))

@@ -46,6 +46,10 @@ is_small inline = true
 is_small forgotten = false
 
 module _ {T M : Type 0} where
+  -- no row is that of one writer of several
+  abbrev pub NoneOfSeveral : Table T M → Type 0
+  NoneOfSeveral t = (i : ℕ) (row : Row T M) → row_at t i ≡ Some row → is_several row.role ≡ false
+
   -- a row that stands on the block with this number says this of it
   abbrev pub SaysOf : Table T M → ℕ → BlockInfo M → Type 0
   SaysOf t block info = (i : ℕ) × (row : Row T M) × (offset : ℕ)

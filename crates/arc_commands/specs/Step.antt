@@ -105,6 +105,13 @@ has_call calls (Unique i) = calls.shares
 has_call calls (Join i j) = calls.shares
 has_call calls command = true
 
+-- whether it is one that only windows of several writers have, or that makes one of them
+abbrev pub is_for_several : {T M : Type 0} → ListCmd T M → Bool
+is_for_several (Share i) = true
+is_for_several (Unique i) = true
+is_for_several (Join i j) = true
+is_for_several command = false
+
 -- whether a command is for this role, and the kind has its call
 abbrev pub is_allowed : {T M : Type 0} → Calls → ListCmd T M → Role → Bool
 is_allowed calls command role = is_for command role && has_call calls command

@@ -1,11 +1,13 @@
 //! Laws of the table of lists.
-ghost use Rattle.std.specs.Prelude.{List, ℕ};
+ghost use Rattle.std.specs.Prelude.{◌≡◌, ◌⊎◌, List, false, true, ℕ};
 ghost use Rattle.arc_block.specs.Table.{Table};
 ghost use Rattle.arc_commands.specs.Commands.{ListCmd, ListReply};
 ghost use Rattle.arc_commands.specs.Others.{NoneIsOn, OtherRowsStay, OthersStay, RowStays};
 ghost use Rattle.arc_commands.specs.State.{CarriesOut, State};
 ghost use Rattle.arc_commands.specs.Changes.{Setting};
-ghost use Rattle.arc_commands.specs.Step.{Run, Step};
+ghost use Rattle.arc_commands.specs.Blocks.{NoneOfSeveral};
+ghost use Rattle.arc_commands.specs.Step.{Run, Step, is_for_several};
+ghost use Rattle.arc_commands.specs.declared.command.Reply.TheVariants as reply;
 ghost use Rattle.arc_commands.specs.Worked.{MayAnswer, alone_for_more, joined_on_nothing};
 ghost use Rattle.arc_commands.specs.Worked.{joined_when_full, leaves_its_vector, not_with_itself};
 ghost use Rattle.arc_commands.specs.Worked.{only_one_again, whole_again};
@@ -25,6 +27,19 @@ pub fn others_stay<T, M>()
     ensures carried_out { (setting : Setting T) (old : State T M) (command : ListCmd T M)
         (reply : ListReply T M) (new : State T M) → CarriesOut setting old command reply new
         → OthersStay command old new }
+{}
+
+/// Where a kind's windows aren't shared, no row becomes one of several writers', and the commands
+/// that only these have are answered `Kind`, or `NoWindow`, and change nothing. Does nothing: its
+/// contract is the law, for items and metadata of any type.
+pub fn shares_not<T, M>()
+    ensures rows { (setting : Setting T) (old : Table T M) (command : ListCmd T M)
+        (reply : ListReply T M) (new : Table T M) → setting.calls.shares ≡ false
+        → Step setting old command reply new → NoneOfSeveral old → NoneOfSeveral new }
+    ensures kind { (setting : Setting T) (old : Table T M) (command : ListCmd T M)
+        (answer : ListReply T M) (new : Table T M) → setting.calls.shares ≡ false
+        → is_for_several command ≡ true → Step setting old command answer new
+        → ((answer ≡ reply.Kind) ⊎ (answer ≡ reply.NoWindow)) × (new ≡ old) }
 {}
 
 /// What a table of bytes may answer to some scripts of several writers. Does nothing: its contract
