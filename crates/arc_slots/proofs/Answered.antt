@@ -1,16 +1,14 @@
 -- What each call of a slot leads to, as what its window is answered to a command.
-use Rattle.std.proofs.Common.{◌≡◌, ℕ, ◌+◌, ◌&&◌, Bool, true, false, if◌then◌else◌, List, [], ◌∷◌}
+use Rattle.std.proofs.Common.{◌≡◌, ℕ, ◌+◌, Bool, true, false, if◌then◌else◌, List, [], ◌∷◌}
 use Rattle.std.proofs.Common.{length, Option, Some, None, Result, Ok, Err, is_some, refl, sym, ap}
-use Rattle.std.proofs.Common.{◌∙◌, subst, inl, inr, arith}
+use Rattle.std.proofs.Common.{◌∙◌, subst, arith}
 use Rattle.std.specs.Prelude.{nat_lt, max}
 use Rattle.std.specs.Result.{result_err}
-use Rattle.std.proofs.lemmas.Bool.{cases_Bool, false≢true}
+use Rattle.std.proofs.lemmas.Bool.{false≢true}
 use Rattle.std.proofs.lemmas.Option.{same_Some}
 use Rattle.arc_owners.specs.declared.mark.Whole.{Whole}
 use Rattle.arc_owners.specs.declared.count.tokens.Pass.{Pass}
 use Rattle.arc_owners.specs.declared.error.RangeError.{RangeError}
-use Rattle.arc_owners.specs.declared.error.OwnerError.{OwnerError}
-use Rattle.arc_owners.specs.declared.error.OwnerError.TheVariants.{AllocError, CountFull}
 use Rattle.arc_owners.specs.declared.error.TryReserveError.{TryReserveError}
 use Rattle.arc_owners.specs.declared.error.TryReserveError.TheVariants as reserve
 use Rattle.arc_owners.specs.declared.history.entry.Entry.TheVariants as entry
@@ -18,7 +16,6 @@ use Rattle.arc_owners.specs.count.Calls.{Owner}
 use Rattle.arc_buffer.specs.Slice.{edge_answer}
 use Rattle.arc_block.specs.declared.parts.room.Room.{Room}
 use Rattle.arc_block.specs.declared.parts.room.Room.TheVariants as from
-use Rattle.arc_block.specs.Block.{buffer}
 use Rattle.arc_block.specs.Owned.{Stand}
 use Rattle.arc_block.specs.Place.{Place, nowhere, static_data, on_block, metadata_at}
 use Rattle.std.specs.Option.{option_map_or}
@@ -26,40 +23,40 @@ use Rattle.arc_block.specs.Table.{Row, Role, reader, sole_writer, one_writer_of_
 use Rattle.arc_block.specs.Table.{forgotten, block_of}
 use Rattle.arc_block.specs.Writers.{new_writer, with_more, with_room}
 use Rattle.arc_block.specs.Writers.{after_advance, capacity_of}
-use Rattle.arc_commands.specs.Additions.{RowAdds, Joins, Founds, MayBegin, Stays}
-use Rattle.arc_commands.specs.Step.{Setting, Shortage, no_shortage, of_table, of_clones, of_blocks}
-use Rattle.arc_commands.specs.Step.{Around, Change, answer_any, answer_row, begun}
-use Rattle.arc_commands.specs.Step.{filled, in_range, is_allowed, is_now}
-use Rattle.arc_commands.specs.Step.{is_on_block}
-use Rattle.arc_commands.specs.Step.{parted, room_of, shortage, truncated}
-use Rattle.arc_commands.specs.Step.{with_made, gone}
-use Rattle.arc_commands.specs.Blocks.{is_reader, is_small, is_sole, is_writer}
+use Rattle.arc_commands.specs.Additions.{RowAdds, Founds, MayBegin, Stays}
+use Rattle.arc_commands.specs.Changes.{Setting, Shortage, no_shortage, of_table}
+use Rattle.arc_commands.specs.Changes.{of_blocks}
+use Rattle.arc_commands.specs.Changes.{Around, Change, begun}
+use Rattle.arc_commands.specs.Step.{answer_any, answer_row}
+use Rattle.arc_commands.specs.Changes.{filled, in_range, is_now}
+use Rattle.arc_commands.specs.Step.{is_allowed}
+use Rattle.arc_commands.specs.Changes.{is_on_block}
+use Rattle.arc_commands.specs.Changes.{room_of, truncated}
+use Rattle.arc_commands.specs.Step.{shortage}
+use Rattle.arc_commands.specs.Changes.{gone}
+use Rattle.arc_commands.specs.Blocks.{is_reader, is_several, is_small, is_sole, is_writer}
+use Rattle.arc_commands.specs.Several.{filled_shared}
+use Rattle.arc_commands.specs.Step.{written}
 use Rattle.arc_commands.specs.Commands.{ListCmd, ListReply}
 use Rattle.arc_commands.specs.declared.command.Cmd.TheVariants as command
 use Rattle.arc_commands.specs.declared.command.Reply.TheVariants as reply
-use Rattle.arc_commands.proofs.Roles.{sole_each}
+use Rattle.arc_commands.proofs.Roles.{sole_each, sole-several}
 use Rattle.arc_slots.specs.Answers.{Answers, around_in}
-use Rattle.arc_slots.specs.Calls.{Along, Beside, RefusesAt}
-use Rattle.arc_slots.specs.Parts.{is_itself, is_part_of, part_answer, part_command, part_row}
-use Rattle.arc_slots.specs.Parts.{rest_of}
+use Rattle.arc_slots.specs.Calls.{Along}
 use Rattle.arc_slots.specs.Slots.{IsSlotRole, SlotView, row_of, stand_of}
-use Rattle.arc_slots.specs.Splits.{IsSplit}
-use Rattle.arc_slots.specs.Stands.{HasPassFor, numbered, stand_at}
+use Rattle.arc_slots.specs.Stands.{numbered, stand_at}
 use Rattle.arc_slots.specs.Writing.{Fills, additional_of, can_write, is_fresh}
 use Rattle.arc_slots.specs.Writing.{items_of}
 use Rattle.arc_slots.specs.Writing.{write_command}
-use Rattle.arc_slots.specs.declared.part.Part.{Part}
-use Rattle.arc_slots.specs.declared.part.Part.TheVariants.{Whole as All, Range, Back, Front}
 use Rattle.arc_slots.specs.declared.slot.Writing.{Writing}
 use Rattle.arc_slots.specs.declared.slot.Writing.TheVariants as writing
-use Rattle.arc_slots.proofs.ByForm.{part-adds, part-none, write-adds, write-none}
-use Rattle.arc_slots.proofs.Added.{Ended, ended-comes, enters-along, raises-beside}
-use Rattle.arc_slots.proofs.Added.{refuses-at}
-use Rattle.arc_commands.specs.Step.{of_growth}
+use Rattle.arc_slots.proofs.ByForm.{write-adds, write-none}
+use Rattle.arc_slots.proofs.Added.{Ended, ended-comes, enters-along}
+use Rattle.arc_commands.specs.Changes.{of_growth}
 use Rattle.arc_block.specs.Room.{IsBuffersRefusal}
 use Rattle.arc_block.specs.Writers.{offset_at}
-use Rattle.arc_slots.proofs.Told.{full-told, many_along, many-beside, many-refused}
-use Rattle.arc_slots.proofs.Told.{many-founded, room-beside, row-begins, row-block}
+use Rattle.arc_slots.proofs.Told.{many_along}
+use Rattle.arc_slots.proofs.Told.{many-founded, row-begins}
 use Rattle.arc_slots.proofs.Told.{stand_block}
 
 -- a block's metadata is the same by whatever it goes
@@ -148,234 +145,6 @@ module _ {T M : Type 0} (setting : Setting T) (windows : ℕ) (s : SlotView T M)
     blocks = refl;
     adds = adds;
   }
-
-  -- ---- a part that is handed out
-
-  -- what a part of a window of this role is for
-  part-for : (i : ℕ) (role : Role) (part : Part) → is_part_of role part ≡ true
-      → allowed (part_command i part) role ≡ true
-  part-for i reader All is = refl
-  part-for i reader (Range start end) is = refl
-  part-for i reader (Back at) is = refl
-  part-for i reader (Front at) is = refl
-  part-for i (sole_writer places) part is = absurd (false≢true is)
-  part-for i (one_writer_of_several places) part is = absurd (false≢true is)
-  part-for i inline All is = refl
-  part-for i inline (Range start end) is = refl
-  part-for i inline (Back at) is = absurd (false≢true is)
-  part-for i inline (Front at) is = absurd (false≢true is)
-  part-for i forgotten part is = absurd (false≢true is)
-
-  part-not : (i : ℕ) (role : Role) (part : Part) → is_part_of role part ≡ false
-      → allowed (part_command i part) role ≡ false
-  part-not i reader part is = absurd (false≢true (sym is))
-  part-not i (sole_writer places) All is = refl
-  part-not i (sole_writer places) (Range start end) is = refl
-  part-not i (sole_writer places) (Back at) is = refl
-  part-not i (sole_writer places) (Front at) is = refl
-  part-not i (one_writer_of_several places) All is = refl
-  part-not i (one_writer_of_several places) (Range start end) is = refl
-  part-not i (one_writer_of_several places) (Back at) is = refl
-  part-not i (one_writer_of_several places) (Front at) is = refl
-  part-not i inline All is = absurd (false≢true (sym is))
-  part-not i inline (Range start end) is = absurd (false≢true (sym is))
-  part-not i inline (Back at) is = refl
-  part-not i inline (Front at) is = refl
-  part-not i forgotten All is = refl
-  part-not i forgotten (Range start end) is = refl
-  part-not i forgotten (Back at) is = refl
-  part-not i forgotten (Front at) is = refl
-
-  module _ (i : ℕ) (part : Part) where
-    abbrev c : Command
-    c = part_command i part
-
-    abbrev out : Bool
-    out = is_itself row part
-
-    abbrev new_part : Row T M
-    new_part = part_row setting.layout.has_static row part
-
-    abbrev hands : Shortage → Change T M
-    hands short =
-        parted setting short around row new_part (if out then new_part else rest_of row part)
-        (if out then row else new_part)
-
-  -- it is handed out of no window of this role
-  pub part-kind : (i : ℕ) (part : Part) → is_part_of s.role part ≡ false
-      → Said (part_command i part) reply.Kind (Some s) None passes
-  part-kind i All is =
-      same (command.Clone i) reply.Kind
-      (not-for no_shortage (command.Clone i) (part-not i s.role All is)) (refl, refl, refl)
-  part-kind i (Range start end) is =
-      same (command.Sub i start end) reply.Kind (not-for no_shortage (command.Sub i start end)
-      (part-not i s.role (Range start end) is)) (refl, refl, refl)
-  part-kind i (Back at) is =
-      same (command.Off i at) reply.Kind
-      (not-for no_shortage (command.Off i at) (part-not i s.role (Back at) is)) (refl, refl, refl)
-  part-kind i (Front at) is =
-      same (command.To i at) reply.Kind
-      (not-for no_shortage (command.To i at) (part-not i s.role (Front at) is)) (refl, refl, refl)
-
-  module _ (i : ℕ) where
-    hand-is : (part : Part) (short : Shortage) → is_part_of s.role part ≡ true
-        → part_answer setting.boundary s.window.items part ≡ Ok tt
-        → answer_any setting short around (part_command i part) row ≡ hands i part short
-    hand-is All short is ok = for-role short (command.Clone i) (part-for i s.role All is)
-    hand-is (Range start end) short is ok =
-        for-role short (command.Sub i start end) (part-for i s.role (Range start end) is)
-        ∙ ap (λ a. in_range a row (hands i (Range start end) short)) ok
-    hand-is (Back at) short is ok =
-        for-role short (command.Off i at) (part-for i s.role (Back at) is)
-        ∙ ap (λ a. in_range a row (hands i (Back at) short)) ok
-    hand-is (Front at) short is ok =
-        for-role short (command.To i at) (part-for i s.role (Front at) is)
-        ∙ ap (λ a. in_range a row (hands i (Front at) short)) ok
-
-    -- it isn't one of the window
-    pub part-range : (part : Part) (e : RangeError) → is_part_of s.role part ≡ true
-        → part_answer setting.boundary s.window.items part ≡ Err e
-        → Said (part_command i part) (reply.Range e) (Some s) None passes
-    part-range All e for is = absurd (cc)
-    part-range (Range start end) e for is =
-        same (command.Sub i start end) (reply.Range e)
-        (for-role no_shortage (command.Sub i start end) (part-for i s.role (Range start end) for)
-        ∙ ap (λ a. in_range a row (hands i (Range start end) no_shortage)) is)
-        (refl, refl, refl)
-    part-range (Back at) e for is =
-        same (command.Off i at) (reply.Range e)
-        (for-role no_shortage (command.Off i at) (part-for i s.role (Back at) for)
-        ∙ ap (λ a. in_range a row (hands i (Back at) no_shortage)) is) (refl, refl, refl)
-    part-range (Front at) e for is =
-        same (command.To i at) (reply.Range e)
-        (for-role no_shortage (command.To i at) (part-for i s.role (Front at) for)
-        ∙ ap (λ a. in_range a row (hands i (Front at) no_shortage)) is) (refl, refl, refl)
-
-    -- memory for the window was refused
-    pub part-alloc : (part : Part) → is_part_of s.role part ≡ true
-        → part_answer setting.boundary s.window.items part ≡ Ok tt
-        → Said (part_command i part) reply.Alloc (Some s) None passes
-    part-alloc part for ok =
-        same (part_command i part) reply.Alloc (hand-is part of_table for ok)
-        (part-none setting i here passes row part)
-
-    module _ (has : HasPassFor passes here) (passes' : List (Pass Whole)) (part : Part)
-        (for : is_part_of s.role part ≡ true)
-        (ok : part_answer setting.boundary s.window.items part ≡ Ok tt) where
-      -- an owner more was refused
-      pub part-refused : (e : OwnerError)
-          → RefusesAt setting.clone_wants (part_row setting.layout.has_static row part).place here passes
-          passes' e
-          → Said (part_command i part) (reply.Owner e) (Some s) None passes'
-      part-refused AllocError why = record {
-        begins = false;
-        places = 0;
-        change =
-            hand-is part of_clones for ok
-            ∙ ap (λ (b : Bool). if b then is_now (reply.Owner AllocError) row else
-            if around.full && is_some (block_of (new_part i part).place) then
-            is_now (reply.Owner CountFull) row else
-            with_made around (if out i part then new_part i part else rest_of row part)
-            (if out i part then row else new_part i part)) why.0;
-        blocks =
-            many-refused passes passes' setting.clone_wants (new_part i part).place here AllocError
-            why;
-        adds =
-            (part-adds setting i here passes row part here None passes').1 (
-              refl,
-              refl,
-              refuses-at passes passes' setting.clone_wants (new_part i part).place AllocError here
-                  why,
-            );
-      }
-      part-refused CountFull why = record {
-        begins = false;
-        places = 0;
-        change =
-            hand-is part no_shortage for ok
-            ∙ ap (λ (b : Bool). if b then is_now (reply.Owner CountFull) row else
-            with_made around (if out i part then new_part i part else rest_of row part)
-            (if out i part then row else new_part i part))
-            (full-beside here has why);
-        blocks =
-            many-refused passes passes' setting.clone_wants (new_part i part).place here CountFull
-            why;
-        adds =
-            (part-adds setting i here passes row part here None passes').2 (
-              refl,
-              refl,
-              refuses-at passes passes' setting.clone_wants (new_part i part).place CountFull here
-                  why,
-            );
-      }
-        where
-          full-beside : (st : Stand) → HasPassFor passes st
-              → RefusesAt setting.clone_wants (new_part i part).place st passes passes' CountFull
-              → ((around_in 0 windows passes st).full
-              && is_some (block_of (new_part i part).place)) ≡ true
-          full-beside None has why = absurd why
-          full-beside (Some (n, o)) has why =
-              ap (λ b. b && is_some (block_of (new_part i part).place))
-              (full-told passes passes' windows n o has why.1)
-              ∙ ap is_some why.0
-
-      -- it was made: the window's owner has the one part, and that one the other
-      part-made : (kept made other : SlotView T M)
-          → row_of kept ≡ (if out i part then new_part i part else rest_of row part)
-          → row_of made ≡ (if out i part then row else new_part i part)
-          → row_of other ≡ new_part i part
-          → Beside here passes passes' (stand_of (Some other))
-          → Joins here (stand_of (Some kept)) (Some (stand_of (Some made))) passes passes'
-          (is_itself row part)
-          → Said (part_command i part) (reply.New windows) (Some kept) (Some made) passes'
-      part-made kept made other kept-is made-is other-is beside joins =
-          let room =
-          ap (λ x. around.full && is_some x)
-          (ap (λ (r : Row T M). block_of r.place) (sym other-is) ∙ row-block other)
-          ∙ room-beside passes passes' windows here (stand_of (Some other)) has beside in
-          record {
-            begins = false;
-            places = 0;
-            change =
-                hand-is part no_shortage for ok
-                ∙ ap (λ (b : Bool). if b then is_now (reply.Owner CountFull) row else
-                with_made around (if out i part then new_part i part else rest_of row part)
-                (if out i part then row else new_part i part)) room
-                ∙ ap (λ x. with_made around x (if out i part then row else new_part i part))
-                (sym kept-is)
-                ∙ ap (with_made around (row_of kept)) (sym made-is);
-            blocks = many-beside passes passes' here (stand_of (Some other)) beside;
-            adds =
-                (part-adds setting i here passes row part (stand_of (Some kept))
-                (Some (stand_of (Some made))) passes').0 joins windows;
-          }
-
-      pub itself : (handed kept : SlotView T M) → out i part ≡ true
-          → IsSplit s handed kept row (new_part i part) passes passes'
-          → Said (part_command i part) (reply.New windows) (Some kept) (Some handed) passes'
-      itself handed kept is h =
-          part-made kept handed kept
-          (h.made_is ∙ ap (λ b. if b then new_part i part else rest_of row part) (sym is))
-          (h.same_is ∙ ap (λ b. if b then row else new_part i part) (sym is)) h.made_is h.added (
-            stand_of (Some kept),
-            raises-beside passes passes' here (stand_of (Some kept)) h.added,
-            ap (λ b. if b then stand_of (Some kept) else here) (sym is),
-            ap Some h.owner
-                ∙ ap (λ b. Some (if b then here else stand_of (Some kept))) (sym is),
-          )
-
-      pub beside : (handed kept : SlotView T M) → out i part ≡ false
-          → IsSplit s kept handed (rest_of row part) (new_part i part) passes passes'
-          → Said (part_command i part) (reply.New windows) (Some kept) (Some handed) passes'
-      beside handed kept is h =
-          part-made kept handed handed
-          (h.same_is ∙ ap (λ b. if b then new_part i part else rest_of row part) (sym is))
-          (h.made_is ∙ ap (λ b. if b then row else new_part i part) (sym is)) h.made_is h.added (
-            stand_of (Some handed),
-            raises-beside passes passes' here (stand_of (Some handed)) h.added,
-            h.owner ∙ ap (λ b. if b then stand_of (Some handed) else here) (sym is),
-            ap (λ b. Some (if b then here else stand_of (Some handed))) (sym is),
-          )
 
   -- ---- the end of the window
 
@@ -527,6 +296,29 @@ module _ {T M : Type 0} (setting : Setting T) (windows : ℕ) (s : SlotView T M)
   reader-kind c is not adds =
       same c reply.Kind (not-for no_shortage c (not s.role is)) adds
 
+  -- ---- several writers, of whom no window is one
+
+  pub share-kind : (i : ℕ) → IsSlotRole s.role → setting.calls.shares ≡ false
+      → Said (command.Share i) reply.Kind (Some s) None passes
+  share-kind i known none =
+      same (command.Share i) reply.Kind (not-for no_shortage (command.Share i)
+      (slot_each (λ role. allowed (command.Share i) role ≡ false) refl (λ places. none) refl s.role
+      known)) (refl, refl, refl)
+
+  pub unique-kind : (i : ℕ) → IsSlotRole s.role
+      → Said (command.Unique i) reply.Kind (Some s) None passes
+  unique-kind i known =
+      same (command.Unique i) reply.Kind (not-for no_shortage (command.Unique i)
+      (slot_each (λ role. allowed (command.Unique i) role ≡ false) refl (λ places. refl) refl s.role
+      known)) (refl, refl, refl)
+
+  pub join-kind : (i j : ℕ) → IsSlotRole s.role
+      → Said (command.Join i j) reply.Kind (Some s) None passes
+  join-kind i j known =
+      same (command.Join i j) reply.Kind (not-for no_shortage (command.Join i j)
+      (slot_each (λ role. allowed (command.Join i j) role ≡ false) refl (λ places. refl) refl s.role
+      known)) (refl, refl, refl)
+
   -- ---- what is only told
 
   pub shown : (i : ℕ) → IsFor (command.Show i)
@@ -612,20 +404,33 @@ module _ {T M : Type 0} (setting : Setting T) (windows : ℕ) (s : SlotView T M)
       abbrev outcome : Shortage → Room → Change T M
       outcome = outcome-in around
 
+    one : is_several s.role ≡ false
+    one = sole-several s.role writes
+
+    -- it is written as by a sole writer
+    written-in : (a : Around) (short : Shortage) (items : List T) (k : ℕ)
+        → written setting short a items k row ≡ filled setting short a row items
+        (room_of setting row k)
+    written-in a short items k =
+        ap (λ b. if b then filled_shared setting short a items k row else
+        filled setting short a row items (room_of setting row k)) one
+
     write-in : (a : Around) (what : Writing (List T) T) → can_write setting.calls what ≡ true
         → (short : Shortage) (room : Room) → room ≡ room_of setting row (additional_of what)
         → answer_any setting short a (write_command i what) row ≡ outcome-in what a short room
     write-in a (writing.Nothing additional) can short room is =
         for-role-in a short (command.Res i additional)
         (writes-for writes (command.Res i additional) true (λ n. refl))
+        ∙ written-in a short [] additional
         ∙ ap (outcome-in (writing.Nothing additional) a short) (sym is)
     write-in a (writing.Item item) can short room is =
         for-role-in a short (command.Push i item)
         (writes-for writes (command.Push i item) true (λ n. can))
-        ∙ ap (outcome-in (writing.Item item) a short) (sym is)
+        ∙ written-in a short (item ∷ []) 1 ∙ ap (outcome-in (writing.Item item) a short) (sym is)
     write-in a (writing.Items items) can short room is =
         for-role-in a short (command.Ext i items)
         (writes-for writes (command.Ext i items) true (λ n. can))
+        ∙ written-in a short items (length items)
         ∙ ap (outcome-in (writing.Items items) a short) (sym is)
 
     write-is : (what : Writing (List T) T) → can_write setting.calls what ≡ true
@@ -673,7 +478,7 @@ module _ {T M : Type 0} (setting : Setting T) (windows : ℕ) (s : SlotView T M)
           subst (λ ps. Said (w what) reply.Ok (Some new) None ps) (sym did.2)
           (changes (w what) reply.Ok new (write-is what can no_shortage room is ∙ does
           ∙ ap (is_now reply.Ok) (sym did.0))
-          (write-adds setting i here passes row what (stand_of (Some new)) passes
+          (write-adds setting i here passes row one what (stand_of (Some new)) passes
           (stays-there here (stand_of (Some new)) did.1, refl)))
 
       -- a caller's buffer made its own room
@@ -694,7 +499,7 @@ module _ {T M : Type 0} (setting : Setting T) (windows : ℕ) (s : SlotView T M)
                 ∙ ap (is_now reply.Ok) (sym did.2);
             blocks = refl;
             adds =
-                write-adds setting i here passes row what (stand_of (Some new)) passes
+                write-adds setting i here passes row one what (stand_of (Some new)) passes
                 (stays-there here (stand_of (Some new)) did.3, refl);
           })
 
@@ -708,7 +513,8 @@ module _ {T M : Type 0} (setting : Setting T) (windows : ℕ) (s : SlotView T M)
           begins-as (w what) new
           (with_more (items_of what) (new_writer setting.drops (Some (length passes)) [] places)) passes'
           (write-is what can no_shortage (from.Fresh places) is)
-          (λ there. write-adds setting i here passes row what there passes') (none refl) did.1 did.0
+          (λ there. write-adds setting i here passes row one what there passes')
+          (none refl) did.1 did.0
       wrote-in (from.Own additional) is none new passes' did =
           made-room additional is new passes' did
       wrote-in (from.Refused e) is none new passes' did =
@@ -730,7 +536,7 @@ module _ {T M : Type 0} (setting : Setting T) (windows : ℕ) (s : SlotView T M)
       unwrote e new passes' is stays all =
           subst (λ x. Said (w what) (reply.Reserve e) (Some x) None passes') (sym stays)
           (subst (λ ps. Said (w what) (reply.Reserve e) (Some s) None ps) (sym all)
-          (same (w what) (reply.Reserve e) is (write-none setting i here passes row what e)))
+          (same (w what) (reply.Reserve e) is (write-none setting i here passes row one what e)))
 
       -- memory was refused for it
       short-of : (room : Room) → room ≡ room_of setting row (additional_of what)
@@ -787,7 +593,7 @@ module _ {T M : Type 0} (setting : Setting T) (windows : ℕ) (s : SlotView T M)
       no-pass room is fresh =
           same (w what) (reply.Reserve reserve.AllocError)
           (write-is what can of_blocks room is ∙ short room fresh)
-          (write-none setting i here passes row what reserve.AllocError)
+          (write-none setting i here passes row one what reserve.AllocError)
         where
           short : (x : Room) → is_fresh x ≡ true
               → outcome what of_blocks x ≡ is_now (reply.Reserve reserve.AllocError) row

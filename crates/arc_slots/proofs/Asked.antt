@@ -1,78 +1,50 @@
 -- What a slot's window is answered that asks whether it is alone, is written from now on, or is taken
 -- out: by the sort of its block.
-use Rattle.std.proofs.Common.{◌≡◌, ℕ, ◌+◌, ◌==◌, ◌&&◌, Bool, true, false, if◌then◌else◌, List, [], ◌∷◌}
-use Rattle.std.proofs.Common.{length, Option, Some, None, Result, Ok, Err, is_some, refl, sym, ap}
-use Rattle.std.proofs.Common.{◌∙◌, subst, inl, inr, slice_set}
-use Rattle.std.specs.Prelude.{nat_lt, ◌||◌}
-use Rattle.std.specs.Result.{result_err}
-use Rattle.std.proofs.lemmas.Bool.{and_parts, cases_Bool, false≢true}
-use Rattle.std.proofs.lemmas.Option.{none-some, same_Some}
+use Rattle.std.proofs.Common.{◌≡◌, ℕ, ◌&&◌, Bool, true, false, if◌then◌else◌, List}
+use Rattle.std.proofs.Common.{length, Option, Some, None, is_some, refl, sym, ap}
+use Rattle.std.proofs.Common.{◌∙◌, subst, slice_set}
+use Rattle.std.specs.Prelude.{◌||◌}
+use Rattle.std.proofs.lemmas.Bool.{and_parts, false≢true}
+use Rattle.std.proofs.lemmas.Option.{none-some}
 use Rattle.arc_owners.specs.declared.mark.Whole.{Whole}
 use Rattle.arc_owners.specs.declared.count.tokens.Pass.{Pass}
-use Rattle.arc_owners.specs.declared.error.RangeError.{RangeError}
-use Rattle.arc_owners.specs.declared.error.OwnerError.{OwnerError}
-use Rattle.arc_owners.specs.declared.error.OwnerError.TheVariants.{AllocError, CountFull}
-use Rattle.arc_owners.specs.declared.error.TryReserveError.{TryReserveError}
-use Rattle.arc_owners.specs.declared.error.TryReserveError.TheVariants as reserve
-use Rattle.arc_owners.specs.declared.history.entry.Entry.TheVariants as entry
 use Rattle.arc_owners.specs.count.Calls.{Owner, Asks, Leaves, TakesBlock}
-use Rattle.arc_buffer.specs.Slice.{edge_answer}
-use Rattle.arc_block.specs.declared.parts.room.Room.{Room}
-use Rattle.arc_block.specs.declared.parts.room.Room.TheVariants as from
 use Rattle.arc_block.specs.Block.{Sort, BlockInfo, native, vector, buffer, raw}
-use Rattle.arc_block.specs.Layouts.{LayoutFacts}
-use Rattle.arc_block.specs.Moves.{IsRefused, counted_move, layout_move}
-use Rattle.arc_block.specs.declared.parts.moves.Move.{Move}
-use Rattle.arc_block.specs.declared.parts.moves.Move.TheVariants as to
 use Rattle.arc_block.specs.Owned.{Stand}
 use Rattle.arc_block.specs.Place.{Place, nowhere, static_data, on_block}
-use Rattle.arc_block.specs.Table.{Row, Role, reader, sole_writer, block_of}
-use Rattle.arc_block.specs.Writers.{new_writer, with_more, with_room, Reclaims, as_reader, as_sole}
-use Rattle.arc_block.specs.Writers.{after_advance, capacity_of}
-use Rattle.arc_commands.specs.Additions.{RowAdds, AddsAt, Joins, Enters, Founds, MayBegin, Stays}
+use Rattle.arc_block.specs.Table.{Row, reader, sole_writer}
+use Rattle.arc_block.specs.Writers.{as_sole}
+use Rattle.arc_commands.specs.Additions.{RowAdds, AddsAt, Enters}
 use Rattle.arc_commands.specs.Additions.{AsksIf, AsksInVain, AsksInVainAt, Goes, Takes, TakesAs}
 use Rattle.arc_commands.specs.Additions.{ended}
 use Rattle.arc_commands.specs.Additions.{asked as History_asked}
-use Rattle.arc_commands.specs.Step.{Setting, Shortage, no_shortage, of_table, of_clones, of_blocks}
-use Rattle.arc_commands.specs.Step.{Around, Change, answer_any, answer_row, asking_block, begun}
-use Rattle.arc_commands.specs.Step.{filled, in_range, is_allowed, is_now, made_row}
-use Rattle.arc_commands.specs.Step.{after_move, is_box_whole, is_free, is_on_block, is_unique}
-use Rattle.arc_commands.specs.Step.{is_unique_at, is_vector_part, is_writable_at, may_write}
-use Rattle.arc_commands.specs.Step.{may_write_at, may_write_sort, of_buffer, taken_as}
-use Rattle.arc_commands.specs.Step.{parted, reclaimed, room_of, shortage, truncated}
-use Rattle.arc_commands.specs.Step.{with_made, gone}
+use Rattle.arc_commands.specs.Changes.{Setting, Shortage, no_shortage}
+use Rattle.arc_commands.specs.Changes.{Around, Change}
+use Rattle.arc_commands.specs.Step.{answer_any}
+use Rattle.arc_commands.specs.Changes.{is_now}
+use Rattle.arc_commands.specs.Step.{is_allowed}
+use Rattle.arc_commands.specs.Changes.{is_free, is_on_block, is_unique}
+use Rattle.arc_commands.specs.Changes.{is_unique_at, is_writable_at, may_write}
+use Rattle.arc_commands.specs.Changes.{may_write_at, may_write_sort, of_buffer, taken_as}
+use Rattle.arc_commands.specs.Step.{shortage}
+use Rattle.arc_commands.specs.Changes.{gone}
 use Rattle.arc_commands.specs.Blocks.{is_sole}
 use Rattle.arc_commands.specs.Commands.{ListCmd, ListReply}
 use Rattle.arc_commands.specs.declared.command.Cmd.TheVariants as command
 use Rattle.arc_commands.specs.declared.command.Reply.TheVariants as reply
-use Rattle.arc_commands.proofs.Roles.{sole_each}
 use Rattle.arc_slots.specs.Answers.{Answers, around_in}
-use Rattle.arc_slots.specs.Calls.{Along, AsksPlace, AsksSort, Beside, MayAsk, RefusesAt}
+use Rattle.arc_slots.specs.Calls.{Along, AsksPlace, AsksSort, MayAsk}
 use Rattle.arc_slots.specs.Calls.{RefusesOut, TakesOut, Through}
-use Rattle.arc_slots.specs.Parts.{is_itself, part_answer, part_command, part_row, rest_of}
 use Rattle.arc_slots.specs.Slots.{SlotView, row_of, stand_of}
-use Rattle.arc_slots.specs.Splits.{IsSplit}
 use Rattle.arc_slots.specs.Stands.{HasPassFor, numbered, stand_at}
-use Rattle.arc_slots.specs.Writing.{Fills, FreezesBy, additional_of, can_write, is_fresh, is_new}
-use Rattle.arc_slots.specs.Writing.{items_of}
 use Rattle.arc_slots.specs.Taking.{can_have, is_writers, take_command, take_reply}
 use Rattle.arc_slots.specs.declared.take.Taking.{Taking}
 use Rattle.arc_slots.specs.declared.take.Taking.TheVariants as taking
-use Rattle.arc_slots.specs.Writing.{write_command}
-use Rattle.arc_slots.specs.declared.part.Part.{Part}
-use Rattle.arc_slots.specs.declared.part.Part.TheVariants.{Whole as All, Range, Back, Front}
-use Rattle.arc_slots.specs.declared.slot.Writing.{Writing}
-use Rattle.arc_slots.specs.declared.slot.Writing.TheVariants as writing
-use Rattle.arc_slots.proofs.ByForm.{part-adds, part-none}
-use Rattle.arc_slots.proofs.Added.{Ended, asked-comes, ended-comes, enters-along, raises-beside}
-use Rattle.arc_slots.proofs.Added.{refuses-at}
+use Rattle.arc_slots.proofs.Added.{Ended, asked-comes, ended-comes, enters-along}
 use Rattle.arc_block.proofs.Lists.{get-set}
-use Rattle.arc_slots.proofs.Filled.{new-moved}
 use Rattle.arc_slots.proofs.Native.{and_none}
 use Rattle.arc_slots.proofs.Taken.{set-twice}
-use Rattle.arc_slots.proofs.Told.{alone-told, full-told, many_along, many-beside, many-refused}
-use Rattle.arc_slots.proofs.Told.{many-founded, none-stands, room-beside, row-begins, row-block}
-use Rattle.arc_slots.proofs.Told.{stand_block}
+use Rattle.arc_slots.proofs.Told.{alone-told, many_along}
 use Rattle.arc_slots.proofs.Answered.{for-role, not-for, reads-for, same, writes-for}
 use Rattle.arc_slots.proofs.Have.{have-on}
 

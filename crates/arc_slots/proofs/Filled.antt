@@ -1,11 +1,11 @@
 -- What is written into a slot's window: what becomes of its row, of where it stands, and of the
 -- passes of the blocks.
-use Rattle.std.proofs.Common.{◌≡◌, ℕ, ◌-◌, ◌==◌, ◌&&◌, not, Bool, true, false, ◌<◌}
+use Rattle.std.proofs.Common.{◌≡◌, ℕ, ◌-◌, ◌&&◌, not, Bool, true, false, ◌<◌}
 use Rattle.std.proofs.Common.{if◌then◌else◌, List, [], ◌∷◌, ◌++◌, length, Option, Some, None}
 use Rattle.std.proofs.Common.{Result, Ok, Err, is_some, refl, sym, ap, ◌∙◌, subst}
 use Rattle.std.specs.Result.{OnOk}
 use Rattle.arc_block.proofs.More.{more_none}
-use Rattle.std.specs.Prelude.{nat_lt, ◌+◌, ◌≤◌, ◌↔◌, IsTrue}
+use Rattle.std.specs.Prelude.{nat_lt, ◌+◌, ◌≤◌}
 use Rattle.std.proofs.lemmas.Bool.{false≢true, and_parts}
 use Rattle.arc_owners.specs.declared.mark.Whole.{Whole}
 use Rattle.arc_owners.specs.declared.count.tokens.Pass.{Pass}
@@ -36,7 +36,7 @@ use Rattle.arc_commands.specs.Blocks.{is_sole}
 use Rattle.arc_slots.specs.Slots.{AnyWindow, SlotView, held, role_fits, row_of, stand_of}
 use Rattle.arc_slots.specs.Slots.{window_in, writer_slot}
 use Rattle.arc_slots.specs.Stands.{numbered, is_numbered, stand_at, TakenOut, put_back}
-use Rattle.arc_commands.specs.Step.{made_row}
+use Rattle.arc_commands.specs.Changes.{made_row}
 use Rattle.arc_slots.specs.Writing.{is_fresh, is_new, Fills, FreezesBy}
 use Rattle.arc_slots.specs.declared.window.Held.TheVariants.{Write}
 use Rattle.arc_commands.proofs.Roles.{sole_each}

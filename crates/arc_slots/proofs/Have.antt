@@ -1,14 +1,15 @@
 -- What can be had of a window, as the code tests it and as relations say it, by a block's number and
 -- by its owner.
-use Rattle.std.proofs.Common.{◌≡◌, ℕ, ◌==◌, ◌&&◌, Bool, true, false, List, length, Option, refl}
+use Rattle.std.proofs.Common.{◌≡◌, ℕ, ◌&&◌, Bool, true, List, length, Option, refl}
 use Rattle.std.proofs.Common.{Some, None, ap, ◌∙◌}
 use Rattle.std.proofs.lemmas.Bool.{false≢true, and_parts}
 use Rattle.arc_owners.specs.count.Calls.{Owner}
 use Rattle.arc_block.specs.Block.{Sort, native, vector, buffer, raw, IsBuffer}
 use Rattle.arc_block.specs.Place.{Place, nowhere, static_data, on_block}
 use Rattle.arc_block.specs.Window.{IsBufferWhole, IsRawWhole}
-use Rattle.arc_commands.specs.Step.{is_all_full, is_buffer, is_buffer_whole, is_raw, is_raw_whole}
-use Rattle.arc_commands.specs.Step.{is_on_block}
+use Rattle.arc_commands.specs.Changes.{is_all_full, is_buffer, is_buffer_whole, is_raw}
+use Rattle.arc_commands.specs.Changes.{is_raw_whole}
+use Rattle.arc_commands.specs.Changes.{is_on_block}
 use Rattle.arc_slots.specs.Stands.{numbered}
 use Rattle.arc_slots.specs.Taking.{can_have, CanHave}
 use Rattle.arc_slots.specs.declared.take.Taking.{Taking}

@@ -10,6 +10,8 @@ use Rattle.std.proofs.lemmas.List.Sorted.{length_permutation, list_any-IsPermuta
 use Rattle.arc_owners.specs.declared.count.tokens.Pass.{Pass}
 use Rattle.arc_owners.specs.declared.error.OwnerError.{OwnerError}
 use Rattle.arc_owners.specs.declared.error.OwnerError.TheVariants.{AllocError, CountFull}
+use Rattle.arc_owners.specs.declared.error.TryReserveError.{TryReserveError}
+use Rattle.arc_owners.specs.declared.error.TryReserveError.TheVariants as reserve
 use Rattle.arc_owners.specs.declared.history.entry.Entry.TheVariants as entry
 use Rattle.arc_owners.specs.history.Histories.{is_counted, is_in, live_owners}
 use Rattle.arc_owners.specs.count.Invariant.{BlockId}
@@ -22,21 +24,25 @@ use Rattle.arc_block.specs.Owned.{Stand, IsKept, number_on, owners_on}
 use Rattle.arc_block.specs.Block.{Sort, native, vector, buffer, raw}
 use Rattle.arc_block.specs.Place.{Place, nowhere, static_data, on_block}
 use Rattle.arc_block.specs.Table.{Row}
-use Rattle.arc_block.proofs.Lists.{filter_map-in}
+use Rattle.arc_block.proofs.Lists.{filter_map-in, get-set}
 use Rattle.arc_block.proofs.Owned.{kept-asked, kept-begun, kept-full, kept-gone, kept-gone-nowhere}
 use Rattle.arc_block.proofs.Owned.{kept-new, kept-nowhere, kept-same, kept-shared, kept-turned}
 use Rattle.arc_commands.specs.Additions.{AddsAt, Enters, Founds, Goes, Joins, MayBegin, Raises}
 use Rattle.arc_commands.specs.Additions.{AsksIf, AsksInVain, AsksInVainAt, RowAdds, Takes, asked}
 use Rattle.arc_commands.specs.Additions.{TakesAs, ended, refused, with_stand}
-use Rattle.arc_commands.specs.Step.{Setting, is_box_whole, is_vector_part, is_writable_at}
-use Rattle.arc_commands.specs.Step.{is_buffer_whole, is_raw_whole}
-use Rattle.arc_commands.specs.Blocks.{is_sole}
+use Rattle.arc_commands.specs.Additions.{AsksFirst, HasMade, HasRefused, MovesAndJoins, Splits}
+use Rattle.arc_commands.specs.Additions.{asks_first}
+use Rattle.arc_commands.specs.Several.{is_vector_at}
+use Rattle.arc_commands.specs.Changes.{Setting, is_box_whole, is_vector_part, is_writable_at}
+use Rattle.arc_commands.specs.Changes.{is_buffer_whole, is_raw_whole}
+use Rattle.arc_commands.specs.Changes.{is_on_block}
+use Rattle.arc_commands.specs.Blocks.{is_several, is_sole}
 use Rattle.arc_commands.specs.Commands.{ListCmd, ListReply}
 use Rattle.arc_commands.specs.declared.command.Cmd.TheVariants as command
 use Rattle.arc_commands.specs.declared.command.Reply.TheVariants as reply
 use Rattle.arc_slots.specs.Answers.{live_on}
 use Rattle.arc_slots.specs.Stands.{HasPassFor}
-use Rattle.arc_slots.proofs.Taken.{set-back}
+use Rattle.arc_slots.proofs.Taken.{set-back, set-twice}
 
 number_here : (n : ℕ) (o : Owner) → number_on n (Some (n, o)) ≡ Some o.number
 number_here n o = ap (λ b. if b then Some o.number else None) (eq-eqb n n refl)
@@ -196,6 +202,28 @@ module _ {H : Type 0} (stands : List Stand) (passes : List (Pass H))
       (subst (λ (n : ℕ). IsKept MAX_OWNERS (stands ++ Some (n, o) ∷ []) (passes ++ p ∷ []))
       (sym adds.0) (kept-new p k adds.1 adds.3))
 
+-- A window left a vector for a block more, on which another was made.
+module _ {H : Type 0} (stands : List Stand) (passes : List (Pass H))
+    (k : IsKept MAX_OWNERS stands passes) (i : ℕ) (here : Stand)
+    (at : slice_get stands i ≡ Some here) (passes' : List (Pass H)) (there : Stand)
+    (made : Option Stand) where
+  pub moves-kept : MovesAndJoins here there made passes passes'
+      → IsKept MAX_OWNERS (with_stand (slice_set stands i there) made) passes'
+  moves-kept m =
+      let left = slice_set stands i None in
+      let one : IsKept MAX_OWNERS left m.between =
+      gone-at stands passes k i here at m.between m.left in
+      let two : IsKept MAX_OWNERS (slice_set stands i there) m.begun_with =
+      subst (λ ss. IsKept MAX_OWNERS ss m.begun_with) (set-twice stands i None there)
+      (begins-at left m.between one i None there (get-set stands i here None at) m.begun_with
+      m.begins) in
+      subst (λ x. IsKept MAX_OWNERS (with_stand (slice_set stands i there) x) passes')
+      (sym m.handed_out)
+      (raised-at (slice_set stands i there) m.begun_with two i there m.other
+      (get-set stands i here there at) passes' m.raises)
+
+module _ {H : Type 0} (stands : List Stand) (passes : List (Pass H))
+    (k : IsKept MAX_OWNERS stands passes) (i : ℕ) where
   module _ (here : Stand) (at : slice_get stands i ≡ Some here) (passes' : List (Pass H))
       (there : Stand) (made : Option Stand) where
     abbrev Kept : Type 0
@@ -203,11 +231,13 @@ module _ {H : Type 0} (stands : List Stand) (passes : List (Pass H))
 
     enters-kept : (entries : _) → IsKept MAX_OWNERS stands passes'
         → Enters here there made passes passes' entries → Kept
-    enters-kept entries kept adds = same-place here at passes' kept there adds.0 made adds.1
+    enters-kept entries kept adds = same-place stands passes k i here at passes' kept there adds.0
+        made adds.1
 
     none-kept : (there ≡ here) × (made ≡ None) × (passes' ≡ passes) → Kept
     none-kept adds =
-        same-place here at passes' (subst (IsKept MAX_OWNERS stands) (sym adds.2) k) there adds.0 made
+        same-place stands passes k i here at passes' (subst (IsKept MAX_OWNERS stands)
+        (sym adds.2) k) there adds.0 made
         adds.1
 
     joins-kept : (out : Bool) → Joins here there made passes passes' out → Kept
@@ -217,18 +247,41 @@ module _ {H : Type 0} (stands : List Stand) (passes : List (Pass H))
         (sym adds.3)
         (subst (λ ss. IsKept MAX_OWNERS (ss ++ other ∷ []) passes')
         (sym (ap (slice_set stands i) adds.2 ∙ set-back stands i here at))
-        (raised-at here other at passes' adds.1))
+        (raised-at stands passes k i here other at passes' adds.1))
     joins-kept true adds =
         let other = adds.0 in
         subst (λ m. IsKept MAX_OWNERS (with_stand (slice_set stands i there) m) passes')
         (sym adds.3)
         (subst (λ st. IsKept MAX_OWNERS (slice_set stands i st ++ here ∷ []) passes') (sym adds.2)
-        (kept-turned stands i here other (raised-at here other at passes' adds.1) at))
+        (kept-turned stands i here other
+        (raised-at stands passes k i here other at passes' adds.1) at))
 
     stays-kept : MayBegin here there passes passes' × (made ≡ None) → Kept
     stays-kept adds =
         subst (λ m. IsKept MAX_OWNERS (with_stand (slice_set stands i there) m) passes')
-        (sym adds.1) (begins-at here there at passes' adds.0)
+        (sym adds.1) (begins-at stands passes k i here there at passes' adds.0)
+
+    splits-kept : (several on_vector out : Bool)
+        → Splits here there made passes passes' several on_vector out → Kept
+    splits-kept false on_vector out adds = joins-kept out adds
+    splits-kept true false out adds = joins-kept false adds
+    splits-kept true true out adds = moves-kept stands passes k i here at passes' there made adds
+
+    first-kept : (asks alone : Bool) → AsksFirst here there made passes passes' asks alone → Kept
+    first-kept true alone adds =
+        enters-kept (asked alone) (asked-at stands passes k i here at alone passes' adds.2) adds
+    first-kept false alone adds = none-kept adds
+
+    room-kept : (asks : Bool) → HasMade here there made passes passes' asks → Kept
+    room-kept true adds = first-kept true true adds
+    room-kept false adds = stays-kept adds
+
+    no-room-kept : (asks : Bool) (e : TryReserveError)
+        → HasRefused here there made passes passes' asks e → Kept
+    no-room-kept asks reserve.NotUnique adds = first-kept asks false adds
+    no-room-kept asks reserve.AllocError adds = first-kept asks true adds
+    no-room-kept asks reserve.Unsupported adds = first-kept asks true adds
+    no-room-kept asks reserve.CapacityOverflow adds = first-kept asks true adds
 
     goes-kept : Goes here there made passes passes' ended → Kept
     goes-kept adds =
@@ -243,7 +296,8 @@ module _ {H : Type 0} (stands : List Stand) (passes : List (Pass H))
         subst (λ m. IsKept MAX_OWNERS (with_stand (slice_set stands i there) m) passes')
         (sym adds.1)
         (subst (λ st. IsKept MAX_OWNERS (slice_set stands i st) passes') (sym adds.0)
-        (gone-at stands adds.2 (asked-at here at true adds.2 adds.3) i here at passes' adds.4))
+        (gone-at stands adds.2
+        (asked-at stands passes k i here at true adds.2 adds.3) i here at passes' adds.4))
 
     takes-as-kept : (sole : Bool) → TakesAs here there made passes passes' sole → Kept
     takes-as-kept true adds = goes-kept adds
@@ -252,16 +306,17 @@ module _ {H : Type 0} (stands : List Stand) (passes : List (Pass H))
     -- where only the count could decide
     asks-kept : (asks : Bool) → AsksIf here there made passes passes' asks → Kept
     asks-kept true adds =
-        enters-kept (asked false) (asked-at here at false passes' adds.2) adds
+        enters-kept (asked false) (asked-at stands passes k i here at false passes' adds.2) adds
     asks-kept false adds = none-kept adds
 
     vain-kept : (sort : Sort) → AsksInVain here there made passes passes' sort → Kept
     vain-kept native adds =
-        enters-kept (asked false) (asked-at here at false passes' adds.2) adds
+        enters-kept (asked false) (asked-at stands passes k i here at false passes' adds.2) adds
     vain-kept vector adds =
-        enters-kept (asked false) (asked-at here at false passes' adds.2) adds
+        enters-kept (asked false) (asked-at stands passes k i here at false passes' adds.2) adds
     vain-kept (buffer writable) adds =
-        enters-kept (asked adds.0) (asked-at here at adds.0 passes' adds.1.2) adds.1
+        enters-kept (asked adds.0)
+        (asked-at stands passes k i here at adds.0 passes' adds.1.2) adds.1
     vain-kept raw adds = none-kept adds
 
     in-vain-kept : {M : Type 0} (place : Place (Option ℕ) M)
@@ -277,45 +332,61 @@ module _ {H : Type 0} (stands : List Stand) (passes : List (Pass H))
     -- what a command on a row adds keeps them together
     pub row-kept : {T M : Type 0} (setting : Setting T) (row : Row T M) (c : ListCmd T M)
         (r : ListReply T M) → RowAdds here there made passes passes' setting row c r → Kept
-    row-kept setting row (command.Clone i) (reply.New number) adds = joins-kept false adds
-    row-kept setting row (command.Sub i start end) (reply.New number) adds = joins-kept false adds
-    row-kept setting row (command.Off i at) (reply.New number) adds = joins-kept (at == 0) adds
-    row-kept setting row (command.To i at) (reply.New number) adds =
-        joins-kept (at == length row.items) adds
-    row-kept setting row (command.Clone i) (reply.Owner e) adds =
-        enters-kept (refused e) (refused-at here at e passes' adds.2) adds
-    row-kept setting row (command.Sub i start end) (reply.Owner e) adds =
-        enters-kept (refused e) (refused-at here at e passes' adds.2) adds
-    row-kept setting row (command.Off i place) (reply.Owner e) adds =
-        enters-kept (refused e) (refused-at here at e passes' adds.2) adds
-    row-kept setting row (command.To i place) (reply.Owner e) adds =
-        enters-kept (refused e) (refused-at here at e passes' adds.2) adds
-    row-kept setting row (command.Uniq i) reply.Yes adds =
-        enters-kept (asked true) (asked-at here at true passes' adds.2) adds
-    row-kept setting row (command.Uniq i) reply.No adds = in-vain-kept row.place adds
-    row-kept setting row (command.Mut i) reply.Ok adds =
-        enters-kept (asked true) (asked-at here at true passes' adds.2) adds
-    row-kept setting row (command.Mut i) reply.Refused adds =
+    row-kept setting row (command.Clone n) (reply.New number) adds = joins-kept false adds
+    row-kept setting row (command.Sub n start end) (reply.New number) adds = joins-kept false adds
+    row-kept setting row (command.Off n at) (reply.New number) adds =
+        splits-kept (is_several row.role) (is_vector_at row.place) (at == 0) adds
+    row-kept setting row (command.To n at) (reply.New number) adds =
+        splits-kept (is_several row.role) (is_vector_at row.place) (at == length row.items) adds
+    row-kept setting row (command.Clone n) (reply.Owner e) adds =
+        enters-kept (refused e) (refused-at stands passes k i here at e passes' adds.2) adds
+    row-kept setting row (command.Sub n start end) (reply.Owner e) adds =
+        enters-kept (refused e) (refused-at stands passes k i here at e passes' adds.2) adds
+    row-kept setting row (command.Off n place) (reply.Owner e) adds =
+        enters-kept (refused e) (refused-at stands passes k i here at e passes' adds.2) adds
+    row-kept setting row (command.To n place) (reply.Owner e) adds =
+        enters-kept (refused e) (refused-at stands passes k i here at e passes' adds.2) adds
+    row-kept setting row (command.Uniq n) reply.Yes adds =
+        enters-kept (asked true) (asked-at stands passes k i here at true passes' adds.2) adds
+    row-kept setting row (command.Uniq n) reply.No adds = in-vain-kept row.place adds
+    row-kept setting row (command.Mut n) reply.Ok adds =
+        enters-kept (asked true) (asked-at stands passes k i here at true passes' adds.2) adds
+    row-kept setting row (command.Mut n) reply.Refused adds =
         asks-kept (is_writable_at setting.writes_any row.place) adds
-    row-kept setting row (command.Res i additional) reply.Ok adds = stays-kept adds
-    row-kept setting row (command.Push i item) reply.Ok adds = stays-kept adds
-    row-kept setting row (command.Ext i items) reply.Ok adds = stays-kept adds
-    row-kept setting row (command.Freeze i) reply.Ok adds = stays-kept adds
-    row-kept setting row (command.Drop i) reply.Ok adds = goes-kept adds
-    row-kept setting row (command.Take i) (reply.Vec items) adds =
+    row-kept setting row (command.Unique n) reply.Ok adds = first-kept true true adds
+    row-kept setting row (command.Unique n) reply.Refused adds =
+        asks-kept (is_on_block row.place) adds
+    row-kept setting row (command.Res n additional) reply.Ok adds =
+        room-kept (asks_first row additional) adds
+    row-kept setting row (command.Push n item) reply.Ok adds = room-kept (asks_first row 1) adds
+    row-kept setting row (command.Ext n items) reply.Ok adds =
+        room-kept (asks_first row (length items)) adds
+    row-kept setting row (command.Res n additional) (reply.Reserve e) adds =
+        no-room-kept (asks_first row additional) e adds
+    row-kept setting row (command.Push n item) (reply.Reserve e) adds =
+        no-room-kept (asks_first row 1) e adds
+    row-kept setting row (command.Ext n items) (reply.Reserve e) adds =
+        no-room-kept (asks_first row (length items)) e adds
+    row-kept setting row (command.Rec n additional) reply.Yes adds =
+        first-kept (asks_first row additional) true adds
+    row-kept setting row (command.Rec n additional) reply.No adds =
+        first-kept (asks_first row additional) adds.0 adds.1
+    row-kept setting row (command.Freeze n) reply.Ok adds = stays-kept adds
+    row-kept setting row (command.Drop n) reply.Ok adds = goes-kept adds
+    row-kept setting row (command.Take n) (reply.Vec items) adds =
         takes-as-kept (is_sole row.role) adds
-    row-kept setting row (command.TakeBuf i) (reply.Buffer items) adds =
+    row-kept setting row (command.TakeBuf n) (reply.Buffer items) adds =
         takes-as-kept (is_sole row.role) adds
-    row-kept setting row (command.TakeRaw i) (reply.Raw items) adds = takes-kept adds
-    row-kept setting row (command.TakeBox i) (reply.Boxed items) adds = takes-kept adds
-    row-kept setting row (command.Take i) reply.Refused adds =
+    row-kept setting row (command.TakeRaw n) (reply.Raw items) adds = takes-kept adds
+    row-kept setting row (command.TakeBox n) (reply.Boxed items) adds = takes-kept adds
+    row-kept setting row (command.Take n) reply.Refused adds =
         asks-kept (is_vector_part setting.drops row.place (length row.items)) adds
-    row-kept setting row (command.TakeBox i) reply.Refused adds =
+    row-kept setting row (command.TakeBox n) reply.Refused adds =
         asks-kept (is_box_whole row.place (length row.items)) adds
-    row-kept setting row (command.TakeBuf i) reply.Refused adds =
+    row-kept setting row (command.TakeBuf n) reply.Refused adds =
         asks-kept (is_buffer_whole row.place (length row.items)) adds
-    row-kept setting row (command.TakeRaw i) reply.Refused adds =
+    row-kept setting row (command.TakeRaw n) reply.Refused adds =
         asks-kept (is_raw_whole row.place (length row.items)) adds
-    row-kept setting row (command.TakeStatic i) (reply.Static items) adds =
+    row-kept setting row (command.TakeStatic n) (reply.Static items) adds =
         taken-kept adds
     row-kept setting row c r adds = none-kept adds

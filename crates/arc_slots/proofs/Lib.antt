@@ -11,7 +11,9 @@ pub mod Added
 pub mod ByForm
 pub mod Told
 pub mod Answered
+pub mod HandedOut
 pub mod Turned
 pub mod Asked
+pub mod Reclaimed
 pub mod Keeps
 pub mod Made

@@ -1,20 +1,20 @@
 -- What calls of a window that go by the sort of its block say of the passes of a table.
-use Rattle.std.proofs.Common.{◌≡◌, ℕ, ◌==◌, ◌&&◌, ◌≤◌, Bool, true, false, List, length, Option}
-use Rattle.std.proofs.Common.{Some, None, if◌then◌else◌, is_some, refl, sym, ap, ◌∙◌, subst, arith}
+use Rattle.std.proofs.Common.{◌≡◌, ℕ, ◌==◌, ◌&&◌, Bool, true, false, List, length, Option}
+use Rattle.std.proofs.Common.{Some, None, is_some, refl, sym, ap, ◌∙◌, subst, arith}
 use Rattle.std.specs.Option.{option_map_or}
 use Rattle.std.proofs.lemmas.Bool.{false≢true, and_parts, eq-eqb, eqb-true, ne_eqb}
-use Rattle.std.proofs.lemmas.Option.{none-some, same_Some}
+use Rattle.std.proofs.lemmas.Option.{none-some}
 use Rattle.arc_owners.specs.declared.count.tokens.Pass.{Pass}
 use Rattle.arc_owners.specs.count.Calls.{Owner, Asks, TakesBlock}
 use Rattle.arc_block.specs.Block.{Sort, BlockInfo, native, vector, buffer, raw}
-use Rattle.arc_block.specs.Layouts.{holds_sort}
 use Rattle.arc_block.specs.Place.{Place, nowhere, static_data, on_block, at_owner}
 use Rattle.arc_block.specs.Steps.{TakesAt, RefusesTaking}
 use Rattle.arc_block.specs.Unique.{AsksUnique, AsksUniqueAt}
-use Rattle.arc_block.specs.Window.{IsAllFull, IsBoxWhole, IsOfSort, IsVecPart}
+use Rattle.arc_block.specs.Window.{IsBoxWhole, IsVecPart}
 use Rattle.arc_block.specs.Writers.{BecomesSoleAt, RefusesSoleAt, MayWrite}
-use Rattle.arc_commands.specs.Step.{is_all_full, is_box_whole, is_on_block, is_vector, is_vector_part}
-use Rattle.arc_commands.specs.Step.{is_writable_at, may_write_at, may_write_sort}
+use Rattle.arc_commands.specs.Changes.{is_all_full, is_box_whole, is_on_block, is_vector}
+use Rattle.arc_commands.specs.Changes.{is_vector_part}
+use Rattle.arc_commands.specs.Changes.{is_writable_at, may_write_at, may_write_sort}
 use Rattle.arc_slots.specs.Calls.{Along, AsksPlace, AsksSort, MayAsk, RefusesOut, TakesOut}
 use Rattle.arc_slots.specs.Stands.{numbered, is_numbered, stand_at, HasPassFor, TakenOut, put_back}
 use Rattle.arc_slots.proofs.Slots.{along}

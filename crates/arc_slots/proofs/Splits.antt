@@ -11,7 +11,7 @@ use Rattle.arc_slots.specs.Calls.{Beside}
 use Rattle.arc_slots.specs.Slots.{SlotView, row_of, stand_of}
 use Rattle.arc_slots.specs.Splits.{IsSplit}
 use Rattle.arc_slots.specs.Stands.{is_numbered, numbered, stand_at, HasPassFor, TakenOut, put_back}
-use Rattle.arc_commands.specs.Step.{part_of, cut_row, off_part, to_part}
+use Rattle.arc_commands.specs.Changes.{part_of, cut_row, off_part, to_part}
 use Rattle.arc_slots.proofs.Slots.{shares-part, part-place, moved-numbered, moved-stand}
 
 -- a slot of these

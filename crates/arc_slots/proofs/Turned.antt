@@ -1,6 +1,6 @@
 -- What a slot's writer is answered that reads from now on.
 use Rattle.std.proofs.Common.{◌≡◌, ℕ, true, false, List}
-use Rattle.std.proofs.Common.{length, Option, Some, None, Ok, refl, sym, ap}
+use Rattle.std.proofs.Common.{length, Option, Some, None, refl, sym, ap}
 use Rattle.std.proofs.Common.{◌∙◌, subst}
 use Rattle.std.proofs.lemmas.Bool.{false≢true}
 use Rattle.arc_owners.specs.declared.mark.Whole.{Whole}
@@ -13,11 +13,11 @@ use Rattle.arc_block.specs.declared.parts.moves.Move.TheVariants as to
 use Rattle.arc_block.specs.Owned.{Stand}
 use Rattle.arc_block.specs.Place.{Place, nowhere, static_data, on_block}
 use Rattle.arc_block.specs.Table.{Row}
-use Rattle.arc_commands.specs.Additions.{Stays}
-use Rattle.arc_commands.specs.Step.{Setting, Shortage, no_shortage, of_blocks}
-use Rattle.arc_commands.specs.Step.{Around, answer_any}
-use Rattle.arc_commands.specs.Step.{is_now, made_row}
-use Rattle.arc_commands.specs.Step.{after_move}
+use Rattle.arc_commands.specs.Changes.{Setting, Shortage, no_shortage, of_blocks}
+use Rattle.arc_commands.specs.Changes.{Around}
+use Rattle.arc_commands.specs.Step.{answer_any}
+use Rattle.arc_commands.specs.Changes.{is_now, made_row}
+use Rattle.arc_commands.specs.Changes.{after_move}
 use Rattle.arc_commands.specs.Blocks.{is_sole}
 use Rattle.arc_commands.specs.Commands.{ListCmd, ListReply}
 use Rattle.arc_commands.specs.declared.command.Cmd.TheVariants as command

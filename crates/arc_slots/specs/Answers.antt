@@ -8,7 +8,8 @@ use Rattle.arc_owners.specs.count.Calls.{seen}
 use Rattle.arc_block.specs.declared.block.TheConstants.{MAX_OWNERS}
 use Rattle.arc_block.specs.Owned.{Stand}
 use Rattle.arc_commands.specs.Additions.{RowAdds}
-use Rattle.arc_commands.specs.Step.{Setting, Around, answer_any, shortage, with_block}
+use Rattle.arc_commands.specs.Changes.{Setting, Around}
+use Rattle.arc_commands.specs.Step.{answer_any, shortage, with_block}
 use Rattle.arc_commands.specs.Commands.{ListCmd, ListReply}
 use Rattle.arc_slots.specs.Slots.{SlotView, row_of, stand_of}
 

@@ -12,7 +12,7 @@ use Rattle.arc_block.specs.Block.{Sort, native, vector, buffer, raw}
 use Rattle.arc_block.specs.Owned.{Stand}
 use Rattle.arc_block.specs.Place.{Place, nowhere, static_data, on_block}
 use Rattle.arc_block.specs.Table.{block_of}
-use Rattle.arc_commands.specs.Step.{of_clones, is_wanting}
+use Rattle.arc_commands.specs.Changes.{of_clones, is_wanting}
 
 module _ {H : Type 0} where
   -- a call by an owner went through the pass of its block, which has this number; the others stay

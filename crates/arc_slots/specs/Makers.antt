@@ -3,7 +3,8 @@ use Rattle.std.specs.Prelude.{◌≡◌, ◌≤◌, ℕ, List, Option, Some, Mat
 use Rattle.arc_owners.specs.declared.mark.Whole.{Whole}
 use Rattle.arc_owners.specs.declared.count.tokens.Pass.{Pass}
 use Rattle.arc_commands.specs.Additions.{Founds}
-use Rattle.arc_commands.specs.Step.{Setting, count_brought, row_by}
+use Rattle.arc_commands.specs.Changes.{Setting}
+use Rattle.arc_commands.specs.Step.{count_brought, row_by}
 use Rattle.arc_commands.specs.Commands.{ListCmd, ListReply}
 use Rattle.arc_commands.specs.declared.command.Reply.TheVariants as reply
 use Rattle.arc_slots.specs.Slots.{SlotView, row_of, stand_of}

@@ -4,7 +4,7 @@ use Rattle.std.specs.Prelude.{ℕ, ◌==◌, Bool, true, false, List, length, Re
 use Rattle.arc_owners.specs.declared.error.RangeError.{RangeError}
 use Rattle.arc_buffer.specs.Slice.{IsEdge, IsRange, range_answer, edge_answer}
 use Rattle.arc_block.specs.Table.{Row, Role, inline, reader}
-use Rattle.arc_commands.specs.Step.{cut_row, off_part, part_of, to_part}
+use Rattle.arc_commands.specs.Changes.{cut_row, off_part, part_of, to_part}
 use Rattle.arc_commands.specs.Commands.{ListCmd}
 use Rattle.arc_commands.specs.declared.command.Cmd.TheVariants as command
 use Rattle.arc_slots.specs.declared.part.Part.{Part}

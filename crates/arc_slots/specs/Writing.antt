@@ -14,7 +14,7 @@ use Rattle.arc_block.specs.declared.parts.moves.Move.TheVariants.{NewCount, Leav
 use Rattle.arc_block.specs.Room.{IsBuffersRefusal}
 use Rattle.arc_block.specs.Writers.{as_reader, new_writer, offset_at, with_more, with_room}
 use Rattle.arc_commands.specs.Additions.{Founds}
-use Rattle.arc_commands.specs.Step.{Calls, made_row}
+use Rattle.arc_commands.specs.Changes.{Calls, made_row}
 use Rattle.arc_slots.specs.Slots.{SlotView, row_of, stand_of}
 use Rattle.arc_commands.specs.Commands.{ListCmd}
 use Rattle.arc_commands.specs.declared.command.Cmd.TheVariants.{Res, Push, Ext}

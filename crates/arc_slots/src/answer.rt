@@ -27,7 +27,7 @@ where
     S::Small: SmallOf<S, L, B, M, A>,
 {
     ghost use Rattle.std.specs.Prelude.{◌≡◌, ℕ, None, Some, true, is_some, length, IfOk};
-    ghost use Rattle.arc_commands.specs.Step.{setting_of};
+    ghost use Rattle.arc_commands.specs.Changes.{setting_of};
     ghost use Rattle.arc_commands.specs.Seen.{seen_reply};
     ghost use Rattle.arc_commands.specs.declared.command.Cmd.TheVariants as command;
     ghost use Rattle.arc_slots.specs.Answers.{Answers};
@@ -54,6 +54,7 @@ where
             (Some self.new) result.1 passes.new.of_blocks.items }
         ensures room { is_some result.1 ≡ true → has_room ≡ true }
     {
+        self.known_role();
         if !self.has_part(part) {
             return (Reply::Kind, None);
         }
@@ -225,6 +226,46 @@ where
         Reply::No
     }
 
+    /// Makes the window, which is written alone, one of several on its block: no kind has such a
+    /// window.
+    pub(crate) fn share(&self, passes: &Passes<A>) -> TableReply<S, B, M, A>
+        ensures { (next i : ℕ) → Answers (setting_of (layout_facts L.Layout) L.Writable.ANY
+            L.clone_wants S.DROPS S.boundary
+            (type_size S.Item.row) S.Zero.zero S.Calls.calls) next (command.Share i)
+            self.now passes.now.of_blocks.items (seen_reply S.items_in S.items_in_box B.list result)
+            (Some self.now) None passes.now.of_blocks.items }
+    {
+        let _ = passes;
+        self.known_role();
+        Reply::Kind
+    }
+
+    /// Makes the window, which is one of several, the only one. None is one of several.
+    pub(crate) fn make_unique(&self, passes: &Passes<A>) -> TableReply<S, B, M, A>
+        ensures { (next i : ℕ) → Answers (setting_of (layout_facts L.Layout) L.Writable.ANY
+            L.clone_wants S.DROPS S.boundary
+            (type_size S.Item.row) S.Zero.zero S.Calls.calls) next (command.Unique i)
+            self.now passes.now.of_blocks.items (seen_reply S.items_in S.items_in_box B.list result)
+            (Some self.now) None passes.now.of_blocks.items }
+    {
+        let _ = passes;
+        self.known_role();
+        Reply::Kind
+    }
+
+    /// Joins the window, which is one of several, with another one. None is.
+    pub(crate) fn join(&self, passes: &Passes<A>) -> TableReply<S, B, M, A>
+        ensures { (next i j : ℕ) → Answers (setting_of (layout_facts L.Layout) L.Writable.ANY
+            L.clone_wants S.DROPS S.boundary
+            (type_size S.Item.row) S.Zero.zero S.Calls.calls) next (command.Join i j)
+            self.now passes.now.of_blocks.items (seen_reply S.items_in S.items_in_box B.list result)
+            (Some self.now) None passes.now.of_blocks.items }
+    {
+        let _ = passes;
+        self.known_role();
+        Reply::Kind
+    }
+
     /// Takes the first `by` items off the window.
     pub(crate) fn skip(&mut self, by: usize, passes: &Passes<A>) -> TableReply<S, B, M, A>
         ensures { (next i : ℕ) → Answers (setting_of (layout_facts L.Layout) L.Writable.ANY
@@ -318,7 +359,7 @@ where
     S::Small: SmallOf<S, L, B, M, A>,
 {
     ghost use Rattle.std.specs.Prelude.{◌≡◌, ℕ, None, Some, length};
-    ghost use Rattle.arc_commands.specs.Step.{Setting};
+    ghost use Rattle.arc_commands.specs.Changes.{Setting};
     ghost use Rattle.arc_commands.specs.declared.command.Cmd.TheVariants as command;
     ghost use Rattle.arc_commands.specs.declared.command.Reply.TheVariants as reply;
     ghost use Rattle.arc_slots.specs.Answers.{Answers};

@@ -3,7 +3,7 @@ ghost use Rattle.std.specs.Prelude.{◌≡◌, ℕ, None, Some, true, is_some, l
 ghost use Rattle.arc_block.specs.LayoutFacts.{layout_facts};
 ghost use Rattle.std.specs.Mem.{FitsInMemory, type_size};
 ghost use Rattle.arc_commands.specs.Seen.{map_command, seen_reply};
-ghost use Rattle.arc_commands.specs.Step.{Setting, setting_of};
+ghost use Rattle.arc_commands.specs.Changes.{Setting, setting_of};
 ghost use Rattle.arc_commands.specs.declared.command.Cmd.TheVariants as command;
 ghost use Rattle.arc_commands.specs.declared.command.Reply.TheVariants as reply;
 ghost use Rattle.arc_slots.specs.Answers.{Answers};
@@ -210,6 +210,9 @@ where
         Cmd::Trunc { len, .. } => (slot.cut(len, passes), None),
         Cmd::Freeze { .. } => (freeze_at(place, passes), None),
         Cmd::Mut { .. } => (mut_at(place, passes), None),
+        Cmd::Share { .. } => (slot.share(passes), None),
+        Cmd::Unique { .. } => (slot.make_unique(passes), None),
+        Cmd::Join { .. } => (slot.join(passes), None),
         Cmd::Drop { .. } => (drop_at(place, passes), None),
         Cmd::Take { .. } => (take_at(place, Taking::Vector, passes), None),
         Cmd::TakeBox { .. } => (take_at(place, Taking::Boxed, passes), None),

@@ -7,8 +7,8 @@ ghost use Rattle.arc_block.specs.Writers.{IsNewWriter, idle_writer};
 ghost use Rattle.arc_commands.specs.Additions.{Founds};
 ghost use Rattle.arc_commands.specs.Seen.{map_command, seen_reply};
 ghost use Rattle.std.specs.Arc.{arc_value};
-ghost use Rattle.arc_commands.specs.Step.{made_row, setting_of, vector_row, writer_row};
-ghost use Rattle.arc_commands.specs.Step.{buffer_row, raw_row, written_buffer_row};
+ghost use Rattle.arc_commands.specs.Changes.{made_row, setting_of, vector_row, writer_row};
+ghost use Rattle.arc_commands.specs.Changes.{buffer_row, raw_row, written_buffer_row};
 ghost use Rattle.arc_commands.specs.declared.command.Cmd.TheVariants as command;
 ghost use Rattle.arc_slots.specs.Makers.{Makes};
 ghost use Rattle.arc_slots.specs.Slots.{row_of, stand_of};
@@ -686,6 +686,9 @@ where
         Cmd::Rec { .. } => (Reply::Kind, None),
         Cmd::Freeze { .. } => (Reply::Kind, None),
         Cmd::Mut { .. } => (Reply::Kind, None),
+        Cmd::Share { .. } => (Reply::Kind, None),
+        Cmd::Unique { .. } => (Reply::Kind, None),
+        Cmd::Join { .. } => (Reply::Kind, None),
         Cmd::Adv { .. } => (Reply::Kind, None),
         Cmd::Trunc { .. } => (Reply::Kind, None),
         Cmd::Drop { .. } => (Reply::Kind, None),

@@ -151,8 +151,9 @@ where
     ghost use Rattle.arc_owners.specs.count.Calls.{Leaves};
     ghost use Rattle.arc_slots.specs.Stands.{HasPassFor, is_numbered};
     ghost use Rattle.arc_slots.specs.Calls.{Along, AsksPlace, Beside, MayAsk, RefusesAt};
-    ghost use Rattle.arc_commands.specs.Step.{cut_row, off_part, part_of, to_part};
-    ghost use Rattle.arc_commands.specs.Step.{is_on_block, is_writable_at, may_write_at, truncated};
+    ghost use Rattle.arc_commands.specs.Changes.{cut_row, off_part, part_of, to_part};
+    ghost use Rattle.arc_commands.specs.Changes.{is_on_block, is_writable_at, may_write_at};
+    ghost use Rattle.arc_commands.specs.Changes.{truncated};
     ghost use Rattle.arc_block.specs.Moves.{IsRefused, layout_move};
     ghost use Rattle.arc_slots.specs.Splits.{IsSplit};
     ghost use Rattle.arc_commands.specs.Blocks.{is_reader, is_small, is_sole, is_writer};

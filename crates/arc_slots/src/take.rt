@@ -148,7 +148,7 @@ where
 {
     ghost use Rattle.std.specs.Prelude.{false, Some, length};
     ghost use Rattle.arc_commands.specs.Blocks.{is_sole};
-    ghost use Rattle.arc_commands.specs.Step.{is_on_block};
+    ghost use Rattle.arc_commands.specs.Changes.{is_on_block};
     ghost use Rattle.arc_slots.specs.Calls.{Along, RefusesOut, TakesOut};
     ghost use Rattle.arc_slots.specs.Slots.{row_of, stand_of};
     ghost use Rattle.arc_slots.specs.Stands.{HasPassFor};
@@ -281,7 +281,7 @@ where
     S::Small: SmallOf<S, L, B, M, A>,
 {
     ghost use Rattle.std.specs.Prelude.{ℕ, None, Some};
-    ghost use Rattle.arc_commands.specs.Step.{setting_of};
+    ghost use Rattle.arc_commands.specs.Changes.{setting_of};
     ghost use Rattle.arc_commands.specs.declared.command.Cmd.TheVariants as command;
     ghost use Rattle.arc_slots.specs.Answers.{Answers};
     ghost use Rattle.arc_slots.specs.Slots.{stand_of};

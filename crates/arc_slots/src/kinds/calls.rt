@@ -1,5 +1,5 @@
 //! The calls that not all kinds have, and which kind has which.
-ghost use Rattle.std.specs.Prelude.{◌≡◌, ◌≤◌, ◌∷◌, [], Err, true, false, length, is_some};
+ghost use Rattle.std.specs.Prelude.{◌≡◌, ◌≤◌, ◌∷◌, [], Err, true, false, length, is_some, refl};
 ghost use Rattle.std.specs.Prelude.{IfNone, IfSome};
 ghost use Rattle.std.specs.Prelude.{IfOk, IfErr, OnErr, OnOk};
 ghost use Rattle.std.specs.Mem.{FitsInMemory, type_size};
@@ -8,7 +8,7 @@ ghost use Rattle.arc_owners.specs.count.Calls.{IsPassOfNone};
 ghost use Rattle.arc_block.specs.Steps.{Begins, IsPassAt, Makes};
 ghost use Rattle.arc_block.specs.Window.{NeedsBlock};
 ghost use Rattle.arc_block.specs.Writers.{MakesRoom, MakesWriter, Pushes, room_for};
-ghost use Rattle.arc_commands.specs.Step.{Calls};
+ghost use Rattle.arc_commands.specs.Changes.{Calls};
 
 use super::smalls::Smalls;
 use arc_block::layout::{Layout, LayoutMut};
@@ -174,6 +174,9 @@ pub trait CallsOf<S: Slice> {
             (room_for S.DROPS (type_size S.Item.row) window.old (length items.now))
             window.old window.new pass.old pass.new (Err e))) }
         ensures none { IfNone result ((window.new ≡ window.old) × (pass.new ≡ pass.old)) };
+
+    /// No window is written by several.
+    ghost not_shared: { calls.shares ≡ false };
 }
 
 /// All of them: the calls of `Plain` and `ByteText`. W says whether there are small windows.
@@ -197,7 +200,10 @@ where
       extends = true;
       any_list = true;
       small = W.small;
+      shares = false;
     } };
+
+    ghost not_shared = { refl };
 
     fn copies() -> bool {
         true
@@ -276,7 +282,10 @@ impl CallsOf<Text> for TextCalls {
       extends = true;
       any_list = false;
       small = true;
+      shares = false;
     } };
+
+    ghost not_shared = { refl };
 
     fn copies() -> bool {
         true
@@ -347,7 +356,10 @@ impl<S: Extendable> CallsOf<S> for OwnedCalls {
       extends = false;
       any_list = true;
       small = false;
+      shares = false;
     } };
+
+    ghost not_shared = { refl };
 
     fn copies() -> bool {
         false

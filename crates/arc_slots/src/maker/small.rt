@@ -6,7 +6,7 @@ ghost use Rattle.arc_block.specs.Inline.{inline_limit};
 ghost use Rattle.arc_block.specs.LayoutFacts.{layout_facts};
 ghost use Rattle.arc_commands.specs.Additions.{Founds};
 ghost use Rattle.arc_commands.specs.Seen.{seen_reply};
-ghost use Rattle.arc_commands.specs.Step.{setting_of, small_row};
+ghost use Rattle.arc_commands.specs.Changes.{setting_of, small_row};
 ghost use Rattle.arc_commands.specs.declared.command.Cmd.TheVariants as command;
 ghost use Rattle.arc_slots.specs.Makers.{Makes};
 ghost use Rattle.arc_slots.specs.Slots.{row_of, stand_of};

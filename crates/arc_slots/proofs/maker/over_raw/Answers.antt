@@ -1,15 +1,14 @@
-use Rattle.std.proofs.Common.{Some, None, ◌&&◌, ◌≡◌, true, if◌then◌else◌, List, length, refl, sym}
+use Rattle.std.proofs.Common.{Some, None, ◌&&◌, ◌≡◌, if◌then◌else◌, List, length, refl, sym}
 use Rattle.std.proofs.Common.{ap, ◌∙◌, subst, arith}
 use Rattle.std.specs.Prelude.{MatchOption}
-use Rattle.std.specs.Arc.{arc_value}
 use Rattle.arc_owners.specs.declared.mark.Whole.{Whole}
 use Rattle.arc_owners.specs.declared.count.tokens.Pass.{Pass}
 use Rattle.arc_block.specs.Table.{Row}
 use Rattle.arc_commands.specs.Additions.{Founds}
-use Rattle.arc_commands.specs.Step.{raw_row}
+use Rattle.arc_commands.specs.Changes.{raw_row}
 use Rattle.arc_commands.specs.declared.command.Reply.TheVariants as reply
 use Rattle.arc_commands.specs.Commands.{ListReply}
-use Rattle.arc_slots.specs.Slots.{row_of, stand_of}
+use Rattle.arc_slots.specs.Slots.{stand_of}
 use Rattle.arc_slots.proofs.maker.over_raw.Given.{Over}
 use Rattle.arc_slots.proofs.maker.over_raw.Goals as goal
 

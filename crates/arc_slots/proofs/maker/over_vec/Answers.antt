@@ -1,11 +1,11 @@
-use Rattle.std.proofs.Common.{◌≡◌, ◌≤◌, Some, None, if◌then◌else◌, List, length, refl, sym, ap, ◌∙◌}
+use Rattle.std.proofs.Common.{◌≤◌, Some, None, if◌then◌else◌, List, length, refl, sym, ap, ◌∙◌}
 use Rattle.std.proofs.Common.{subst}
 use Rattle.std.specs.Vec.{vec_capacity}
 use Rattle.arc_owners.specs.declared.mark.Whole.{Whole}
 use Rattle.arc_owners.specs.declared.count.tokens.Pass.{Pass}
 use Rattle.arc_commands.specs.Additions.{Founds}
-use Rattle.arc_commands.specs.Step.{vector_row}
-use Rattle.arc_slots.specs.Slots.{row_of, stand_of}
+use Rattle.arc_commands.specs.Changes.{vector_row}
+use Rattle.arc_slots.specs.Slots.{stand_of}
 use Rattle.arc_slots.proofs.maker.over_vec.Goals as goal
 
 pub returns-in-Ok-clause-made : goal.returns-in-Ok-clause-made

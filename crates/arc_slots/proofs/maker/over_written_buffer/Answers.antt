@@ -3,8 +3,8 @@ use Rattle.std.proofs.Common.{subst}
 use Rattle.arc_owners.specs.declared.mark.Whole.{Whole}
 use Rattle.arc_owners.specs.declared.count.tokens.Pass.{Pass}
 use Rattle.arc_commands.specs.Additions.{Founds}
-use Rattle.arc_commands.specs.Step.{written_buffer_row}
-use Rattle.arc_slots.specs.Slots.{row_of, stand_of}
+use Rattle.arc_commands.specs.Changes.{written_buffer_row}
+use Rattle.arc_slots.specs.Slots.{stand_of}
 use Rattle.arc_slots.proofs.maker.over_written_buffer.Goals as goal
 
 pub returns-in-Ok-clause-made : goal.returns-in-Ok-clause-made

@@ -1,6 +1,6 @@
 -- A number's place is its own while its window is there.
 use Rattle.std.proofs.Common.{◌≡◌, ℕ, ◌<◌, List, None, Some, length, slice_get, slice_index_or}
-use Rattle.std.proofs.Common.{refl, sym, ap, ◌∙◌, subst, arith, rules}
+use Rattle.std.proofs.Common.{refl, sym, ap, ◌∙◌, arith, rules}
 use Rattle.std.proofs.lemmas.Option.{same_Some, slice_get_read, slice_get_within}
 use Rattle.std.specs.Option.{option_flatten}
 use Rattle.arc_slots.proofs.Index.{window-none}

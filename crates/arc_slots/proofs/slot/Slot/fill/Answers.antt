@@ -1,12 +1,12 @@
 use Rattle.arc_block.specs.LayoutFacts.{layout_facts}
 use Rattle.std.specs.Mem.{type_size}
-use Rattle.arc_commands.specs.Step.{Setting, setting_of}
+use Rattle.arc_commands.specs.Changes.{Setting, setting_of}
 use Rattle.std.proofs.Common.{ℕ, ◌==◌, if◌then◌else◌, Some, None, subst, refl}
 use Rattle.std.proofs.Common.{sym, ap, ◌∙◌}
 use Rattle.std.specs.Prelude.{Result}
 use Rattle.arc_owners.specs.declared.error.TryReserveError.{TryReserveError}
 use Rattle.arc_owners.specs.declared.error.TryReserveError.TheVariants.{AllocError}
-use Rattle.arc_commands.specs.Step.{room_of}
+use Rattle.arc_commands.specs.Changes.{room_of}
 use Rattle.arc_commands.specs.declared.command.Reply.TheVariants as reply
 use Rattle.arc_commands.proofs.Lists.{an_error}
 use Rattle.arc_slots.specs.Answers.{Answers}

@@ -1,7 +1,7 @@
 use Rattle.arc_block.specs.LayoutFacts.{layout_facts}
 use Rattle.std.specs.Mem.{type_size}
-use Rattle.arc_commands.specs.Step.{Setting, setting_of}
-use Rattle.std.proofs.Common.{Some, None, subst, refl, sym, ◌∙◌}
+use Rattle.arc_commands.specs.Changes.{Setting, setting_of}
+use Rattle.std.proofs.Common.{Some, None, subst, sym, ◌∙◌}
 use Rattle.arc_block.specs.Moves.{layout_move}
 use Rattle.arc_commands.proofs.Lists.{an_error}
 use Rattle.arc_commands.specs.declared.command.Cmd.TheVariants as command

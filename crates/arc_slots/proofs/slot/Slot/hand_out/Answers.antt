@@ -1,13 +1,13 @@
 use Rattle.arc_block.specs.LayoutFacts.{layout_facts}
 use Rattle.std.specs.Mem.{type_size}
-use Rattle.arc_commands.specs.Step.{Setting, setting_of}
+use Rattle.arc_commands.specs.Changes.{Setting, setting_of}
 use Rattle.std.proofs.Common.{Some, None, inl, inr, sym, subst, ◌∙◌}
 use Rattle.std.proofs.lemmas.Bool.{cases_Bool}
 use Rattle.arc_slots.specs.Answers.{Answers}
 use Rattle.arc_slots.specs.Parts.{is_itself, part_command}
 use Rattle.arc_slots.specs.Slots.{row_of}
 use Rattle.arc_commands.specs.declared.command.Reply.TheVariants as reply
-use Rattle.arc_slots.proofs.Answered.{beside, itself, part-refused}
+use Rattle.arc_slots.proofs.HandedOut.{beside, itself, part-refused}
 use Rattle.arc_slots.proofs.slot.Slot.hand_out.Given.{Over}
 use Rattle.arc_slots.proofs.slot.Slot.hand_out.Goals as goal
 

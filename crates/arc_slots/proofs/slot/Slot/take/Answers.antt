@@ -1,6 +1,6 @@
 use Rattle.arc_block.specs.LayoutFacts.{layout_facts}
 use Rattle.std.specs.Mem.{type_size}
-use Rattle.arc_commands.specs.Step.{Setting, setting_of}
+use Rattle.arc_commands.specs.Changes.{Setting, setting_of}
 use Rattle.std.proofs.Common.{Some, None, subst, sym, ◌∙◌}
 use Rattle.arc_commands.specs.declared.command.Reply.TheVariants as reply
 use Rattle.arc_slots.specs.Answers.{Answers}

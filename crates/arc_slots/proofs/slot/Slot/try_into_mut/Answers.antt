@@ -2,7 +2,7 @@
 use Rattle.std.proofs.Common.{◌≡◌, Some, true, false, is_some, length, sym, ap, subst, ◌∙◌}
 use Rattle.arc_block.specs.Window.{PartsView}
 use Rattle.arc_block.specs.Writers.{as_sole}
-use Rattle.arc_commands.specs.Step.{is_on_block, is_writable_at, may_write_at}
+use Rattle.arc_commands.specs.Changes.{is_on_block, is_writable_at, may_write_at}
 use Rattle.arc_slots.specs.Calls.{MayAsk}
 use Rattle.arc_slots.specs.Slots.{SlotView, row_of, stand_of, writer_slot}
 use Rattle.arc_slots.specs.Stands.{HasPassFor, numbered, stand_at}

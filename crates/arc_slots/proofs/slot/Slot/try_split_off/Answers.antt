@@ -4,7 +4,7 @@ use Rattle.std.proofs.Common.{◌≡◌, ◌<◌, Some, sym, subst, ◌∙◌}
 use Rattle.arc_slots.specs.Slots.{SlotView, row_of, stand_of}
 use Rattle.arc_slots.specs.Splits.{IsSplit}
 use Rattle.arc_slots.specs.Stands.{HasPassFor}
-use Rattle.arc_commands.specs.Step.{off_part, cut_row}
+use Rattle.arc_commands.specs.Changes.{off_part, cut_row}
 use Rattle.arc_slots.proofs.Slots.{still-number, reads-view, reads-fits}
 use Rattle.arc_slots.proofs.Splits.{slot, off-start, off-later}
 use Rattle.arc_slots.proofs.slot.Slot.try_split_off.Goals as goal

@@ -4,7 +4,7 @@ use Rattle.std.proofs.Common.{◌≡◌, ◌<◌, length, Some, sym, subst, ◌�
 use Rattle.arc_slots.specs.Slots.{SlotView, row_of, stand_of}
 use Rattle.arc_slots.specs.Splits.{IsSplit}
 use Rattle.arc_slots.specs.Stands.{HasPassFor}
-use Rattle.arc_commands.specs.Step.{to_part, cut_row}
+use Rattle.arc_commands.specs.Changes.{to_part, cut_row}
 use Rattle.arc_slots.proofs.Slots.{still-number, reads-view, reads-fits}
 use Rattle.arc_slots.proofs.Splits.{slot, to-end, to-earlier}
 use Rattle.arc_slots.proofs.slot.Slot.try_split_to.Goals as goal

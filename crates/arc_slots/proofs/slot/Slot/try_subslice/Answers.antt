@@ -4,7 +4,7 @@ use Rattle.std.proofs.Common.{sym, ap, ◌∙◌, subst}
 use Rattle.arc_buffer.specs.Slice.{sub}
 use Rattle.arc_buffer.proofs.Sub.{length-sub}
 use Rattle.arc_block.specs.Place.{part_place}
-use Rattle.arc_commands.specs.Step.{part_of}
+use Rattle.arc_commands.specs.Changes.{part_of}
 use Rattle.arc_slots.specs.Calls.{Beside, RefusesAt}
 use Rattle.arc_slots.specs.Slots.{SlotView, row_of, stand_of, window_in, role_in}
 use Rattle.arc_slots.specs.Stands.{HasPassFor, is_numbered, numbered, stand_at, put_back}

@@ -1,6 +1,6 @@
 use Rattle.arc_block.specs.LayoutFacts.{layout_facts}
 use Rattle.std.specs.Mem.{type_size}
-use Rattle.arc_commands.specs.Step.{Setting, setting_of}
+use Rattle.arc_commands.specs.Changes.{Setting, setting_of}
 use Rattle.std.proofs.Common.{true, false, subst, Some}
 use Rattle.arc_slots.specs.Calls.{AsksPlace}
 use Rattle.arc_slots.specs.Slots.{row_of, stand_of}

@@ -1,0 +1,94 @@
+-- Room without memory, as what a sole writer is answered.
+use Rattle.std.proofs.Common.{◌≡◌, ◌&&◌, ℕ, Bool, true, false, if◌then◌else◌, List, Some}
+use Rattle.std.proofs.Common.{None, refl, sym, ap, ◌∙◌, subst}
+use Rattle.std.proofs.lemmas.Bool.{false≢true}
+use Rattle.arc_owners.specs.declared.mark.Whole.{Whole}
+use Rattle.arc_owners.specs.declared.count.tokens.Pass.{Pass}
+use Rattle.arc_block.specs.Owned.{Stand}
+use Rattle.arc_block.specs.Shared.{asks_alone}
+use Rattle.arc_block.specs.Table.{Row}
+use Rattle.arc_block.specs.Writers.{Reclaims}
+use Rattle.arc_block.specs.declared.parts.room.Room.{Room}
+use Rattle.arc_block.specs.declared.parts.room.Room.TheVariants as from
+use Rattle.arc_commands.specs.Additions.{AsksFirst, asks_first}
+use Rattle.arc_commands.specs.Blocks.{is_several, is_sole}
+use Rattle.arc_commands.specs.Changes.{Around, Setting, is_now, no_shortage, reclaimed}
+use Rattle.arc_commands.specs.Changes.{room_of}
+use Rattle.arc_commands.specs.Commands.{ListCmd, ListReply}
+use Rattle.arc_commands.specs.Several.{reclaimed_shared}
+use Rattle.arc_commands.specs.Step.{answer_any}
+use Rattle.arc_commands.specs.declared.command.Cmd.TheVariants as command
+use Rattle.arc_commands.specs.declared.command.Reply.TheVariants as reply
+use Rattle.arc_commands.proofs.Roles.{sole-several}
+use Rattle.arc_slots.specs.Answers.{Answers, around_in}
+use Rattle.arc_slots.specs.Slots.{SlotView, row_of, stand_of}
+use Rattle.arc_slots.proofs.Answered.{changes, for-role, writes-for}
+
+module _ {T M : Type 0} (setting : Setting T) (windows : ℕ) (s : SlotView T M)
+    (passes : List (Pass Whole)) (writes : is_sole s.role ≡ true) (i k : ℕ) where
+  abbrev here : Stand
+  here = stand_of (Some s)
+
+  abbrev row : Row T M
+  row = row_of s
+
+  abbrev around : Around
+  around = around_in 0 windows passes here
+
+  abbrev rec : ListCmd T M
+  rec = command.Rec i k
+
+  one : is_several s.role ≡ false
+  one = sole-several s.role writes
+
+  rec-is : answer_any setting no_shortage around rec row ≡ reclaimed row (room_of setting row k)
+  rec-is =
+      for-role setting windows s passes no_shortage rec
+      (writes-for setting windows s passes writes rec true (λ n. refl))
+      ∙ ap (λ b. if b then reclaimed_shared setting around k row else
+      reclaimed row (room_of setting row k)) one
+
+  -- he asks nobody first
+  unasked : (new : SlotView T M) → stand_of (Some new) ≡ here → (alone : Bool)
+      → AsksFirst here (stand_of (Some new)) None passes passes (asks_first row k) alone
+  unasked new stays alone =
+      subst (λ b. AsksFirst here (stand_of (Some new)) None passes passes (b && asks_alone row k)
+      alone) (sym one) (stays, refl, refl)
+
+  abbrev Said : ListReply T M → SlotView T M → Type 0
+  Said r new = Answers setting windows rec s passes r (Some new) None passes
+
+  module _ (new : SlotView T M) (stays : stand_of (Some new) ≡ here) where
+    yes-as : (room : Room) → room_of setting row k ≡ room
+        → Reclaims room row (row_of new) true
+        → reclaimed row (room_of setting row k) ≡ is_now reply.Yes (row_of new)
+    yes-as from.Spare is did = ap (reclaimed row) is ∙ ap (is_now reply.Yes) (sym did.1)
+    yes-as from.Behind is did = ap (reclaimed row) is ∙ ap (is_now reply.Yes) (sym did.1)
+    yes-as from.Front is did = ap (reclaimed row) is ∙ ap (is_now reply.Yes) (sym did.1)
+    yes-as (from.Fresh places) is did = absurd (false≢true (sym did.0))
+    yes-as (from.Growth places) is did = absurd (false≢true (sym did.0))
+    yes-as (from.Own additional) is did = absurd (false≢true (sym did.0))
+    yes-as (from.Refused e) is did = absurd (false≢true (sym did.0))
+
+    pub has-room : Reclaims (room_of setting row k) row (row_of new) true → Said reply.Yes new
+    has-room did =
+        changes setting windows s passes rec reply.Yes new
+        (rec-is ∙ yes-as (room_of setting row k) refl did) (unasked new stays true)
+
+  no-as : (new : Row T M) (room : Room) → room_of setting row k ≡ room
+      → Reclaims room row new false
+      → reclaimed row (room_of setting row k) ≡ is_now reply.No row
+  no-as new from.Spare is did = absurd (false≢true did.0)
+  no-as new from.Behind is did = absurd (false≢true did.0)
+  no-as new from.Front is did = absurd (false≢true did.0)
+  no-as new (from.Fresh places) is did = ap (reclaimed row) is
+  no-as new (from.Growth places) is did = ap (reclaimed row) is
+  no-as new (from.Own additional) is did = ap (reclaimed row) is
+  no-as new (from.Refused e) is did = ap (reclaimed row) is
+
+  pub no-room : (new : SlotView T M) → new ≡ s
+      → Reclaims (room_of setting row k) row (row_of new) false → Said reply.No new
+  no-room new same did =
+      subst (λ x. Said reply.No x) (sym same)
+      (changes setting windows s passes rec reply.No s
+      (rec-is ∙ no-as (row_of new) (room_of setting row k) refl did) (false, unasked s refl false))
