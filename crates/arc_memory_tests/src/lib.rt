@@ -19,6 +19,10 @@ mod page;
 #[cfg(test)]
 mod places;
 #[cfg(test)]
+mod several_ends;
+#[cfg(test)]
+mod several_parts;
+#[cfg(test)]
 mod several_writers;
 #[cfg(test)]
 mod static_slices;
