@@ -9,7 +9,8 @@ use Rattle.arc_block.specs.Owned.{IsKept}
 use Rattle.arc_commands.specs.Additions.{Adds}
 use Rattle.arc_commands.specs.Apart.{IsLawful}
 use Rattle.arc_commands.specs.State.{State}
-use Rattle.arc_commands.specs.Step.{Setting, Step}
+use Rattle.arc_commands.specs.Changes.{Setting}
+use Rattle.arc_commands.specs.Step.{Step}
 use Rattle.arc_commands.specs.Commands.{ListCmd, ListReply}
 use Rattle.arc_commands.proofs.Apart.{empty_lawful, step_lawful}
 use Rattle.arc_slots.specs.Slots.{SlotView, state_of, stands_of}

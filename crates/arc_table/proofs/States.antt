@@ -3,7 +3,7 @@ use Rattle.std.proofs.Common.{ℕ, ◌+◌, List, [], ◌∷◌, ◌++◌, sym, 
 use Rattle.std.proofs.lemmas.List.FromFn.{map-range_with_len_more}
 use Rattle.arc_commands.specs.RunOf.{RunOf}
 use Rattle.arc_commands.specs.State.{State, CarriesOut, drops}
-use Rattle.arc_commands.specs.Step.{Setting}
+use Rattle.arc_commands.specs.Changes.{Setting}
 use Rattle.arc_commands.specs.declared.command.Cmd.TheVariants.{Drop}
 use Rattle.arc_commands.specs.Commands.{ListReply}
 use Rattle.arc_commands.proofs.Runs.{run_push}

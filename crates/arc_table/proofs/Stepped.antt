@@ -2,28 +2,35 @@
 use Rattle.std.proofs.Common.{◌≡◌, ℕ, zero, suc, ◌==◌, Bool, true, false, if◌then◌else◌, List, []}
 use Rattle.std.proofs.Common.{◌∷◌, ◌++◌, length, map, Option, Some, None, is_some, slice_get}
 use Rattle.std.proofs.Common.{slice_set, slice_index_or, refl, sym, ap, ◌∙◌, subst, arith, inl, inr}
-use Rattle.std.proofs.Common.{◌<◌, ◌≤◌}
+use Rattle.std.proofs.Common.{◌<◌, ◌≤◌, ◌⊎◌}
 use Rattle.std.specs.Prelude.{MatchOption, IfSome}
 use Rattle.std.specs.Option.{option_map, option_map_or, option_flatten}
 use Rattle.std.proofs.lemmas.List.{map-append, length-append, length-map}
-use Rattle.std.proofs.lemmas.Bool.{cases_Bool}
 use Rattle.std.proofs.lemmas.Option.{none-some, same_Some, slice_get-map, slice_get_cases}
 use Rattle.std.proofs.lemmas.Option.{slice_get_read}
 use Rattle.arc_owners.specs.declared.mark.Whole.{Whole}
 use Rattle.arc_owners.specs.declared.count.tokens.Pass.{Pass}
 use Rattle.arc_block.specs.declared.block.TheConstants.{MAX_OWNERS}
 use Rattle.arc_block.specs.Owned.{Stand, IsKept}
-use Rattle.arc_block.specs.Place.{Place, nowhere, static_data, on_block}
+use Rattle.arc_block.specs.Place.{Place}
 use Rattle.arc_block.specs.Table.{Row, Table, block_of, is_alone, owners, row_at}
-use Rattle.arc_commands.specs.Additions.{AddsBy, Founds, MakerAdds, RowAdds, stand_in}
+use Rattle.arc_commands.specs.Additions.{Adds, AddsBy, AddsOn, Founds, JoinAdds, MakerAdds, RowAdds}
+use Rattle.arc_commands.specs.Additions.{stand_in}
 use Rattle.arc_commands.specs.Additions.{with_stand}
 use Rattle.arc_commands.specs.State.{State}
-use Rattle.arc_commands.specs.Step.{Setting, Around, around_of, answer_any, answer_by}
-use Rattle.arc_commands.specs.Step.{changed, count_brought, founded, is_allowed, is_full, no_shortage, of_table, row_by}
-use Rattle.arc_commands.specs.Step.{shortage, static_row, window_of, with_block, with_row}
+use Rattle.arc_commands.specs.Step.{Step}
+use Rattle.arc_commands.specs.Changes.{Shortage}
+use Rattle.arc_commands.specs.Changes.{Setting, Around}
+use Rattle.arc_commands.specs.Step.{around_of, answer_any, answer_by}
+use Rattle.arc_commands.specs.Changes.{is_full, no_shortage, of_table}
+use Rattle.arc_commands.specs.Step.{changed, count_brought, founded, is_allowed, row_by}
+use Rattle.arc_commands.specs.Changes.{static_row}
+use Rattle.arc_commands.specs.Step.{shortage, window_of, with_block, with_row}
 use Rattle.arc_commands.specs.Commands.{ListCmd, ListReply}
 use Rattle.arc_commands.specs.declared.command.Cmd.TheVariants as command
 use Rattle.arc_commands.specs.declared.command.Reply.TheVariants as reply
+use Rattle.arc_commands.specs.Several.{join_answer}
+use Rattle.arc_commands.specs.Step.{answer, answer_on, is_for_both, joined, other_of}
 use Rattle.arc_slots.specs.Answers.{Answers, around_in, live_on}
 use Rattle.arc_slots.specs.Makers.{Makes}
 use Rattle.arc_slots.specs.Slots.{IsSlotRole, SlotView, row_of, stand_of, stands_of, state_of}
@@ -86,6 +93,22 @@ module _ {T M : Type 0} (setting : Setting T) (slots : List (Option (SlotView T 
 
   abbrev Command : Type 0
   Command = ListCmd T M
+
+  -- what is answered and added by a command on one window, or on none
+  answer-is : (short : Shortage) (places : ℕ) (c : Command) (window : Option ℕ)
+      → window_of c ≡ window → other_of c ≡ None
+      → answer setting short places t c ≡ answer_by setting short places t c window
+  answer-is short places c window on one =
+      ap (answer_on setting short places t c (window_of c)) one
+      ∙ ap (answer_by setting short places t c) on
+
+  adds-are : (c : Command) (r : ListReply T M) (new : State T M) (window : Option ℕ)
+      → window_of c ≡ window → other_of c ≡ None
+      → AddsBy setting t old.standing c r new.standing window
+      → Adds setting t old.standing c r new.standing
+  adds-are c r new window on one adds =
+      subst (AddsOn setting t old.standing c r new.standing (window_of c)) (sym one)
+      (subst (AddsBy setting t old.standing c r new.standing) (sym on) adds)
 
   -- ---- a command on a window
 
@@ -154,11 +177,11 @@ module _ {T M : Type 0} (setting : Setting T) (slots : List (Option (SlotView T 
     brought-none (command.MBuf given metadata) n on = absurd (none-some n on)
     brought-none other n on = refl
 
-    pub answered : (c : Command) → window_of c ≡ Some i → (r : ListReply T M)
+    pub answered : (c : Command) → window_of c ≡ Some i → other_of c ≡ None → (r : ListReply T M)
         (new made : Option (SlotView T M)) (passes' : List (Pass Whole))
         → Answers setting (length slots) c s passes r new made passes'
         → Done setting old c r (with_slot (slice_set slots i new) made) passes'
-    answered c on r new made passes' said =
+    answered c on one r new made passes' said =
         let slots' = with_slot (slice_set slots i new) made in
         let stands : stands_of slots' ≡ with_stand (slice_set (stands_of slots) i (stand_of new))
         (option_map (λ s. stand_of (Some s)) made) =
@@ -177,7 +200,7 @@ module _ {T M : Type 0} (setting : Setting T) (slots : List (Option (SlotView T 
         (record {
           places = said.places;
           enough = omega (arith, brought-none c i on);
-          answered = ap (answer_by setting (shortage r c) said.places t c) on
+          answered = answer-is (shortage r c) said.places c (Some i) on one
               ∙ ap (λ x. option_map_or (λ row. changed t i
               (answer_any setting (shortage r c) (around_of said.places t row) c row)) x
               (reply.NoWindow, t)) row-there
@@ -188,8 +211,7 @@ module _ {T M : Type 0} (setting : Setting T) (slots : List (Option (SlotView T 
               ∙ ap (λ n. (r, record { rows = map (option_map row_of) slots'; blocks = n }))
               (sym said.blocks);
         })
-        (subst (AddsBy setting t old.standing c r (state_of slots' passes').standing) (sym on)
-        (subst (λ x. MatchOption x
+        (adds-are c r (state_of slots' passes') (Some i) on one (subst (λ x. MatchOption x
         ((state_of slots' passes').standing ≡ old.standing) (λ row.
         (there : Stand) × (made : Option Stand)
         × RowAdds (stand_in old.standing i) there made passes passes' setting row c r
@@ -204,8 +226,9 @@ module _ {T M : Type 0} (setting : Setting T) (slots : List (Option (SlotView T 
 
   -- there is no window
   pub unanswered : (i : ℕ) → option_flatten (slice_get slots i) ≡ None → (c : Command)
-      → window_of c ≡ Some i → Done setting old c reply.NoWindow slots passes
-  unanswered i none c on =
+      → window_of c ≡ Some i → other_of c ≡ None
+      → Done setting old c reply.NoWindow slots passes
+  unanswered i none c on one =
       let row : row_at t i ≡ None =
       ap option_flatten (slice_get-map (option_map row_of) slots i)
       ∙ no-row (slice_get slots i) none in
@@ -213,20 +236,25 @@ module _ {T M : Type 0} (setting : Setting T) (slots : List (Option (SlotView T 
       (record {
         places = count_brought c;
         enough = omega arith;
-        answered = ap (answer_by setting no_shortage (count_brought c) t c) on
+        answered = answer-is no_shortage (count_brought c) c (Some i) on one
             ∙ ap (λ x. option_map_or (λ row.
             changed t i (answer_any setting no_shortage (around_of (count_brought c) t row) c
             row)) x
             (reply.NoWindow, t)) row;
       })
-      (subst (AddsBy setting t old.standing c reply.NoWindow old.standing) (sym on)
-      (subst (λ x. MatchOption x (old.standing ≡ old.standing) (λ row.
+      (adds-are c reply.NoWindow old (Some i) on one (subst (λ x. MatchOption x (old.standing
+      ≡ old.standing) (λ row.
       (there : Stand) × (made : Option Stand)
       × RowAdds (stand_in old.standing i) there made passes passes setting row c reply.NoWindow
       × (stands_of slots ≡ with_stand (slice_set (stands_of slots) i there) made)))
       (sym row) refl))
 
   -- ---- a command that makes a window of what it brings
+
+  -- it is on no other either
+  made-one : (c : Command) → window_of c ≡ None → other_of c ≡ None
+  made-one (command.Join i j) on = absurd (none-some i (sym on))
+  made-one c on = refl
 
   maker-kind : (c : Command) → MakerAdds c reply.Kind None passes passes
   maker-kind (command.Static items) = (refl, refl)
@@ -259,22 +287,20 @@ module _ {T M : Type 0} (setting : Setting T) (slots : List (Option (SlotView T 
           (record {
             places = places;
             enough = enough;
-            answered = ap (answer_by setting no_shortage places t c) on
+            answered = answer-is no_shortage places c None on (made-one c on)
                 ∙ ap (λ x. option_map_or (founded no_shortage t) x (reply.Kind, t)) is;
           })
-          (subst (AddsBy setting t old.standing c reply.Kind old.standing) (sym on)
-          (None, maker-kind c, refl)))
+          (adds-are c reply.Kind old None on (made-one c on) (None, maker-kind c, refl)))
       at (Some row) is why =
           subst (λ r. Done setting old c r slots passes) (sym why)
           (done fact.1 fact.0
           (record {
             places = places;
             enough = enough;
-            answered = ap (answer_by setting of_table places t c) on
+            answered = answer-is of_table places c None on (made-one c on)
                 ∙ ap (λ x. option_map_or (founded of_table t) x (reply.Kind, t)) is;
           })
-          (subst (AddsBy setting t old.standing c reply.Alloc old.standing) (sym on)
-          (None, maker-alloc c, refl)))
+          (adds-are c reply.Alloc old None on (made-one c on) (None, maker-alloc c, refl)))
 
   module _ (s : SlotView T M) (passes' : List (Pass Whole))
       (founds : Founds (stand_of (Some s)) passes passes') where
@@ -315,7 +341,7 @@ module _ {T M : Type 0} (setting : Setting T) (slots : List (Option (SlotView T 
         (record {
           places = places;
           enough = enough;
-          answered = ap (answer_by setting no_shortage places t c) on
+          answered = answer-is no_shortage places c None on (made-one c on)
               ∙ ap (λ x. option_map_or (founded no_shortage t) x (reply.Kind, t)) is
               ∙ ap (λ n. (
                 reply.New n,
@@ -336,8 +362,7 @@ module _ {T M : Type 0} (setting : Setting T) (slots : List (Option (SlotView T 
                 record { rows = map (option_map row_of) slots'; blocks = n },
               )) many;
         })
-        (subst (AddsBy setting t old.standing c (reply.New (length slots))
-        (state_of slots' passes').standing) (sym on)
+        (adds-are c (reply.New (length slots)) (state_of slots' passes') None on (made-one c on)
         (Some stand, maker-adds c places is (length slots), stands))
 
   pub made-window : (c : Command) → window_of c ≡ None → (r : ListReply T M)
@@ -358,18 +383,18 @@ module _ {T M : Type 0} (setting : Setting T) (slots : List (Option (SlotView T 
         known-pass (stands_of slots) passes fact.0 i (stand_of place)
         (slice_get-map stand_of slots i ∙ ap (option_map stand_of) at)
 
-    pub carried : (c : Command) → window_of c ≡ Some i → (r : ListReply T M)
+    pub carried : (c : Command) → window_of c ≡ Some i → other_of c ≡ None → (r : ListReply T M)
         (new made : Option (SlotView T M)) (passes' : List (Pass Whole))
         → IfSome place (λ s. Answers setting (length slots) c s passes r new made passes')
         → (place ≡ None → (r ≡ reply.NoWindow) × (made ≡ None) × (new ≡ None)
         × (passes' ≡ passes))
         → Done setting old c r (with_slot (slice_set slots i new) made) passes'
-    carried c on r new made passes' some none = by place refl some
+    carried c on one r new made passes' some none = by place refl some
       where
         by : (x : Option (SlotView T M)) → place ≡ x
             → IfSome x (λ s. Answers setting (length slots) c s passes r new made passes')
             → Done setting old c r (with_slot (slice_set slots i new) made) passes'
-        by (Some s) is said = answered i s (at ∙ ap Some is) c on r new made passes' said
+        by (Some s) is said = answered i s (at ∙ ap Some is) c on one r new made passes' said
         by None is said =
             let so = none is in
             let back : with_slot (slice_set slots i new) made ≡ slots =
@@ -378,7 +403,7 @@ module _ {T M : Type 0} (setting : Setting T) (slots : List (Option (SlotView T 
             subst (λ ss. Done setting old c r ss passes') (sym back)
             (subst (λ ps. Done setting old c r slots ps) (sym so.3)
             (subst (λ r. Done setting old c r slots passes) (sym so.0)
-            (unanswered i (ap option_flatten (at ∙ ap Some is)) c on)))
+            (unanswered i (ap option_flatten (at ∙ ap Some is)) c on one)))
 
   -- what is said of each setting and count of windows is said of these
   pub ended : (i : ℕ) (place : Option (SlotView T M)) (r : ListReply T M)
@@ -400,7 +425,8 @@ module _ {T M : Type 0} (setting : Setting T) (slots : List (Option (SlotView T 
   shown-there i s there role copies =
       subst (λ ss. Done setting old (command.Show i) (reply.Items s.window.items) ss passes)
       (set-back slots i (Some s) there)
-      (answered i s there (command.Show i) refl (reply.Items s.window.items) (Some s) None passes
+      (answered i s there (command.Show i) refl refl (reply.Items s.window.items)
+      (Some s) None passes
       (shown setting (length slots) s passes i
       (for-each setting (length slots) s passes role (command.Show i) copies (λ n. copies) copies)))
 
@@ -411,11 +437,71 @@ module _ {T M : Type 0} (setting : Setting T) (slots : List (Option (SlotView T 
   unshown-there i s there role none =
       subst (λ ss. Done setting old (command.Show i) reply.Kind ss passes)
       (set-back slots i (Some s) there)
-      (answered i s there (command.Show i) refl reply.Kind (Some s) None passes
+      (answered i s there (command.Show i) refl refl reply.Kind (Some s) None passes
       (same setting (length slots) s passes (command.Show i) reply.Kind
       (not-for setting (length slots) s passes no_shortage (command.Show i)
       (slot_each (λ r. is_allowed {T = T} {M = M} setting.calls (command.Show i) r ≡ false) none (λ n. none)
       none s.role role)) (refl, refl, refl)))
+
+  -- ---- a join of two windows
+
+  module _ (i j : ℕ) where
+    abbrev join : Command
+    join = command.Join i j
+
+    -- nothing changes
+    stays : (r : ListReply T M) → Step setting t join r t
+        → JoinAdds old.standing r old.standing j → Done setting old join r slots passes
+    stays r step adds = done fact.1 fact.0 step adds
+
+    -- what is answered by two rows, if they are there
+    abbrev pair : Option (Row T M) → Option (Row T M) → ListReply T M × Table T M
+    pair one other =
+        option_map_or (λ row. option_map_or (λ second.
+        if is_for_both setting.calls join i j row second
+        then joined t i j (join_answer row second) else (reply.Kind, t)) other
+        (reply.NoWindow, t)) one (reply.NoWindow, t)
+
+    -- one of them isn't there
+    pub unjoined : (option_flatten (slice_get slots i) ≡ None)
+        ⊎ (option_flatten (slice_get slots j) ≡ None)
+        → Done setting old join reply.NoWindow slots passes
+    unjoined missing =
+        stays reply.NoWindow
+        (record { places = 0; enough = omega arith; answered = by missing }) refl
+      where
+        gone : (k : ℕ) → option_flatten (slice_get slots k) ≡ None → row_at t k ≡ None
+        gone k none =
+            ap option_flatten (slice_get-map (option_map row_of) slots k)
+            ∙ no-row (slice_get slots k) none
+
+        -- without the other no row is asked
+        without : (one : Option (Row T M)) → pair one None ≡ (reply.NoWindow, t)
+        without None = refl
+        without (Some row) = refl
+
+        by : (option_flatten (slice_get slots i) ≡ None)
+            ⊎ (option_flatten (slice_get slots j) ≡ None)
+            → answer setting no_shortage 0 t join ≡ (reply.NoWindow, t)
+        by (inl none) = ap (λ x. pair x (row_at t j)) (gone i none)
+        by (inr none) = ap (λ x. pair (row_at t i) x) (gone j none) ∙ without (row_at t i)
+
+    -- no window of a slot is one of several writers'
+    pub joined-kind : (s o : SlotView T M) → slice_get slots i ≡ Some (Some s)
+        → slice_get slots j ≡ Some (Some o) → IsSlotRole s.role
+        → Done setting old join reply.Kind slots passes
+    joined-kind s o there beside role =
+        stays reply.Kind (record {
+          places = 0;
+          enough = omega arith;
+          answered =
+              ap (λ x. pair x (row_at t j)) (row-there i s there)
+              ∙ ap (pair (Some (row_of s))) (row-there j o beside)
+              ∙ ap (λ (b : Bool). if b then joined t i j (join_answer (row_of s) (row_of o)) else
+              (reply.Kind, t)) (slot_each (λ r. is_for_both setting.calls join i j
+              (record (row_of s) { role = r }) (row_of o) ≡ false) refl (λ n. refl) refl s.role
+              role);
+        }) refl
 
 -- what is the same is seen as the same
 pub seen-so : {S X Y : Type 0} (f : X → Y) (x y : X) (place : Option S)
@@ -435,3 +521,11 @@ past-end xs i past = elim (slice_get_cases xs i).1 [
   | inl there ↦ absurd (omega (arith, past, there.1))
   | inr none ↦ ap option_flatten none.1
 ]
+
+-- a command on these two windows is their join
+pub is-join : {T M : Type 0} (c : ListCmd T M) (i j : ℕ) → window_of c ≡ Some i
+    → other_of c ≡ Some j → command.Join i j ≡ c
+is-join (command.Join k l) i j on other =
+    ap (λ n. command.Join n j) (sym (same_Some k i on))
+    ∙ ap (command.Join k) (sym (same_Some l j other))
+is-join c i j on other = absurd (none-some j other)

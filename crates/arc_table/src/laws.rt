@@ -8,7 +8,8 @@ ghost use Rattle.arc_commands.specs.Blocks.{RowsAgree, is_several};
 ghost use Rattle.arc_commands.specs.Fits.{RowsFit};
 ghost use Rattle.arc_commands.specs.RunOf.{RunOf};
 ghost use Rattle.arc_commands.specs.State.{CarriesOut, State};
-ghost use Rattle.arc_commands.specs.Step.{Run, Setting, Step};
+ghost use Rattle.arc_commands.specs.Changes.{Setting};
+ghost use Rattle.arc_commands.specs.Step.{Run, Step};
 ghost use Rattle.arc_commands.specs.Commands.{ListCmd, ListReply};
 
 /// The rows that stand on one block agree about it, in every table that comes of the empty one: no
@@ -31,24 +32,26 @@ pub fn rows_agree<T, M>()
         → RowsAgree old.table → RowsAgree new.table }
 {}
 
-/// A row's items lie within its block, and a sole writer has the places from its first item to the
-/// end of the block, or its items' alone where others, which are dropped one by one, lie behind
-/// them. So it is in every table that comes of the empty one: each step keeps it, and so does each
+/// A row's items lie within its block, and a writer has a place there for each of them. A sole
+/// writer of items that are dropped one by one has the places from its first item to the end of the
+/// block, or its items' alone where others lie behind them. So it is in every table that comes of
+/// the empty one: where the rows of one block agree about it, each step keeps it, and so does each
 /// run. Does nothing: its contract is the law, for items and metadata of any type.
 pub fn rows_fit<T, M>()
     ensures empty { (drops : Bool) → RowsFit {T = T} {M = M} drops empty_table }
     ensures step { (setting : Setting T) (old : Table T M) (command : ListCmd T M)
         (reply : ListReply T M) (new : Table T M) → Step setting old command reply new
-        → RowsFit setting.drops old → RowsFit setting.drops new }
+        → RowsAgree old → RowsFit setting.drops old → RowsFit setting.drops new }
     ensures run { (setting : Setting T) (old : Table T M)
         (commands : List (ListCmd T M))
         (replies : List (ListReply T M)) (new : Table T M)
-        → Run setting old commands replies new → RowsFit setting.drops old
+        → Run setting old commands replies new → RowsAgree old → RowsFit setting.drops old
         → RowsFit setting.drops new }
     ensures carried_out { (setting : Setting T) (old : State T M)
         (commands : List (ListCmd T M)) (replies : List (ListReply T M))
         (new : State T M) → RunOf (CarriesOut setting) old commands replies new
-        → RowsFit setting.drops old.table → RowsFit setting.drops new.table }
+        → RowsAgree old.table → RowsFit setting.drops old.table
+        → RowsFit setting.drops new.table }
 {}
 
 /// Writers are apart: of two rows on one block, of which one is a writer's, no place is both's;

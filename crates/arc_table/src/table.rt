@@ -83,7 +83,8 @@ where
     ghost use Rattle.std.specs.Prelude.{◌≡◌, [], None, Some, length, slice_set};
     ghost use Rattle.arc_block.specs.declared.block.TheConstants.{MAX_OWNERS};
     ghost use Rattle.arc_block.specs.Owned.{IsKept};
-    ghost use Rattle.arc_commands.specs.Step.{Step, no_shortage, setting_of, shortage, window_of};
+    ghost use Rattle.arc_commands.specs.Changes.{no_shortage, setting_of};
+    ghost use Rattle.arc_commands.specs.Step.{Step, other_of, shortage, window_of};
     ghost use Rattle.arc_commands.specs.Seen.{map_command, seen_by, seen_reply};
     ghost use Rattle.arc_commands.specs.Additions.{Adds};
     ghost use Rattle.arc_commands.specs.Apart.{IsLawful};
@@ -156,6 +157,9 @@ where
             (seen_reply S.items_in S.items_in_box B.list result) self.new.standing }
     {
         if let Some(i) = command.window() {
+            if let Some(j) = command.other() {
+                return self.join(i, j);
+            }
             return self.on_window(rt, i, command);
         }
         let has_room = self.slots.room_if(true);
@@ -175,6 +179,7 @@ where
     ) -> TableReply<S, B, M, A>
         requires item { FitsInMemory S.Item.row }
         requires on { window_of (map_command S.items_in S.static_in B.list command) ≡ Some i }
+        requires one { other_of (map_command S.items_in S.static_in B.list command) ≡ None }
         ensures rows { Step (setting_of (layout_facts L.Layout) L.Writable.ANY L.clone_wants S.DROPS
             S.boundary
             (type_size S.Item.row) S.Zero.zero S.Calls.calls) self.old.table
@@ -197,6 +202,31 @@ where
         self.slots.push_made(made);
         self.slots.settle(place);
         reply
+    }
+
+    /// Carries out a `Cmd::Join` of the windows under these numbers. None is one of several that
+    /// are written on one block, so nothing changes.
+    fn join(&self, i: usize, j: usize) -> TableReply<S, B, M, A>
+        ensures rows { Step (setting_of (layout_facts L.Layout) L.Writable.ANY L.clone_wants S.DROPS
+            S.boundary
+            (type_size S.Item.row) S.Zero.zero S.Calls.calls) self.now.table
+            (command.Join i j) (seen_reply S.items_in S.items_in_box B.list result) self.now.table }
+        ensures passes { Adds (setting_of (layout_facts L.Layout) L.Writable.ANY L.clone_wants
+            S.DROPS S.boundary
+            (type_size S.Item.row) S.Zero.zero S.Calls.calls) self.now.table self.now.standing
+            (command.Join i j) (seen_reply S.items_in S.items_in_box B.list result)
+            self.now.standing }
+    {
+        match self.slots.get(i) {
+            Some(slot) => {
+                slot.known_role();
+                match self.slots.get(j) {
+                    Some(_) => Reply::Kind,
+                    None => Reply::NoWindow,
+                }
+            }
+            None => Reply::NoWindow,
+        }
     }
 
     /// Each window stands on the block of its row. Rows on one block agree about it, each lies

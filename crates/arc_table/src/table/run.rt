@@ -26,7 +26,7 @@ where
     ghost use Rattle.arc_commands.specs.RunOf.{RunOf};
     ghost use Rattle.arc_commands.specs.Seen.{map_command, seen_reply};
     ghost use Rattle.arc_commands.specs.State.{CarriesOut};
-    ghost use Rattle.arc_commands.specs.Step.{setting_of};
+    ghost use Rattle.arc_commands.specs.Changes.{setting_of};
 
     /// Carries out the commands one after another, each as `step` does, and answers the reply to
     /// each at its place.

@@ -2,8 +2,9 @@
 use Rattle.arc_block.specs.LayoutFacts.{layout_facts}
 use Rattle.std.specs.Mem.{type_size}
 use Rattle.arc_commands.specs.State.{State}
-use Rattle.arc_commands.specs.Step.{Setting, setting_of, window_of}
-use Rattle.arc_commands.proofs.Windows.{window-seen}
+use Rattle.arc_commands.specs.Changes.{Setting, setting_of}
+use Rattle.arc_commands.specs.Step.{window_of}
+use Rattle.arc_commands.proofs.Windows.{other-seen, window-seen}
 use Rattle.arc_slots.specs.Slots.{state_of}
 use Rattle.arc_table.proofs.Done.{Done}
 use Rattle.std.proofs.Common.{◌≡◌, None, length, sym, ap, ◌∙◌, subst}
@@ -98,3 +99,8 @@ pub on_window-requires-clause-on : goal.on_window-requires-clause-on
 on_window-requires-clause-on g c =
     window-seen g.S.Commands.items_in g.S.Commands.static_in g.B.Buffer.list c.args.command
     ∙ sym c.window.ensures ∙ c.in-Some.is
+
+pub on_window-requires-clause-one : goal.on_window-requires-clause-one
+on_window-requires-clause-one g c =
+    other-seen g.S.Commands.items_in g.S.Commands.static_in g.B.Buffer.list c.args.command
+    ∙ sym c.other.ensures ∙ c.in_default-other.is

@@ -2,12 +2,12 @@
 use Rattle.arc_block.specs.LayoutFacts.{layout_facts}
 use Rattle.std.specs.Mem.{type_size}
 use Rattle.arc_commands.specs.State.{State}
-use Rattle.arc_commands.specs.Step.{Setting, setting_of}
-use Rattle.arc_slots.specs.Index.{IsIndexed, windows_of}
+use Rattle.arc_commands.specs.Changes.{Setting, setting_of}
+use Rattle.arc_slots.specs.Index.{windows_of}
 use Rattle.arc_slots.specs.Slots.{state_of}
 use Rattle.arc_table.proofs.Done.{Done}
-use Rattle.std.proofs.Common.{◌≡◌, ◌<◌, Some, None, length, slice_get, slice_set, sym, ap, ◌∙◌, subst}
-use Rattle.std.proofs.Common.{arith, refl}
+use Rattle.std.proofs.Common.{length, slice_get, slice_set, sym, ap, ◌∙◌, subst}
+use Rattle.std.proofs.Common.{arith}
 use Rattle.std.specs.Prelude.{IfSome}
 use Rattle.std.specs.Option.{option_flatten}
 use Rattle.std.proofs.lemmas.List.{length-set}
@@ -83,7 +83,7 @@ did g c =
     (windows_of end.index.items end.numbers.items end.places.items) after) c.self.view_is
     (subst (λ ss. Done (setting g) (state_of slots passes) command reply ss after) (sym ends)
     (carried (setting g) slots passes c.self.invariant.0 i old stood command c.requires.on
-    reply new made after
+    c.requires.one reply new made after
     (subst (λ n. IfSome old (λ s. Answers (setting g) n command s passes reply new made after))
     next c.answer-reply.ensures.there)
     (λ none. let so = c.answer-reply.ensures.none none in
@@ -179,7 +179,7 @@ none g c =
     (sym same)
     (unanswered (setting g) slots passes c.self.invariant.0 c.args.i
     (ap (λ ws. option_flatten (slice_get ws c.args.i)) (sym same)
-    ∙ c.place_of.ensures.none c.in_default.is) command c.requires.on))
+    ∙ c.place_of.ensures.none c.in_default.is) command c.requires.on c.requires.one))
 
 pub returns-in_default-clause-rows : goal.returns-in_default-clause-rows
 returns-in_default-clause-rows g c =

@@ -6,7 +6,8 @@ use Rattle.std.specs.Option.{option_map}
 use Rattle.arc_commands.specs.Seen.{seen_reply}
 use Rattle.arc_commands.specs.State.{State}
 use Rattle.arc_commands.specs.Additions.{Adds}
-use Rattle.arc_commands.specs.Step.{Setting, Step, setting_of}
+use Rattle.arc_commands.specs.Changes.{Setting, setting_of}
+use Rattle.arc_commands.specs.Step.{Step}
 use Rattle.arc_commands.specs.declared.command.Cmd.TheVariants as command
 use Rattle.arc_commands.specs.declared.command.Reply.TheVariants as reply
 use Rattle.arc_slots.specs.Slots.{row_of, stand_of, state_of}
@@ -58,7 +59,8 @@ did g c =
     (windows_of end.index.items end.numbers.items end.places.items) after) c.self.view_is
     (subst (λ ss. Done (setting g) (state_of slots passes) (command.Drop i) told ss after)
     (sym ends)
-    (carried (setting g) slots passes c.self.invariant.0 i old stood (command.Drop i) refl told new
+    (carried (setting g) slots passes c.self.invariant.0 i old stood
+    (command.Drop i) refl refl told new
     None after (ended (setting g) slots passes c.self.invariant.0 i old told new after
     c.drop_at-reply.ensures.dropped
     (seen-so (seen_reply g.S.Commands.items_in g.S.Commands.items_in_box g.B.Buffer.list)
@@ -165,7 +167,7 @@ none g c =
     let s = c.self.inside.slots in
     unanswered (setting g) (windows_of s.index.items s.numbers.items s.places.items)
     c.self.inside.passes.of_blocks.items c.self.invariant.0 c.args.i
-    (c.place_of.ensures.none c.in_default.is) (command.Drop c.args.i) refl
+    (c.place_of.ensures.none c.in_default.is) (command.Drop c.args.i) refl refl
 
 pub returns-in_default-clause-rows : goal.returns-in_default-clause-rows
 returns-in_default-clause-rows g c =

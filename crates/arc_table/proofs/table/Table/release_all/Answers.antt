@@ -10,7 +10,7 @@ use Rattle.arc_slots.specs.Slots.{row_of}
 use Rattle.arc_slots.proofs.Index.{many-windows}
 use Rattle.arc_slots.specs.Index.{windows_of}
 use Rattle.arc_commands.specs.State.{State, CarriesOut, drops}
-use Rattle.arc_commands.specs.Step.{Setting, setting_of}
+use Rattle.arc_commands.specs.Changes.{Setting, setting_of}
 use Rattle.arc_commands.proofs.Lists.{gone-below, all-gone}
 use Rattle.arc_table.proofs.States.{dropped_more}
 use Rattle.arc_table.proofs.table.Table.release_all.Goals as goal

@@ -4,7 +4,7 @@ use Rattle.std.proofs.Common.{◌≡◌, ℕ, ◌<◌, List, None, length}
 use Rattle.arc_block.specs.Table.{row_at}
 use Rattle.arc_commands.specs.RunOf.{RunOf}
 use Rattle.arc_commands.specs.State.{CarriesOut, drops}
-use Rattle.arc_commands.specs.Step.{setting_of}
+use Rattle.arc_commands.specs.Changes.{setting_of}
 use Rattle.arc_commands.specs.Commands.{ListReply}
 use Rattle.arc_table.proofs.table.Table.release_all.Given as goal
 

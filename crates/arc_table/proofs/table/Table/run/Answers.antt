@@ -8,7 +8,7 @@ use Rattle.std.specs.Vec.Iter.{into_iter_items}
 use Rattle.arc_commands.specs.RunOf.{RunOf}
 use Rattle.arc_commands.specs.Seen.{map_command, seen_reply}
 use Rattle.arc_commands.specs.State.{CarriesOut}
-use Rattle.arc_commands.specs.Step.{Setting, setting_of}
+use Rattle.arc_commands.specs.Changes.{Setting, setting_of}
 use Rattle.arc_commands.proofs.Runs.{run_push_seen}
 use Rattle.arc_table.proofs.table.Table.run.Goals as goal
 

@@ -6,7 +6,7 @@ use Rattle.std.specs.Vec.Iter.{into_iter_items, into_iter_len}
 use Rattle.arc_commands.specs.RunOf.{RunOf}
 use Rattle.arc_commands.specs.Seen.{map_command, seen_reply}
 use Rattle.arc_commands.specs.State.{CarriesOut}
-use Rattle.arc_commands.specs.Step.{setting_of}
+use Rattle.arc_commands.specs.Changes.{setting_of}
 use Rattle.arc_table.proofs.table.Table.run.Given as goal
 
 -- the commands up to here were carried out, and there is room for the replies to the others

@@ -1,11 +1,11 @@
 -- A window of either role is shown, and it takes no memory.
 use Rattle.arc_block.specs.LayoutFacts.{layout_facts}
 use Rattle.std.specs.Mem.{type_size}
-use Rattle.std.proofs.Common.{slice_get, refl, sym, ap, ◌∙◌, subst}
-use Rattle.std.specs.Option.{option_flatten}
+use Rattle.std.proofs.Common.{refl, sym, ◌∙◌, subst}
 use Rattle.arc_commands.specs.Additions.{Adds}
 use Rattle.arc_commands.specs.State.{State}
-use Rattle.arc_commands.specs.Step.{Setting, Step, setting_of}
+use Rattle.arc_commands.specs.Changes.{Setting, setting_of}
+use Rattle.arc_commands.specs.Step.{Step}
 use Rattle.arc_commands.specs.declared.command.Cmd.TheVariants as command
 use Rattle.arc_commands.specs.declared.command.Reply.TheVariants as reply
 use Rattle.arc_slots.specs.Slots.{state_of}
@@ -76,7 +76,7 @@ returns-in-None-clause-carried g c =
     c.in-None.ensures in
     let all =
     unanswered (setting g) slots passes c.self.invariant.0 c.args.i none (command.Show c.args.i)
-    refl in
+    refl refl in
     record {
       rows =
           subst (λ (o : State g.row.S-Item.Denot g.row.M.Denot).
