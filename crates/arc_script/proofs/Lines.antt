@@ -9,7 +9,8 @@ use Rattle.std.proofs.lemmas.List.Elements.{All-contains, recursion_from_All}
 use Rattle.arc_block.specs.Table.{empty_table}
 use Rattle.arc_forms.specs.Commands.{ByteCmd, ByteReply}
 use Rattle.arc_commands.specs.RunOf.{RunOf}
-use Rattle.arc_commands.specs.Step.{no_shortage, answer, count_brought}
+use Rattle.arc_commands.specs.Changes.{no_shortage}
+use Rattle.arc_commands.specs.Step.{answer, count_brought}
 use Rattle.arc_forms.specs.Text.{line_feed, answer_text}
 use Rattle.arc_script.specs.declared.layout.ScriptLayout.{ScriptLayout}
 use Rattle.arc_script.specs.Script.{ended, HasNoFeed, AreLines, script_setting, ByteTable, Answers, BeginsReplyText}

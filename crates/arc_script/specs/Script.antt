@@ -7,7 +7,8 @@ use Rattle.arc_block.specs.Block.{Sort}
 use Rattle.arc_block.specs.Layouts.{LayoutFacts, always, clones_want, never, where_full}
 use Rattle.arc_block.specs.Table.{Table, empty_table}
 use Rattle.arc_commands.specs.RunOf.{RunOf}
-use Rattle.arc_commands.specs.Step.{Setting, Step, setting_of}
+use Rattle.arc_commands.specs.Changes.{Setting, setting_of}
+use Rattle.arc_commands.specs.Step.{Step}
 use Rattle.arc_forms.specs.Text.{line_feed, Says, IsBad, answer_text}
 use Rattle.arc_forms.specs.Commands.{ByteCmd, ByteReply}
 use Rattle.arc_script.specs.declared.layout.ScriptLayout.{ScriptLayout}
@@ -40,7 +41,14 @@ abbrev pub byte_setting : LayoutFacts → (writes_any : Bool) → (clone_wants :
     → Setting ℕ
 byte_setting layout writes_any clone_wants =
     setting_of layout writes_any clone_wants false (λ items at. true) 1 (Some 0)
-    (record { copies = true; pushes = true; extends = true; any_list = true; small = true })
+    (record {
+      copies = true;
+      pushes = true;
+      extends = true;
+      any_list = true;
+      small = true;
+      shares = false;
+    })
 
 -- static data, and blocks of a caller's making
 abbrev pub of_any : (by_itself : Bool) → (lone : ℕ → ℕ → Bool) → LayoutFacts
