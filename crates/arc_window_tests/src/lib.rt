@@ -4,6 +4,8 @@
 #![tactic(auto)]
 
 #[cfg(test)]
+mod apart;
+#[cfg(test)]
 mod borrows;
 #[cfg(test)]
 mod callers;
@@ -29,6 +31,8 @@ mod readers;
 mod refused_buffers;
 #[cfg(test)]
 mod seen;
+#[cfg(test)]
+mod several;
 #[cfg(test)]
 mod static_readers;
 #[cfg(test)]

@@ -1,5 +1,8 @@
 mod Extend
 pub mod Legal
 pub mod Held
+pub mod HeldSeveral
+pub mod LegalSeveral
+pub mod OneBlock
 mod More
 mod Zeros

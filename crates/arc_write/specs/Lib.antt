@@ -1,4 +1,5 @@
 pub mod Extend
 pub mod Lends
+pub mod Parts
 pub mod Splits
 pub mod Within

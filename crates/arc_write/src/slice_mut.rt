@@ -11,14 +11,15 @@ use arc_buffer::buffer::BufferMut;
 use arc_buffer::kinds::{Emptyable, Plain, Slice, Text};
 use arc_owners::mark::{Mark, Open};
 pub use into_mut::IntoMut;
+use parts::WriterParts;
 use std::alloc::{Allocator, Global};
 use std::marker::{Model, PhantomData};
 
-/// A list with a capacity: the only owner of its block writes into the block's places, or it
-/// stands on nothing, with no items and no places.
+/// A list with a capacity, in places of its block that no other owner reaches; or it stands on
+/// nothing, with no items and no places.
 ///
-/// `UNIQUE` is 1: the window is its block's only owner. `B` is the type of callers' buffers and
-/// `M` that of their metadata.
+/// Where `UNIQUE` is 1 the window is its block's only owner, and where it is 0 one of several
+/// writers: there are no others. `B` is the type of callers' buffers and `M` that of their metadata.
 ///
 /// Each call that makes a block, makes room in it or leaves it has a form that ends in `_as` and
 /// takes a pass of the block, in which contracts read what was added to the block's history; a
@@ -35,7 +36,7 @@ pub struct ArcSliceMut<
     A: Allocator + Copy = Global,
     H: Mark = Open,
 > {
-    parts: SoleParts<S, B, M, A, H>,
+    parts: WriterParts<S, UNIQUE, B, M, A, H>,
     of: PhantomData<L>,
 }
 
@@ -102,6 +103,49 @@ impl<
 impl<
     S: Slice,
     L: LayoutMut,
+    const UNIQUE: u8,
+    B: BufferMut<S::Item> + Drop,
+    M: Drop,
+    A: Allocator + Copy,
+    H: Mark,
+> ArcSliceMut<S, L, UNIQUE, B, M, A, H> {
+    /// The window stands on nothing, or on a block that the layout holds. Does nothing: its
+    /// contract is the law.
+    pub fn known_held(&self)
+        ensures { IsBlockHeld (layout_facts L.Layout) self.now.place }
+    {
+        let _ = &self.parts;
+    }
+
+    /// The window of these parts, with a list that is legal, on nothing or on a block that the
+    /// layout holds.
+    #[inline(always)]
+    pub(crate) fn of_parts(parts: WriterParts<S, UNIQUE, B, M, A, H>) -> Self
+        requires held { IsBlockHeld (layout_facts L.Layout) parts.place }
+        requires legal { ∥ S.is_legal parts.items ∥₁ }
+        ensures { result ≡ parts }
+    {
+        ArcSliceMut {
+            parts,
+            of: PhantomData,
+        }
+    }
+
+    /// What the window is made of, whosever parts they are.
+    #[inline(always)]
+    pub(crate) fn into_writer_parts(self) -> WriterParts<S, UNIQUE, B, M, A, H>
+        ensures parts { result ≡ self }
+        ensures held { IsBlockHeld (layout_facts L.Layout) result.place }
+        ensures legal { ∥ S.is_legal result.items ∥₁ }
+    {
+        let ArcSliceMut { parts, of: _ } = self;
+        parts
+    }
+}
+
+impl<
+    S: Slice,
+    L: LayoutMut,
     B: BufferMut<S::Item> + Drop,
     M: Drop,
     A: Allocator + Copy,
@@ -124,10 +168,7 @@ impl<
         requires legal { ∥ S.is_legal parts.items ∥₁ }
         ensures { result ≡ parts }
     {
-        ArcSliceMut {
-            parts,
-            of: PhantomData,
-        }
+        Self::of_parts(WriterParts::of_sole(parts))
     }
 
     /// The window stands on nothing, or on a block that counts its owners and may be written. Does
@@ -135,15 +176,7 @@ impl<
     pub fn known_place(&self)
         ensures { IsWriterPlace self.now.place }
     {
-        self.parts.known_place();
-    }
-
-    /// The window stands on nothing, or on a block that the layout holds. Does nothing: its
-    /// contract is the law.
-    pub fn known_held(&self)
-        ensures { IsBlockHeld (layout_facts L.Layout) self.now.place }
-    {
-        let _ = &self.parts;
+        self.parts.sole().known_place();
     }
 
     /// What the window is made of. It adds nothing.
@@ -153,8 +186,7 @@ impl<
         ensures held { IsBlockHeld (layout_facts L.Layout) result.place }
         ensures legal { ∥ S.is_legal result.items ∥₁ }
     {
-        let ArcSliceMut { parts, of: _ } = self;
-        parts
+        self.into_writer_parts().into_sole()
     }
 }
 
@@ -165,8 +197,10 @@ mod into_mut;
 mod iterate;
 mod make;
 mod own;
+mod parts;
 mod plain;
 mod read;
+mod several;
 mod text;
 mod vectors;
 mod write;

@@ -13,8 +13,14 @@ use arc_owners::mark::Mark;
 use bytes::Buf;
 use std::alloc::Allocator;
 
-impl<L: LayoutMut, B: BufferMut<u8> + Drop, M: Drop, A: Allocator + Copy, H: Mark> Buf
-    for ArcSliceMut<Plain<u8>, L, 1, B, M, A, H> {
+impl<
+    L: LayoutMut,
+    const UNIQUE: u8,
+    B: BufferMut<u8> + Drop,
+    M: Drop,
+    A: Allocator + Copy,
+    H: Mark,
+> Buf for ArcSliceMut<Plain<u8>, L, UNIQUE, B, M, A, H> {
     ghost unread = { λ w. w.items };
 
     ghost kept = { λ w. kept_spare (spare_places w) };
@@ -41,8 +47,14 @@ impl<L: LayoutMut, B: BufferMut<u8> + Drop, M: Drop, A: Allocator + Copy, H: Mar
     }
 }
 
-impl<L: LayoutMut, B: BufferMut<u8> + Drop, M: Drop, A: Allocator + Copy, H: Mark> Buf
-    for ArcSliceMut<ByteText, L, 1, B, M, A, H> {
+impl<
+    L: LayoutMut,
+    const UNIQUE: u8,
+    B: BufferMut<u8> + Drop,
+    M: Drop,
+    A: Allocator + Copy,
+    H: Mark,
+> Buf for ArcSliceMut<ByteText, L, UNIQUE, B, M, A, H> {
     ghost unread = { λ w. w.items };
 
     ghost kept = { λ w. kept_spare (spare_places w) };

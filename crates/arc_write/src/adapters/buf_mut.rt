@@ -17,11 +17,12 @@ use std::alloc::{AllocError, Allocator};
 impl<
     S: CopySlice<Item = u8>,
     L: LayoutMut,
+    const UNIQUE: u8,
     B: BufferMut<u8> + Drop,
     M: Drop,
     A: Allocator + Copy,
     H: Mark,
-> BufMut for ArcSliceMut<S, L, 1, B, M, A, H> {
+> BufMut for ArcSliceMut<S, L, UNIQUE, B, M, A, H> {
     ghost written = { λ w. w.items };
 
     ghost spare = { spare_places };
@@ -116,11 +117,12 @@ impl<
 impl<
     S: CopySlice<Item = u8>,
     L: LayoutMut,
+    const UNIQUE: u8,
     B: BufferMut<u8> + Drop,
     M: Drop,
     A: Allocator + Copy,
     H: Mark,
-> ArcSliceMut<S, L, 1, B, M, A, H> {
+> ArcSliceMut<S, L, UNIQUE, B, M, A, H> {
     /// So many bytes of one value more, where the window has places for them.
     #[tactic(auto, using(crate::proofs::More::more_none, crate::proofs::More::one_more_alike))]
     fn fill(&mut self, byte: u8, count: usize)

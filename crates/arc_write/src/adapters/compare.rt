@@ -17,11 +17,12 @@ use std::cmp::Ordering;
 impl<
     S: Slice,
     L: LayoutMut,
+    const UNIQUE: u8,
     B: BufferMut<S::Item> + Drop,
     M: Drop,
     A: Allocator + Copy,
     H: Mark,
-> PartialEq for ArcSliceMut<S, L, 1, B, M, A, H>
+> PartialEq for ArcSliceMut<S, L, UNIQUE, B, M, A, H>
 where
     S::Item: PartialEq,
 {
@@ -34,8 +35,15 @@ where
     }
 }
 
-impl<S: Slice, L: LayoutMut, B: BufferMut<S::Item> + Drop, M: Drop, A: Allocator + Copy, H: Mark> Eq
-    for ArcSliceMut<S, L, 1, B, M, A, H>
+impl<
+    S: Slice,
+    L: LayoutMut,
+    const UNIQUE: u8,
+    B: BufferMut<S::Item> + Drop,
+    M: Drop,
+    A: Allocator + Copy,
+    H: Mark,
+> Eq for ArcSliceMut<S, L, UNIQUE, B, M, A, H>
 where
     S::Item: Eq,
 {
@@ -45,11 +53,12 @@ where
 impl<
     S: Slice,
     L: LayoutMut,
+    const UNIQUE: u8,
     B: BufferMut<S::Item> + Drop,
     M: Drop,
     A: Allocator + Copy,
     H: Mark,
-> PartialOrd for ArcSliceMut<S, L, 1, B, M, A, H>
+> PartialOrd for ArcSliceMut<S, L, UNIQUE, B, M, A, H>
 where
     S::Item: PartialOrd,
 {
@@ -65,11 +74,12 @@ where
 impl<
     S: Slice,
     L: LayoutMut,
+    const UNIQUE: u8,
     B: BufferMut<S::Item> + Drop,
     M: Drop,
     A: Allocator + Copy,
     H: Mark,
-> Ord for ArcSliceMut<S, L, 1, B, M, A, H>
+> Ord for ArcSliceMut<S, L, UNIQUE, B, M, A, H>
 where
     S::Item: Ord,
 {
@@ -89,11 +99,12 @@ where
 impl<
     S: Slice,
     L: LayoutMut,
+    const UNIQUE: u8,
     B: BufferMut<S::Item> + Drop,
     M: Drop,
     A: Allocator + Copy,
     H: Mark,
-> ArcSliceMut<S, L, 1, B, M, A, H> {
+> ArcSliceMut<S, L, UNIQUE, B, M, A, H> {
     /// Whether the window's items are those of the slice.
     pub fn eq_slice(&self, other: &[S::Item]) -> bool
     where
@@ -104,15 +115,14 @@ impl<
     }
 }
 
-impl<L: LayoutMut, B: BufferMut<u8> + Drop, M: Drop, A: Allocator + Copy, H: Mark> ArcSliceMut<
-    Text,
-    L,
-    1,
-    B,
-    M,
-    A,
-    H,
-> {
+impl<
+    L: LayoutMut,
+    const UNIQUE: u8,
+    B: BufferMut<u8> + Drop,
+    M: Drop,
+    A: Allocator + Copy,
+    H: Mark,
+> ArcSliceMut<Text, L, UNIQUE, B, M, A, H> {
     /// Whether the window's text is this one.
     pub fn eq_str(&self, other: &str) -> bool
         ensures { result ≡ pointwise nat_eq self.now.items other.now }

@@ -1,7 +1,9 @@
 //! `fmt::Write` of write windows over text, byte text and bytes: each text whole, or nothing.
-ghost use Rattle.std.specs.Prelude.{◌≡◌, ◌++◌, false, length, IsOk, OnOk, OnErr, Err};
+ghost use Rattle.std.specs.Prelude.{◌≡◌, ◌++◌, false, length, is_ok, IsOk, OnOk, OnErr, Err};
+ghost use Rattle.std.specs.Prelude.{Result};
 ghost use Rattle.arc_owners.specs.declared.error.TryReserveError.{TryReserveError};
-ghost use Rattle.arc_block.specs.Writers.{MakesRoom, Pushes, room_for};
+ghost use Rattle.arc_block.specs.Growth.{AsksForRoom, IfAsked};
+ghost use Rattle.arc_block.specs.Writers.{MakesRoom, Pushes, room_for, size_at};
 ghost use Rattle.arc_read.specs.Steps.{WithNewPass};
 
 use crate::slice_mut::ArcSliceMut;
@@ -37,6 +39,10 @@ impl<L: LayoutMut, B: BufferMut<u8> + Drop, M: Drop, A: Allocator + Copy, H: Ste
         ensures refused { OnErr result ((e : TryReserveError)
             × WithNewPass {H = H} H.real self.old.place (λ first last. MakesRoom false H.whole
             (room_for false 1 self.old (length text.now)) self.old self.new first last (Err e))) }
+        ensures own { IfAsked (room_for false 1 self.old (length text.now)) (λ additional.
+            (reply : Result (Unit {0}) TryReserveError) × (is_ok reply ≡ is_ok result)
+            × AsksForRoom B.list B.places B.grows B.refuses self.old additional
+            (size_at self.new.place) reply) }
         ensures same { OnErr result (self.new ≡ self.old) }
     {
         match self.try_extend_from_str(text) {
@@ -71,6 +77,10 @@ impl<L: LayoutMut, B: BufferMut<u8> + Drop, M: Drop, A: Allocator + Copy, H: Ste
         ensures refused { OnErr result ((e : TryReserveError)
             × WithNewPass {H = H} H.real self.old.place (λ first last. MakesRoom false H.whole
             (room_for false 1 self.old (length text.now)) self.old self.new first last (Err e))) }
+        ensures own { IfAsked (room_for false 1 self.old (length text.now)) (λ additional.
+            (reply : Result (Unit {0}) TryReserveError) × (is_ok reply ≡ is_ok result)
+            × AsksForRoom B.list B.places B.grows B.refuses self.old additional
+            (size_at self.new.place) reply) }
         ensures same { OnErr result (self.new ≡ self.old) }
     {
         match self.try_extend_from_slice(text.as_bytes()) {
@@ -105,6 +115,10 @@ impl<L: LayoutMut, B: BufferMut<u8> + Drop, M: Drop, A: Allocator + Copy, H: Ste
         ensures refused { OnErr result ((e : TryReserveError)
             × WithNewPass {H = H} H.real self.old.place (λ first last. MakesRoom false H.whole
             (room_for false 1 self.old (length text.now)) self.old self.new first last (Err e))) }
+        ensures own { IfAsked (room_for false 1 self.old (length text.now)) (λ additional.
+            (reply : Result (Unit {0}) TryReserveError) × (is_ok reply ≡ is_ok result)
+            × AsksForRoom B.list B.places B.grows B.refuses self.old additional
+            (size_at self.new.place) reply) }
         ensures same { OnErr result (self.new ≡ self.old) }
     {
         match self.try_extend_from_slice(text.as_bytes()) {

@@ -15,11 +15,12 @@ use std::fmt;
 impl<
     S: Slice<Item = u8>,
     L: LayoutMut,
+    const UNIQUE: u8,
     B: BufferMut<u8> + Drop,
     M: Drop,
     A: Allocator + Copy,
     H: Mark,
-> fmt::LowerHex for ArcSliceMut<S, L, 1, B, M, A, H> {
+> fmt::LowerHex for ArcSliceMut<S, L, UNIQUE, B, M, A, H> {
     fn fmt<W: fmt::Write>(&self, f: &mut fmt::Formatter<W>) -> fmt::Result
         ensures { WritesOnOk W.write_str_gives f.old result (hex_bytes false self.now.items) f.new }
     {
@@ -30,11 +31,12 @@ impl<
 impl<
     S: Slice<Item = u8>,
     L: LayoutMut,
+    const UNIQUE: u8,
     B: BufferMut<u8> + Drop,
     M: Drop,
     A: Allocator + Copy,
     H: Mark,
-> fmt::UpperHex for ArcSliceMut<S, L, 1, B, M, A, H> {
+> fmt::UpperHex for ArcSliceMut<S, L, UNIQUE, B, M, A, H> {
     fn fmt<W: fmt::Write>(&self, f: &mut fmt::Formatter<W>) -> fmt::Result
         ensures { WritesOnOk W.write_str_gives f.old result (hex_bytes true self.now.items) f.new }
     {

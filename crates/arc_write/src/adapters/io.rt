@@ -16,8 +16,14 @@ use std::alloc::Allocator;
 use std::io;
 use std::io::ErrorKind;
 
-impl<L: LayoutMut, B: BufferMut<u8> + Drop, M: Drop, A: Allocator + Copy, H: Mark> io::Read
-    for ArcSliceMut<Plain<u8>, L, 1, B, M, A, H> {
+impl<
+    L: LayoutMut,
+    const UNIQUE: u8,
+    B: BufferMut<u8> + Drop,
+    M: Drop,
+    A: Allocator + Copy,
+    H: Mark,
+> io::Read for ArcSliceMut<Plain<u8>, L, UNIQUE, B, M, A, H> {
     ghost remaining = { λ w. Some w.items };
 
     /// Moves the window's first bytes to the front of the buffer, as many as there are or as it
@@ -63,8 +69,14 @@ impl<L: LayoutMut, B: BufferMut<u8> + Drop, M: Drop, A: Allocator + Copy, H: Mar
     }
 }
 
-impl<L: LayoutMut, B: BufferMut<u8> + Drop, M: Drop, A: Allocator + Copy, H: Mark> io::Write
-    for ArcSliceMut<Plain<u8>, L, 1, B, M, A, H> {
+impl<
+    L: LayoutMut,
+    const UNIQUE: u8,
+    B: BufferMut<u8> + Drop,
+    M: Drop,
+    A: Allocator + Copy,
+    H: Mark,
+> io::Write for ArcSliceMut<Plain<u8>, L, UNIQUE, B, M, A, H> {
     ghost contents = { λ w. Some w.items };
 
     /// Appends as many of the bytes as the window has places for, and answers how many. It makes

@@ -18,11 +18,12 @@ use std::slice::Iter;
 impl<
     S: Slice,
     L: LayoutMut,
+    const UNIQUE: u8,
     B: BufferMut<S::Item> + Drop,
     M: Drop,
     A: Allocator + Copy,
     H: Mark,
-> AsSlice<S::Item> for ArcSliceMut<S, L, 1, B, M, A, H> {
+> AsSlice<S::Item> for ArcSliceMut<S, L, UNIQUE, B, M, A, H> {
     ghost items = { λ w. w.items };
 
     fn as_slice(&self) -> &[S::Item] {
@@ -30,8 +31,14 @@ impl<
     }
 }
 
-impl<L: LayoutMut, B: BufferMut<u8> + Drop, M: Drop, A: Allocator + Copy, H: Mark> AsStr
-    for ArcSliceMut<Text, L, 1, B, M, A, H> {
+impl<
+    L: LayoutMut,
+    const UNIQUE: u8,
+    B: BufferMut<u8> + Drop,
+    M: Drop,
+    A: Allocator + Copy,
+    H: Mark,
+> AsStr for ArcSliceMut<Text, L, UNIQUE, B, M, A, H> {
     ghost text = { λ w. w.items };
 
     fn as_str(&self) -> &str {
@@ -42,11 +49,12 @@ impl<L: LayoutMut, B: BufferMut<u8> + Drop, M: Drop, A: Allocator + Copy, H: Mar
 impl<
     S: Slice,
     L: LayoutMut,
+    const UNIQUE: u8,
     B: BufferMut<S::Item> + Drop,
     M: Drop,
     A: Allocator + Copy,
     H: Mark,
-> DerefSlice for ArcSliceMut<S, L, 1, B, M, A, H> {
+> DerefSlice for ArcSliceMut<S, L, UNIQUE, B, M, A, H> {
     type Elem = S::Item;
 
     ghost deref_gives = { λ w xs. xs ≡ w.items };
@@ -59,15 +67,16 @@ impl<
 impl<
     S: AnyItems,
     L: LayoutMut,
+    const UNIQUE: u8,
     B: BufferMut<S::Item> + Drop,
     M: Drop,
     A: Allocator + Copy,
     H: Mark,
-> DerefSliceMut for ArcSliceMut<S, L, 1, B, M, A, H> {
+> DerefSliceMut for ArcSliceMut<S, L, UNIQUE, B, M, A, H> {
     ghost use Rattle.arc_write.specs.Lends.{lends_items};
 
     fn deref_mut(&mut self) -> &mut [S::Item]
-        ensures* writes_back { sem 𝓛 (lends_items S.row L.row B.row M.row A.row H.row S.Item.row
+        ensures* writes_back { sem 𝓛 (lends_items S.row L.row UNIQUE B.row M.row A.row H.row S.Item.row
             S.TryFromSliceError.row S.Slice L.Layout
             (record {
               with_list = B.with_list;
@@ -87,11 +96,12 @@ impl<
     T: Drop + 'a,
     S: Slice<Item = T>,
     L: LayoutMut,
+    const UNIQUE: u8,
     B: BufferMut<T> + Drop,
     M: Drop,
     A: Allocator + Copy,
     H: Mark,
-> IntoIterator for &'a ArcSliceMut<S, L, 1, B, M, A, H> {
+> IntoIterator for &'a ArcSliceMut<S, L, UNIQUE, B, M, A, H> {
     type Item = &'a T;
 
     type IntoIter = Iter<'a, T>;

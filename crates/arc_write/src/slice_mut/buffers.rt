@@ -109,18 +109,12 @@ impl<
 impl<
     S: Slice,
     L: LayoutMut,
+    const UNIQUE: u8,
     B: BufferMut<S::Item> + Drop,
     M: Drop,
     A: Allocator + Copy,
     H: Mark,
-> ArcSliceMut<S, L, 1, B, M, A, H> {
-    /// Whether the window stands on a caller's buffer.
-    pub fn is_on_buffer(&self) -> bool
-        ensures { IsTrue result ↔ IsOfBuffer self.now.place }
-    {
-        self.parts.is_on_buffer()
-    }
-
+> ArcSliceMut<S, L, UNIQUE, B, M, A, H> {
     /// The metadata of the block, where it was made with some.
     pub fn metadata(&self) -> Option<&M>
         ensures some { IfSome result (λ m. metadata_at self.now.place ≡ Some m.now) }
@@ -138,6 +132,22 @@ impl<
         ensures none { IfNone result (¬ IsOnCallers self.now.place) }
     {
         self.parts.borrowed_metadata()
+    }
+}
+
+impl<
+    S: Slice,
+    L: LayoutMut,
+    B: BufferMut<S::Item> + Drop,
+    M: Drop,
+    A: Allocator + Copy,
+    H: Mark,
+> ArcSliceMut<S, L, 1, B, M, A, H> {
+    /// Whether the window stands on a caller's buffer.
+    pub fn is_on_buffer(&self) -> bool
+        ensures { IsTrue result ↔ IsOfBuffer self.now.place }
+    {
+        self.parts.sole().is_on_buffer()
     }
 
     /// The caller's buffer on which the window stands, where the items are all of it. Its metadata

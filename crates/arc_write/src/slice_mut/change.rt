@@ -23,11 +23,12 @@ use std::str::Utf8Error;
 impl<
     S: Slice,
     L: LayoutMut,
+    const UNIQUE: u8,
     B: BufferMut<S::Item> + Drop,
     M: Drop,
     A: Allocator + Copy,
     H: Mark,
-> ArcSliceMut<S, L, 1, B, M, A, H> {
+> ArcSliceMut<S, L, UNIQUE, B, M, A, H> {
     /// The same items at the same place, which others may read from now on. A window on nothing
     /// becomes what no items are made of under the layout: a window on nothing, or on a native
     /// block of no places, of which the pass becomes one.
@@ -57,9 +58,9 @@ impl<
         ensures refused { IfErr result (λ back. (back ≡ self)
             × IsRefused (layout_move (layout_facts K.Layout) self.place) × (pass.new ≡ pass.old)) }
     {
-        match self.into_parts().try_freeze_as::<K>(pass) {
+        match self.into_writer_parts().try_freeze_as::<K>(pass) {
             Ok(parts) => Ok(ArcSlice::from_parts(parts)),
-            Err(parts) => Err(Self::from_parts(parts)),
+            Err(parts) => Err(Self::of_parts(parts)),
         }
     }
 
@@ -69,15 +70,17 @@ impl<
     /// # Errors
     ///
     /// The window, exactly where it stands on a block that the layout doesn't hold.
-    pub fn try_with_layout<K: LayoutMut>(self) -> Result<ArcSliceMut<S, K, 1, B, M, A, H>, Self>
+    pub fn try_with_layout<K: LayoutMut>(
+        self,
+    ) -> Result<ArcSliceMut<S, K, UNIQUE, B, M, A, H>, Self>
         ensures moved { IfOk result (λ window. (window ≡ self)
             × IsBlockHeld (layout_facts K.Layout) self.place) }
         ensures refused { IfErr result (λ back. (back ≡ self)
             × (¬ IsBlockHeld (layout_facts K.Layout) self.place)) }
     {
-        match self.into_parts().try_with_layout::<K>() {
-            Ok(parts) => Ok(ArcSliceMut::from_parts(parts)),
-            Err(parts) => Err(Self::from_parts(parts)),
+        match self.into_writer_parts().try_with_layout::<K>() {
+            Ok(parts) => Ok(ArcSliceMut::of_parts(parts)),
+            Err(parts) => Err(Self::of_parts(parts)),
         }
     }
 
@@ -89,7 +92,7 @@ impl<
     pub fn try_with_layout_as<K: LayoutMut>(
         self,
         pass: &mut Pass<H>,
-    ) -> Result<ArcSliceMut<S, K, 1, B, M, A, H>, Self>
+    ) -> Result<ArcSliceMut<S, K, UNIQUE, B, M, A, H>, Self>
         requires pass { IsPassAt self.place pass.old }
         ensures moved { IfOk result (λ window. (window ≡ self)
             × IsBlockHeld (layout_facts K.Layout) self.place) }
@@ -102,26 +105,25 @@ impl<
     }
 
     /// The same window, of items of another kind, for which its list is legal.
-    fn into_kind<K: Slice<Item = S::Item>>(self) -> ArcSliceMut<K, L, 1, B, M, A, H>
+    fn into_kind<K: Slice<Item = S::Item>>(self) -> ArcSliceMut<K, L, UNIQUE, B, M, A, H>
         requires drops { K.DROPS ≡ S.DROPS }
         requires legal { ∥ K.is_legal self.items ∥₁ }
         ensures { result ≡ self }
     {
-        ArcSliceMut::from_parts(self.into_parts().into_kind())
+        ArcSliceMut::of_parts(self.into_writer_parts().into_kind())
     }
 }
 
-impl<L: LayoutMut, B: BufferMut<u8> + Drop, M: Drop, A: Allocator + Copy, H: Mark> ArcSliceMut<
-    Text,
-    L,
-    1,
-    B,
-    M,
-    A,
-    H,
-> {
+impl<
+    L: LayoutMut,
+    const UNIQUE: u8,
+    B: BufferMut<u8> + Drop,
+    M: Drop,
+    A: Allocator + Copy,
+    H: Mark,
+> ArcSliceMut<Text, L, UNIQUE, B, M, A, H> {
     /// The same window, over bytes. It adds nothing.
-    pub fn into_arc_slice_mut(self) -> ArcSliceMut<Plain<u8>, L, 1, B, M, A, H>
+    pub fn into_arc_slice_mut(self) -> ArcSliceMut<Plain<u8>, L, UNIQUE, B, M, A, H>
         ensures { result ≡ self }
     {
         self.into_kind()
@@ -133,8 +135,8 @@ impl<L: LayoutMut, B: BufferMut<u8> + Drop, M: Drop, A: Allocator + Copy, H: Mar
     ///
     /// The bytes, with what is wrong with them, exactly where they aren't valid UTF-8.
     pub fn try_from_arc_slice_mut(
-        bytes: ArcSliceMut<Plain<u8>, L, 1, B, M, A, H>,
-    ) -> Result<Self, (Utf8Error, ArcSliceMut<Plain<u8>, L, 1, B, M, A, H>)>
+        bytes: ArcSliceMut<Plain<u8>, L, UNIQUE, B, M, A, H>,
+    ) -> Result<Self, (Utf8Error, ArcSliceMut<Plain<u8>, L, UNIQUE, B, M, A, H>)>
         ensures ok { IfOk result (λ text. (text ≡ bytes) × IsUtf8 bytes.items) }
         ensures back { IfErr result (λ r. (r.1 ≡ bytes) × ¬ (IsUtf8 bytes.items)) }
         ensures error { IfErr result (λ r. (valid_up_to r.0 ≡ utf8_valid_len bytes.items)
@@ -147,17 +149,16 @@ impl<L: LayoutMut, B: BufferMut<u8> + Drop, M: Drop, A: Allocator + Copy, H: Mar
     }
 }
 
-impl<L: LayoutMut, B: BufferMut<u8> + Drop, M: Drop, A: Allocator + Copy, H: Mark> ArcSliceMut<
-    ByteText,
-    L,
-    1,
-    B,
-    M,
-    A,
-    H,
-> {
+impl<
+    L: LayoutMut,
+    const UNIQUE: u8,
+    B: BufferMut<u8> + Drop,
+    M: Drop,
+    A: Allocator + Copy,
+    H: Mark,
+> ArcSliceMut<ByteText, L, UNIQUE, B, M, A, H> {
     /// The same window, over bytes. It adds nothing.
-    pub fn into_arc_slice_mut(self) -> ArcSliceMut<Plain<u8>, L, 1, B, M, A, H>
+    pub fn into_arc_slice_mut(self) -> ArcSliceMut<Plain<u8>, L, UNIQUE, B, M, A, H>
         ensures { result ≡ self }
     {
         self.into_kind()
@@ -165,8 +166,8 @@ impl<L: LayoutMut, B: BufferMut<u8> + Drop, M: Drop, A: Allocator + Copy, H: Mar
 
     /// The same window, over byte text. It adds nothing. Never refused.
     pub fn try_from_arc_slice_mut(
-        bytes: ArcSliceMut<Plain<u8>, L, 1, B, M, A, H>,
-    ) -> Result<Self, (Infallible, ArcSliceMut<Plain<u8>, L, 1, B, M, A, H>)>
+        bytes: ArcSliceMut<Plain<u8>, L, UNIQUE, B, M, A, H>,
+    ) -> Result<Self, (Infallible, ArcSliceMut<Plain<u8>, L, UNIQUE, B, M, A, H>)>
         ensures { IfOk result (λ text. text ≡ bytes) }
     {
         Ok(bytes.into_kind())

@@ -13,11 +13,12 @@ use std::alloc::Allocator;
 impl<
     S: Subsliceable,
     L: LayoutMut,
+    const UNIQUE: u8,
     B: BufferMut<S::Item> + Drop,
     M: Drop,
     A: Allocator + Copy,
     H: Mark,
-> ArcSliceMut<S, L, 1, B, M, A, H> {
+> ArcSliceMut<S, L, UNIQUE, B, M, A, H> {
     /// Takes the first `n` items and their places off the window, which stays on its block, also
     /// with no items. It adds nothing.
     pub fn advance(&mut self, n: usize)

@@ -46,14 +46,15 @@ impl<
             → I.IntoIter.can_next it × IsFinite (I.IntoIter.remaining it) }
         ensures extended { OnOk result ((it : I.IntoIter) × (xs : List S.Item)
             × I.into_iter_gives iter it × Drains I.IntoIter.next_gives it xs
-            × PushesEach H H.real S.DROPS H.whole (type_size S.Item.row) xs
-            self.old self.new) }
+            × PushesEach H H.real S.DROPS H.whole (type_size S.Item.row)
+            B.list B.places B.grows B.refuses xs self.old self.new) }
         ensures refused { IfErr result (λ r. (it : I.IntoIter) × (xs : List S.Item)
             × (rest : I.IntoIter) × (last : PartsView S.Item M) × I.into_iter_gives iter it
             × YieldsThen I.IntoIter.next_gives it xs (Some r.1) rest
-            × PushesEach H H.real S.DROPS H.whole (type_size S.Item.row) xs self.old last
-            × RefusesOne H H.real S.DROPS H.whole (type_size S.Item.row) r.0
-            last self.new) }
+            × PushesEach H H.real S.DROPS H.whole (type_size S.Item.row) B.list B.places
+            B.grows B.refuses xs self.old last
+            × RefusesOne H H.real S.DROPS H.whole (type_size S.Item.row) B.list B.places
+            B.grows B.refuses r.0 last self.new) }
         ensures items { ExtendsWithItems I.into_iter_gives I.IntoIter.next_gives
             (λ (old : PartsView S.Item M) xs (new : PartsView S.Item M).
             new.items ≡ old.items ++ xs) iter self.old self.new result }
@@ -90,7 +91,8 @@ impl<
             → I.IntoIter.can_next it × IsFinite (I.IntoIter.remaining it) }
         ensures made { IfOk result (λ window. (it : I.IntoIter) × (xs : List S.Item)
             × I.into_iter_gives iter it × Drains I.IntoIter.next_gives it xs
-            × PushesEach H H.real S.DROPS H.whole (type_size S.Item.row) xs idle_writer window) }
+            × PushesEach H H.real S.DROPS H.whole (type_size S.Item.row) B.list B.places
+            B.grows B.refuses xs idle_writer window) }
         ensures items { IfOk result (λ window. (it : I.IntoIter) × (xs : List S.Item)
             × I.into_iter_gives iter it × Drains I.IntoIter.next_gives it xs
             × (window.items ≡ xs)) }
@@ -99,8 +101,10 @@ impl<
         ensures refused { IfErr result (λ r. (it : I.IntoIter) × (xs : List S.Item)
             × (rest : I.IntoIter) × (last : PartsView S.Item M) × I.into_iter_gives iter it
             × YieldsThen I.IntoIter.next_gives it xs (Some r.2) rest
-            × PushesEach H H.real S.DROPS H.whole (type_size S.Item.row) xs idle_writer last
-            × RefusesOne H H.real S.DROPS H.whole (type_size S.Item.row) r.1 last r.0) }
+            × PushesEach H H.real S.DROPS H.whole (type_size S.Item.row) B.list B.places
+            B.grows B.refuses xs idle_writer last
+            × RefusesOne H H.real S.DROPS H.whole (type_size S.Item.row) B.list B.places
+            B.grows B.refuses r.1 last r.0) }
         ensures taken { IfErr result (λ r. (it : I.IntoIter) × (xs : List S.Item)
             × (rest : I.IntoIter) × I.into_iter_gives iter it
             × Yields I.IntoIter.next_gives it xs rest × (r.0.items ≡ xs)) }

@@ -79,17 +79,7 @@ impl<
         ensures { at_owner self.now.place (pass.new ≡ pass.old) (λ o.
             SeesAlone o pass.old pass.new) }
     {
-        self.parts.only(pass);
-    }
-
-    /// Afterwards the first pass has seen at least what the other had. It adds nothing.
-    pub fn learn(&self, pass: &mut Pass<H>, other: &Pass<H>)
-        requires pass { IsPassAt self.now.place pass.old }
-        requires other { IsPassAt self.now.place other.now }
-        ensures { at_owner self.now.place (pass.new ≡ pass.old) (λ o.
-            Learns o.block pass.old other.now pass.new) }
-    {
-        self.parts.learn(pass, other);
+        self.parts.sole().only(pass);
     }
 }
 
@@ -102,6 +92,16 @@ impl<
     A: Allocator + Copy,
     H: Mark,
 > ArcSliceMut<S, L, UNIQUE, B, M, A, H> {
+    /// Afterwards the first pass has seen at least what the other had. It adds nothing.
+    pub fn learn(&self, pass: &mut Pass<H>, other: &Pass<H>)
+        requires pass { IsPassAt self.now.place pass.old }
+        requires other { IsPassAt self.now.place other.now }
+        ensures { at_owner self.now.place (pass.new ≡ pass.old) (λ o.
+            Learns o.block pass.old other.now pass.new) }
+    {
+        self.parts.learn(pass, other);
+    }
+
     /// What a drop does: under `Open` the window ends with a new pass, and the block is given back
     /// with its items; under `Whole` it is a forgotten owner, without a step, and its items stay.
     /// The pass is the one that it ended with; on no block, and under `Whole`, it is of none.
@@ -121,11 +121,12 @@ impl<
 impl<
     S: Slice,
     L: LayoutMut,
+    const UNIQUE: u8,
     B: BufferMut<S::Item> + Drop,
     M: Drop,
     A: Allocator + Copy,
     H: Stepping,
-> ArcSliceMut<S, L, 1, B, M, A, H> {
+> ArcSliceMut<S, L, UNIQUE, B, M, A, H> {
     /// A new pass of the window's block, which has seen at least how the window became an owner,
     /// and made nothing; on no block a pass of none. It adds nothing.
     pub fn pass(&self) -> Pass<H>

@@ -17,6 +17,23 @@ use arc_owners::owners::Pass;
 use std::alloc::Allocator;
 use std::str;
 
+impl<
+    L: LayoutMut,
+    const UNIQUE: u8,
+    B: BufferMut<u8> + Drop,
+    M: Drop,
+    A: Allocator + Copy,
+    H: Mark,
+> ArcSliceMut<Text, L, UNIQUE, B, M, A, H> {
+    /// The text.
+    pub fn as_str(&self) -> &str
+        ensures { result.now ≡ self.now.items }
+    {
+        let _ = &self.parts;
+        unsafe { str::from_utf8_unchecked(self.as_slice()) }
+    }
+}
+
 impl<L: LayoutMut, B: BufferMut<u8> + Drop, M: Drop, A: Allocator + Copy, H: Mark> ArcSliceMut<
     Text,
     L,
@@ -48,14 +65,6 @@ impl<L: LayoutMut, B: BufferMut<u8> + Drop, M: Drop, A: Allocator + Copy, H: Mar
             Ok(parts) => Ok(Self::from_parts(parts)),
             Err(e) => Err(e),
         }
-    }
-
-    /// The text.
-    pub fn as_str(&self) -> &str
-        ensures { result.now ≡ self.now.items }
-    {
-        let _ = &self.parts;
-        unsafe { str::from_utf8_unchecked(self.as_slice()) }
     }
 
     /// A copy of the text more, behind what is there, once there is room for it.

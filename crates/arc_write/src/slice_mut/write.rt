@@ -20,11 +20,12 @@ use std::alloc::Allocator;
 impl<
     S: Slice,
     L: LayoutMut,
+    const UNIQUE: u8,
     B: BufferMut<S::Item> + Drop,
     M: Drop,
     A: Allocator + Copy,
     H: Mark,
-> ArcSliceMut<S, L, 1, B, M, A, H> {
+> ArcSliceMut<S, L, UNIQUE, B, M, A, H> {
     ghost use Rattle.arc_write.specs.Lends.{lends_items};
 
     /// The items, to be changed in their places: what is written there they are afterwards. It
@@ -33,7 +34,7 @@ impl<
     pub fn as_mut_slice(&mut self) -> &mut [S::Item]
     where
         S: AnyItems,
-        ensures* writes_back { sem 𝓛 (lends_items S.row L.row B.row M.row A.row H.row S.Item.row
+        ensures* writes_back { sem 𝓛 (lends_items S.row L.row UNIQUE B.row M.row A.row H.row S.Item.row
             S.TryFromSliceError.row S.Slice L.Layout
             (record {
               with_list = B.with_list;
@@ -47,6 +48,27 @@ impl<
         self.parts.as_mut_slice()
     }
 
+    /// A copy of the items more, behind the others, where the window has places for them. It adds
+    /// nothing.
+    pub(crate) fn extend_within(&mut self, items: &[S::Item])
+    where
+        S: CopySlice,
+        S::Item: Copy,
+        requires { length self.old.items + length items.now ≤ capacity_of self.old.role }
+        ensures { self.new ≡ with_more items.now self.old }
+    {
+        self.parts.extend_reserved(items);
+    }
+}
+
+impl<
+    S: Slice,
+    L: LayoutMut,
+    B: BufferMut<S::Item> + Drop,
+    M: Drop,
+    A: Allocator + Copy,
+    H: Mark,
+> ArcSliceMut<S, L, 1, B, M, A, H> {
     /// Makes room for so many items more.
     ///
     /// # Errors
@@ -184,17 +206,5 @@ impl<
             (size_at self.new.place) result) }
     {
         self.parts.try_extend_from_slice_as(items, pass)
-    }
-
-    /// A copy of the items more, behind the others, where the window has places for them. It adds
-    /// nothing.
-    pub(crate) fn extend_within(&mut self, items: &[S::Item])
-    where
-        S: CopySlice,
-        S::Item: Copy,
-        requires { length self.old.items + length items.now ≤ capacity_of self.old.role }
-        ensures { self.new ≡ with_more items.now self.old }
-    {
-        self.parts.extend_reserved(items);
     }
 }

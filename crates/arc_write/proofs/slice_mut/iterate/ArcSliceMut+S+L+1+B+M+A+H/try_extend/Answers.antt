@@ -2,6 +2,7 @@
 use Rattle.std.proofs.Common.{true, refl, ◌∙◌}
 use Rattle.std.proofs.iter.runs.Made.{run, to_end}
 use Rattle.std.specs.Mem.{type_size}
+use Rattle.arc_write.specs.Extend.{PushesOne}
 use Rattle.arc_write.proofs.Extend.{items_more, pushed_more}
 use Rattle.arc_write.proofs.Legal.{refused-items}
 use Rattle.arc_write.proofs.slice_mut.iterate.ArcSliceMut+S+L+1+B+M+A+H.try_extend.Goals as goal
@@ -14,9 +15,10 @@ loop-item-preserved g c =
     let next = c.in-Some.ensures.goes.on said.1 in (
       next.0,
       next.1,
-      pushed_more g.row.H.Denot g.H.Mark.real g.S.Slice.DROPS g.H.Mark.whole (type_size g.row.S-Item)
-          at.yielded item c.args.self.now at.self c.try_push.new.self said.2
-          (record { pushed = c.in-Ok.ensures.pushed }),
+      pushed_more (PushesOne g.row.H.Denot g.H.Mark.real g.S.Slice.DROPS g.H.Mark.whole
+          (type_size g.row.S-Item) g.B.Buffer.list g.B.Buffer.places g.B.BufferMut.grows
+          g.B.BufferMut.refuses) at.yielded item c.args.self.now at.self c.try_push.new.self
+          said.2 (record { pushed = c.in-Ok.ensures.pushed; own = c.in-Ok.ensures.own }),
       items_more c.args.self.now.items at.yielded item at.self.items c.try_push.new.self.items said.3
           c.in-Ok.ensures.items,
     )

@@ -1,6 +1,6 @@
 -- By search.
 use Rattle.std.proofs.Common.{rules}
-use Rattle.arc_write.proofs.adapters.io.ArcSliceMutPlainU81Write.write.Goals as goal
+use Rattle.arc_write.proofs.adapters.io.ArcSliceMutPlainU8Write.write.Goals as goal
 
 pub returns-clause-count : goal.returns-clause-count
 returns-clause-count g c = search rules

@@ -1,6 +1,6 @@
 use Rattle.arc_block.specs.LayoutFacts.{layout_facts}
 use Rattle.arc_write.proofs.Held.{more_held}
-use Rattle.arc_write.proofs.slice_mut.write.ArcSliceMut+S+L+1+B+M+A+H.extend_within.Goals as goal
+use Rattle.arc_write.proofs.slice_mut.ArcSliceMut.extend_within.Goals as goal
 
 pub invariant_of-self : goal.invariant_of-self
 invariant_of-self g c = (

@@ -4,7 +4,7 @@ use Rattle.arc_block.specs.LayoutFacts.{layout_facts}
 use Rattle.arc_block.specs.Window.{PartsView}
 use Rattle.arc_write.proofs.Held.{truncated_held}
 use Rattle.arc_write.proofs.Legal.{truncated_legal}
-use Rattle.arc_write.proofs.slice_mut.cuts.ArcSliceMut+S+L+1+B+M+A+H.truncate.Goals as goal
+use Rattle.arc_write.proofs.slice_mut.ArcSliceMut.truncate.Goals as goal
 
 pub invariant_of-self : goal.invariant_of-self
 invariant_of-self g c =

@@ -4,7 +4,7 @@ use Rattle.arc_block.specs.LayoutFacts.{layout_facts}
 use Rattle.arc_block.specs.Window.{PartsView}
 use Rattle.arc_write.proofs.Held.{advanced_held}
 use Rattle.arc_write.proofs.Legal.{advanced_legal}
-use Rattle.arc_write.proofs.slice_mut.cuts.ArcSliceMut+S+L+1+B+M+A+H.advance.Goals as goal
+use Rattle.arc_write.proofs.slice_mut.ArcSliceMut.advance.Goals as goal
 
 pub invariant_of-self : goal.invariant_of-self
 invariant_of-self g c =

@@ -1,0 +1,155 @@
+//! Windows of several writers on one block: how a window becomes one, and is its block's only owner
+//! again.
+ghost use Rattle.std.specs.Prelude.{◌≡◌, false, IfOk, IfErr, is_ok};
+ghost use Rattle.arc_block.specs.LayoutFacts.{layout_facts};
+ghost use Rattle.arc_block.specs.Shared.{AsksAlone, IsSharedPlace, as_shared, as_unique};
+ghost use Rattle.arc_block.specs.Steps.{IsPassAt};
+ghost use Rattle.arc_block.specs.Table.{one_writer_of_several};
+ghost use Rattle.arc_block.specs.Window.{IsBlockHeld, IsOfBuffer};
+ghost use Rattle.arc_block.specs.Writers.{capacity_of};
+ghost use Rattle.arc_read.specs.Steps.{WithNewPass};
+
+use super::ArcSliceMut;
+use super::parts::WriterParts;
+use arc_block::layout::LayoutMut;
+use arc_block::parts::SharedParts;
+use arc_buffer::buffer::BufferMut;
+use arc_buffer::kinds::{Shareable, Slice};
+use arc_owners::mark::{Mark, Stepping};
+use arc_owners::owners::Pass;
+use std::alloc::Allocator;
+
+impl<
+    S: Shareable,
+    L: LayoutMut,
+    B: BufferMut<S::Item> + Drop,
+    M: Drop,
+    A: Allocator + Copy,
+    H: Mark,
+> ArcSliceMut<S, L, 1, B, M, A, H> {
+    /// The same window, as one of several writers from now on: it may be split, and others may
+    /// write their own places of its block. It adds nothing and takes no memory.
+    ///
+    /// # Errors
+    ///
+    /// The window, exactly where it stands on a caller's buffer.
+    pub fn into_shared(self) -> Result<ArcSliceMut<S, L, 0, B, M, A, H>, Self>
+        ensures shared { IfOk result (λ shared. (shared ≡ as_shared self)
+            × (¬ IsOfBuffer self.place)) }
+        ensures refused { IfErr result (λ back. (back ≡ self) × IsOfBuffer self.place) }
+    {
+        match self.into_parts().into_shared() {
+            Ok(parts) => Ok(ArcSliceMut::from_shared_parts(parts)),
+            Err(parts) => Err(Self::from_parts(parts)),
+        }
+    }
+}
+
+impl<
+    S: Slice,
+    L: LayoutMut,
+    B: BufferMut<S::Item> + Drop,
+    M: Drop,
+    A: Allocator + Copy,
+    H: Mark,
+> ArcSliceMut<S, L, 0, B, M, A, H> {
+    /// The window of these parts, with a list that is legal, on nothing or on a block that the
+    /// layout holds. It adds nothing.
+    #[inline(always)]
+    pub fn from_shared_parts(parts: SharedParts<S, B, M, A, H>) -> Self
+        requires held { IsBlockHeld (layout_facts L.Layout) parts.place }
+        requires legal { ∥ S.is_legal parts.items ∥₁ }
+        ensures { result ≡ parts }
+    {
+        Self::of_parts(WriterParts::of_several(parts))
+    }
+
+    /// What the window is made of. It adds nothing.
+    #[inline(always)]
+    pub fn into_shared_parts(self) -> SharedParts<S, B, M, A, H>
+        ensures parts { result ≡ self }
+        ensures held { IsBlockHeld (layout_facts L.Layout) result.place }
+        ensures legal { ∥ S.is_legal result.items ∥₁ }
+    {
+        self.into_writer_parts().into_several()
+    }
+
+    /// The window stands on nothing, or on a block that counts its owners and keeps its items in
+    /// memory of ours, as one of several writers. Does nothing: its contract is the law.
+    pub fn known_shared_place(&self)
+        ensures place { IsSharedPlace self.now.place }
+        ensures role { self.now.role ≡ one_writer_of_several (capacity_of self.now.role) }
+    {
+        self.parts.several().known_place();
+    }
+
+    /// Items of this kind need no drop. Does nothing: its contract is the law.
+    pub fn known_kind(&self)
+        ensures { S.DROPS ≡ false }
+    {
+        self.parts.several().known_kind();
+    }
+
+    /// The same window, as its block's only writer, where it stands on a block that no other owner
+    /// has. It keeps its places; those behind them come where room is asked for. It takes no
+    /// memory.
+    ///
+    /// # Errors
+    ///
+    /// The window, on no block, and where another owner lives.
+    ///
+    /// # History
+    ///
+    /// On a block Alone with the answer.
+    pub fn try_into_unique_as(
+        self,
+        pass: &mut Pass<H>,
+    ) -> Result<ArcSliceMut<S, L, 1, B, M, A, H>, Self>
+        requires pass { IsPassAt self.place pass.old }
+        ensures entry { AsksAlone self.place pass.old pass.new (is_ok result) }
+        ensures sole { IfOk result (λ sole. sole ≡ as_unique self) }
+        ensures refused { IfErr result (λ back. back ≡ self) }
+    {
+        match self.into_shared_parts().try_into_unique_as(pass) {
+            Ok(parts) => Ok(ArcSliceMut::from_parts(parts)),
+            Err(parts) => Err(Self::from_shared_parts(parts)),
+        }
+    }
+}
+
+impl<
+    S: Slice,
+    L: LayoutMut,
+    B: BufferMut<S::Item> + Drop,
+    M: Drop,
+    A: Allocator + Copy,
+    H: Stepping,
+> ArcSliceMut<S, L, 0, B, M, A, H> {
+    /// The same window, as its block's only writer: `try_into_unique_as` with a new pass.
+    ///
+    /// # Errors
+    ///
+    /// Those of `try_into_unique_as`.
+    ///
+    /// # History
+    ///
+    /// That of `try_into_unique_as`.
+    pub fn try_into_unique(self) -> Result<ArcSliceMut<S, L, 1, B, M, A, H>, Self>
+        ensures entry { WithNewPass {H = H} H.real self.place (λ first last.
+            AsksAlone self.place first last (is_ok result)) }
+        ensures sole { IfOk result (λ sole. sole ≡ as_unique self) }
+        ensures refused { IfErr result (λ back. back ≡ self) }
+    {
+        let mut pass = self.pass();
+        let made = self.try_into_unique_as(&mut pass);
+        pass.show();
+        made
+    }
+}
+
+mod ends;
+mod iterate;
+mod push;
+mod room;
+mod splits;
+mod take;
