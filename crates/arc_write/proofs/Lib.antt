@@ -5,4 +5,5 @@ pub mod HeldSeveral
 pub mod LegalSeveral
 pub mod OneBlock
 mod More
+pub mod Parts
 mod Zeros

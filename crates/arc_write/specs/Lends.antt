@@ -10,7 +10,6 @@ use Rattle.arc_block.specs.declared.layout.Layout as layout
 use Rattle.arc_block.specs.Window.{PartsView}
 use Rattle.arc_block.specs.Writers.{with_items}
 use Rattle.arc_write.specs.contracts.slice_mut.ArcSliceMut.{the_row}
-use Rattle.arc_write.specs.contracts.slice_mut.parts.WriterParts as writer
 use denote.Param.{number}
 
 module _ (S L : RattleType) (unique : ℕ) (B M A H Item Error : RattleType)
@@ -24,15 +23,3 @@ module _ (S L : RattleType) (unique : ℕ) (B M A H Item Error : RattleType)
   lends_items r =
       Lends (the_row S L (number unique) B M A H Item Error s l m b a h) (Array Item 0)
       window r (with_items window.now)
-
--- the same of the window's parts
-module _ (S : RattleType) (unique : ℕ) (B M A H Item Error : RattleType)
-    (s : kind.Ghosts S.Denot Item.Denot Error.Denot)
-    (m : buffer_mut.Ghosts B.Denot Item.Denot) (b : buffer.Ghosts B.Denot Item.Denot)
-    (a : allocator.Ghosts A.Denot)
-    (h : mark.Ghosts H.Denot)
-    (parts : MutBor (PartsView Item.Denot M.Denot)) where
-  abbrev pub lends_parts : MutBor (List Item.Denot) → Fml
-  lends_parts r =
-      Lends (writer.the_row S (number unique) B M A H Item Error s m b a h) (Array Item 0)
-      parts r (with_items parts.now)

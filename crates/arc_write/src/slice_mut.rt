@@ -6,12 +6,12 @@ ghost use Rattle.arc_block.specs.Window.{IsBlockHeld};
 ghost use Rattle.arc_block.specs.Writers.{IsWriterPlace, idle_writer};
 
 use arc_block::layout::{DefaultLayoutMut, LayoutMut};
-use arc_block::parts::SoleParts;
+use arc_block::parts::{SharedParts, SoleParts};
 use arc_buffer::buffer::BufferMut;
 use arc_buffer::kinds::{Emptyable, Plain, Slice, Text};
 use arc_owners::mark::{Mark, Open};
 pub use into_mut::IntoMut;
-use parts::WriterParts;
+use parts::WriterStorage;
 use std::alloc::{Allocator, Global};
 use std::marker::{Model, PhantomData};
 
@@ -36,7 +36,7 @@ pub struct ArcSliceMut<
     A: Allocator + Copy = Global,
     H: Mark = Open,
 > {
-    parts: WriterParts<S, UNIQUE, B, M, A, H>,
+    parts: WriterStorage<SoleParts<S, B, M, A, H>, SharedParts<S, B, M, A, H>>,
     of: PhantomData<L>,
 }
 
@@ -73,13 +73,15 @@ impl<
 > Model for ArcSliceMut<S, L, UNIQUE, B, M, A, H> {
     ghost use Rattle.arc_block.specs.LayoutFacts.{layout_facts};
     ghost use Rattle.arc_block.specs.Window.{PartsView, IsBlockHeld};
+    ghost use Rattle.arc_write.specs.Parts.{written_on, IsOfUnique};
 
     ghost Value = { PartsView S.Item M };
 
-    ghost view = { λ w. w.parts };
+    ghost view = { λ w. written_on w.parts };
 
-    ghost invariant = { λ w. IsBlockHeld (layout_facts L.Layout) w.parts.place
-        × ∥ S.is_legal w.parts.items ∥₁ };
+    ghost invariant = { λ w. IsOfUnique UNIQUE w.parts
+        × IsBlockHeld (layout_facts L.Layout) (written_on w.parts).place
+        × ∥ S.is_legal (written_on w.parts).items ∥₁ };
 }
 
 impl<
@@ -96,7 +98,10 @@ impl<
         ensures ended { H.whole ≡ false → EndsShownAt H H.real self.place }
     {
         let ArcSliceMut { parts, of: _ } = self;
-        drop(parts);
+        match parts {
+            WriterStorage::Sole(parts) => drop(parts),
+            WriterStorage::Several(parts) => drop(parts),
+        }
     }
 }
 
@@ -115,31 +120,6 @@ impl<
         ensures { IsBlockHeld (layout_facts L.Layout) self.now.place }
     {
         let _ = &self.parts;
-    }
-
-    /// The window of these parts, with a list that is legal, on nothing or on a block that the
-    /// layout holds.
-    #[inline(always)]
-    pub(crate) fn of_parts(parts: WriterParts<S, UNIQUE, B, M, A, H>) -> Self
-        requires held { IsBlockHeld (layout_facts L.Layout) parts.place }
-        requires legal { ∥ S.is_legal parts.items ∥₁ }
-        ensures { result ≡ parts }
-    {
-        ArcSliceMut {
-            parts,
-            of: PhantomData,
-        }
-    }
-
-    /// What the window is made of, whosever parts they are.
-    #[inline(always)]
-    pub(crate) fn into_writer_parts(self) -> WriterParts<S, UNIQUE, B, M, A, H>
-        ensures parts { result ≡ self }
-        ensures held { IsBlockHeld (layout_facts L.Layout) result.place }
-        ensures legal { ∥ S.is_legal result.items ∥₁ }
-    {
-        let ArcSliceMut { parts, of: _ } = self;
-        parts
     }
 }
 
@@ -168,7 +148,10 @@ impl<
         requires legal { ∥ S.is_legal parts.items ∥₁ }
         ensures { result ≡ parts }
     {
-        Self::of_parts(WriterParts::of_sole(parts))
+        ArcSliceMut {
+            parts: WriterStorage::Sole(parts),
+            of: PhantomData,
+        }
     }
 
     /// The window stands on nothing, or on a block that counts its owners and may be written. Does
@@ -176,7 +159,10 @@ impl<
     pub fn known_place(&self)
         ensures { IsWriterPlace self.now.place }
     {
-        self.parts.sole().known_place();
+        match &self.parts {
+            WriterStorage::Sole(parts) => parts.known_place(),
+            WriterStorage::Several(_) => unreachable!(),
+        }
     }
 
     /// What the window is made of. It adds nothing.
@@ -186,7 +172,11 @@ impl<
         ensures held { IsBlockHeld (layout_facts L.Layout) result.place }
         ensures legal { ∥ S.is_legal result.items ∥₁ }
     {
-        self.into_writer_parts().into_sole()
+        let ArcSliceMut { parts, of: _ } = self;
+        match parts {
+            WriterStorage::Sole(parts) => parts,
+            WriterStorage::Several(_) => unreachable!(),
+        }
     }
 }
 

@@ -11,6 +11,7 @@ ghost use Rattle.arc_block.specs.Writers.{MakesBufferWriter, size_at};
 ghost use Rattle.arc_read.specs.Steps.{WithNewPass};
 
 use super::ArcSliceMut;
+use super::parts::WriterStorage;
 use arc_block::layout::{AnyBufferLayout, LayoutMut};
 use arc_block::parts::SoleParts;
 use arc_buffer::buffer::{BorrowMetadata, BufferMut};
@@ -120,7 +121,10 @@ impl<
         ensures some { IfSome result (λ m. metadata_at self.now.place ≡ Some m.now) }
         ensures none { IfNone result (metadata_at self.now.place ≡ None) }
     {
-        self.parts.metadata()
+        match &self.parts {
+            WriterStorage::Sole(parts) => parts.metadata(),
+            WriterStorage::Several(parts) => parts.metadata(),
+        }
     }
 
     /// The metadata of the caller's buffer on which the window stands.
@@ -131,7 +135,10 @@ impl<
             IsMetadataAt B.list B.metadata self.now.place self.now.items m.now) }
         ensures none { IfNone result (¬ IsOnCallers self.now.place) }
     {
-        self.parts.borrowed_metadata()
+        match &self.parts {
+            WriterStorage::Sole(parts) => parts.borrowed_metadata(),
+            WriterStorage::Several(parts) => parts.borrowed_metadata(),
+        }
     }
 }
 
@@ -147,7 +154,10 @@ impl<
     pub fn is_on_buffer(&self) -> bool
         ensures { IsTrue result ↔ IsOfBuffer self.now.place }
     {
-        self.parts.sole().is_on_buffer()
+        match &self.parts {
+            WriterStorage::Sole(parts) => parts.is_on_buffer(),
+            WriterStorage::Several(_) => unreachable!(),
+        }
     }
 
     /// The caller's buffer on which the window stands, where the items are all of it. Its metadata

@@ -10,6 +10,7 @@ ghost use Rattle.arc_block.specs.Steps.{IsPassAt, Makes, Begins};
 ghost use Rattle.arc_block.specs.Writers.{Freezes, as_reader};
 
 use super::ArcSliceMut;
+use super::parts::WriterStorage;
 use arc_block::layout::{Layout, LayoutMut};
 use arc_buffer::buffer::BufferMut;
 use arc_buffer::kinds::{ByteText, Plain, Slice, Text};
@@ -18,6 +19,7 @@ use arc_owners::owners::Pass;
 use arc_read::slice::ArcSlice;
 use std::alloc::Allocator;
 use std::convert::Infallible;
+use std::marker::PhantomData;
 use std::str::Utf8Error;
 
 impl<
@@ -58,9 +60,22 @@ impl<
         ensures refused { IfErr result (λ back. (back ≡ self)
             × IsRefused (layout_move (layout_facts K.Layout) self.place) × (pass.new ≡ pass.old)) }
     {
-        match self.into_writer_parts().try_freeze_as::<K>(pass) {
-            Ok(parts) => Ok(ArcSlice::from_parts(parts)),
-            Err(parts) => Err(Self::of_parts(parts)),
+        let ArcSliceMut { parts, of: _ } = self;
+        match parts {
+            WriterStorage::Sole(parts) => match parts.try_freeze_as::<K>(pass) {
+                Ok(parts) => Ok(ArcSlice::from_parts(parts)),
+                Err(parts) => Err(ArcSliceMut {
+                    parts: WriterStorage::Sole(parts),
+                    of: PhantomData,
+                }),
+            },
+            WriterStorage::Several(parts) => match parts.try_freeze_as::<K>(pass) {
+                Ok(parts) => Ok(ArcSlice::from_parts(parts)),
+                Err(parts) => Err(ArcSliceMut {
+                    parts: WriterStorage::Several(parts),
+                    of: PhantomData,
+                }),
+            },
         }
     }
 
@@ -78,9 +93,28 @@ impl<
         ensures refused { IfErr result (λ back. (back ≡ self)
             × (¬ IsBlockHeld (layout_facts K.Layout) self.place)) }
     {
-        match self.into_writer_parts().try_with_layout::<K>() {
-            Ok(parts) => Ok(ArcSliceMut::of_parts(parts)),
-            Err(parts) => Err(Self::of_parts(parts)),
+        let ArcSliceMut { parts, of: _ } = self;
+        match parts {
+            WriterStorage::Sole(parts) => match parts.try_with_layout::<K>() {
+                Ok(parts) => Ok(ArcSliceMut {
+                    parts: WriterStorage::Sole(parts),
+                    of: PhantomData,
+                }),
+                Err(parts) => Err(ArcSliceMut {
+                    parts: WriterStorage::Sole(parts),
+                    of: PhantomData,
+                }),
+            },
+            WriterStorage::Several(parts) => match parts.try_with_layout::<K>() {
+                Ok(parts) => Ok(ArcSliceMut {
+                    parts: WriterStorage::Several(parts),
+                    of: PhantomData,
+                }),
+                Err(parts) => Err(ArcSliceMut {
+                    parts: WriterStorage::Several(parts),
+                    of: PhantomData,
+                }),
+            },
         }
     }
 
@@ -110,7 +144,17 @@ impl<
         requires legal { ∥ K.is_legal self.items ∥₁ }
         ensures { result ≡ self }
     {
-        ArcSliceMut::of_parts(self.into_writer_parts().into_kind())
+        let ArcSliceMut { parts, of: _ } = self;
+        match parts {
+            WriterStorage::Sole(parts) => ArcSliceMut {
+                parts: WriterStorage::Sole(parts.into_kind()),
+                of: PhantomData,
+            },
+            WriterStorage::Several(parts) => ArcSliceMut {
+                parts: WriterStorage::Several(parts.into_kind()),
+                of: PhantomData,
+            },
+        }
     }
 }
 

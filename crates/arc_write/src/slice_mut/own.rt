@@ -7,6 +7,7 @@ ghost use Rattle.arc_block.specs.Steps.{IsPassAt, EndsAt};
 ghost use Rattle.arc_block.specs.Writers.{IsWholeWriter};
 
 use super::ArcSliceMut;
+use super::parts::WriterStorage;
 use arc_block::layout::LayoutMut;
 use arc_buffer::buffer::BufferMut;
 use arc_buffer::kinds::Slice;
@@ -79,7 +80,10 @@ impl<
         ensures { at_owner self.now.place (pass.new ≡ pass.old) (λ o.
             SeesAlone o pass.old pass.new) }
     {
-        self.parts.sole().only(pass);
+        match &self.parts {
+            WriterStorage::Sole(parts) => parts.only(pass),
+            WriterStorage::Several(_) => unreachable!(),
+        }
     }
 }
 
@@ -99,7 +103,10 @@ impl<
         ensures { at_owner self.now.place (pass.new ≡ pass.old) (λ o.
             Learns o.block pass.old other.now pass.new) }
     {
-        self.parts.learn(pass, other);
+        match &self.parts {
+            WriterStorage::Sole(parts) => parts.learn(pass, other),
+            WriterStorage::Several(parts) => parts.learn(pass, other),
+        }
     }
 
     /// What a drop does: under `Open` the window ends with a new pass, and the block is given back
@@ -114,7 +121,10 @@ impl<
         ensures ended { H.whole ≡ false → EndsAt self.place result }
     {
         let ArcSliceMut { parts, of: _ } = self;
-        parts.let_go()
+        match parts {
+            WriterStorage::Sole(parts) => parts.let_go(),
+            WriterStorage::Several(parts) => parts.let_go(),
+        }
     }
 }
 
@@ -132,6 +142,9 @@ impl<
     pub fn pass(&self) -> Pass<H>
         ensures { at_owner self.now.place (IsPassOfNone result) (λ o. IsNewPass o result) }
     {
-        self.parts.pass()
+        match &self.parts {
+            WriterStorage::Sole(parts) => parts.pass(),
+            WriterStorage::Several(parts) => parts.pass(),
+        }
     }
 }

@@ -5,6 +5,7 @@ ghost use Rattle.arc_block.specs.Writers.{capacity_of};
 ghost use Rattle.arc_write.specs.Splits.{split_answer};
 
 use super::ArcSliceMut;
+use super::parts::WriterStorage;
 use arc_block::layout::LayoutMut;
 use arc_buffer::buffer::BufferMut;
 use arc_buffer::kinds::{Slice, Subsliceable};
@@ -26,7 +27,10 @@ impl<
     pub fn len(&self) -> usize
         ensures { result ≡ length self.now.items }
     {
-        self.parts.len()
+        match &self.parts {
+            WriterStorage::Sole(parts) => parts.len(),
+            WriterStorage::Several(parts) => parts.len(),
+        }
     }
 
     /// Whether the window has no items.
@@ -42,7 +46,10 @@ impl<
     pub fn as_slice(&self) -> &[S::Item]
         ensures { result.now ≡ self.now.items }
     {
-        self.parts.as_slice()
+        match &self.parts {
+            WriterStorage::Sole(parts) => parts.as_slice(),
+            WriterStorage::Several(parts) => parts.as_slice(),
+        }
     }
 
     /// The items, which are a legal list of the kind.
@@ -50,7 +57,10 @@ impl<
         ensures items { result.now ≡ self.now.items }
         ensures legal { ∥ S.is_legal result.now ∥₁ }
     {
-        self.parts.as_slice()
+        match &self.parts {
+            WriterStorage::Sole(parts) => parts.as_slice(),
+            WriterStorage::Several(parts) => parts.as_slice(),
+        }
     }
 
     /// How many places the window has, from its first item on.
@@ -59,7 +69,10 @@ impl<
         ensures capacity { result ≡ capacity_of self.now.role }
         ensures enough { length self.now.items ≤ result }
     {
-        self.parts.capacity()
+        match &self.parts {
+            WriterStorage::Sole(parts) => parts.capacity(),
+            WriterStorage::Several(parts) => parts.capacity(),
+        }
     }
 
     /// Whether the window may be split at `at`, which may lie among its places behind the items.

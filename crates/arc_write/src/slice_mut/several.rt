@@ -10,7 +10,7 @@ ghost use Rattle.arc_block.specs.Writers.{capacity_of};
 ghost use Rattle.arc_read.specs.Steps.{WithNewPass};
 
 use super::ArcSliceMut;
-use super::parts::WriterParts;
+use super::parts::WriterStorage;
 use arc_block::layout::LayoutMut;
 use arc_block::parts::SharedParts;
 use arc_buffer::buffer::BufferMut;
@@ -18,6 +18,7 @@ use arc_buffer::kinds::{Shareable, Slice};
 use arc_owners::mark::{Mark, Stepping};
 use arc_owners::owners::Pass;
 use std::alloc::Allocator;
+use std::marker::PhantomData;
 
 impl<
     S: Shareable,
@@ -61,7 +62,10 @@ impl<
         requires legal { ∥ S.is_legal parts.items ∥₁ }
         ensures { result ≡ parts }
     {
-        Self::of_parts(WriterParts::of_several(parts))
+        ArcSliceMut {
+            parts: WriterStorage::Several(parts),
+            of: PhantomData,
+        }
     }
 
     /// What the window is made of. It adds nothing.
@@ -71,7 +75,11 @@ impl<
         ensures held { IsBlockHeld (layout_facts L.Layout) result.place }
         ensures legal { ∥ S.is_legal result.items ∥₁ }
     {
-        self.into_writer_parts().into_several()
+        let ArcSliceMut { parts, of: _ } = self;
+        match parts {
+            WriterStorage::Several(parts) => parts,
+            WriterStorage::Sole(_) => unreachable!(),
+        }
     }
 
     /// The window stands on nothing, or on a block that counts its owners and keeps its items in
@@ -80,14 +88,20 @@ impl<
         ensures place { IsSharedPlace self.now.place }
         ensures role { self.now.role ≡ one_writer_of_several (capacity_of self.now.role) }
     {
-        self.parts.several().known_place();
+        match &self.parts {
+            WriterStorage::Several(parts) => parts.known_place(),
+            WriterStorage::Sole(_) => unreachable!(),
+        }
     }
 
     /// Items of this kind need no drop. Does nothing: its contract is the law.
     pub fn known_kind(&self)
         ensures { S.DROPS ≡ false }
     {
-        self.parts.several().known_kind();
+        match &self.parts {
+            WriterStorage::Several(parts) => parts.known_kind(),
+            WriterStorage::Sole(_) => unreachable!(),
+        }
     }
 
     /// The same window, as its block's only writer, where it stands on a block that no other owner

@@ -7,6 +7,7 @@ ghost use Rattle.arc_block.specs.Steps.{IsPassAt};
 ghost use Rattle.arc_block.specs.Writers.{MakesWriter, MakesRoom, Pushes, room_for, size_at};
 
 use super::ArcSliceMut;
+use super::parts::WriterStorage;
 use arc_block::layout::LayoutMut;
 use arc_block::parts::SoleParts;
 use arc_buffer::buffer::BufferMut;
@@ -97,6 +98,9 @@ impl<L: LayoutMut, B: BufferMut<u8> + Drop, M: Drop, A: Allocator + Copy, H: Mar
             AsksForRoom B.list B.places B.grows B.refuses self.old k (size_at self.new.place)
             result) }
     {
-        self.parts.try_extend_from_slice_as(text.as_bytes(), pass)
+        match &mut self.parts {
+            WriterStorage::Sole(parts) => parts.try_extend_from_slice_as(text.as_bytes(), pass),
+            WriterStorage::Several(_) => unreachable!(),
+        }
     }
 }

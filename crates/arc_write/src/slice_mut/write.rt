@@ -9,6 +9,7 @@ ghost use Rattle.arc_block.specs.Writers.{capacity_of, room_for, with_more, size
 ghost use Rattle.arc_block.specs.Writers.{MakesRoom, Pushes, Reclaims};
 
 use super::ArcSliceMut;
+use super::parts::WriterStorage;
 use arc_block::layout::LayoutMut;
 use arc_buffer::buffer::BufferMut;
 use arc_buffer::kinds::{AnyItems, CopySlice, Extendable, Slice};
@@ -45,7 +46,10 @@ impl<
             B.Buffer A.Allocator H.Mark self.entry result) }
         ensures value { result.now ≡ self.old.items }
     {
-        self.parts.as_mut_slice()
+        match &mut self.parts {
+            WriterStorage::Sole(parts) => parts.as_mut_slice(),
+            WriterStorage::Several(parts) => parts.as_mut_slice(),
+        }
     }
 
     /// A copy of the items more, behind the others, where the window has places for them. It adds
@@ -57,7 +61,13 @@ impl<
         requires { length self.old.items + length items.now ≤ capacity_of self.old.role }
         ensures { self.new ≡ with_more items.now self.old }
     {
-        self.parts.extend_reserved(items);
+        match &mut self.parts {
+            WriterStorage::Sole(parts) => return parts.extend_reserved(items),
+            WriterStorage::Several(parts) => {
+                parts.known_uncounted();
+                parts.extend_reserved(items);
+            }
+        }
     }
 }
 
@@ -108,7 +118,10 @@ impl<
             AsksForRoom B.list B.places B.grows B.refuses self.old k (size_at self.new.place)
             result) }
     {
-        self.parts.try_reserve_as(additional, pass)
+        match &mut self.parts {
+            WriterStorage::Sole(parts) => parts.try_reserve_as(additional, pass),
+            WriterStorage::Several(_) => unreachable!(),
+        }
     }
 
     /// Whether there is room for so many items more without memory; then it is made. It adds
@@ -118,7 +131,10 @@ impl<
         ensures { Reclaims (room_for S.DROPS (type_size S.Item.row) self.old additional)
             self.old self.new result }
     {
-        self.parts.try_reclaim(additional)
+        match &mut self.parts {
+            WriterStorage::Sole(parts) => parts.try_reclaim(additional),
+            WriterStorage::Several(_) => unreachable!(),
+        }
     }
 
     /// `try_reclaim`, with a pass, which stays as it is.
@@ -167,7 +183,10 @@ impl<
             AsksForRoom B.list B.places B.grows B.refuses self.old k (size_at self.new.place)
             (without_item result)) }
     {
-        self.parts.try_push_as(item, pass)
+        match &mut self.parts {
+            WriterStorage::Sole(parts) => parts.try_push_as(item, pass),
+            WriterStorage::Several(_) => unreachable!(),
+        }
     }
 
     /// A copy of the items more, behind the others, once there is room for them.
@@ -205,6 +224,9 @@ impl<
             (length items.now)) (λ k. AsksForRoom B.list B.places B.grows B.refuses self.old k
             (size_at self.new.place) result) }
     {
-        self.parts.try_extend_from_slice_as(items, pass)
+        match &mut self.parts {
+            WriterStorage::Sole(parts) => parts.try_extend_from_slice_as(items, pass),
+            WriterStorage::Several(_) => unreachable!(),
+        }
     }
 }

@@ -7,6 +7,7 @@ ghost use Rattle.arc_block.specs.Writers.{room_for};
 ghost use Rattle.arc_read.specs.Steps.{WithNewPass};
 
 use crate::slice_mut::ArcSliceMut;
+use crate::slice_mut::parts::WriterStorage;
 use arc_block::layout::LayoutMut;
 use arc_buffer::buffer::BufferMut;
 use arc_buffer::kinds::{CopySlice, Extendable, Text};
@@ -52,7 +53,10 @@ impl<
             H.whole (room_for false (type_size S.Item.row) self.old 1)
             self.old self.new pass.old pass.new (Err r.0)) }
     {
-        self.parts.try_push_as(item, pass)
+        match &mut self.parts {
+            WriterStorage::Several(parts) => parts.try_push_as(item, pass),
+            WriterStorage::Sole(_) => unreachable!(),
+        }
     }
 }
 
@@ -97,7 +101,10 @@ where
             (room_for false (type_size S.Item.row) self.old (length items.now))
             self.old self.new pass.old pass.new (Err e)) }
     {
-        self.parts.try_extend_from_slice_as(items, pass)
+        match &mut self.parts {
+            WriterStorage::Several(parts) => parts.try_extend_from_slice_as(items, pass),
+            WriterStorage::Sole(_) => unreachable!(),
+        }
     }
 }
 
@@ -138,7 +145,10 @@ impl<L: LayoutMut, B: BufferMut<u8> + Drop, M: Drop, A: Allocator + Copy, H: Mar
             (room_for false 1 self.old (length text.now))
             self.old self.new pass.old pass.new (Err e)) }
     {
-        self.parts.try_extend_from_slice_as(text.as_bytes(), pass)
+        match &mut self.parts {
+            WriterStorage::Several(parts) => parts.try_extend_from_slice_as(text.as_bytes(), pass),
+            WriterStorage::Sole(_) => unreachable!(),
+        }
     }
 }
 

@@ -7,6 +7,7 @@ ghost use Rattle.arc_block.specs.Writers.{capacity_of, room_for};
 ghost use Rattle.arc_read.specs.Steps.{WithNewPass};
 
 use crate::slice_mut::ArcSliceMut;
+use crate::slice_mut::parts::WriterStorage;
 use arc_block::layout::LayoutMut;
 use arc_buffer::buffer::BufferMut;
 use arc_buffer::kinds::Slice;
@@ -57,7 +58,10 @@ impl<
         ensures enough { OnOk result
             (length self.new.items + additional ≤ capacity_of self.new.role) }
     {
-        self.parts.try_reserve_as(additional, pass)
+        match &mut self.parts {
+            WriterStorage::Several(parts) => parts.try_reserve_as(additional, pass),
+            WriterStorage::Sole(_) => unreachable!(),
+        }
     }
 
     /// Whether there is room for so many items more without memory; then it is made.
@@ -73,7 +77,10 @@ impl<
             self.old self.new pass.old pass.new result }
         ensures items { self.new.items ≡ self.old.items }
     {
-        self.parts.try_reclaim_as(additional, pass)
+        match &mut self.parts {
+            WriterStorage::Several(parts) => parts.try_reclaim_as(additional, pass),
+            WriterStorage::Sole(_) => unreachable!(),
+        }
     }
 }
 

@@ -7,6 +7,7 @@ ghost use Rattle.arc_block.specs.Writers.{capacity_of};
 ghost use Rattle.arc_read.specs.Steps.{WithNewPass};
 
 use crate::slice_mut::ArcSliceMut;
+use crate::slice_mut::parts::WriterStorage;
 use arc_block::layout::LayoutMut;
 use arc_buffer::buffer::BufferMut;
 use arc_buffer::kinds::{Concatenable, Subsliceable};
@@ -59,9 +60,12 @@ where
         ensures refused { IfErr result (λ e. (self.new ≡ self.old)
             × RefusesSplitAt self.old.place pass.old pass.new e) }
     {
-        match self.parts.try_split_off_as(rt, at, pass) {
-            Ok(back) => Ok(Self::of_parts(back)),
-            Err(e) => Err(e),
+        match &mut self.parts {
+            WriterStorage::Several(parts) => match parts.try_split_off_as(rt, at, pass) {
+                Ok(back) => Ok(Self::from_shared_parts(back)),
+                Err(e) => Err(e),
+            },
+            WriterStorage::Sole(_) => unreachable!(),
         }
     }
 
@@ -93,9 +97,12 @@ where
         ensures refused { IfErr result (λ e. (self.new ≡ self.old)
             × RefusesSplitAt self.old.place pass.old pass.new e) }
     {
-        match self.parts.try_split_to_as(rt, at, pass) {
-            Ok(front) => Ok(Self::of_parts(front)),
-            Err(e) => Err(e),
+        match &mut self.parts {
+            WriterStorage::Several(parts) => match parts.try_split_to_as(rt, at, pass) {
+                Ok(front) => Ok(Self::from_shared_parts(front)),
+                Err(e) => Err(e),
+            },
+            WriterStorage::Sole(_) => unreachable!(),
         }
     }
 }
@@ -132,9 +139,13 @@ where
         ensures refused { IfErr result (λ back. (can_join self.old other ≡ false)
             × (back ≡ other) × (self.new ≡ self.old) × (pass.new ≡ pass.old)) }
     {
-        match self.parts.try_unsplit_as(other.into_writer_parts(), pass) {
-            Ok(()) => Ok(()),
-            Err(other) => Err(Self::of_parts(other)),
+        let other = other.into_shared_parts();
+        match &mut self.parts {
+            WriterStorage::Several(parts) => match parts.try_unsplit_as(other, pass) {
+                Ok(()) => Ok(()),
+                Err(other) => Err(Self::from_shared_parts(other)),
+            },
+            WriterStorage::Sole(_) => unreachable!(),
         }
     }
 }

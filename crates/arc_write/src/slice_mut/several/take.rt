@@ -1,6 +1,7 @@
 //! What one of several writers takes back, where he is alone: a vector, its box, or an array.
 ghost use Rattle.std.specs.Prelude.{◌≡◌, Err, IfOk, IfErr};
 ghost use Rattle.std.specs.Vec.{vec_capacity};
+ghost use Rattle.std.specs.declared.vec.Vec.{Vec};
 ghost use Rattle.arc_block.specs.Steps.{IsPassAt, RefusesTaking, TakesAt};
 ghost use Rattle.arc_block.specs.Window.{IsBoxWhole, IsVecPart};
 ghost use Rattle.arc_block.specs.Writers.{IsWholeWriter, size_at};
