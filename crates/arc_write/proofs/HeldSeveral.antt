@@ -1,5 +1,6 @@
 -- What the window of one of several writers stands on is held by its layout, whatever is done to it.
-use Rattle.std.proofs.Common.{◌≡◌, ℕ, Bool, true, false, List, [], ◌∷◌, Option, Some, None, refl, sym, subst, ◌≤◌}
+use Rattle.std.proofs.Common.{◌≡◌, ℕ, Bool, true, false, List, [], ◌∷◌, ◌++◌, length}
+use Rattle.std.proofs.Common.{Option, Some, None, refl, sym, ap, subst}
 use Rattle.std.specs.Prelude.{Result, Ok, Err, OnOk, IfErr}
 use Rattle.arc_owners.specs.count.Calls.{Owner}
 use Rattle.arc_owners.specs.count.Invariant.{BlockId, Line}
@@ -11,10 +12,10 @@ use Rattle.arc_block.specs.Layouts.{LayoutFacts}
 use Rattle.arc_block.specs.Place.{Place, nowhere, static_data, on_block, moved}
 use Rattle.arc_block.specs.Shared.{MakesRoomBeside, MakesRoomIf, MakesSharedRoom, PushesShared}
 use Rattle.arc_block.specs.Shared.{ReclaimsIf, ReclaimsShared, StandsToSplit, StandsToSplitAt}
-use Rattle.arc_block.specs.Shared.{SplitsWriterOff, SplitsWriterTo, as_unique, front_of}
+use Rattle.arc_block.specs.Shared.{SplitsWriterOff, SplitsWriterTo, as_unique, extended, front_of}
 use Rattle.arc_block.specs.Steps.{Shares}
 use Rattle.arc_block.specs.Window.{PartsView, IsBlockHeld}
-use Rattle.arc_block.specs.Writers.{after_advance}
+use Rattle.arc_block.specs.Writers.{after_advance, with_full, with_more}
 use Rattle.arc_write.proofs.Held.{room_held, reclaimed_held, advanced_held}
 
 module _ {T M : Type 0} (layout : LayoutFacts) where
@@ -151,3 +152,10 @@ module _ {T M : Type 0} (layout : LayoutFacts) where
             whole,
         same split.stays (advance-held at split.whole whole),
       )
+
+-- where full places aren't counted, items more change nothing else
+pub more_uncounted : {T M : Type 0} → (xs : List T) (w : PartsView T M)
+    → ((len more : ℕ) → with_full len more w.place ≡ w.place) → extended xs w ≡ with_more xs w
+more_uncounted xs w uncounted =
+    ap (λ place. record w { items = w.items ++ xs; place = place })
+    (sym (uncounted (length w.items) (length xs)))

@@ -2,7 +2,7 @@
 use Rattle.std.proofs.Common.{◌≡◌, ℕ, Bool, true, false, List, [], ◌∷◌, ◌++◌, length, take, drop}
 use Rattle.std.proofs.Common.{refl, sym, ap, ◌∙◌, subst, Option}
 use Rattle.std.specs.Prelude.{Result, Ok, Err, OnOk, IfErr}
-use Rattle.std.proofs.Math.Logic.{∥∥₁_map}
+use Rattle.std.proofs.Math.Logic.{∥∥₁_elim, ∥∥₁_map, ∥∥₁_prop}
 use Rattle.arc_owners.specs.count.Calls.{Owner}
 use Rattle.arc_owners.specs.count.Invariant.{BlockId, Line}
 use Rattle.arc_owners.specs.declared.count.tokens.Pass.{Pass}
@@ -12,7 +12,7 @@ use Rattle.arc_block.specs.Block.{Sort, native, vector, buffer, raw}
 use Rattle.arc_block.specs.Place.{Place, nowhere, static_data, on_block}
 use Rattle.arc_block.specs.declared.parts.room.Room.{Room}
 use Rattle.arc_block.specs.Shared.{MakesRoomBeside, MakesRoomIf, MakesSharedRoom, as_unique}
-use Rattle.arc_block.specs.Shared.{CanSplit, StandsToSplit, StandsToSplitAt}
+use Rattle.arc_block.specs.Shared.{CanSplit, StandsToSplit, StandsToSplitAt, joined_row}
 use Rattle.arc_block.specs.Shared.{SplitsWriterOff, SplitsWriterTo}
 use Rattle.arc_block.specs.Window.{PartsView}
 use Rattle.arc_write.proofs.Legal.{refused-items, split_legal}
@@ -75,7 +75,7 @@ module _ {T M : Type 0} (legal : List T → Type 0) where
       beside-items one_pass room (as_unique old) new before after e made
   if-items false one_pass room old new before after e made = ap (λ w. w.items) made.1
 
-  shared-items : {H : Type 0} → (asks one_pass : Bool) (room : Room) (old new : PartsView T M)
+  pub shared-items : {H : Type 0} → (asks one_pass : Bool) (room : Room) (old new : PartsView T M)
       (before after : Pass H) (e : TryReserveError)
       → MakesSharedRoom asks one_pass room old new before after (Err e) → new.items ≡ old.items
   shared-items true one_pass room old new before after e made =
@@ -111,3 +111,12 @@ module _ {T M : Type 0} (legal : List T → Type 0) where
   shared_push_legal asks one_pass room x old new before after more (Err r) pushed refused l =
       shared_extend_legal asks one_pass room (x ∷ []) old new before after
       (λ (r : TryReserveError × T). r.0) more (Err r) tt refused.1 l
+
+  -- two neighbours have legal lists, one behind the other
+  pub joined_legal : (old other new : PartsView T M)
+      → ((xs ys : List T) → legal xs → legal ys → legal (xs ++ ys))
+      → new ≡ joined_row old other → ∥ legal old.items ∥₁ → ∥ legal other.items ∥₁
+      → ∥ legal new.items ∥₁
+  joined_legal old other new both is l m =
+      subst (λ ys. ∥ legal ys ∥₁) (sym (ap (λ w. w.items) is))
+      (∥∥₁_elim l ∥∥₁_prop (λ h. ∥∥₁_map m (λ k. both old.items other.items h k)))
