@@ -18,6 +18,19 @@ use Rattle.arc_block.specs.Window.{PartsView, IsBlockHeld}
 use Rattle.arc_block.specs.Writers.{after_advance, with_full, with_more}
 use Rattle.arc_write.proofs.Held.{room_held, reclaimed_held, advanced_held}
 
+module _ {M : Type 0} (layout : LayoutFacts) where
+  -- another owner of the same block
+  shares-held : {H : Type 0} (place there : Place (Option Owner) M) (before after : Pass H)
+      → Shares place before after there → IsBlockHeld layout place → IsBlockHeld layout there
+  shares-held nowhere there before after shares held =
+      subst (IsBlockHeld layout) (sym shares.0) held
+  shares-held static_data there before after shares held =
+      subst (IsBlockHeld layout) (sym shares.0) held
+  shares-held (on_block None offset info) there before after shares held =
+      subst (IsBlockHeld layout) (sym shares.0) held
+  shares-held (on_block (Some o) offset info) there before after shares held =
+      subst (IsBlockHeld layout) (sym shares.2) held
+
 module _ {T M : Type 0} (layout : LayoutFacts) where
   -- the layout holds the block on which a writer stands
   abbrev HoldsRow : PartsView T M → Type 0
@@ -111,18 +124,6 @@ module _ {T M : Type 0} (layout : LayoutFacts) where
   stands-held real one_pass w v before after (on_block owner offset info) stands held =
       stands-by-sort real one_pass w v before after info.sort stands held
 
-  -- another owner of the same block
-  shares-held : {H : Type 0} (place there : Place (Option Owner) M) (before after : Pass H)
-      → Shares place before after there → IsBlockHeld layout place → IsBlockHeld layout there
-  shares-held nowhere there before after shares held =
-      subst (IsBlockHeld layout) (sym shares.0) held
-  shares-held static_data there before after shares held =
-      subst (IsBlockHeld layout) (sym shares.0) held
-  shares-held (on_block None offset info) there before after shares held =
-      subst (IsBlockHeld layout) (sym shares.0) held
-  shares-held (on_block (Some o) offset info) there before after shares held =
-      subst (IsBlockHeld layout) (sym shares.2) held
-
   advance-held : (at : ℕ) (w : PartsView T M) → HoldsRow w → HoldsRow (after_advance at w)
   advance-held at w held = advanced_held layout at w (after_advance at w) refl held
 
@@ -136,7 +137,7 @@ module _ {T M : Type 0} (layout : LayoutFacts) where
       let whole = stands-held real one_pass w split.whole before split.between w.place split.stands
       held in (
         same split.stays whole,
-        shares-held (after_advance at split.whole).place back.place split.between after split.shares
+        shares-held layout (after_advance at split.whole).place back.place split.between after split.shares
             (advance-held at split.whole whole),
       )
 
@@ -148,7 +149,7 @@ module _ {T M : Type 0} (layout : LayoutFacts) where
   split_to_held real one_pass at w front back before after split held =
       let whole = stands-held real one_pass w split.whole before split.between w.place split.stands
       held in (
-        shares-held (front_of at split.whole).place front.place split.between after split.shares
+        shares-held layout (front_of at split.whole).place front.place split.between after split.shares
             whole,
         same split.stays (advance-held at split.whole whole),
       )

@@ -162,6 +162,7 @@ module _ {T M : Type 0} (legal : List T → Type 0) where
   push_legal drops one_pass room x old new before after more (Err r) pushed refused l =
       extend_legal drops one_pass room (x ∷ []) old new before after (λ (r : TryReserveError × T). r.0) more (Err r) tt refused.1 l
 
+module _ {T : Type 0} (legal : List T → Type 0) where
   -- no items of a legal list are legal
   none-legal : (boundary : List T → ℕ → Bool)
       → ((xs : List T) (s e : ℕ) → legal xs → IsRange boundary xs s e → legal (sub xs s e))

@@ -27,8 +27,8 @@ returns-in-Sole g c =
     c.advance.ensures ∙ ap (after_advance c.args.n)
     (sym (seen_as c.self.inside.parts _ _ c.in-Sole.is c.self.view_is))
 
-pub invariant_of-self-in-Several : goal.invariant_of-self-in-Several
-invariant_of-self-in-Several g c =
+pub invariant_of-self-2 : goal.invariant_of-self-2
+invariant_of-self-2 g c =
     let layout = layout_facts g.L.Layout in let legal = g.S.Slice.is_legal in
     let laws = g.met.S.Subsliceable in let boundary = g.S.Subsliceable.boundary in
     let before = held_as layout legal _ c.self.inside.parts _ c.in-Several.is c.self.invariant in
@@ -41,7 +41,7 @@ invariant_of-self-in-Several g c =
           c.in-Several.parts _ c.advance-in-Several.ensures edge before.2,
     )
 
-pub returns-in-Several : goal.returns-in-Several
-returns-in-Several g c =
+pub returns : goal.returns
+returns g c =
     c.advance-in-Several.ensures ∙ ap (after_advance c.args.n)
     (sym (seen_as c.self.inside.parts _ _ c.in-Several.is c.self.view_is))

@@ -21,19 +21,19 @@ returns-in-Sole g c =
     c.extend_reserved.ensures ∙ ap (with_more c.args.items.now)
     (sym (seen_as c.self.inside.parts _ _ c.in-Sole.is c.self.view_is))
 
-pub invariant_of-self-in-Several : goal.invariant_of-self-in-Several
-invariant_of-self-in-Several g c =
+pub invariant_of-self-2 : goal.invariant_of-self-2
+invariant_of-self-2 g c =
     let layout = layout_facts g.L.Layout in
     let before = held_as layout g.S.Slice.is_legal _ c.self.inside.parts _ c.in-Several.is
     c.self.invariant in (
       before.0,
       more_held layout c.args.items.now c.in-Several.parts _ (c.extend_reserved-in-Several.ensures
-    ∙ more_uncounted c.args.items.now c.in-Several.parts c.known_uncounted.ensures) before.1,
+          ∙ more_uncounted c.args.items.now c.in-Several.parts c.known_uncounted.ensures) before.1,
       ∣ g.met.S.AnyItems.all_are_legal _ ∣₁,
     )
 
-pub returns-in-Several : goal.returns-in-Several
-returns-in-Several g c =
+pub returns : goal.returns
+returns g c =
     (c.extend_reserved-in-Several.ensures
     ∙ more_uncounted c.args.items.now c.in-Several.parts c.known_uncounted.ensures) ∙ ap (with_more c.args.items.now)
     (sym (seen_as c.self.inside.parts _ _ c.in-Several.is c.self.view_is))

@@ -1,4 +1,4 @@
-use Rattle.std.proofs.Common.{◌≡◌, ◌<◌, length, sym, ap, ◌∙◌, subst}
+use Rattle.std.proofs.Common.{◌≡◌, ◌<◌, false, length, sym, ap, ◌∙◌, subst}
 use Rattle.arc_buffer.specs.Slice.{IsEdge}
 use Rattle.arc_block.specs.LayoutFacts.{layout_facts}
 use Rattle.arc_block.specs.Window.{PartsView}
@@ -17,8 +17,9 @@ invariant_of-self g c =
     c.args.n < length w.items → IsEdge boundary w.items c.args.n)
     (seen_as c.self.inside.parts _ _ c.in-Sole.is c.self.view_is) c.requires in (
       before.0,
-      truncated_held layout _ c.args.n c.in-Sole.parts _ c.truncate.ensures before.1,
-      truncated_legal legal boundary laws.range_is_legal laws.ends_are_edges _ c.args.n
+      truncated_held layout g.S.Slice.DROPS c.args.n c.in-Sole.parts _ c.truncate.ensures before.1,
+      truncated_legal legal boundary laws.range_is_legal laws.ends_are_edges g.S.Slice.DROPS
+          c.args.n
           c.in-Sole.parts _ c.truncate.ensures edge before.2,
     )
 
@@ -27,8 +28,8 @@ returns-in-Sole g c =
     c.truncate.ensures ∙ ap (after_truncate g.S.Slice.DROPS c.args.n)
     (sym (seen_as c.self.inside.parts _ _ c.in-Sole.is c.self.view_is))
 
-pub invariant_of-self-in-Several : goal.invariant_of-self-in-Several
-invariant_of-self-in-Several g c =
+pub invariant_of-self-2 : goal.invariant_of-self-2
+invariant_of-self-2 g c =
     let layout = layout_facts g.L.Layout in let legal = g.S.Slice.is_legal in
     let laws = g.met.S.Subsliceable in let boundary = g.S.Subsliceable.boundary in
     let before = held_as layout legal _ c.self.inside.parts _ c.in-Several.is c.self.invariant in
@@ -36,13 +37,13 @@ invariant_of-self-in-Several g c =
     c.args.n < length w.items → IsEdge boundary w.items c.args.n)
     (seen_as c.self.inside.parts _ _ c.in-Several.is c.self.view_is) c.requires in (
       before.0,
-      truncated_held layout _ c.args.n c.in-Several.parts _ c.truncate-in-Several.ensures before.1,
-      truncated_legal legal boundary laws.range_is_legal laws.ends_are_edges _ c.args.n
+      truncated_held layout false c.args.n c.in-Several.parts _ c.truncate-in-Several.ensures before.1,
+      truncated_legal legal boundary laws.range_is_legal laws.ends_are_edges false c.args.n
           c.in-Several.parts _ c.truncate-in-Several.ensures edge before.2,
     )
 
-pub returns-in-Several : goal.returns-in-Several
-returns-in-Several g c =
+pub returns : goal.returns
+returns g c =
     (subst (λ drops. c.truncate-in-Several.new.self
     ≡ after_truncate drops c.args.n c.in-Several.parts) (sym c.known_kind.ensures)
     c.truncate-in-Several.ensures) ∙ ap (after_truncate g.S.Slice.DROPS c.args.n)

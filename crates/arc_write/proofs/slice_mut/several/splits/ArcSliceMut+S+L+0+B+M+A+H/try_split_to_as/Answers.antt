@@ -1,13 +1,13 @@
-use Rattle.std.proofs.Common.{refl, subst}
+use Rattle.std.proofs.Common.{◌≡◌, refl, sym, subst}
 use Rattle.arc_block.specs.LayoutFacts.{layout_facts}
 use Rattle.arc_block.specs.Shared.{CanSplit}
-use Rattle.arc_block.specs.Window.{PartsView}
+use Rattle.arc_block.specs.Window.{PartsView, IsBlockHeld}
 use Rattle.arc_block.specs.Writers.{capacity_of}
 use Rattle.arc_write.proofs.HeldSeveral.{split_to_held}
 use Rattle.arc_write.proofs.LegalSeveral.{split_to_legal}
-use Rattle.arc_write.proofs.OneBlock.{split_to_block}
 use Rattle.arc_write.proofs.Parts.{held_as, seen_as}
 use Rattle.arc_write.proofs.slice_mut.several.splits.ArcSliceMut+S+L+0+B+M+A+H.try_split_to_as.Goals as goal
+use Rattle.arc_write.proofs.slice_mut.several.splits.ArcSliceMut+S+L+0+B+M+A+H.try_split_to_as.Goals.{in-Ok, in-Err}
 
 pub from_shared_parts-requires : goal.from_shared_parts-requires
 from_shared_parts-requires g c =
@@ -31,8 +31,13 @@ invariant_of-self g c =
     let can = subst (λ (w : PartsView g.row.S-Item.Denot g.row.M.Denot).
     CanSplit boundary w.items (capacity_of w.role) c.args.at)
     (seen_as c.self.inside.parts _ _ c.in-Several.is c.self.view_is) c.requires.at in
-    let held = split_to_held layout g.H.Mark.real g.H.Mark.whole c.args.at c.in-Several.parts
-    _ _ _ _ c.in-Ok.ensures.made before.1 in
-    let parts = split_to_legal g.H.Mark.real g.H.Mark.whole legal boundary laws.range_is_legal
+    elim c.match-try_split_to_as.branch [
+      in-Ok w ↦
+        let held = split_to_held layout g.H.Mark.real g.H.Mark.whole c.args.at c.in-Several.parts
+    _ _ _ _ w.in-Ok.ensures.made before.1 in
+        let parts = split_to_legal g.H.Mark.real g.H.Mark.whole legal boundary laws.range_is_legal
     laws.ends_are_edges c.args.at _ c.in-Several.parts _ _ _ _ can before.2
-    c.in-Ok.ensures.made in (refl, held.1, parts.1)
+    w.in-Ok.ensures.made in (refl, held.1, parts.1)
+    | in-Err w ↦ subst (λ (p : PartsView g.row.S-Item.Denot g.row.M.Denot). (0 ≡ 0)
+        × IsBlockHeld layout p.place × ∥ legal p.items ∥₁) (sym w.in-Err.ensures.refused.0) before
+    ]
