@@ -1,4 +1,4 @@
-use Rattle.std.proofs.Common.{◌≡◌, refl, sym, subst}
+use Rattle.std.proofs.Common.{◌≡◌, ℕ, refl, sym, subst}
 use Rattle.arc_block.specs.LayoutFacts.{layout_facts}
 use Rattle.arc_block.specs.Shared.{CanSplit}
 use Rattle.arc_block.specs.Window.{PartsView, IsBlockHeld}
@@ -38,6 +38,6 @@ invariant_of-self g c =
         let parts = split_to_legal g.H.Mark.real g.H.Mark.whole legal boundary laws.range_is_legal
     laws.ends_are_edges c.args.at _ c.in-Several.parts _ _ _ _ can before.2
     w.in-Ok.ensures.made in (refl, held.1, parts.1)
-    | in-Err w ↦ subst (λ (p : PartsView g.row.S-Item.Denot g.row.M.Denot). (0 ≡ 0)
+    | in-Err w ↦ subst (λ (p : PartsView g.row.S-Item.Denot g.row.M.Denot). (◌≡◌ {A = ℕ} 0 0)
         × IsBlockHeld layout p.place × ∥ legal p.items ∥₁) (sym w.in-Err.ensures.refused.0) before
     ]

@@ -1,4 +1,4 @@
-use Rattle.std.proofs.Common.{◌≡◌, refl, sym, subst}
+use Rattle.std.proofs.Common.{◌≡◌, ℕ, refl, sym, subst}
 use Rattle.arc_block.specs.LayoutFacts.{layout_facts}
 use Rattle.arc_block.specs.Shared.{IsOneBlock}
 use Rattle.arc_block.specs.Steps.{IsPassAt}
@@ -32,6 +32,6 @@ invariant_of-self g c =
         joined_legal legal c.in-Several.parts _ _ g.met.S.Concatenable.both_are_legal joined
             before.2 c.into_shared_parts-other.ensures.legal,
       )
-    | in-Err w ↦ subst (λ (p : PartsView g.row.S-Item.Denot g.row.M.Denot). (0 ≡ 0)
+    | in-Err w ↦ subst (λ (p : PartsView g.row.S-Item.Denot g.row.M.Denot). (◌≡◌ {A = ℕ} 0 0)
         × IsBlockHeld layout p.place × ∥ legal p.items ∥₁) (sym w.in-Err.ensures.refused.2) before
     ]
