@@ -131,15 +131,34 @@ impl<
 impl<
     S: Slice,
     L: LayoutMut,
+    B: BufferMut<S::Item> + Drop,
+    M: Drop,
+    A: Allocator + Copy,
+    H: Stepping,
+> ArcSliceMut<S, L, 1, B, M, A, H> {
+    /// A new pass of the window's block, which has seen at least how the window became an owner,
+    /// and made nothing; on no block a pass of none. It adds nothing.
+    pub fn pass(&self) -> Pass<H>
+        ensures { at_owner self.now.place (IsPassOfNone result) (λ o. IsNewPass o result) }
+    {
+        match &self.parts {
+            WriterStorage::Sole(parts) => parts.pass(),
+            WriterStorage::Several(_) => unreachable!(),
+        }
+    }
+}
+
+impl<
+    S: Slice,
+    L: LayoutMut,
     const UNIQUE: u8,
     B: BufferMut<S::Item> + Drop,
     M: Drop,
     A: Allocator + Copy,
     H: Stepping,
 > ArcSliceMut<S, L, UNIQUE, B, M, A, H> {
-    /// A new pass of the window's block, which has seen at least how the window became an owner,
-    /// and made nothing; on no block a pass of none. It adds nothing.
-    pub fn pass(&self) -> Pass<H>
+    /// `pass`, of either role.
+    pub(crate) fn pass_of_either(&self) -> Pass<H>
         ensures { at_owner self.now.place (IsPassOfNone result) (λ o. IsNewPass o result) }
     {
         match &self.parts {

@@ -299,7 +299,7 @@ impl<
         ensures refused { IfErr result (λ back. (back ≡ self)
             × IsRefused (layout_move (layout_facts K.Layout) self.place)) }
     {
-        let mut pass = self.pass();
+        let mut pass = self.pass_of_either();
         let frozen = self.try_freeze_as(&mut pass);
         pass.show();
         frozen

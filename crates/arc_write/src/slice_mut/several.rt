@@ -1,7 +1,9 @@
 //! Windows of several writers on one block: how a window becomes one, and is its block's only owner
 //! again.
 ghost use Rattle.std.specs.Prelude.{◌≡◌, false, IfOk, IfErr, is_ok};
+ghost use Rattle.arc_owners.specs.count.Calls.{IsNewPass, IsPassOfNone};
 ghost use Rattle.arc_block.specs.LayoutFacts.{layout_facts};
+ghost use Rattle.arc_block.specs.Place.{at_owner};
 ghost use Rattle.arc_block.specs.Shared.{AsksAlone, IsSharedPlace, as_shared, as_unique};
 ghost use Rattle.arc_block.specs.Steps.{IsPassAt};
 ghost use Rattle.arc_block.specs.Table.{one_writer_of_several};
@@ -139,6 +141,17 @@ impl<
     A: Allocator + Copy,
     H: Stepping,
 > ArcSliceMut<S, L, 0, B, M, A, H> {
+    /// A new pass of the window's block, which has seen at least how the window became an owner,
+    /// and made nothing; on no block a pass of none. It adds nothing.
+    pub fn pass(&self) -> Pass<H>
+        ensures { at_owner self.now.place (IsPassOfNone result) (λ o. IsNewPass o result) }
+    {
+        match &self.parts {
+            WriterStorage::Several(parts) => parts.pass(),
+            WriterStorage::Sole(_) => unreachable!(),
+        }
+    }
+
     /// The same window, as its block's only writer: `try_into_unique_as` with a new pass.
     ///
     /// # Errors

@@ -29,7 +29,8 @@ invariant_of-self g c =
         refl,
         subst (λ (p : PartsView g.row.S-Item.Denot g.row.M.Denot). IsBlockHeld layout p.place)
             (sym joined) before.1,
-        joined_legal legal c.in-Several.parts _ _ g.met.S.Concatenable.both_are_legal joined
+        joined_legal legal c.in-Several.parts c.into_shared_parts-other.result _
+            g.met.S.Concatenable.both_are_legal joined
             before.2 c.into_shared_parts-other.ensures.legal,
       )
     | in-Err w ↦ subst (λ (p : PartsView g.row.S-Item.Denot g.row.M.Denot). (◌≡◌ {A = ℕ} 0 0)
