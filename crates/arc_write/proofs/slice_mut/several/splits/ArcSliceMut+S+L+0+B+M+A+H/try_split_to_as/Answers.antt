@@ -32,12 +32,12 @@ invariant_of-self g c =
     CanSplit boundary w.items (capacity_of w.role) c.args.at)
     (seen_as c.self.inside.parts _ _ c.in-Several.is c.self.view_is) c.requires.at in
     elim c.match-try_split_to_as.branch [
-      in-Ok w ↦
-        let held = split_to_held layout g.H.Mark.real g.H.Mark.whole c.args.at c.in-Several.parts
-    _ _ _ _ w.in-Ok.ensures.made before.1 in
-        let parts = split_to_legal g.H.Mark.real g.H.Mark.whole legal boundary laws.range_is_legal
-    laws.ends_are_edges c.args.at _ c.in-Several.parts _ _ _ _ can before.2
-    w.in-Ok.ensures.made in (refl, held.1, parts.1)
-    | in-Err w ↦ subst (λ (p : PartsView g.row.S-Item.Denot g.row.M.Denot). (◌≡◌ {A = ℕ} 0 0)
-        × IsBlockHeld layout p.place × ∥ legal p.items ∥₁) (sym w.in-Err.ensures.refused.0) before
+      | in-Ok w ↦
+          let held = split_to_held layout g.H.Mark.real g.H.Mark.whole c.args.at c.in-Several.parts
+          _ _ _ _ w.in-Ok.ensures.made before.1 in
+          let parts = split_to_legal g.H.Mark.real g.H.Mark.whole legal boundary laws.range_is_legal
+          laws.ends_are_edges c.args.at _ c.in-Several.parts _ _ _ _ can before.2
+          w.in-Ok.ensures.made in (refl, held.1, parts.1)
+      | in-Err w ↦ subst (λ (p : PartsView g.row.S-Item.Denot g.row.M.Denot). (◌≡◌ {A = ℕ} 0 0)
+          × IsBlockHeld layout p.place × ∥ legal p.items ∥₁) (sym w.in-Err.ensures.refused.0) before
     ]

@@ -25,7 +25,7 @@ invariant_of-self g c =
     let layout = layout_facts g.L.Layout in let legal = g.S.Slice.is_legal in
     let before = held_as layout legal 0 c.self.inside.parts _ c.in-Several.is c.self.invariant in
     elim c.match-try_unsplit_as.branch [
-      in-Ok w ↦ let joined = w.in-Ok.ensures.joined.1 in (
+      | in-Ok w ↦ let joined = w.in-Ok.ensures.joined.1 in (
         refl,
         subst (λ (p : PartsView g.row.S-Item.Denot g.row.M.Denot). IsBlockHeld layout p.place)
             (sym joined) before.1,
@@ -33,6 +33,6 @@ invariant_of-self g c =
             g.met.S.Concatenable.both_are_legal joined
             before.2 c.into_shared_parts-other.ensures.legal,
       )
-    | in-Err w ↦ subst (λ (p : PartsView g.row.S-Item.Denot g.row.M.Denot). (◌≡◌ {A = ℕ} 0 0)
-        × IsBlockHeld layout p.place × ∥ legal p.items ∥₁) (sym w.in-Err.ensures.refused.2) before
+      | in-Err w ↦ subst (λ (p : PartsView g.row.S-Item.Denot g.row.M.Denot). (◌≡◌ {A = ℕ} 0 0)
+          × IsBlockHeld layout p.place × ∥ legal p.items ∥₁) (sym w.in-Err.ensures.refused.2) before
     ]
