@@ -1,5 +1,6 @@
 //! Slice kinds: markers that say what a window's items are, and which lists of them are legal.
 ghost use Rattle.std.specs.Prelude.{◌≡◌, ℕ, ◌+◌, ◌≤◌, ◌↔◌, ◌==◌, if◌then◌else◌, Bool, IsOk, IfErr};
+ghost use Rattle.std.specs.Prelude.{false};
 ghost use Rattle.std.specs.Prelude.{List, [], ◌∷◌, ◌++◌, replicate, length};
 ghost use Rattle.std.specs.Mem.{FitsInMemory, type_size};
 ghost use Rattle.arc_buffer.specs.Slice.{IsEdge, IsRange, sub};
@@ -129,3 +130,10 @@ pub trait AnyItems: Slice {
 /// The Copy kinds, `Plain` and `ByteText`: a window may be made of a copy of any slice of the
 /// items.
 pub trait CopySlice: AnyItems {}
+
+/// The kinds that several writers may write on one block: all but `Owned`, whose full places are
+/// counted by one writer.
+pub trait Shareable: Slice {
+    /// Items don't have to be dropped one by one.
+    ghost drops_none: { Self.DROPS ≡ false };
+}

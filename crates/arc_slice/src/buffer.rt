@@ -5,5 +5,5 @@ pub use arc_buffer::buffer::{
 };
 pub use arc_buffer::kinds::{
     AnyItems, ByteText, Concatenable, CopySlice, DebugItem, DebugSlice, Emptyable, Extendable,
-    Owned, Plain, Slice, Subsliceable, Text, VecIn, Wraps, ZeroItem, Zeroable,
+    Owned, Plain, Shareable, Slice, Subsliceable, Text, VecIn, Wraps, ZeroItem, Zeroable,
 };

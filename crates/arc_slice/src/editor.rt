@@ -1,6 +1,7 @@
 //! An example: an editor's text. It is written into a string's memory, frozen to be shown, read in
 //! parts by others where it lies, written again when their parts have gone, and had back as the
-//! string. To show it and to hand out parts copies nothing. Its contracts are found by search.
+//! string; and one is written by two threads at once, each in its own part. To show it and to hand
+//! out parts copies nothing. Its contracts are found by search.
 ghost use Rattle.std.specs.Prelude.{◌≡◌, ◌++◌, ◌↔◌, take, slice_range, false, IfOk, IfErr, OnOk};
 ghost use Rattle.std.specs.Prelude.{OnErr, Err};
 ghost use Rattle.std.specs.String.{string_bytes};
@@ -12,10 +13,11 @@ ghost use Rattle.arc_slice.specs.declared.editor.PartError.TheVariants.{Range};
 
 use crate::error::{OwnerError, RangeError, TryReserveError};
 use crate::layout::{DefaultLayout, DefaultLayoutMut};
-use crate::{ArcStr, ArcStrMut, IntoMut};
+use crate::{ArcBytesMut, ArcBytesShared, ArcStr, ArcStrMut, IntoMut};
 use std::alloc::Global;
 use std::sync::Wait;
 use std::test::Fail;
+use std::thread::{Threads, join};
 
 /// A text that is written.
 #[derive(Drop)]
@@ -121,6 +123,64 @@ impl Page {
             Err(text) => Err(Page { text }),
         }
     }
+}
+
+/// A text in the places of these bytes, as far as there are such.
+fn write_over(places: &mut [u8], text: &str) {
+    for (place, byte) in places.iter_mut().zip(text.as_bytes()) {
+        *place = *byte;
+    }
+}
+
+/// Two texts in two parts of one block, each written by a thread of its own.
+fn write_at_once(
+    rt: &impl Threads,
+    front: &mut ArcBytesShared,
+    first: &str,
+    back: &mut ArcBytesShared,
+    second: &str,
+)
+    ensures front { front.new.place ≡ front.old.place }
+    ensures back { back.new.place ≡ back.old.place }
+{
+    let there = front.as_mut_slice();
+    let behind = back.as_mut_slice();
+    join(
+        rt,
+        || write_over(there, first),
+        || write_over(behind, second),
+    );
+}
+
+/// Two texts of one length, one behind the other, which two threads wrote at once on one block.
+fn written_by_two<R: Threads + Wait>(
+    rt: &R,
+    alloc: Global,
+    first: &str,
+    second: &str,
+) -> Option<ArcStrMut> {
+    let middle = first.len();
+    let places = middle.checked_add(second.len())?;
+    let bytes = ArcBytesMut::<DefaultLayoutMut>::try_zeroed(alloc, places).ok()?;
+    let mut front: ArcBytesShared = bytes.into_shared().ok()?;
+    front.check_split_off(middle).ok()?;
+    let Ok(mut back) = front.try_split_off(rt, middle) else {
+        return None;
+    };
+    write_at_once(rt, &mut front, first, &mut back, second);
+    front.try_unsplit(back).ok()?;
+    let bytes = front.try_into_unique().ok()?;
+    ArcStrMut::try_from_arc_slice_mut(bytes).ok()
+}
+
+/// Two authors, each with a part of the page.
+#[test]
+fn text_of_two(rt: HostRuntime) -> Result<(), Fail> {
+    let Some(text) = written_by_two(&rt, rt.alloc(), "Grüß ", "dich") else {
+        return Err("no memory".into());
+    };
+    assert!(rt; text.as_str() == "Grüß dich");
+    Ok(())
 }
 
 #[test]

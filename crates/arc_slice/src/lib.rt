@@ -6,7 +6,9 @@ pub use arc_owners::mark::{Mark, Open, Whole};
 pub use arc_owners::owners::Pass;
 pub use arc_read::borrow::ArcSliceBorrow;
 pub use arc_read::slice::ArcSlice;
-pub use arc_write::slice_mut::{ArcBytesMut, ArcSliceMut, ArcStrMut, IntoMut};
+pub use arc_write::slice_mut::{
+    ArcBytesMut, ArcBytesShared, ArcSliceMut, ArcStrMut, ArcStrShared, IntoMut,
+};
 pub use borrow::{ArcByteTextBorrow, ArcBytesBorrow, ArcStrBorrow};
 pub use slice::{ArcByteText, ArcBytes, ArcStr};
 

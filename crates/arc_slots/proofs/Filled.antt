@@ -653,6 +653,65 @@ module _ {T M : Type 0} (layout : LayoutFacts) (drops : Bool) (items : List T) (
     frozen_each (Some k) (on_block (Some o) offset info) fits writes =
         from-block info.sort writes (Some k) (on_block (Some o) offset info)
 
+module _ {T M : Type 0} (layout : LayoutFacts) (drops : Bool) (items : List T) (role : Role)
+    (left : List (Pass Whole)) (p q : Pass Whole) (v : Window T M) (n : Option ℕ)
+    (passes' : List (Pass Whole)) (begins : Bool) where
+  abbrev frozen_at : At M → PartsView T M
+  frozen_at place = record { items = items; place = place; role = role }
+
+  -- a window that a writer became, by where his went, has the number of its block
+  abbrev Numbered : Option ℕ → At M → Move → Type 0
+  Numbered b place move =
+      Moves move drops true (as_reader (frozen_at place)) (parts_of v) p q
+      → begins ≡ is_new move
+      → (begins ≡ false → (n ≡ b) × (passes' ≡ put_back left b q))
+      → (begins ≡ true → (n ≡ Some (length left)) × (passes' ≡ left ++ q ∷ []))
+      → is_numbered n v.place ≡ true
+
+  numbered-there : (b : Option ℕ) (place : At M) → is_numbered b place ≡ true
+      → (parts_of v ≡ as_reader (frozen_at place)) × (q ≡ p)
+      → (n ≡ b) × (passes' ≡ put_back left b q) → is_numbered n v.place ≡ true
+  numbered-there b place fits did kept =
+      ap (λ m. is_numbered m v.place) kept.0
+      ∙ ap (λ (x : PartsView T M). is_numbered b x.place) did.0 ∙ fits
+
+  numbered-nowhere : (x : Bool)
+      → Numbered None nowhere (if x then to.Stays else to.NewEmpty)
+  numbered-nowhere true moved begun same new =
+      numbered-there None nowhere refl moved (same begun)
+  numbered-nowhere false moved begun same new =
+      ap (λ m. is_numbered m v.place) (new begun).0
+      ∙ ap (λ (x : Window T M). is_numbered (Some (length left)) x.place) moved.0.made
+
+  numbered-if : (holds : Bool) (b : Option ℕ) (place : At M) → is_numbered b place ≡ true
+      → Numbered b place (if holds then to.Stays else to.HandedBack)
+  numbered-if true b place fits moved begun same new = numbered-there b place fits moved (same begun)
+  numbered-if false b place fits moved begun same new = absurd moved
+
+  numbered-block : (sort : Sort) → IsWritable sort → (b : Option ℕ) (place : At M)
+      → is_numbered b place ≡ true → Numbered b place (counted_move layout sort)
+  numbered-block native writes b place fits = numbered-if true b place fits
+  numbered-block vector writes b place fits = numbered-if layout.has_any b place fits
+  numbered-block (buffer writable) writes b place fits = numbered-if layout.has_any b place fits
+  numbered-block raw writes b place fits = absurd writes
+
+  frozen-numbered : (b : Option ℕ) (place : At M) → is_numbered b place ≡ true
+      → IsWriterPlace place
+      → Moves (layout_move layout place) drops true (as_reader (frozen_at place)) (parts_of v) p q
+      → begins ≡ is_new (layout_move layout (numbered b place))
+      → (begins ≡ false → (n ≡ b) × (passes' ≡ put_back left b q))
+      → (begins ≡ true → (n ≡ Some (length left)) × (passes' ≡ left ++ q ∷ []))
+      → is_numbered n v.place ≡ true
+  frozen-numbered None nowhere fits writes = numbered-nowhere layout.has_static
+  frozen-numbered None static_data fits writes = absurd writes
+  frozen-numbered None (on_block None offset info) fits writes = absurd writes
+  frozen-numbered None (on_block (Some o) offset info) fits writes = absurd (false≢true fits)
+  frozen-numbered (Some k) nowhere fits writes = absurd (false≢true fits)
+  frozen-numbered (Some k) static_data fits writes = absurd (false≢true fits)
+  frozen-numbered (Some k) (on_block None offset info) fits writes = absurd writes
+  frozen-numbered (Some k) (on_block (Some o) offset info) fits writes =
+      numbered-block info.sort writes (Some k) (on_block (Some o) offset info) refl
+
 module _ {T M K : Type 0} (small : K → PartsView T M) (h : AnyWindow T M K) (w : PartsView T M)
     (b : Option ℕ) (is : h ≡ Write w) (s : SlotView T M) (view : held small h b ≡ s)
     (fits : is_numbered b (window_in small h).place ≡ true) (layout : LayoutFacts) where
@@ -675,6 +734,20 @@ module _ {T M K : Type 0} (small : K → PartsView T M) (h : AnyWindow T M K) (w
       w.place (writes-fits small h w b is fits) writes took frozen
       (begun ∙ ap (λ (t : SlotView T M). is_new (layout_move layout (row_of t).place))
       (sym seen-slot)) same new)
+
+  -- and it has the number of its block
+  pub slot-numbered : IsWriterPlace w.place → (drops : Bool) (left : List (Pass Whole))
+      (p q : Pass Whole) (v : Window T M) (n : Option ℕ) (passes' : List (Pass Whole))
+      (begins : Bool) → Freezes layout drops true w (parts_of v) p q
+      → begins ≡ is_new (layout_move layout (row_of s).place)
+      → (begins ≡ false → (n ≡ b) × (passes' ≡ put_back left b q))
+      → (begins ≡ true → (n ≡ Some (length left)) × (passes' ≡ left ++ q ∷ []))
+      → is_numbered n v.place ≡ true
+  slot-numbered writes drops left p q v n passes' begins frozen begun same new =
+      frozen-numbered layout drops w.items w.role left p q v n passes' begins b w.place
+      (writes-fits small h w b is fits) writes frozen
+      (begun ∙ ap (λ (t : SlotView T M). is_new (layout_move layout (row_of t).place))
+      (sym seen-slot)) same new
 
   -- there is room for a first block's pass
   pub room-to-read : IsWriterPlace w.place → (passes left : List (Pass Whole)) (p : Pass Whole)

@@ -7,6 +7,8 @@ mod buffers;
 #[cfg(test)]
 mod commands;
 #[cfg(test)]
+mod ended;
+#[cfg(test)]
 mod kinds;
 #[cfg(test)]
 mod needs;

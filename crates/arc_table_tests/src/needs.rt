@@ -203,7 +203,7 @@ fn in_need(rt: HostRuntime) -> Result<(), Fail> {
     for (need, wanted) in NEEDS {
         let mut refusals = 0u32;
         let mut successes = 0u32;
-        for units in 1..64usize {
+        for units in 1..128usize {
             let heap = LocalHeap::new(rt.alloc(), units * 16)?;
             let found = position(wanted, answers(&rt, &heap, need));
             assert!(rt;
@@ -250,7 +250,7 @@ fn pushes_in_need(rt: HostRuntime) -> Result<(), Fail> {
     let mut all = 0u32;
     let mut growth = 0u32;
     let mut none = 0u32;
-    for units in 1..64usize {
+    for units in 1..128usize {
         let heap = LocalHeap::new(rt.alloc(), units * 16)?;
         let refused = pushes_refused(&rt, &heap);
         assert!(rt; heap.used() == 0, "in {units} units");

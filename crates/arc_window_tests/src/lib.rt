@@ -4,6 +4,8 @@
 #![tactic(auto)]
 
 #[cfg(test)]
+mod apart;
+#[cfg(test)]
 mod borrows;
 #[cfg(test)]
 mod callers;
@@ -33,6 +35,8 @@ mod refused_buffers;
 mod refused_in_turn;
 #[cfg(test)]
 mod seen;
+#[cfg(test)]
+mod several;
 #[cfg(test)]
 mod static_readers;
 #[cfg(test)]

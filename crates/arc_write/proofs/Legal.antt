@@ -1,11 +1,11 @@
 -- What is written stays legal.
-use Rattle.std.proofs.Common.{◌≡◌, ℕ, ◌<◌, Bool, true, false, List, [], ◌∷◌, ◌++◌, length, take, drop, if◌then◌else◌, Option, Result, Ok, Err, OnOk, IfErr, refl, sym, ap, ◌∙◌, subst, arith}
+use Rattle.std.proofs.Common.{◌≡◌, ℕ, ◌<◌, ◌≤◌, Bool, not, true, false, List, [], ◌∷◌, ◌++◌, length, take, drop, if◌then◌else◌, Option, Result, Ok, Err, OnOk, IfErr, refl, sym, ap, ◌∙◌, subst, arith}
 use Rattle.std.specs.Prelude.{nat_lt}
 use Rattle.std.proofs.Math.Logic.{∥∥₁_map}
 use Rattle.std.proofs.Math.Dec.{T}
-use Rattle.std.proofs.Math.Facts.{ltb_yes}
+use Rattle.std.proofs.Math.Facts.{ltb_yes, ltb_no}
 use Rattle.std.proofs.lemmas.Bool.{false≢true}
-use Rattle.std.proofs.lemmas.List.{take_all}
+use Rattle.std.proofs.lemmas.List.{take_all, drop_all}
 use Rattle.arc_owners.specs.declared.error.TryReserveError.{TryReserveError}
 use Rattle.arc_owners.specs.declared.count.tokens.Pass.{Pass}
 use Rattle.arc_block.specs.declared.parts.room.Room.{Room}
@@ -22,6 +22,10 @@ use Rattle.arc_block.specs.Writers.{BecomesSole, BecomesSoleAt}
 yes : (b : Bool) → b ≡ true → T b
 yes true e = tt
 yes false e = absurd (false≢true e)
+
+no : (b : Bool) → b ≡ false → T (not b)
+no false e = tt
+no true e = absurd (false≢true (sym e))
 
 -- a list of no length has no items
 no-items : {T : Type 0} → (xs : List T) → length xs ≡ 0 → xs ≡ []
@@ -43,6 +47,19 @@ module _ {X : Type 0} (legal : List X → Type 0) where
     from = (ends xs h).0.cuts;
     to = edge.cuts;
   }))
+
+  back-legal : (boundary : List X → ℕ → Bool)
+      → ((xs : List X) (s e : ℕ) → legal xs → IsRange boundary xs s e → legal (sub xs s e))
+      → ((xs : List X) → legal xs → IsEdge boundary xs 0 × IsEdge boundary xs (length xs))
+      → (xs : List X) (n : ℕ) → IsEdge boundary xs n → ∥ legal xs ∥₁ → ∥ legal (drop n xs) ∥₁
+  back-legal boundary part ends xs n edge l =
+      let all : sub xs n (length xs) ≡ drop n xs = ap (drop n) (take_all (length xs) xs (omega arith)) in
+      ∥∥₁_map l (λ h. subst legal all (part xs n (length xs) h (record {
+        ordered = edge.within;
+        within = omega arith;
+        from = edge.cuts;
+        to = (ends xs h).1.cuts;
+      })))
 
   by_test : (boundary : List X → ℕ → Bool)
       → ((xs : List X) (s e : ℕ) → legal xs → IsRange boundary xs s e → legal (sub xs s e))
@@ -83,15 +100,8 @@ module _ {T M : Type 0} (legal : List T → Type 0) where
       → (n : ℕ) (old new : PartsView T M) → new ≡ after_advance n old → IsEdge boundary old.items n
       → ∥ legal old.items ∥₁ → ∥ legal new.items ∥₁
   advanced_legal boundary part ends n old new is edge l =
-      let xs = old.items in
-      let all : sub xs n (length xs) ≡ drop n xs = ap (drop n) (take_all (length xs) xs (omega arith)) in
       subst (λ zs. ∥ legal zs ∥₁) (sym (ap (λ w. w.items) is))
-      (∥∥₁_map l (λ h. subst legal all (part xs n (length xs) h (record {
-        ordered = edge.within;
-        within = omega arith;
-        from = edge.cuts;
-        to = (ends xs h).1.cuts;
-      }))))
+      (back-legal legal boundary part ends old.items n edge l)
 
   items_of : (drops : Bool) (n : ℕ) (w : PartsView T M) (b : Bool)
       → (if b then record w { items = take n w.items; role = if drops then with_capacity w.role n else w.role } else w).items
@@ -151,3 +161,42 @@ module _ {T M : Type 0} (legal : List T → Type 0) where
       extend_legal drops one_pass room (x ∷ []) old new before after (λ (r : TryReserveError × T). r.0) more (Ok u) pushed tt l
   push_legal drops one_pass room x old new before after more (Err r) pushed refused l =
       extend_legal drops one_pass room (x ∷ []) old new before after (λ (r : TryReserveError × T). r.0) more (Err r) tt refused.1 l
+
+module _ {T : Type 0} (legal : List T → Type 0) where
+  -- no items of a legal list are legal
+  none-legal : (boundary : List T → ℕ → Bool)
+      → ((xs : List T) (s e : ℕ) → legal xs → IsRange boundary xs s e → legal (sub xs s e))
+      → ((xs : List T) → legal xs → IsEdge boundary xs 0 × IsEdge boundary xs (length xs))
+      → (xs : List T) → ∥ legal xs ∥₁ → ∥ legal [] ∥₁
+  none-legal boundary part ends xs l = ∥∥₁_map l (λ h. part xs 0 0 h (record {
+    ordered = omega arith;
+    within = omega arith;
+    from = (ends xs h).0.cuts;
+    to = (ends xs h).0.cuts;
+  }))
+
+  front-by : (boundary : List T → ℕ → Bool)
+      → ((xs : List T) (s e : ℕ) → legal xs → IsRange boundary xs s e → legal (sub xs s e))
+      → ((xs : List T) → legal xs → IsEdge boundary xs 0 × IsEdge boundary xs (length xs))
+      → (xs : List T) (at : ℕ) → (at < length xs → IsEdge boundary xs at) → ∥ legal xs ∥₁
+      → (b : Bool) → nat_lt at (length xs) ≡ b
+      → ∥ legal (take at xs) ∥₁ × ∥ legal (drop at xs) ∥₁
+  front-by boundary part ends xs at edge l true short =
+      let here = edge (ltb_yes (yes (nat_lt at (length xs)) short)) in (
+        cut-legal legal boundary part ends xs at here l,
+        back-legal legal boundary part ends xs at here l,
+      )
+  front-by boundary part ends xs at edge l false long =
+      let all : length xs ≤ at = ltb_no (no (nat_lt at (length xs)) long) in (
+        same legal (take_all at xs all) l,
+        same legal (drop_all at xs all) (none-legal boundary part ends xs l),
+      )
+
+  -- both parts of a legal list that is split where that may be done
+  pub split_legal : (boundary : List T → ℕ → Bool)
+      → ((xs : List T) (s e : ℕ) → legal xs → IsRange boundary xs s e → legal (sub xs s e))
+      → ((xs : List T) → legal xs → IsEdge boundary xs 0 × IsEdge boundary xs (length xs))
+      → (xs : List T) (at : ℕ) → (at < length xs → IsEdge boundary xs at) → ∥ legal xs ∥₁
+      → ∥ legal (take at xs) ∥₁ × ∥ legal (drop at xs) ∥₁
+  split_legal boundary part ends xs at edge l =
+      front-by boundary part ends xs at edge l (nat_lt at (length xs)) refl

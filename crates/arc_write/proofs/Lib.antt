@@ -1,5 +1,11 @@
 mod Extend
 pub mod Legal
 pub mod Held
+pub mod HeldSeveral
+pub mod LegalSeveral
+pub mod OneBlock
 mod More
+pub mod Parts
+pub mod ReadParts
+pub mod RefusedSeveral
 mod Zeros

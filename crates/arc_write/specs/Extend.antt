@@ -1,9 +1,10 @@
 -- Extending a write window by items that come one by one.
-use Rattle.std.specs.Prelude.{◌≡◌, ℕ, Bool, List, [], ◌∷◌, Result, Ok, Err}
+use Rattle.std.specs.Prelude.{◌≡◌, ℕ, Bool, false, List, [], ◌∷◌, Result, Ok, Err}
 use Rattle.arc_owners.specs.declared.error.TryReserveError.{TryReserveError}
 use Rattle.arc_owners.specs.count.Invariant.{BlockId, Line}
 use Rattle.arc_block.specs.declared.parts.room.Room.{Room}
 use Rattle.arc_block.specs.Growth.{AsksForRoom, IfAsked}
+use Rattle.arc_block.specs.Shared.{MakesSharedRoom, PushesShared, asks_alone}
 use Rattle.arc_block.specs.Window.{PartsView}
 use Rattle.arc_block.specs.Writers.{room_for, size_at, MakesRoom, Pushes}
 use Rattle.arc_read.specs.Steps.{WithNewPass}
@@ -43,3 +44,19 @@ module _ {T M B : Type 0} (H : Type 0) (real : BlockId → ℕ → List Line →
     pub refused : WithNewPass {H = H} real old.place (λ first last.
         MakesRoom drops one_pass (room_for_one drops item_size old) old new first last (Err e))
     pub own : AsksForOne old new (Err e)
+
+-- the same of one of several writers
+module _ {T M : Type 0} (H : Type 0) (real : BlockId → ℕ → List Line → Type 0)
+    (one_pass : Bool) (item_size : ℕ) where
+  pub record PushesOneShared (x : T) (old new : PartsView T M) : Type 0 where
+    pub pushed : WithNewPass {H = H} real old.place (λ first last.
+        PushesShared (asks_alone old 1) one_pass (room_for_one false item_size old) (x ∷ [])
+        old new first last)
+
+  abbrev pub PushesEachShared : List T → (old new : PartsView T M) → Type 0
+  PushesEachShared xs old new = EachOf PushesOneShared xs old new
+
+  pub record RefusesOneShared (e : TryReserveError) (old new : PartsView T M) : Type 0 where
+    pub refused : WithNewPass {H = H} real old.place (λ first last.
+        MakesSharedRoom (asks_alone old 1) one_pass (room_for_one false item_size old)
+        old new first last (Err e))

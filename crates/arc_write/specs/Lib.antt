@@ -1,4 +1,4 @@
 pub mod Extend
 pub mod Lends
-pub mod Splits
+pub mod Parts
 pub mod Within

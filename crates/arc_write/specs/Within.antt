@@ -1,5 +1,5 @@
 -- What is written into the places that a window has already.
-use Rattle.std.specs.Prelude.{ℕ, ◌-◌, min, List, length, take}
+use Rattle.std.specs.Prelude.{◌≡◌, ℕ, ◌-◌, ◌+◌, ◌≤◌, min, Bool, true, List, length, take}
 use Rattle.arc_block.specs.Table.{RowOf}
 use Rattle.arc_block.specs.Writers.{capacity_of, with_more}
 
@@ -15,3 +15,9 @@ module _ {N T M : Type 0} where
   -- the window, with these behind its own items
   abbrev pub after_write : RowOf N T M → List T → RowOf N T M
   after_write w xs = with_more (take (taken w xs) xs) w
+
+  -- what fits in the window's places is done, and it stands where it stood
+  abbrev pub StaysWithin : (additional : ℕ) → (old new : RowOf N T M) → (done : Bool) → Type 0
+  StaysWithin additional old new done =
+      length old.items + additional ≤ capacity_of old.role
+      → (done ≡ true) × (new.place ≡ old.place)

@@ -6,6 +6,7 @@ mod compare;
 mod debug;
 mod display;
 mod format;
+mod format_several;
 mod hash;
 mod hex;
 mod io;

@@ -6,19 +6,20 @@ ghost use Rattle.arc_block.specs.Window.{IsBlockHeld};
 ghost use Rattle.arc_block.specs.Writers.{IsWriterPlace, idle_writer};
 
 use arc_block::layout::{DefaultLayoutMut, LayoutMut};
-use arc_block::parts::SoleParts;
+use arc_block::parts::{SharedParts, SoleParts};
 use arc_buffer::buffer::BufferMut;
 use arc_buffer::kinds::{Emptyable, Plain, Slice, Text};
 use arc_owners::mark::{Mark, Open};
 pub use into_mut::IntoMut;
+use parts::WriterStorage;
 use std::alloc::{Allocator, Global};
 use std::marker::{Model, PhantomData};
 
-/// A list with a capacity: the only owner of its block writes into the block's places, or it
-/// stands on nothing, with no items and no places.
+/// A list with a capacity, in places of its block that no other owner reaches; or it stands on
+/// nothing, with no items and no places.
 ///
-/// `UNIQUE` is 1: the window is its block's only owner. `B` is the type of callers' buffers and
-/// `M` that of their metadata.
+/// Where `UNIQUE` is 1 the window is its block's only owner, and where it is 0 one of several
+/// writers: there are no others. `B` is the type of callers' buffers and `M` that of their metadata.
 ///
 /// Each call that makes a block, makes room in it or leaves it has a form that ends in `_as` and
 /// takes a pass of the block, in which contracts read what was added to the block's history; a
@@ -35,7 +36,7 @@ pub struct ArcSliceMut<
     A: Allocator + Copy = Global,
     H: Mark = Open,
 > {
-    parts: SoleParts<S, B, M, A, H>,
+    parts: WriterStorage<SoleParts<S, B, M, A, H>, SharedParts<S, B, M, A, H>>,
     of: PhantomData<L>,
 }
 
@@ -61,6 +62,14 @@ pub type ArcStrMut<L = DefaultLayoutMut, B = Vec<u8>, M = (), A = Global, H = Op
     H,
 >;
 
+/// Bytes that one of several writers has.
+pub type ArcBytesShared<L = DefaultLayoutMut, B = Vec<u8>, M = (), A = Global, H = Open> =
+    ArcSliceMut<Plain<u8>, L, 0, B, M, A, H>;
+
+/// A text that one of several writers has.
+pub type ArcStrShared<L = DefaultLayoutMut, B = Vec<u8>, M = (), A = Global, H = Open> =
+    ArcSliceMut<Text, L, 0, B, M, A, H>;
+
 impl<
     S: Slice,
     L: LayoutMut,
@@ -72,13 +81,15 @@ impl<
 > Model for ArcSliceMut<S, L, UNIQUE, B, M, A, H> {
     ghost use Rattle.arc_block.specs.LayoutFacts.{layout_facts};
     ghost use Rattle.arc_block.specs.Window.{PartsView, IsBlockHeld};
+    ghost use Rattle.arc_write.specs.Parts.{written_on, IsOfUnique};
 
     ghost Value = { PartsView S.Item M };
 
-    ghost view = { λ w. w.parts };
+    ghost view = { λ w. written_on w.parts };
 
-    ghost invariant = { λ w. IsBlockHeld (layout_facts L.Layout) w.parts.place
-        × ∥ S.is_legal w.parts.items ∥₁ };
+    ghost invariant = { λ w. IsOfUnique UNIQUE w.parts
+        × IsBlockHeld (layout_facts L.Layout) (written_on w.parts).place
+        × ∥ S.is_legal (written_on w.parts).items ∥₁ };
 }
 
 impl<
@@ -95,7 +106,27 @@ impl<
         ensures ended { H.whole ≡ false → EndsShownAt H H.real self.place }
     {
         let ArcSliceMut { parts, of: _ } = self;
-        drop(parts);
+        match parts {
+            WriterStorage::Sole(parts) => drop(parts),
+            WriterStorage::Several(parts) => drop(parts),
+        }
+    }
+}
+
+impl<
+    S: Slice,
+    L: LayoutMut,
+    B: BufferMut<S::Item> + Drop,
+    M: Drop,
+    A: Allocator + Copy,
+    H: Mark,
+> ArcSliceMut<S, L, 1, B, M, A, H> {
+    /// The window stands on nothing, or on a block that the layout holds. Does nothing: its
+    /// contract is the law.
+    pub fn known_held(&self)
+        ensures { IsBlockHeld (layout_facts L.Layout) self.now.place }
+    {
+        let _ = &self.parts;
     }
 }
 
@@ -125,7 +156,7 @@ impl<
         ensures { result ≡ parts }
     {
         ArcSliceMut {
-            parts,
+            parts: WriterStorage::Sole(parts),
             of: PhantomData,
         }
     }
@@ -135,15 +166,10 @@ impl<
     pub fn known_place(&self)
         ensures { IsWriterPlace self.now.place }
     {
-        self.parts.known_place();
-    }
-
-    /// The window stands on nothing, or on a block that the layout holds. Does nothing: its
-    /// contract is the law.
-    pub fn known_held(&self)
-        ensures { IsBlockHeld (layout_facts L.Layout) self.now.place }
-    {
-        let _ = &self.parts;
+        match &self.parts {
+            WriterStorage::Sole(parts) => parts.known_place(),
+            WriterStorage::Several(_) => unreachable!(),
+        }
     }
 
     /// What the window is made of. It adds nothing.
@@ -154,19 +180,25 @@ impl<
         ensures legal { ∥ S.is_legal result.items ∥₁ }
     {
         let ArcSliceMut { parts, of: _ } = self;
-        parts
+        match parts {
+            WriterStorage::Sole(parts) => parts,
+            WriterStorage::Several(_) => unreachable!(),
+        }
     }
 }
 
 mod buffers;
 mod change;
 mod cuts;
+mod either;
 mod into_mut;
 mod iterate;
 mod make;
 mod own;
+mod parts;
 mod plain;
 mod read;
+mod several;
 mod text;
 mod vectors;
 mod write;

@@ -1,13 +1,13 @@
 //! Parts of a window that writes as one of several owners of its block.
-ghost use Rattle.std.specs.Prelude.{◌≡◌, ◌≤◌, ◌↔◌, [], length, false, IsTrue};
+ghost use Rattle.std.specs.Prelude.{◌≡◌, ℕ, ◌≤◌, ◌↔◌, [], length, false, IsTrue};
 ghost use Rattle.arc_block.specs.LayoutFacts.{layout_facts};
 ghost use Rattle.arc_block.specs.Place.{nowhere};
 ghost use Rattle.arc_block.specs.NativeWriters.{native_row, IsAlonePlace};
-ghost use Rattle.arc_block.specs.Shared.{IsSharedPlace, as_shared};
+ghost use Rattle.arc_block.specs.Shared.{IsSharedPlace, as_shared, is_vector_at};
 ghost use Rattle.arc_block.specs.Steps.{EndsShownAt};
 ghost use Rattle.arc_block.specs.Table.{one_writer_of_several};
 ghost use Rattle.arc_block.specs.Window.{IsBlockHeld};
-ghost use Rattle.arc_block.specs.Writers.{capacity_of};
+ghost use Rattle.arc_block.specs.Writers.{capacity_of, with_full};
 
 use crate::layout::Layout;
 use crate::parts::SoleParts;
@@ -132,6 +132,28 @@ impl<S: Slice, B: BufferMut<S::Item> + Drop, M: Drop, A: Allocator + Copy, H: Ma
         ensures { S.DROPS ≡ false }
     {
         let _ = &self.on;
+    }
+
+    /// Whether they stand on a vector, whose places a split moves to a native block first.
+    pub fn is_on_vector(&self) -> bool
+        ensures { result ≡ is_vector_at self.now.place }
+    {
+        match &self.on {
+            SharedStorage::Several(_) => false,
+            SharedStorage::Alone(parts) => parts.is_on_vector(),
+        }
+    }
+
+    /// The block's full places aren't counted: none are more when items are pushed. Does nothing:
+    /// its contract is the law.
+    pub fn known_uncounted(&self)
+        ensures { (len more : ℕ) → with_full len more self.now.place ≡ self.now.place }
+    {
+        self.known_kind();
+        match &self.on {
+            SharedStorage::Several(_) => (),
+            SharedStorage::Alone(parts) => parts.known_uncounted(),
+        }
     }
 
     /// How many items there are.

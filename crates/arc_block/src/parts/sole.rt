@@ -12,6 +12,7 @@ ghost use Rattle.arc_block.specs.Writers.{IsWriterPlace, size_at};
 ghost use Rattle.std.specs.Prelude.{IsTrue};
 ghost use Rattle.std.specs.Prelude.{◌↔◌};
 ghost use Rattle.arc_block.specs.Window.{IsOfBuffer};
+ghost use Rattle.arc_block.specs.Shared.{is_vector_at};
 
 use arc_buffer::buffer::BufferMut;
 use arc_buffer::kinds::{Slice, Zeroable};
@@ -126,6 +127,17 @@ impl<S: Slice, B: BufferMut<S::Item> + Drop, M: Drop, A: Allocator + Copy, H: Ma
             SoleStorage::Buffer(parts) => parts.is_on_buffer(),
             SoleStorage::Native(parts) => parts.is_on_buffer(),
             SoleStorage::Vector(parts) => parts.is_on_buffer(),
+        }
+    }
+
+    /// Whether they stand on a vector.
+    pub fn is_on_vector(&self) -> bool
+        ensures { result ≡ is_vector_at self.now.place }
+    {
+        match &self.on {
+            SoleStorage::Buffer(parts) => parts.is_on_vector(),
+            SoleStorage::Native(parts) => parts.is_on_vector(),
+            SoleStorage::Vector(parts) => parts.is_on_vector(),
         }
     }
 

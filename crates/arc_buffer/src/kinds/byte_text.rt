@@ -4,7 +4,8 @@ ghost use Rattle.arc_buffer.specs.Slice.{anywhere};
 ghost use Rattle.arc_buffer.specs.Laws.{anywhere_at_ends};
 
 use super::{
-    AnyItems, Concatenable, CopySlice, Emptyable, Extendable, Slice, Subsliceable, Zeroable,
+    AnyItems, Concatenable, CopySlice, Emptyable, Extendable, Shareable, Slice, Subsliceable,
+    Zeroable,
 };
 use std::convert::Infallible;
 
@@ -64,6 +65,10 @@ impl AnyItems for ByteText {
 }
 
 impl CopySlice for ByteText {}
+
+impl Shareable for ByteText {
+    ghost drops_none = { refl };
+}
 
 impl Zeroable for ByteText {
     ghost zero_item = { 0 };

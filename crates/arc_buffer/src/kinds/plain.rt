@@ -5,7 +5,8 @@ ghost use Rattle.arc_buffer.specs.Laws.{anywhere_at_ends};
 
 use super::zero_item::ZeroItem;
 use super::{
-    AnyItems, Concatenable, CopySlice, Emptyable, Extendable, Slice, Subsliceable, Zeroable,
+    AnyItems, Concatenable, CopySlice, Emptyable, Extendable, Shareable, Slice, Subsliceable,
+    Zeroable,
 };
 use std::convert::Infallible;
 use std::marker::PhantomData;
@@ -68,6 +69,10 @@ impl<T: Copy + Drop> AnyItems for Plain<T> {
 }
 
 impl<T: Copy + Drop> CopySlice for Plain<T> {}
+
+impl<T: Copy + Drop> Shareable for Plain<T> {
+    ghost drops_none = { refl };
+}
 
 impl<T: ZeroItem + Drop> Zeroable for Plain<T> {
     ghost zero_item = { T.zero_item };

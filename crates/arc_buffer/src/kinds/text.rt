@@ -1,12 +1,12 @@
 //! Text: bytes that are always valid UTF-8.
-ghost use Rattle.std.specs.Prelude.{◌≡◌, false, drop};
+ghost use Rattle.std.specs.Prelude.{◌≡◌, false, drop, refl};
 ghost use Rattle.std.specs.Str.{IsUtf8, valid_up_to, error_len};
 ghost use Rattle.std.specs.Str.Lossy.{utf8_valid_len, utf8_error_len};
 ghost use Rattle.std.proofs.lemmas.Str.{IsUtf8-nil, IsUtf8-append};
 ghost use Rattle.arc_buffer.specs.Text.{is_between_characters, CutsIntoTexts};
 ghost use Rattle.arc_buffer.specs.Laws.{text_ends, text_ranges, text_parts, zeros_are_text};
 
-use super::{Concatenable, Emptyable, Slice, Subsliceable, Zeroable};
+use super::{Concatenable, Emptyable, Shareable, Slice, Subsliceable, Zeroable};
 use std::str;
 use std::str::Utf8Error;
 
@@ -56,6 +56,10 @@ impl Subsliceable for Text {
 
 impl Concatenable for Text {
     ghost both_are_legal = { IsUtf8-append };
+}
+
+impl Shareable for Text {
+    ghost drops_none = { refl };
 }
 
 impl Zeroable for Text {

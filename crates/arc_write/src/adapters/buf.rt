@@ -13,21 +13,27 @@ use arc_owners::mark::Mark;
 use bytes::Buf;
 use std::alloc::Allocator;
 
-impl<L: LayoutMut, B: BufferMut<u8> + Drop, M: Drop, A: Allocator + Copy, H: Mark> Buf
-    for ArcSliceMut<Plain<u8>, L, 1, B, M, A, H> {
+impl<
+    L: LayoutMut,
+    const UNIQUE: u8,
+    B: BufferMut<u8> + Drop,
+    M: Drop,
+    A: Allocator + Copy,
+    H: Mark,
+> Buf for ArcSliceMut<Plain<u8>, L, UNIQUE, B, M, A, H> {
     ghost unread = { λ w. w.items };
 
     ghost kept = { λ w. kept_spare (spare_places w) };
 
     fn remaining(&self) -> usize {
-        self.len()
+        self.len_of_either()
     }
 
     fn chunk(&self) -> &[u8]
         ensures chunk { IsChunkOf result.now self.now.items }
         ensures whole { result.now ≡ self.now.items }
     {
-        self.as_slice()
+        self.slice_of_either()
     }
 
     /// The window's own `advance`: the places of what was read go too.
@@ -37,25 +43,31 @@ impl<L: LayoutMut, B: BufferMut<u8> + Drop, M: Drop, A: Allocator + Copy, H: Mar
         ensures kept { kept_spare (spare_places self.new) ≡ kept_spare (spare_places self.old) }
         ensures window { self.new ≡ after_advance count self.old }
     {
-        ArcSliceMut::advance(self, count);
+        self.advance_of_either(count);
     }
 }
 
-impl<L: LayoutMut, B: BufferMut<u8> + Drop, M: Drop, A: Allocator + Copy, H: Mark> Buf
-    for ArcSliceMut<ByteText, L, 1, B, M, A, H> {
+impl<
+    L: LayoutMut,
+    const UNIQUE: u8,
+    B: BufferMut<u8> + Drop,
+    M: Drop,
+    A: Allocator + Copy,
+    H: Mark,
+> Buf for ArcSliceMut<ByteText, L, UNIQUE, B, M, A, H> {
     ghost unread = { λ w. w.items };
 
     ghost kept = { λ w. kept_spare (spare_places w) };
 
     fn remaining(&self) -> usize {
-        self.len()
+        self.len_of_either()
     }
 
     fn chunk(&self) -> &[u8]
         ensures chunk { IsChunkOf result.now self.now.items }
         ensures whole { result.now ≡ self.now.items }
     {
-        self.as_slice()
+        self.slice_of_either()
     }
 
     /// The window's own `advance`: the places of what was read go too.
@@ -65,6 +77,6 @@ impl<L: LayoutMut, B: BufferMut<u8> + Drop, M: Drop, A: Allocator + Copy, H: Mar
         ensures kept { kept_spare (spare_places self.new) ≡ kept_spare (spare_places self.old) }
         ensures window { self.new ≡ after_advance count self.old }
     {
-        ArcSliceMut::advance(self, count);
+        self.advance_of_either(count);
     }
 }

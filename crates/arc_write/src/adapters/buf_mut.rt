@@ -17,11 +17,12 @@ use std::alloc::{AllocError, Allocator};
 impl<
     S: CopySlice<Item = u8>,
     L: LayoutMut,
+    const UNIQUE: u8,
     B: BufferMut<u8> + Drop,
     M: Drop,
     A: Allocator + Copy,
     H: Mark,
-> BufMut for ArcSliceMut<S, L, 1, B, M, A, H> {
+> BufMut for ArcSliceMut<S, L, UNIQUE, B, M, A, H> {
     ghost written = { λ w. w.items };
 
     ghost spare = { spare_places };
@@ -41,7 +42,7 @@ impl<
             (Some (spare_places self.new)) additional }
         ensures same { self.new ≡ self.old }
     {
-        if additional <= self.capacity() - self.len() {
+        if additional <= self.capacity_of_either() - self.len_of_either() {
             Ok(())
         } else {
             Err(AllocError)
@@ -63,11 +64,10 @@ impl<
         ensures window { OnOk result (self.new ≡ with_more source.now self.old) }
         ensures same { OnErr result (self.new ≡ self.old) }
     {
-        if source.len() > self.capacity() - self.len() {
-            return Err(AllocError);
+        match self.try_extend_within(source) {
+            Ok(()) => Ok(()),
+            Err(e) => Err(e),
         }
-        self.extend_within(source);
-        Ok(())
     }
 
     fn put_u8(&mut self, byte: u8) -> Result<(), AllocError>
@@ -97,7 +97,7 @@ impl<
         ensures window { OnOk result (self.new ≡ with_more (replicate count byte) self.old) }
         ensures same { OnErr result (self.new ≡ self.old) }
     {
-        if count > self.capacity() - self.len() {
+        if count > self.capacity_of_either() - self.len_of_either() {
             return Err(AllocError);
         }
         self.fill(byte, count);
@@ -109,18 +109,19 @@ impl<
         ensures spare { min (spare_places self.now) (2 ^ 64 - 1) ≤ result }
         ensures value { result ≡ spare_places self.now }
     {
-        self.capacity() - self.len()
+        self.capacity_of_either() - self.len_of_either()
     }
 }
 
 impl<
     S: CopySlice<Item = u8>,
     L: LayoutMut,
+    const UNIQUE: u8,
     B: BufferMut<u8> + Drop,
     M: Drop,
     A: Allocator + Copy,
     H: Mark,
-> ArcSliceMut<S, L, 1, B, M, A, H> {
+> ArcSliceMut<S, L, UNIQUE, B, M, A, H> {
     /// So many bytes of one value more, where the window has places for them.
     #[tactic(auto, using(crate::proofs::More::more_none, crate::proofs::More::one_more_alike))]
     fn fill(&mut self, byte: u8, count: usize)
@@ -128,7 +129,10 @@ impl<
         ensures { self.new ≡ with_more (replicate count byte) self.old }
     {
         for _ in 0..count {
-            self.extend_within(&[byte]);
+            match self.try_extend_within(&[byte]) {
+                Ok(()) => (),
+                Err(_) => unreachable!(),
+            }
         }
     }
 }

@@ -17,11 +17,12 @@ use std::cmp::Ordering;
 impl<
     S: Slice,
     L: LayoutMut,
+    const UNIQUE: u8,
     B: BufferMut<S::Item> + Drop,
     M: Drop,
     A: Allocator + Copy,
     H: Mark,
-> PartialEq for ArcSliceMut<S, L, 1, B, M, A, H>
+> PartialEq for ArcSliceMut<S, L, UNIQUE, B, M, A, H>
 where
     S::Item: PartialEq,
 {
@@ -30,12 +31,19 @@ where
     ghost laws = { on_per (λ x. x.items) (lists_per S.Item.PartialEq.laws) };
 
     fn eq(&self, other: &Self) -> bool {
-        equal(self.as_slice(), other.as_slice())
+        equal(self.slice_of_either(), other.slice_of_either())
     }
 }
 
-impl<S: Slice, L: LayoutMut, B: BufferMut<S::Item> + Drop, M: Drop, A: Allocator + Copy, H: Mark> Eq
-    for ArcSliceMut<S, L, 1, B, M, A, H>
+impl<
+    S: Slice,
+    L: LayoutMut,
+    const UNIQUE: u8,
+    B: BufferMut<S::Item> + Drop,
+    M: Drop,
+    A: Allocator + Copy,
+    H: Mark,
+> Eq for ArcSliceMut<S, L, UNIQUE, B, M, A, H>
 where
     S::Item: Eq,
 {
@@ -45,11 +53,12 @@ where
 impl<
     S: Slice,
     L: LayoutMut,
+    const UNIQUE: u8,
     B: BufferMut<S::Item> + Drop,
     M: Drop,
     A: Allocator + Copy,
     H: Mark,
-> PartialOrd for ArcSliceMut<S, L, 1, B, M, A, H>
+> PartialOrd for ArcSliceMut<S, L, UNIQUE, B, M, A, H>
 where
     S::Item: PartialOrd,
 {
@@ -58,18 +67,19 @@ where
     ghost laws = { on_po (λ x. x.items) (lists_po S.Item.PartialOrd.laws) };
 
     fn partial_cmp(&self, other: &Self) -> Option<Ordering> {
-        partial_order(self.as_slice(), other.as_slice())
+        partial_order(self.slice_of_either(), other.slice_of_either())
     }
 }
 
 impl<
     S: Slice,
     L: LayoutMut,
+    const UNIQUE: u8,
     B: BufferMut<S::Item> + Drop,
     M: Drop,
     A: Allocator + Copy,
     H: Mark,
-> Ord for ArcSliceMut<S, L, 1, B, M, A, H>
+> Ord for ArcSliceMut<S, L, UNIQUE, B, M, A, H>
 where
     S::Item: Ord,
 {
@@ -82,41 +92,41 @@ where
     ghost matches_eq = { λ x y. lists_ties S.Item.cmp S.Item.matches_eq x.items y.items };
 
     fn cmp(&self, other: &Self) -> Ordering {
-        order(self.as_slice(), other.as_slice())
+        order(self.slice_of_either(), other.slice_of_either())
     }
 }
 
 impl<
     S: Slice,
     L: LayoutMut,
+    const UNIQUE: u8,
     B: BufferMut<S::Item> + Drop,
     M: Drop,
     A: Allocator + Copy,
     H: Mark,
-> ArcSliceMut<S, L, 1, B, M, A, H> {
+> ArcSliceMut<S, L, UNIQUE, B, M, A, H> {
     /// Whether the window's items are those of the slice.
     pub fn eq_slice(&self, other: &[S::Item]) -> bool
     where
         S::Item: PartialEq,
         ensures { result ≡ pointwise S.Item.eq self.now.items other.now }
     {
-        equal(self.as_slice(), other)
+        equal(self.slice_of_either(), other)
     }
 }
 
-impl<L: LayoutMut, B: BufferMut<u8> + Drop, M: Drop, A: Allocator + Copy, H: Mark> ArcSliceMut<
-    Text,
-    L,
-    1,
-    B,
-    M,
-    A,
-    H,
-> {
+impl<
+    L: LayoutMut,
+    const UNIQUE: u8,
+    B: BufferMut<u8> + Drop,
+    M: Drop,
+    A: Allocator + Copy,
+    H: Mark,
+> ArcSliceMut<Text, L, UNIQUE, B, M, A, H> {
     /// Whether the window's text is this one.
     pub fn eq_str(&self, other: &str) -> bool
         ensures { result ≡ pointwise nat_eq self.now.items other.now }
     {
-        equal(self.as_slice(), other.as_bytes())
+        equal(self.slice_of_either(), other.as_bytes())
     }
 }

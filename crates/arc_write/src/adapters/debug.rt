@@ -10,11 +10,12 @@ use std::fmt;
 impl<
     S: DebugSlice,
     L: LayoutMut,
+    const UNIQUE: u8,
     B: BufferMut<S::Item> + Drop,
     M: Drop,
     A: Allocator + Copy,
     H: Mark,
-> fmt::Debug for ArcSliceMut<S, L, 1, B, M, A, H> {
+> fmt::Debug for ArcSliceMut<S, L, UNIQUE, B, M, A, H> {
     ghost debug_output = { λ w. S.debug_items w.items };
 
     fn fmt<W: fmt::Write>(&self, f: &mut fmt::Formatter<W>) -> fmt::Result {

@@ -12,22 +12,34 @@ use bstr::BStr;
 use std::alloc::Allocator;
 use std::fmt;
 
-impl<L: LayoutMut, B: BufferMut<u8> + Drop, M: Drop, A: Allocator + Copy, H: Mark> fmt::Display
-    for ArcSliceMut<Text, L, 1, B, M, A, H> {
+impl<
+    L: LayoutMut,
+    const UNIQUE: u8,
+    B: BufferMut<u8> + Drop,
+    M: Drop,
+    A: Allocator + Copy,
+    H: Mark,
+> fmt::Display for ArcSliceMut<Text, L, UNIQUE, B, M, A, H> {
     ghost output = { λ w. Some w.items };
 
     ghost styled_output = { λ w spec. Some (styled_text spec w.items) };
 
     fn fmt<W: fmt::Write>(&self, f: &mut fmt::Formatter<W>) -> fmt::Result {
-        f.pad(self.as_str())
+        f.pad(self.str_of_either())
     }
 }
 
-impl<L: LayoutMut, B: BufferMut<u8> + Drop, M: Drop, A: Allocator + Copy, H: Mark> fmt::Display
-    for ArcSliceMut<ByteText, L, 1, B, M, A, H> {
+impl<
+    L: LayoutMut,
+    const UNIQUE: u8,
+    B: BufferMut<u8> + Drop,
+    M: Drop,
+    A: Allocator + Copy,
+    H: Mark,
+> fmt::Display for ArcSliceMut<ByteText, L, UNIQUE, B, M, A, H> {
     ghost output = { λ w. Some (encode_utf8_all (lossy_chars w.items)) };
 
     fn fmt<W: fmt::Write>(&self, f: &mut fmt::Formatter<W>) -> fmt::Result {
-        fmt::Display::fmt(&BStr::new(self.as_slice()), f)
+        fmt::Display::fmt(&BStr::new(self.slice_of_either()), f)
     }
 }

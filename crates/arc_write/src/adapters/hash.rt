@@ -13,11 +13,12 @@ use std::hash::{Hash, Hasher};
 impl<
     S: Slice,
     L: LayoutMut,
+    const UNIQUE: u8,
     B: BufferMut<S::Item> + Drop,
     M: Drop,
     A: Allocator + Copy,
     H: Mark,
-> Hash for ArcSliceMut<S, L, 1, B, M, A, H>
+> Hash for ArcSliceMut<S, L, UNIQUE, B, M, A, H>
 where
     S::Item: Hash,
 {
@@ -27,6 +28,6 @@ where
         (items_Alike (record { fed = S.Item.respects_eq }))).fed };
 
     fn hash<F: Hasher>(&self, state: &mut F) {
-        self.as_slice().hash(state);
+        self.slice_of_either().hash(state);
     }
 }

@@ -15,29 +15,31 @@ use std::fmt;
 impl<
     S: Slice<Item = u8>,
     L: LayoutMut,
+    const UNIQUE: u8,
     B: BufferMut<u8> + Drop,
     M: Drop,
     A: Allocator + Copy,
     H: Mark,
-> fmt::LowerHex for ArcSliceMut<S, L, 1, B, M, A, H> {
+> fmt::LowerHex for ArcSliceMut<S, L, UNIQUE, B, M, A, H> {
     fn fmt<W: fmt::Write>(&self, f: &mut fmt::Formatter<W>) -> fmt::Result
         ensures { WritesOnOk W.write_str_gives f.old result (hex_bytes false self.now.items) f.new }
     {
-        write_hex(self.as_slice(), false, f)
+        write_hex(self.slice_of_either(), false, f)
     }
 }
 
 impl<
     S: Slice<Item = u8>,
     L: LayoutMut,
+    const UNIQUE: u8,
     B: BufferMut<u8> + Drop,
     M: Drop,
     A: Allocator + Copy,
     H: Mark,
-> fmt::UpperHex for ArcSliceMut<S, L, 1, B, M, A, H> {
+> fmt::UpperHex for ArcSliceMut<S, L, UNIQUE, B, M, A, H> {
     fn fmt<W: fmt::Write>(&self, f: &mut fmt::Formatter<W>) -> fmt::Result
         ensures { WritesOnOk W.write_str_gives f.old result (hex_bytes true self.now.items) f.new }
     {
-        write_hex(self.as_slice(), true, f)
+        write_hex(self.slice_of_either(), true, f)
     }
 }

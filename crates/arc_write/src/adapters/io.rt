@@ -16,8 +16,14 @@ use std::alloc::Allocator;
 use std::io;
 use std::io::ErrorKind;
 
-impl<L: LayoutMut, B: BufferMut<u8> + Drop, M: Drop, A: Allocator + Copy, H: Mark> io::Read
-    for ArcSliceMut<Plain<u8>, L, 1, B, M, A, H> {
+impl<
+    L: LayoutMut,
+    const UNIQUE: u8,
+    B: BufferMut<u8> + Drop,
+    M: Drop,
+    A: Allocator + Copy,
+    H: Mark,
+> io::Read for ArcSliceMut<Plain<u8>, L, UNIQUE, B, M, A, H> {
     ghost remaining = { λ w. Some w.items };
 
     /// Moves the window's first bytes to the front of the buffer, as many as there are or as it
@@ -31,9 +37,9 @@ impl<L: LayoutMut, B: BufferMut<u8> + Drop, M: Drop, A: Allocator + Copy, H: Mar
         ensures window { self.new
             ≡ after_advance (min (length self.old.items) (length buffer.old)) self.old }
     {
-        let count = self.len().min(buffer.len());
-        buffer[..count].copy_from_slice(&self.as_slice()[..count]);
-        self.advance(count);
+        let count = self.len_of_either().min(buffer.len());
+        buffer[..count].copy_from_slice(&self.slice_of_either()[..count]);
+        self.advance_of_either(count);
         Ok(count)
     }
 
@@ -54,7 +60,7 @@ impl<L: LayoutMut, B: BufferMut<u8> + Drop, M: Drop, A: Allocator + Copy, H: Mar
         ensures window { self.new
             ≡ after_advance (min (length self.old.items) (length buffer.old)) self.old }
     {
-        let is_short = self.len() < buffer.len();
+        let is_short = self.len_of_either() < buffer.len();
         self.read(buffer)?;
         if is_short {
             return Err(io::Error::new(ErrorKind::UnexpectedEof, "failed to fill whole buffer"));
@@ -63,8 +69,14 @@ impl<L: LayoutMut, B: BufferMut<u8> + Drop, M: Drop, A: Allocator + Copy, H: Mar
     }
 }
 
-impl<L: LayoutMut, B: BufferMut<u8> + Drop, M: Drop, A: Allocator + Copy, H: Mark> io::Write
-    for ArcSliceMut<Plain<u8>, L, 1, B, M, A, H> {
+impl<
+    L: LayoutMut,
+    const UNIQUE: u8,
+    B: BufferMut<u8> + Drop,
+    M: Drop,
+    A: Allocator + Copy,
+    H: Mark,
+> io::Write for ArcSliceMut<Plain<u8>, L, UNIQUE, B, M, A, H> {
     ghost contents = { λ w. Some w.items };
 
     /// Appends as many of the bytes as the window has places for, and answers how many. It makes
@@ -75,9 +87,11 @@ impl<L: LayoutMut, B: BufferMut<u8> + Drop, M: Drop, A: Allocator + Copy, H: Mar
         ensures count { result ≡ Ok (taken self.old bytes.now) }
         ensures window { self.new ≡ after_write self.old bytes.now }
     {
-        let count = (self.capacity() - self.len()).min(bytes.len());
-        self.extend_within(&bytes[..count]);
-        Ok(count)
+        let count = (self.capacity_of_either() - self.len_of_either()).min(bytes.len());
+        match self.try_extend_within(&bytes[..count]) {
+            Ok(()) => Ok(count),
+            Err(_) => unreachable!(),
+        }
     }
 
     /// Appends the bytes within the window's places. It makes no room and adds nothing.
@@ -93,7 +107,7 @@ impl<L: LayoutMut, B: BufferMut<u8> + Drop, M: Drop, A: Allocator + Copy, H: Mar
             × (error_kind e ≡ ErrorKind.WriteZero)) }
         ensures window { self.new ≡ after_write self.old bytes.now }
     {
-        let is_full = self.capacity() - self.len() < bytes.len();
+        let is_full = self.capacity_of_either() - self.len_of_either() < bytes.len();
         self.write(bytes)?;
         if is_full {
             return Err(io::Error::new(ErrorKind::WriteZero, "failed to write whole buffer"));

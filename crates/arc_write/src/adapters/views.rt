@@ -18,56 +18,65 @@ use std::slice::Iter;
 impl<
     S: Slice,
     L: LayoutMut,
+    const UNIQUE: u8,
     B: BufferMut<S::Item> + Drop,
     M: Drop,
     A: Allocator + Copy,
     H: Mark,
-> AsSlice<S::Item> for ArcSliceMut<S, L, 1, B, M, A, H> {
+> AsSlice<S::Item> for ArcSliceMut<S, L, UNIQUE, B, M, A, H> {
     ghost items = { λ w. w.items };
 
     fn as_slice(&self) -> &[S::Item] {
-        ArcSliceMut::as_slice(self)
+        self.slice_of_either()
     }
 }
 
-impl<L: LayoutMut, B: BufferMut<u8> + Drop, M: Drop, A: Allocator + Copy, H: Mark> AsStr
-    for ArcSliceMut<Text, L, 1, B, M, A, H> {
+impl<
+    L: LayoutMut,
+    const UNIQUE: u8,
+    B: BufferMut<u8> + Drop,
+    M: Drop,
+    A: Allocator + Copy,
+    H: Mark,
+> AsStr for ArcSliceMut<Text, L, UNIQUE, B, M, A, H> {
     ghost text = { λ w. w.items };
 
     fn as_str(&self) -> &str {
-        ArcSliceMut::as_str(self)
+        self.str_of_either()
     }
 }
 
 impl<
     S: Slice,
     L: LayoutMut,
+    const UNIQUE: u8,
     B: BufferMut<S::Item> + Drop,
     M: Drop,
     A: Allocator + Copy,
     H: Mark,
-> DerefSlice for ArcSliceMut<S, L, 1, B, M, A, H> {
+> DerefSlice for ArcSliceMut<S, L, UNIQUE, B, M, A, H> {
     type Elem = S::Item;
 
     ghost deref_gives = { λ w xs. xs ≡ w.items };
 
     fn deref(&self) -> &[S::Item] {
-        ArcSliceMut::as_slice(self)
+        self.slice_of_either()
     }
 }
 
 impl<
     S: AnyItems,
     L: LayoutMut,
+    const UNIQUE: u8,
     B: BufferMut<S::Item> + Drop,
     M: Drop,
     A: Allocator + Copy,
     H: Mark,
-> DerefSliceMut for ArcSliceMut<S, L, 1, B, M, A, H> {
+> DerefSliceMut for ArcSliceMut<S, L, UNIQUE, B, M, A, H> {
     ghost use Rattle.arc_write.specs.Lends.{lends_items};
 
     fn deref_mut(&mut self) -> &mut [S::Item]
-        ensures* writes_back { sem 𝓛 (lends_items S.row L.row B.row M.row A.row H.row S.Item.row
+        ensures* writes_back { sem 𝓛 (lends_items S.row L.row UNIQUE B.row M.row A.row H.row S.Item.row
             S.TryFromSliceError.row S.Slice L.Layout
             (record {
               with_list = B.with_list;
@@ -78,7 +87,7 @@ impl<
             B.Buffer A.Allocator H.Mark self.entry result) }
         ensures value { result.now ≡ self.old.items }
     {
-        self.as_mut_slice()
+        self.mut_slice_of_either()
     }
 }
 
@@ -87,11 +96,12 @@ impl<
     T: Drop + 'a,
     S: Slice<Item = T>,
     L: LayoutMut,
+    const UNIQUE: u8,
     B: BufferMut<T> + Drop,
     M: Drop,
     A: Allocator + Copy,
     H: Mark,
-> IntoIterator for &'a ArcSliceMut<S, L, 1, B, M, A, H> {
+> IntoIterator for &'a ArcSliceMut<S, L, UNIQUE, B, M, A, H> {
     type Item = &'a T;
 
     type IntoIter = Iter<'a, T>;
@@ -100,6 +110,6 @@ impl<
         × EveryRun (iter_steps {A = T}) (λ p. ItemsMapTo p (λ y. y.now) (iter_rest p.from)) };
 
     fn into_iter(self) -> Iter<'a, T> {
-        ArcSliceMut::as_slice(self).iter()
+        self.slice_of_either().iter()
     }
 }

@@ -11,6 +11,7 @@ ghost use Rattle.arc_block.specs.Writers.{MakesBufferWriter, size_at};
 ghost use Rattle.arc_read.specs.Steps.{WithNewPass};
 
 use super::ArcSliceMut;
+use super::parts::WriterStorage;
 use arc_block::layout::{AnyBufferLayout, LayoutMut};
 use arc_block::parts::SoleParts;
 use arc_buffer::buffer::{BorrowMetadata, BufferMut};
@@ -114,19 +115,15 @@ impl<
     A: Allocator + Copy,
     H: Mark,
 > ArcSliceMut<S, L, 1, B, M, A, H> {
-    /// Whether the window stands on a caller's buffer.
-    pub fn is_on_buffer(&self) -> bool
-        ensures { IsTrue result ↔ IsOfBuffer self.now.place }
-    {
-        self.parts.is_on_buffer()
-    }
-
     /// The metadata of the block, where it was made with some.
     pub fn metadata(&self) -> Option<&M>
         ensures some { IfSome result (λ m. metadata_at self.now.place ≡ Some m.now) }
         ensures none { IfNone result (metadata_at self.now.place ≡ None) }
     {
-        self.parts.metadata()
+        match &self.parts {
+            WriterStorage::Sole(parts) => parts.metadata(),
+            WriterStorage::Several(_) => unreachable!(),
+        }
     }
 
     /// The metadata of the caller's buffer on which the window stands.
@@ -137,7 +134,29 @@ impl<
             IsMetadataAt B.list B.metadata self.now.place self.now.items m.now) }
         ensures none { IfNone result (¬ IsOnCallers self.now.place) }
     {
-        self.parts.borrowed_metadata()
+        match &self.parts {
+            WriterStorage::Sole(parts) => parts.borrowed_metadata(),
+            WriterStorage::Several(_) => unreachable!(),
+        }
+    }
+}
+
+impl<
+    S: Slice,
+    L: LayoutMut,
+    B: BufferMut<S::Item> + Drop,
+    M: Drop,
+    A: Allocator + Copy,
+    H: Mark,
+> ArcSliceMut<S, L, 1, B, M, A, H> {
+    /// Whether the window stands on a caller's buffer.
+    pub fn is_on_buffer(&self) -> bool
+        ensures { IsTrue result ↔ IsOfBuffer self.now.place }
+    {
+        match &self.parts {
+            WriterStorage::Sole(parts) => parts.is_on_buffer(),
+            WriterStorage::Several(_) => unreachable!(),
+        }
     }
 
     /// The caller's buffer on which the window stands, where the items are all of it. Its metadata

@@ -100,15 +100,6 @@ impl<
         let _ = pass;
         self.try_with_layout()
     }
-
-    /// The same window, of items of another kind, for which its list is legal.
-    fn into_kind<K: Slice<Item = S::Item>>(self) -> ArcSliceMut<K, L, 1, B, M, A, H>
-        requires drops { K.DROPS ≡ S.DROPS }
-        requires legal { ∥ K.is_legal self.items ∥₁ }
-        ensures { result ≡ self }
-    {
-        ArcSliceMut::from_parts(self.into_parts().into_kind())
-    }
 }
 
 impl<L: LayoutMut, B: BufferMut<u8> + Drop, M: Drop, A: Allocator + Copy, H: Mark> ArcSliceMut<
@@ -124,7 +115,7 @@ impl<L: LayoutMut, B: BufferMut<u8> + Drop, M: Drop, A: Allocator + Copy, H: Mar
     pub fn into_arc_slice_mut(self) -> ArcSliceMut<Plain<u8>, L, 1, B, M, A, H>
         ensures { result ≡ self }
     {
-        self.into_kind()
+        ArcSliceMut::from_parts(self.into_parts().into_kind())
     }
 
     /// The same window, over text. It adds nothing.
@@ -140,9 +131,10 @@ impl<L: LayoutMut, B: BufferMut<u8> + Drop, M: Drop, A: Allocator + Copy, H: Mar
         ensures error { IfErr result (λ r. (valid_up_to r.0 ≡ utf8_valid_len bytes.items)
             × (error_len r.0 ≡ utf8_error_len (drop (valid_up_to r.0) bytes.items))) }
     {
-        match Text::try_from_slice(bytes.as_slice()) {
-            Ok(()) => Ok(bytes.into_kind()),
-            Err(error) => Err((error, bytes)),
+        let parts = bytes.into_parts();
+        match Text::try_from_slice(parts.as_slice()) {
+            Ok(()) => Ok(Self::from_parts(parts.into_kind())),
+            Err(error) => Err((error, ArcSliceMut::from_parts(parts))),
         }
     }
 }
@@ -160,7 +152,7 @@ impl<L: LayoutMut, B: BufferMut<u8> + Drop, M: Drop, A: Allocator + Copy, H: Mar
     pub fn into_arc_slice_mut(self) -> ArcSliceMut<Plain<u8>, L, 1, B, M, A, H>
         ensures { result ≡ self }
     {
-        self.into_kind()
+        ArcSliceMut::from_parts(self.into_parts().into_kind())
     }
 
     /// The same window, over byte text. It adds nothing. Never refused.
@@ -169,6 +161,6 @@ impl<L: LayoutMut, B: BufferMut<u8> + Drop, M: Drop, A: Allocator + Copy, H: Mar
     ) -> Result<Self, (Infallible, ArcSliceMut<Plain<u8>, L, 1, B, M, A, H>)>
         ensures { IfOk result (λ text. text ≡ bytes) }
     {
-        Ok(bytes.into_kind())
+        Ok(Self::from_parts(bytes.into_parts().into_kind()))
     }
 }

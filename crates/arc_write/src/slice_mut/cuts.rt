@@ -4,6 +4,7 @@ ghost use Rattle.arc_buffer.specs.Slice.{IsEdge};
 ghost use Rattle.arc_block.specs.Writers.{after_advance, after_truncate};
 
 use super::ArcSliceMut;
+use super::parts::WriterStorage;
 use arc_block::layout::LayoutMut;
 use arc_buffer::buffer::BufferMut;
 use arc_buffer::kinds::Subsliceable;
@@ -24,7 +25,10 @@ impl<
         requires { IsEdge S.boundary self.old.items n }
         ensures { self.new ≡ after_advance n self.old }
     {
-        self.parts.advance(n);
+        match &mut self.parts {
+            WriterStorage::Sole(parts) => parts.advance(n),
+            WriterStorage::Several(_) => unreachable!(),
+        }
     }
 
     /// Leaves the window's first `n` items, or all where it has no more. It stays on its block,
@@ -35,6 +39,9 @@ impl<
         requires { n < length self.old.items → IsEdge S.boundary self.old.items n }
         ensures { self.new ≡ after_truncate S.DROPS n self.old }
     {
-        self.parts.truncate(n);
+        match &mut self.parts {
+            WriterStorage::Sole(parts) => parts.truncate(n),
+            WriterStorage::Several(_) => unreachable!(),
+        }
     }
 }

@@ -7,6 +7,7 @@ ghost use Rattle.arc_block.specs.Steps.{IsPassAt, EndsAt};
 ghost use Rattle.arc_block.specs.Writers.{IsWholeWriter};
 
 use super::ArcSliceMut;
+use super::parts::WriterStorage;
 use arc_block::layout::LayoutMut;
 use arc_buffer::buffer::BufferMut;
 use arc_buffer::kinds::Slice;
@@ -79,9 +80,21 @@ impl<
         ensures { at_owner self.now.place (pass.new ≡ pass.old) (λ o.
             SeesAlone o pass.old pass.new) }
     {
-        self.parts.only(pass);
+        match &self.parts {
+            WriterStorage::Sole(parts) => parts.only(pass),
+            WriterStorage::Several(_) => unreachable!(),
+        }
     }
+}
 
+impl<
+    S: Slice,
+    L: LayoutMut,
+    B: BufferMut<S::Item> + Drop,
+    M: Drop,
+    A: Allocator + Copy,
+    H: Mark,
+> ArcSliceMut<S, L, 1, B, M, A, H> {
     /// Afterwards the first pass has seen at least what the other had. It adds nothing.
     pub fn learn(&self, pass: &mut Pass<H>, other: &Pass<H>)
         requires pass { IsPassAt self.now.place pass.old }
@@ -89,32 +102,25 @@ impl<
         ensures { at_owner self.now.place (pass.new ≡ pass.old) (λ o.
             Learns o.block pass.old other.now pass.new) }
     {
-        self.parts.learn(pass, other);
+        match &self.parts {
+            WriterStorage::Sole(parts) => parts.learn(pass, other),
+            WriterStorage::Several(_) => unreachable!(),
+        }
     }
-}
 
-impl<
-    S: Slice,
-    L: LayoutMut,
-    const UNIQUE: u8,
-    B: BufferMut<S::Item> + Drop,
-    M: Drop,
-    A: Allocator + Copy,
-    H: Mark,
-> ArcSliceMut<S, L, UNIQUE, B, M, A, H> {
-    /// What a drop does: under `Open` the window ends with a new pass, and the block is given back
-    /// with its items; under `Whole` it is a forgotten owner, without a step, and its items stay.
-    /// The pass is the one that it ended with; on no block, and under `Whole`, it is of none.
+    /// What a drop does: under `Open` the window ends with a new pass, and the last owner gives the
+    /// block back with its items; under `Whole` it is a forgotten owner, without a step, and its
+    /// items stay. The pass is the one that it ended with; on no block, and under `Whole`, it is of
+    /// none.
     ///
     /// # History
     ///
-    /// On a block Down under `Open`, without a step, and nothing under `Whole`.
+    /// On a block Down under `Open`, of a sole writer without a step, and nothing under `Whole`.
     pub fn let_go(self) -> Pass<H>
         ensures forgotten { H.whole ≡ true → IsPassOfNone result }
         ensures ended { H.whole ≡ false → EndsAt self.place result }
     {
-        let ArcSliceMut { parts, of: _ } = self;
-        parts.let_go()
+        self.into_parts().let_go()
     }
 }
 
@@ -131,6 +137,9 @@ impl<
     pub fn pass(&self) -> Pass<H>
         ensures { at_owner self.now.place (IsPassOfNone result) (λ o. IsNewPass o result) }
     {
-        self.parts.pass()
+        match &self.parts {
+            WriterStorage::Sole(parts) => parts.pass(),
+            WriterStorage::Several(_) => unreachable!(),
+        }
     }
 }

@@ -130,30 +130,6 @@ impl<
         made
     }
 
-    /// The same items at the same place, which others may read from now on: `try_freeze_as` with a
-    /// new pass.
-    ///
-    /// # Errors
-    ///
-    /// The window, where the layout doesn't hold its block, and where memory for one of no places
-    /// is refused.
-    ///
-    /// # Allocates
-    ///
-    /// On nothing, where the layout has no static data.
-    pub fn try_freeze<K: Layout>(self) -> Result<ArcSlice<S, K, B, M, A, H>, Self>
-        ensures frozen { IfOk result (λ window. WithNewPass {H = H} H.real self.place (λ first last.
-            Freezes (layout_facts K.Layout) S.DROPS H.whole self (parts_of window) first last)) }
-        ensures items { IfOk result (λ window. window.items ≡ self.items) }
-        ensures refused { IfErr result (λ back. (back ≡ self)
-            × IsRefused (layout_move (layout_facts K.Layout) self.place)) }
-    {
-        let mut pass = self.pass();
-        let frozen = self.try_freeze_as(&mut pass);
-        pass.show();
-        frozen
-    }
-
     /// The items as an array: `try_into_array_as` with a new pass.
     ///
     /// # Errors
@@ -293,6 +269,44 @@ impl<
         let extended = self.try_extend_from_slice_as(items, &mut pass);
         pass.show();
         extended
+    }
+}
+
+impl<
+    S: Slice,
+    L: LayoutMut,
+    B: BufferMut<S::Item> + Drop,
+    M: Drop,
+    A: Allocator + Copy,
+    H: Stepping,
+> ArcSliceMut<S, L, 1, B, M, A, H> {
+    /// The same items at the same place, which others may read from now on: `try_freeze_as` with a
+    /// new pass.
+    ///
+    /// # Errors
+    ///
+    /// The window, where the layout doesn't hold its block, and where memory for one of no places
+    /// is refused.
+    ///
+    /// # Allocates
+    ///
+    /// On nothing, where the layout has no static data.
+    pub fn try_freeze<K: Layout>(self) -> Result<ArcSlice<S, K, B, M, A, H>, Self>
+        ensures frozen { IfOk result (λ window. WithNewPass {H = H} H.real self.place (λ first last.
+            Freezes (layout_facts K.Layout) S.DROPS H.whole self (parts_of window) first last)) }
+        ensures items { IfOk result (λ window. window.items ≡ self.items) }
+        ensures refused { IfErr result (λ back. (back ≡ self)
+            × IsRefused (layout_move (layout_facts K.Layout) self.place)
+            × WithNewPass {H = H} H.real self.place (λ first last. last ≡ first)) }
+    {
+        let parts = self.into_parts();
+        let mut pass = parts.pass();
+        let frozen = parts.try_freeze_as::<K>(&mut pass);
+        pass.show();
+        match frozen {
+            Ok(parts) => Ok(ArcSlice::from_parts(parts)),
+            Err(parts) => Err(Self::from_parts(parts)),
+        }
     }
 }
 

@@ -2,9 +2,10 @@
 ghost use Rattle.std.specs.Prelude.{◌≡◌, ◌≤◌, ◌==◌, ◌↔◌, length, IsOk};
 ghost use Rattle.arc_buffer.specs.Slice.{IsEdge, edge_answer};
 ghost use Rattle.arc_block.specs.Writers.{capacity_of};
-ghost use Rattle.arc_write.specs.Splits.{split_answer};
+ghost use Rattle.arc_block.specs.Shared.{CanSplit, split_answer};
 
 use super::ArcSliceMut;
+use super::parts::WriterStorage;
 use arc_block::layout::LayoutMut;
 use arc_buffer::buffer::BufferMut;
 use arc_buffer::kinds::{Slice, Subsliceable};
@@ -25,7 +26,10 @@ impl<
     pub fn len(&self) -> usize
         ensures { result ≡ length self.now.items }
     {
-        self.parts.len()
+        match &self.parts {
+            WriterStorage::Sole(parts) => parts.len(),
+            WriterStorage::Several(_) => unreachable!(),
+        }
     }
 
     /// Whether the window has no items.
@@ -41,15 +45,10 @@ impl<
     pub fn as_slice(&self) -> &[S::Item]
         ensures { result.now ≡ self.now.items }
     {
-        self.parts.as_slice()
-    }
-
-    /// The items, which are a legal list of the kind.
-    pub(crate) fn as_legal_slice(&self) -> &[S::Item]
-        ensures items { result.now ≡ self.now.items }
-        ensures legal { ∥ S.is_legal result.now ∥₁ }
-    {
-        self.parts.as_slice()
+        match &self.parts {
+            WriterStorage::Sole(parts) => parts.as_slice(),
+            WriterStorage::Several(_) => unreachable!(),
+        }
     }
 
     /// How many places the window has, from its first item on.
@@ -58,7 +57,10 @@ impl<
         ensures capacity { result ≡ capacity_of self.now.role }
         ensures enough { length self.now.items ≤ result }
     {
-        self.parts.capacity()
+        match &self.parts {
+            WriterStorage::Sole(parts) => parts.capacity(),
+            WriterStorage::Several(_) => unreachable!(),
+        }
     }
 
     /// Whether the window may be split at `at`, which may lie among its places behind the items.
@@ -70,20 +72,18 @@ impl<
     pub fn check_split_off(&self, at: usize) -> Result<(), RangeError>
     where
         S: Subsliceable,
-        ensures { result ≡ split_answer S.boundary self.now.items
+        ensures answer { result ≡ split_answer S.boundary self.now.items
             (capacity_of self.now.role) at }
+        ensures ok { IsOk result
+            ↔ CanSplit S.boundary self.now.items (capacity_of self.now.role) at }
     {
         if at > self.capacity() {
             return Err(RangeError::OutOfRange);
         }
-        if at >= self.len() {
-            return Ok(());
+        if at < self.len() {
+            return self.check_at(at);
         }
-        if S::is_boundary(self.as_slice(), at) {
-            Ok(())
-        } else {
-            Err(RangeError::NotBoundary)
-        }
+        Ok(())
     }
 
     /// Whether the window may be cut at `at`.

@@ -7,6 +7,7 @@ ghost use Rattle.arc_block.specs.Steps.{IsPassAt};
 ghost use Rattle.arc_block.specs.Writers.{MakesWriter, MakesRoom, Pushes, room_for, size_at};
 
 use super::ArcSliceMut;
+use super::parts::WriterStorage;
 use arc_block::layout::LayoutMut;
 use arc_block::parts::SoleParts;
 use arc_buffer::buffer::BufferMut;
@@ -16,6 +17,24 @@ use arc_owners::mark::Mark;
 use arc_owners::owners::Pass;
 use std::alloc::Allocator;
 use std::str;
+
+impl<L: LayoutMut, B: BufferMut<u8> + Drop, M: Drop, A: Allocator + Copy, H: Mark> ArcSliceMut<
+    Text,
+    L,
+    1,
+    B,
+    M,
+    A,
+    H,
+> {
+    /// The text.
+    pub fn as_str(&self) -> &str
+        ensures { result.now ≡ self.now.items }
+    {
+        let _ = &self.parts;
+        unsafe { str::from_utf8_unchecked(self.as_slice()) }
+    }
+}
 
 impl<L: LayoutMut, B: BufferMut<u8> + Drop, M: Drop, A: Allocator + Copy, H: Mark> ArcSliceMut<
     Text,
@@ -50,14 +69,6 @@ impl<L: LayoutMut, B: BufferMut<u8> + Drop, M: Drop, A: Allocator + Copy, H: Mar
         }
     }
 
-    /// The text.
-    pub fn as_str(&self) -> &str
-        ensures { result.now ≡ self.now.items }
-    {
-        let _ = &self.parts;
-        unsafe { str::from_utf8_unchecked(self.as_slice()) }
-    }
-
     /// A copy of the text more, behind what is there, once there is room for it.
     ///
     /// # Errors
@@ -88,6 +99,9 @@ impl<L: LayoutMut, B: BufferMut<u8> + Drop, M: Drop, A: Allocator + Copy, H: Mar
             AsksForRoom B.list B.places B.grows B.refuses self.old k (size_at self.new.place)
             result) }
     {
-        self.parts.try_extend_from_slice_as(text.as_bytes(), pass)
+        match &mut self.parts {
+            WriterStorage::Sole(parts) => parts.try_extend_from_slice_as(text.as_bytes(), pass),
+            WriterStorage::Several(_) => unreachable!(),
+        }
     }
 }

@@ -5,10 +5,11 @@ ghost use Rattle.std.specs.Borrow.{sem};
 ghost use Rattle.std.specs.Mem.{FitsInMemory, type_size};
 ghost use Rattle.arc_block.specs.Growth.{IfAsked, AsksForRoom, without_item};
 ghost use Rattle.arc_block.specs.Steps.{IsPassAt};
-ghost use Rattle.arc_block.specs.Writers.{capacity_of, room_for, with_more, size_at};
+ghost use Rattle.arc_block.specs.Writers.{capacity_of, room_for, size_at};
 ghost use Rattle.arc_block.specs.Writers.{MakesRoom, Pushes, Reclaims};
 
 use super::ArcSliceMut;
+use super::parts::WriterStorage;
 use arc_block::layout::LayoutMut;
 use arc_buffer::buffer::BufferMut;
 use arc_buffer::kinds::{AnyItems, CopySlice, Extendable, Slice};
@@ -33,7 +34,7 @@ impl<
     pub fn as_mut_slice(&mut self) -> &mut [S::Item]
     where
         S: AnyItems,
-        ensures* writes_back { sem 𝓛 (lends_items S.row L.row B.row M.row A.row H.row S.Item.row
+        ensures* writes_back { sem 𝓛 (lends_items S.row L.row 1 B.row M.row A.row H.row S.Item.row
             S.TryFromSliceError.row S.Slice L.Layout
             (record {
               with_list = B.with_list;
@@ -46,7 +47,16 @@ impl<
     {
         self.parts.as_mut_slice()
     }
+}
 
+impl<
+    S: Slice,
+    L: LayoutMut,
+    B: BufferMut<S::Item> + Drop,
+    M: Drop,
+    A: Allocator + Copy,
+    H: Mark,
+> ArcSliceMut<S, L, 1, B, M, A, H> {
     /// Makes room for so many items more.
     ///
     /// # Errors
@@ -86,7 +96,10 @@ impl<
             AsksForRoom B.list B.places B.grows B.refuses self.old k (size_at self.new.place)
             result) }
     {
-        self.parts.try_reserve_as(additional, pass)
+        match &mut self.parts {
+            WriterStorage::Sole(parts) => parts.try_reserve_as(additional, pass),
+            WriterStorage::Several(_) => unreachable!(),
+        }
     }
 
     /// Whether there is room for so many items more without memory; then it is made. It adds
@@ -96,7 +109,10 @@ impl<
         ensures { Reclaims (room_for S.DROPS (type_size S.Item.row) self.old additional)
             self.old self.new result }
     {
-        self.parts.try_reclaim(additional)
+        match &mut self.parts {
+            WriterStorage::Sole(parts) => parts.try_reclaim(additional),
+            WriterStorage::Several(_) => unreachable!(),
+        }
     }
 
     /// `try_reclaim`, with a pass, which stays as it is.
@@ -145,7 +161,10 @@ impl<
             AsksForRoom B.list B.places B.grows B.refuses self.old k (size_at self.new.place)
             (without_item result)) }
     {
-        self.parts.try_push_as(item, pass)
+        match &mut self.parts {
+            WriterStorage::Sole(parts) => parts.try_push_as(item, pass),
+            WriterStorage::Several(_) => unreachable!(),
+        }
     }
 
     /// A copy of the items more, behind the others, once there is room for them.
@@ -183,18 +202,9 @@ impl<
             (length items.now)) (λ k. AsksForRoom B.list B.places B.grows B.refuses self.old k
             (size_at self.new.place) result) }
     {
-        self.parts.try_extend_from_slice_as(items, pass)
-    }
-
-    /// A copy of the items more, behind the others, where the window has places for them. It adds
-    /// nothing.
-    pub(crate) fn extend_within(&mut self, items: &[S::Item])
-    where
-        S: CopySlice,
-        S::Item: Copy,
-        requires { length self.old.items + length items.now ≤ capacity_of self.old.role }
-        ensures { self.new ≡ with_more items.now self.old }
-    {
-        self.parts.extend_reserved(items);
+        match &mut self.parts {
+            WriterStorage::Sole(parts) => parts.try_extend_from_slice_as(items, pass),
+            WriterStorage::Several(_) => unreachable!(),
+        }
     }
 }

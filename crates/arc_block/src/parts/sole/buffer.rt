@@ -19,6 +19,7 @@ ghost use Rattle.arc_block.specs.Writers.{IsWriterPlace, size_at, offset_at};
 ghost use Rattle.std.specs.Prelude.{IsTrue};
 ghost use Rattle.std.specs.Prelude.{◌↔◌};
 ghost use Rattle.arc_block.specs.Window.{IsOfBuffer};
+ghost use Rattle.arc_block.specs.Shared.{is_vector_at};
 
 use crate::block::{CallersBuffer, Content, MAX_OWNERS, SoleCount};
 use crate::parts::room::Room;
@@ -90,6 +91,14 @@ impl<S: Slice, B: BufferMut<S::Item> + Drop, M: Drop, A: Allocator + Copy, H: Ma
     {
         let _ = &self.count;
         true
+    }
+
+    /// They stand on no vector.
+    pub(crate) fn is_on_vector(&self) -> bool
+        ensures { result ≡ is_vector_at self.now.place }
+    {
+        let _ = &self.count;
+        false
     }
 
     /// They stand on a block that counts its owners and may be written.

@@ -18,6 +18,7 @@ ghost use Rattle.arc_block.specs.Writers.{IsWriterPlace, size_at, offset_at};
 ghost use Rattle.std.specs.Prelude.{IsTrue};
 ghost use Rattle.std.specs.Prelude.{◌↔◌};
 ghost use Rattle.arc_block.specs.Window.{IsOfBuffer};
+ghost use Rattle.arc_block.specs.Shared.{is_vector_at};
 
 use crate::block::{MAX_OWNERS, NativeCount};
 use crate::parts::room::{Room, room_in};
@@ -125,6 +126,16 @@ impl<S: Slice, M: Drop, A: Allocator + Copy, H: Mark> SoleNative<S, M, A, H> {
     /// They stand on no caller's buffer.
     pub(crate) fn is_on_buffer(&self) -> bool
         ensures { IsTrue result ↔ IsOfBuffer self.now.place }
+    {
+        match &self.count {
+            Some(_) => false,
+            None => false,
+        }
+    }
+
+    /// They stand on no vector.
+    pub(crate) fn is_on_vector(&self) -> bool
+        ensures { result ≡ is_vector_at self.now.place }
     {
         match &self.count {
             Some(_) => false,

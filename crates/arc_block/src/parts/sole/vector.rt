@@ -15,6 +15,7 @@ ghost use Rattle.arc_block.specs.Writers.{IsWriterPlace, size_at, offset_at};
 ghost use Rattle.std.specs.Prelude.{IsTrue};
 ghost use Rattle.std.specs.Prelude.{◌↔◌};
 ghost use Rattle.arc_block.specs.Window.{IsOfBuffer};
+ghost use Rattle.arc_block.specs.Shared.{is_vector_at};
 
 use crate::block::{MAX_OWNERS, SoleCount, end_sole, new_count};
 use crate::parts::room::{Room, room_in};
@@ -88,6 +89,14 @@ impl<S: Slice, B: Buffer<S::Item> + Drop, M: Drop, A: Allocator + Copy, H: Mark>
     {
         let _ = &self.count;
         false
+    }
+
+    /// They stand on a vector.
+    pub(crate) fn is_on_vector(&self) -> bool
+        ensures { result ≡ is_vector_at self.now.place }
+    {
+        let _ = &self.count;
+        true
     }
 
     /// They stand on a block that counts its owners and may be written.

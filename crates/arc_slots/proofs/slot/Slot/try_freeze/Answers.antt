@@ -1,10 +1,11 @@
 -- The window stands where it stood, or is what is made of its items, on a block more or on none.
 use Rattle.arc_block.specs.LayoutFacts.{layout_facts}
-use Rattle.std.proofs.Common.{Some, ◌<◌, length, sym, ap, ◌∙◌, subst}
+use Rattle.std.proofs.Common.{Some, ◌<◌, length, refl, sym, ap, ◌∙◌, subst}
 use Rattle.std.specs.Vec.{vec_capacity}
 use Rattle.arc_slots.specs.Slots.{stand_of, writer_slot}
 use Rattle.arc_slots.specs.Stands.{HasPassFor}
-use Rattle.arc_slots.proofs.Filled.{slot-frozen, room-to-read, writes-view, writes-fits}
+use Rattle.arc_slots.proofs.Filled.{slot-frozen, slot-numbered, room-to-read, writes-view}
+use Rattle.arc_slots.proofs.Filled.{writes-fits}
 use Rattle.arc_slots.proofs.Slots.{still-number}
 use Rattle.arc_slots.proofs.Taken.{back-same}
 use Rattle.arc_slots.proofs.slot.Slot.try_freeze.Goals as goal
@@ -66,3 +67,15 @@ returns-in-Err-clause-back g c =
           c.lend-pass.result b c.lend-pass.ensures.taken c.try_freeze_as.new.pass
           c.in-Err.ensures.refused.2,
     )
+
+pub invariant_of-result : goal.invariant_of-result
+invariant_of-result g c = (
+  slot-numbered g.S.Small.SmallOf.seen c.self.inside.window c.in-Write.window c.self.inside.block
+      c.in-Write.is c.args.self c.self.view_is c.self.invariant.0 (layout_facts g.L.Layout)
+      c.known_place.ensures g.S.Slice.DROPS c.lend-pass.new.self.of_blocks.items
+      c.lend-pass.result c.try_freeze_as.new.pass c.in-Ok.window c.keep-block.result
+      c.keep-block.new.self.of_blocks.items c.wants_block_to_read-begins.result
+      c.in-Ok.ensures.frozen c.wants_block_to_read-begins.ensures c.keep-block.ensures.same
+      c.keep-block.ensures.new,
+  refl,
+)

@@ -7,4 +7,4 @@ use Rattle.arc_write.proofs.slice_mut.text.ArcSliceMut+Text+L+1+B+M+A+H.as_str.G
 pub from_utf8_unchecked-requires : goal.from_utf8_unchecked-requires
 from_utf8_unchecked-requires g c =
     subst IsUtf8 (ap (λ (w : PartsView ℕ g.row.M.Denot). w.items) c.self.view_is
-    ∙ sym c.as_slice.ensures) (IsUtf8-had _ c.self.invariant.1)
+    ∙ sym c.as_slice.ensures) (IsUtf8-had _ c.self.invariant.2)

@@ -1,0 +1,137 @@
+//! Commands of rows, and the values that go in with them.
+use crate::tables::Said;
+use arc_buffer::kinds::Owned;
+use arc_table::command::Cmd;
+use arc_table::kinds::TableCmd;
+use counting_heap::CountingHeap;
+use std::alloc::Global;
+use std::sync::Arc;
+
+/// A heap that counts. The memory of the table, of its windows, and of the vectors and buffers on
+/// which they stand, comes from it.
+pub type Heap<'a> = &'a CountingHeap<Global>;
+
+/// A vector of values, which is also a buffer.
+pub type Items<'a> = Vec<Arc<u8>, Heap<'a>>;
+
+/// A command of a table of values.
+pub type Sent<'a> = TableCmd<Owned<Arc<u8>>, Items<'a>, u8, Heap<'a>>;
+
+/// Four values. How many owners each has tells whether those that went in were dropped, and that
+/// none was twice.
+pub type Values = [Arc<u8>; 4];
+
+/// Four values with one owner each.
+pub fn values(alloc: Global) -> Option<Values> {
+    Some([
+        Arc::new(alloc, 0).ok()?,
+        Arc::new(alloc, 1).ok()?,
+        Arc::new(alloc, 2).ok()?,
+        Arc::new(alloc, 3).ok()?,
+    ])
+}
+
+/// How many owners each has.
+pub fn living(values: &Values) -> [usize; 4] {
+    [
+        Arc::strong_count(&values[0]),
+        Arc::strong_count(&values[1]),
+        Arc::strong_count(&values[2]),
+        Arc::strong_count(&values[3]),
+    ]
+}
+
+/// A vector of the first three, unless memory for it is refused.
+fn first_three<'a>(heap: Heap<'a>, values: &Values) -> Option<Items<'a>> {
+    let items = [
+        Arc::try_clone(&values[0]).ok()?,
+        Arc::try_clone(&values[1]).ok()?,
+        Arc::try_clone(&values[2]).ok()?,
+    ];
+    Vec::from_array(heap, items).ok()
+}
+
+/// A command without what it brings. Windows go by their numbers, and values by theirs.
+#[derive(Clone, Copy)]
+pub enum Call {
+    /// A vector of the first three values.
+    Vec,
+    /// A buffer of them, to be read, with metadata.
+    Buf,
+    /// The same, to be written.
+    MBuf,
+    /// An `Arc` of such a buffer.
+    Raw,
+    /// A writer on nothing.
+    New,
+    /// This value behind the others.
+    Push(usize, usize),
+    /// Room for so many more.
+    Res(usize, usize),
+    /// How many places there are.
+    Room(usize),
+    Clone(usize),
+    Sub(usize, usize, usize),
+    Off(usize, usize),
+    To(usize, usize),
+    Adv(usize, usize),
+    Trunc(usize, usize),
+    Freeze(usize),
+    Mut(usize),
+    Drop(usize),
+    Take(usize),
+    TakeBox(usize),
+    TakeBuf(usize),
+    TakeRaw(usize),
+    TakeStatic(usize),
+}
+
+/// A command, and what it is to be answered.
+pub type Line = (Call, Said);
+
+/// A command that brings values, unless memory for them is refused.
+fn bringing<'a>(heap: Heap<'a>, values: &Values, call: Call) -> Option<Sent<'a>> {
+    let metadata = 7;
+    match call {
+        Call::Vec => Some(Cmd::Vec(first_three(heap, values)?)),
+        Call::Buf => {
+            let buffer = first_three(heap, values)?;
+            Some(Cmd::Buf { buffer, metadata })
+        }
+        Call::MBuf => {
+            let buffer = first_three(heap, values)?;
+            Some(Cmd::MBuf { buffer, metadata })
+        }
+        Call::Raw => Some(Cmd::Raw(first_three(heap, values)?)),
+        Call::Push(window, value) => {
+            let item = Arc::try_clone(values.get(value)?).ok()?;
+            Some(Cmd::Push { window, item })
+        }
+        _ => None,
+    }
+}
+
+/// The command, unless memory for the values that it brings is refused.
+pub fn command<'a>(heap: Heap<'a>, values: &Values, call: Call) -> Option<Sent<'a>> {
+    let told = match call {
+        Call::New => Cmd::New,
+        Call::Res(window, additional) => Cmd::Res { window, additional },
+        Call::Room(window) => Cmd::Room { window },
+        Call::Clone(window) => Cmd::Clone { window },
+        Call::Sub(window, start, end) => Cmd::Sub { window, start, end },
+        Call::Off(window, at) => Cmd::Off { window, at },
+        Call::To(window, at) => Cmd::To { window, at },
+        Call::Adv(window, by) => Cmd::Adv { window, by },
+        Call::Trunc(window, len) => Cmd::Trunc { window, len },
+        Call::Freeze(window) => Cmd::Freeze { window },
+        Call::Mut(window) => Cmd::Mut { window },
+        Call::Drop(window) => Cmd::Drop { window },
+        Call::Take(window) => Cmd::Take { window },
+        Call::TakeBox(window) => Cmd::TakeBox { window },
+        Call::TakeBuf(window) => Cmd::TakeBuf { window },
+        Call::TakeRaw(window) => Cmd::TakeRaw { window },
+        Call::TakeStatic(window) => Cmd::TakeStatic { window },
+        _ => return bringing(heap, values, call),
+    };
+    Some(told)
+}

@@ -1,0 +1,126 @@
+//! `fmt::Write` of one of several writers over text, byte text and bytes: each text whole, or
+//! nothing.
+ghost use Rattle.std.specs.Prelude.{◌≡◌, ◌++◌, false, length, IsOk, OnOk, OnErr, Err};
+ghost use Rattle.arc_owners.specs.declared.error.TryReserveError.{TryReserveError};
+ghost use Rattle.arc_block.specs.Shared.{MakesSharedRoom, PushesShared, asks_alone};
+ghost use Rattle.arc_block.specs.Writers.{room_for};
+ghost use Rattle.arc_read.specs.Steps.{WithNewPass};
+
+use crate::slice_mut::ArcSliceMut;
+use arc_block::layout::LayoutMut;
+use arc_buffer::buffer::BufferMut;
+use arc_buffer::kinds::{ByteText, Plain, Text};
+use arc_owners::mark::Stepping;
+use std::alloc::Allocator;
+use std::fmt;
+
+impl<L: LayoutMut, B: BufferMut<u8> + Drop, M: Drop, A: Allocator + Copy, H: Stepping> fmt::Write
+    for ArcSliceMut<Text, L, 0, B, M, A, H> {
+    ghost write_str_gives = { λ w text v. v.items ≡ w.items ++ text };
+
+    /// A copy of the text more: `try_extend_from_str`.
+    ///
+    /// # Errors
+    ///
+    /// In the place of each of `try_reserve_as`; nothing is changed then.
+    ///
+    /// # Allocates
+    ///
+    /// As `try_reserve_as`.
+    ///
+    /// # History
+    ///
+    /// That of `try_reserve_as`.
+    fn write_str(&mut self, text: &str) -> fmt::Result
+        ensures ok { IsOk result → self.new.items ≡ self.old.items ++ text.now }
+        ensures extended { OnOk result (WithNewPass {H = H} H.real self.old.place (λ first last.
+            PushesShared (asks_alone self.old (length text.now)) H.whole
+            (room_for false 1 self.old (length text.now)) text.now
+            self.old self.new first last)) }
+        ensures refused { OnErr result ((e : TryReserveError)
+            × WithNewPass {H = H} H.real self.old.place (λ first last.
+            MakesSharedRoom (asks_alone self.old (length text.now)) H.whole
+            (room_for false 1 self.old (length text.now)) self.old self.new first last (Err e))) }
+        ensures same { OnErr result (self.new ≡ self.old) }
+    {
+        self.known_shared_place();
+        match self.try_extend_from_str(text) {
+            Ok(()) => Ok(()),
+            Err(_) => Err(fmt::Error),
+        }
+    }
+}
+
+impl<L: LayoutMut, B: BufferMut<u8> + Drop, M: Drop, A: Allocator + Copy, H: Stepping> fmt::Write
+    for ArcSliceMut<ByteText, L, 0, B, M, A, H> {
+    ghost write_str_gives = { λ w text v. v.items ≡ w.items ++ text };
+
+    /// A copy of the text more: `try_extend_from_slice`.
+    ///
+    /// # Errors
+    ///
+    /// In the place of each of `try_reserve_as`; nothing is changed then.
+    ///
+    /// # Allocates
+    ///
+    /// As `try_reserve_as`.
+    ///
+    /// # History
+    ///
+    /// That of `try_reserve_as`.
+    fn write_str(&mut self, text: &str) -> fmt::Result
+        ensures ok { IsOk result → self.new.items ≡ self.old.items ++ text.now }
+        ensures extended { OnOk result (WithNewPass {H = H} H.real self.old.place (λ first last.
+            PushesShared (asks_alone self.old (length text.now)) H.whole
+            (room_for false 1 self.old (length text.now)) text.now
+            self.old self.new first last)) }
+        ensures refused { OnErr result ((e : TryReserveError)
+            × WithNewPass {H = H} H.real self.old.place (λ first last.
+            MakesSharedRoom (asks_alone self.old (length text.now)) H.whole
+            (room_for false 1 self.old (length text.now)) self.old self.new first last (Err e))) }
+        ensures same { OnErr result (self.new ≡ self.old) }
+    {
+        self.known_shared_place();
+        match self.try_extend_from_slice(text.as_bytes()) {
+            Ok(()) => Ok(()),
+            Err(_) => Err(fmt::Error),
+        }
+    }
+}
+
+impl<L: LayoutMut, B: BufferMut<u8> + Drop, M: Drop, A: Allocator + Copy, H: Stepping> fmt::Write
+    for ArcSliceMut<Plain<u8>, L, 0, B, M, A, H> {
+    ghost write_str_gives = { λ w text v. v.items ≡ w.items ++ text };
+
+    /// A copy of the text more: `try_extend_from_slice`.
+    ///
+    /// # Errors
+    ///
+    /// In the place of each of `try_reserve_as`; nothing is changed then.
+    ///
+    /// # Allocates
+    ///
+    /// As `try_reserve_as`.
+    ///
+    /// # History
+    ///
+    /// That of `try_reserve_as`.
+    fn write_str(&mut self, text: &str) -> fmt::Result
+        ensures ok { IsOk result → self.new.items ≡ self.old.items ++ text.now }
+        ensures extended { OnOk result (WithNewPass {H = H} H.real self.old.place (λ first last.
+            PushesShared (asks_alone self.old (length text.now)) H.whole
+            (room_for false 1 self.old (length text.now)) text.now
+            self.old self.new first last)) }
+        ensures refused { OnErr result ((e : TryReserveError)
+            × WithNewPass {H = H} H.real self.old.place (λ first last.
+            MakesSharedRoom (asks_alone self.old (length text.now)) H.whole
+            (room_for false 1 self.old (length text.now)) self.old self.new first last (Err e))) }
+        ensures same { OnErr result (self.new ≡ self.old) }
+    {
+        self.known_shared_place();
+        match self.try_extend_from_slice(text.as_bytes()) {
+            Ok(()) => Ok(()),
+            Err(_) => Err(fmt::Error),
+        }
+    }
+}

@@ -1,0 +1,215 @@
+//! Windows of several writers on one block: how a window becomes one, and is its block's only owner
+//! again.
+ghost use Rattle.std.specs.Prelude.{◌≡◌, ℕ, false, IfOk, IfErr, is_ok};
+ghost use Rattle.arc_owners.specs.count.Calls.{IsNewPass, IsPassOfNone};
+ghost use Rattle.arc_block.specs.LayoutFacts.{layout_facts};
+ghost use Rattle.arc_block.specs.Place.{at_owner};
+ghost use Rattle.arc_block.specs.Shared.{AsksAlone, IsSharedPlace, as_shared, as_unique};
+ghost use Rattle.arc_block.specs.Shared.{is_vector_at};
+ghost use Rattle.arc_block.specs.Steps.{IsPassAt};
+ghost use Rattle.arc_block.specs.Table.{one_writer_of_several};
+ghost use Rattle.arc_block.specs.Window.{IsBlockHeld, IsOfBuffer};
+ghost use Rattle.arc_block.specs.Writers.{capacity_of, with_full};
+ghost use Rattle.arc_read.specs.Steps.{WithNewPass};
+
+use super::ArcSliceMut;
+use super::parts::WriterStorage;
+use arc_block::layout::LayoutMut;
+use arc_block::parts::SharedParts;
+use arc_buffer::buffer::BufferMut;
+use arc_buffer::kinds::{Shareable, Slice};
+use arc_owners::mark::{Mark, Stepping};
+use arc_owners::owners::Pass;
+use std::alloc::Allocator;
+use std::marker::PhantomData;
+
+impl<
+    S: Shareable,
+    L: LayoutMut,
+    B: BufferMut<S::Item> + Drop,
+    M: Drop,
+    A: Allocator + Copy,
+    H: Mark,
+> ArcSliceMut<S, L, 1, B, M, A, H> {
+    /// The same window, as one of several writers from now on: it may be split, and others may
+    /// write their own places of its block. It adds nothing and takes no memory.
+    ///
+    /// # Errors
+    ///
+    /// The window, exactly where it stands on a caller's buffer.
+    pub fn into_shared(self) -> Result<ArcSliceMut<S, L, 0, B, M, A, H>, Self>
+        ensures shared { IfOk result (λ shared. (shared ≡ as_shared self)
+            × (¬ IsOfBuffer self.place)) }
+        ensures refused { IfErr result (λ back. (back ≡ self) × IsOfBuffer self.place) }
+    {
+        match self.into_parts().into_shared() {
+            Ok(parts) => Ok(ArcSliceMut::from_shared_parts(parts)),
+            Err(parts) => Err(Self::from_parts(parts)),
+        }
+    }
+}
+
+impl<
+    S: Slice,
+    L: LayoutMut,
+    B: BufferMut<S::Item> + Drop,
+    M: Drop,
+    A: Allocator + Copy,
+    H: Mark,
+> ArcSliceMut<S, L, 0, B, M, A, H> {
+    /// The window of these parts, with a list that is legal, on nothing or on a block that the
+    /// layout holds. It adds nothing.
+    #[inline(always)]
+    pub fn from_shared_parts(parts: SharedParts<S, B, M, A, H>) -> Self
+        requires held { IsBlockHeld (layout_facts L.Layout) parts.place }
+        requires legal { ∥ S.is_legal parts.items ∥₁ }
+        ensures { result ≡ parts }
+    {
+        ArcSliceMut {
+            parts: WriterStorage::Several(parts),
+            of: PhantomData,
+        }
+    }
+
+    /// What the window is made of. It adds nothing.
+    #[inline(always)]
+    pub fn into_shared_parts(self) -> SharedParts<S, B, M, A, H>
+        ensures parts { result ≡ self }
+        ensures held { IsBlockHeld (layout_facts L.Layout) result.place }
+        ensures legal { ∥ S.is_legal result.items ∥₁ }
+    {
+        let ArcSliceMut { parts, of: _ } = self;
+        match parts {
+            WriterStorage::Several(parts) => parts,
+            WriterStorage::Sole(_) => unreachable!(),
+        }
+    }
+
+    /// The window stands on nothing, or on a block that the layout holds. Does nothing: its
+    /// contract is the law.
+    pub fn known_held(&self)
+        ensures { IsBlockHeld (layout_facts L.Layout) self.now.place }
+    {
+        let _ = &self.parts;
+    }
+
+    /// The window stands on nothing, or on a block that counts its owners and keeps its items in
+    /// memory of ours, as one of several writers. Does nothing: its contract is the law.
+    pub fn known_shared_place(&self)
+        ensures place { IsSharedPlace self.now.place }
+        ensures role { self.now.role ≡ one_writer_of_several (capacity_of self.now.role) }
+    {
+        match &self.parts {
+            WriterStorage::Several(parts) => parts.known_place(),
+            WriterStorage::Sole(_) => unreachable!(),
+        }
+    }
+
+    /// Whether the window stands on a vector, whose places a split moves to a native block first.
+    pub fn is_on_vector(&self) -> bool
+        ensures { result ≡ is_vector_at self.now.place }
+    {
+        match &self.parts {
+            WriterStorage::Several(parts) => parts.is_on_vector(),
+            WriterStorage::Sole(_) => unreachable!(),
+        }
+    }
+
+    /// The block's full places aren't counted: none are more when items are written. Does nothing:
+    /// its contract is the law.
+    pub fn known_uncounted(&self)
+        ensures { (len more : ℕ) → with_full len more self.now.place ≡ self.now.place }
+    {
+        match &self.parts {
+            WriterStorage::Several(parts) => parts.known_uncounted(),
+            WriterStorage::Sole(_) => unreachable!(),
+        }
+    }
+
+    /// Items of this kind need no drop. Does nothing: its contract is the law.
+    pub fn known_kind(&self)
+        ensures { S.DROPS ≡ false }
+    {
+        match &self.parts {
+            WriterStorage::Several(parts) => parts.known_kind(),
+            WriterStorage::Sole(_) => unreachable!(),
+        }
+    }
+
+    /// The same window, as its block's only writer, where it stands on a block that no other owner
+    /// has. It keeps its places; those behind them come where room is asked for. It takes no
+    /// memory.
+    ///
+    /// # Errors
+    ///
+    /// The window, on no block, and where another owner lives.
+    ///
+    /// # History
+    ///
+    /// On a block Alone with the answer.
+    pub fn try_into_unique_as(
+        self,
+        pass: &mut Pass<H>,
+    ) -> Result<ArcSliceMut<S, L, 1, B, M, A, H>, Self>
+        requires pass { IsPassAt self.place pass.old }
+        ensures entry { AsksAlone self.place pass.old pass.new (is_ok result) }
+        ensures sole { IfOk result (λ sole. sole ≡ as_unique self) }
+        ensures refused { IfErr result (λ back. back ≡ self) }
+    {
+        match self.into_shared_parts().try_into_unique_as(pass) {
+            Ok(parts) => Ok(ArcSliceMut::from_parts(parts)),
+            Err(parts) => Err(Self::from_shared_parts(parts)),
+        }
+    }
+}
+
+impl<
+    S: Slice,
+    L: LayoutMut,
+    B: BufferMut<S::Item> + Drop,
+    M: Drop,
+    A: Allocator + Copy,
+    H: Stepping,
+> ArcSliceMut<S, L, 0, B, M, A, H> {
+    /// A new pass of the window's block, which has seen at least how the window became an owner,
+    /// and made nothing; on no block a pass of none. It adds nothing.
+    pub fn pass(&self) -> Pass<H>
+        ensures { at_owner self.now.place (IsPassOfNone result) (λ o. IsNewPass o result) }
+    {
+        match &self.parts {
+            WriterStorage::Several(parts) => parts.pass(),
+            WriterStorage::Sole(_) => unreachable!(),
+        }
+    }
+
+    /// The same window, as its block's only writer: `try_into_unique_as` with a new pass.
+    ///
+    /// # Errors
+    ///
+    /// Those of `try_into_unique_as`.
+    ///
+    /// # History
+    ///
+    /// That of `try_into_unique_as`.
+    pub fn try_into_unique(self) -> Result<ArcSliceMut<S, L, 1, B, M, A, H>, Self>
+        ensures entry { WithNewPass {H = H} H.real self.place (λ first last.
+            AsksAlone self.place first last (is_ok result)) }
+        ensures sole { IfOk result (λ sole. sole ≡ as_unique self) }
+        ensures refused { IfErr result (λ back. back ≡ self) }
+    {
+        let mut pass = self.pass();
+        let made = self.try_into_unique_as(&mut pass);
+        pass.show();
+        made
+    }
+}
+
+mod change;
+mod cuts;
+mod ends;
+mod iterate;
+mod push;
+mod read;
+mod room;
+mod splits;
+mod take;
