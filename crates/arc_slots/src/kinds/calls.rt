@@ -5,16 +5,25 @@ ghost use Rattle.std.specs.Prelude.{IfOk, IfErr, OnErr, OnOk};
 ghost use Rattle.std.specs.Mem.{FitsInMemory, type_size};
 ghost use Rattle.std.specs.Str.{IsUtf8};
 ghost use Rattle.arc_owners.specs.count.Calls.{IsPassOfNone};
+ghost use Rattle.arc_owners.specs.declared.mark.Whole.{Whole as whole_mark};
+ghost use Rattle.arc_block.specs.Shared.{CanSplit, IsOneBlock, LeavesAt, MakesSharedRoom};
+ghost use Rattle.arc_block.specs.Shared.{PushesShared, RefusesSplitAt, SplitsWriterOff};
+ghost use Rattle.arc_block.specs.Shared.{SplitsWriterTo, as_shared, asks_alone, can_join};
+ghost use Rattle.arc_block.specs.Shared.{joined_row};
 ghost use Rattle.arc_block.specs.Steps.{Begins, IsPassAt, Makes};
-ghost use Rattle.arc_block.specs.Window.{NeedsBlock};
-ghost use Rattle.arc_block.specs.Writers.{MakesRoom, MakesWriter, Pushes, room_for};
+ghost use Rattle.arc_block.specs.Window.{IsOfBuffer, NeedsBlock};
+ghost use Rattle.arc_block.specs.Writers.{MakesRoom, MakesWriter, Pushes, capacity_of};
+ghost use Rattle.arc_block.specs.Writers.{room_for};
 ghost use Rattle.arc_commands.specs.Changes.{Calls};
+ghost use Rattle.arc_slots.specs.Several.{is_any};
 
 use super::smalls::Smalls;
 use arc_block::layout::{Layout, LayoutMut};
 use arc_buffer::buffer::BufferMut;
-use arc_buffer::kinds::{CopySlice, Extendable, Slice, Text};
-use arc_owners::error::{AllocError, TryReserveError};
+use arc_buffer::kinds::{
+    Concatenable, CopySlice, Extendable, Shareable, Slice, Subsliceable, Text,
+};
+use arc_owners::error::{AllocError, OwnerError, TryReserveError};
 use arc_owners::mark::Whole;
 use arc_owners::owners::Pass;
 use arc_read::slice::ArcSlice;
@@ -22,10 +31,11 @@ use arc_write::slice_mut::ArcSliceMut;
 use std::alloc::Allocator;
 use std::marker::PhantomData;
 use std::str;
+use std::sync::Wait;
 
 /// Which calls a kind S has, of those that not all kinds have, and these calls: each is answered
 /// `None` where the kind hasn't it, and then nothing changes.
-pub trait CallsOf<S: Slice> {
+pub trait CallsOf<S: Subsliceable> {
     /// Which calls it has.
     ghost calls: { Calls };
 
@@ -44,6 +54,10 @@ pub trait CallsOf<S: Slice> {
     /// Whether each list is legal, so that a window is made of a caller's buffer.
     fn any_list() -> bool
         ensures { result ≡ calls.any_list };
+
+    /// Whether several write one block.
+    fn shares() -> bool
+        ensures { result ≡ calls.shares };
 
     /// A vector with a copy of the items.
     ///
@@ -175,8 +189,160 @@ pub trait CallsOf<S: Slice> {
             window.old window.new pass.old pass.new (Err e))) }
         ensures none { IfNone result ((window.new ≡ window.old) × (pass.new ≡ pass.old)) };
 
-    /// No window is written by several.
-    ghost not_shared: { calls.shares ≡ false };
+    /// The window as one of several, as `ArcSliceMut::into_shared` makes it, where it isn't over a
+    /// caller's buffer; else it stays in its place. Takes no memory.
+    fn into_shared<L: LayoutMut, B: BufferMut<S::Item> + Drop, M: Drop, A: Allocator + Copy>(
+        sole: &mut Option<ArcSliceMut<S, L, 1, B, M, A, Whole>>,
+    ) -> Option<ArcSliceMut<S, L, 0, B, M, A, Whole>>
+        requires call { calls.shares ≡ true }
+        ensures shared { IfSome result (λ window. IfSome sole.old (λ w.
+            (window ≡ as_shared w) × (¬ IsOfBuffer w.place))) }
+        ensures kept { IfNone result (sole.new ≡ sole.old) }
+        ensures refused { IfNone result (IfSome sole.old (λ w. IsOfBuffer w.place)) };
+
+    /// The part of a window of several behind `at` places, as `ArcSliceMut::try_split_off_as`.
+    ///
+    /// # Errors
+    ///
+    /// Those of that call.
+    ///
+    /// # Allocates
+    ///
+    /// As that call.
+    ///
+    /// # History
+    ///
+    /// As that call.
+    fn try_split_off_as<L: LayoutMut, B: BufferMut<S::Item> + Drop, M: Drop, A: Allocator + Copy>(
+        window: &mut ArcSliceMut<S, L, 0, B, M, A, Whole>,
+        rt: &impl Wait,
+        at: usize,
+        pass: &mut Pass<Whole>,
+    ) -> Result<ArcSliceMut<S, L, 0, B, M, A, Whole>, OwnerError>
+        requires call { calls.shares ≡ true }
+        requires at { CanSplit S.boundary window.old.items (capacity_of window.old.role) at }
+        requires pass { IsPassAt window.old.place pass.old }
+        ensures made { IfOk result (λ back. SplitsWriterOff whole_mark is_any false true at
+            window.old window.new back pass.old pass.new) }
+        ensures kept { IfErr result (λ _. window.new ≡ window.old) }
+        ensures refused { IfErr result (RefusesSplitAt window.old.place pass.old pass.new) };
+
+    /// The part of a window of several before `at` places, as `ArcSliceMut::try_split_to_as`.
+    ///
+    /// # Errors
+    ///
+    /// Those of that call.
+    ///
+    /// # Allocates
+    ///
+    /// As that call.
+    ///
+    /// # History
+    ///
+    /// As that call.
+    fn try_split_to_as<L: LayoutMut, B: BufferMut<S::Item> + Drop, M: Drop, A: Allocator + Copy>(
+        window: &mut ArcSliceMut<S, L, 0, B, M, A, Whole>,
+        rt: &impl Wait,
+        at: usize,
+        pass: &mut Pass<Whole>,
+    ) -> Result<ArcSliceMut<S, L, 0, B, M, A, Whole>, OwnerError>
+        requires call { calls.shares ≡ true }
+        requires at { CanSplit S.boundary window.old.items (capacity_of window.old.role) at }
+        requires pass { IsPassAt window.old.place pass.old }
+        ensures made { IfOk result (λ front. SplitsWriterTo whole_mark is_any false true at
+            window.old front window.new pass.old pass.new) }
+        ensures kept { IfErr result (λ _. window.new ≡ window.old) }
+        ensures refused { IfErr result (RefusesSplitAt window.old.place pass.old pass.new) };
+
+    /// Puts the other window's places behind this one's, as `ArcSliceMut::try_unsplit_as`; where it
+    /// doesn't, the other one stays in its place.
+    ///
+    /// # History
+    ///
+    /// As that call.
+    fn try_unsplit_as<L: LayoutMut, B: BufferMut<S::Item> + Drop, M: Drop, A: Allocator + Copy>(
+        window: &mut ArcSliceMut<S, L, 0, B, M, A, Whole>,
+        other: &mut Option<ArcSliceMut<S, L, 0, B, M, A, Whole>>,
+        pass: &mut Pass<Whole>,
+    ) -> Option<()>
+        requires call { calls.shares ≡ true }
+        requires block { IfSome other.old (λ w. IsOneBlock window.old.place w.place) }
+        requires pass { IsPassAt window.old.place pass.old }
+        ensures joined { IfSome result (λ _. IfSome other.old (λ w.
+            (can_join window.old w ≡ true) × (window.new ≡ joined_row window.old w)
+            × LeavesAt w.place pass.old pass.new)) }
+        ensures kept { IfNone result ((window.new ≡ window.old) × (other.new ≡ other.old)
+            × (pass.new ≡ pass.old)) }
+        ensures refused { IfNone result (IfSome other.old (λ w.
+            can_join window.old w ≡ false)) };
+
+    /// An item more in a window of several, as `ArcSliceMut::try_push_as` pushes it. Refused, it is
+    /// let go.
+    ///
+    /// # Errors
+    ///
+    /// Those of that call.
+    ///
+    /// # Allocates
+    ///
+    /// As that call.
+    ///
+    /// # History
+    ///
+    /// As that call.
+    fn try_push_beside_as<L: LayoutMut, B: BufferMut<S::Item> + Drop, M: Drop, A: Allocator + Copy>(
+        window: &mut ArcSliceMut<S, L, 0, B, M, A, Whole>,
+        item: S::Item,
+        pass: &mut Pass<Whole>,
+    ) -> Result<(), TryReserveError>
+        requires call { calls.pushes ≡ true }
+        requires shares { calls.shares ≡ true }
+        requires item { FitsInMemory S.Item.row }
+        requires pass { IsPassAt window.old.place pass.old }
+        ensures pushed { OnOk result (PushesShared (asks_alone window.old 1) true
+            (room_for false (type_size S.Item.row) window.old 1) (item ∷ [])
+            window.old window.new pass.old pass.new) }
+        ensures refused { IfErr result (λ e. MakesSharedRoom (asks_alone window.old 1) true
+            (room_for false (type_size S.Item.row) window.old 1)
+            window.old window.new pass.old pass.new (Err e)) };
+
+    /// A copy of the items more in a window of several, which are legal, as
+    /// `ArcSliceMut::try_extend_from_slice_as` or `try_extend_from_str_as` puts it behind the others.
+    ///
+    /// # Errors
+    ///
+    /// Those of that call.
+    ///
+    /// # Allocates
+    ///
+    /// As that call.
+    ///
+    /// # History
+    ///
+    /// As that call.
+    fn try_extend_beside_as<
+        L: LayoutMut,
+        B: BufferMut<S::Item> + Drop,
+        M: Drop,
+        A: Allocator + Copy,
+    >(
+        window: &mut ArcSliceMut<S, L, 0, B, M, A, Whole>,
+        items: &[S::Item],
+        pass: &mut Pass<Whole>,
+    ) -> Result<(), TryReserveError>
+        requires call { calls.extends ≡ true }
+        requires shares { calls.shares ≡ true }
+        requires legal { ∥ S.is_legal items.now ∥₁ }
+        requires item { FitsInMemory S.Item.row }
+        requires pass { IsPassAt window.old.place pass.old }
+        ensures extended { OnOk result (PushesShared
+            (asks_alone window.old (length items.now)) true
+            (room_for false (type_size S.Item.row) window.old (length items.now)) items.now
+            window.old window.new pass.old pass.new) }
+        ensures refused { IfErr result (λ e. MakesSharedRoom
+            (asks_alone window.old (length items.now)) true
+            (room_for false (type_size S.Item.row) window.old (length items.now))
+            window.old window.new pass.old pass.new (Err e)) };
 }
 
 /// All of them: the calls of `Plain` and `ByteText`. W says whether there are small windows.
@@ -190,7 +356,7 @@ pub struct TextCalls;
 /// Items that are moved are pushed, and never copied.
 pub struct OwnedCalls;
 
-impl<S: CopySlice + Extendable, W: Smalls> CallsOf<S> for AllCalls<W>
+impl<S: CopySlice + Extendable + Concatenable + Shareable, W: Smalls> CallsOf<S> for AllCalls<W>
 where
     S::Item: Copy,
 {
@@ -200,10 +366,8 @@ where
       extends = true;
       any_list = true;
       small = W.small;
-      shares = false;
+      shares = true;
     } };
-
-    ghost not_shared = { refl };
 
     fn copies() -> bool {
         true
@@ -218,6 +382,10 @@ where
     }
 
     fn any_list() -> bool {
+        true
+    }
+
+    fn shares() -> bool {
         true
     }
 
@@ -265,6 +433,74 @@ where
     ) -> Option<Result<(), TryReserveError>> {
         Some(window.try_extend_from_slice_as(items, pass))
     }
+
+    fn into_shared<L: LayoutMut, B: BufferMut<S::Item> + Drop, M: Drop, A: Allocator + Copy>(
+        sole: &mut Option<ArcSliceMut<S, L, 1, B, M, A, Whole>>,
+    ) -> Option<ArcSliceMut<S, L, 0, B, M, A, Whole>> {
+        match sole.take()?.into_shared() {
+            Ok(window) => Some(window),
+            Err(window) => {
+                *sole = Some(window);
+                None
+            }
+        }
+    }
+
+    fn try_split_off_as<L: LayoutMut, B: BufferMut<S::Item> + Drop, M: Drop, A: Allocator + Copy>(
+        window: &mut ArcSliceMut<S, L, 0, B, M, A, Whole>,
+        rt: &impl Wait,
+        at: usize,
+        pass: &mut Pass<Whole>,
+    ) -> Result<ArcSliceMut<S, L, 0, B, M, A, Whole>, OwnerError> {
+        window.try_split_off_as(rt, at, pass)
+    }
+
+    fn try_split_to_as<L: LayoutMut, B: BufferMut<S::Item> + Drop, M: Drop, A: Allocator + Copy>(
+        window: &mut ArcSliceMut<S, L, 0, B, M, A, Whole>,
+        rt: &impl Wait,
+        at: usize,
+        pass: &mut Pass<Whole>,
+    ) -> Result<ArcSliceMut<S, L, 0, B, M, A, Whole>, OwnerError> {
+        window.try_split_to_as(rt, at, pass)
+    }
+
+    fn try_unsplit_as<L: LayoutMut, B: BufferMut<S::Item> + Drop, M: Drop, A: Allocator + Copy>(
+        window: &mut ArcSliceMut<S, L, 0, B, M, A, Whole>,
+        other: &mut Option<ArcSliceMut<S, L, 0, B, M, A, Whole>>,
+        pass: &mut Pass<Whole>,
+    ) -> Option<()> {
+        match window.try_unsplit_as(other.take()?, pass) {
+            Ok(()) => Some(()),
+            Err(back) => {
+                *other = Some(back);
+                None
+            }
+        }
+    }
+
+    fn try_push_beside_as<L: LayoutMut, B: BufferMut<S::Item> + Drop, M: Drop, A: Allocator + Copy>(
+        window: &mut ArcSliceMut<S, L, 0, B, M, A, Whole>,
+        item: S::Item,
+        pass: &mut Pass<Whole>,
+    ) -> Result<(), TryReserveError> {
+        match window.try_push_as(item, pass) {
+            Ok(()) => Ok(()),
+            Err((e, _)) => Err(e),
+        }
+    }
+
+    fn try_extend_beside_as<
+        L: LayoutMut,
+        B: BufferMut<S::Item> + Drop,
+        M: Drop,
+        A: Allocator + Copy,
+    >(
+        window: &mut ArcSliceMut<S, L, 0, B, M, A, Whole>,
+        items: &[S::Item],
+        pass: &mut Pass<Whole>,
+    ) -> Result<(), TryReserveError> {
+        window.try_extend_from_slice_as(items, pass)
+    }
 }
 
 /// The items of a legal list of `Text`, as a `str`.
@@ -282,10 +518,8 @@ impl CallsOf<Text> for TextCalls {
       extends = true;
       any_list = false;
       small = true;
-      shares = false;
+      shares = true;
     } };
-
-    ghost not_shared = { refl };
 
     fn copies() -> bool {
         true
@@ -301,6 +535,10 @@ impl CallsOf<Text> for TextCalls {
 
     fn any_list() -> bool {
         false
+    }
+
+    fn shares() -> bool {
+        true
     }
 
     fn try_copy<A: Allocator>(alloc: A, items: &[u8]) -> Option<Result<Vec<u8, A>, AllocError>> {
@@ -347,6 +585,70 @@ impl CallsOf<Text> for TextCalls {
         let text = as_text(items);
         Some(window.try_extend_from_str_as(text, pass))
     }
+
+    fn into_shared<L: LayoutMut, B: BufferMut<u8> + Drop, M: Drop, A: Allocator + Copy>(
+        sole: &mut Option<ArcSliceMut<Text, L, 1, B, M, A, Whole>>,
+    ) -> Option<ArcSliceMut<Text, L, 0, B, M, A, Whole>> {
+        match sole.take()?.into_shared() {
+            Ok(window) => Some(window),
+            Err(window) => {
+                *sole = Some(window);
+                None
+            }
+        }
+    }
+
+    fn try_split_off_as<L: LayoutMut, B: BufferMut<u8> + Drop, M: Drop, A: Allocator + Copy>(
+        window: &mut ArcSliceMut<Text, L, 0, B, M, A, Whole>,
+        rt: &impl Wait,
+        at: usize,
+        pass: &mut Pass<Whole>,
+    ) -> Result<ArcSliceMut<Text, L, 0, B, M, A, Whole>, OwnerError> {
+        window.try_split_off_as(rt, at, pass)
+    }
+
+    fn try_split_to_as<L: LayoutMut, B: BufferMut<u8> + Drop, M: Drop, A: Allocator + Copy>(
+        window: &mut ArcSliceMut<Text, L, 0, B, M, A, Whole>,
+        rt: &impl Wait,
+        at: usize,
+        pass: &mut Pass<Whole>,
+    ) -> Result<ArcSliceMut<Text, L, 0, B, M, A, Whole>, OwnerError> {
+        window.try_split_to_as(rt, at, pass)
+    }
+
+    fn try_unsplit_as<L: LayoutMut, B: BufferMut<u8> + Drop, M: Drop, A: Allocator + Copy>(
+        window: &mut ArcSliceMut<Text, L, 0, B, M, A, Whole>,
+        other: &mut Option<ArcSliceMut<Text, L, 0, B, M, A, Whole>>,
+        pass: &mut Pass<Whole>,
+    ) -> Option<()> {
+        match window.try_unsplit_as(other.take()?, pass) {
+            Ok(()) => Some(()),
+            Err(back) => {
+                *other = Some(back);
+                None
+            }
+        }
+    }
+
+    fn try_push_beside_as<L: LayoutMut, B: BufferMut<u8> + Drop, M: Drop, A: Allocator + Copy>(
+        window: &mut ArcSliceMut<Text, L, 0, B, M, A, Whole>,
+        item: u8,
+        pass: &mut Pass<Whole>,
+    ) -> Result<(), TryReserveError> {
+        let _ = window;
+        let _ = item;
+        let _ = pass;
+        unreachable!()
+    }
+
+    fn try_extend_beside_as<L: LayoutMut, B: BufferMut<u8> + Drop, M: Drop, A: Allocator + Copy>(
+        window: &mut ArcSliceMut<Text, L, 0, B, M, A, Whole>,
+        items: &[u8],
+        pass: &mut Pass<Whole>,
+    ) -> Result<(), TryReserveError> {
+        let text = as_text(items);
+        window.try_extend_from_str_as(text, pass)
+    }
 }
 
 impl<S: Extendable> CallsOf<S> for OwnedCalls {
@@ -358,8 +660,6 @@ impl<S: Extendable> CallsOf<S> for OwnedCalls {
       small = false;
       shares = false;
     } };
-
-    ghost not_shared = { refl };
 
     fn copies() -> bool {
         false
@@ -375,6 +675,10 @@ impl<S: Extendable> CallsOf<S> for OwnedCalls {
 
     fn any_list() -> bool {
         true
+    }
+
+    fn shares() -> bool {
+        false
     }
 
     fn try_copy<A: Allocator>(
@@ -428,5 +732,76 @@ impl<S: Extendable> CallsOf<S> for OwnedCalls {
         let _ = items;
         let _ = pass;
         None
+    }
+
+    fn into_shared<L: LayoutMut, B: BufferMut<S::Item> + Drop, M: Drop, A: Allocator + Copy>(
+        sole: &mut Option<ArcSliceMut<S, L, 1, B, M, A, Whole>>,
+    ) -> Option<ArcSliceMut<S, L, 0, B, M, A, Whole>> {
+        let _ = sole;
+        unreachable!()
+    }
+
+    fn try_split_off_as<L: LayoutMut, B: BufferMut<S::Item> + Drop, M: Drop, A: Allocator + Copy>(
+        window: &mut ArcSliceMut<S, L, 0, B, M, A, Whole>,
+        rt: &impl Wait,
+        at: usize,
+        pass: &mut Pass<Whole>,
+    ) -> Result<ArcSliceMut<S, L, 0, B, M, A, Whole>, OwnerError> {
+        let _ = window;
+        let _ = rt;
+        let _ = at;
+        let _ = pass;
+        unreachable!()
+    }
+
+    fn try_split_to_as<L: LayoutMut, B: BufferMut<S::Item> + Drop, M: Drop, A: Allocator + Copy>(
+        window: &mut ArcSliceMut<S, L, 0, B, M, A, Whole>,
+        rt: &impl Wait,
+        at: usize,
+        pass: &mut Pass<Whole>,
+    ) -> Result<ArcSliceMut<S, L, 0, B, M, A, Whole>, OwnerError> {
+        let _ = window;
+        let _ = rt;
+        let _ = at;
+        let _ = pass;
+        unreachable!()
+    }
+
+    fn try_unsplit_as<L: LayoutMut, B: BufferMut<S::Item> + Drop, M: Drop, A: Allocator + Copy>(
+        window: &mut ArcSliceMut<S, L, 0, B, M, A, Whole>,
+        other: &mut Option<ArcSliceMut<S, L, 0, B, M, A, Whole>>,
+        pass: &mut Pass<Whole>,
+    ) -> Option<()> {
+        let _ = window;
+        let _ = other;
+        let _ = pass;
+        unreachable!()
+    }
+
+    fn try_push_beside_as<L: LayoutMut, B: BufferMut<S::Item> + Drop, M: Drop, A: Allocator + Copy>(
+        window: &mut ArcSliceMut<S, L, 0, B, M, A, Whole>,
+        item: S::Item,
+        pass: &mut Pass<Whole>,
+    ) -> Result<(), TryReserveError> {
+        let _ = window;
+        let _ = item;
+        let _ = pass;
+        unreachable!()
+    }
+
+    fn try_extend_beside_as<
+        L: LayoutMut,
+        B: BufferMut<S::Item> + Drop,
+        M: Drop,
+        A: Allocator + Copy,
+    >(
+        window: &mut ArcSliceMut<S, L, 0, B, M, A, Whole>,
+        items: &[S::Item],
+        pass: &mut Pass<Whole>,
+    ) -> Result<(), TryReserveError> {
+        let _ = window;
+        let _ = items;
+        let _ = pass;
+        unreachable!()
     }
 }
