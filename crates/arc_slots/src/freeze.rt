@@ -62,7 +62,7 @@ where
                 Err(window) => Err(Held::Several(window)),
             }
         }
-        Held::Read(_) | Held::Small(_) => unreachable!(),
+        _ => unreachable!(),
     }
 }
 

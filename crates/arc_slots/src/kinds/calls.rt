@@ -6,10 +6,10 @@ ghost use Rattle.std.specs.Mem.{FitsInMemory, type_size};
 ghost use Rattle.std.specs.Str.{IsUtf8};
 ghost use Rattle.arc_owners.specs.count.Calls.{IsPassOfNone};
 ghost use Rattle.arc_owners.specs.declared.mark.Whole.{Whole as whole_mark};
-ghost use Rattle.arc_block.specs.Shared.{CanSplit, IsOneBlock, LeavesAt, MakesSharedRoom};
-ghost use Rattle.arc_block.specs.Shared.{PushesShared, RefusesSplitAt, SplitsWriterOff};
-ghost use Rattle.arc_block.specs.Shared.{SplitsWriterTo, as_shared, asks_alone, can_join};
-ghost use Rattle.arc_block.specs.Shared.{joined_row};
+ghost use Rattle.arc_block.specs.Shared.{CanSplit, IsOneBlock, LeavesAt, LeavesVector};
+ghost use Rattle.arc_block.specs.Shared.{MakesSharedRoom, PushesShared, RefusesSplitAt};
+ghost use Rattle.arc_block.specs.Shared.{SplitsWriterOff, SplitsWriterTo, as_shared, asks_alone};
+ghost use Rattle.arc_block.specs.Shared.{can_join, is_vector_at, joined_row};
 ghost use Rattle.arc_block.specs.Steps.{Begins, IsPassAt, Makes};
 ghost use Rattle.arc_block.specs.Window.{IsOfBuffer, NeedsBlock};
 ghost use Rattle.arc_block.specs.Writers.{MakesRoom, MakesWriter, Pushes, capacity_of};
@@ -20,9 +20,7 @@ ghost use Rattle.arc_slots.specs.Several.{is_any};
 use super::smalls::Smalls;
 use arc_block::layout::{Layout, LayoutMut};
 use arc_buffer::buffer::BufferMut;
-use arc_buffer::kinds::{
-    Concatenable, CopySlice, Extendable, Shareable, Slice, Subsliceable, Text,
-};
+use arc_buffer::kinds::{CopySlice, Extendable, Shareable, Slice, Subsliceable, Text};
 use arc_owners::error::{AllocError, OwnerError, TryReserveError};
 use arc_owners::mark::Whole;
 use arc_owners::owners::Pass;
@@ -254,6 +252,36 @@ pub trait CallsOf<S: Subsliceable> {
         ensures kept { IfErr result (λ _. window.new ≡ window.old) }
         ensures refused { IfErr result (RefusesSplitAt window.old.place pass.old pass.new) };
 
+    /// Moves a window of several from a vector to a native block, and answers the block's pass, as
+    /// `ArcSliceMut::try_leave_vector_as`.
+    ///
+    /// # Errors
+    ///
+    /// Those of that call.
+    ///
+    /// # Allocates
+    ///
+    /// As that call.
+    ///
+    /// # History
+    ///
+    /// As that call.
+    fn try_leave_vector_as<
+        L: LayoutMut,
+        B: BufferMut<S::Item> + Drop,
+        M: Drop,
+        A: Allocator + Copy,
+    >(
+        window: &mut ArcSliceMut<S, L, 0, B, M, A, Whole>,
+        pass: &mut Pass<Whole>,
+    ) -> Result<Pass<Whole>, AllocError>
+        requires call { calls.shares ≡ true }
+        requires vector { is_vector_at window.old.place ≡ true }
+        requires pass { IsPassAt window.old.place pass.old }
+        ensures moved { IfOk result (λ new. LeavesVector false true window.old window.new
+            pass.old pass.new new) }
+        ensures refused { OnErr result ((window.new ≡ window.old) × (pass.new ≡ pass.old)) };
+
     /// Puts the other window's places behind this one's, as `ArcSliceMut::try_unsplit_as`; where it
     /// doesn't, the other one stays in its place.
     ///
@@ -356,7 +384,7 @@ pub struct TextCalls;
 /// Items that are moved are pushed, and never copied.
 pub struct OwnedCalls;
 
-impl<S: CopySlice + Extendable + Concatenable + Shareable, W: Smalls> CallsOf<S> for AllCalls<W>
+impl<S: CopySlice + Extendable + Shareable + Subsliceable, W: Smalls> CallsOf<S> for AllCalls<W>
 where
     S::Item: Copy,
 {
@@ -462,6 +490,18 @@ where
         pass: &mut Pass<Whole>,
     ) -> Result<ArcSliceMut<S, L, 0, B, M, A, Whole>, OwnerError> {
         window.try_split_to_as(rt, at, pass)
+    }
+
+    fn try_leave_vector_as<
+        L: LayoutMut,
+        B: BufferMut<S::Item> + Drop,
+        M: Drop,
+        A: Allocator + Copy,
+    >(
+        window: &mut ArcSliceMut<S, L, 0, B, M, A, Whole>,
+        pass: &mut Pass<Whole>,
+    ) -> Result<Pass<Whole>, AllocError> {
+        window.try_leave_vector_as(pass)
     }
 
     fn try_unsplit_as<L: LayoutMut, B: BufferMut<S::Item> + Drop, M: Drop, A: Allocator + Copy>(
@@ -616,6 +656,13 @@ impl CallsOf<Text> for TextCalls {
         window.try_split_to_as(rt, at, pass)
     }
 
+    fn try_leave_vector_as<L: LayoutMut, B: BufferMut<u8> + Drop, M: Drop, A: Allocator + Copy>(
+        window: &mut ArcSliceMut<Text, L, 0, B, M, A, Whole>,
+        pass: &mut Pass<Whole>,
+    ) -> Result<Pass<Whole>, AllocError> {
+        window.try_leave_vector_as(pass)
+    }
+
     fn try_unsplit_as<L: LayoutMut, B: BufferMut<u8> + Drop, M: Drop, A: Allocator + Copy>(
         window: &mut ArcSliceMut<Text, L, 0, B, M, A, Whole>,
         other: &mut Option<ArcSliceMut<Text, L, 0, B, M, A, Whole>>,
@@ -651,7 +698,7 @@ impl CallsOf<Text> for TextCalls {
     }
 }
 
-impl<S: Extendable> CallsOf<S> for OwnedCalls {
+impl<S: Extendable + Subsliceable> CallsOf<S> for OwnedCalls {
     ghost calls = { record {
       copies = false;
       pushes = true;
@@ -763,6 +810,20 @@ impl<S: Extendable> CallsOf<S> for OwnedCalls {
         let _ = window;
         let _ = rt;
         let _ = at;
+        let _ = pass;
+        unreachable!()
+    }
+
+    fn try_leave_vector_as<
+        L: LayoutMut,
+        B: BufferMut<S::Item> + Drop,
+        M: Drop,
+        A: Allocator + Copy,
+    >(
+        window: &mut ArcSliceMut<S, L, 0, B, M, A, Whole>,
+        pass: &mut Pass<Whole>,
+    ) -> Result<Pass<Whole>, AllocError> {
+        let _ = window;
         let _ = pass;
         unreachable!()
     }
