@@ -68,7 +68,7 @@ metadata-numbered b (on_block None offset info) = refl
 metadata-numbered b (on_block (Some o) offset info) = refl
 
 -- what is refused for one reason is refused for no other
-refused-same : (e f : TryReserveError)
+pub refused-same : (e f : TryReserveError)
     → ◌≡◌ {A = Result (Unit {0}) TryReserveError} (Err e) (Err f) → e ≡ f
 refused-same e f is = same_Some e f (ap result_err is)
 
@@ -393,6 +393,35 @@ module _ {T M : Type 0} (setting : Setting T) (windows : ℕ) (s : SlotView T M)
       same (command.Ext i items) reply.Kind (not-for no_shortage (command.Ext i items)
       (writers-for (command.Ext i items) s.role other refl refl refl)) (refl, refl, refl)
 
+  -- a first block was made for the window
+  pub begins-as : (c : Command) (new : SlotView T M) (r : Row T M) (passes' : List (Pass Whole))
+      → answer_any setting no_shortage around c row ≡ begun r
+      → ((there : Stand) → Stays here there None passes passes'
+      → RowAdds here there None passes passes' setting row c reply.Ok)
+      → here ≡ None → Founds (stand_of (Some new)) passes passes' → row_of new ≡ r
+      → Said c reply.Ok (Some new) None passes'
+  begins-as c new r passes' is adds none founds row-is = record {
+    begins = is_some (stand_block (stand_of (Some new)));
+    places = 0;
+    change =
+        is ∙ ap (λ x. record {
+          reply = reply.Ok;
+          row = Some x;
+          made = None;
+          begins = is_some (block_of r.place);
+        }) (sym row-is)
+        ∙ ap (λ b. record {
+          reply = reply.Ok;
+          row = Some (row_of new);
+          made = None;
+          begins = b;
+        }) (row-begins new r row-is);
+    blocks = many-founded passes passes' (stand_of (Some new)) founds;
+    adds =
+        adds (stand_of (Some new))
+        (subst (λ st. MayBegin st (stand_of (Some new)) passes passes') (sym none) founds, refl);
+  }
+
   module _ (writes : is_sole s.role ≡ true) (i : ℕ) where
     module _ (what : Writing (List T) T) where
       abbrev w : Command
@@ -437,34 +466,6 @@ module _ {T M : Type 0} (setting : Setting T) (windows : ℕ) (s : SlotView T M)
         → (short : Shortage) (room : Room) → room ≡ room_of setting row (additional_of what)
         → answer_any setting short around (write_command i what) row ≡ outcome what short room
     write-is = write-in around
-
-    pub begins-as : (c : Command) (new : SlotView T M) (r : Row T M) (passes' : List (Pass Whole))
-        → answer_any setting no_shortage around c row ≡ begun r
-        → ((there : Stand) → Stays here there None passes passes'
-        → RowAdds here there None passes passes' setting row c reply.Ok)
-        → here ≡ None → Founds (stand_of (Some new)) passes passes' → row_of new ≡ r
-        → Said c reply.Ok (Some new) None passes'
-    begins-as c new r passes' is adds none founds row-is = record {
-      begins = is_some (stand_block (stand_of (Some new)));
-      places = 0;
-      change =
-          is ∙ ap (λ x. record {
-            reply = reply.Ok;
-            row = Some x;
-            made = None;
-            begins = is_some (block_of r.place);
-          }) (sym row-is)
-          ∙ ap (λ b. record {
-            reply = reply.Ok;
-            row = Some (row_of new);
-            made = None;
-            begins = b;
-          }) (row-begins new r row-is);
-      blocks = many-founded passes passes' (stand_of (Some new)) founds;
-      adds =
-          adds (stand_of (Some new))
-          (subst (λ st. MayBegin st (stand_of (Some new)) passes passes') (sym none) founds, refl);
-    }
 
     module _ (what : Writing (List T) T) (can : can_write setting.calls what ≡ true) where
       put-in : (room : Room) → room ≡ room_of setting row (additional_of what)

@@ -6,6 +6,7 @@ pub mod Takes
 pub mod Index
 pub mod Splits
 pub mod Filled
+pub mod Beside
 pub mod Ended
 pub mod Added
 pub mod ByForm
@@ -15,5 +16,6 @@ pub mod HandedOut
 pub mod Turned
 pub mod Asked
 pub mod Reclaimed
+pub mod Roomed
 pub mod Keeps
 pub mod Made

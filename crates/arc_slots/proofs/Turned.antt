@@ -88,7 +88,7 @@ module _ {T M : Type 0} (setting : Setting T) (windows : ℕ) (s : SlotView T M)
         by to.NewCount is did = absurd did
         by to.LeavesCount is did = absurd did
         by to.NewEmpty is did =
-            begins-as setting windows s passes writes i freeze new (made_row false setting.drops (length passes) row.items) passes'
+            begins-as setting windows s passes freeze new (made_row false setting.drops (length passes) row.items) passes'
             (frozen-is no_shortage to.NewEmpty is) (λ there adds. adds)
             (new-none setting.layout s.block s.window.place (ap is_new is))
             did.1 did.0
