@@ -5,8 +5,9 @@ pub mod Have
 pub mod Takes
 pub mod Index
 pub mod Splits
+pub mod Roles
 pub mod Filled
-pub mod Beside
+pub mod FilledBeside
 pub mod Ended
 pub mod Added
 pub mod ByForm

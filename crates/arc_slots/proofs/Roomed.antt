@@ -1,6 +1,8 @@
 -- What is written into the row of one of several writers, as what he is answered: he asks whether he
 -- is alone where he has to be, and his row's answer goes by that.
-use Rattle.std.proofs.Common.{◌≡◌, ◌&&◌, ◌++◌, ◌∷◌, [], ℕ, Bool, true, false, if◌then◌else◌, not}
+use Rattle.std.proofs.Common.{◌≡◌, ◌==◌, ◌-◌, ◌&&◌, ◌∷◌, [], ℕ, Bool, true, false, not}
+use Rattle.std.proofs.Common.{if◌then◌else◌}
+use Rattle.std.specs.Prelude.{nat_lt}
 use Rattle.std.proofs.Common.{List, length, Option, Some, None, Result, Ok, Err, refl, sym, ap}
 use Rattle.std.proofs.Common.{◌∙◌, subst}
 use Rattle.std.proofs.lemmas.Bool.{and_parts, false≢true}
@@ -97,6 +99,9 @@ module _ {T M : Type 0} (setting : Setting T) (windows : ℕ) (s : SlotView T M)
     abbrev needed : Room
     needed = room_of setting row k
 
+    abbrev first : ℕ
+    first = if setting.item_size == 1 then 8 else 4
+
     -- no other owner lives of whom he would have to know, and that he asked, if he did, was added
     record IsClear (between : List (Pass Whole)) : Type 0 where
       beside : is_beside around k row ≡ false
@@ -133,14 +138,16 @@ module _ {T M : Type 0} (setting : Setting T) (windows : ℕ) (s : SlotView T M)
     -- on a block no first one is made
     fresh-alone : asks_alone row k ≡ true → is_fresh needed ≡ true → ⊥
     fresh-alone asks fresh =
-        false≢true (sym (room_each setting.drops _ setting.item_size row k
-        (λ x. is_fresh x ≡ false) refl (λ off places. absurd (false≢true (sym off
-        ∙ (and_parts _ (is_on_block row.place) asks).1))) refl refl refl refl (λ places. refl)
-        (λ block offset info writable is sort. refl)) ∙ fresh)
+        let on = (and_parts (nat_lt (capacity_of row.role - length row.items) k)
+        (is_on_block row.place) asks).1 in
+        let old : is_fresh needed ≡ false = room_each setting.drops first setting.item_size row k
+        (λ x. is_fresh x ≡ false) refl (λ off places. absurd (false≢true (sym off ∙ on))) refl refl
+        refl refl (λ places. refl) (λ block offset info writable is sort. refl) in
+        false≢true (sym old ∙ fresh)
 
     names-none : NamesNoOwner needed
     names-none =
-        room_each setting.drops _ setting.item_size row k NamesNoOwner tt (λ off places. tt) tt tt tt
+        room_each setting.drops first setting.item_size row k NamesNoOwner tt (λ off places. tt) tt tt tt
         tt (λ places. tt) (λ block offset info writable is sort. tt)
 
   -- ---- what is written

@@ -123,13 +123,13 @@ module _ {N T M : Type 0} where
       (roomed-several x row.items row.place (capacity_of row.role))
 
 module _ {T M : Type 0} (b : Option ℕ) (w : PartsView T M) (fits : is_numbered b w.place ≡ true)
-    where
-  -- he has to be alone where his row has
-  pub asks-same : (k : ℕ) → asks_alone (row_of (writer_slot w b)) k ≡ asks_alone w k
-  asks-same k =
-      ap (λ on. nat_lt (capacity_of w.role - length w.items) k && on)
-      (numbered_each (λ n place. is_on_block (numbered n place) ≡ is_on_block place) refl refl
-      (λ offset info. refl) (λ n o offset info. refl) b w.place fits)
+  where
+    -- he has to be alone where his row has
+    pub asks-same : (k : ℕ) → asks_alone (row_of (writer_slot w b)) k ≡ asks_alone w k
+    asks-same k =
+        ap (λ on. nat_lt (capacity_of w.role - length w.items) k && on)
+        (numbered_each (λ n place. is_on_block (numbered n place) ≡ is_on_block place) refl refl
+        (λ offset info. refl) (λ n o offset info. refl) b w.place fits)
 
 -- one of several stands on no caller's buffer
 module _ {M : Type 0} where
@@ -171,32 +171,32 @@ module _ {T M : Type 0} (b : Option ℕ) (w : PartsView T M) (fits : is_numbered
 
   -- one of several again, who was the only writer, with these items behind the others
   module _ (items : List T) (sole : PartsView T M) (n : Option ℕ) (before after : List (Pass Whole))
-      where
-    abbrev shared : PartsView T M
-    shared = extended items (as_shared sole)
+    where
+      abbrev shared : PartsView T M
+      shared = extended items (as_shared sole)
 
-    roomed-as : (x : Room)
-        → row_of (writer_slot sole n) ≡ with_more [] (with_room x (as_unique row))
-        → row_of (writer_slot shared n) ≡ extended items (with_room x row)
-    roomed-as x is =
-        ap (λ (r : Row T M). extended items (as_shared r)) (is ∙ more_none (with_room x (as_unique row)))
-        ∙ ap (extended items) (shared-room x row several)
+      roomed-as : (x : Room)
+          → row_of (writer_slot sole n) ≡ with_more [] (with_room x (as_unique row))
+          → row_of (writer_slot shared n) ≡ extended items (with_room x row)
+      roomed-as x is =
+          ap (λ (r : Row T M). extended items (as_shared r)) (is ∙ more_none (with_room x (as_unique row)))
+          ∙ ap (extended items) (shared-room x row several)
 
-    from-sole : (x : Room) → IsSharedRoom x
-        → Fills false x [] (writer_slot (as_unique w) b) (writer_slot sole n) before after (Ok tt)
-        → FillsAlone x items (writer_slot w b) (writer_slot shared n) before after (Ok tt)
-    from-sole (Fresh places) memory did = (
-      ap (λ (r : Row T M). extended items (as_shared r))
-          (did.0 ∙ more_none (new_writer false (Some (length before)) [] places)),
-      did.1,
-    )
-    from-sole (Own additional) memory did = absurd memory
-    from-sole (Refused e) memory did =
-        let fine : ◌≡◌ {A = Result (Unit {0}) TryReserveError} (Ok tt) (Err e) = did.0 in absurd (cc)
-    from-sole Spare memory did = (did.0, roomed-as Spare did.1, did.2, did.3)
-    from-sole Behind memory did = (did.0, roomed-as Behind did.1, did.2, did.3)
-    from-sole Front memory did = (did.0, roomed-as Front did.1, did.2, did.3)
-    from-sole (Growth places) memory did = (did.0, roomed-as (Growth places) did.1, did.2, did.3)
+      from-sole : (x : Room) → IsSharedRoom x
+          → Fills false x [] (writer_slot (as_unique w) b) (writer_slot sole n) before after (Ok tt)
+          → FillsAlone x items (writer_slot w b) (writer_slot shared n) before after (Ok tt)
+      from-sole (Fresh places) memory did = (
+        ap (λ (r : Row T M). extended items (as_shared r))
+            (did.0 ∙ more_none (new_writer false (Some (length before)) [] places)),
+        did.1,
+      )
+      from-sole (Own additional) memory did = absurd memory
+      from-sole (Refused e) memory did =
+          let fine : ◌≡◌ {A = Result (Unit {0}) TryReserveError} (Ok tt) (Err e) = did.0 in absurd (cc)
+      from-sole Spare memory did = (did.0, roomed-as Spare did.1, did.2, did.3)
+      from-sole Behind memory did = (did.0, roomed-as Behind did.1, did.2, did.3)
+      from-sole Front memory did = (did.0, roomed-as Front did.1, did.2, did.3)
+      from-sole (Growth places) memory did = (did.0, roomed-as (Growth places) did.1, did.2, did.3)
 
   module _ (there : IsSharedPlace w.place) (items : List T) (left : List (Pass Whole)) where
     memory : IsSharedRoom needed
