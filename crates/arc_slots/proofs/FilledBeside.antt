@@ -321,9 +321,11 @@ module _ {T M : Type 0} (b : Option ℕ) (w : PartsView T M) (fits : is_numbered
       → ReclaimsIf found needed w v answer
       → RoomIf found needed row (row_of (writer_slot v b)) answer × Kept v answer
   reclaims-if true v answer did =
-      reclaims is_several keeps-several b w fits several needed v answer did
+      let r = reclaims is_several keeps-several b w fits several needed v answer did in
+      (r.0, (r.1, r.2, r.3, r.4))
   reclaims-if false v answer did =
-      unchanged is_several keeps-several b w fits several v answer did
+      let r = unchanged is_several keeps-several b w fits several v answer did in
+      (r.0, (r.1, r.2, r.3, r.4))
 
   pub reclaims-beside : (passes left : List (Pass Whole)) (p q : Pass Whole)
       → HasPassFor passes (stand_at b w.place) → TakenOut passes b p left
@@ -462,7 +464,7 @@ module _ {T M K : Type 0} (small : K → PartsView T M) (h : AnyWindow T M K) (w
             × (answer ≡ false → writer_slot v b ≡ t)) beside-seen (
               subst (λ ps. RoomBeside asks wants (stand_at b w.place) (row_of (writer_slot w b))
                   (row_of (writer_slot v b)) passes ps answer) (sym back) by,
-              (all.1, all.2, kind),
-              all.3,
-              λ none. ap (λ u. writer_slot u b) (all.4 none),
+              (all.1.0, all.1.1, kind),
+              all.1.2,
+              λ none. ap (λ u. writer_slot u b) (all.1.3 none),
             )
