@@ -62,6 +62,13 @@ module _ {T M K : Type 0} (small : K → PartsView T M) (h : AnyWindow T M K) (w
 
 -- ---- the question
 
+-- on no block nobody was asked
+asked-none : (passes left : List (Pass Whole)) (p mid : Pass Whole) (found : Bool)
+    → TakenOut passes None p left → (found ≡ false) × (mid ≡ p)
+    → ((found ≡ false) × (left ≡ passes)) × TakenOut left None mid left
+asked-none passes left p mid found took asks =
+    ((asks.0, took.1), (subst IsPassOfNone (sym asks.1) took.0, refl))
+
 -- What asking adds to the pass that was lent for it, it adds to the passes once that is put back.
 -- Then it may be taken out again, and what was left of them is left.
 module _ {M : Type 0} (passes left : List (Pass Whole)) (p mid : Pass Whole) (found : Bool) where
@@ -71,15 +78,11 @@ module _ {M : Type 0} (passes left : List (Pass Whole)) (p mid : Pass Whole) (fo
       → AsksAt (stand_at b place) passes (put_back left b mid) found
       × TakenOut (put_back left b mid) b mid left
 
-  asked-none : TakenOut passes None p left → (found ≡ false) × (mid ≡ p)
-      → ((found ≡ false) × (left ≡ passes)) × TakenOut left None mid left
-  asked-none took asks =
-      ((asks.0, took.1), (subst IsPassOfNone (sym asks.1) took.0, refl))
-
   pub asked-at : (b : Option ℕ) (place : At M) → is_numbered b place ≡ true → AskedAt b place
   asked-at =
-      numbered_each AskedAt (λ has took asks. asked-none took asks)
-      (λ has took asks. asked-none took asks) (λ offset info has took asks. asked-none took asks)
+      numbered_each AskedAt (λ has took asks. asked-none passes left p mid found took asks)
+      (λ has took asks. asked-none passes left p mid found took asks)
+      (λ offset info has took asks. asked-none passes left p mid found took asks)
       (λ n o offset info has took asks. (
         along passes left p mid ⊥ (λ o q r. Asks o q r found) (Some n)
             (on_block (Some o) offset info) refl has took (λ none. absurd none) asks,

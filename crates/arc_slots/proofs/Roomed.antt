@@ -524,8 +524,8 @@ module _ {T M : Type 0} (setting : Setting T) (windows : ℕ) (s : SlotView T M)
           → RoomBeside (asks_alone row k) (room_for false setting.item_size row k) here row
           (row_of new) passes passes' answer
           → Told reply.Yes new passes'
-      has-room-beside new stays passes' answer yes did =
-          by (asks_alone row k) refl (as-found (row_of new) passes' answer true yes did)
+      has-room-beside new stays passes' answer is did =
+          by (asks_alone row k) refl (as-found (row_of new) passes' answer true is did)
         where
           by : (asks : Bool) → asks_alone row k ≡ asks
               → RoomBeside asks (needed k) here row (row_of new) passes passes' true
@@ -558,9 +558,9 @@ module _ {T M : Type 0} (setting : Setting T) (windows : ℕ) (s : SlotView T M)
           → RoomBeside (asks_alone row k) (room_for false setting.item_size row k) here row
           (row_of new) passes passes' answer
           → Told reply.No new passes'
-      no-room-beside new stays passes' answer no did =
+      no-room-beside new stays passes' answer is did =
           subst (λ x. Told reply.No x passes') (sym stays)
-          (by (asks_alone row k) refl (as-found (row_of new) passes' answer false no did))
+          (by (asks_alone row k) refl (as-found (row_of new) passes' answer false is did))
         where
           by : (asks : Bool) → asks_alone row k ≡ asks
               → RoomBeside asks (needed k) here row (row_of new) passes passes' false
