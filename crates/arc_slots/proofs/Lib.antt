@@ -10,6 +10,7 @@ pub mod Ended
 pub mod Added
 pub mod ByForm
 pub mod Told
+pub mod Roles
 pub mod Answered
 pub mod HandedOut
 pub mod Turned

@@ -163,7 +163,7 @@ where
     }
 
     /// Whether the window's kind has the call that writes this.
-    fn may_write(what: &Writing<Vec<S::Item, A>, S::Item>) -> bool
+    pub(crate) fn may_write(what: &Writing<Vec<S::Item, A>, S::Item>) -> bool
         ensures { result ≡ can_write S.Calls.calls (seen_writing what.now) }
     {
         match what {

@@ -62,7 +62,8 @@ where
                 Err(window) => Err(Held::Several(window)),
             }
         }
-        Held::Read(_) | Held::Small(_) => unreachable!(),
+        // Never so: the window is written.
+        other => Err(other),
     }
 }
 

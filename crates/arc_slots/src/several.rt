@@ -195,50 +195,6 @@ where
         }
     }
 
-    /// Moves the window, which is one of several on a vector, to a native block with as many
-    /// places, as its first owner. Refused, the window is as before.
-    ///
-    /// # Errors
-    ///
-    /// `AllocError` where memory for the block is refused.
-    ///
-    /// # Allocates
-    ///
-    /// The block.
-    ///
-    /// # History
-    ///
-    /// On the vector Down. The new block's history begins.
-    pub fn leave_vector(&mut self, passes: &mut Passes<A>) -> Result<(), OwnerError>
-        requires role { is_several self.old.role ≡ true }
-        requires vector { is_vector_at (row_of self.old).place ≡ true }
-        requires room { length passes.old.of_blocks.items < vec_capacity passes.old.of_blocks }
-        requires pass { HasPassFor passes.old.of_blocks.items (stand_of (Some self.old)) }
-        ensures row { OnOk result (row_of self.new
-            ≡ on_native false (Some (length passes.old.of_blocks.items)) (row_of self.old)) }
-        ensures moved { OnOk result (MovesTo (stand_of (Some self.old)) (stand_of (Some self.new))
-            passes.old.of_blocks.items passes.new.of_blocks.items) }
-        ensures kept { IfErr result (λ _. self.new ≡ self.old) }
-        ensures passes { IfErr result (λ _.
-            passes.new.of_blocks.items ≡ passes.old.of_blocks.items) }
-        ensures refused { IfErr result (λ e. e ≡ no_memory) }
-    {
-        let block = self.block;
-        let Held::Several(window) = &mut self.window else {
-            unreachable!()
-        };
-        let mut pass = passes.lend(block);
-        let left = window.try_leave_vector_as(&mut pass);
-        passes.give_back(block, pass);
-        match left {
-            Ok(first) => {
-                self.block = passes.keep(None, true, first);
-                Ok(())
-            }
-            Err(_) => Err(OwnerError::AllocError),
-        }
-    }
-
     /// Makes room for so many items more in the window, which is one of several, if that takes no
     /// memory: where its places don't do, it has to be alone.
     ///
@@ -322,6 +278,51 @@ where
                 Some(window) => Err(Slot::written(window, block)),
                 None => unreachable!(),
             },
+        }
+    }
+
+    /// Moves the window, which is one of several on a vector, to a native block with as many
+    /// places, as its first owner. Refused, the window is as before.
+    ///
+    /// # Errors
+    ///
+    /// `AllocError` where memory for the block is refused.
+    ///
+    /// # Allocates
+    ///
+    /// The block.
+    ///
+    /// # History
+    ///
+    /// On the vector Down. The new block's history begins.
+    pub fn leave_vector(&mut self, passes: &mut Passes<A>) -> Result<(), OwnerError>
+        requires role { is_several self.old.role ≡ true }
+        requires vector { is_vector_at (row_of self.old).place ≡ true }
+        requires room { length passes.old.of_blocks.items < vec_capacity passes.old.of_blocks }
+        requires pass { HasPassFor passes.old.of_blocks.items (stand_of (Some self.old)) }
+        ensures row { OnOk result (row_of self.new
+            ≡ on_native false (Some (length passes.old.of_blocks.items)) (row_of self.old)) }
+        ensures moved { OnOk result (MovesTo (stand_of (Some self.old)) (stand_of (Some self.new))
+            passes.old.of_blocks.items passes.new.of_blocks.items) }
+        ensures kept { IfErr result (λ _. self.new ≡ self.old) }
+        ensures passes { IfErr result (λ _.
+            passes.new.of_blocks.items ≡ passes.old.of_blocks.items) }
+        ensures refused { IfErr result (λ e. e ≡ no_memory) }
+    {
+        self.known_shared();
+        let block = self.block;
+        let Held::Several(window) = &mut self.window else {
+            unreachable!()
+        };
+        let mut pass = passes.lend(block);
+        let left = S::Calls::try_leave_vector_as(window, &mut pass);
+        passes.give_back(block, pass);
+        match left {
+            Ok(first) => {
+                self.block = passes.keep(None, true, first);
+                Ok(())
+            }
+            Err(_) => Err(OwnerError::AllocError),
         }
     }
 
