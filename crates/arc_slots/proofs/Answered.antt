@@ -69,7 +69,7 @@ metadata-numbered b (on_block None offset info) = refl
 metadata-numbered b (on_block (Some o) offset info) = refl
 
 -- what is refused for one reason is refused for no other
-refused-same : (e f : TryReserveError)
+pub refused-same : (e f : TryReserveError)
     → ◌≡◌ {A = Result (Unit {0}) TryReserveError} (Err e) (Err f) → e ≡ f
 refused-same e f is = same_Some e f (ap result_err is)
 

@@ -5,7 +5,9 @@ pub mod Have
 pub mod Takes
 pub mod Index
 pub mod Splits
+pub mod Roles
 pub mod Filled
+pub mod FilledBeside
 pub mod Ended
 pub mod Added
 pub mod ByForm
@@ -16,5 +18,6 @@ pub mod HandedOut
 pub mod Turned
 pub mod Asked
 pub mod Reclaimed
+pub mod Roomed
 pub mod Keeps
 pub mod Made
