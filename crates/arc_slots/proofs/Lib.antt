@@ -8,6 +8,7 @@ pub mod Splits
 pub mod Roles
 pub mod Filled
 pub mod FilledBeside
+pub mod Shared
 pub mod Ended
 pub mod Added
 pub mod ByForm
