@@ -515,9 +515,6 @@ module _ {T M : Type 0} (setting : Setting T) (slots : List (Option (SlotView T 
                 (reply.Kind, t)) (never (eq-eqb i j is));
           }) refl
         where
-          abbrev both : Bool
-          both = is_allowed setting.calls join s.role && is_allowed setting.calls join o.role
-
           and-not : (b c : Bool) → (b && (c && false)) ≡ false
           and-not true true = refl
           and-not true false = refl
