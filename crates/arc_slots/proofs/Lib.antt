@@ -12,6 +12,8 @@ pub mod ByForm
 pub mod Told
 pub mod Answered
 pub mod HandedOut
+pub mod Parted
+pub mod HandedBeside
 pub mod Turned
 pub mod Asked
 pub mod Reclaimed
