@@ -395,15 +395,14 @@ module _ {T M : Type 0} (setting : Setting T) (windows : ℕ) (s : SlotView T M)
     not-free (Some n) (on_block (Some o) offset info) has asks counted =
         told-alone n o has false asks
 
-    module _ (has : HasPassFor passes here) (reads : s.role ≡ reader) (c : Command)
+    module _ (has : HasPassFor passes here) (one : is_sole s.role ≡ false) (c : Command)
         (wanted : Bool) (answer : ListReply T M)
         (is : (short : Shortage) → answer_any setting short around c row
         ≡ taken_as wanted around row answer) where
-      -- who reads has it where nobody else has a part
+      -- who may have others beside him has it where nobody else has a part
       reads-free : (wanted && (is_sole row.role || is_free around.alone row.place))
           ≡ (wanted && is_free around.alone row.place)
-      reads-free =
-          ap (λ role. wanted && (is_sole role || is_free around.alone row.place)) reads
+      reads-free = ap (λ b. wanted && (b || is_free around.alone row.place)) one
 
       took-out : (wanted ≡ true → is_on_block row.place ≡ true)
           → (Takes here None None passes passes'
@@ -491,35 +490,42 @@ module _ {T M : Type 0} (setting : Setting T) (windows : ℕ) (s : SlotView T M)
   asks-adds i taking.Buffer passes' asks = asks
   asks-adds i taking.Raw passes' asks = asks
 
+  -- by one that may have others beside him: who reads, or one of several who write
+  module _ (has : HasPassFor passes here) (one : is_sole s.role ≡ false) (i : ℕ) (what : Taking)
+      (for : is_allowed setting.calls (takes i what) s.role ≡ true)
+      (passes' : List (Pass Whole)) where
+    beside-adds : (w : Taking) → Takes here None None passes passes'
+        → RowAdds here None None passes passes' setting row (takes i w) (had i w)
+    beside-adds taking.Vector took = subst (TakesAs here None None passes passes') (sym one) took
+    beside-adds taking.Boxed took = took
+    beside-adds taking.Buffer took = subst (TakesAs here None None passes passes') (sym one) took
+    beside-adds taking.Raw took = took
+
+    pub took-beside : TakesOut (have i what) here passes passes'
+        → Said (takes i what) (take_reply what s.window.items) None None passes'
+    took-beside =
+        took-out passes' has one (takes i what) (have i what) (had i what) (take-is i what for)
+        (have-on setting.drops what row.place (length row.items)) (beside-adds what)
+
+    pub untook-beside : RefusesOut (have i what) here passes passes'
+        → Said (takes i what) reply.Refused (Some s) None passes'
+    untook-beside =
+        refused-out passes' has one (takes i what) (have i what) (had i what) (take-is i what for)
+        (asks-adds i what passes')
+
   -- by one that reads
   module _ (has : HasPassFor passes here) (reads : s.role ≡ reader) (i : ℕ) (what : Taking)
       (passes' : List (Pass Whole)) where
-    read-is : (short : Shortage) → answer_any setting short around (takes i what) row
-        ≡ taken_as (have i what) around row (had i what)
-    read-is =
-        take-is i what (reads-for setting windows s passes reads (takes i what) true
-        (for-reader i what))
-
-    read-adds : (w : Taking) → Takes here None None passes passes'
-        → RowAdds here None None passes passes' setting row (takes i w) (had i w)
-    read-adds taking.Vector took =
-        subst (TakesAs here None None passes passes') (sym (ap is_sole reads)) took
-    read-adds taking.Boxed took = took
-    read-adds taking.Buffer took =
-        subst (TakesAs here None None passes passes') (sym (ap is_sole reads)) took
-    read-adds taking.Raw took = took
+    read-for : is_allowed setting.calls (takes i what) s.role ≡ true
+    read-for = reads-for setting windows s passes reads (takes i what) true (for-reader i what)
 
     pub took : TakesOut (have i what) here passes passes'
         → Said (takes i what) (take_reply what s.window.items) None None passes'
-    took =
-        took-out passes' has reads (takes i what) (have i what) (had i what) read-is
-        (have-on setting.drops what row.place (length row.items)) (read-adds what)
+    took = took-beside has (ap is_sole reads) i what read-for passes'
 
     pub untook : RefusesOut (have i what) here passes passes'
         → Said (takes i what) reply.Refused (Some s) None passes'
-    untook =
-        refused-out passes' has reads (takes i what) (have i what) (had i what) read-is
-        (asks-adds i what passes')
+    untook = untook-beside has (ap is_sole reads) i what read-for passes'
 
   -- by one that writes, who is alone
   module _ (writes : is_sole s.role ≡ true) (i : ℕ) (what : Taking)

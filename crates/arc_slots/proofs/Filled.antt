@@ -712,12 +712,9 @@ module _ {T M : Type 0} (layout : LayoutFacts) (drops : Bool) (items : List T) (
   frozen-numbered (Some k) (on_block (Some o) offset info) fits writes =
       numbered-block info.sort writes (Some k) (on_block (Some o) offset info) refl
 
-module _ {T M K : Type 0} (small : K → PartsView T M) (h : AnyWindow T M K) (w : PartsView T M)
-    (b : Option ℕ) (is : h ≡ Write w) (s : SlotView T M) (view : held small h b ≡ s)
-    (fits : is_numbered b (window_in small h).place ≡ true) (layout : LayoutFacts) where
-  seen-slot : writer_slot w b ≡ s
-  seen-slot = sym (writes-view small h w b is) ∙ view
-
+module _ {T M : Type 0} (w : PartsView T M) (b : Option ℕ) (s : SlotView T M)
+    (seen-slot : writer_slot w b ≡ s) (fits : is_numbered b w.place ≡ true)
+    (layout : LayoutFacts) where
   pub slot-frozen : IsWriterPlace w.place → (drops : Bool) (passes left : List (Pass Whole))
       (p q : Pass Whole) (v : Window T M) (n : Option ℕ) (passes' : List (Pass Whole))
       (begins : Bool) → TakenOut passes b p left
@@ -731,7 +728,7 @@ module _ {T M K : Type 0} (small : K → PartsView T M) (h : AnyWindow T M K) (w
       subst (λ (t : SlotView T M). FreezesBy (layout_move layout (row_of t).place) drops t
       (read_slot v n) passes passes') seen-slot
       (frozen_each layout drops w.items w.role passes left p q v n passes' begins b
-      w.place (writes-fits small h w b is fits) writes took frozen
+      w.place fits writes took frozen
       (begun ∙ ap (λ (t : SlotView T M). is_new (layout_move layout (row_of t).place))
       (sym seen-slot)) same new)
 
@@ -745,7 +742,7 @@ module _ {T M K : Type 0} (small : K → PartsView T M) (h : AnyWindow T M K) (w
       → is_numbered n v.place ≡ true
   slot-numbered writes drops left p q v n passes' begins frozen begun same new =
       frozen-numbered layout drops w.items w.role left p q v n passes' begins b w.place
-      (writes-fits small h w b is fits) writes frozen
+      fits writes frozen
       (begun ∙ ap (λ (t : SlotView T M). is_new (layout_move layout (row_of t).place))
       (sym seen-slot)) same new
 
@@ -756,7 +753,7 @@ module _ {T M K : Type 0} (small : K → PartsView T M) (h : AnyWindow T M K) (w
       → is_new (layout_move layout (row_of s).place) ≡ true → length left < m
   room-to-read writes passes left p m took room begins =
       let told : (not (is_some b) && not layout.has_static) ≡ true =
-      sym (new_is layout b w.place (writes-fits small h w b is fits) writes)
+      sym (new_is layout b w.place fits writes)
       ∙ ap (λ (t : SlotView T M). is_new (layout_move layout (row_of t).place)) seen-slot
       ∙ begins in
       let none : b ≡ None = none-is b (and_parts (not (is_some b)) (not layout.has_static) told).0 in

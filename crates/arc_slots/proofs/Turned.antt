@@ -15,10 +15,10 @@ use Rattle.arc_block.specs.Place.{Place, nowhere, static_data, on_block}
 use Rattle.arc_block.specs.Table.{Row}
 use Rattle.arc_commands.specs.Changes.{Setting, Shortage, no_shortage, of_blocks}
 use Rattle.arc_commands.specs.Changes.{Around}
-use Rattle.arc_commands.specs.Step.{answer_any}
+use Rattle.arc_commands.specs.Step.{answer_any, is_allowed}
 use Rattle.arc_commands.specs.Changes.{is_now, made_row}
 use Rattle.arc_commands.specs.Changes.{after_move}
-use Rattle.arc_commands.specs.Blocks.{is_sole}
+use Rattle.arc_commands.specs.Blocks.{is_writer}
 use Rattle.arc_commands.specs.Commands.{ListCmd, ListReply}
 use Rattle.arc_commands.specs.declared.command.Cmd.TheVariants as command
 use Rattle.arc_commands.specs.declared.command.Reply.TheVariants as reply
@@ -27,7 +27,8 @@ use Rattle.arc_slots.specs.Slots.{SlotView, row_of, stand_of}
 use Rattle.arc_slots.specs.Stands.{numbered, stand_at}
 use Rattle.arc_slots.specs.Writing.{FreezesBy, is_new}
 use Rattle.arc_slots.proofs.Filled.{new-moved}
-use Rattle.arc_slots.proofs.Answered.{begins-as, changes, for-role, same, stays-there, writes-for}
+use Rattle.arc_slots.proofs.Answered.{begins-as, changes, for-role, same, stays-there}
+use Rattle.arc_slots.proofs.Roles.{writer_each}
 
 module _ {T M : Type 0} (setting : Setting T) (windows : ℕ) (s : SlotView T M)
     (passes : List (Pass Whole)) where
@@ -47,7 +48,7 @@ module _ {T M : Type 0} (setting : Setting T) (windows : ℕ) (s : SlotView T M)
       → Option (SlotView T M) → List (Pass Whole) → Type 0
   Said c r new made passes' = Answers setting windows c s passes r new made passes'
 
-  module _ (writes : is_sole s.role ≡ true) (i : ℕ) where
+  module _ (writes : is_writer s.role ≡ true) (i : ℕ) where
     abbrev freeze : Command
     freeze = command.Freeze i
 
@@ -57,7 +58,9 @@ module _ {T M : Type 0} (setting : Setting T) (windows : ℕ) (s : SlotView T M)
     frozen-is : (short : Shortage) (move : Move) → goes_to ≡ move
         → answer_any setting short around freeze row ≡ after_move setting short around row move
     frozen-is short move is =
-        for-role setting windows s passes short freeze (writes-for setting windows s passes writes freeze true (λ n. refl))
+        for-role setting windows s passes short freeze
+        (writer_each (λ role. is_allowed setting.calls freeze role ≡ true) (λ n. refl) (λ n. refl)
+        s.role writes)
         ∙ ap (after_move setting short around row) is
 
     -- a first block is made where no owner stands
@@ -88,7 +91,7 @@ module _ {T M : Type 0} (setting : Setting T) (windows : ℕ) (s : SlotView T M)
         by to.NewCount is did = absurd did
         by to.LeavesCount is did = absurd did
         by to.NewEmpty is did =
-            begins-as setting windows s passes writes i freeze new (made_row false setting.drops (length passes) row.items) passes'
+            begins-as setting windows s passes freeze new (made_row false setting.drops (length passes) row.items) passes'
             (frozen-is no_shortage to.NewEmpty is) (λ there adds. adds)
             (new-none setting.layout s.block s.window.place (ap is_new is))
             did.1 did.0

@@ -296,7 +296,7 @@ where
             self passes.old.of_blocks.items (seen_reply S.items_in S.items_in_box B.list result.0)
             (Some result.1) None passes.new.of_blocks.items }
     {
-        if !self.is_written() && !self.is_several() {
+        if !self.is_writer() {
             return (Reply::Kind, self);
         }
         let begins = self.wants_block_to_read();

@@ -216,6 +216,16 @@ where
         }
     }
 
+    /// Whether the window is one that is written, alone or by one of several.
+    pub fn is_writer(&self) -> bool
+        ensures { result ≡ is_writer self.now.role }
+    {
+        match &self.window {
+            Held::Read(_) | Held::Small(_) => false,
+            Held::Write(_) | Held::Several(_) => true,
+        }
+    }
+
     /// Whether the window is one that is written alone.
     pub fn is_written(&self) -> bool
         ensures answer { result ≡ is_sole self.now.role }
