@@ -1,6 +1,6 @@
 -- A part of the places of one of several writers that is handed out, as what that is answered.
 use Rattle.std.proofs.Common.{◌≡◌, ℕ, ◌==◌, ◌&&◌, Bool, true, false, if◌then◌else◌, List, length}
-use Rattle.std.proofs.Common.{Option, Some, None, Result, Ok, Err, is_some, refl, sym, ap, ◌∙◌}
+use Rattle.std.proofs.Common.{Option, Some, None, Ok, Err, is_some, refl, sym, ap, ◌∙◌}
 use Rattle.std.proofs.Common.{subst}
 use Rattle.std.proofs.lemmas.Bool.{false≢true}
 use Rattle.arc_owners.specs.declared.mark.Whole.{Whole}
@@ -15,7 +15,7 @@ use Rattle.arc_block.specs.Writers.{capacity_of}
 use Rattle.arc_commands.specs.Additions.{Enters, Joins, MovesAndJoins, RowAdds, Splits}
 use Rattle.arc_commands.specs.Additions.{ended, refused}
 use Rattle.arc_commands.specs.Blocks.{is_several}
-use Rattle.arc_commands.specs.Changes.{Around, Change, Setting, Shortage, in_range, is_now}
+use Rattle.arc_commands.specs.Changes.{Around, Change, Setting, Shortage, in_range}
 use Rattle.arc_commands.specs.Changes.{no_shortage, of_clones, of_table, with_made}
 use Rattle.arc_commands.specs.Commands.{ListCmd, ListReply}
 use Rattle.arc_commands.specs.Several.{is_vector_at as on_vector, parts_change}

@@ -1,4 +1,5 @@
 pub mod Taken
+pub mod Roles
 pub mod Slots
 pub mod Native
 pub mod Have

@@ -1,7 +1,7 @@
 -- How the places of a window of several writers are split: what it keeps, what is handed out, where
 -- both stand, and how a window leaves a vector before.
 use Rattle.std.proofs.Common.{◌≡◌, ℕ, Bool, true, false, List, [], ◌∷◌, ◌++◌, length, Option, Some}
-use Rattle.std.proofs.Common.{None, is_some, slice_get, slice_set, refl, sym, ap, ◌∙◌, subst, arith}
+use Rattle.std.proofs.Common.{None, slice_get, refl, sym, ap, ◌∙◌, subst, arith}
 use Rattle.std.proofs.Common.{inl, inr, ◌-◌, append-nil}
 use Rattle.std.proofs.lemmas.Bool.{false≢true}
 use Rattle.std.proofs.lemmas.Option.{same_Some, slice_get_cases, slice_get_within}
@@ -13,17 +13,15 @@ use Rattle.arc_owners.specs.declared.error.OwnerError.TheVariants.{AllocError, C
 use Rattle.arc_owners.specs.history.Histories.{IsLegal, live_owners, owners_ended, owners_ever}
 use Rattle.arc_owners.specs.history.Histories.{is_in}
 use Rattle.arc_owners.specs.count.Invariant.{BlockId, Line, entries_of}
-use Rattle.arc_owners.specs.count.Calls.{Appends, FindsFull, IsPassFor, Leaves, Owner, history_of}
-use Rattle.arc_owners.specs.count.Calls.{seen}
+use Rattle.arc_owners.specs.count.Calls.{FindsFull, IsPassFor, Owner, history_of, seen}
 use Rattle.arc_owners.proofs.Wholes.{full-exact}
-use Rattle.arc_block.specs.declared.block.TheConstants.{MAX_OWNERS}
 use Rattle.arc_block.specs.Block.{Sort, native, vector, buffer, raw}
 use Rattle.arc_block.specs.Owned.{Stand}
 use Rattle.arc_block.specs.Place.{Place, nowhere, static_data, on_block, moved}
 use Rattle.arc_block.specs.Shared.{LeavesVector, RefusesSplit, RefusesSplitAt, SplitsWriter}
 use Rattle.arc_block.specs.Shared.{StandsToSplit, StandsToSplitAt, front_of, is_vector, is_vector_at}
 use Rattle.arc_block.specs.Shared.{on_native}
-use Rattle.arc_block.specs.Steps.{Refuses, Shares}
+use Rattle.arc_block.specs.Steps.{IsPassAt, Refuses, Shares}
 use Rattle.arc_block.specs.Table.{Row, block_of}
 use Rattle.arc_block.specs.Window.{PartsView}
 use Rattle.arc_block.specs.Writers.{after_advance, capacity_of, with_capacity}
@@ -46,6 +44,7 @@ use Rattle.arc_slots.specs.declared.window.Held.TheVariants.{Several}
 use Rattle.arc_slots.proofs.Added.{Ended}
 use Rattle.arc_slots.proofs.Slots.{along, moved-fits, moved-numbered, moved-stand, refuses, same-row}
 use Rattle.arc_slots.proofs.Slots.{shares, shares-fits, shares-numbered, still-number}
+use Rattle.arc_slots.proofs.Slots.{window-pass}
 use Rattle.arc_slots.proofs.Taken.{set-back}
 
 -- where a window stands, by its owner
@@ -129,17 +128,18 @@ module _ {T M : Type 0} (b : Option ℕ) (w : PartsView T M) where
   handed-of (Front at) = front-of at
 
 -- a part of a row stands on the same block, or on none
-pub handed-block : {T M : Type 0} (part : Part) (r : Row T M)
-    → block_of (handed_places part r).place ≡ block_of r.place
-handed-block All r = refl
-handed-block (Range start end) r = refl
-handed-block (Front at) r = refl
-handed-block (Back at) r = by r.place
-  where
-    by : (place : Place (Option ℕ) M) → block_of (moved at place) ≡ block_of place
-    by nowhere = refl
-    by static_data = refl
-    by (on_block block offset info) = refl
+module _ {T M : Type 0} where
+  moved-block : (at : ℕ) (place : Place (Option ℕ) M) → block_of (moved at place) ≡ block_of place
+  moved-block at nowhere = refl
+  moved-block at static_data = refl
+  moved-block at (on_block block offset info) = refl
+
+  pub handed-block : (part : Part) (r : Row T M)
+      → block_of (handed_places part r).place ≡ block_of r.place
+  handed-block All r = refl
+  handed-block (Range start end) r = refl
+  handed-block (Back at) r = moved-block at r.place
+  handed-block (Front at) r = refl
 
 -- ---- a split where the window stands
 
@@ -211,25 +211,44 @@ module _ {T M K : Type 0} (small : K → PartsView T M) (h : AnyWindow T M K) (w
   shared-role fits = ap role_fits (sym is) ∙ fits
 
   module _ (s : SlotView T M) (view : held small h b ≡ s)
-      (numbers : is_numbered b (window_in small h).place ≡ true) (passes left : List (Pass Whole))
-      (p : Pass Whole) (has : HasPassFor passes (stand_of (Some s)))
-      (took : TakenOut passes b p left) where
+      (numbers : is_numbered b (window_in small h).place ≡ true) where
     pub shared-seen : writer_slot w b ≡ s
     shared-seen = sym shared-view ∙ view
 
     fits : is_numbered b w.place ≡ true
     fits = shared-fits numbers
 
-    pub shared-has : HasPassFor passes (stand_at b w.place)
-    shared-has = subst (λ x. HasPassFor passes (stand_of (Some x))) (sym shared-seen) has
+    -- whether it stands on a vector
+    pub shared-vector : is_vector_at w.place ≡ is_vector_at (row_of s).place
+    shared-vector =
+        sym (vector-numbered b w.place)
+        ∙ ap (λ (x : SlotView T M). is_vector_at (row_of x).place) shared-seen
+
+  module _ (s : SlotView T M) (view : held small h b ≡ s)
+      (numbers : is_numbered b (window_in small h).place ≡ true) (passes left : List (Pass Whole))
+      (p : Pass Whole) (has : HasPassFor passes (stand_of (Some s)))
+      (took : TakenOut passes b p left) where
+    seen-as : writer_slot w b ≡ s
+    seen-as = shared-seen s view numbers
+
+    its-number : is_numbered b w.place ≡ true
+    its-number = fits s view numbers
+
+    its-pass : HasPassFor passes (stand_at b w.place)
+    its-pass = subst (λ x. HasPassFor passes (stand_of (Some x))) (sym seen-as) has
+
+    pub shared-pass : IsPassAt w.place p
+    shared-pass = window-pass passes left p b w.place its-number its-pass took
+
+    -- the pass comes back to its place
+    pub shared-still : HasNumber left b
+    shared-still = still-number passes left p b w.place its-number its-pass took
 
     -- it stands on no vector
     module _ (none : is_vector_at (row_of s).place ≡ false) (part : Part) (q : Pass Whole)
         (after : List (Pass Whole)) (back : after ≡ put_back left b q) where
       off : is_vector_at w.place ≡ false
-      off =
-          sym (vector-numbered b w.place)
-          ∙ ap (λ (x : SlotView T M). is_vector_at (row_of x).place) shared-seen ∙ none
+      off = shared-vector s view numbers ∙ none
 
       module _ (kept made : PartsView T M)
           (splits : SplitsWriter Whole is_any false true (kept_places part) (handed_places part)
@@ -242,7 +261,7 @@ module _ {T M K : Type 0} (small : K → PartsView T M) (h : AnyWindow T M K) (w
         kept-is : kept ≡ kept_places part w
         kept-is = splits.stays ∙ ap (kept_places part) stays.0
 
-        handed : PartsView T M
+        abbrev handed : PartsView T M
         handed = handed_places part w
 
         made-is : (made.items ≡ handed.items) × (made.role ≡ handed.role)
@@ -265,14 +284,14 @@ module _ {T M K : Type 0} (small : K → PartsView T M) (h : AnyWindow T M K) (w
 
         pub kept-numbered : is_numbered b kept.place ≡ true
         kept-numbered =
-            ap (λ (x : PartsView T M). is_numbered b x.place) kept-is ∙ one.numbers fits
+            ap (λ (x : PartsView T M). is_numbered b x.place) kept-is ∙ one.numbers its-number
 
         pub kept-shares : is_several w.role ≡ true → is_several kept.role ≡ true
         kept-shares is-one =
             ap (λ (x : PartsView T M). is_several x.role) kept-is ∙ one.several is-one
 
         pub made-numbered : is_numbered b made.place ≡ true
-        made-numbered = shares-fits p q b handed.place made.place (other.numbers fits) made-shares
+        made-numbered = shares-fits p q b handed.place made.place (other.numbers its-number) made-shares
 
         pub made-several : is_several w.role ≡ true → is_several made.role ≡ true
         made-several is-one = ap is_several made-is.1 ∙ other.several is-one
@@ -281,13 +300,13 @@ module _ {T M K : Type 0} (small : K → PartsView T M) (h : AnyWindow T M K) (w
         added =
             subst (λ ps. Beside (stand_at b w.place) passes ps (stand_at b made.place)) (sym back)
             (subst (λ st. Beside st passes (put_back left b q) (stand_at b made.place)) other.stand
-            (shares passes left p q b handed.place made.place (other.numbers fits)
-            (subst (HasPassFor passes) (sym other.stand) shared-has) took made-shares))
+            (shares passes left p q b handed.place made.place (other.numbers its-number)
+            (subst (HasPassFor passes) (sym other.stand) its-pass) took made-shares))
 
         pub splits-there : SplitsThere part s (writer_slot kept b) (writer_slot made b) passes after
         splits-there =
             subst (λ (x : SlotView T M). SplitsThere part x (writer_slot kept b)
-            (writer_slot made b) passes after) shared-seen (record {
+            (writer_slot made b) passes after) seen-as (record {
               stays = ap (λ x. row_of (writer_slot x b)) kept-is ∙ one.row_is;
               made =
                   same-row made-is.0
@@ -303,16 +322,16 @@ module _ {T M K : Type 0} (small : K → PartsView T M) (h : AnyWindow T M K) (w
           let full = refused-at w.place p q e off why in
           subst (λ x. RefusesPlaces (row_of s).place (stand_of (Some s)) passes after x) (sym full.0)
           (subst (λ (x : SlotView T M). FindsFullAt (row_of x).place (stand_of (Some x)) passes
-          after) shared-seen
+          after) seen-as
           (subst (λ ps. FindsFullAt (numbered b w.place) (stand_at b w.place) passes ps) (sym back)
-          (refuses passes left p q (λ sort. false) CountFull b w.place fits shared-has took full.1)))
+          (refuses passes left p q (λ sort. false) CountFull b w.place its-number its-pass took full.1)))
 
     -- it leaves a vector, and the new block's pass comes behind the others
     module _ (v : PartsView T M) (q first : Pass Whole)
         (leaves : LeavesVector false true w v p q first) (n : Option ℕ)
         (more after : List (Pass Whole)) (number : n ≡ Some (length left))
         (pushed : more ≡ left ++ first ∷ []) (back : after ≡ put_back more b q) where
-      native-one : PartsView T M
+      abbrev native-one : PartsView T M
       native-one = on_native false (Some leaves.owner) w
 
       pub moved-by-number : is_numbered n v.place ≡ true
@@ -328,19 +347,19 @@ module _ {T M K : Type 0} (small : K → PartsView T M) (h : AnyWindow T M K) (w
           ap (λ (x : PartsView T M). row_of (writer_slot x n)) leaves.made
           ∙ ap (λ m. row_of (writer_slot native-one m)) number
           ∙ ap (λ m. row_of (writer_slot native-one (Some m))) (left-many passes left p b took)
-          ∙ ap (λ (x : SlotView T M). on_native false (Some (length passes)) (row_of x)) shared-seen
+          ∙ ap (λ (x : SlotView T M). on_native false (Some (length passes)) (row_of x)) seen-as
 
       behind-others : after ≡ put_back left b q ++ first ∷ []
       behind-others =
           back ∙ ap (λ ps. put_back ps b q) pushed
-          ∙ put-behind left first q b (still-number passes left p b w.place fits shared-has took)
+          ∙ put-behind left first q b shared-still
 
       pub moved-to : MovesTo (stand_of (Some s)) (stand_of (Some (writer_slot v n))) passes after
       moved-to =
           let ends : Along (stand_of (Some s)) passes (put_back left b q) Ended =
           subst (λ (x : SlotView T M). Along (stand_of (Some x)) passes (put_back left b q) Ended)
-          shared-seen
-          (along passes left p q ⊥ Ended b w.place fits shared-has took (λ none. absurd none)
+          seen-as
+          (along passes left p q ⊥ Ended b w.place its-number its-pass took (λ none. absurd none)
           leaves.ended) in
           subst (λ (x : PartsView T M). MovesTo (stand_of (Some s)) (stand_at n x.place) passes
           after) (sym leaves.made)
@@ -398,6 +417,14 @@ module _ {H : Type 0} (old new : List (Pass H)) where
       let one : length (live_owners (seen found.before)) ≡ 1 =
       ap length (first-lives n o founds found.before found.was) in
       omega (arith, one, full-exact found.whole found.called, founds.1.most)
+
+  -- so no split is refused there
+  pub founded-splits : {M : Type 0} (place : Place (Option ℕ) M) (there : Stand)
+      (after : List (Pass H)) (e : OwnerError) → Founds there old new
+      → RefusesPlaces place there new after e → ⊥
+  founded-splits place there after CountFull founds why =
+      founded-room place there after founds why
+  founded-splits place there after AllocError founds why = why
 
 -- ---- a window adds nothing to its block's history, which is legal
 
