@@ -40,11 +40,11 @@ use Rattle.arc_slots.proofs.Told.{full-told, many-beside, many-founded, many-ref
 use Rattle.arc_slots.proofs.Told.{room-beside, row-block, stand_block}
 
 -- which of two comes of a test
-picked : {X : Type 0} {b : Bool} {x y : X} → b ≡ true → (if b then x else y) ≡ x
-picked {x = x} {y = y} is = ap (λ b. if b then x else y) is
+picked : {X : Type 0} {b : Bool} {x : X} (y : X) → b ≡ true → (if b then x else y) ≡ x
+picked {x = x} y is = ap (λ b. if b then x else y) is
 
-unpicked : {X : Type 0} {b : Bool} {x y : X} → b ≡ false → (if b then x else y) ≡ y
-unpicked {x = x} {y = y} is = ap (λ b. if b then x else y) is
+unpicked : {X : Type 0} {b : Bool} {y : X} (x : X) → b ≡ false → (if b then x else y) ≡ y
+unpicked {y = y} x is = ap (λ b. if b then x else y) is
 
 -- a window stands somewhere where it stands on a block
 some-block : (st : Stand) → is_some (stand_block st) ≡ is_some st
@@ -104,10 +104,10 @@ module _ {T M : Type 0} (setting : Setting T) (windows : ℕ) (s : SlotView T M)
   split-is (Range start end) short is = absurd (false≢true is)
   split-is (Back at) short is =
       for-role setting windows s passes short (command.Off i at)
-      (several-for (command.Off i at) true (λ places. refl)) ∙ picked several
+      (several-for (command.Off i at) true (λ places. refl)) ∙ picked _ several
   split-is (Front at) short is =
       for-role setting windows s passes short (command.To i at)
-      (several-for (command.To i at) true (λ places. refl)) ∙ picked several
+      (several-for (command.To i at) true (λ places. refl)) ∙ picked _ several
 
   -- what is added by one
   made-adds : (part : Part) → is_split part ≡ true → (there made : Stand)
@@ -150,9 +150,9 @@ module _ {T M : Type 0} (setting : Setting T) (windows : ℕ) (s : SlotView T M)
     pub split-range : (e : RangeError)
         → places_answer setting.boundary s.window.items (capacity_of s.role) part ≡ Err e
         → Said c (reply.Range e) (Some s) None passes
-    split-range e no =
+    split-range e none =
         same setting windows s passes c (reply.Range e)
-        (split-is part no_shortage is ∙ ap (λ a. in_range a row (outcome part no_shortage)) no)
+        (split-is part no_shortage is ∙ ap (λ a. in_range a row (outcome part no_shortage)) none)
         (range-adds part is e)
 
     module _ (ok : places_answer setting.boundary s.window.items (capacity_of s.role) part ≡ Ok tt)
@@ -174,7 +174,7 @@ module _ {T M : Type 0} (setting : Setting T) (windows : ℕ) (s : SlotView T M)
         split-memory on passes' along = record {
           begins = false;
           places = 0;
-          change = split-ok of_clones ∙ picked (vector-both row.place ∙ on);
+          change = split-ok of_clones ∙ picked _ (vector-both row.place ∙ on);
           blocks = many_along passes passes' here AddsNothing along;
           adds =
               refused-adds part is AllocError passes' (
@@ -201,8 +201,8 @@ module _ {T M : Type 0} (setting : Setting T) (windows : ℕ) (s : SlotView T M)
             begins = false;
             places = 0;
             change =
-                split-ok no_shortage ∙ unpicked (vector-both row.place ∙ off)
-                ∙ picked (full-beside here has why);
+                split-ok no_shortage ∙ unpicked _ (vector-both row.place ∙ off)
+                ∙ picked _ (full-beside here has why);
             blocks = many-refused passes passes' (λ sort. false) row.place here CountFull why;
             adds =
                 refused-adds part is CountFull passes' (
@@ -252,7 +252,7 @@ module _ {T M : Type 0} (setting : Setting T) (windows : ℕ) (s : SlotView T M)
                   begins = false;
                   places = 0;
                   change =
-                      split-ok no_shortage ∙ unpicked (vector-both row.place ∙ off) ∙ unpicked room
+                      split-ok no_shortage ∙ unpicked _ (vector-both row.place ∙ off) ∙ unpicked _ room
                       ∙ ap (λ x. with_made around x (handed_places part row)) (sym h.stays)
                       ∙ ap (with_made around (row_of kept)) (sym h.made);
                   blocks = many-beside passes passes' here other h.beside;
@@ -299,7 +299,7 @@ module _ {T M : Type 0} (setting : Setting T) (windows : ℕ) (s : SlotView T M)
                   begins = true;
                   places = 0;
                   change =
-                      split-ok no_shortage ∙ picked (vector-both row.place ∙ on)
+                      split-ok no_shortage ∙ picked _ (vector-both row.place ∙ on)
                       ∙ ap (λ d. let r = on_native d (Some (length passes)) row in
                       change (kept_places part r) (handed_places part r)) none
                       ∙ ap (λ r. change (kept_places part r) (handed_places part r)) (sym m.row)

@@ -5,7 +5,7 @@ use Rattle.std.proofs.Common.{None, slice_get, refl, sym, ap, ◌∙◌, subst, 
 use Rattle.std.proofs.Common.{inl, inr, ◌-◌, append-nil}
 use Rattle.std.proofs.lemmas.Bool.{false≢true}
 use Rattle.std.proofs.lemmas.Option.{same_Some, slice_get_cases, slice_get_within}
-use Rattle.std.proofs.lemmas.List.{length-set, set-append_left}
+use Rattle.std.proofs.lemmas.List.{length-append, length-set, set-append_left}
 use Rattle.arc_owners.specs.declared.mark.Whole.{Whole}
 use Rattle.arc_owners.specs.declared.count.tokens.Pass.{Pass}
 use Rattle.arc_owners.specs.declared.error.OwnerError.{OwnerError}
@@ -128,18 +128,18 @@ module _ {T M : Type 0} (b : Option ℕ) (w : PartsView T M) where
   handed-of (Front at) = front-of at
 
 -- a part of a row stands on the same block, or on none
-module _ {T M : Type 0} where
-  moved-block : (at : ℕ) (place : Place (Option ℕ) M) → block_of (moved at place) ≡ block_of place
-  moved-block at nowhere = refl
-  moved-block at static_data = refl
-  moved-block at (on_block block offset info) = refl
+moved-block : {M : Type 0} (at : ℕ) (place : Place (Option ℕ) M)
+    → block_of (moved at place) ≡ block_of place
+moved-block at nowhere = refl
+moved-block at static_data = refl
+moved-block at (on_block block offset info) = refl
 
-  pub handed-block : (part : Part) (r : Row T M)
-      → block_of (handed_places part r).place ≡ block_of r.place
-  handed-block All r = refl
-  handed-block (Range start end) r = refl
-  handed-block (Back at) r = moved-block at r.place
-  handed-block (Front at) r = refl
+pub handed-block : {T M : Type 0} (part : Part) (r : Row T M)
+    → block_of (handed_places part r).place ≡ block_of r.place
+handed-block All r = refl
+handed-block (Range start end) r = refl
+handed-block (Back at) r = moved-block at r.place
+handed-block (Front at) r = refl
 
 -- ---- a split where the window stands
 
@@ -180,7 +180,7 @@ refused-at (on_block (Some o) offset info) p q e none why = refused-by info.sort
 -- ---- the passes, while that of a vector is taken out
 
 -- there are as many
-left-many : {H : Type 0} (passes left : List (Pass H)) (p : Pass H) (b : Option ℕ)
+pub left-many : {H : Type 0} (passes left : List (Pass H)) (p : Pass H) (b : Option ℕ)
     → TakenOut passes b p left → length left ≡ length passes
 left-many passes left p None took = ap length took.1
 left-many passes left p (Some n) took =
@@ -192,6 +192,11 @@ put-many left q None = refl
 put-many left q (Some n) = length-set left n q
 
 -- it comes back to its place, also where one more stands behind the others
+pub still-more : {H : Type 0} (left : List (Pass H)) (first : Pass H) (b : Option ℕ)
+    → HasNumber left b → HasNumber (left ++ first ∷ []) b
+still-more left first None has = tt
+still-more left first (Some n) has = omega (arith, has, length-append left (first ∷ []))
+
 put-behind : {H : Type 0} (left : List (Pass H)) (first q : Pass H) (b : Option ℕ)
     → HasNumber left b → put_back (left ++ first ∷ []) b q ≡ put_back left b q ++ first ∷ []
 put-behind left first q None has = refl
