@@ -1,4 +1,5 @@
 pub mod Taken
+pub mod Roles
 pub mod Slots
 pub mod Native
 pub mod Have
@@ -16,6 +17,8 @@ pub mod Told
 pub mod Roles
 pub mod Answered
 pub mod HandedOut
+pub mod Parted
+pub mod HandedBeside
 pub mod Turned
 pub mod Asked
 pub mod Reclaimed
