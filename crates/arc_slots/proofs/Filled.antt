@@ -175,7 +175,7 @@ module _ {T M : Type 0} (b : Option ℕ) (w : PartsView T M) (fits : is_numbered
         ≡ room_at drops first size place len k) refl refl (λ offset info. refl) (λ n o offset info. refl) b w.place
         fits)
 
-    none-fresh : (drops : Bool) (first size k : ℕ)
+    pub none-fresh : (drops : Bool) (first size k : ℕ)
         → is_fresh (room drops first size w k) ≡ true → b ≡ None
     none-fresh drops first size k =
         either (not (nat_lt (capacity_of w.role - length w.items) k))

@@ -62,6 +62,13 @@ module _ {T M K : Type 0} (small : K → PartsView T M) (h : AnyWindow T M K) (w
 
 -- ---- the question
 
+-- on no block nobody was asked
+asked-none : (passes left : List (Pass Whole)) (p mid : Pass Whole) (found : Bool)
+    → TakenOut passes None p left → (found ≡ false) × (mid ≡ p)
+    → ((found ≡ false) × (left ≡ passes)) × TakenOut left None mid left
+asked-none passes left p mid found took asks =
+    ((asks.0, took.1), (subst IsPassOfNone (sym asks.1) took.0, refl))
+
 -- What asking adds to the pass that was lent for it, it adds to the passes once that is put back.
 -- Then it may be taken out again, and what was left of them is left.
 module _ {M : Type 0} (passes left : List (Pass Whole)) (p mid : Pass Whole) (found : Bool) where
@@ -71,15 +78,11 @@ module _ {M : Type 0} (passes left : List (Pass Whole)) (p mid : Pass Whole) (fo
       → AsksAt (stand_at b place) passes (put_back left b mid) found
       × TakenOut (put_back left b mid) b mid left
 
-  asked-none : TakenOut passes None p left → (found ≡ false) × (mid ≡ p)
-      → ((found ≡ false) × (left ≡ passes)) × TakenOut left None mid left
-  asked-none took asks =
-      ((asks.0, took.1), (subst IsPassOfNone (sym asks.1) took.0, refl))
-
   pub asked-at : (b : Option ℕ) (place : At M) → is_numbered b place ≡ true → AskedAt b place
   asked-at =
-      numbered_each AskedAt (λ has took asks. asked-none took asks)
-      (λ has took asks. asked-none took asks) (λ offset info has took asks. asked-none took asks)
+      numbered_each AskedAt (λ has took asks. asked-none passes left p mid found took asks)
+      (λ has took asks. asked-none passes left p mid found took asks)
+      (λ offset info has took asks. asked-none passes left p mid found took asks)
       (λ n o offset info has took asks. (
         along passes left p mid ⊥ (λ o q r. Asks o q r found) (Some n)
             (on_block (Some o) offset info) refl has took (λ none. absurd none) asks,
@@ -321,9 +324,11 @@ module _ {T M : Type 0} (b : Option ℕ) (w : PartsView T M) (fits : is_numbered
       → ReclaimsIf found needed w v answer
       → RoomIf found needed row (row_of (writer_slot v b)) answer × Kept v answer
   reclaims-if true v answer did =
-      reclaims is_several keeps-several b w fits several needed v answer did
+      let r = reclaims is_several keeps-several b w fits several needed v answer did in
+      (r.0, (r.1, r.2, r.3, r.4))
   reclaims-if false v answer did =
-      unchanged is_several keeps-several b w fits several v answer did
+      let r = unchanged is_several keeps-several b w fits several v answer did in
+      (r.0, (r.1, r.2, r.3, r.4))
 
   pub reclaims-beside : (passes left : List (Pass Whole)) (p q : Pass Whole)
       → HasPassFor passes (stand_at b w.place) → TakenOut passes b p left
@@ -462,7 +467,7 @@ module _ {T M K : Type 0} (small : K → PartsView T M) (h : AnyWindow T M K) (w
             × (answer ≡ false → writer_slot v b ≡ t)) beside-seen (
               subst (λ ps. RoomBeside asks wants (stand_at b w.place) (row_of (writer_slot w b))
                   (row_of (writer_slot v b)) passes ps answer) (sym back) by,
-              (all.1, all.2, kind),
-              all.3,
-              λ none. ap (λ u. writer_slot u b) (all.4 none),
+              (all.1.0, all.1.1, kind),
+              all.1.2,
+              λ none. ap (λ u. writer_slot u b) (all.1.3 none),
             )

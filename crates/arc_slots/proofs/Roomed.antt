@@ -18,7 +18,7 @@ use Rattle.arc_block.specs.Owned.{Stand}
 use Rattle.arc_block.specs.Room.{IsBuffersRefusal}
 use Rattle.arc_block.specs.Shared.{as_shared, asks_alone, extended, is_on_block}
 use Rattle.arc_block.specs.Table.{Row, one_writer_of_several}
-use Rattle.arc_block.specs.Writers.{Reclaims, capacity_of, new_writer, with_room}
+use Rattle.arc_block.specs.Writers.{Reclaims, capacity_of, new_writer, room_for, with_room}
 use Rattle.arc_commands.specs.Additions.{AddsAt, AsksFirst, Enters, HasMade, HasRefused, RowAdds}
 use Rattle.arc_commands.specs.Additions.{asks_first}
 use Rattle.arc_commands.specs.Additions.{asked as History_asked}
@@ -500,7 +500,18 @@ module _ {T M : Type 0} (setting : Setting T) (windows : ℕ) (s : SlotView T M)
       adds = (true, adds-at between here true refl clear.adds);
     }
 
-    module _ (has : HasPassFor passes here) where
+    module _ (has : HasPassFor passes here) (undropped : setting.drops ≡ false) where
+      -- what was found, as his row says it
+      as-found : (new : Row T M) (passes' : List (Pass Whole)) (answer said : Bool) → answer ≡ said
+          → RoomBeside (asks_alone row k) (room_for false setting.item_size row k) here row new
+          passes passes' answer
+          → RoomBeside (asks_alone row k) (needed k) here row new passes passes' said
+      as-found new passes' answer said is did =
+          subst (λ d. RoomBeside (asks_alone row k) (room_for d setting.item_size row k) here row
+          new passes passes' said) (sym undropped)
+          (subst (λ a. RoomBeside (asks_alone row k) (room_for false setting.item_size row k) here
+          row new passes passes' a) is did)
+
       yes-if : asks_alone row k ≡ true → (passes' : List (Pass Whole)) (found : Bool)
           → AsksAt here passes passes' found → (new : SlotView T M) → stand_of (Some new) ≡ here
           → RoomIf found (needed k) row (row_of new) true → Told reply.Yes new passes'
@@ -509,10 +520,12 @@ module _ {T M : Type 0} (setting : Setting T) (windows : ℕ) (s : SlotView T M)
       yes-if asks passes' false asked new stays did = absurd (false≢true (sym did.0))
 
       pub has-room-beside : (new : SlotView T M) → stand_of (Some new) ≡ here
-          → (passes' : List (Pass Whole))
-          → RoomBeside (asks_alone row k) (needed k) here row (row_of new) passes passes' true
+          → (passes' : List (Pass Whole)) (answer : Bool) → answer ≡ true
+          → RoomBeside (asks_alone row k) (room_for false setting.item_size row k) here row
+          (row_of new) passes passes' answer
           → Told reply.Yes new passes'
-      has-room-beside new stays passes' = by (asks_alone row k) refl
+      has-room-beside new stays passes' answer is did =
+          by (asks_alone row k) refl (as-found (row_of new) passes' answer true is did)
         where
           by : (asks : Bool) → asks_alone row k ≡ asks
               → RoomBeside asks (needed k) here row (row_of new) passes passes' true
@@ -541,10 +554,13 @@ module _ {T M : Type 0} (setting : Setting T) (windows : ℕ) (s : SlotView T M)
           }
 
       pub no-room-beside : (new : SlotView T M) → new ≡ s → (passes' : List (Pass Whole))
-          → RoomBeside (asks_alone row k) (needed k) here row (row_of new) passes passes' false
+          (answer : Bool) → answer ≡ false
+          → RoomBeside (asks_alone row k) (room_for false setting.item_size row k) here row
+          (row_of new) passes passes' answer
           → Told reply.No new passes'
-      no-room-beside new stays passes' did =
-          subst (λ x. Told reply.No x passes') (sym stays) (by (asks_alone row k) refl did)
+      no-room-beside new stays passes' answer is did =
+          subst (λ x. Told reply.No x passes') (sym stays)
+          (by (asks_alone row k) refl (as-found (row_of new) passes' answer false is did))
         where
           by : (asks : Bool) → asks_alone row k ≡ asks
               → RoomBeside asks (needed k) here row (row_of new) passes passes' false
