@@ -367,21 +367,21 @@ module _ {T M K : Type 0} (small : K → PartsView T M) (h : AnyWindow T M K) (w
   Fits v n = (is_numbered n v.place ≡ true) × (is_several v.role ≡ true) × (shares ≡ true)
 
   module _ (passes : List (Pass Whole)) (has : HasPassFor passes (stand_of (Some s))) where
-    has-there : HasPassFor passes (stand_at b w.place)
-    has-there = subst (λ t. HasPassFor passes (stand_of (Some t))) (sym beside-seen) has
+    pub beside-has : HasPassFor passes (stand_at b w.place)
+    beside-has = subst (λ t. HasPassFor passes (stand_of (Some t))) (sym beside-seen) has
 
     -- there is a pass with the block's number, also where it was taken out
     pub beside-number : HasNumber passes b
-    beside-number = has-number passes b w.place fit has-there
+    beside-number = has-number passes b w.place fit beside-has
 
     pub beside-left : (left : List (Pass Whole)) (p : Pass Whole) → TakenOut passes b p left
         → HasNumber left b
-    beside-left left p took = still-number passes left p b w.place fit has-there took
+    beside-left left p took = still-number passes left p b w.place fit beside-has took
 
     -- it is that of the window's block
     pub beside-pass : (left : List (Pass Whole)) (p : Pass Whole) → TakenOut passes b p left
         → IsPassAt w.place p
-    beside-pass left p took = window-pass passes left p b w.place fit has-there took
+    beside-pass left p took = window-pass passes left p b w.place fit beside-has took
 
   module _ (drops : Bool) (undropped : drops ≡ false) (first size k : ℕ) where
     abbrev asks : Bool
@@ -431,7 +431,7 @@ module _ {T M K : Type 0} (small : K → PartsView T M) (h : AnyWindow T M K) (w
               → FillsBeside asks wants items s (writer_slot v n) passes after (Ok tt) × Fits v n
           slot-fills-beside v n after did same new =
               let all = fills-beside b w fit one first size k there items left passes p q
-              (has-there passes has) took (asks_alone w k) v n after did
+              (beside-has passes has) took (asks_alone w k) v n after did
               (λ old. same (sym (ap is_fresh wants-seen) ∙ old))
               (λ fresh. new (sym (ap is_fresh wants-seen) ∙ fresh)) in
               (as-seen v n after (Ok tt) all.0, (all.1.0, all.1.1, kind))
@@ -443,7 +443,7 @@ module _ {T M K : Type 0} (small : K → PartsView T M) (h : AnyWindow T M K) (w
               → FillsBeside asks wants items s (writer_slot v b) passes after (Err e) × Fits v b
           slot-unfills-beside e v after made back =
               let all = unfills-beside b w fit one first size k there items left passes p q
-              (has-there passes has) took (asks_alone w k) e v after made back in
+              (beside-has passes has) took (asks_alone w k) e v after made back in
               (as-seen v b after (Err e) all.0, (all.1.0, all.1.1, kind))
 
         pub slot-reclaims-beside : (v : PartsView T M) (answer : Bool) (after : List (Pass Whole))
@@ -454,7 +454,7 @@ module _ {T M K : Type 0} (small : K → PartsView T M) (h : AnyWindow T M K) (w
             × (answer ≡ false → writer_slot v b ≡ s)
         slot-reclaims-beside v answer after did back =
             let all = reclaims-beside b w fit one first size k passes left p q
-            (has-there passes has) took (asks_alone w k) v answer did in
+            (beside-has passes has) took (asks_alone w k) v answer did in
             let at = subst (λ a. RoomBeside a (room false first size w k) (stand_at b w.place)
             (row_of (writer_slot w b)) (row_of (writer_slot v b)) passes (put_back left b q) answer)
             asks-seen all.0 in

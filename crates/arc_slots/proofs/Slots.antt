@@ -59,7 +59,7 @@ moved-stand b start (on_block None offset facts) = refl
 moved-stand None start (on_block (Some owner) offset facts) = refl
 moved-stand (Some n) start (on_block (Some owner) offset facts) = refl
 
-moved-fits : {M : Type 0} (b : Option ℕ) (start : ℕ) (place : At M)
+pub moved-fits : {M : Type 0} (b : Option ℕ) (start : ℕ) (place : At M)
     → is_numbered b (moved start place) ≡ is_numbered b place
 moved-fits None start nowhere = refl
 moved-fits None start static_data = refl

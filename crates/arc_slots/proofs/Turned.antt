@@ -1,5 +1,5 @@
 -- What a slot's writer is answered that reads from now on.
-use Rattle.std.proofs.Common.{◌≡◌, ℕ, true, false, List}
+use Rattle.std.proofs.Common.{◌≡◌, ℕ, Bool, true, false, if◌then◌else◌, List}
 use Rattle.std.proofs.Common.{length, Option, Some, None, refl, sym, ap}
 use Rattle.std.proofs.Common.{◌∙◌, subst}
 use Rattle.std.proofs.lemmas.Bool.{false≢true}
@@ -18,7 +18,10 @@ use Rattle.arc_commands.specs.Changes.{Around}
 use Rattle.arc_commands.specs.Step.{answer_any, is_allowed}
 use Rattle.arc_commands.specs.Changes.{is_now, made_row}
 use Rattle.arc_commands.specs.Changes.{after_move}
-use Rattle.arc_commands.specs.Blocks.{is_writer}
+use Rattle.arc_commands.specs.Blocks.{is_sole, is_writer}
+use Rattle.arc_commands.specs.Several.{can_share}
+use Rattle.arc_commands.proofs.Roles.{sole_each}
+use Rattle.arc_block.specs.Shared.{as_shared}
 use Rattle.arc_commands.specs.Commands.{ListCmd, ListReply}
 use Rattle.arc_commands.specs.declared.command.Cmd.TheVariants as command
 use Rattle.arc_commands.specs.declared.command.Reply.TheVariants as reply
@@ -112,6 +115,33 @@ module _ {T M : Type 0} (setting : Setting T) (windows : ℕ) (s : SlotView T M)
             same setting windows s passes freeze reply.Refused (frozen-is of_blocks to.LeavesCount is) (refl, refl, refl)
         by to.NewEmpty is none =
             same setting windows s passes freeze reply.Refused (frozen-is of_blocks to.NewEmpty is) (refl, refl, refl)
+
+  -- ---- who is one of several from now on
+
+  module _ (i : ℕ) (sole : is_sole s.role ≡ true) (shares : setting.calls.shares ≡ true) where
+    abbrev share : Command
+    share = command.Share i
+
+    share-is : (may : Bool) → can_share setting.drops row.place ≡ may
+        → answer_any setting no_shortage around share row
+        ≡ (if may then is_now reply.Ok (as_shared row) else is_now reply.Refused row)
+    share-is may is =
+        for-role setting windows s passes no_shortage share
+        (sole_each (λ role. is_allowed setting.calls share role ≡ true) (λ places. shares) s.role
+        sole)
+        ∙ ap (λ b. if b then is_now reply.Ok (as_shared row) else is_now reply.Refused row) is
+
+    pub shared : can_share setting.drops row.place ≡ true → (new : SlotView T M)
+        → stand_of (Some new) ≡ here → row_of new ≡ as_shared row
+        → Said share reply.Ok (Some new) None passes
+    shared may new stays is =
+        changes setting windows s passes share reply.Ok new
+        (share-is true may ∙ ap (is_now reply.Ok) (sym is)) (stays, refl, refl)
+
+    pub unshared : can_share setting.drops row.place ≡ false
+        → Said share reply.Refused (Some s) None passes
+    unshared not =
+        same setting windows s passes share reply.Refused (share-is false not) (refl, refl, refl)
 
 -- where a first block is wanted, memory for it may be refused
 pub refused-new : (move : Move) → is_new move ≡ true → IsRefused move

@@ -61,9 +61,10 @@ abbrev pub JoinAnswers : {T M H : Type 0} → Calls → (i j : ℕ) → (old oth
     → (before : List (Pass H)) → ListReply T M → (new gone : Option (SlotView T M))
     → (after : List (Pass H)) → Type 0
 JoinAnswers calls i j old other before reply.Ok new gone after =
-    (is_for_both calls (command.Join i j) i j (row_of old) (row_of other) ≡ true)
-    × (join_answer (row_of old) (row_of other) ≡ (reply.Ok, option_map row_of new))
-    × (gone ≡ None) × (stand_of new ≡ stand_of (Some old))
+    (whole : SlotView T M)
+    × (is_for_both calls (command.Join i j) i j (row_of old) (row_of other) ≡ true)
+    × (join_answer (row_of old) (row_of other) ≡ (reply.Ok, Some (row_of whole)))
+    × (new ≡ Some whole) × (gone ≡ None) × (stand_of (Some whole) ≡ stand_of (Some old))
     × Along (stand_of (Some other)) before after (λ o p q. (last : Bool) × Leaves o p q last)
 JoinAnswers calls i j old other before reply.Refused new gone after =
     (is_for_both calls (command.Join i j) i j (row_of old) (row_of other) ≡ true)

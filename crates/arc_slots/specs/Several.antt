@@ -19,7 +19,7 @@ use Rattle.arc_block.specs.Shared.{on_native, split_answer}
 use Rattle.arc_block.specs.Table.{Row, RowOf}
 use Rattle.arc_block.specs.Writers.{Reclaims, after_advance, capacity_of, new_writer, with_room}
 use Rattle.arc_commands.specs.Additions.{Founds}
-use Rattle.arc_slots.specs.Calls.{Along, Beside, FindsFullAt}
+use Rattle.arc_slots.specs.Calls.{AddsNothing, Along, Beside, FindsFullAt}
 use Rattle.arc_slots.specs.Slots.{SlotView, row_of, stand_of}
 use Rattle.arc_slots.specs.Writing.{IsUnchanged}
 use Rattle.arc_slots.specs.declared.part.Part.{Part}
@@ -93,6 +93,7 @@ module _ {M H : Type 0} where
   abbrev pub RefusesIf : (on_vector : Bool) → Place (Option ℕ) M → Stand → List (Pass H)
       → List (Pass H) → OwnerError → Type 0
   RefusesIf true place here old new e = (e ≡ owner_error.AllocError) × (new ≡ old)
+      × Along here old new AddsNothing
   RefusesIf false place here old new e = RefusesPlaces place here old new e
 
   abbrev pub RefusesBeside : Place (Option ℕ) M → Stand → List (Pass H) → List (Pass H)

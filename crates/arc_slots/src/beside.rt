@@ -35,6 +35,7 @@ where
     ghost use Rattle.arc_commands.specs.Seen.{seen_reply};
     ghost use Rattle.arc_commands.specs.declared.command.Cmd.TheVariants as command;
     ghost use Rattle.arc_slots.specs.Answers.{Answers};
+    ghost use Rattle.arc_slots.specs.Calls.{AddsNothing, Along};
     ghost use Rattle.arc_slots.specs.Parts.{part_command};
     ghost use Rattle.arc_slots.specs.Several.{HasPlaces, RefusesBeside, SplitsBeside};
     ghost use Rattle.arc_slots.specs.Slots.{row_of, stand_of};
@@ -84,8 +85,18 @@ where
         }
     }
 
+    /// Adds nothing to the history of the window's block, which is legal. Does nothing: its contract
+    /// is the law.
+    fn adds_nothing(&self, passes: &Passes<A>)
+        requires { HasPassFor passes.now.of_blocks.items (stand_of (Some self.now)) }
+        ensures { Along (stand_of (Some self.now)) passes.now.of_blocks.items
+            passes.now.of_blocks.items AddsNothing }
+    {
+        passes.attest(self.block);
+    }
+
     /// Splits the places of the window, which is one of several, and hands out the part, on no
-    /// vector: `split_places`.
+    /// vector: `split_places`. A window of a vector moves first: `leave_vector`.
     ///
     /// # Errors
     ///
@@ -111,7 +122,10 @@ where
         if !self.is_on_vector() {
             return self.split_places(rt, part, passes);
         }
-        self.leave_vector(passes)?;
+        if let Err(e) = self.leave_vector(passes) {
+            self.adds_nothing(passes);
+            return Err(e);
+        }
         match self.split_places(rt, part, passes) {
             Ok(handed) => Ok(handed),
             Err(_) => unreachable!(),
@@ -138,6 +152,7 @@ where
             (Some self.new) result.1 passes.new.of_blocks.items }
         ensures room { is_some result.1 ≡ true → has_room ≡ true }
     {
+        self.known_undropped();
         if !part.is_split() {
             return (Reply::Kind, None);
         }
@@ -148,6 +163,7 @@ where
             return (Reply::Alloc, None);
         }
         if passes.reserve_for(self.is_on_vector()).is_err() {
+            self.adds_nothing(passes);
             return (Reply::Owner(OwnerError::AllocError), None);
         }
         match self.try_split_beside(rt, part, passes) {

@@ -62,7 +62,8 @@ where
                 Err(window) => Err(Held::Several(window)),
             }
         }
-        _ => unreachable!(),
+        // Never so: the window is written.
+        other => Err(other),
     }
 }
 

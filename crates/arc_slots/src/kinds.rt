@@ -1,6 +1,6 @@
 //! What a table's commands may ask of a kind, beside what all its kinds have.
-ghost use Rattle.std.specs.Prelude.{◌≡◌, ◌≤◌, List, Option, Some, None, true, is_some, replicate};
-ghost use Rattle.std.specs.Prelude.{IfNone, IfOk, IfSome, OnErr, refl};
+ghost use Rattle.std.specs.Prelude.{◌≡◌, ◌≤◌, Bool, List, Option, Some, None, true, false, is_some};
+ghost use Rattle.std.specs.Prelude.{IfNone, IfOk, IfSome, OnErr, refl, replicate};
 ghost use Rattle.std.specs.Vec.{vec_items};
 ghost use Rattle.std.specs.String.{string_bytes};
 ghost use Rattle.std.specs.declared.vec.Vec.{Vec};
@@ -33,7 +33,7 @@ use std::sync::Arc;
 /// writers.
 pub trait TableKind: Subsliceable {
     /// Whether several may write one block.
-    const SHARES: bool;
+    ghost SHARES: { Bool };
 
     /// `HasSmall` where it has, else `NoSmall`.
     type Small: Smalls;
@@ -271,25 +271,25 @@ where
 }
 
 impl<T: TableItem> TableKind for Plain<T> {
-    const SHARES: bool = true;
+    ghost SHARES = { true };
 
     type Small = T::Small;
 }
 
 impl TableKind for ByteText {
-    const SHARES: bool = true;
+    ghost SHARES = { true };
 
     type Small = HasSmall;
 }
 
 impl TableKind for Text {
-    const SHARES: bool = true;
+    ghost SHARES = { true };
 
     type Small = HasSmall;
 }
 
 impl<T: Drop> TableKind for Owned<T> {
-    const SHARES: bool = false;
+    ghost SHARES = { false };
 
     type Small = NoSmall;
 }

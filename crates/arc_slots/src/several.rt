@@ -94,7 +94,10 @@ fn split_as<
 {
     match part {
         Part::Back(at) => S::Calls::try_split_off_as(window, rt, at, pass),
-        Part::Front(at) => S::Calls::try_split_to_as(window, rt, at, pass),
+        Part::Front(at) => {
+            let _ = window.capacity();
+            S::Calls::try_split_to_as(window, rt, at, pass)
+        }
         Part::Whole | Part::Range { .. } => unreachable!(),
     }
 }
@@ -315,14 +318,16 @@ where
             unreachable!()
         };
         let mut pass = passes.lend(block);
-        let left = S::Calls::try_leave_vector_as(window, &mut pass);
-        passes.give_back(block, pass);
-        match left {
+        match S::Calls::try_leave_vector_as(window, &mut pass) {
             Ok(first) => {
                 self.block = passes.keep(None, true, first);
+                passes.give_back(block, pass);
                 Ok(())
             }
-            Err(_) => Err(OwnerError::AllocError),
+            Err(_) => {
+                passes.give_back(block, pass);
+                Err(OwnerError::AllocError)
+            }
         }
     }
 

@@ -6,10 +6,10 @@ ghost use Rattle.std.specs.Mem.{FitsInMemory, type_size};
 ghost use Rattle.std.specs.Str.{IsUtf8};
 ghost use Rattle.arc_owners.specs.count.Calls.{IsPassOfNone};
 ghost use Rattle.arc_owners.specs.declared.mark.Whole.{Whole as whole_mark};
-ghost use Rattle.arc_block.specs.Shared.{CanSplit, IsOneBlock, LeavesAt, LeavesVector};
-ghost use Rattle.arc_block.specs.Shared.{MakesSharedRoom, PushesShared, RefusesSplitAt};
-ghost use Rattle.arc_block.specs.Shared.{SplitsWriterOff, SplitsWriterTo, as_shared, asks_alone};
-ghost use Rattle.arc_block.specs.Shared.{can_join, is_vector_at, joined_row};
+ghost use Rattle.arc_block.specs.Shared.{CanSplit, IsOneBlock, LeavesAt, MakesSharedRoom};
+ghost use Rattle.arc_block.specs.Shared.{PushesShared, RefusesSplitAt, SplitsWriterOff};
+ghost use Rattle.arc_block.specs.Shared.{SplitsWriterTo, as_shared, asks_alone, can_join};
+ghost use Rattle.arc_block.specs.Shared.{LeavesVector, is_vector_at, joined_row};
 ghost use Rattle.arc_block.specs.Steps.{Begins, IsPassAt, Makes};
 ghost use Rattle.arc_block.specs.Window.{IsOfBuffer, NeedsBlock};
 ghost use Rattle.arc_block.specs.Writers.{MakesRoom, MakesWriter, Pushes, capacity_of};
@@ -20,7 +20,9 @@ ghost use Rattle.arc_slots.specs.Several.{is_any};
 use super::smalls::Smalls;
 use arc_block::layout::{Layout, LayoutMut};
 use arc_buffer::buffer::BufferMut;
-use arc_buffer::kinds::{CopySlice, Extendable, Shareable, Slice, Subsliceable, Text};
+use arc_buffer::kinds::{
+    Concatenable, CopySlice, Extendable, Shareable, Slice, Subsliceable, Text,
+};
 use arc_owners::error::{AllocError, OwnerError, TryReserveError};
 use arc_owners::mark::Whole;
 use arc_owners::owners::Pass;
@@ -198,6 +200,36 @@ pub trait CallsOf<S: Subsliceable> {
         ensures kept { IfNone result (sole.new ≡ sole.old) }
         ensures refused { IfNone result (IfSome sole.old (λ w. IsOfBuffer w.place)) };
 
+    /// Moves a window of several from its vector to a native block with as many places, as
+    /// `ArcSliceMut::try_leave_vector_as`, and answers the new block's pass.
+    ///
+    /// # Errors
+    ///
+    /// Those of that call.
+    ///
+    /// # Allocates
+    ///
+    /// As that call.
+    ///
+    /// # History
+    ///
+    /// As that call.
+    fn try_leave_vector_as<
+        L: LayoutMut,
+        B: BufferMut<S::Item> + Drop,
+        M: Drop,
+        A: Allocator + Copy,
+    >(
+        window: &mut ArcSliceMut<S, L, 0, B, M, A, Whole>,
+        pass: &mut Pass<Whole>,
+    ) -> Result<Pass<Whole>, AllocError>
+        requires call { calls.shares ≡ true }
+        requires vector { is_vector_at window.old.place ≡ true }
+        requires pass { IsPassAt window.old.place pass.old }
+        ensures moved { IfOk result (λ new. LeavesVector false true window.old window.new
+            pass.old pass.new new) }
+        ensures refused { OnErr result ((window.new ≡ window.old) × (pass.new ≡ pass.old)) };
+
     /// The part of a window of several behind `at` places, as `ArcSliceMut::try_split_off_as`.
     ///
     /// # Errors
@@ -251,36 +283,6 @@ pub trait CallsOf<S: Subsliceable> {
             window.old front window.new pass.old pass.new) }
         ensures kept { IfErr result (λ _. window.new ≡ window.old) }
         ensures refused { IfErr result (RefusesSplitAt window.old.place pass.old pass.new) };
-
-    /// Moves a window of several from a vector to a native block, and answers the block's pass, as
-    /// `ArcSliceMut::try_leave_vector_as`.
-    ///
-    /// # Errors
-    ///
-    /// Those of that call.
-    ///
-    /// # Allocates
-    ///
-    /// As that call.
-    ///
-    /// # History
-    ///
-    /// As that call.
-    fn try_leave_vector_as<
-        L: LayoutMut,
-        B: BufferMut<S::Item> + Drop,
-        M: Drop,
-        A: Allocator + Copy,
-    >(
-        window: &mut ArcSliceMut<S, L, 0, B, M, A, Whole>,
-        pass: &mut Pass<Whole>,
-    ) -> Result<Pass<Whole>, AllocError>
-        requires call { calls.shares ≡ true }
-        requires vector { is_vector_at window.old.place ≡ true }
-        requires pass { IsPassAt window.old.place pass.old }
-        ensures moved { IfOk result (λ new. LeavesVector false true window.old window.new
-            pass.old pass.new new) }
-        ensures refused { OnErr result ((window.new ≡ window.old) × (pass.new ≡ pass.old)) };
 
     /// Puts the other window's places behind this one's, as `ArcSliceMut::try_unsplit_as`; where it
     /// doesn't, the other one stays in its place.
@@ -384,165 +386,6 @@ pub struct TextCalls;
 /// Items that are moved are pushed, and never copied.
 pub struct OwnedCalls;
 
-impl<S: CopySlice + Extendable + Shareable + Subsliceable, W: Smalls> CallsOf<S> for AllCalls<W>
-where
-    S::Item: Copy,
-{
-    ghost calls = { record {
-      copies = true;
-      pushes = true;
-      extends = true;
-      any_list = true;
-      small = W.small;
-      shares = true;
-    } };
-
-    fn copies() -> bool {
-        true
-    }
-
-    fn pushes() -> bool {
-        true
-    }
-
-    fn extends() -> bool {
-        true
-    }
-
-    fn any_list() -> bool {
-        true
-    }
-
-    fn shares() -> bool {
-        true
-    }
-
-    fn try_copy<A: Allocator>(
-        alloc: A,
-        items: &[S::Item],
-    ) -> Option<Result<Vec<S::Item, A>, AllocError>> {
-        match Vec::from_slice(alloc, items) {
-            Ok(copy) => Some(Ok(copy)),
-            Err(_) => Some(Err(AllocError)),
-        }
-    }
-
-    fn try_read_as<L: Layout, B: BufferMut<S::Item> + Drop, M: Drop, A: Allocator + Copy>(
-        alloc: A,
-        items: &[S::Item],
-        pass: &mut Pass<Whole>,
-    ) -> Option<Result<ArcSlice<S, L, B, M, A, Whole>, AllocError>> {
-        Some(ArcSlice::try_from_slice_as(alloc, items, pass))
-    }
-
-    fn try_written_as<L: LayoutMut, B: BufferMut<S::Item> + Drop, M: Drop, A: Allocator + Copy>(
-        alloc: A,
-        items: &[S::Item],
-        pass: &mut Pass<Whole>,
-    ) -> Option<Result<ArcSliceMut<S, L, 1, B, M, A, Whole>, AllocError>> {
-        Some(ArcSliceMut::try_from_slice_as(alloc, items, pass))
-    }
-
-    fn try_push_as<L: LayoutMut, B: BufferMut<S::Item> + Drop, M: Drop, A: Allocator + Copy>(
-        window: &mut ArcSliceMut<S, L, 1, B, M, A, Whole>,
-        item: S::Item,
-        pass: &mut Pass<Whole>,
-    ) -> Option<Result<(), TryReserveError>> {
-        match window.try_push_as(item, pass) {
-            Ok(()) => Some(Ok(())),
-            Err((e, _)) => Some(Err(e)),
-        }
-    }
-
-    fn try_extend_as<L: LayoutMut, B: BufferMut<S::Item> + Drop, M: Drop, A: Allocator + Copy>(
-        window: &mut ArcSliceMut<S, L, 1, B, M, A, Whole>,
-        items: &[S::Item],
-        pass: &mut Pass<Whole>,
-    ) -> Option<Result<(), TryReserveError>> {
-        Some(window.try_extend_from_slice_as(items, pass))
-    }
-
-    fn into_shared<L: LayoutMut, B: BufferMut<S::Item> + Drop, M: Drop, A: Allocator + Copy>(
-        sole: &mut Option<ArcSliceMut<S, L, 1, B, M, A, Whole>>,
-    ) -> Option<ArcSliceMut<S, L, 0, B, M, A, Whole>> {
-        match sole.take()?.into_shared() {
-            Ok(window) => Some(window),
-            Err(window) => {
-                *sole = Some(window);
-                None
-            }
-        }
-    }
-
-    fn try_split_off_as<L: LayoutMut, B: BufferMut<S::Item> + Drop, M: Drop, A: Allocator + Copy>(
-        window: &mut ArcSliceMut<S, L, 0, B, M, A, Whole>,
-        rt: &impl Wait,
-        at: usize,
-        pass: &mut Pass<Whole>,
-    ) -> Result<ArcSliceMut<S, L, 0, B, M, A, Whole>, OwnerError> {
-        window.try_split_off_as(rt, at, pass)
-    }
-
-    fn try_split_to_as<L: LayoutMut, B: BufferMut<S::Item> + Drop, M: Drop, A: Allocator + Copy>(
-        window: &mut ArcSliceMut<S, L, 0, B, M, A, Whole>,
-        rt: &impl Wait,
-        at: usize,
-        pass: &mut Pass<Whole>,
-    ) -> Result<ArcSliceMut<S, L, 0, B, M, A, Whole>, OwnerError> {
-        window.try_split_to_as(rt, at, pass)
-    }
-
-    fn try_leave_vector_as<
-        L: LayoutMut,
-        B: BufferMut<S::Item> + Drop,
-        M: Drop,
-        A: Allocator + Copy,
-    >(
-        window: &mut ArcSliceMut<S, L, 0, B, M, A, Whole>,
-        pass: &mut Pass<Whole>,
-    ) -> Result<Pass<Whole>, AllocError> {
-        window.try_leave_vector_as(pass)
-    }
-
-    fn try_unsplit_as<L: LayoutMut, B: BufferMut<S::Item> + Drop, M: Drop, A: Allocator + Copy>(
-        window: &mut ArcSliceMut<S, L, 0, B, M, A, Whole>,
-        other: &mut Option<ArcSliceMut<S, L, 0, B, M, A, Whole>>,
-        pass: &mut Pass<Whole>,
-    ) -> Option<()> {
-        match window.try_unsplit_as(other.take()?, pass) {
-            Ok(()) => Some(()),
-            Err(back) => {
-                *other = Some(back);
-                None
-            }
-        }
-    }
-
-    fn try_push_beside_as<L: LayoutMut, B: BufferMut<S::Item> + Drop, M: Drop, A: Allocator + Copy>(
-        window: &mut ArcSliceMut<S, L, 0, B, M, A, Whole>,
-        item: S::Item,
-        pass: &mut Pass<Whole>,
-    ) -> Result<(), TryReserveError> {
-        match window.try_push_as(item, pass) {
-            Ok(()) => Ok(()),
-            Err((e, _)) => Err(e),
-        }
-    }
-
-    fn try_extend_beside_as<
-        L: LayoutMut,
-        B: BufferMut<S::Item> + Drop,
-        M: Drop,
-        A: Allocator + Copy,
-    >(
-        window: &mut ArcSliceMut<S, L, 0, B, M, A, Whole>,
-        items: &[S::Item],
-        pass: &mut Pass<Whole>,
-    ) -> Result<(), TryReserveError> {
-        window.try_extend_from_slice_as(items, pass)
-    }
-}
-
 /// The items of a legal list of `Text`, as a `str`.
 pub(super) fn as_text(items: &[u8]) -> &str
     requires { ∥ IsUtf8 items.now ∥₁ }
@@ -551,318 +394,6 @@ pub(super) fn as_text(items: &[u8]) -> &str
     unsafe { str::from_utf8_unchecked(items) }
 }
 
-impl CallsOf<Text> for TextCalls {
-    ghost calls = { record {
-      copies = true;
-      pushes = false;
-      extends = true;
-      any_list = false;
-      small = true;
-      shares = true;
-    } };
-
-    fn copies() -> bool {
-        true
-    }
-
-    fn pushes() -> bool {
-        false
-    }
-
-    fn extends() -> bool {
-        true
-    }
-
-    fn any_list() -> bool {
-        false
-    }
-
-    fn shares() -> bool {
-        true
-    }
-
-    fn try_copy<A: Allocator>(alloc: A, items: &[u8]) -> Option<Result<Vec<u8, A>, AllocError>> {
-        match Vec::from_slice(alloc, items) {
-            Ok(copy) => Some(Ok(copy)),
-            Err(_) => Some(Err(AllocError)),
-        }
-    }
-
-    fn try_read_as<L: Layout, B: BufferMut<u8> + Drop, M: Drop, A: Allocator + Copy>(
-        alloc: A,
-        items: &[u8],
-        pass: &mut Pass<Whole>,
-    ) -> Option<Result<ArcSlice<Text, L, B, M, A, Whole>, AllocError>> {
-        let text = as_text(items);
-        Some(ArcSlice::<Text, L, B, M, A, Whole>::try_from_str_as(alloc, text, pass))
-    }
-
-    fn try_written_as<L: LayoutMut, B: BufferMut<u8> + Drop, M: Drop, A: Allocator + Copy>(
-        alloc: A,
-        items: &[u8],
-        pass: &mut Pass<Whole>,
-    ) -> Option<Result<ArcSliceMut<Text, L, 1, B, M, A, Whole>, AllocError>> {
-        let text = as_text(items);
-        Some(ArcSliceMut::<Text, L, 1, B, M, A, Whole>::try_from_str_as(alloc, text, pass))
-    }
-
-    fn try_push_as<L: LayoutMut, B: BufferMut<u8> + Drop, M: Drop, A: Allocator + Copy>(
-        window: &mut ArcSliceMut<Text, L, 1, B, M, A, Whole>,
-        item: u8,
-        pass: &mut Pass<Whole>,
-    ) -> Option<Result<(), TryReserveError>> {
-        let _ = window;
-        let _ = item;
-        let _ = pass;
-        None
-    }
-
-    fn try_extend_as<L: LayoutMut, B: BufferMut<u8> + Drop, M: Drop, A: Allocator + Copy>(
-        window: &mut ArcSliceMut<Text, L, 1, B, M, A, Whole>,
-        items: &[u8],
-        pass: &mut Pass<Whole>,
-    ) -> Option<Result<(), TryReserveError>> {
-        let text = as_text(items);
-        Some(window.try_extend_from_str_as(text, pass))
-    }
-
-    fn into_shared<L: LayoutMut, B: BufferMut<u8> + Drop, M: Drop, A: Allocator + Copy>(
-        sole: &mut Option<ArcSliceMut<Text, L, 1, B, M, A, Whole>>,
-    ) -> Option<ArcSliceMut<Text, L, 0, B, M, A, Whole>> {
-        match sole.take()?.into_shared() {
-            Ok(window) => Some(window),
-            Err(window) => {
-                *sole = Some(window);
-                None
-            }
-        }
-    }
-
-    fn try_split_off_as<L: LayoutMut, B: BufferMut<u8> + Drop, M: Drop, A: Allocator + Copy>(
-        window: &mut ArcSliceMut<Text, L, 0, B, M, A, Whole>,
-        rt: &impl Wait,
-        at: usize,
-        pass: &mut Pass<Whole>,
-    ) -> Result<ArcSliceMut<Text, L, 0, B, M, A, Whole>, OwnerError> {
-        window.try_split_off_as(rt, at, pass)
-    }
-
-    fn try_split_to_as<L: LayoutMut, B: BufferMut<u8> + Drop, M: Drop, A: Allocator + Copy>(
-        window: &mut ArcSliceMut<Text, L, 0, B, M, A, Whole>,
-        rt: &impl Wait,
-        at: usize,
-        pass: &mut Pass<Whole>,
-    ) -> Result<ArcSliceMut<Text, L, 0, B, M, A, Whole>, OwnerError> {
-        window.try_split_to_as(rt, at, pass)
-    }
-
-    fn try_leave_vector_as<L: LayoutMut, B: BufferMut<u8> + Drop, M: Drop, A: Allocator + Copy>(
-        window: &mut ArcSliceMut<Text, L, 0, B, M, A, Whole>,
-        pass: &mut Pass<Whole>,
-    ) -> Result<Pass<Whole>, AllocError> {
-        window.try_leave_vector_as(pass)
-    }
-
-    fn try_unsplit_as<L: LayoutMut, B: BufferMut<u8> + Drop, M: Drop, A: Allocator + Copy>(
-        window: &mut ArcSliceMut<Text, L, 0, B, M, A, Whole>,
-        other: &mut Option<ArcSliceMut<Text, L, 0, B, M, A, Whole>>,
-        pass: &mut Pass<Whole>,
-    ) -> Option<()> {
-        match window.try_unsplit_as(other.take()?, pass) {
-            Ok(()) => Some(()),
-            Err(back) => {
-                *other = Some(back);
-                None
-            }
-        }
-    }
-
-    fn try_push_beside_as<L: LayoutMut, B: BufferMut<u8> + Drop, M: Drop, A: Allocator + Copy>(
-        window: &mut ArcSliceMut<Text, L, 0, B, M, A, Whole>,
-        item: u8,
-        pass: &mut Pass<Whole>,
-    ) -> Result<(), TryReserveError> {
-        let _ = window;
-        let _ = item;
-        let _ = pass;
-        unreachable!()
-    }
-
-    fn try_extend_beside_as<L: LayoutMut, B: BufferMut<u8> + Drop, M: Drop, A: Allocator + Copy>(
-        window: &mut ArcSliceMut<Text, L, 0, B, M, A, Whole>,
-        items: &[u8],
-        pass: &mut Pass<Whole>,
-    ) -> Result<(), TryReserveError> {
-        let text = as_text(items);
-        window.try_extend_from_str_as(text, pass)
-    }
-}
-
-impl<S: Extendable + Subsliceable> CallsOf<S> for OwnedCalls {
-    ghost calls = { record {
-      copies = false;
-      pushes = true;
-      extends = false;
-      any_list = true;
-      small = false;
-      shares = false;
-    } };
-
-    fn copies() -> bool {
-        false
-    }
-
-    fn pushes() -> bool {
-        true
-    }
-
-    fn extends() -> bool {
-        false
-    }
-
-    fn any_list() -> bool {
-        true
-    }
-
-    fn shares() -> bool {
-        false
-    }
-
-    fn try_copy<A: Allocator>(
-        alloc: A,
-        items: &[S::Item],
-    ) -> Option<Result<Vec<S::Item, A>, AllocError>> {
-        let _ = alloc;
-        let _ = items;
-        None
-    }
-
-    fn try_read_as<L: Layout, B: BufferMut<S::Item> + Drop, M: Drop, A: Allocator + Copy>(
-        alloc: A,
-        items: &[S::Item],
-        pass: &mut Pass<Whole>,
-    ) -> Option<Result<ArcSlice<S, L, B, M, A, Whole>, AllocError>> {
-        let _ = alloc;
-        let _ = items;
-        let _ = pass;
-        None
-    }
-
-    fn try_written_as<L: LayoutMut, B: BufferMut<S::Item> + Drop, M: Drop, A: Allocator + Copy>(
-        alloc: A,
-        items: &[S::Item],
-        pass: &mut Pass<Whole>,
-    ) -> Option<Result<ArcSliceMut<S, L, 1, B, M, A, Whole>, AllocError>> {
-        let _ = alloc;
-        let _ = items;
-        let _ = pass;
-        None
-    }
-
-    fn try_push_as<L: LayoutMut, B: BufferMut<S::Item> + Drop, M: Drop, A: Allocator + Copy>(
-        window: &mut ArcSliceMut<S, L, 1, B, M, A, Whole>,
-        item: S::Item,
-        pass: &mut Pass<Whole>,
-    ) -> Option<Result<(), TryReserveError>> {
-        match window.try_push_as(item, pass) {
-            Ok(()) => Some(Ok(())),
-            Err((e, _)) => Some(Err(e)),
-        }
-    }
-
-    fn try_extend_as<L: LayoutMut, B: BufferMut<S::Item> + Drop, M: Drop, A: Allocator + Copy>(
-        window: &mut ArcSliceMut<S, L, 1, B, M, A, Whole>,
-        items: &[S::Item],
-        pass: &mut Pass<Whole>,
-    ) -> Option<Result<(), TryReserveError>> {
-        let _ = window;
-        let _ = items;
-        let _ = pass;
-        None
-    }
-
-    fn into_shared<L: LayoutMut, B: BufferMut<S::Item> + Drop, M: Drop, A: Allocator + Copy>(
-        sole: &mut Option<ArcSliceMut<S, L, 1, B, M, A, Whole>>,
-    ) -> Option<ArcSliceMut<S, L, 0, B, M, A, Whole>> {
-        let _ = sole;
-        unreachable!()
-    }
-
-    fn try_split_off_as<L: LayoutMut, B: BufferMut<S::Item> + Drop, M: Drop, A: Allocator + Copy>(
-        window: &mut ArcSliceMut<S, L, 0, B, M, A, Whole>,
-        rt: &impl Wait,
-        at: usize,
-        pass: &mut Pass<Whole>,
-    ) -> Result<ArcSliceMut<S, L, 0, B, M, A, Whole>, OwnerError> {
-        let _ = window;
-        let _ = rt;
-        let _ = at;
-        let _ = pass;
-        unreachable!()
-    }
-
-    fn try_split_to_as<L: LayoutMut, B: BufferMut<S::Item> + Drop, M: Drop, A: Allocator + Copy>(
-        window: &mut ArcSliceMut<S, L, 0, B, M, A, Whole>,
-        rt: &impl Wait,
-        at: usize,
-        pass: &mut Pass<Whole>,
-    ) -> Result<ArcSliceMut<S, L, 0, B, M, A, Whole>, OwnerError> {
-        let _ = window;
-        let _ = rt;
-        let _ = at;
-        let _ = pass;
-        unreachable!()
-    }
-
-    fn try_leave_vector_as<
-        L: LayoutMut,
-        B: BufferMut<S::Item> + Drop,
-        M: Drop,
-        A: Allocator + Copy,
-    >(
-        window: &mut ArcSliceMut<S, L, 0, B, M, A, Whole>,
-        pass: &mut Pass<Whole>,
-    ) -> Result<Pass<Whole>, AllocError> {
-        let _ = window;
-        let _ = pass;
-        unreachable!()
-    }
-
-    fn try_unsplit_as<L: LayoutMut, B: BufferMut<S::Item> + Drop, M: Drop, A: Allocator + Copy>(
-        window: &mut ArcSliceMut<S, L, 0, B, M, A, Whole>,
-        other: &mut Option<ArcSliceMut<S, L, 0, B, M, A, Whole>>,
-        pass: &mut Pass<Whole>,
-    ) -> Option<()> {
-        let _ = window;
-        let _ = other;
-        let _ = pass;
-        unreachable!()
-    }
-
-    fn try_push_beside_as<L: LayoutMut, B: BufferMut<S::Item> + Drop, M: Drop, A: Allocator + Copy>(
-        window: &mut ArcSliceMut<S, L, 0, B, M, A, Whole>,
-        item: S::Item,
-        pass: &mut Pass<Whole>,
-    ) -> Result<(), TryReserveError> {
-        let _ = window;
-        let _ = item;
-        let _ = pass;
-        unreachable!()
-    }
-
-    fn try_extend_beside_as<
-        L: LayoutMut,
-        B: BufferMut<S::Item> + Drop,
-        M: Drop,
-        A: Allocator + Copy,
-    >(
-        window: &mut ArcSliceMut<S, L, 0, B, M, A, Whole>,
-        items: &[S::Item],
-        pass: &mut Pass<Whole>,
-    ) -> Result<(), TryReserveError> {
-        let _ = window;
-        let _ = items;
-        let _ = pass;
-        unreachable!()
-    }
-}
+mod all;
+mod owned;
+mod text;
