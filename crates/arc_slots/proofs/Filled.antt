@@ -114,7 +114,8 @@ module _ {M : Type 0} (drops : Bool) (size : ℕ) (info : BlockInfo M) (offset l
       third false = growth_each info.sort refl
 
       second : (b : Bool) → P (if b then Behind else
-          if not drops && not (nat_lt offset len) && not (nat_lt (info.size - len) k) then Front else
+          if not drops && not (nat_lt offset len) && not (nat_lt (info.size - len) k) then Front
+          else
           growth info.sort size info.size (offset + len) k)
       second true = behind
       second false =
@@ -122,7 +123,8 @@ module _ {M : Type 0} (drops : Bool) (size : ℕ) (info : BlockInfo M) (offset l
 
       first : (b : Bool) → P (if b then Refused Unsupported else
           if not (nat_lt (info.size - offset - len) k) then Behind else
-          if not drops && not (nat_lt offset len) && not (nat_lt (info.size - len) k) then Front else
+          if not drops && not (nat_lt offset len) && not (nat_lt (info.size - len) k) then Front
+          else
           growth info.sort size info.size (offset + len) k)
       first true = unsupported
       first false = second (not (nat_lt (info.size - offset - len) k))
@@ -143,7 +145,8 @@ pub room_each : {N T M : Type 0} (drops : Bool) (first size : ℕ) (row : RowOf 
     → ((block : N) (offset : ℕ) (info : BlockInfo M) (writable : Bool)
     → row.place ≡ on_block block offset info → info.sort ≡ buffer writable → P (Own k))
     → P (room drops first size row k)
-room_each {N} {T} {M} drops first size row k P spare fresh unsupported overflow behind front grown own =
+room_each {N} {T} {M} drops first size row k P spare fresh unsupported overflow behind front grown
+    own =
     either (not (nat_lt (capacity_of row.role - length row.items) k))
   where
     there : (place : Place N M) → row.place ≡ place
@@ -234,14 +237,17 @@ module _ {T M : Type 0} (mine : Role → Bool) (keeps : Keeps mine) (items : Lis
       numbered_each (Roomed (Fresh n)) (refl, is, refl, refl) (refl, is, refl, refl)
       (λ offset info. (refl, is, refl, refl)) (λ n o offset info. (refl, is, refl, refl))
   roomed_each Behind =
-      numbered_each (Roomed Behind) (refl, keeps role _ is, refl, refl) (refl, keeps role _ is, refl, refl)
-      (λ offset info. (refl, keeps role _ is, refl, refl)) (λ n o offset info. (refl, keeps role _ is, refl, refl))
+      numbered_each (Roomed Behind) (refl, keeps role _ is, refl, refl)
+      (refl, keeps role _ is, refl, refl) (λ offset info. (refl, keeps role _ is, refl, refl))
+      (λ n o offset info. (refl, keeps role _ is, refl, refl))
   roomed_each Front =
-      numbered_each (Roomed Front) (refl, keeps role _ is, refl, refl) (refl, keeps role _ is, refl, refl)
-      (λ offset info. (refl, keeps role _ is, refl, refl)) (λ n o offset info. (refl, keeps role _ is, refl, refl))
+      numbered_each (Roomed Front) (refl, keeps role _ is, refl, refl)
+      (refl, keeps role _ is, refl, refl) (λ offset info. (refl, keeps role _ is, refl, refl))
+      (λ n o offset info. (refl, keeps role _ is, refl, refl))
   roomed_each (Growth n) =
-      numbered_each (Roomed (Growth n)) (refl, keeps role _ is, refl, refl) (refl, keeps role _ is, refl, refl)
-      (λ offset info. (refl, keeps role _ is, refl, refl)) (λ n o offset info. (refl, keeps role _ is, refl, refl))
+      numbered_each (Roomed (Growth n)) (refl, keeps role _ is, refl, refl)
+      (refl, keeps role _ is, refl, refl) (λ offset info. (refl, keeps role _ is, refl, refl))
+      (λ n o offset info. (refl, keeps role _ is, refl, refl))
   roomed_each (Own n) =
       numbered_each (Roomed (Own n)) (refl, is, refl, refl) (refl, is, refl, refl)
       (λ offset info. (refl, is, refl, refl)) (λ n o offset info. (refl, is, refl, refl))
@@ -502,7 +508,8 @@ module _ {T M K : Type 0} (small : K → PartsView T M) (h : AnyWindow T M K) (w
         × (stand_of (Some (writer_slot v b)) ≡ stand_of (Some s))
         × (found ≡ false → writer_slot v b ≡ s)
     slot-reclaims v found did =
-        let all = reclaims is_sole keeps-sole b w fit writer (room drops first size w k) v found did in
+        let all = reclaims is_sole keeps-sole b w fit writer (room drops first size w k) v found
+        did in
         subst (λ t. Reclaims (room drops first size (row_of s) k) (row_of t)
         (row_of (writer_slot v b)) found
         × (is_numbered b v.place ≡ true) × (is_sole v.role ≡ true)

@@ -151,7 +151,8 @@ shared-rooms drops first size w k there =
 
 -- where no items are written, there is room and nothing else
 pub nothing-beside : {T M : Type 0} (asks : Bool) (x : Room) (w v : PartsView T M)
-    (p q : Pass Whole) (r : Result (Unit {0}) TryReserveError) → MakesSharedRoom asks true x w v p q r
+    (p q : Pass Whole) (r : Result (Unit {0}) TryReserveError)
+    → MakesSharedRoom asks true x w v p q r
     → OnOk r (PushesShared asks true x [] w v p q)
 nothing-beside asks x w v p q (Ok done) made = record {
   between = v;
@@ -182,7 +183,8 @@ module _ {T M : Type 0} (b : Option ℕ) (w : PartsView T M) (fits : is_numbered
           → row_of (writer_slot sole n) ≡ with_more [] (with_room x (as_unique row))
           → row_of (writer_slot shared n) ≡ extended items (with_room x row)
       roomed-as x is =
-          ap (λ (r : Row T M). extended items (as_shared r)) (is ∙ more_none (with_room x (as_unique row)))
+          ap (λ (r : Row T M). extended items (as_shared r))
+          (is ∙ more_none (with_room x (as_unique row)))
           ∙ ap (extended items) (shared-room x row several)
 
       from-sole : (x : Room) → IsSharedRoom x
@@ -195,7 +197,8 @@ module _ {T M : Type 0} (b : Option ℕ) (w : PartsView T M) (fits : is_numbered
       )
       from-sole (Own additional) memory did = absurd memory
       from-sole (Refused e) memory did =
-          let fine : ◌≡◌ {A = Result (Unit {0}) TryReserveError} (Ok tt) (Err e) = did.0 in absurd (cc)
+          let fine : ◌≡◌ {A = Result (Unit {0}) TryReserveError} (Ok tt) (Err e) = did.0 in
+          absurd (cc)
       from-sole Spare memory did = (did.0, roomed-as Spare did.1, did.2, did.3)
       from-sole Behind memory did = (did.0, roomed-as Behind did.1, did.2, did.3)
       from-sole Front memory did = (did.0, roomed-as Front did.1, did.2, did.3)
@@ -218,8 +221,8 @@ module _ {T M : Type 0} (b : Option ℕ) (w : PartsView T M) (fits : is_numbered
           let all = fills b (as_unique w) fits refl false first size k [] before left m q took
           needed refl sole n after (sole, made.makes, sym (more_none sole)) same new in
           let is : v ≡ extended items (as_shared sole) = pushed ∙ ap (extended items) made.shared in
-          subst (λ y. FillsAlone needed items (writer_slot w b) (writer_slot y n) before after (Ok tt)
-          × Fitting y n) (sym is)
+          subst (λ y. FillsAlone needed items (writer_slot w b) (writer_slot y n) before after
+          (Ok tt) × Fitting y n) (sym is)
           (from-sole items sole n before after needed memory all.0, (all.1.0, refl))
 
       -- nothing changed
@@ -241,7 +244,8 @@ module _ {T M : Type 0} (b : Option ℕ) (w : PartsView T M) (fits : is_numbered
       refused : (x : Room) → IsSharedRoom x → (e : TryReserveError) (v : PartsView T M)
           (after : List (Pass Whole)) → MakesRoomBeside true x (as_unique w) v m q (Err e)
           → after ≡ put_back left b q
-          → FillsAlone x items (writer_slot w b) (writer_slot v b) before after (Err e) × Fitting v b
+          → FillsAlone x items (writer_slot w b) (writer_slot v b) before after (Err e)
+          × Fitting v b
       refused (Fresh places) shares e v after made back =
           let did = made.makes in
           let un = still v after (stays v made.sole made.shared did.1) back did.2 in
@@ -288,8 +292,8 @@ module _ {T M : Type 0} (b : Option ℕ) (w : PartsView T M) (fits : is_numbered
 
     module _ (passes : List (Pass Whole)) (p q : Pass Whole)
         (has : HasPassFor passes (stand_at b w.place)) (took : TakenOut passes b p left) where
-      pub fills-beside : (asks : Bool) (v : PartsView T M) (n : Option ℕ) (after : List (Pass Whole))
-          → PushesShared asks true needed items w v p q
+      pub fills-beside : (asks : Bool) (v : PartsView T M) (n : Option ℕ)
+          (after : List (Pass Whole)) → PushesShared asks true needed items w v p q
           → (is_fresh needed ≡ false → (n ≡ b) × (after ≡ put_back left b q))
           → (is_fresh needed ≡ true → (n ≡ Some (length left)) × (after ≡ left ++ q ∷ []))
           → FillsBeside asks needed items (writer_slot w b) (writer_slot v n) passes after (Ok tt)
@@ -458,8 +462,8 @@ module _ {T M K : Type 0} (small : K → PartsView T M) (h : AnyWindow T M K) (w
             let by = subst (λ r. RoomBeside asks r (stand_at b w.place)
             (row_of (writer_slot w b)) (row_of (writer_slot v b)) passes (put_back left b q) answer)
             wants-seen at in
-            subst (λ t. RoomBeside asks wants (stand_of (Some t)) (row_of t) (row_of (writer_slot v b))
-            passes after answer × Fits v b
+            subst (λ t. RoomBeside asks wants (stand_of (Some t)) (row_of t)
+            (row_of (writer_slot v b)) passes after answer × Fits v b
             × (stand_of (Some (writer_slot v b)) ≡ stand_of (Some t))
             × (answer ≡ false → writer_slot v b ≡ t)) beside-seen (
               subst (λ ps. RoomBeside asks wants (stand_at b w.place) (row_of (writer_slot w b))

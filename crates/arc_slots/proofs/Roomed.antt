@@ -1,5 +1,5 @@
--- What is written into the row of one of several writers, as what he is answered: he asks whether he
--- is alone where he has to be, and his row's answer goes by that.
+-- What is written into the row of one of several writers, as what he is answered: he asks whether
+-- he is alone where he has to be, and his row's answer goes by that.
 use Rattle.std.proofs.Common.{◌≡◌, ◌==◌, ◌-◌, ◌&&◌, ◌∷◌, [], ℕ, Bool, true, false, not}
 use Rattle.std.proofs.Common.{if◌then◌else◌}
 use Rattle.std.specs.Prelude.{nat_lt}
@@ -147,8 +147,8 @@ module _ {T M : Type 0} (setting : Setting T) (windows : ℕ) (s : SlotView T M)
 
     names-none : NamesNoOwner needed
     names-none =
-        room_each setting.drops first setting.item_size row k NamesNoOwner tt (λ off places. tt) tt tt tt
-        tt (λ places. tt) (λ block offset info writable is sort. tt)
+        room_each setting.drops first setting.item_size row k NamesNoOwner tt (λ off places. tt) tt tt
+        tt tt (λ places. tt) (λ block offset info writable is sort. tt)
 
   -- ---- what is written
 
@@ -186,7 +186,8 @@ module _ {T M : Type 0} (setting : Setting T) (windows : ℕ) (s : SlotView T M)
         → HasRefused here here None passes passes' (asks_alone row (additional_of what)) e
         → RowAdds here here None passes passes' setting row (write_command i what) (reply.Reserve e)
     refused-adds (writing.Nothing additional) e passes' refused =
-        subst (λ a. HasRefused here here None passes passes' a e) (sym (first-is additional)) refused
+        subst (λ a. HasRefused here here None passes passes' a e) (sym (first-is additional))
+        refused
     refused-adds (writing.Item item) e passes' refused =
         subst (λ a. HasRefused here here None passes passes' a e) (sym (first-is 1)) refused
     refused-adds (writing.Items items) e passes' refused =
@@ -240,7 +241,8 @@ module _ {T M : Type 0} (setting : Setting T) (windows : ℕ) (s : SlotView T M)
         blocks = ap length did.2 ∙ clear.many;
         adds =
             made-adds what (stand_of (Some new)) passes'
-            (made-at (asks_alone row k) between passes' (stand_of (Some new)) clear.adds did.1 did.2);
+            (made-at (asks_alone row k) between passes' (stand_of (Some new)) clear.adds did.1
+            did.2);
       }
 
       -- a first block's, where nobody was asked
@@ -388,8 +390,8 @@ module _ {T M : Type 0} (setting : Setting T) (windows : ℕ) (s : SlotView T M)
             by true asks did = wrote-if asks did.1 did.0 did.2 new passes' did.3
             by false asks did =
                 wrote-alone passes (unasked k asks) (needed k) refl new passes'
-                (λ places fresh begun. began asks places (sym fresh) (on-none (ap is_fresh fresh)) new
-                passes' begun) did
+                (λ places fresh begun. began asks places (sym fresh) (on-none (ap is_fresh fresh))
+                new passes' begun) did
 
         unwrote-if : asks_alone row k ≡ true → (between : List (Pass Whole)) (found : Bool)
             → AsksAt here passes between found → (e : TryReserveError) (new : SlotView T M)
@@ -415,7 +417,8 @@ module _ {T M : Type 0} (setting : Setting T) (windows : ℕ) (s : SlotView T M)
                 → Said (reply.Reserve e) new passes'
             by true asks did = unwrote-if asks did.1 did.0 did.2 e new passes' did.3
             by false asks did =
-                unwrote-alone passes (unasked k asks) (needed k) refl (names-none k) e new passes' did
+                unwrote-alone passes (unasked k asks) (needed k) refl (names-none k) e new passes'
+                did
 
       -- memory for a first block's pass was refused
       pub no-pass-beside : is_fresh (needed k) ≡ true

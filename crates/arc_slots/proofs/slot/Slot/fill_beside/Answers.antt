@@ -23,7 +23,8 @@ use Rattle.arc_slots.proofs.slot.Slot.fill_beside.Goals as goal
 
 abbrev setting : (g : Over) → Setting g.row.S-Item.Denot
 setting g =
-    setting_of (layout_facts g.L.Layout) g.L.Writable.Layout.ANY g.L.Layout.clone_wants g.S.Slice.DROPS g.S.Subsliceable.boundary
+    setting_of (layout_facts g.L.Layout) g.L.Writable.Layout.ANY g.L.Layout.clone_wants
+    g.S.Slice.DROPS g.S.Subsliceable.boundary
     (type_size g.row.S-Item) g.S.Zero.ZeroOf.zero g.S.Calls.CallsOf.calls
 
 abbrev first : Over → ℕ
@@ -77,7 +78,8 @@ returns g c next i =
     let can = sym c.may_write.ensures ∙ c.if-not-may_write.false in
     let has = subst (λ ps. HasPassFor ps (stand_of (Some s))) (sym c.reserve_for.ensures.items)
     c.requires.pass in
-    subst (λ ps. Answers (setting g) next (write_command i what) s ps reply.Ok (Some new) None after)
+    subst (λ ps. Answers (setting g) next (write_command i what) s ps reply.Ok (Some new) None
+    after)
     c.reserve_for.ensures.items
     (wrote-beside (setting g) next s mid c.requires.role i what can c.known_undropped.ensures has
     (fresh-stands g.S.Slice.DROPS (first g) (type_size g.row.S-Item) s k) new after
