@@ -147,8 +147,8 @@ module _ {T M : Type 0} (setting : Setting T) (windows : ℕ) (s : SlotView T M)
 
     names-none : NamesNoOwner needed
     names-none =
-        room_each setting.drops first setting.item_size row k NamesNoOwner tt (λ off places. tt) tt tt
-        tt tt (λ places. tt) (λ block offset info writable is sort. tt)
+        room_each setting.drops first setting.item_size row k NamesNoOwner tt (λ off places. tt) tt
+        tt tt tt (λ places. tt) (λ block offset info writable is sort. tt)
 
   -- ---- what is written
 
