@@ -12,7 +12,7 @@ use Rattle.arc_owners.specs.declared.error.TryReserveError.{TryReserveError}
 use Rattle.arc_owners.specs.declared.error.TryReserveError.TheVariants.{NotUnique}
 use Rattle.arc_owners.specs.count.Calls.{Owner, Asks, IsPassOfNone}
 use Rattle.arc_block.specs.Block.{BlockInfo, IsMemory, buffer}
-use Rattle.arc_block.specs.Place.{Place, nowhere, static_data, on_block}
+use Rattle.arc_block.specs.Place.{Place, on_block}
 use Rattle.arc_block.specs.Shared.{AsksAlone, IsSharedPlace, MakesRoomBeside, MakesRoomIf}
 use Rattle.arc_block.specs.Shared.{MakesSharedRoom, PushesShared, ReclaimsIf, ReclaimsShared}
 use Rattle.arc_block.specs.Shared.{as_shared, as_unique, asks_alone, extended, is_on_block}
@@ -37,7 +37,7 @@ use Rattle.arc_slots.specs.Writing.{Fills, IsUnchanged, is_fresh}
 use Rattle.arc_slots.specs.declared.window.Held.TheVariants.{Several}
 use Rattle.arc_slots.proofs.Filled.{fills, keeps-several, none-fresh, numbered_each, reclaims}
 use Rattle.arc_slots.proofs.Filled.{room-same, room_each, unchanged}
-use Rattle.arc_slots.proofs.Slots.{along, has-number, still-number, window-pass}
+use Rattle.arc_slots.proofs.Slots.{along, still-number, window-pass}
 use Rattle.arc_slots.proofs.Taken.{back-same, set-twice}
 
 -- where a window stands, by its owner
@@ -370,10 +370,7 @@ module _ {T M K : Type 0} (small : K → PartsView T M) (h : AnyWindow T M K) (w
     pub beside-has : HasPassFor passes (stand_at b w.place)
     beside-has = subst (λ t. HasPassFor passes (stand_of (Some t))) (sym beside-seen) has
 
-    -- there is a pass with the block's number, also where it was taken out
-    pub beside-number : HasNumber passes b
-    beside-number = has-number passes b w.place fit beside-has
-
+    -- there is a pass with the block's number, where it was taken out
     pub beside-left : (left : List (Pass Whole)) (p : Pass Whole) → TakenOut passes b p left
         → HasNumber left b
     beside-left left p took = still-number passes left p b w.place fit beside-has took

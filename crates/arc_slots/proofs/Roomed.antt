@@ -3,7 +3,7 @@
 use Rattle.std.proofs.Common.{◌≡◌, ◌==◌, ◌-◌, ◌&&◌, ◌∷◌, [], ℕ, Bool, true, false, not}
 use Rattle.std.proofs.Common.{if◌then◌else◌}
 use Rattle.std.specs.Prelude.{nat_lt}
-use Rattle.std.proofs.Common.{List, length, Option, Some, None, Result, Ok, Err, refl, sym, ap}
+use Rattle.std.proofs.Common.{List, length, Some, None, Result, Ok, Err, refl, sym, ap}
 use Rattle.std.proofs.Common.{◌∙◌, subst}
 use Rattle.std.proofs.lemmas.Bool.{and_parts, false≢true}
 use Rattle.std.proofs.lemmas.Option.{none-some}
@@ -40,7 +40,7 @@ use Rattle.arc_slots.specs.Writing.{write_command}
 use Rattle.arc_slots.specs.declared.slot.Writing.{Writing}
 use Rattle.arc_slots.specs.declared.slot.Writing.TheVariants as writing
 use Rattle.arc_slots.proofs.Added.{asked-comes, enters-along}
-use Rattle.arc_slots.proofs.Answered.{begins-as, for-role, not-for, refused-same, same, stays-there}
+use Rattle.arc_slots.proofs.Answered.{begins-as, for-role, refused-same, stays-there}
 use Rattle.arc_slots.proofs.Filled.{room_each}
 use Rattle.arc_slots.proofs.Reclaimed.{no-as, yes-as}
 use Rattle.arc_slots.proofs.Told.{alone-told, many_along}
@@ -171,19 +171,6 @@ module _ {T M : Type 0} (setting : Setting T) (windows : ℕ) (s : SlotView T M)
     write-is (writing.Items items) can short =
         for-role setting windows s passes short (command.Ext i items)
         (several-for (command.Ext i items) true (λ n. can)) ∙ written-as short items (length items)
-
-    -- the kind lacks the call
-    pub beside-kind : (what : Writing (List T) T) → can_write setting.calls what ≡ false
-        → Answers setting windows (write_command i what) s passes reply.Kind (Some s) None passes
-    beside-kind (writing.Nothing additional) cannot = absurd (false≢true (sym cannot))
-    beside-kind (writing.Item item) cannot =
-        same setting windows s passes (command.Push i item) reply.Kind
-        (not-for setting windows s passes no_shortage (command.Push i item)
-        (several-for (command.Push i item) false (λ n. cannot))) (refl, refl, refl)
-    beside-kind (writing.Items items) cannot =
-        same setting windows s passes (command.Ext i items) reply.Kind
-        (not-for setting windows s passes no_shortage (command.Ext i items)
-        (several-for (command.Ext i items) false (λ n. cannot))) (refl, refl, refl)
 
     made-adds : (what : Writing (List T) T) (there : Stand) (passes' : List (Pass Whole))
         → HasMade here there None passes passes' (asks_alone row (additional_of what))

@@ -1,3 +1,4 @@
+-- What is written is answered as the row answers it, by what the window says.
 use Rattle.arc_block.specs.LayoutFacts.{layout_facts}
 use Rattle.std.specs.Mem.{type_size}
 use Rattle.arc_block.specs.Shared.{asks_alone}
@@ -16,7 +17,7 @@ use Rattle.arc_slots.specs.Stands.{HasPassFor}
 use Rattle.arc_slots.specs.Writing.{additional_of, is_fresh, items_of, seen_writing}
 use Rattle.arc_slots.specs.Writing.{write_command}
 use Rattle.arc_slots.proofs.Filled.{fresh-stands}
-use Rattle.arc_slots.proofs.Roomed.{beside-kind, no-pass-beside, unwrote-beside, wrote-beside}
+use Rattle.arc_slots.proofs.Roomed.{no-pass-beside, unwrote-beside, wrote-beside}
 use Rattle.arc_slots.proofs.slot.Slot.fill_beside.Given.{Over}
 use Rattle.arc_slots.proofs.slot.Slot.fill_beside.Goals as goal
 

@@ -24,6 +24,6 @@ returns g c next i =
     no-room-beside (setting g) next c.args.self.now c.args.passes.now.of_blocks.items
     c.requires.role i c.args.additional c.requires.pass c.known_undropped.ensures
     c.try_reclaim_beside.new.self
-    (c.try_reclaim_beside.ensures.kept c.if-not-try_reclaim_beside.false)
+    (c.try_reclaim_beside.ensures.kept c.if-try_reclaim_beside.false)
     c.try_reclaim_beside.new.passes.of_blocks.items c.try_reclaim_beside.result
-    c.if-not-try_reclaim_beside.false c.try_reclaim_beside.ensures.row
+    c.if-try_reclaim_beside.false c.try_reclaim_beside.ensures.row

@@ -12,14 +12,14 @@ first g = if type_size g.row.S-Item == 1 then 8 else 4
 pub give_back-requires : goal.give_back-requires
 give_back-requires g c =
     beside-left g.S.Small.SmallOf.seen c.self.inside.window c.in-Several.window
-    c.self.inside.block c.in-Several.is c.args.self.now c.self.view_is g.S.SHARES c.self.invariant
+    c.self.inside.block c.in-Several.is c.args.self.now c.self.view_is g.S.TableKind.SHARES c.self.invariant
     c.args.passes.now.of_blocks.items c.requires.pass c.lend-pass.new.self.of_blocks.items
     c.lend-pass.result c.lend-pass.ensures.taken
 
 pub invariant_of-self : goal.invariant_of-self
 invariant_of-self g c =
     (slot-reclaims-beside g.S.Small.SmallOf.seen c.self.inside.window c.in-Several.window
-    c.self.inside.block c.in-Several.is c.args.self.now c.self.view_is g.S.SHARES c.self.invariant
+    c.self.inside.block c.in-Several.is c.args.self.now c.self.view_is g.S.TableKind.SHARES c.self.invariant
     false refl (first g) (type_size g.row.S-Item) c.args.additional
     c.args.passes.now.of_blocks.items c.lend-pass.new.self.of_blocks.items c.lend-pass.result
     c.try_reclaim_as-found.new.pass c.lend-pass.ensures.taken c.requires.pass
@@ -29,7 +29,7 @@ invariant_of-self g c =
 pub returns-clause-row : goal.returns-clause-row
 returns-clause-row g c =
     (slot-reclaims-beside g.S.Small.SmallOf.seen c.self.inside.window c.in-Several.window
-    c.self.inside.block c.in-Several.is c.args.self.now c.self.view_is g.S.SHARES c.self.invariant
+    c.self.inside.block c.in-Several.is c.args.self.now c.self.view_is g.S.TableKind.SHARES c.self.invariant
     false refl (first g) (type_size g.row.S-Item) c.args.additional
     c.args.passes.now.of_blocks.items c.lend-pass.new.self.of_blocks.items c.lend-pass.result
     c.try_reclaim_as-found.new.pass c.lend-pass.ensures.taken c.requires.pass
@@ -39,7 +39,7 @@ returns-clause-row g c =
 pub returns-clause-kept : goal.returns-clause-kept
 returns-clause-kept g c =
     (slot-reclaims-beside g.S.Small.SmallOf.seen c.self.inside.window c.in-Several.window
-    c.self.inside.block c.in-Several.is c.args.self.now c.self.view_is g.S.SHARES c.self.invariant
+    c.self.inside.block c.in-Several.is c.args.self.now c.self.view_is g.S.TableKind.SHARES c.self.invariant
     false refl (first g) (type_size g.row.S-Item) c.args.additional
     c.args.passes.now.of_blocks.items c.lend-pass.new.self.of_blocks.items c.lend-pass.result
     c.try_reclaim_as-found.new.pass c.lend-pass.ensures.taken c.requires.pass
@@ -50,7 +50,7 @@ returns-clause-kept g c =
 pub returns-clause-stand : goal.returns-clause-stand
 returns-clause-stand g c =
     (slot-reclaims-beside g.S.Small.SmallOf.seen c.self.inside.window c.in-Several.window
-    c.self.inside.block c.in-Several.is c.args.self.now c.self.view_is g.S.SHARES c.self.invariant
+    c.self.inside.block c.in-Several.is c.args.self.now c.self.view_is g.S.TableKind.SHARES c.self.invariant
     false refl (first g) (type_size g.row.S-Item) c.args.additional
     c.args.passes.now.of_blocks.items c.lend-pass.new.self.of_blocks.items c.lend-pass.result
     c.try_reclaim_as-found.new.pass c.lend-pass.ensures.taken c.requires.pass

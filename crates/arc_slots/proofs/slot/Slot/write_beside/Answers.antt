@@ -17,14 +17,14 @@ first g = if type_size g.row.S-Item == 1 then 8 else 4
 pub keep-self-inside-requires-clause-number : goal.keep-self-inside-requires-clause-number
 keep-self-inside-requires-clause-number g c =
     beside-left g.S.Small.SmallOf.seen c.self.inside.window c.in-Several.window
-    c.self.inside.block c.in-Several.is c.args.self.now c.self.view_is g.S.SHARES c.self.invariant
+    c.self.inside.block c.in-Several.is c.args.self.now c.self.view_is g.S.TableKind.SHARES c.self.invariant
     c.args.passes.now.of_blocks.items c.requires.pass c.lend-pass.new.self.of_blocks.items
     c.lend-pass.result c.lend-pass.ensures.taken
 
 pub give_back-requires : goal.give_back-requires
 give_back-requires g c =
     beside-left g.S.Small.SmallOf.seen c.self.inside.window c.in-Several.window
-    c.self.inside.block c.in-Several.is c.args.self.now c.self.view_is g.S.SHARES c.self.invariant
+    c.self.inside.block c.in-Several.is c.args.self.now c.self.view_is g.S.TableKind.SHARES c.self.invariant
     c.args.passes.now.of_blocks.items c.requires.pass c.lend-pass.new.self.of_blocks.items
     c.lend-pass.result c.lend-pass.ensures.taken
 
@@ -42,7 +42,7 @@ keep-self-inside-requires-clause-room g c begins =
     let wants = c.wants_block-begins.ensures ∙ fresh-is g
     (goal.at.keep-self-inside-requires-clause-room g c).After-additional in
     beside-room g.S.Small.SmallOf.seen c.self.inside.window c.in-Several.window
-    c.self.inside.block c.in-Several.is c.args.self.now c.self.view_is g.S.SHARES c.self.invariant
+    c.self.inside.block c.in-Several.is c.args.self.now c.self.view_is g.S.TableKind.SHARES c.self.invariant
     g.S.Slice.DROPS c.known_undropped.ensures (first g) (type_size g.row.S-Item)
     (additional_of (seen_writing c.args.what)) c.args.passes.now.of_blocks.items
     c.lend-pass.new.self.of_blocks.items c.lend-pass.result c.write_beside_as.new.pass
@@ -55,7 +55,7 @@ invariant_of-self g c =
     let wants = c.wants_block-begins.ensures ∙ fresh-is g
     (goal.at.invariant_of-self g c).After-additional in
     (slot-fills-beside g.S.Small.SmallOf.seen c.self.inside.window c.in-Several.window
-    c.self.inside.block c.in-Several.is c.args.self.now c.self.view_is g.S.SHARES c.self.invariant
+    c.self.inside.block c.in-Several.is c.args.self.now c.self.view_is g.S.TableKind.SHARES c.self.invariant
     g.S.Slice.DROPS c.known_undropped.ensures (first g) (type_size g.row.S-Item)
     (additional_of (seen_writing c.args.what)) c.args.passes.now.of_blocks.items
     c.lend-pass.new.self.of_blocks.items c.lend-pass.result c.write_beside_as.new.pass
@@ -70,7 +70,7 @@ returns-in-Ok g c =
     let wants = c.wants_block-begins.ensures ∙ fresh-is g
     (goal.at.returns-in-Ok g c).After-additional in
     (slot-fills-beside g.S.Small.SmallOf.seen c.self.inside.window c.in-Several.window
-    c.self.inside.block c.in-Several.is c.args.self.now c.self.view_is g.S.SHARES c.self.invariant
+    c.self.inside.block c.in-Several.is c.args.self.now c.self.view_is g.S.TableKind.SHARES c.self.invariant
     g.S.Slice.DROPS c.known_undropped.ensures (first g) (type_size g.row.S-Item)
     (additional_of (seen_writing c.args.what)) c.args.passes.now.of_blocks.items
     c.lend-pass.new.self.of_blocks.items c.lend-pass.result c.write_beside_as.new.pass
@@ -83,7 +83,7 @@ returns-in-Ok g c =
 pub invariant_of-self-in-Err : goal.invariant_of-self-in-Err
 invariant_of-self-in-Err g c =
     (slot-unfills-beside g.S.Small.SmallOf.seen c.self.inside.window c.in-Several.window
-    c.self.inside.block c.in-Several.is c.args.self.now c.self.view_is g.S.SHARES c.self.invariant
+    c.self.inside.block c.in-Several.is c.args.self.now c.self.view_is g.S.TableKind.SHARES c.self.invariant
     g.S.Slice.DROPS c.known_undropped.ensures (first g) (type_size g.row.S-Item)
     (additional_of (seen_writing c.args.what)) c.args.passes.now.of_blocks.items
     c.lend-pass.new.self.of_blocks.items c.lend-pass.result c.write_beside_as.new.pass
@@ -94,7 +94,7 @@ invariant_of-self-in-Err g c =
 pub returns-in-Err : goal.returns-in-Err
 returns-in-Err g c =
     (slot-unfills-beside g.S.Small.SmallOf.seen c.self.inside.window c.in-Several.window
-    c.self.inside.block c.in-Several.is c.args.self.now c.self.view_is g.S.SHARES c.self.invariant
+    c.self.inside.block c.in-Several.is c.args.self.now c.self.view_is g.S.TableKind.SHARES c.self.invariant
     g.S.Slice.DROPS c.known_undropped.ensures (first g) (type_size g.row.S-Item)
     (additional_of (seen_writing c.args.what)) c.args.passes.now.of_blocks.items
     c.lend-pass.new.self.of_blocks.items c.lend-pass.result c.write_beside_as.new.pass
