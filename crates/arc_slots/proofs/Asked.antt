@@ -338,7 +338,7 @@ module _ {T M : Type 0} (setting : Setting T) (windows : ℕ) (s : SlotView T M)
           ≡ (if found then is_now reply.Ok (as_unique row) else is_now reply.Refused row)
       unique-is i found is =
           for-role setting windows s passes no_shortage (command.Unique i)
-          (several_each (λ role. is_allowed setting.calls (command.Unique i) role ≡ true)
+          (several_each (λ role. is_allowed {T = T} {M = M} setting.calls (command.Unique i) role ≡ true)
           (λ places. shares) s.role several)
           ∙ ap (λ b. if b then is_now reply.Ok (as_unique row) else is_now reply.Refused row) is
 
@@ -587,7 +587,7 @@ module _ {T M : Type 0} (setting : Setting T) (windows : ℕ) (s : SlotView T M)
   beside-for : (i : ℕ) → is_several s.role ≡ true
       → is_allowed setting.calls (takes i taking.Vector) s.role ≡ true
   beside-for i several =
-      several_each (λ role. is_allowed setting.calls (takes i taking.Vector) role ≡ true)
+      several_each (λ role. is_allowed {T = T} {M = M} setting.calls (takes i taking.Vector) role ≡ true)
       (λ places. refl) s.role several
 
   pub took-shared : HasPassFor passes here → is_several s.role ≡ true → (i : ℕ)
@@ -611,7 +611,7 @@ module _ {T M : Type 0} (setting : Setting T) (windows : ℕ) (s : SlotView T M)
   take-none i what several none adds =
       same setting windows s passes (takes i what) reply.Kind
       (not-for setting windows s passes no_shortage (takes i what)
-      (several_each (λ role. is_allowed setting.calls (takes i what) role ≡ false) none s.role
+      (several_each (λ role. is_allowed {T = T} {M = M} setting.calls (takes i what) role ≡ false) none s.role
       several)) adds
 
   pub box-kind : (i : ℕ) → is_several s.role ≡ true

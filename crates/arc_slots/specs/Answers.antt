@@ -55,22 +55,23 @@ pub record Answers {T M : Type 0} (setting : Setting T) (windows : ℕ) (c : Lis
   pub adds : RowAdds (stand_of (Some old)) (stand_of new)
       (option_map (λ s. stand_of (Some s)) made) before after setting (row_of old) c r
 
--- Two slots' windows were to be joined, and this was said: they were, and the other has gone, whose
--- owner ended; or they weren't, and nothing changed.
-abbrev pub JoinAnswers : {T M H : Type 0} → Calls → (i j : ℕ) → (old other : SlotView T M)
-    → (before : List (Pass H)) → ListReply T M → (new gone : Option (SlotView T M))
-    → (after : List (Pass H)) → Type 0
-JoinAnswers calls i j old other before reply.Ok new gone after =
-    (whole : SlotView T M)
-    × (is_for_both calls (command.Join i j) i j (row_of old) (row_of other) ≡ true)
-    × (join_answer (row_of old) (row_of other) ≡ (reply.Ok, Some (row_of whole)))
-    × (new ≡ Some whole) × (gone ≡ None) × (stand_of (Some whole) ≡ stand_of (Some old))
-    × Along (stand_of (Some other)) before after (λ o p q. (last : Bool) × Leaves o p q last)
-JoinAnswers calls i j old other before reply.Refused new gone after =
-    (is_for_both calls (command.Join i j) i j (row_of old) (row_of other) ≡ true)
-    × (join_answer (row_of old) (row_of other) ≡ (reply.Refused, None))
-    × (new ≡ Some old) × (gone ≡ Some other) × (after ≡ before)
-JoinAnswers calls i j old other before reply.Kind new gone after =
-    (is_for_both calls (command.Join i j) i j (row_of old) (row_of other) ≡ false)
-    × (new ≡ Some old) × (gone ≡ Some other) × (after ≡ before)
-JoinAnswers calls i j old other before reply new gone after = ⊥
+module _ {T M H : Type 0} where
+  -- Two slots' windows were to be joined, and this was said: they were, and the other has gone, whose
+  -- owner ended; or they weren't, and nothing changed.
+  abbrev pub JoinAnswers : Calls → (i j : ℕ) → (old other : SlotView T M)
+      → (before : List (Pass H)) → ListReply T M → (new its : Option (SlotView T M))
+      → (after : List (Pass H)) → Type 0
+  JoinAnswers calls i j old other before reply.Ok new its after =
+      (whole : SlotView T M)
+      × (is_for_both calls (command.Join i j) i j (row_of old) (row_of other) ≡ true)
+      × (join_answer (row_of old) (row_of other) ≡ (reply.Ok, Some (row_of whole)))
+      × (new ≡ Some whole) × (its ≡ None) × (stand_of (Some whole) ≡ stand_of (Some old))
+      × Along (stand_of (Some other)) before after (λ o p q. (last : Bool) × Leaves o p q last)
+  JoinAnswers calls i j old other before reply.Refused new its after =
+      (is_for_both calls (command.Join i j) i j (row_of old) (row_of other) ≡ true)
+      × (join_answer (row_of old) (row_of other) ≡ (reply.Refused, None))
+      × (new ≡ Some old) × (its ≡ Some other) × (after ≡ before)
+  JoinAnswers calls i j old other before reply.Kind new its after =
+      (is_for_both calls (command.Join i j) i j (row_of old) (row_of other) ≡ false)
+      × (new ≡ Some old) × (its ≡ Some other) × (after ≡ before)
+  JoinAnswers calls i j old other before reply new its after = ⊥

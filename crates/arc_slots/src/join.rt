@@ -125,16 +125,15 @@ where
         let mut pass = passes.lend(block);
         let joined = S::Calls::try_unsplit_as(window, &mut back, &mut pass);
         passes.give_back(block, pass);
-        match joined {
-            Some(()) => Ok(()),
-            None => match back {
-                Some(window) => Err(Slot {
-                    window: Held::Several(window),
-                    block: its_block,
-                }),
-                None => unreachable!(),
-            },
+        if let Some(()) = joined {
+            let None = back else { unreachable!() };
+            return Ok(());
         }
+        let Some(window) = back else { unreachable!() };
+        Err(Slot {
+            window: Held::Several(window),
+            block: its_block,
+        })
     }
 
     /// Joins the window with the other one, if both are of several writers: then that is gone.

@@ -272,16 +272,13 @@ where
         };
         window.known_place();
         let mut sole = Some(window);
-        match S::Calls::into_shared(&mut sole) {
-            Some(window) => {
-                window.known_kind();
-                Ok(Slot::written_beside(window, block))
-            }
-            None => match sole {
-                Some(window) => Err(Slot::written(window, block)),
-                None => unreachable!(),
-            },
+        if let Some(window) = S::Calls::into_shared(&mut sole) {
+            let None = sole else { unreachable!() };
+            window.known_kind();
+            return Ok(Slot::written_beside(window, block));
         }
+        let Some(window) = sole else { unreachable!() };
+        Err(Slot::written(window, block))
     }
 
     /// Moves the window, which is one of several on a vector, to a native block with as many

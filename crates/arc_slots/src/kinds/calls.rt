@@ -1,6 +1,6 @@
 //! The calls that not all kinds have, and which kind has which.
 ghost use Rattle.std.specs.Prelude.{◌≡◌, ◌≤◌, ◌∷◌, [], Err, true, false, length, is_some, refl};
-ghost use Rattle.std.specs.Prelude.{IfNone, IfSome};
+ghost use Rattle.std.specs.Prelude.{IfNone, IfSome, None};
 ghost use Rattle.std.specs.Prelude.{IfOk, IfErr, OnErr, OnOk};
 ghost use Rattle.std.specs.Mem.{FitsInMemory, type_size};
 ghost use Rattle.std.specs.Str.{IsUtf8};
@@ -197,6 +197,7 @@ pub trait CallsOf<S: Subsliceable> {
         requires call { calls.shares ≡ true }
         ensures shared { IfSome result (λ window. IfSome sole.old (λ w.
             (window ≡ as_shared w) × (¬ IsOfBuffer w.place))) }
+        ensures taken { IfSome result (λ _. sole.new ≡ None) }
         ensures kept { IfNone result (sole.new ≡ sole.old) }
         ensures refused { IfNone result (IfSome sole.old (λ w. IsOfBuffer w.place)) };
 
@@ -301,6 +302,7 @@ pub trait CallsOf<S: Subsliceable> {
         ensures joined { IfSome result (λ _. IfSome other.old (λ w.
             (can_join window.old w ≡ true) × (window.new ≡ joined_row window.old w)
             × LeavesAt w.place pass.old pass.new)) }
+        ensures taken { IfSome result (λ _. other.new ≡ None) }
         ensures kept { IfNone result ((window.new ≡ window.old) × (other.new ≡ other.old)
             × (pass.new ≡ pass.old)) }
         ensures refused { IfNone result (IfSome other.old (λ w.

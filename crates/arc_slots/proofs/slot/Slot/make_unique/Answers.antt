@@ -19,7 +19,7 @@ setting g =
 pub returns-then-not-is_several : goal.returns-then-not-is_several
 returns-then-not-is_several g c next i =
     unique-kind (setting g) next c.args.self c.args.passes.now.of_blocks.items i
-    c.known_role.ensures (sym c.is_several.ensures.answer ∙ c.if-is_several.false)
+    c.known_role.ensures (sym c.is_several.ensures.answer ∙ c.if-not-is_several.true)
 
 pub returns-in-Ok : goal.returns-in-Ok
 returns-in-Ok g c next i =

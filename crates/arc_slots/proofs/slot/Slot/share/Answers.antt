@@ -19,12 +19,12 @@ setting g =
 pub returns-then-not-is_written : goal.returns-then-not-is_written
 returns-then-not-is_written g c next i =
     share-kind (setting g) next c.args.self c.args.passes.now.of_blocks.items i
-    c.known_role.ensures (sym c.is_written.ensures.answer ∙ c.if-is_written.false)
+    c.known_role.ensures (sym c.is_written.ensures.answer ∙ c.if-not-is_written.true)
 
 pub returns-then-not-shares : goal.returns-then-not-shares
 returns-then-not-shares g c next i =
     share-none (setting g) next c.args.self c.args.passes.now.of_blocks.items i
-    c.known_role.ensures (sym c.shares.ensures ∙ c.if-shares.false)
+    c.known_role.ensures (sym c.shares.ensures ∙ c.if-not-shares.true)
 
 pub returns-in-Ok : goal.returns-in-Ok
 returns-in-Ok g c next i =

@@ -9,12 +9,15 @@ use Rattle.arc_slots.proofs.Shared.{unique-row}
 use Rattle.arc_slots.proofs.slot.Slot.try_into_unique.Given.{Over}
 use Rattle.arc_slots.proofs.slot.Slot.try_into_unique.Goals as goal
 
-pub try_into_unique_as-made-requires-clause-pass : goal.try_into_unique_as-made-requires-clause-pass
-try_into_unique_as-made-requires-clause-pass g c =
-    beside-pass g.S.Small.SmallOf.seen c.self.inside.window c.in-Several.window
-    c.self.inside.block c.in-Several.is c.args.self c.self.view_is g.S.TableKind.SHARES
-    c.self.invariant c.args.passes.now.of_blocks.items c.requires.pass
-    c.lend-pass.new.self.of_blocks.items c.lend-pass.result c.lend-pass.ensures.taken
+pub try_into_unique_as-made-requires : goal.try_into_unique_as-made-requires
+try_into_unique_as-made-requires g c =
+    record {
+      pass =
+          beside-pass g.S.Small.SmallOf.seen c.self.inside.window c.in-Several.window
+          c.self.inside.block c.in-Several.is c.args.self c.self.view_is g.S.TableKind.SHARES
+          c.self.invariant c.args.passes.now.of_blocks.items c.requires.pass
+          c.lend-pass.new.self.of_blocks.items c.lend-pass.result c.lend-pass.ensures.taken;
+    }
 
 pub give_back-requires : goal.give_back-requires
 give_back-requires g c =

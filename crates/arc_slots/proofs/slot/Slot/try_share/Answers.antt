@@ -1,5 +1,7 @@
 -- The window stands where it stood, as one of several.
-use Rattle.std.proofs.Common.{◌≡◌, sym, ap, ◌∙◌}
+use Rattle.std.proofs.Common.{◌≡◌, Option, sym, ap, ◌∙◌, subst}
+use Rattle.std.specs.Prelude.{IfNone}
+use Rattle.arc_block.specs.Window.{IsOfBuffer, PartsView}
 use Rattle.arc_slots.specs.Slots.{SlotView, row_of, stand_of, writer_slot}
 use Rattle.arc_slots.specs.Stands.{is_numbered}
 use Rattle.arc_slots.proofs.Filled.{writes-fits, writes-view}
@@ -27,12 +29,14 @@ returns-in-Some-clause-may g c =
     (writes-fits g.S.Small.SmallOf.seen h w b c.in-Write.is c.self.invariant.0)
     g.S.Slice.DROPS c.known_kind.ensures c.known_place.ensures c.in-Some.ensures.shared.1
 
-pub returns-in-Some-clause-may_not : goal.returns-in-Some-clause-may_not
-returns-in-Some-clause-may_not g c =
+pub returns-clause-may_not : goal.returns-clause-may_not
+returns-clause-may_not g c =
     let b = c.self.inside.block in
     let w = c.in-Write.window in
     let h = c.self.inside.window in
     may-not-share w b c.args.self
     (sym (writes-view g.S.Small.SmallOf.seen h w b c.in-Write.is) ∙ c.self.view_is)
     (writes-fits g.S.Small.SmallOf.seen h w b c.in-Write.is c.self.invariant.0)
-    g.S.Slice.DROPS c.in-None.ensures.refused
+    g.S.Slice.DROPS
+    (subst (λ (r : Option (PartsView g.row.S-Item.Denot g.row.M.Denot)).
+    IfNone r (IsOfBuffer w.place)) c.in_default-into_shared.is c.into_shared.ensures.refused)

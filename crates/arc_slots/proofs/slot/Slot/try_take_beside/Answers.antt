@@ -35,13 +35,16 @@ fits g c =
     (beside-fits g.S.Small.SmallOf.seen c.self.inside.window c.in-Several.window
     c.self.inside.block c.in-Several.is c.self.invariant.0)
 
-pub try_into_vec_as-taken-requires-clause-pass : goal.try_into_vec_as-taken-requires-clause-pass
-try_into_vec_as-taken-requires-clause-pass g c =
-    let a = (goal.at.try_into_vec_as-taken-requires-clause-pass g c).After-into_shared_parts in
-    parts-pass c.self.inside.block c.args.self c.in-Several.window.role
-    c.into_shared_parts.result (seen g a) (fits g a)
-    c.args.passes.now.of_blocks.items c.lend-pass.new.self.of_blocks.items c.lend-pass.result
-    c.requires.pass c.lend-pass.ensures.taken
+pub try_into_vec_as-taken-requires : goal.try_into_vec_as-taken-requires
+try_into_vec_as-taken-requires g c =
+    let a = (goal.at.try_into_vec_as-taken-requires g c).After-into_shared_parts in
+    record {
+      pass =
+          parts-pass c.self.inside.block c.args.self c.in-Several.window.role
+          c.into_shared_parts.result (seen g a) (fits g a)
+          c.args.passes.now.of_blocks.items c.lend-pass.new.self.of_blocks.items c.lend-pass.result
+          c.requires.pass c.lend-pass.ensures.taken;
+    }
 
 pub give_back-requires : goal.give_back-requires
 give_back-requires g c =
