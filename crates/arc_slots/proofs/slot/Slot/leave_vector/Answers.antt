@@ -1,0 +1,84 @@
+-- The pass of the vector comes back to its place, and that of the new block behind the others.
+use Rattle.std.proofs.Common.{◌∙◌, ◌<◌, length, refl, sym, subst}
+use Rattle.std.specs.Vec.{vec_capacity}
+use Rattle.arc_slots.specs.Stands.{HasNumber}
+use Rattle.arc_slots.proofs.Parted.{left-many, moved-by-number, moved-row, moved-several, moved-to}
+use Rattle.arc_slots.proofs.Parted.{shared-kind, shared-role, shared-still, shared-vector}
+use Rattle.arc_slots.proofs.Parted.{still-more}
+use Rattle.arc_slots.proofs.slot.Slot.leave_vector.Goals as goal
+
+pub try_leave_vector_as-requires-clause-vector : goal.try_leave_vector_as-requires-clause-vector
+try_leave_vector_as-requires-clause-vector g c =
+    shared-vector g.S.Small.SmallOf.seen c.self.inside.window c.in-Several.window
+    c.self.inside.block c.in-Several.is c.args.self.now c.self.view_is c.self.invariant.0
+    ∙ c.requires.vector
+
+pub keep-self-inside-requires-clause-room : goal.keep-self-inside-requires-clause-room
+keep-self-inside-requires-clause-room g c begins =
+    subst (λ m. length c.lend-pass.new.self.of_blocks.items < m) (sym c.lend-pass.ensures.room)
+    (subst (λ n. n < vec_capacity c.args.passes.now.of_blocks)
+    (sym (left-many c.args.passes.now.of_blocks.items c.lend-pass.new.self.of_blocks.items
+    c.lend-pass.result c.self.inside.block c.lend-pass.ensures.taken)) c.requires.room)
+
+pub give_back-requires : goal.give_back-requires
+give_back-requires g c =
+    subst (λ ps. HasNumber ps c.self.inside.block)
+    (sym (c.keep-self-inside.ensures.new refl).1)
+    (still-more c.lend-pass.new.self.of_blocks.items c.in-Ok.first c.self.inside.block
+    (shared-still g.S.Small.SmallOf.seen c.self.inside.window c.in-Several.window
+    c.self.inside.block c.in-Several.is c.args.self.now c.self.view_is c.self.invariant.0
+    c.args.passes.now.of_blocks.items c.lend-pass.new.self.of_blocks.items c.lend-pass.result
+    c.requires.pass c.lend-pass.ensures.taken))
+
+pub invariant_of-self : goal.invariant_of-self
+invariant_of-self g c = (
+  moved-by-number g.S.Small.SmallOf.seen c.self.inside.window c.in-Several.window
+      c.self.inside.block c.in-Several.is c.args.self.now c.self.view_is c.self.invariant.0
+      c.args.passes.now.of_blocks.items c.lend-pass.new.self.of_blocks.items c.lend-pass.result
+      c.requires.pass c.lend-pass.ensures.taken
+      c.try_leave_vector_as.new.window c.try_leave_vector_as.new.pass c.in-Ok.first
+      c.in-Ok.ensures.moved c.keep-self-inside.result c.keep-self-inside.new.self.of_blocks.items
+      c.give_back.new.self.of_blocks.items (c.keep-self-inside.ensures.new refl).0
+      (c.keep-self-inside.ensures.new refl).1 c.give_back.ensures,
+  moved-several g.S.Small.SmallOf.seen c.self.inside.window c.in-Several.window
+      c.self.inside.block c.in-Several.is c.args.self.now c.self.view_is c.self.invariant.0
+      c.args.passes.now.of_blocks.items c.lend-pass.new.self.of_blocks.items c.lend-pass.result
+      c.requires.pass c.lend-pass.ensures.taken
+      c.try_leave_vector_as.new.window c.try_leave_vector_as.new.pass c.in-Ok.first
+      c.in-Ok.ensures.moved c.keep-self-inside.result c.keep-self-inside.new.self.of_blocks.items
+      c.give_back.new.self.of_blocks.items (c.keep-self-inside.ensures.new refl).0
+      (c.keep-self-inside.ensures.new refl).1 c.give_back.ensures
+      (shared-role g.S.Small.SmallOf.seen c.self.inside.window c.in-Several.window
+      c.self.inside.block c.in-Several.is c.self.invariant.1),
+  shared-kind g.S.Small.SmallOf.seen c.self.inside.window c.in-Several.window c.self.inside.block
+      c.in-Several.is g.S.TableKind.SHARES c.self.invariant.2,
+)
+
+pub returns-in-Ok-clause-row : goal.returns-in-Ok-clause-row
+returns-in-Ok-clause-row g c =
+    moved-row g.S.Small.SmallOf.seen c.self.inside.window c.in-Several.window
+    c.self.inside.block c.in-Several.is c.args.self.now c.self.view_is c.self.invariant.0
+    c.args.passes.now.of_blocks.items c.lend-pass.new.self.of_blocks.items c.lend-pass.result
+    c.requires.pass c.lend-pass.ensures.taken
+    c.try_leave_vector_as.new.window c.try_leave_vector_as.new.pass c.in-Ok.first
+    c.in-Ok.ensures.moved c.keep-self-inside.result c.keep-self-inside.new.self.of_blocks.items
+    c.give_back.new.self.of_blocks.items (c.keep-self-inside.ensures.new refl).0
+    (c.keep-self-inside.ensures.new refl).1 c.give_back.ensures
+
+pub returns-in-Ok-clause-moved : goal.returns-in-Ok-clause-moved
+returns-in-Ok-clause-moved g c =
+    moved-to g.S.Small.SmallOf.seen c.self.inside.window c.in-Several.window
+    c.self.inside.block c.in-Several.is c.args.self.now c.self.view_is c.self.invariant.0
+    c.args.passes.now.of_blocks.items c.lend-pass.new.self.of_blocks.items c.lend-pass.result
+    c.requires.pass c.lend-pass.ensures.taken
+    c.try_leave_vector_as.new.window c.try_leave_vector_as.new.pass c.in-Ok.first
+    c.in-Ok.ensures.moved c.keep-self-inside.result c.keep-self-inside.new.self.of_blocks.items
+    c.give_back.new.self.of_blocks.items (c.keep-self-inside.ensures.new refl).0
+    (c.keep-self-inside.ensures.new refl).1 c.give_back.ensures
+
+pub give_back-in-Err-requires : goal.give_back-in-Err-requires
+give_back-in-Err-requires g c =
+    shared-still g.S.Small.SmallOf.seen c.self.inside.window c.in-Several.window
+    c.self.inside.block c.in-Several.is c.args.self.now c.self.view_is c.self.invariant.0
+    c.args.passes.now.of_blocks.items c.lend-pass.new.self.of_blocks.items c.lend-pass.result
+    c.requires.pass c.lend-pass.ensures.taken
