@@ -5,6 +5,7 @@ use Rattle.arc_slots.specs.Stands.{HasNumber}
 use Rattle.arc_slots.proofs.Parted.{left-many, moved-by-number, moved-row, moved-several, moved-to}
 use Rattle.arc_slots.proofs.Parted.{shared-kind, shared-role, shared-still, shared-vector}
 use Rattle.arc_slots.proofs.Parted.{still-more}
+use Rattle.arc_slots.proofs.Taken.{back-same}
 use Rattle.arc_slots.proofs.slot.Slot.leave_vector.Goals as goal
 
 pub try_leave_vector_as-requires-clause-vector : goal.try_leave_vector_as-requires-clause-vector
@@ -76,9 +77,16 @@ returns-in-Ok-clause-moved g c =
     c.give_back.new.self.of_blocks.items (c.keep-self-inside.ensures.new refl).0
     (c.keep-self-inside.ensures.new refl).1 c.give_back.ensures
 
-pub give_back-in-Err-requires : goal.give_back-in-Err-requires
-give_back-in-Err-requires g c =
+pub give_back-requires-in-Err : goal.give_back-requires-in-Err
+give_back-requires-in-Err g c =
     shared-still g.S.Small.SmallOf.seen c.self.inside.window c.in-Several.window
     c.self.inside.block c.in-Several.is c.args.self.now c.self.view_is c.self.invariant.0
     c.args.passes.now.of_blocks.items c.lend-pass.new.self.of_blocks.items c.lend-pass.result
     c.requires.pass c.lend-pass.ensures.taken
+
+pub returns-in-Err-clause-passes : goal.returns-in-Err-clause-passes
+returns-in-Err-clause-passes g c =
+    c.give_back-in-Err.ensures
+    ∙ back-same c.args.passes.now.of_blocks.items c.lend-pass.new.self.of_blocks.items
+    c.lend-pass.result c.self.inside.block c.lend-pass.ensures.taken
+    c.try_leave_vector_as.new.pass c.in-Err.ensures.refused.1
