@@ -477,3 +477,12 @@ module _ {H : Type 0} (passes : List (Pass H)) where
   nothing-along b (on_block None offset info) has legal = refl
   nothing-along None (on_block (Some o) offset info) has legal = refl
   nothing-along (Some n) (on_block (Some o) offset info) has legal = adds-nothing n o has legal
+
+-- the pass of a slot's window came back as it was
+pub slot-nothing : {T M H : Type 0} (passes after : List (Pass H)) (s : SlotView T M)
+    → HasPassFor passes (stand_of (Some s)) → after ≡ passes → IsAttested after s.block
+    → Along (stand_of (Some s)) passes after AddsNothing
+slot-nothing passes after s has same legal =
+    subst (λ ps. Along (stand_of (Some s)) passes ps AddsNothing) (sym same)
+    (nothing-along passes s.block s.window.place has
+    (subst (λ ps. IsAttested ps s.block) same legal))

@@ -124,10 +124,7 @@ where
         }
         match self.leave_vector(passes) {
             Ok(()) => (),
-            Err(e) => {
-                self.adds_nothing(passes);
-                return Err(e);
-            }
+            Err(e) => return Err(e),
         }
         match self.split_places(rt, part, passes) {
             Ok(handed) => Ok(handed),

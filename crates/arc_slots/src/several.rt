@@ -12,6 +12,7 @@ ghost use Rattle.arc_block.specs.Steps.{IsPassAt};
 ghost use Rattle.arc_block.specs.Writers.{capacity_of, room_for};
 ghost use Rattle.arc_commands.specs.Blocks.{is_several, is_sole};
 ghost use Rattle.arc_commands.specs.Several.{can_share};
+ghost use Rattle.arc_slots.specs.Calls.{AddsNothing, Along};
 ghost use Rattle.arc_slots.specs.Several.{AsksAt, FillsBeside, HasPlaces, MovesTo, RefusesPlaces};
 ghost use Rattle.arc_slots.specs.Several.{RoomBeside, SplitsThere, handed_places, is_any, is_split};
 ghost use Rattle.arc_slots.specs.Several.{kept_places, places_answer};
@@ -309,6 +310,8 @@ where
         ensures kept { IfErr result (λ _. self.new ≡ self.old) }
         ensures passes { IfErr result (λ _.
             passes.new.of_blocks.items ≡ passes.old.of_blocks.items) }
+        ensures nothing { IfErr result (λ _. Along (stand_of (Some self.old))
+            passes.old.of_blocks.items passes.new.of_blocks.items AddsNothing) }
         ensures refused { IfErr result (λ e. e ≡ no_memory) }
     {
         self.known_shared();
@@ -325,6 +328,7 @@ where
             }
             Err(_) => {
                 passes.give_back(block, pass);
+                passes.attest(block);
                 Err(OwnerError::AllocError)
             }
         }

@@ -1,11 +1,15 @@
 -- The pass of the vector comes back to its place, and that of the new block behind the others.
-use Rattle.std.proofs.Common.{◌∙◌, ◌<◌, length, refl, sym, subst}
+use Rattle.std.proofs.Common.{◌≡◌, ◌∙◌, ◌<◌, length, refl, sym, subst, Some}
 use Rattle.std.specs.Vec.{vec_capacity}
-use Rattle.arc_slots.specs.Stands.{HasNumber}
+use Rattle.arc_slots.specs.Slots.{SlotView, stand_of, window_in}
+use Rattle.arc_slots.specs.Stands.{HasNumber, HasPassFor, IsAttested}
 use Rattle.arc_slots.proofs.Parted.{left-many, moved-by-number, moved-row, moved-several, moved-to}
 use Rattle.arc_slots.proofs.Parted.{shared-kind, shared-role, shared-still, shared-vector}
-use Rattle.arc_slots.proofs.Parted.{still-more}
+use Rattle.arc_slots.proofs.Parted.{slot-nothing, still-more}
+use Rattle.arc_slots.proofs.Slots.{has-number}
 use Rattle.arc_slots.proofs.Taken.{back-same}
+use Rattle.arc_slots.proofs.slot.Slot.leave_vector.Given.{Over}
+use Rattle.arc_slots.proofs.slot.Slot.leave_vector.Goals.{After-give_back-in-Err}
 use Rattle.arc_slots.proofs.slot.Slot.leave_vector.Goals as goal
 
 pub try_leave_vector_as-requires-clause-vector : goal.try_leave_vector_as-requires-clause-vector
@@ -84,9 +88,33 @@ give_back-requires-in-Err g c =
     c.args.passes.now.of_blocks.items c.lend-pass.new.self.of_blocks.items c.lend-pass.result
     c.requires.pass c.lend-pass.ensures.taken
 
-pub returns-in-Err-clause-passes : goal.returns-in-Err-clause-passes
-returns-in-Err-clause-passes g c =
+-- the passes are then as before
+same-passes : (g : Over) (c : After-give_back-in-Err g)
+    → c.give_back-in-Err.new.self.of_blocks.items ≡ c.args.passes.now.of_blocks.items
+same-passes g c =
     c.give_back-in-Err.ensures
     ∙ back-same c.args.passes.now.of_blocks.items c.lend-pass.new.self.of_blocks.items
     c.lend-pass.result c.self.inside.block c.lend-pass.ensures.taken
     c.try_leave_vector_as.new.pass c.in-Err.ensures.refused.1
+
+pub attest-requires : goal.attest-requires
+attest-requires g c =
+    let passes = c.args.passes.now.of_blocks.items in
+    subst (λ ps. HasNumber ps c.self.inside.block)
+    (sym (same-passes g (goal.at.attest-requires g c).After-give_back-in-Err))
+    (has-number passes c.self.inside.block
+    (window_in g.S.Small.SmallOf.seen c.self.inside.window).place c.self.invariant.0
+    (subst (λ s. HasPassFor passes (stand_of (Some s))) (sym c.self.view_is) c.requires.pass))
+
+pub returns-in-Err-clause-passes : goal.returns-in-Err-clause-passes
+returns-in-Err-clause-passes g c =
+    same-passes g (goal.at.returns-in-Err-clause-passes g c).After-give_back-in-Err
+
+pub returns-in-Err-clause-nothing : goal.returns-in-Err-clause-nothing
+returns-in-Err-clause-nothing g c =
+    slot-nothing c.args.passes.now.of_blocks.items c.give_back-in-Err.new.self.of_blocks.items
+    c.args.self.now c.requires.pass
+    (same-passes g (goal.at.returns-in-Err-clause-nothing g c).After-give_back-in-Err)
+    (subst (λ (s : SlotView g.row.S-Item.Denot g.row.M.Denot).
+    IsAttested c.give_back-in-Err.new.self.of_blocks.items s.block) c.self.view_is
+    c.attest.ensures)
