@@ -34,8 +34,8 @@ use Rattle.arc_commands.proofs.Roles.{several-with}
 use Rattle.arc_slots.specs.Calls.{AddsNothing, Along, Beside, FindsFullAt, Through}
 use Rattle.arc_slots.specs.Several.{MovesTo, RefusesPlaces, SplitsThere, handed_places, is_any}
 use Rattle.arc_slots.specs.Several.{kept_places}
-use Rattle.arc_slots.specs.Slots.{AnyWindow, SlotView, held, role_fits, row_of, stand_of}
-use Rattle.arc_slots.specs.Slots.{window_in, writer_slot}
+use Rattle.arc_slots.specs.Slots.{AnyWindow, SlotView, held, may_be_shared, role_fits, row_of}
+use Rattle.arc_slots.specs.Slots.{stand_of, window_in, writer_slot}
 use Rattle.arc_slots.specs.Stands.{HasNumber, HasPassFor, IsAttested, TakenOut, is_numbered}
 use Rattle.arc_slots.specs.Stands.{numbered, put_back, stand_at}
 use Rattle.arc_slots.specs.declared.part.Part.{Part}
@@ -214,6 +214,9 @@ module _ {T M K : Type 0} (small : K → PartsView T M) (h : AnyWindow T M K) (w
 
   pub shared-role : role_fits h ≡ true → is_several w.role ≡ true
   shared-role fits = ap role_fits (sym is) ∙ fits
+
+  pub shared-kind : (shares : Bool) → may_be_shared shares h ≡ true → shares ≡ true
+  shared-kind shares may = ap (may_be_shared shares) (sym is) ∙ may
 
   module _ (s : SlotView T M) (view : held small h b ≡ s)
       (numbers : is_numbered b (window_in small h).place ≡ true) where
@@ -474,3 +477,12 @@ module _ {H : Type 0} (passes : List (Pass H)) where
   nothing-along b (on_block None offset info) has legal = refl
   nothing-along None (on_block (Some o) offset info) has legal = refl
   nothing-along (Some n) (on_block (Some o) offset info) has legal = adds-nothing n o has legal
+
+-- the pass of a slot's window came back as it was
+pub slot-nothing : {T M H : Type 0} (passes after : List (Pass H)) (s : SlotView T M)
+    → HasPassFor passes (stand_of (Some s)) → after ≡ passes → IsAttested after s.block
+    → Along (stand_of (Some s)) passes after AddsNothing
+slot-nothing passes after s has same legal =
+    subst (λ ps. Along (stand_of (Some s)) passes ps AddsNothing) (sym same)
+    (nothing-along passes s.block s.window.place has
+    (subst (λ ps. IsAttested ps s.block) same legal))

@@ -122,9 +122,9 @@ where
         if !self.is_on_vector() {
             return self.split_places(rt, part, passes);
         }
-        if let Err(e) = self.leave_vector(passes) {
-            self.adds_nothing(passes);
-            return Err(e);
+        match self.leave_vector(passes) {
+            Ok(()) => (),
+            Err(e) => return Err(e),
         }
         match self.split_places(rt, part, passes) {
             Ok(handed) => Ok(handed),

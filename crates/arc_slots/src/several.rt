@@ -12,10 +12,10 @@ ghost use Rattle.arc_block.specs.Steps.{IsPassAt};
 ghost use Rattle.arc_block.specs.Writers.{capacity_of, room_for};
 ghost use Rattle.arc_commands.specs.Blocks.{is_several, is_sole};
 ghost use Rattle.arc_commands.specs.Several.{can_share};
-ghost use Rattle.arc_slots.specs.Calls.{Beside};
+ghost use Rattle.arc_slots.specs.Calls.{AddsNothing, Along};
 ghost use Rattle.arc_slots.specs.Several.{AsksAt, FillsBeside, HasPlaces, MovesTo, RefusesPlaces};
-ghost use Rattle.arc_slots.specs.Several.{RoomBeside, handed_places, kept_places, places_answer};
-ghost use Rattle.arc_slots.specs.Several.{is_any, is_split};
+ghost use Rattle.arc_slots.specs.Several.{RoomBeside, SplitsThere, handed_places, is_any, is_split};
+ghost use Rattle.arc_slots.specs.Several.{kept_places, places_answer};
 ghost use Rattle.arc_slots.specs.Slots.{row_of, stand_of};
 ghost use Rattle.arc_slots.specs.Stands.{HasPassFor};
 ghost use Rattle.arc_slots.specs.Writing.{IsLegal, additional_of, can_write, is_fresh};
@@ -307,6 +307,8 @@ where
         ensures kept { IfErr result (λ _. self.new ≡ self.old) }
         ensures passes { IfErr result (λ _.
             passes.new.of_blocks.items ≡ passes.old.of_blocks.items) }
+        ensures nothing { IfErr result (λ _. Along (stand_of (Some self.old))
+            passes.old.of_blocks.items passes.new.of_blocks.items AddsNothing) }
         ensures refused { IfErr result (λ e. e ≡ no_memory) }
     {
         self.known_shared();
@@ -323,6 +325,7 @@ where
             }
             Err(_) => {
                 passes.give_back(block, pass);
+                passes.attest(block);
                 Err(OwnerError::AllocError)
             }
         }
@@ -349,12 +352,8 @@ where
         requires within { HasPlaces S.boundary self.old.window.items (capacity_of self.old.role)
             part }
         requires pass { HasPassFor passes.old.of_blocks.items (stand_of (Some self.old)) }
-        ensures stays { IfOk result (λ _. row_of self.new ≡ kept_places part (row_of self.old)) }
-        ensures made { IfOk result (λ handed.
-            row_of handed ≡ handed_places part (row_of self.old)) }
-        ensures stand { IfOk result (λ _. stand_of (Some self.new) ≡ stand_of (Some self.old)) }
-        ensures beside { IfOk result (λ handed. Beside (stand_of (Some self.old))
-            passes.old.of_blocks.items passes.new.of_blocks.items (stand_of (Some handed))) }
+        ensures made { IfOk result (λ handed. SplitsThere part self.old self.new handed
+            passes.old.of_blocks.items passes.new.of_blocks.items) }
         ensures kept { IfErr result (λ _. self.new ≡ self.old) }
         ensures refused { IfErr result (RefusesPlaces (row_of self.old).place
             (stand_of (Some self.old)) passes.old.of_blocks.items passes.new.of_blocks.items) }
@@ -367,13 +366,12 @@ where
         let mut pass = passes.lend(block);
         let made = split_as(window, rt, part, &mut pass);
         passes.give_back(block, pass);
-        match made {
-            Ok(window) => Ok(Slot {
-                window: Held::Several(window),
-                block,
-            }),
-            Err(e) => Err(e),
-        }
+        let window = match made {
+            Ok(window) => window,
+            Err(e) => return Err(e),
+        };
+        let window = Held::Several(window);
+        Ok(Slot { window, block })
     }
 
     /// Writes into the window, which is one of several, by a call that its kind has: `what` goes
