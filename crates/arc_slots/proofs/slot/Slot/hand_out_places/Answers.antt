@@ -6,12 +6,10 @@ use Rattle.arc_owners.specs.declared.error.OwnerError.TheVariants.{AllocError}
 use Rattle.arc_commands.specs.declared.command.Reply.TheVariants as reply
 use Rattle.arc_commands.proofs.Lists.{an_error}
 use Rattle.arc_slots.specs.Answers.{Answers}
-use Rattle.arc_slots.specs.Calls.{AddsNothing, Along}
 use Rattle.arc_slots.specs.Parts.{part_command}
 use Rattle.arc_slots.specs.Slots.{stand_of}
 use Rattle.arc_slots.specs.Stands.{HasPassFor}
-use Rattle.arc_slots.proofs.HandedBeside.{split-alloc, split-kind, split-made, split-memory}
-use Rattle.arc_slots.proofs.HandedBeside.{split-range, split-refused}
+use Rattle.arc_slots.proofs.HandedBeside.{split-made, split-memory, split-refused}
 use Rattle.arc_slots.proofs.slot.Slot.hand_out_places.Given.{Over}
 use Rattle.arc_slots.proofs.slot.Slot.hand_out_places.Goals as goal
 
