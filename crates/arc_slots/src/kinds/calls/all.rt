@@ -2,6 +2,7 @@
 ghost use Rattle.std.specs.Prelude.{true};
 
 use super::{AllCalls, CallsOf, Smalls};
+use crate::list::set_slot;
 use arc_block::layout::{Layout, LayoutMut};
 use arc_buffer::buffer::BufferMut;
 use arc_buffer::kinds::{Concatenable, CopySlice, Extendable, Shareable, Slice, Subsliceable};
@@ -98,7 +99,7 @@ where
         match sole.take()?.into_shared() {
             Ok(window) => Some(window),
             Err(window) => {
-                *sole = Some(window);
+                set_slot(sole, Some(window));
                 None
             }
         }
@@ -142,7 +143,7 @@ where
         match window.try_unsplit_as(other.take()?, pass) {
             Ok(()) => Some(()),
             Err(back) => {
-                *other = Some(back);
+                set_slot(other, Some(back));
                 None
             }
         }

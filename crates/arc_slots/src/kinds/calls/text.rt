@@ -2,6 +2,7 @@
 ghost use Rattle.std.specs.Prelude.{true, false};
 
 use super::{CallsOf, TextCalls, as_text};
+use crate::list::set_slot;
 use arc_block::layout::{Layout, LayoutMut};
 use arc_buffer::buffer::BufferMut;
 use arc_buffer::kinds::{Slice, Text};
@@ -94,7 +95,7 @@ impl CallsOf<Text> for TextCalls {
         match sole.take()?.into_shared() {
             Ok(window) => Some(window),
             Err(window) => {
-                *sole = Some(window);
+                set_slot(sole, Some(window));
                 None
             }
         }
@@ -133,7 +134,7 @@ impl CallsOf<Text> for TextCalls {
         match window.try_unsplit_as(other.take()?, pass) {
             Ok(()) => Some(()),
             Err(back) => {
-                *other = Some(back);
+                set_slot(other, Some(back));
                 None
             }
         }
