@@ -515,36 +515,32 @@ module _ {T M : Type 0} (setting : Setting T) (slots : List (Option (SlotView T 
                 (reply.Kind, t)) (never (eq-eqb i j is));
           }) refl
         where
-          and-not : (b c : Bool) → (b && (c && false)) ≡ false
-          and-not true true = refl
-          and-not true false = refl
-          and-not false c = refl
+          and-last : (a b c : Bool) → c ≡ false → (a && (b && c)) ≡ false
+          and-last true true c none = none
+          and-last true false c none = refl
+          and-last false b c none = refl
 
           never : (i == j) ≡ true → is_for_both setting.calls join i j (row_of s) (row_of o) ≡ false
-          never same =
-              ap (λ b. is_allowed setting.calls join s.role
-              && (is_allowed setting.calls join o.role && not b)) same
-              ∙ and-not (is_allowed setting.calls join s.role)
-              (is_allowed setting.calls join o.role)
+          never alike = and-last _ _ _ (ap not alike)
 
       module _ (two : (i == j) ≡ false) (passes' : List (Pass Whole)) where
         -- nothing changed
-        unchanged : (r : ListReply T M) (new gone : Option (SlotView T M)) → told ≡ (r, t)
-            → JoinAdds old.standing r old.standing j → new ≡ Some s → gone ≡ Some o
+        unchanged : (r : ListReply T M) (new its : Option (SlotView T M)) → told ≡ (r, t)
+            → JoinAdds old.standing r old.standing j → new ≡ Some s → its ≡ Some o
             → passes' ≡ passes
-            → Done setting old join r (slice_set (slice_set slots j gone) i new) passes'
-        unchanged r new gone is adds kept its same =
-            subst (λ ps. Done setting old join r (slice_set (slice_set slots j gone) i new) ps)
+            → Done setting old join r (slice_set (slice_set slots j its) i new) passes'
+        unchanged r new its is adds kept back same =
+            subst (λ ps. Done setting old join r (slice_set (slice_set slots j its) i new) ps)
             (sym same)
             (subst (λ ss. Done setting old join r ss passes)
-            (sym (ap (λ x. slice_set (slice_set slots j gone) i x) kept
-            ∙ ap (λ x. slice_set (slice_set slots j x) i (Some s)) its
+            (sym (ap (λ x. slice_set (slice_set slots j its) i x) kept
+            ∙ ap (λ x. slice_set (slice_set slots j x) i (Some s)) back
             ∙ ap (λ ss. slice_set ss i (Some s)) (set-back slots j (Some o) beside)
             ∙ set-back slots i (Some s) there))
             (stays r
             (record { places = 0; enough = omega arith; answered = pair-is ∙ is }) adds))
 
-        -- the two rows as one, and the other has gone
+        -- the two rows as one, and the other has its
         module _ (whole : SlotView T M) (stand : stand_of (Some whole) ≡ stand_of (Some s))
             (left : Along (stand_of (Some o)) passes passes' Ended) where
           abbrev slots' : List (Option (SlotView T M))
@@ -591,27 +587,27 @@ module _ {T M : Type 0} (setting : Setting T) (slots : List (Option (SlotView T 
                 stands',
               )
 
-        pub paired : (r : ListReply T M) (new gone : Option (SlotView T M))
-            → JoinAnswers setting.calls i j s o passes r new gone passes'
-            → Done setting old join r (slice_set (slice_set slots j gone) i new) passes'
-        paired reply.Ok new gone said =
+        pub paired : (r : ListReply T M) (new its : Option (SlotView T M))
+            → JoinAnswers setting.calls i j s o passes r new its passes'
+            → Done setting old join r (slice_set (slice_set slots j its) i new) passes'
+        paired reply.Ok new its said =
             let whole = said.0 in
-            subst (λ x. Done setting old join reply.Ok (slice_set (slice_set slots j gone) i x) passes')
+            subst (λ x. Done setting old join reply.Ok (slice_set (slice_set slots j its) i x) passes')
             (sym said.3)
             (subst (λ x. Done setting old join reply.Ok
             (slice_set (slice_set slots j x) i (Some whole)) passes') (sym said.4)
             (joined-both whole said.5 said.6
             (ap (λ b. if b then joined t i j (join_answer (row_of s) (row_of o)) else
             (reply.Kind, t)) said.1 ∙ ap (joined t i j) said.2)))
-        paired reply.Refused new gone said =
-            unchanged reply.Refused new gone
+        paired reply.Refused new its said =
+            unchanged reply.Refused new its
             (ap (λ b. if b then joined t i j (join_answer (row_of s) (row_of o)) else
             (reply.Kind, t)) said.0 ∙ ap (joined t i j) said.1) refl said.2 said.3 said.4
-        paired reply.Kind new gone said =
-            unchanged reply.Kind new gone
+        paired reply.Kind new its said =
+            unchanged reply.Kind new its
             (ap (λ b. if b then joined t i j (join_answer (row_of s) (row_of o)) else
             (reply.Kind, t)) said.0) refl said.1 said.2 said.3
-        paired r new gone said = absurd said
+        paired r new its said = absurd said
 
 -- what is the same is seen as the same
 pub seen-so : {S X Y : Type 0} (f : X → Y) (x y : X) (place : Option S)
@@ -641,10 +637,11 @@ is-join (command.Join k l) i j on other =
 is-join c i j on other = absurd (none-some j other)
 
 -- a place that is set, with another one set between, is as it was set last
-pub set-swap : {X : Type 0} (xs : List X) (i j : ℕ) (x y z : X) → (i == j) ≡ false
+pub set-swap : {X : Type 0} (xs : List X) (i j : ℕ) (x y z : X) → ¬ (i ≡ j)
     → slice_set (slice_set (slice_set xs j x) i y) j z ≡ slice_set (slice_set xs j z) i y
-set-swap [] i j x y z apart = refl
-set-swap (w ∷ ws) zero zero x y z apart = absurd (false≢true (sym apart))
-set-swap (w ∷ ws) zero (suc j) x y z apart = ap (λ vs. y ∷ vs) (set-twice ws j x z)
-set-swap (w ∷ ws) (suc i) zero x y z apart = refl
-set-swap (w ∷ ws) (suc i) (suc j) x y z apart = ap (λ vs. w ∷ vs) (set-swap ws i j x y z apart)
+set-swap [] i j x y z far = refl
+set-swap (w ∷ ws) zero zero x y z far = absurd (far refl)
+set-swap (w ∷ ws) zero (suc j) x y z far = ap (λ vs. y ∷ vs) (set-twice ws j x z)
+set-swap (w ∷ ws) (suc i) zero x y z far = refl
+set-swap (w ∷ ws) (suc i) (suc j) x y z far =
+    ap (λ vs. w ∷ vs) (set-swap ws i j x y z (λ e. far (ap suc e)))
