@@ -540,7 +540,7 @@ module _ {T M : Type 0} (setting : Setting T) (slots : List (Option (SlotView T 
             (stays r
             (record { places = 0; enough = omega arith; answered = pair-is ∙ is }) adds))
 
-        -- the two rows as one, and the other has its
+        -- the two rows as one, and the other has gone
         module _ (whole : SlotView T M) (stand : stand_of (Some whole) ≡ stand_of (Some s))
             (left : Along (stand_of (Some o)) passes passes' Ended) where
           abbrev slots' : List (Option (SlotView T M))
