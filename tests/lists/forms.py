@@ -1,11 +1,6 @@
 """The forms of lines, as docs/SCRIPT.md has them: a line's words are read into a command, or it is bad."""
 import re
 
-# The forms of several writers that the program's windows take: one that isn't here is answered `kind`.
-# To try a form once they take it, add its first word; these are all there will be:
-# share unique join off to push ext res rec
-OF_SEVERAL = ()
-
 LONGEST = 65_536
 NUMBER = re.compile(rb"(0|[1-9][0-9]{0,17})")
 BYTE = re.compile(rb"[0-9a-f]{2}")
@@ -53,9 +48,6 @@ FORMS = {
     "show": ("w", "rusi"),
     "drop": ("w", "rusi"),
 }
-TURNS = ("share", "unique", "join")
-WRITES = ("push", "ext", "res", "rec", "off", "to")
-
 
 def is_had(word):
     """Whether the program has a line of this first word."""
@@ -64,9 +56,7 @@ def is_had(word):
 
 def is_for(word, role):
     """Whether the program has the form for windows of this role."""
-    if word in TURNS and word not in OF_SEVERAL:
-        return False
-    return role in FORMS[word][1] and (role != "s" or word not in WRITES or word in OF_SEVERAL)
+    return role in FORMS[word][1]
 
 
 def operand(sort, word):

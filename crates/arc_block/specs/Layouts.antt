@@ -1,7 +1,7 @@
 -- What layouts differ in.
 use Rattle.std.specs.Prelude.{◌≡◌, ◌==◌, ◌&&◌, ℕ, Bool, true, false, not, refl, Option, Some, None}
 use Rattle.std.proofs.lemmas.Bool.{false≢true}
-use Rattle.arc_block.specs.Block.{Sort, native, vector, buffer, raw}
+use Rattle.arc_block.specs.Block.{Sort, native, vector, buffer, raw, IsWritable}
 
 -- what windows under a layout may stand on
 pub record LayoutFacts : Type 0 where
@@ -60,3 +60,7 @@ holds_block layout (Some owner) native = true
 holds_block layout (Some owner) vector = layout.has_any
 holds_block layout (Some owner) (buffer writable) = layout.has_any
 holds_block layout (Some owner) raw = layout.has_any && not layout.by_itself
+
+-- the only owner of a block of this sort may write it under a layout, which holds it
+abbrev pub MayWrite : (has_any : Bool) → Sort → Type 0
+MayWrite has_any sort = IsWritable sort × (holds_sort has_any sort ≡ true)

@@ -7,15 +7,7 @@ pub mod Owned
 pub mod Layouts
 pub mod LayoutFacts
 pub mod Inline
-pub mod Window
-pub mod Steps
 pub mod Unique
 pub mod Moves
-pub mod Lends
 pub mod LendsBuffers
-pub mod Room
-pub mod Writers
-pub mod Shared
-pub mod Growth
 pub mod Metadata
-pub mod NativeWriters

@@ -3,7 +3,7 @@ use Rattle.std.specs.Prelude.{◌≡◌, ℕ, ◌+◌, List, length}
 use Rattle.arc_buffer.specs.Slice.{sub}
 use Rattle.arc_block.specs.Block.{Sort, native, vector, buffer, raw}
 use Rattle.arc_block.specs.Place.{Place, nowhere, static_data, on_block}
-use Rattle.arc_block.specs.Writers.{offset_at}
+use Rattle.arc_block.specs.Place.{offset_at}
 
 -- a block of this sort keeps a caller's buffer, behind an `Arc` or not
 abbrev pub IsCallers : Sort → Type 0

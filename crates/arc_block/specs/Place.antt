@@ -59,3 +59,20 @@ module _ {O M : Type 0} where
   owned_by owner nowhere = nowhere
   owned_by owner static_data = static_data
   owned_by owner (on_block old offset facts) = on_block owner offset facts
+
+module _ {N M : Type 0} where
+  -- how many places the block has, how far into it a place is, and the place at its front
+  abbrev pub size_at : Place N M → ℕ
+  size_at nowhere = 0
+  size_at static_data = 0
+  size_at (on_block block offset info) = info.size
+
+  abbrev pub offset_at : Place N M → ℕ
+  offset_at nowhere = 0
+  offset_at static_data = 0
+  offset_at (on_block block offset info) = offset
+
+  abbrev pub at_front : Place N M → Place N M
+  at_front nowhere = nowhere
+  at_front static_data = static_data
+  at_front (on_block block offset info) = on_block block 0 info

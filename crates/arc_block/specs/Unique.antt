@@ -5,7 +5,7 @@ use Rattle.arc_owners.specs.count.Calls.{Owner, Asks}
 use Rattle.arc_buffer.specs.Slice.{sub}
 use Rattle.arc_block.specs.Block.{Sort, native, vector, buffer, raw}
 use Rattle.arc_block.specs.Place.{Place, nowhere, static_data, on_block}
-use Rattle.arc_block.specs.Writers.{offset_at}
+use Rattle.arc_block.specs.Place.{offset_at}
 
 module _ {H : Type 0} where
   -- The count is asked. A caller's buffer is asked after it, and may say no though the owner is

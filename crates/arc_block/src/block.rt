@@ -17,7 +17,7 @@ ghost use Rattle.arc_block.specs.Contents.{held_in};
 ghost use Rattle.arc_block.specs.Unique.{AsksUnique, AsksOwn, IsOwnAnswer};
 ghost use Rattle.arc_block.specs.LayoutFacts.{layout_facts};
 ghost use Rattle.arc_block.specs.Moves.{counted_move};
-ghost use Rattle.arc_block.specs.Writers.{MayWrite};
+ghost use Rattle.arc_block.specs.Layouts.{MayWrite};
 ghost use Rattle.arc_owners.specs.memory.Boxes.{owner_in, value_of};
 
 mod content;
@@ -25,8 +25,7 @@ mod metadata;
 mod native;
 mod sole;
 
-use crate::layout::Layout;
-use crate::parts::moves::Move;
+use crate::layout::{Layout, Move};
 use arc_buffer::buffer::Buffer;
 use arc_buffer::kinds::Slice;
 use arc_memory::{Base, Native};
@@ -35,9 +34,8 @@ use arc_owners::leave::RaiseLeave;
 use arc_owners::mark::{Mark, Open, Stepping};
 use arc_owners::owners::{CountedBox, Pass, Shown};
 pub use content::{CallersBuffer, Content};
-pub use native::NativeBlock;
-pub(crate) use native::NativeCount;
-pub(crate) use sole::{SoleCount, end_sole, new_count};
+pub use native::{NativeBlock, NativeCount};
+pub use sole::{SoleCount, end_sole, new_count};
 use std::alloc::Allocator;
 use std::marker::Model;
 use std::sync::Arc;
@@ -322,7 +320,7 @@ impl<
     }
 
     /// It is no native block. Does nothing: its contract is the law.
-    pub(crate) fn known_sort(&self)
+    pub fn known_sort(&self)
         ensures { ¬ (self.now.facts.sort ≡ native) }
     {
         match self.piece.get() {

@@ -277,6 +277,21 @@ pub type DefaultLayout = ArcLayout<true, true>;
 /// The layout of writable windows that name none.
 pub type DefaultLayoutMut = ArcLayout<true, true>;
 
+/// Where a window goes that is to be one of another layout.
+#[derive(Clone, Copy, Debug, PartialEq, Eq, Drop)]
+pub enum Move {
+    /// It stays where it is.
+    Stays,
+    /// It is handed back.
+    HandedBack,
+    /// To a new native block of no places.
+    NewEmpty,
+    /// To a new block, which keeps and counts the `Arc` on which it stands.
+    NewCount,
+    /// To a clone of the `Arc` that its block keeps; it leaves the block.
+    LeavesCount,
+}
+
 /// Whether a window that is made with `len` items stands on nothing: one with none does, where the
 /// layout has static data.
 pub fn stands_on_nothing<L: Layout>(len: usize) -> bool

@@ -1,8 +1,7 @@
-//! Blocks, and the layouts that say how a window stands on one.
+//! Blocks, the layouts that say how a window stands on one, and the table of lists.
 #![tactic(auto)]
 
 pub mod block;
 pub mod layout;
-pub mod parts;
 pub mod static_slice;
 pub mod table;

@@ -98,7 +98,7 @@ impl<T> StaticShare<T> {
 /// Items that lie side by side for good, with the place where they begin. Contracts see the items.
 ///
 /// It is one word, for who keeps a range himself, as `Parts` do: a read is one sum and one
-/// difference, and reads no memory. It is made and read within this crate alone.
+/// difference, and reads no memory. Windows have none: it is made and read by parts alone.
 #[derive(Drop)]
 pub struct StaticItems<T> {
     base: Base<T>,
@@ -116,7 +116,7 @@ impl<T> Model for StaticItems<T> {
 impl<T> StaticItems<T> {
     /// No items.
     #[inline(always)]
-    pub(crate) fn none() -> Self
+    pub fn none() -> Self
         ensures { result ≡ [] }
     {
         let (at, share) = StaticShare::of_none(&[]);
@@ -128,7 +128,7 @@ impl<T> StaticItems<T> {
 
     /// The items from `start` to before `end`.
     #[inline(always)]
-    pub(crate) fn range(&self, start: usize, end: usize) -> &[T]
+    pub fn range(&self, start: usize, end: usize) -> &[T]
         requires { (start ≤ end) × (end ≤ length self.now) }
         ensures { result.now ≡ sub self.now start end }
     {
@@ -137,7 +137,7 @@ impl<T> StaticItems<T> {
 
     /// The same again.
     #[inline(always)]
-    pub(crate) fn again(&self) -> Self
+    pub fn again(&self) -> Self
         ensures { result ≡ self.now }
     {
         StaticItems {
@@ -154,9 +154,9 @@ impl<T> StaticItems<T> {
 /// an item, and a drop does nothing.
 #[derive(Drop)]
 pub struct StaticSlice<T> {
-    pub(crate) items: StaticItems<T>,
-    pub(crate) start: usize,
-    pub(crate) end: usize,
+    items: StaticItems<T>,
+    start: usize,
+    end: usize,
 }
 
 impl<T> Model for StaticSlice<T> {
@@ -210,6 +210,25 @@ impl<T: 'static> StaticSlice<T> {
 }
 
 impl<T> StaticSlice<T> {
+    /// The items from `start` to before `end` of those.
+    #[inline(always)]
+    pub fn of_items(items: StaticItems<T>, start: usize, end: usize) -> Self
+        requires { (start ≤ end) × (end ≤ length items) }
+        ensures { result ≡ sub items start end }
+    {
+        StaticSlice { items, start, end }
+    }
+
+    /// The items among which those of the slice lie, and from where to before where these do.
+    #[inline(always)]
+    pub fn into_items(self) -> (StaticItems<T>, usize, usize)
+        ensures range { (result.1 ≤ result.2) × (result.2 ≤ length result.0) }
+        ensures items { self ≡ sub result.0 result.1 result.2 }
+    {
+        let StaticSlice { items, start, end } = self;
+        (items, start, end)
+    }
+
     /// No items.
     #[inline(always)]
     pub fn empty() -> Self

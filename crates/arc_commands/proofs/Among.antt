@@ -10,15 +10,15 @@ use Rattle.std.proofs.lemmas.List.{length-append, length-drop, length-take}
 use Rattle.arc_block.specs.Block.{Sort, native, vector, buffer, raw, BlockInfo, IsMemory}
 use Rattle.arc_block.specs.Block.{memory_info}
 use Rattle.arc_block.specs.Place.{Place, nowhere, static_data, on_block, moved}
-use Rattle.arc_block.specs.Shared.{as_shared, as_unique, can_join, ends_at, extended, front_of}
-use Rattle.arc_block.specs.Shared.{joined_row, on_native}
+use Rattle.arc_parts.specs.Shared.{as_shared, as_unique, can_join, ends_at, extended, front_of}
+use Rattle.arc_parts.specs.Shared.{joined_row, on_native}
 use Rattle.arc_block.specs.Table.{Row, Role, one_writer_of_several}
-use Rattle.arc_block.specs.Writers.{after_advance, capacity_of, room, room_at, with_capacity}
-use Rattle.arc_block.specs.Writers.{with_room}
-use Rattle.arc_block.specs.declared.parts.room.Room.{Room}
-use Rattle.arc_block.specs.declared.parts.room.Room.TheVariants.{Spare, Fresh, Behind, Front}
-use Rattle.arc_block.specs.declared.parts.room.Room.TheVariants.{Growth, Own, Refused}
-use Rattle.arc_block.specs.Room.{room_in}
+use Rattle.arc_parts.specs.Writers.{after_advance, capacity_of, room, room_at, with_capacity}
+use Rattle.arc_parts.specs.Writers.{with_room}
+use Rattle.arc_parts.specs.declared.room.Room.{Room}
+use Rattle.arc_parts.specs.declared.room.Room.TheVariants.{Spare, Fresh, Behind, Front}
+use Rattle.arc_parts.specs.declared.room.Room.TheVariants.{Growth, Own, Refused}
+use Rattle.arc_parts.specs.Room.{room_in}
 use Rattle.arc_commands.specs.Blocks.{is_several, is_small, is_sole}
 use Rattle.arc_commands.specs.Fits.{FitsBeside, HasPlaces, HasSharedPlaces, LieWithin, RowFits}
 use Rattle.arc_commands.specs.Fits.{counts_full}

@@ -16,15 +16,15 @@ use Rattle.arc_block.specs.Block.{Sort, BlockInfo, native_facts, partly_full, me
 use Rattle.arc_block.specs.Block.{native, vector, buffer, raw, buffer_info, raw_info}
 use Rattle.arc_block.specs.Inline.{inline_limit}
 use Rattle.arc_block.specs.Moves.{layout_move}
-use Rattle.arc_block.specs.declared.parts.moves.Move.{Move}
-use Rattle.arc_block.specs.declared.parts.moves.Move.TheVariants as to
+use Rattle.arc_block.specs.declared.layout.Move.{Move}
+use Rattle.arc_block.specs.declared.layout.Move.TheVariants as to
 use Rattle.arc_block.specs.Place.{Place, nowhere, static_data, on_block}
-use Rattle.arc_block.specs.Shared.{can_join, joined_row}
+use Rattle.arc_parts.specs.Shared.{can_join, joined_row}
 use Rattle.arc_block.specs.Table.{Row, Table, Role, row_at, block_of, is_alone}
 use Rattle.arc_block.specs.Table.{reader, sole_writer, one_writer_of_several, inline, forgotten}
-use Rattle.arc_block.specs.Writers.{as_sole}
-use Rattle.arc_block.specs.declared.parts.room.Room.{Room as RoomFrom}
-use Rattle.arc_block.specs.declared.parts.room.Room.TheVariants as from
+use Rattle.arc_parts.specs.Writers.{as_sole}
+use Rattle.arc_parts.specs.declared.room.Room.{Room as RoomFrom}
+use Rattle.arc_parts.specs.declared.room.Room.TheVariants as from
 use Rattle.arc_commands.specs.Blocks.{is_several, is_writer}
 use Rattle.arc_commands.specs.Changes.{Around, Change, Setting, Shortage, after_move, as_small}
 use Rattle.arc_commands.specs.Changes.{buffer_row, filled, is_now, is_unique_at, made_row}

@@ -8,11 +8,11 @@ use Rattle.std.proofs.lemmas.Option.{none-some, same_Some}
 use Rattle.std.proofs.lemmas.Bool.{cases_Bool, false≢true}
 use Rattle.arc_block.specs.Block.{BlockInfo}
 use Rattle.arc_block.specs.Place.{Place, nowhere, static_data, on_block}
-use Rattle.arc_block.specs.Room.{ends_full}
+use Rattle.arc_parts.specs.Room.{ends_full}
 use Rattle.arc_block.specs.Table.{Row, Table, Role, StandsOn, row_at, block_of, empty_table}
 use Rattle.arc_block.specs.Table.{reader, sole_writer, one_writer_of_several, inline, forgotten}
-use Rattle.arc_block.specs.Writers.{as_sole, capacity_of, sole_at}
-use Rattle.arc_block.specs.Shared.{can_join, joined_row}
+use Rattle.arc_parts.specs.Writers.{as_sole, capacity_of, sole_at}
+use Rattle.arc_parts.specs.Shared.{can_join, joined_row}
 use Rattle.arc_block.specs.Table.{is_alone}
 use Rattle.arc_block.proofs.Lists.{push-cases, set-cases}
 use Rattle.arc_commands.specs.Apart.{CoversAt, EndsWithin, EndsWithinAt, IsLawful, ShareNone}

@@ -10,9 +10,9 @@ use Rattle.arc_block.specs.Block.{BlockInfo}
 use Rattle.arc_block.specs.Place.{Place, nowhere, static_data, on_block}
 use Rattle.arc_block.specs.Table.{Row, Table, Role, StandsOn, row_at, block_of}
 use Rattle.arc_block.specs.Table.{is_alone}
-use Rattle.arc_block.specs.Writers.{as_sole, sole_at}
+use Rattle.arc_parts.specs.Writers.{as_sole, sole_at}
 use Rattle.arc_block.proofs.Alone.{is_alone-means}
-use Rattle.arc_block.specs.Shared.{joined_row}
+use Rattle.arc_parts.specs.Shared.{joined_row}
 use Rattle.arc_block.proofs.Lists.{get-set, get-set_other, push-cases, set-cases}
 use Rattle.arc_commands.specs.Blocks.{SaysOf, RowsAgree, is_sole}
 use Rattle.arc_commands.specs.Changes.{Setting, Shortage, no_shortage, may_write, may_write_at}

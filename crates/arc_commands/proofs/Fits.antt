@@ -13,12 +13,12 @@ use Rattle.arc_buffer.proofs.Sub.{length-sub}
 use Rattle.arc_block.specs.Block.{native_facts, partly_full, full_places, memory_info}
 use Rattle.arc_block.specs.Block.{Sort, native, vector, buffer, raw, BlockInfo, buffer_info}
 use Rattle.arc_block.specs.Place.{Place, nowhere, static_data, on_block, moved}
-use Rattle.arc_block.specs.Room.{ends_full}
-use Rattle.arc_block.specs.Shared.{split_answer}
+use Rattle.arc_parts.specs.Room.{ends_full}
+use Rattle.arc_parts.specs.Shared.{split_answer}
 use Rattle.arc_block.specs.Table.{Row, Role, reader, sole_writer, one_writer_of_several}
 use Rattle.arc_block.specs.Table.{inline, forgotten}
-use Rattle.arc_block.specs.Writers.{capacity_of, with_capacity, writer_capacity, after_advance}
-use Rattle.arc_block.specs.Writers.{as_reader, as_sole, sole_at}
+use Rattle.arc_parts.specs.Writers.{capacity_of, with_capacity, writer_capacity, after_advance}
+use Rattle.arc_parts.specs.Writers.{as_reader, as_sole, sole_at}
 use Rattle.arc_commands.specs.Blocks.{is_several, is_small, is_sole, is_writer}
 use Rattle.arc_commands.specs.Fits.{LieWithin, EndsAt, HasPlaces, HasSharedPlaces, FitsBeside}
 use Rattle.arc_commands.specs.Fits.{RowFits, counts_full}

@@ -12,15 +12,16 @@ use Rattle.arc_owners.specs.declared.error.TryReserveError.TheVariants.{AllocErr
 use Rattle.arc_owners.specs.declared.error.TryReserveError.TheVariants.{CapacityOverflow}
 use Rattle.arc_block.specs.Block.{Sort, native, BlockInfo, full_places, vector, buffer, raw}
 use Rattle.arc_block.specs.Place.{Place, nowhere, static_data, on_block}
-use Rattle.arc_block.specs.Room.{ends_full, growth, room_in}
-use Rattle.arc_block.specs.Shared.{asks_alone, is_on_block}
+use Rattle.arc_parts.specs.Room.{ends_full, growth, room_in}
+use Rattle.arc_parts.specs.Shared.{asks_alone, is_on_block}
 use Rattle.arc_block.specs.Table.{Row, sole_writer}
-use Rattle.arc_block.specs.Writers.{capacity_of, room, room_at, with_room, with_more, with_full}
-use Rattle.arc_block.specs.Writers.{new_writer, offset_at}
-use Rattle.arc_block.specs.declared.parts.room.Room.{Room}
-use Rattle.arc_block.specs.declared.parts.room.Room.TheVariants.{Spare, Fresh, Behind, Front}
-use Rattle.arc_block.specs.declared.parts.room.Room.TheVariants.{Growth, Own, Refused}
-use Rattle.arc_block.proofs.More.{more_none}
+use Rattle.arc_parts.specs.Writers.{capacity_of, room, room_at, with_room, with_more, with_full}
+use Rattle.arc_parts.specs.Writers.{new_writer}
+use Rattle.arc_block.specs.Place.{offset_at}
+use Rattle.arc_parts.specs.declared.room.Room.{Room}
+use Rattle.arc_parts.specs.declared.room.Room.TheVariants.{Spare, Fresh, Behind, Front}
+use Rattle.arc_parts.specs.declared.room.Room.TheVariants.{Growth, Own, Refused}
+use Rattle.arc_parts.proofs.More.{more_none}
 use Rattle.arc_commands.specs.Blocks.{is_sole}
 use Rattle.arc_commands.specs.Fits.{EndsAt, LieWithin, HasPlaces, RowFits, counts_full}
 use Rattle.arc_commands.proofs.Fits.{counted-owned}

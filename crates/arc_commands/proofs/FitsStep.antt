@@ -8,7 +8,7 @@ use Rattle.std.proofs.lemmas.Option.{none-some}
 use Rattle.arc_block.specs.Block.{BlockInfo}
 use Rattle.arc_block.specs.Place.{Place, nowhere, static_data, on_block}
 use Rattle.arc_block.specs.Table.{Row, Table, block_of, row_at}
-use Rattle.arc_block.specs.Writers.{as_sole}
+use Rattle.arc_parts.specs.Writers.{as_sole}
 use Rattle.arc_commands.specs.Fits.{RowFits, RowsFit}
 use Rattle.arc_commands.specs.Blocks.{RowsAgree}
 use Rattle.arc_commands.specs.Changes.{Setting, Shortage}

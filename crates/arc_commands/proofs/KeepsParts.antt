@@ -10,12 +10,12 @@ use Rattle.arc_buffer.proofs.Sub.{length-sub}
 use Rattle.arc_block.specs.Place.{Place, nowhere, static_data, on_block, moved}
 use Rattle.arc_block.specs.Table.{Row, Role, reader, sole_writer, one_writer_of_several}
 use Rattle.arc_block.specs.Table.{inline, forgotten}
-use Rattle.arc_block.specs.Writers.{capacity_of, with_capacity, after_advance, as_reader}
+use Rattle.arc_parts.specs.Writers.{capacity_of, with_capacity, after_advance, as_reader}
 use Rattle.arc_commands.specs.Apart.{CoversAt, role_places}
 use Rattle.arc_commands.specs.Blocks.{is_several, is_sole, is_writer}
 use Rattle.arc_commands.specs.Changes.{Setting, part_of, cut_row, off_part, to_part, truncated}
 use Rattle.arc_commands.proofs.Fits.{advance-fits, as-reader-fits, truncate-fits, part-fits, cut-fits}
-use Rattle.arc_block.specs.Shared.{extended, front_of}
+use Rattle.arc_parts.specs.Shared.{extended, front_of}
 use Rattle.arc_commands.specs.Fits.{RowFits}
 use Rattle.arc_commands.proofs.Among.{back-fits, extended-fits, front-fits}
 use Rattle.arc_commands.proofs.Parts.{KeepsPart, Parts, sole-with, stays-moved, stays-same}

@@ -16,18 +16,19 @@ use Rattle.arc_owners.specs.declared.error.TryReserveError.TheVariants as reserv
 use Rattle.arc_buffer.specs.Slice.{sub, range_answer, edge_answer}
 use Rattle.arc_block.specs.Block.{Sort, BlockInfo, native_facts, memory_info, native}
 use Rattle.arc_block.specs.Moves.{layout_move}
-use Rattle.arc_block.specs.declared.parts.moves.Move.{Move}
-use Rattle.arc_block.specs.declared.parts.moves.Move.TheVariants as to
+use Rattle.arc_block.specs.declared.layout.Move.{Move}
+use Rattle.arc_block.specs.declared.layout.Move.TheVariants as to
 use Rattle.arc_block.specs.Place.{Place, nowhere, static_data, on_block, metadata_at}
-use Rattle.arc_block.specs.Shared.{as_shared, as_unique, asks_alone, extended, front_of, on_native}
-use Rattle.arc_block.specs.Shared.{split_answer}
+use Rattle.arc_parts.specs.Shared.{as_shared, as_unique, asks_alone, extended, front_of, on_native}
+use Rattle.arc_parts.specs.Shared.{split_answer}
 use Rattle.arc_block.specs.Table.{Row, Role, block_of}
 use Rattle.arc_block.specs.Table.{reader, sole_writer, one_writer_of_several, inline, forgotten}
-use Rattle.arc_block.specs.Writers.{with_capacity, capacity_of, as_sole, after_advance}
-use Rattle.arc_block.specs.Writers.{with_room, with_more, as_reader, offset_at}
-use Rattle.arc_block.specs.declared.parts.room.Room.{Room as RoomFrom}
-use Rattle.arc_block.specs.declared.parts.room.Room.TheVariants as from
-use Rattle.arc_block.proofs.More.{more_none}
+use Rattle.arc_parts.specs.Writers.{with_capacity, capacity_of, as_sole, after_advance}
+use Rattle.arc_parts.specs.Writers.{with_room, with_more, as_reader}
+use Rattle.arc_block.specs.Place.{offset_at}
+use Rattle.arc_parts.specs.declared.room.Room.{Room as RoomFrom}
+use Rattle.arc_parts.specs.declared.room.Room.TheVariants as from
+use Rattle.arc_parts.proofs.More.{more_none}
 use Rattle.arc_commands.specs.Blocks.{is_several, is_sole, is_writer}
 use Rattle.arc_commands.specs.Changes.{Setting, Shortage, no_shortage, of_table, of_clones}
 use Rattle.arc_commands.specs.Changes.{of_blocks}

@@ -4,7 +4,7 @@ use Rattle.std.proofs.Common.{refl}
 use Rattle.arc_block.specs.Place.{Place, nowhere, static_data, on_block, moved}
 use Rattle.arc_block.specs.Table.{Row, Role}
 use Rattle.arc_block.specs.Table.{reader, sole_writer, one_writer_of_several, inline, forgotten}
-use Rattle.arc_block.specs.Writers.{with_capacity}
+use Rattle.arc_parts.specs.Writers.{with_capacity}
 use Rattle.arc_commands.specs.Blocks.{is_sole, is_writer}
 use Rattle.arc_commands.specs.Apart.{Covers, ShareNone}
 use Rattle.arc_commands.specs.Fits.{RowFits}

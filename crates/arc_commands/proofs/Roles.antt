@@ -3,7 +3,7 @@ use Rattle.std.proofs.Common.{◌≡◌, ℕ, true, false, refl, sym, ap}
 use Rattle.std.proofs.lemmas.Bool.{false≢true}
 use Rattle.arc_block.specs.Table.{Role, reader, sole_writer, one_writer_of_several, inline}
 use Rattle.arc_block.specs.Table.{forgotten}
-use Rattle.arc_block.specs.Writers.{capacity_of, with_capacity}
+use Rattle.arc_parts.specs.Writers.{capacity_of, with_capacity}
 use Rattle.arc_commands.specs.Blocks.{is_several, is_small, is_sole, is_writer}
 
 -- what holds of each sole writer's role holds of a role that is one

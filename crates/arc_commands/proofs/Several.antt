@@ -4,10 +4,10 @@ use Rattle.std.proofs.Common.{List, length, Option, arith}
 use Rattle.std.specs.Prelude.{nat_lt}
 use Rattle.std.proofs.lemmas.Bool.{and_parts, cases_Bool, eqb-true, false≢true, ltb-false, ltb-true}
 use Rattle.arc_block.specs.Place.{Place, nowhere, static_data, on_block, moved}
-use Rattle.arc_block.specs.Shared.{can_join, ends_at, front_of, joined_row}
+use Rattle.arc_parts.specs.Shared.{can_join, ends_at, front_of, joined_row}
 use Rattle.arc_block.specs.Table.{Row, Role, reader, sole_writer, one_writer_of_several, inline}
 use Rattle.arc_block.specs.Table.{forgotten}
-use Rattle.arc_block.specs.Writers.{after_advance, capacity_of}
+use Rattle.arc_parts.specs.Writers.{after_advance, capacity_of}
 use Rattle.arc_commands.specs.Apart.{CoversAt, IsParted}
 use Rattle.arc_commands.specs.Blocks.{is_several}
 

@@ -8,7 +8,7 @@ use Rattle.std.proofs.lemmas.Bool.{cases_Bool, false≢true}
 use Rattle.std.proofs.lemmas.Option.{none-some}
 use Rattle.arc_block.specs.Place.{Place, nowhere, static_data, on_block}
 use Rattle.arc_block.specs.Table.{Role, Row, Table, row_at}
-use Rattle.arc_block.specs.Writers.{as_sole, sole_at}
+use Rattle.arc_parts.specs.Writers.{as_sole, sole_at}
 use Rattle.arc_commands.specs.Blocks.{NoneOfSeveral, is_several}
 use Rattle.arc_commands.specs.Changes.{Setting, Shortage, is_now}
 use Rattle.arc_commands.specs.Commands.{ListCmd, ListReply}

@@ -17,7 +17,7 @@ use Rattle.arc_block.specs.declared.block.TheConstants.{MAX_OWNERS}
 use Rattle.arc_block.specs.Block.{Sort, native, vector, buffer, raw}
 use Rattle.arc_block.specs.Owned.{Stand}
 use Rattle.arc_block.specs.Place.{Place, nowhere, static_data, on_block}
-use Rattle.arc_block.specs.Shared.{asks_alone}
+use Rattle.arc_parts.specs.Shared.{asks_alone}
 use Rattle.arc_block.specs.Table.{Row, Table, row_at}
 use Rattle.arc_commands.specs.Blocks.{is_several, is_sole}
 use Rattle.arc_commands.specs.Changes.{Setting, is_box_whole, is_buffer_whole, is_on_block}

@@ -14,17 +14,18 @@ use Rattle.arc_block.specs.Block.{Sort, native, vector, buffer, raw, native_fact
 use Rattle.arc_block.specs.Block.{BlockInfo, memory_info, buffer_info, raw_info}
 use Rattle.arc_block.specs.Layouts.{LayoutFacts}
 use Rattle.arc_block.specs.Moves.{layout_move}
-use Rattle.arc_block.specs.declared.parts.moves.Move.{Move}
-use Rattle.arc_block.specs.declared.parts.moves.Move.TheVariants.{Stays, HandedBack, NewEmpty}
-use Rattle.arc_block.specs.declared.parts.moves.Move.TheVariants.{NewCount, LeavesCount}
+use Rattle.arc_block.specs.declared.layout.Move.{Move}
+use Rattle.arc_block.specs.declared.layout.Move.TheVariants.{Stays, HandedBack, NewEmpty}
+use Rattle.arc_block.specs.declared.layout.Move.TheVariants.{NewCount, LeavesCount}
 use Rattle.arc_block.specs.Place.{Place, nowhere, static_data, on_block, made_place, part_place}
 use Rattle.arc_block.specs.Place.{moved}
 use Rattle.arc_block.specs.Table.{Row, RowOf, Table, block_of, owners}
 use Rattle.arc_block.specs.Table.{reader, sole_writer, inline}
-use Rattle.arc_block.specs.Writers.{with_capacity, as_reader, new_writer, offset_at, room_for}
-use Rattle.arc_block.specs.Writers.{with_more, with_room}
-use Rattle.arc_block.specs.declared.parts.room.Room.{Room as RoomFrom}
-use Rattle.arc_block.specs.declared.parts.room.Room.TheVariants as from
+use Rattle.arc_parts.specs.Writers.{with_capacity, as_reader, new_writer, room_for}
+use Rattle.arc_block.specs.Place.{offset_at}
+use Rattle.arc_parts.specs.Writers.{with_more, with_room}
+use Rattle.arc_parts.specs.declared.room.Room.{Room as RoomFrom}
+use Rattle.arc_parts.specs.declared.room.Room.TheVariants as from
 use Rattle.arc_commands.specs.Blocks.{is_sole}
 use Rattle.arc_commands.specs.Commands.{ListReply}
 use Rattle.arc_commands.specs.declared.command.Reply.TheVariants as reply

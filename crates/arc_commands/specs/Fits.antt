@@ -5,7 +5,7 @@ use Rattle.std.specs.Option.{option_map_or}
 use Rattle.arc_block.specs.Block.{BlockInfo, IsMemory, Sort, native, vector, buffer, raw}
 use Rattle.arc_block.specs.Place.{Place, nowhere, static_data, on_block}
 use Rattle.arc_block.specs.Table.{Row, Table, row_at}
-use Rattle.arc_block.specs.Writers.{capacity_of, writer_capacity}
+use Rattle.arc_parts.specs.Writers.{capacity_of, writer_capacity}
 use Rattle.arc_commands.specs.Blocks.{is_several, is_small, is_sole}
 
 -- Whether a block of this sort counts its full places: one of ours, where items are dropped one by

@@ -6,14 +6,14 @@ use Rattle.std.specs.Option.{option_map_or}
 use Rattle.arc_owners.specs.declared.error.OwnerError.TheVariants as owner_error
 use Rattle.arc_owners.specs.declared.error.TryReserveError.TheVariants as reserve
 use Rattle.arc_buffer.specs.Slice.{edge_answer}
-use Rattle.arc_block.specs.declared.parts.room.Room.{Room}
-use Rattle.arc_block.specs.declared.parts.room.Room.TheVariants as from
+use Rattle.arc_parts.specs.declared.room.Room.{Room}
+use Rattle.arc_parts.specs.declared.room.Room.TheVariants as from
 use Rattle.arc_block.specs.Block.{Sort, native, vector, buffer, raw}
 use Rattle.arc_block.specs.Place.{Place, nowhere, static_data, on_block}
-use Rattle.arc_block.specs.Shared.{as_shared, as_unique, asks_alone, can_join, extended, front_of}
-use Rattle.arc_block.specs.Shared.{joined_row, on_native, split_answer}
+use Rattle.arc_parts.specs.Shared.{as_shared, as_unique, asks_alone, can_join, extended, front_of}
+use Rattle.arc_parts.specs.Shared.{joined_row, on_native, split_answer}
 use Rattle.arc_block.specs.Table.{Row, block_of}
-use Rattle.arc_block.specs.Writers.{after_advance, capacity_of, new_writer, with_room}
+use Rattle.arc_parts.specs.Writers.{after_advance, capacity_of, new_writer, with_room}
 use Rattle.arc_commands.specs.Changes.{Around, Change, Setting, Shortage, asking, asking_block}
 use Rattle.arc_commands.specs.Changes.{begun, in_range, is_now, is_vector, of_clones, reclaimed}
 use Rattle.arc_commands.specs.Changes.{room_of, with_made}

@@ -11,7 +11,7 @@ use Rattle.arc_block.specs.Place.{metadata_at}
 use Rattle.arc_block.specs.Table.{Row, Table, row_at, block_of, is_alone}
 use Rattle.arc_block.specs.Table.{Role, reader, sole_writer, one_writer_of_several, inline}
 use Rattle.arc_block.specs.Table.{forgotten}
-use Rattle.arc_block.specs.Writers.{capacity_of, as_sole, after_advance}
+use Rattle.arc_parts.specs.Writers.{capacity_of, as_sole, after_advance}
 use Rattle.arc_commands.specs.Blocks.{is_several}
 use Rattle.arc_commands.specs.Changes.{Around, Calls, Change, Setting, Shortage, asking}
 use Rattle.arc_commands.specs.Changes.{buffer_row, cut_row, filled, frozen, gone, in_range}

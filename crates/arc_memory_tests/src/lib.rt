@@ -1,5 +1,5 @@
-//! Tests of the public functions of `arc_memory`, `arc_buffer` and `arc_block`, which stand in a
-//! crate of their own so that the check of the tests doesn't prove those once more.
+//! Tests of the public functions of `arc_memory`, `arc_buffer`, `arc_block` and the crates of parts,
+//! which stand in a crate of their own so that the check of the tests doesn't prove those once more.
 #![tactic(auto)]
 
 #[cfg(test)]

@@ -1,11 +1,12 @@
 //! Parts of several writers that are released in each order, that stand on nothing, whose items
 //! have no size, and that leave a vector. All memory is given back with the last one.
 ghost use Rattle.std.specs.Prelude.{◌≡◌, IfSome, true};
-ghost use Rattle.arc_block.specs.Shared.{IsOneBlock, is_vector_at};
+ghost use Rattle.arc_parts.specs.Shared.{IsOneBlock, is_vector_at};
 
-use arc_block::parts::{SharedParts, SoleParts};
 use arc_buffer::kinds::Plain;
 use arc_owners::owners::Pass;
+use arc_writer_parts::shared::SharedParts;
+use arc_writer_parts::sole::SoleParts;
 use counting_heap::CountingHeap;
 use std::alloc::Global;
 use std::sync::Wait;

@@ -4,13 +4,14 @@
 ghost use Rattle.std.specs.Prelude.{◌≡◌, IfSome, IfErr, Option};
 ghost use Rattle.arc_owners.specs.count.Calls.{Owner};
 ghost use Rattle.arc_block.specs.Place.{Place};
-ghost use Rattle.arc_block.specs.Shared.{IsOneBlock};
+ghost use Rattle.arc_parts.specs.Shared.{IsOneBlock};
 
 use arc_block::layout::DefaultLayout;
-use arc_block::parts::{SharedParts, SoleParts};
 use arc_buffer::kinds::Plain;
 use arc_owners::error::{OwnerError, TryReserveError};
 use arc_owners::owners::Pass;
+use arc_writer_parts::shared::SharedParts;
+use arc_writer_parts::sole::SoleParts;
 use counting_heap::CountingHeap;
 use std::alloc::Global;
 use std::sync::Wait;

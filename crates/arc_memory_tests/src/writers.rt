@@ -3,11 +3,12 @@ ghost use Rattle.std.specs.Prelude.{◌≡◌, IfSome, IfErr};
 ghost use Rattle.arc_block.specs.Table.{reader as reader_only};
 
 use arc_block::layout::DefaultLayout;
-use arc_block::parts::{Parts, SoleParts};
 use arc_buffer::kinds::{Owned, Plain};
 use arc_owners::error::TryReserveError;
 use arc_owners::leave::RaiseLeave;
 use arc_owners::owners::Pass;
+use arc_parts::parts::Parts;
+use arc_writer_parts::sole::SoleParts;
 use linked_list_allocator::LocalHeap;
 use std::alloc::{Allocator, Global};
 use std::sync::Wait;
@@ -72,7 +73,7 @@ fn alone<A: Allocator + Copy>(reader: Reader<A>) -> Result<Writer<A>, Reader<A>>
     ensures { IfErr result (λ back. back.role ≡ reader_only) }
 {
     let mut pass = reader.pass();
-    reader.try_into_sole_as::<DefaultLayout>(&mut pass)
+    SoleParts::try_from_parts_as::<DefaultLayout>(reader, &mut pass)
 }
 
 /// A writer of eight bytes without the first three, and with 9 behind the others.

@@ -11,9 +11,9 @@ use Rattle.arc_buffer.proofs.Sub.{sub-sub}
 use Rattle.arc_block.specs.Layouts.{LayoutFacts}
 use Rattle.arc_block.specs.Place.{Place, nowhere, static_data, on_block, moved}
 use Rattle.arc_block.specs.Table.{reader}
-use Rattle.arc_block.specs.Window.{PartsView, Window, IsHeld}
+use Rattle.arc_parts.specs.Window.{PartsView, Window, IsHeld}
 use Rattle.arc_read.specs.Cuts.{SharesPart, SplitsOff, SplitsTo, cut_window}
-use Rattle.arc_block.proofs.Held.{moved_held}
+use Rattle.arc_parts.proofs.Held.{moved_held}
 
 module _ {T : Type 0} (legal : List T → Type 0) (boundary : List T → ℕ → Bool) where
   -- a range of a legal list is legal

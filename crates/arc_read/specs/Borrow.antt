@@ -7,7 +7,7 @@ use Rattle.arc_buffer.specs.declared.kinds.Slice as Slice
 use Rattle.arc_buffer.specs.declared.kinds.Subsliceable as Subsliceable
 use Rattle.arc_block.specs.declared.layout.Layout as Layout
 use Rattle.arc_block.specs.Place.{Place, nowhere}
-use Rattle.arc_block.specs.Window.{Window}
+use Rattle.arc_parts.specs.Window.{Window}
 use Rattle.arc_read.specs.Cuts.{cut_window}
 use Rattle.arc_read.specs.declared.borrow.ArcSliceBorrow.{ArcSliceBorrow}
 

@@ -4,8 +4,8 @@ use Rattle.arc_owners.specs.declared.count.tokens.Pass.{Pass}
 use Rattle.arc_owners.specs.count.Calls.{Owner}
 use Rattle.arc_buffer.specs.Slice.{sub}
 use Rattle.arc_block.specs.Place.{Place, moved, part_place}
-use Rattle.arc_block.specs.Window.{Window}
-use Rattle.arc_block.specs.Steps.{Shares}
+use Rattle.arc_parts.specs.Window.{Window}
+use Rattle.arc_parts.specs.Steps.{Shares}
 
 -- the part from start to end, as the same owner: it stays where it stands, also with no items
 abbrev pub cut_window : {T M : Type 0} → Window T M → ℕ → ℕ → Window T M

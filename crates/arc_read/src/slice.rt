@@ -2,15 +2,15 @@
 ghost use Rattle.std.specs.Prelude.{◌≡◌, [], false};
 ghost use Rattle.arc_block.specs.LayoutFacts.{layout_facts};
 ghost use Rattle.arc_block.specs.Place.{nowhere};
-ghost use Rattle.arc_block.specs.Steps.{EndsShownAt};
+ghost use Rattle.arc_parts.specs.Steps.{EndsShownAt};
 ghost use Rattle.arc_block.specs.Table.{reader};
-ghost use Rattle.arc_block.specs.Window.{IsHeld, parts_of, window_of};
+ghost use Rattle.arc_parts.specs.Window.{IsHeld, parts_of, window_of};
 
 use arc_block::layout::{DefaultLayout, Layout, StaticLayout};
-use arc_block::parts::Parts;
 use arc_buffer::buffer::Buffer;
 use arc_buffer::kinds::{Emptyable, Plain, Slice};
 use arc_owners::mark::{Mark, Open};
+use arc_parts::parts::Parts;
 use std::alloc::{Allocator, Global};
 use std::marker::{Model, PhantomData};
 
@@ -42,7 +42,7 @@ impl<S: Slice, L: Layout, B: Buffer<S::Item> + Drop, M: Drop, A: Allocator + Cop
     ghost use Rattle.std.specs.Prelude.{◌≡◌};
     ghost use Rattle.arc_block.specs.LayoutFacts.{layout_facts};
     ghost use Rattle.arc_block.specs.Table.{reader};
-    ghost use Rattle.arc_block.specs.Window.{IsHeld, Window, window_of};
+    ghost use Rattle.arc_parts.specs.Window.{IsHeld, Window, window_of};
 
     ghost Value = { Window S.Item M };
 

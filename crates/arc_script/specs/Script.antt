@@ -47,7 +47,7 @@ byte_setting layout writes_any clone_wants =
       extends = true;
       any_list = true;
       small = true;
-      shares = false;
+      shares = true;
     })
 
 -- static data, and blocks of a caller's making

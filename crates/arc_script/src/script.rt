@@ -114,6 +114,9 @@ where
 
 /// A script that is being run: its windows, what has come of a line, and the replies that have not
 /// gone out. It can't be dropped: it ends by `end`, which ends its windows.
+///
+/// What has one begins with `agree` of its table, which does nothing: so the types of the table's
+/// kind are named there, as the borrow checker asks.
 struct Engine<L: NamedLayout, A: Allocator + Copy>
 where
     L::Writable: LayoutMut,
@@ -160,6 +163,7 @@ where
         ensures windows { self.new.table ≡ self.old.table }
         ensures out { self.new.out.items ≡ self.old.out.items }
     {
+        self.table.agree();
         if self.too_long || bytes.len() > LONGEST_LINE - self.line.len() {
             self.too_long = true;
             self.line.clear();
@@ -174,6 +178,7 @@ where
         ensures { IfOk result (λ said. (line : List ℕ)
             → Holds self.now.line.items self.now.too_long line → IsReadAs line said) }
     {
+        self.table.agree();
         if self.too_long {
             return Ok(None);
         }
@@ -191,6 +196,7 @@ where
             (MayEnd L.named self.old.line.items self.old.too_long self.old.table
             self.new.table) }
     {
+        self.table.agree();
         let said = self.read_line()?;
         answer(&mut self.table, rt, said, &mut self.out)?;
         self.line.clear();
@@ -208,6 +214,7 @@ where
         ensures broken { OnErr result
             (MayEnd L.named line.now false self.old.table self.new.table) }
     {
+        self.table.agree();
         let said = parse(self.alloc, line)?;
         answer(&mut self.table, rt, said, &mut self.out)
     }
@@ -223,6 +230,7 @@ where
             → Stops L.named (bytes.now ++ line_feed ∷ []) writer writer self.old self.new
             ScriptError.Alloc) }
     {
+        self.table.agree();
         if !self.too_long && self.line.is_empty() {
             self.answer_in_place(rt, bytes)?;
             return Ok(());
@@ -249,6 +257,7 @@ where
         ensures write { IfErr result (λ e. e ≡ ScriptError.Write) }
         ensures fault { IfErr result (IsWhy (W.traffic writer.old) (W.traffic writer.new)) }
     {
+        self.table.agree();
         let written = write_out(writer, &self.out);
         self.out.clear();
         written
@@ -275,6 +284,7 @@ where
             (W.traffic writer.new) self.old self.new) }
         ensures fault { IfErr result (IsWhy (W.traffic writer.old) (W.traffic writer.new)) }
     {
+        self.table.agree();
         self.close_line(rt, bytes)?;
         if self.out.len() >= PIECE {
             self.flush(writer)?;
@@ -301,6 +311,7 @@ where
             self.old self.new) }
         ensures fault { IfErr result (IsWhy (W.traffic writer.old) (W.traffic writer.new)) }
     {
+        self.table.agree();
         let mut rest = piece;
         'lines: while let Some((line, behind)) = first_line(rest) {
             self.take_line(rt, writer, line)?;
@@ -339,6 +350,7 @@ where
             (IsCause (R.traffic reader.old) (R.traffic reader.new) (W.traffic writer.old)
             (W.traffic writer.new)) }
     {
+        self.table.agree();
         let Ok(read) = reader.read(piece) else {
             return Err(ScriptError::Read);
         };
@@ -363,6 +375,7 @@ where
             → IsBegun L.named ScriptError.Alloc start input writer self.new.out.items
             self.new.table) }
     {
+        self.table.agree();
         if !self.too_long && self.line.is_empty() {
             return Ok(());
         }
@@ -384,6 +397,7 @@ where
             → IsBegun L.named fault start input (W.traffic writer.new) [] self.new.table) }
         ensures fault { IfErr result (IsWhy (W.traffic writer.old) (W.traffic writer.new)) }
     {
+        self.table.agree();
         let answered = self.answer_rest(rt);
         self.flush(writer)?;
         answered?;
@@ -422,6 +436,7 @@ where
             (IsCause (R.traffic reader.old) (R.traffic reader.new) (W.traffic writer.old)
             (W.traffic writer.new)) }
     {
+        self.table.agree();
         let mut piece = room(self.alloc)?;
         'pieces: for _ in rt.forever() {
             if !self.take_piece(rt, reader, writer, &mut piece)? {
@@ -499,6 +514,7 @@ where
         (W.traffic writer.new)) }
 {
     let mut engine: Engine<L, A> = Engine::new(alloc);
+    engine.table.agree();
     let result = engine.run(rt, reader, writer);
     (result, engine.end())
 }

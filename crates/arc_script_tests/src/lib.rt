@@ -8,6 +8,8 @@ mod lines;
 #[cfg(test)]
 mod program;
 #[cfg(test)]
+mod refused_in_turn;
+#[cfg(test)]
 mod replies;
 pub mod rows;
 #[cfg(test)]

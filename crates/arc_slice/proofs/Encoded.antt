@@ -3,9 +3,9 @@ use Rattle.std.proofs.Common.{◌≡◌, ℕ, ◌+◌, ◌*◌, ◌-◌, ◌≤�
 use Rattle.std.specs.Prelude.{nat_lt}
 use Rattle.std.proofs.lemmas.Bool.{le-ltb}
 use Rattle.std.proofs.lemmas.List.{append_assoc, append-nil, take-append-le, take_all, drop_all, drop-append-le}
-use Rattle.arc_block.specs.declared.parts.room.Room.TheVariants.{Spare}
+use Rattle.arc_parts.specs.declared.room.Room.TheVariants.{Spare}
 use Rattle.arc_block.specs.Table.{RowOf}
-use Rattle.arc_block.specs.Writers.{room, room_at, capacity_of}
+use Rattle.arc_parts.specs.Writers.{room, room_at, capacity_of}
 use Rattle.arc_slice.specs.Frames.{IsFrame, IsAppended}
 
 -- where there are places enough, room is spare

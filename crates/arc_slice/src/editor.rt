@@ -5,7 +5,7 @@
 ghost use Rattle.std.specs.Prelude.{◌≡◌, ◌++◌, ◌↔◌, take, slice_range, false, IfOk, IfErr, OnOk};
 ghost use Rattle.std.specs.Prelude.{OnErr, Err};
 ghost use Rattle.std.specs.String.{string_bytes};
-ghost use Rattle.arc_block.specs.Window.{IsVecPart};
+ghost use Rattle.arc_parts.specs.Window.{IsVecPart};
 ghost use Rattle.arc_buffer.specs.Slice.{edge_answer, range_answer};
 ghost use Rattle.arc_buffer.specs.Text.{is_between_characters};
 ghost use Rattle.arc_owners.specs.declared.error.RangeError.{RangeError};

@@ -2,7 +2,7 @@
 //! by frame. No frame is copied.
 ghost use Rattle.std.specs.Prelude.{◌≡◌, ◌≤◌, ◌+◌, ◌++◌, ◌∷◌, ◌↔◌, [], length, IfOk, OnOk, OnErr};
 ghost use Rattle.std.specs.Prelude.{Err};
-ghost use Rattle.arc_block.specs.Writers.{capacity_of};
+ghost use Rattle.arc_parts.specs.Writers.{capacity_of};
 ghost use Rattle.arc_slice.specs.Frames.{IsFrame, IsAppended};
 ghost use Rattle.arc_slice.specs.declared.encoder.EncodeError.TheVariants.{TooLong};
 

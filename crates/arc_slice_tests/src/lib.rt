@@ -9,4 +9,6 @@ mod limits;
 #[cfg(test)]
 mod lists;
 #[cfg(test)]
+mod refused_in_turn;
+#[cfg(test)]
 mod windows;

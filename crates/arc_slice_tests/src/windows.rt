@@ -1,5 +1,5 @@
 //! Small windows: each call once, and in threads.
-ghost use Rattle.arc_block.specs.Steps.{IsPassAt};
+ghost use Rattle.arc_parts.specs.Steps.{IsPassAt};
 
 use arc_slice::error::{OwnerError, RangeError};
 use arc_slice::inlined::{SmallArcBytes, SmallArcSlice, SmallArcStr, SmallSlice};
@@ -77,6 +77,22 @@ fn called_as(rt: &impl Wait, alloc: Global, bytes: &[u8]) -> Result<[usize; 3], 
     Ok([cloned, cut, whole])
 }
 
+/// How many bytes windows have that are made of a vector and of a box of these bytes, each with a
+/// pass, with which it is then released.
+fn taken_as(alloc: Global, bytes: &[u8]) -> Option<[usize; 2]> {
+    let mut pass = Pass::none();
+    let items = Vec::from_slice(alloc, bytes).ok()?;
+    let window = Whole::try_from_vec_as(alloc, items, &mut pass).ok()?;
+    let of_vec = window.len();
+    window.release_as(&mut pass);
+    let mut pass = Pass::none();
+    let items = Vec::from_slice(alloc, bytes).ok()?.into_boxed_slice();
+    let window = Whole::try_from_boxed_as(alloc, items, &mut pass).ok()?;
+    let of_boxed = window.len();
+    window.release_as(&mut pass);
+    Some([of_vec, of_boxed])
+}
+
 /// A window over a text: whether it has none, and whether it is that text.
 fn text_seen(alloc: Global, text: &str) -> Option<[bool; 2]> {
     let window: SmallArcStr = SmallArcSlice::try_from_str(alloc, text).ok()?;
@@ -123,6 +139,7 @@ fn cut_and_cloned(rt: HostRuntime) -> Result<(), Fail> {
     assert!(rt; cut(&rt, rt.alloc(), &long) == Some((Some(7), 40, [false; 3])));
     assert!(rt; called_as(&rt, rt.alloc(), &[1, 2, 3, 4]) == Ok([4, 2, 4]));
     assert!(rt; called_as(&rt, rt.alloc(), &long) == Ok([40, 2, 40]));
+    assert!(rt; taken_as(rt.alloc(), &[1, 2, 3]) == Some([3, 3]));
     Ok(())
 }
 

@@ -67,7 +67,7 @@ module _ {H : Type 0} where
   asked-comes found o old new whole asks =
       at-once o.block old new asks.before (asked found o) whole asks.added
 
-  nothing-comes : Comes AddsNothing (refused AllocError)
+  pub nothing-comes : Comes AddsNothing (refused AllocError)
   nothing-comes o old new whole adds =
       at-once o.block old new adds.0 (refused AllocError o) whole adds.1
 

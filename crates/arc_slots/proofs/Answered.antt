@@ -14,15 +14,15 @@ use Rattle.arc_owners.specs.declared.error.TryReserveError.TheVariants as reserv
 use Rattle.arc_owners.specs.declared.history.entry.Entry.TheVariants as entry
 use Rattle.arc_owners.specs.count.Calls.{Owner}
 use Rattle.arc_buffer.specs.Slice.{edge_answer}
-use Rattle.arc_block.specs.declared.parts.room.Room.{Room}
-use Rattle.arc_block.specs.declared.parts.room.Room.TheVariants as from
+use Rattle.arc_parts.specs.declared.room.Room.{Room}
+use Rattle.arc_parts.specs.declared.room.Room.TheVariants as from
 use Rattle.arc_block.specs.Owned.{Stand}
 use Rattle.arc_block.specs.Place.{Place, nowhere, static_data, on_block, metadata_at}
 use Rattle.std.specs.Option.{option_map_or}
 use Rattle.arc_block.specs.Table.{Row, Role, reader, sole_writer, one_writer_of_several, inline}
 use Rattle.arc_block.specs.Table.{forgotten, block_of}
-use Rattle.arc_block.specs.Writers.{new_writer, with_more, with_room}
-use Rattle.arc_block.specs.Writers.{after_advance, capacity_of}
+use Rattle.arc_parts.specs.Writers.{new_writer, with_more, with_room}
+use Rattle.arc_parts.specs.Writers.{after_advance, capacity_of}
 use Rattle.arc_commands.specs.Additions.{RowAdds, Founds, MayBegin, Stays}
 use Rattle.arc_commands.specs.Changes.{Setting, Shortage, no_shortage, of_table}
 use Rattle.arc_commands.specs.Changes.{of_blocks}
@@ -41,6 +41,7 @@ use Rattle.arc_commands.specs.Commands.{ListCmd, ListReply}
 use Rattle.arc_commands.specs.declared.command.Cmd.TheVariants as command
 use Rattle.arc_commands.specs.declared.command.Reply.TheVariants as reply
 use Rattle.arc_commands.proofs.Roles.{sole_each, sole-several}
+use Rattle.arc_slots.proofs.Roles.{writer_each}
 use Rattle.arc_slots.specs.Answers.{Answers, around_in}
 use Rattle.arc_slots.specs.Calls.{Along}
 use Rattle.arc_slots.specs.Slots.{IsSlotRole, SlotView, row_of, stand_of}
@@ -53,8 +54,8 @@ use Rattle.arc_slots.specs.declared.slot.Writing.TheVariants as writing
 use Rattle.arc_slots.proofs.ByForm.{write-adds, write-none}
 use Rattle.arc_slots.proofs.Added.{Ended, ended-comes, enters-along}
 use Rattle.arc_commands.specs.Changes.{of_growth}
-use Rattle.arc_block.specs.Room.{IsBuffersRefusal}
-use Rattle.arc_block.specs.Writers.{offset_at}
+use Rattle.arc_parts.specs.Room.{IsBuffersRefusal}
+use Rattle.arc_block.specs.Place.{offset_at}
 use Rattle.arc_slots.proofs.Told.{many_along}
 use Rattle.arc_slots.proofs.Told.{many-founded, row-begins}
 use Rattle.arc_slots.proofs.Told.{stand_block}
@@ -68,18 +69,19 @@ metadata-numbered b (on_block None offset info) = refl
 metadata-numbered b (on_block (Some o) offset info) = refl
 
 -- what is refused for one reason is refused for no other
-refused-same : (e f : TryReserveError)
+pub refused-same : (e f : TryReserveError)
     → ◌≡◌ {A = Result (Unit {0}) TryReserveError} (Err e) (Err f) → e ≡ f
 refused-same e f is = same_Some e f (ap result_err is)
 
 -- what holds of each role that a slot's window has holds of one that is
-pub slot_each : (P : Role → Type 0) → P reader → ((places : ℕ) → P (sole_writer places)) → P inline
-    → (role : Role) → IsSlotRole role → P role
-slot_each P reads writes small reader known = reads
-slot_each P reads writes small (sole_writer places) known = writes places
-slot_each P reads writes small (one_writer_of_several places) known = absurd known
-slot_each P reads writes small inline known = small
-slot_each P reads writes small forgotten known = absurd known
+pub slot_each : (P : Role → Type 0) → P reader → ((places : ℕ) → P (sole_writer places))
+    → ((places : ℕ) → P (one_writer_of_several places)) → P inline → (role : Role)
+    → IsSlotRole role → P role
+slot_each P reads writes beside small reader known = reads
+slot_each P reads writes beside small (sole_writer places) known = writes places
+slot_each P reads writes beside small (one_writer_of_several places) known = beside places
+slot_each P reads writes beside small inline known = small
+slot_each P reads writes beside small forgotten known = absurd known
 
 small_each : (P : Role → Type 0) → P inline → (role : Role) → is_small role ≡ true → P role
 small_each P small reader is = absurd (false≢true is)
@@ -265,20 +267,22 @@ module _ {T M : Type 0} (setting : Setting T) (windows : ℕ) (s : SlotView T M)
       (is_now reply.Ok (truncated setting.drops row len)) else is_now reply.Ok row) long)
       (refl, refl, refl)
 
-  -- what is for a reader, for each sole writer and for a small window is for a slot's window
+  -- what is for a reader, for each writer and for a small window is for a slot's window
   pub for-each : IsSlotRole s.role → (c : Command) → allowed c reader ≡ true
-      → ((places : ℕ) → allowed c (sole_writer places) ≡ true) → allowed c inline ≡ true
-      → IsFor c
-  for-each known c reads writes small =
-      slot_each (λ role. allowed c role ≡ true) reads writes small s.role known
+      → ((places : ℕ) → allowed c (sole_writer places) ≡ true)
+      → ((places : ℕ) → allowed c (one_writer_of_several places) ≡ true)
+      → allowed c inline ≡ true → IsFor c
+  for-each known c reads writes beside small =
+      slot_each (λ role. allowed c role ≡ true) reads writes beside small s.role known
 
-  -- and what is for the first two, for one that is no small one
+  -- and what is for these but the last, for one that is no small one
   pub for-large : IsSlotRole s.role → is_small s.role ≡ false → (c : Command)
       → allowed c reader ≡ true → ((places : ℕ) → allowed c (sole_writer places) ≡ true)
-      → IsFor c
-  for-large known large c reads writes =
+      → ((places : ℕ) → allowed c (one_writer_of_several places) ≡ true) → IsFor c
+  for-large known large c reads writes beside =
       slot_each (λ role. is_small role ≡ false → allowed c role ≡ true) (λ is. reads)
-      (λ places is. writes places) (λ is. absurd (false≢true (sym is))) s.role known large
+      (λ places is. writes places) (λ places is. beside places)
+      (λ is. absurd (false≢true (sym is))) s.role known large
 
   -- what isn't for small windows
   pub small-kind : (c : Command) → is_small s.role ≡ true → allowed c inline ≡ false
@@ -296,28 +300,44 @@ module _ {T M : Type 0} (setting : Setting T) (windows : ℕ) (s : SlotView T M)
   reader-kind c is not adds =
       same c reply.Kind (not-for no_shortage c (not s.role is)) adds
 
-  -- ---- several writers, of whom no window is one
+  -- ---- who is one of several, or the only one
 
-  pub share-kind : (i : ℕ) → IsSlotRole s.role → setting.calls.shares ≡ false
+  -- the kind has no windows of several writers
+  pub share-none : (i : ℕ) → IsSlotRole s.role → setting.calls.shares ≡ false
       → Said (command.Share i) reply.Kind (Some s) None passes
-  share-kind i known none =
+  share-none i known none =
       same (command.Share i) reply.Kind (not-for no_shortage (command.Share i)
-      (slot_each (λ role. allowed (command.Share i) role ≡ false) refl (λ places. none) refl s.role
-      known)) (refl, refl, refl)
+      (slot_each (λ role. allowed (command.Share i) role ≡ false) refl (λ places. none)
+      (λ places. refl) refl s.role known)) (refl, refl, refl)
 
-  pub unique-kind : (i : ℕ) → IsSlotRole s.role
+  -- only a sole writer becomes one of several
+  pub share-kind : (i : ℕ) → IsSlotRole s.role → is_sole s.role ≡ false
+      → Said (command.Share i) reply.Kind (Some s) None passes
+  share-kind i known other =
+      same (command.Share i) reply.Kind (not-for no_shortage (command.Share i)
+      (slot_each (λ role. is_sole role ≡ false → allowed (command.Share i) role ≡ false)
+      (λ is. refl) (λ places is. absurd (false≢true (sym is))) (λ places is. refl) (λ is. refl)
+      s.role known other)) (refl, refl, refl)
+
+  -- only one of several becomes the only one
+  pub unique-kind : (i : ℕ) → IsSlotRole s.role → is_several s.role ≡ false
       → Said (command.Unique i) reply.Kind (Some s) None passes
-  unique-kind i known =
+  unique-kind i known other =
       same (command.Unique i) reply.Kind (not-for no_shortage (command.Unique i)
-      (slot_each (λ role. allowed (command.Unique i) role ≡ false) refl (λ places. refl) refl s.role
-      known)) (refl, refl, refl)
+      (slot_each (λ role. is_several role ≡ false → allowed (command.Unique i) role ≡ false)
+      (λ is. refl) (λ places is. refl) (λ places is. absurd (false≢true (sym is))) (λ is. refl)
+      s.role known other)) (refl, refl, refl)
 
-  pub join-kind : (i j : ℕ) → IsSlotRole s.role
-      → Said (command.Join i j) reply.Kind (Some s) None passes
-  join-kind i j known =
-      same (command.Join i j) reply.Kind (not-for no_shortage (command.Join i j)
-      (slot_each (λ role. allowed (command.Join i j) role ≡ false) refl (λ places. refl) refl s.role
-      known)) (refl, refl, refl)
+  -- of one window alone there is no join
+  pub join-kind : (i j : ℕ) → Said (command.Join i j) reply.Kind (Some s) None passes
+  join-kind i j =
+      same (command.Join i j) reply.Kind (either (allowed (command.Join i j) s.role))
+      (refl, refl, refl)
+    where
+      either : (b : Bool) → (if b then is_now reply.Kind row else is_now reply.Kind row)
+          ≡ is_now reply.Kind row
+      either true = refl
+      either false = refl
 
   -- ---- what is only told
 
@@ -355,12 +375,13 @@ module _ {T M : Type 0} (setting : Setting T) (windows : ℕ) (s : SlotView T M)
       same (command.Len i) (reply.Number (length s.window.items))
       (for-role no_shortage (command.Len i) for) (refl, refl, refl)
 
-  pub places-told : (i places : ℕ) → is_sole s.role ≡ true → places ≡ capacity_of s.role
+  pub places-told : (i places : ℕ) → is_writer s.role ≡ true → places ≡ capacity_of s.role
       → Said (command.Room i) (reply.Number places) (Some s) None passes
   places-told i places writes is =
       same (command.Room i) (reply.Number places)
       (for-role no_shortage (command.Room i)
-      (writes-for writes (command.Room i) true (λ n. refl))
+      (writer_each (λ role. allowed (command.Room i) role ≡ true) (λ n. refl) (λ n. refl) s.role
+      writes)
       ∙ ap (λ n. is_now (reply.Number n) row) (sym is)) (refl, refl, refl)
 
   -- what is for writers alone
@@ -392,6 +413,35 @@ module _ {T M : Type 0} (setting : Setting T) (windows : ℕ) (s : SlotView T M)
   write-kind i (writing.Items items) other =
       same (command.Ext i items) reply.Kind (not-for no_shortage (command.Ext i items)
       (writers-for (command.Ext i items) s.role other refl refl refl)) (refl, refl, refl)
+
+  -- a first block begins under the window
+  pub begins-as : (c : Command) (new : SlotView T M) (r : Row T M) (passes' : List (Pass Whole))
+      → answer_any setting no_shortage around c row ≡ begun r
+      → ((there : Stand) → Stays here there None passes passes'
+      → RowAdds here there None passes passes' setting row c reply.Ok)
+      → here ≡ None → Founds (stand_of (Some new)) passes passes' → row_of new ≡ r
+      → Said c reply.Ok (Some new) None passes'
+  begins-as c new r passes' is adds none founds row-is = record {
+    begins = is_some (stand_block (stand_of (Some new)));
+    places = 0;
+    change =
+        is ∙ ap (λ x. record {
+          reply = reply.Ok;
+          row = Some x;
+          made = None;
+          begins = is_some (block_of r.place);
+        }) (sym row-is)
+        ∙ ap (λ b. record {
+          reply = reply.Ok;
+          row = Some (row_of new);
+          made = None;
+          begins = b;
+        }) (row-begins new r row-is);
+    blocks = many-founded passes passes' (stand_of (Some new)) founds;
+    adds =
+        adds (stand_of (Some new))
+        (subst (λ st. MayBegin st (stand_of (Some new)) passes passes') (sym none) founds, refl);
+  }
 
   module _ (writes : is_sole s.role ≡ true) (i : ℕ) where
     module _ (what : Writing (List T) T) where
@@ -437,34 +487,6 @@ module _ {T M : Type 0} (setting : Setting T) (windows : ℕ) (s : SlotView T M)
         → (short : Shortage) (room : Room) → room ≡ room_of setting row (additional_of what)
         → answer_any setting short around (write_command i what) row ≡ outcome what short room
     write-is = write-in around
-
-    pub begins-as : (c : Command) (new : SlotView T M) (r : Row T M) (passes' : List (Pass Whole))
-        → answer_any setting no_shortage around c row ≡ begun r
-        → ((there : Stand) → Stays here there None passes passes'
-        → RowAdds here there None passes passes' setting row c reply.Ok)
-        → here ≡ None → Founds (stand_of (Some new)) passes passes' → row_of new ≡ r
-        → Said c reply.Ok (Some new) None passes'
-    begins-as c new r passes' is adds none founds row-is = record {
-      begins = is_some (stand_block (stand_of (Some new)));
-      places = 0;
-      change =
-          is ∙ ap (λ x. record {
-            reply = reply.Ok;
-            row = Some x;
-            made = None;
-            begins = is_some (block_of r.place);
-          }) (sym row-is)
-          ∙ ap (λ b. record {
-            reply = reply.Ok;
-            row = Some (row_of new);
-            made = None;
-            begins = b;
-          }) (row-begins new r row-is);
-      blocks = many-founded passes passes' (stand_of (Some new)) founds;
-      adds =
-          adds (stand_of (Some new))
-          (subst (λ st. MayBegin st (stand_of (Some new)) passes passes') (sym none) founds, refl);
-    }
 
     module _ (what : Writing (List T) T) (can : can_write setting.calls what ≡ true) where
       put-in : (room : Room) → room ≡ room_of setting row (additional_of what)

@@ -12,8 +12,9 @@ use Rattle.arc_owners.specs.count.Calls.{Owner, Asks, Leaves, TakesBlock}
 use Rattle.arc_block.specs.Block.{Sort, BlockInfo, native, vector, buffer, raw}
 use Rattle.arc_block.specs.Owned.{Stand}
 use Rattle.arc_block.specs.Place.{Place, nowhere, static_data, on_block}
-use Rattle.arc_block.specs.Table.{Row, reader, sole_writer}
-use Rattle.arc_block.specs.Writers.{as_sole}
+use Rattle.arc_parts.specs.Shared.{as_unique}
+use Rattle.arc_block.specs.Table.{Row, one_writer_of_several, reader, sole_writer}
+use Rattle.arc_parts.specs.Writers.{as_sole}
 use Rattle.arc_commands.specs.Additions.{RowAdds, AddsAt, Enters}
 use Rattle.arc_commands.specs.Additions.{AsksIf, AsksInVain, AsksInVainAt, Goes, Takes, TakesAs}
 use Rattle.arc_commands.specs.Additions.{ended}
@@ -28,7 +29,7 @@ use Rattle.arc_commands.specs.Changes.{is_unique_at, is_writable_at, may_write}
 use Rattle.arc_commands.specs.Changes.{may_write_at, may_write_sort, of_buffer, taken_as}
 use Rattle.arc_commands.specs.Step.{shortage}
 use Rattle.arc_commands.specs.Changes.{gone}
-use Rattle.arc_commands.specs.Blocks.{is_sole}
+use Rattle.arc_commands.specs.Blocks.{is_several, is_sole}
 use Rattle.arc_commands.specs.Commands.{ListCmd, ListReply}
 use Rattle.arc_commands.specs.declared.command.Cmd.TheVariants as command
 use Rattle.arc_commands.specs.declared.command.Reply.TheVariants as reply
@@ -46,6 +47,9 @@ use Rattle.arc_slots.proofs.Native.{and_none}
 use Rattle.arc_slots.proofs.Taken.{set-twice}
 use Rattle.arc_slots.proofs.Told.{alone-told, many_along}
 use Rattle.arc_slots.proofs.Answered.{for-role, not-for, reads-for, same, writes-for}
+use Rattle.arc_slots.specs.Several.{AsksAt}
+use Rattle.arc_slots.proofs.Roles.{several_each}
+use Rattle.arc_commands.proofs.Roles.{several-sole}
 use Rattle.arc_slots.proofs.Have.{have-on}
 
 module _ {T M : Type 0} (setting : Setting T) (windows : ℕ) (s : SlotView T M)
@@ -325,6 +329,72 @@ module _ {T M : Type 0} (setting : Setting T) (windows : ℕ) (s : SlotView T M)
         adds = asks-if (is_writable_at setting.writes_any row.place) here asks;
       }
 
+    -- ---- who is the only one of several
+
+    module _ (has : HasPassFor passes here) (several : is_several s.role ≡ true)
+        (shares : setting.calls.shares ≡ true) where
+      unique-is : (i : ℕ) (found : Bool) → around.alone ≡ found
+          → answer_any setting no_shortage around (command.Unique i) row
+          ≡ (if found then is_now reply.Ok (as_unique row) else is_now reply.Refused row)
+      unique-is i found is =
+          for-role setting windows s passes no_shortage (command.Unique i)
+          (several_each (λ role. is_allowed {T = T} {M = M} setting.calls (command.Unique i) role ≡ true)
+          (λ places. shares) s.role several)
+          ∙ ap (λ b. if b then is_now reply.Ok (as_unique row) else is_now reply.Refused row) is
+
+      -- whether he is alone is what was said, and that was added
+      alone-at : (st : Stand) (found : Bool) → HasPassFor passes st → AsksAt st passes passes' found
+          → (alone_at st ≡ found) × (length passes' ≡ length passes)
+          × (found ≡ true → Enters st st None passes passes' (History_asked true))
+      alone-at None found has asks = (
+        sym asks.0,
+        ap length asks.1,
+        λ so. absurd (false≢true (sym asks.0 ∙ so)),
+      )
+      alone-at (Some (n, o)) found has asks = (
+        told-alone n o has found asks,
+        many_along passes passes' (Some (n, o)) (λ o p q. Asks o p q found) asks,
+        λ so. asked-adds (Some (n, o)) true
+            (subst (AskedAs (Some (n, o))) so asks),
+      )
+
+      pub made-unique : (i : ℕ) → AsksAt here passes passes' true → (new : SlotView T M)
+          → stand_of (Some new) ≡ here → row_of new ≡ as_unique row
+          → Said (command.Unique i) reply.Ok (Some new) None passes'
+      made-unique i asks new stays is =
+          let told = alone-at here true has asks in
+          record {
+            begins = false;
+            places = 0;
+            change = unique-is i true told.0 ∙ ap (is_now reply.Ok) (sym is);
+            blocks = told.1;
+            adds = (stays, refl, (told.2 refl).2);
+          }
+
+      -- on a block the count said that he isn't; on none nobody was asked
+      vainly : (b : Option ℕ) (place : Place (Option Owner) M)
+          → AsksAt (stand_at b place) passes passes' false
+          → AsksIf (stand_at b place) (stand_at b place) None passes passes'
+          (is_on_block (numbered b place))
+      vainly b nowhere asks = (refl, refl, asks.1)
+      vainly b static_data asks = (refl, refl, asks.1)
+      vainly b (on_block None offset info) asks = (refl, refl, asks.1)
+      vainly None (on_block (Some o) offset info) asks = (refl, refl, asks.1)
+      vainly (Some n) (on_block (Some o) offset info) asks =
+          asked-adds (Some (n, o)) false asks
+
+      pub not-made-unique : (i : ℕ) → AsksAt here passes passes' false
+          → Said (command.Unique i) reply.Refused (Some s) None passes'
+      not-made-unique i asks =
+          let told = alone-at here false has asks in
+          record {
+            begins = false;
+            places = 0;
+            change = unique-is i false told.0;
+            blocks = told.1;
+            adds = vainly s.block s.window.place asks;
+          }
+
     -- ---- what the window stands on, taken out
 
     abbrev TookAs : Stand → Type 0
@@ -395,15 +465,14 @@ module _ {T M : Type 0} (setting : Setting T) (windows : ℕ) (s : SlotView T M)
     not-free (Some n) (on_block (Some o) offset info) has asks counted =
         told-alone n o has false asks
 
-    module _ (has : HasPassFor passes here) (reads : s.role ≡ reader) (c : Command)
+    module _ (has : HasPassFor passes here) (one : is_sole s.role ≡ false) (c : Command)
         (wanted : Bool) (answer : ListReply T M)
         (is : (short : Shortage) → answer_any setting short around c row
         ≡ taken_as wanted around row answer) where
-      -- who reads has it where nobody else has a part
+      -- who may have others beside him has it where nobody else has a part
       reads-free : (wanted && (is_sole row.role || is_free around.alone row.place))
           ≡ (wanted && is_free around.alone row.place)
-      reads-free =
-          ap (λ role. wanted && (is_sole role || is_free around.alone row.place)) reads
+      reads-free = ap (λ b. wanted && (b || is_free around.alone row.place)) one
 
       took-out : (wanted ≡ true → is_on_block row.place ≡ true)
           → (Takes here None None passes passes'
@@ -491,35 +560,85 @@ module _ {T M : Type 0} (setting : Setting T) (windows : ℕ) (s : SlotView T M)
   asks-adds i taking.Buffer passes' asks = asks
   asks-adds i taking.Raw passes' asks = asks
 
+  -- by one that may have others beside him: who reads, or one of several who write
+  module _ (has : HasPassFor passes here) (one : is_sole s.role ≡ false) (i : ℕ) (what : Taking)
+      (for : is_allowed setting.calls (takes i what) s.role ≡ true)
+      (passes' : List (Pass Whole)) where
+    beside-adds : (w : Taking) → Takes here None None passes passes'
+        → RowAdds here None None passes passes' setting row (takes i w) (had i w)
+    beside-adds taking.Vector took = subst (TakesAs here None None passes passes') (sym one) took
+    beside-adds taking.Boxed took = took
+    beside-adds taking.Buffer took = subst (TakesAs here None None passes passes') (sym one) took
+    beside-adds taking.Raw took = took
+
+    pub took-beside : TakesOut (have i what) here passes passes'
+        → Said (takes i what) (take_reply what s.window.items) None None passes'
+    took-beside =
+        took-out passes' has one (takes i what) (have i what) (had i what) (take-is i what for)
+        (have-on setting.drops what row.place (length row.items)) (beside-adds what)
+
+    pub untook-beside : RefusesOut (have i what) here passes passes'
+        → Said (takes i what) reply.Refused (Some s) None passes'
+    untook-beside =
+        refused-out passes' has one (takes i what) (have i what) (had i what) (take-is i what for)
+        (asks-adds i what passes')
+
+  -- of one of several the vector is, and nothing else
+  beside-for : (i : ℕ) → is_several s.role ≡ true
+      → is_allowed setting.calls (takes i taking.Vector) s.role ≡ true
+  beside-for i several =
+      several_each (λ role. is_allowed {T = T} {M = M} setting.calls (takes i taking.Vector) role ≡ true)
+      (λ places. refl) s.role several
+
+  pub took-shared : HasPassFor passes here → is_several s.role ≡ true → (i : ℕ)
+      → (passes' : List (Pass Whole)) → TakesOut (have i taking.Vector) here passes passes'
+      → Said (command.Take i) (reply.Vec s.window.items) None None passes'
+  took-shared has several i passes' out =
+      took-beside has (several-sole s.role several) i taking.Vector (beside-for i several) passes'
+      out
+
+  pub untook-shared : HasPassFor passes here → is_several s.role ≡ true → (i : ℕ)
+      → (passes' : List (Pass Whole)) → RefusesOut (have i taking.Vector) here passes passes'
+      → Said (command.Take i) reply.Refused (Some s) None passes'
+  untook-shared has several i passes' out =
+      untook-beside has (several-sole s.role several) i taking.Vector (beside-for i several)
+      passes' out
+
+  take-none : (i : ℕ) (what : Taking) → is_several s.role ≡ true
+      → ((places : ℕ) → is_allowed setting.calls (takes i what) (one_writer_of_several places)
+      ≡ false) → RowAdds here here None passes passes setting row (takes i what) reply.Kind
+      → Said (takes i what) reply.Kind (Some s) None passes
+  take-none i what several none adds =
+      same setting windows s passes (takes i what) reply.Kind
+      (not-for setting windows s passes no_shortage (takes i what)
+      (several_each (λ role. is_allowed {T = T} {M = M} setting.calls (takes i what) role ≡ false) none s.role
+      several)) adds
+
+  pub box-kind : (i : ℕ) → is_several s.role ≡ true
+      → Said (command.TakeBox i) reply.Kind (Some s) None passes
+  box-kind i several = take-none i taking.Boxed several (λ places. refl) (refl, refl, refl)
+
+  pub buffer-kind : (i : ℕ) → is_several s.role ≡ true
+      → Said (command.TakeBuf i) reply.Kind (Some s) None passes
+  buffer-kind i several = take-none i taking.Buffer several (λ places. refl) (refl, refl, refl)
+
+  pub raw-kind : (i : ℕ) → is_several s.role ≡ true
+      → Said (command.TakeRaw i) reply.Kind (Some s) None passes
+  raw-kind i several = take-none i taking.Raw several (λ places. refl) (refl, refl, refl)
+
   -- by one that reads
   module _ (has : HasPassFor passes here) (reads : s.role ≡ reader) (i : ℕ) (what : Taking)
       (passes' : List (Pass Whole)) where
-    read-is : (short : Shortage) → answer_any setting short around (takes i what) row
-        ≡ taken_as (have i what) around row (had i what)
-    read-is =
-        take-is i what (reads-for setting windows s passes reads (takes i what) true
-        (for-reader i what))
-
-    read-adds : (w : Taking) → Takes here None None passes passes'
-        → RowAdds here None None passes passes' setting row (takes i w) (had i w)
-    read-adds taking.Vector took =
-        subst (TakesAs here None None passes passes') (sym (ap is_sole reads)) took
-    read-adds taking.Boxed took = took
-    read-adds taking.Buffer took =
-        subst (TakesAs here None None passes passes') (sym (ap is_sole reads)) took
-    read-adds taking.Raw took = took
+    read-for : is_allowed setting.calls (takes i what) s.role ≡ true
+    read-for = reads-for setting windows s passes reads (takes i what) true (for-reader i what)
 
     pub took : TakesOut (have i what) here passes passes'
         → Said (takes i what) (take_reply what s.window.items) None None passes'
-    took =
-        took-out passes' has reads (takes i what) (have i what) (had i what) read-is
-        (have-on setting.drops what row.place (length row.items)) (read-adds what)
+    took = took-beside has (ap is_sole reads) i what read-for passes'
 
     pub untook : RefusesOut (have i what) here passes passes'
         → Said (takes i what) reply.Refused (Some s) None passes'
-    untook =
-        refused-out passes' has reads (takes i what) (have i what) (had i what) read-is
-        (asks-adds i what passes')
+    untook = untook-beside has (ap is_sole reads) i what read-for passes'
 
   -- by one that writes, who is alone
   module _ (writes : is_sole s.role ≡ true) (i : ℕ) (what : Taking)

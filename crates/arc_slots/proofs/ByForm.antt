@@ -7,7 +7,7 @@ use Rattle.arc_owners.specs.declared.error.OwnerError.TheVariants.{AllocError, C
 use Rattle.arc_owners.specs.declared.error.TryReserveError.{TryReserveError}
 use Rattle.arc_block.specs.Owned.{Stand}
 use Rattle.arc_block.specs.Table.{Row}
-use Rattle.arc_block.specs.Shared.{asks_alone}
+use Rattle.arc_parts.specs.Shared.{asks_alone}
 use Rattle.arc_commands.specs.Additions.{RowAdds, Joins, Enters, Stays, refused, asks_first}
 use Rattle.arc_commands.specs.Additions.{HasMade, HasRefused, Splits}
 use Rattle.arc_commands.specs.Blocks.{is_several}

@@ -4,7 +4,7 @@ use Rattle.std.proofs.Common.{◌≡◌, ℕ, ◌-◌, ◌&&◌, not, Bool, true
 use Rattle.std.proofs.Common.{if◌then◌else◌, List, [], ◌∷◌, ◌++◌, length, Option, Some, None}
 use Rattle.std.proofs.Common.{Result, Ok, Err, is_some, refl, sym, ap, ◌∙◌, subst}
 use Rattle.std.specs.Result.{OnOk}
-use Rattle.arc_block.proofs.More.{more_none}
+use Rattle.arc_parts.proofs.More.{more_none}
 use Rattle.std.specs.Prelude.{nat_lt, ◌+◌, ◌≤◌}
 use Rattle.std.proofs.lemmas.Bool.{false≢true, and_parts}
 use Rattle.arc_owners.specs.declared.mark.Whole.{Whole}
@@ -19,27 +19,30 @@ use Rattle.arc_block.specs.Block.{IsWritable}
 use Rattle.arc_block.specs.Layouts.{LayoutFacts}
 use Rattle.arc_block.specs.Place.{Place, nowhere, static_data, on_block}
 use Rattle.arc_block.specs.Place.{at_owner}
-use Rattle.arc_block.specs.Room.{ends_full, growth, room_in}
-use Rattle.arc_block.specs.Moves.{Moves, counted_move, layout_move}
-use Rattle.arc_block.specs.declared.parts.moves.Move.{Move}
-use Rattle.arc_block.specs.declared.parts.moves.Move.TheVariants as to
-use Rattle.arc_block.specs.Table.{Row, Role, reader, sole_writer}
-use Rattle.arc_block.specs.Window.{Window, PartsView, window_of, parts_of}
-use Rattle.arc_block.specs.Writers.{capacity_of, room, room_at, with_room, with_more, with_full}
-use Rattle.arc_block.specs.Writers.{new_writer, MakesRoom, Pushes, Reclaims, as_reader}
-use Rattle.arc_block.specs.Writers.{Freezes, IsWriterPlace, offset_at}
-use Rattle.arc_block.specs.declared.parts.room.Room.{Room}
-use Rattle.arc_block.specs.declared.parts.room.Room.TheVariants.{Spare, Fresh, Behind, Front}
-use Rattle.arc_block.specs.declared.parts.room.Room.TheVariants.{Growth, Own, Refused}
+use Rattle.arc_parts.specs.Room.{ends_full, growth, room_in}
+use Rattle.arc_parts.specs.Moves.{Moves}
+use Rattle.arc_block.specs.Moves.{counted_move, layout_move}
+use Rattle.arc_block.specs.declared.layout.Move.{Move}
+use Rattle.arc_block.specs.declared.layout.Move.TheVariants as to
+use Rattle.arc_parts.specs.Shared.{is_on_block}
+use Rattle.arc_block.specs.Table.{Row, RowOf, Role, reader, sole_writer, one_writer_of_several}
+use Rattle.arc_block.specs.Table.{inline, forgotten}
+use Rattle.arc_parts.specs.Window.{Window, PartsView, window_of, parts_of}
+use Rattle.arc_parts.specs.Writers.{capacity_of, room, room_at, with_room, with_more, with_full}
+use Rattle.arc_parts.specs.Writers.{new_writer, MakesRoom, Pushes, Reclaims, as_reader}
+use Rattle.arc_parts.specs.Writers.{Freezes, IsWriterPlace, with_capacity}
+use Rattle.arc_block.specs.Place.{offset_at}
+use Rattle.arc_parts.specs.declared.room.Room.{Room}
+use Rattle.arc_parts.specs.declared.room.Room.TheVariants.{Spare, Fresh, Behind, Front}
+use Rattle.arc_parts.specs.declared.room.Room.TheVariants.{Growth, Own, Refused}
 use Rattle.arc_commands.specs.Additions.{Founds}
-use Rattle.arc_commands.specs.Blocks.{is_sole}
+use Rattle.arc_commands.specs.Blocks.{is_several, is_sole}
 use Rattle.arc_slots.specs.Slots.{AnyWindow, SlotView, held, role_fits, row_of, stand_of}
 use Rattle.arc_slots.specs.Slots.{window_in, writer_slot}
 use Rattle.arc_slots.specs.Stands.{numbered, is_numbered, stand_at, TakenOut, put_back}
 use Rattle.arc_commands.specs.Changes.{made_row}
 use Rattle.arc_slots.specs.Writing.{is_fresh, is_new, Fills, FreezesBy}
 use Rattle.arc_slots.specs.declared.window.Held.TheVariants.{Write}
-use Rattle.arc_commands.proofs.Roles.{sole_each}
 use Rattle.arc_slots.proofs.Taken.{back-same}
 
 -- where no items are written, there is room and nothing else
@@ -54,7 +57,7 @@ abbrev At : Type 0 → Type 0
 At M = Place (Option Owner) M
 
 -- what holds of each place that fits its block's number
-numbered_each : {M : Type 0} (P : Option ℕ → At M → Type 0) → P None nowhere
+pub numbered_each : {M : Type 0} (P : Option ℕ → At M → Type 0) → P None nowhere
     → P None static_data
     → ((offset : ℕ) (info : BlockInfo M) → P None (on_block None offset info))
     → ((n : ℕ) (o : Owner) (offset : ℕ) (info : BlockInfo M)
@@ -86,40 +89,80 @@ module _ {T M K : Type 0} (small : K → PartsView T M) (h : AnyWindow T M K) (w
   pub writes-sole : role_fits h ≡ true → is_sole w.role ≡ true
   writes-sole sole = ap role_fits (sym is) ∙ sole
 
+-- what holds of each room that a block may have holds of what it has: only a caller's buffer makes
+-- its own
+module _ {M : Type 0} (drops : Bool) (size : ℕ) (info : BlockInfo M) (offset len k : ℕ)
+    (P : Room → Type 0) (unsupported : P (Refused Unsupported))
+    (overflow : P (Refused CapacityOverflow)) (behind : P Behind) (front : P Front)
+    (grown : (places : ℕ) → P (Growth places))
+    (own : (writable : Bool) → info.sort ≡ buffer writable → P (Own k)) where
+  grown-either : (b : Bool) (places : ℕ) → P (if b then Refused CapacityOverflow else Growth places)
+  grown-either true places = overflow
+  grown-either false places = grown places
+
+  growth_each : (sort : Sort) → info.sort ≡ sort
+      → P (growth sort size info.size (offset + len) k)
+  growth_each native is = grown-either _ _
+  growth_each vector is = grown-either _ _
+  growth_each (buffer writable) is = own writable is
+  growth_each raw is = unsupported
+
+  pub room-in_each : P (room_in drops size info offset len k)
+  room-in_each = first (drops && not (ends_full info (offset + len)))
+    where
+      third : (b : Bool) → P (if b then Front else
+          growth info.sort size info.size (offset + len) k)
+      third true = front
+      third false = growth_each info.sort refl
+
+      second : (b : Bool) → P (if b then Behind else
+          if not drops && not (nat_lt offset len) && not (nat_lt (info.size - len) k) then Front
+          else
+          growth info.sort size info.size (offset + len) k)
+      second true = behind
+      second false =
+          third (not drops && not (nat_lt offset len) && not (nat_lt (info.size - len) k))
+
+      first : (b : Bool) → P (if b then Refused Unsupported else
+          if not (nat_lt (info.size - offset - len) k) then Behind else
+          if not drops && not (nat_lt offset len) && not (nat_lt (info.size - len) k) then Front
+          else
+          growth info.sort size info.size (offset + len) k)
+      first true = unsupported
+      first false = second (not (nat_lt (info.size - offset - len) k))
+
 -- a first block is made only where there is none
 fresh-in : {M : Type 0} (drops : Bool) (size : ℕ) (info : BlockInfo M) (offset len k : ℕ)
     → is_fresh (room_in drops size info offset len k) ≡ false
 fresh-in drops size info offset len k =
-    first (drops && not (ends_full info (offset + len)))
+    room-in_each drops size info offset len k (λ r. is_fresh r ≡ false) refl refl refl refl
+    (λ places. refl) (λ writable is. refl)
+
+-- what holds of each room that a writer may have holds of what he has, in the table or not
+pub room_each : {N T M : Type 0} (drops : Bool) (first size : ℕ) (row : RowOf N T M) (k : ℕ)
+    (P : Room → Type 0) → P Spare
+    → (is_on_block row.place ≡ false → (places : ℕ) → P (Fresh places))
+    → P (Refused Unsupported) → P (Refused CapacityOverflow) → P Behind → P Front
+    → ((places : ℕ) → P (Growth places))
+    → ((block : N) (offset : ℕ) (info : BlockInfo M) (writable : Bool)
+    → row.place ≡ on_block block offset info → info.sort ≡ buffer writable → P (Own k))
+    → P (room drops first size row k)
+room_each {N} {T} {M} drops first size row k P spare fresh unsupported overflow behind front grown
+    own =
+    either (not (nat_lt (capacity_of row.role - length row.items) k))
   where
-    grown : (b : Bool) (places : ℕ)
-        → is_fresh (if b then Refused CapacityOverflow else Growth places) ≡ false
-    grown true places = refl
-    grown false places = refl
+    there : (place : Place N M) → row.place ≡ place
+        → P (room_at drops first size place (length row.items) k)
+    there nowhere is = fresh (ap is_on_block is) _
+    there static_data is = fresh (ap is_on_block is) _
+    there (on_block block offset info) is =
+        room-in_each drops size info offset (length row.items) k P unsupported overflow behind front
+        grown (λ writable sort. own block offset info writable is sort)
 
-    grows : (sort : Sort) → is_fresh (growth sort size info.size (offset + len) k) ≡ false
-    grows native = grown _ _
-    grows vector = grown _ _
-    grows (buffer writable) = refl
-    grows raw = refl
-
-    third : (b : Bool) → is_fresh (if b then Front else
-        growth info.sort size info.size (offset + len) k) ≡ false
-    third true = refl
-    third false = grows info.sort
-
-    second : (b : Bool) → is_fresh (if b then Behind else
-        if not drops && not (nat_lt offset len) && not (nat_lt (info.size - len) k) then Front else
-        growth info.sort size info.size (offset + len) k) ≡ false
-    second true = refl
-    second false = third (not drops && not (nat_lt offset len) && not (nat_lt (info.size - len) k))
-
-    first : (b : Bool) → is_fresh (if b then Refused Unsupported else
-        if not (nat_lt (info.size - offset - len) k) then Behind else
-        if not drops && not (nat_lt offset len) && not (nat_lt (info.size - len) k) then Front else
-        growth info.sort size info.size (offset + len) k) ≡ false
-    first true = refl
-    first false = second (not (nat_lt (info.size - offset - len) k))
+    either : (b : Bool) → P (if b then Spare else
+        room_at drops first size row.place (length row.items) k)
+    either true = spare
+    either false = there row.place refl
 
 module _ {T M : Type 0} (b : Option ℕ) (w : PartsView T M) (fits : is_numbered b w.place ≡ true)
   where
@@ -137,7 +180,7 @@ module _ {T M : Type 0} (b : Option ℕ) (w : PartsView T M) (fits : is_numbered
         ≡ room_at drops first size place len k) refl refl (λ offset info. refl) (λ n o offset info. refl) b w.place
         fits)
 
-    none-fresh : (drops : Bool) (first size k : ℕ)
+    pub none-fresh : (drops : Bool) (first size k : ℕ)
         → is_fresh (room drops first size w k) ≡ true → b ≡ None
     none-fresh drops first size k =
         either (not (nat_lt (capacity_of w.role - length w.items) k))
@@ -152,66 +195,78 @@ module _ {T M : Type 0} (b : Option ℕ) (w : PartsView T M) (fits : is_numbered
             (false≢true (sym (fresh-in drops size info offset (length w.items) k) ∙ fresh)))
             b w.place fits fresh
 
-    -- a window that has become another one, at the same place of the same block
-    record Became (v : PartsView T M) (new : Row T M) : Type 0 where
+    -- a window that has become another one, at the same place of the same block, of the same role
+    record Became (mine : Role → Bool) (v : PartsView T M) (new : Row T M) : Type 0 where
       numbers : is_numbered b v.place ≡ true
-      writes : is_sole v.role ≡ true
+      writes : mine v.role ≡ true
       row_is : row_of (writer_slot v b) ≡ new
       stand : stand_at b v.place ≡ stand_at b w.place
 
+-- a role that stays one of these, with whatever many places
+abbrev pub Keeps : (Role → Bool) → Type 0
+Keeps mine = (role : Role) (places : ℕ) → mine role ≡ true → mine (with_capacity role places) ≡ true
+
+pub keeps-sole : Keeps is_sole
+keeps-sole reader places is = is
+keeps-sole (sole_writer before) places is = is
+keeps-sole (one_writer_of_several before) places is = is
+keeps-sole inline places is = is
+keeps-sole forgotten places is = is
+
+pub keeps-several : Keeps is_several
+keeps-several reader places is = is
+keeps-several (sole_writer before) places is = is
+keeps-several (one_writer_of_several before) places is = is
+keeps-several inline places is = is
+keeps-several forgotten places is = is
+
 -- with this room
-abbrev Roomed : {T M : Type 0} → Room → List T → ℕ → Option ℕ → At M → Type 0
-Roomed {T} {M} r items places b place =
-    let w : PartsView T M = record { items = items; place = place; role = sole_writer places } in
-    (is_numbered b (with_room r w).place ≡ true) × (is_sole (with_room r w).role ≡ true)
-    × (row_of (writer_slot (with_room r w) b) ≡ with_room r (row_of (writer_slot w b)))
-    × (stand_at b (with_room r w).place ≡ stand_at b place)
+module _ {T M : Type 0} (mine : Role → Bool) (keeps : Keeps mine) (items : List T) (role : Role)
+    (is : mine role ≡ true) where
+  abbrev Roomed : Room → Option ℕ → At M → Type 0
+  Roomed r b place =
+      let w : PartsView T M = record { items = items; place = place; role = role } in
+      (is_numbered b (with_room r w).place ≡ true) × (mine (with_room r w).role ≡ true)
+      × (row_of (writer_slot (with_room r w) b) ≡ with_room r (row_of (writer_slot w b)))
+      × (stand_at b (with_room r w).place ≡ stand_at b place)
 
-roomed_each : {T M : Type 0} (r : Room) (items : List T) (places : ℕ) (b : Option ℕ)
-    (place : At M) → is_numbered b place ≡ true → Roomed r items places b place
-roomed_each {T} {M} Spare items places =
-    numbered_each (Roomed {T = T} {M = M} Spare items places) (refl, refl, refl, refl)
-    (refl, refl, refl, refl) (λ offset info. (refl, refl, refl, refl))
-    (λ n o offset info. (refl, refl, refl, refl))
-roomed_each {T} {M} (Fresh n) items places =
-    numbered_each (Roomed {T = T} {M = M} (Fresh n) items places) (refl, refl, refl, refl)
-    (refl, refl, refl, refl) (λ offset info. (refl, refl, refl, refl))
-    (λ n o offset info. (refl, refl, refl, refl))
-roomed_each {T} {M} Behind items places =
-    numbered_each (Roomed {T = T} {M = M} Behind items places) (refl, refl, refl, refl)
-    (refl, refl, refl, refl) (λ offset info. (refl, refl, refl, refl))
-    (λ n o offset info. (refl, refl, refl, refl))
-roomed_each {T} {M} Front items places =
-    numbered_each (Roomed {T = T} {M = M} Front items places) (refl, refl, refl, refl)
-    (refl, refl, refl, refl) (λ offset info. (refl, refl, refl, refl))
-    (λ n o offset info. (refl, refl, refl, refl))
-roomed_each {T} {M} (Growth n) items places =
-    numbered_each (Roomed {T = T} {M = M} (Growth n) items places) (refl, refl, refl, refl)
-    (refl, refl, refl, refl) (λ offset info. (refl, refl, refl, refl))
-    (λ n o offset info. (refl, refl, refl, refl))
-roomed_each {T} {M} (Own n) items places =
-    numbered_each (Roomed {T = T} {M = M} (Own n) items places) (refl, refl, refl, refl)
-    (refl, refl, refl, refl) (λ offset info. (refl, refl, refl, refl))
-    (λ n o offset info. (refl, refl, refl, refl))
-roomed_each {T} {M} (Refused e) items places =
-    numbered_each (Roomed {T = T} {M = M} (Refused e) items places) (refl, refl, refl, refl)
-    (refl, refl, refl, refl) (λ offset info. (refl, refl, refl, refl))
-    (λ n o offset info. (refl, refl, refl, refl))
+  roomed_each : (r : Room) (b : Option ℕ) (place : At M) → is_numbered b place ≡ true
+      → Roomed r b place
+  roomed_each Spare =
+      numbered_each (Roomed Spare) (refl, is, refl, refl) (refl, is, refl, refl)
+      (λ offset info. (refl, is, refl, refl)) (λ n o offset info. (refl, is, refl, refl))
+  roomed_each (Fresh n) =
+      numbered_each (Roomed (Fresh n)) (refl, is, refl, refl) (refl, is, refl, refl)
+      (λ offset info. (refl, is, refl, refl)) (λ n o offset info. (refl, is, refl, refl))
+  roomed_each Behind =
+      numbered_each (Roomed Behind) (refl, keeps role _ is, refl, refl)
+      (refl, keeps role _ is, refl, refl) (λ offset info. (refl, keeps role _ is, refl, refl))
+      (λ n o offset info. (refl, keeps role _ is, refl, refl))
+  roomed_each Front =
+      numbered_each (Roomed Front) (refl, keeps role _ is, refl, refl)
+      (refl, keeps role _ is, refl, refl) (λ offset info. (refl, keeps role _ is, refl, refl))
+      (λ n o offset info. (refl, keeps role _ is, refl, refl))
+  roomed_each (Growth n) =
+      numbered_each (Roomed (Growth n)) (refl, keeps role _ is, refl, refl)
+      (refl, keeps role _ is, refl, refl) (λ offset info. (refl, keeps role _ is, refl, refl))
+      (λ n o offset info. (refl, keeps role _ is, refl, refl))
+  roomed_each (Own n) =
+      numbered_each (Roomed (Own n)) (refl, is, refl, refl) (refl, is, refl, refl)
+      (λ offset info. (refl, is, refl, refl)) (λ n o offset info. (refl, is, refl, refl))
+  roomed_each (Refused e) =
+      numbered_each (Roomed (Refused e)) (refl, is, refl, refl) (refl, is, refl, refl)
+      (λ offset info. (refl, is, refl, refl)) (λ n o offset info. (refl, is, refl, refl))
 
-module _ {T M : Type 0} (b : Option ℕ) (w : PartsView T M) (fits : is_numbered b w.place ≡ true)
-    (sole : is_sole w.role ≡ true) where
-  roomed : (r : Room) → Became b w fits (with_room r w) (with_room r (row_of (writer_slot w b)))
+module _ {T M : Type 0} (mine : Role → Bool) (keeps : Keeps mine) (b : Option ℕ)
+    (w : PartsView T M) (fits : is_numbered b w.place ≡ true) (is : mine w.role ≡ true) where
+  roomed : (r : Room)
+      → Became b w fits mine (with_room r w) (with_room r (row_of (writer_slot w b)))
   roomed r =
-      let all =
-      sole_each (λ role. let v : PartsView T M = record w { role = role } in
-      (is_numbered b (with_room r v).place ≡ true) × (is_sole (with_room r v).role ≡ true)
-      × (row_of (writer_slot (with_room r v) b) ≡ with_room r (row_of (writer_slot v b)))
-      × (stand_at b (with_room r v).place ≡ stand_at b w.place))
-      (λ places. roomed_each r w.items places b w.place fits) w.role sole in
+      let all = roomed_each mine keeps w.items w.role is r b w.place fits in
       record { numbers = all.0; writes = all.1; row_is = all.2; stand = all.3 }
 
   -- with these items behind the others
-  filled-with : (items : List T) → Became b w fits (with_more items w)
+  filled-with : (items : List T) → Became b w fits mine (with_more items w)
       (with_more items (row_of (writer_slot w b)))
   filled-with items =
       let k = length items in
@@ -220,7 +275,7 @@ module _ {T M : Type 0} (b : Option ℕ) (w : PartsView T M) (fits : is_numbered
         numbers =
             numbered_each (λ n place. is_numbered n (with_full len k place) ≡ true) refl refl
             (λ offset info. refl) (λ n o offset info. refl) b w.place fits;
-        writes = sole;
+        writes = is;
         row_is =
             ap {B = Row T M} (λ place. record {
               items = w.items ++ items;
@@ -234,15 +289,15 @@ module _ {T M : Type 0} (b : Option ℕ) (w : PartsView T M) (fits : is_numbered
             (λ offset info. refl) (λ n o offset info. refl) b w.place fits;
       }
 
-module _ {T M : Type 0} (b : Option ℕ) (w : PartsView T M) (fits : is_numbered b w.place ≡ true)
-    (sole : is_sole w.role ≡ true) where
+module _ {T M : Type 0} (mine : Role → Bool) (keeps : Keeps mine) (b : Option ℕ)
+    (w : PartsView T M) (fits : is_numbered b w.place ≡ true) (is : mine w.role ≡ true) where
   -- both
   roomed-with : (r : Room) (items : List T)
-      → Became b w fits (with_more items (with_room r w))
+      → Became b w fits mine (with_more items (with_room r w))
       (with_more items (with_room r (row_of (writer_slot w b))))
   roomed-with r items =
-      let one = roomed b w fits sole r in
-      let two = filled-with b (with_room r w) one.numbers one.writes items in
+      let one = roomed mine keeps b w fits is r in
+      let two = filled-with mine keeps b (with_room r w) one.numbers one.writes items in
       record {
         numbers = two.numbers;
         writes = two.writes;
@@ -251,14 +306,14 @@ module _ {T M : Type 0} (b : Option ℕ) (w : PartsView T M) (fits : is_numbered
       }
 
   -- the window stays
-  unchanged : (r : Room) (v : PartsView T M) (found : Bool) → (found ≡ false) × (v ≡ w)
+  pub unchanged : (v : PartsView T M) (found : Bool) → (found ≡ false) × (v ≡ w)
       → ((found ≡ false) × (row_of (writer_slot v b) ≡ row_of (writer_slot w b)))
-      × (is_numbered b v.place ≡ true) × (is_sole v.role ≡ true)
+      × (is_numbered b v.place ≡ true) × (mine v.role ≡ true)
       × (stand_at b v.place ≡ stand_at b w.place) × (found ≡ false → v ≡ w)
-  unchanged r v found did = (
+  unchanged v found did = (
     (did.0, ap (λ u. row_of (writer_slot u b)) did.1),
     ap (λ (u : PartsView T M). is_numbered b u.place) did.1 ∙ fits,
-    ap (λ (u : PartsView T M). is_sole u.role) did.1 ∙ sole,
+    ap (λ (u : PartsView T M). mine u.role) did.1 ∙ is,
     ap (λ (u : PartsView T M). stand_at b u.place) did.1,
     λ none. did.1,
   )
@@ -267,13 +322,13 @@ module _ {T M : Type 0} (b : Option ℕ) (w : PartsView T M) (fits : is_numbered
   became : (r : Room) (v : PartsView T M) (found : Bool) → (found ≡ true) × (v ≡ with_room r w)
       → ((found ≡ true)
       × (row_of (writer_slot v b) ≡ with_room r (row_of (writer_slot w b))))
-      × (is_numbered b v.place ≡ true) × (is_sole v.role ≡ true)
+      × (is_numbered b v.place ≡ true) × (mine v.role ≡ true)
       × (stand_at b v.place ≡ stand_at b w.place) × (found ≡ false → v ≡ w)
   became r v found did =
-      let now = roomed b w fits sole r in (
+      let now = roomed mine keeps b w fits is r in (
         (did.0, ap (λ u. row_of (writer_slot u b)) did.1 ∙ now.row_is),
         ap (λ (u : PartsView T M). is_numbered b u.place) did.1 ∙ now.numbers,
-        ap (λ (u : PartsView T M). is_sole u.role) did.1 ∙ now.writes,
+        ap (λ (u : PartsView T M). mine u.role) did.1 ∙ now.writes,
         ap (λ (u : PartsView T M). stand_at b u.place) did.1 ∙ now.stand,
         λ none. absurd (false≢true (sym none ∙ did.0)),
       )
@@ -281,12 +336,12 @@ module _ {T M : Type 0} (b : Option ℕ) (w : PartsView T M) (fits : is_numbered
   -- or has it already
   stays-as : (v : PartsView T M) (found : Bool) → (found ≡ true) × (v ≡ w)
       → ((found ≡ true) × (row_of (writer_slot v b) ≡ row_of (writer_slot w b)))
-      × (is_numbered b v.place ≡ true) × (is_sole v.role ≡ true)
+      × (is_numbered b v.place ≡ true) × (mine v.role ≡ true)
       × (stand_at b v.place ≡ stand_at b w.place) × (found ≡ false → v ≡ w)
   stays-as v found did = (
     (did.0, ap (λ u. row_of (writer_slot u b)) did.1),
     ap (λ (u : PartsView T M). is_numbered b u.place) did.1 ∙ fits,
-    ap (λ (u : PartsView T M). is_sole u.role) did.1 ∙ sole,
+    ap (λ (u : PartsView T M). mine u.role) did.1 ∙ is,
     ap (λ (u : PartsView T M). stand_at b u.place) did.1,
     λ none. did.1,
   )
@@ -294,16 +349,18 @@ module _ {T M : Type 0} (b : Option ℕ) (w : PartsView T M) (fits : is_numbered
   -- room without memory
   pub reclaims : (r : Room) (v : PartsView T M) (found : Bool) → Reclaims r w v found
       → Reclaims r (row_of (writer_slot w b)) (row_of (writer_slot v b)) found
-      × (is_numbered b v.place ≡ true) × (is_sole v.role ≡ true)
+      × (is_numbered b v.place ≡ true) × (mine v.role ≡ true)
       × (stand_at b v.place ≡ stand_at b w.place) × (found ≡ false → v ≡ w)
-  reclaims (Fresh n) v found did = unchanged (Fresh n) v found did
-  reclaims (Growth n) v found did = unchanged (Growth n) v found did
-  reclaims (Own n) v found did = unchanged (Own n) v found did
-  reclaims (Refused e) v found did = unchanged (Refused e) v found did
+  reclaims (Fresh n) v found did = unchanged v found did
+  reclaims (Growth n) v found did = unchanged v found did
+  reclaims (Own n) v found did = unchanged v found did
+  reclaims (Refused e) v found did = unchanged v found did
   reclaims Spare v found did = stays-as v found did
   reclaims Behind v found did = became Behind v found did
   reclaims Front v found did = became Front v found did
 
+module _ {T M : Type 0} (b : Option ℕ) (w : PartsView T M) (fits : is_numbered b w.place ≡ true)
+    (sole : is_sole w.role ≡ true) where
   module _ (drops : Bool) (first size k : ℕ) (items : List T) (passes left : List (Pass Whole))
       (p q : Pass Whole) (took : TakenOut passes b p left) where
     -- the slot's facts
@@ -317,7 +374,7 @@ module _ {T M : Type 0} (b : Option ℕ) (w : PartsView T M) (fits : is_numbered
         × (stand_of (Some (writer_slot v n)) ≡ stand_of (Some (writer_slot w b)))
         × (passes' ≡ passes)) × Fitting v n
     stayed x v n passes' made same back none =
-        let now = roomed-with x items in (
+        let now = roomed-with is_sole keeps-sole b w fits sole x items in (
           (
             refl,
             ap (λ u. row_of (writer_slot u n)) made
@@ -453,7 +510,8 @@ module _ {T M K : Type 0} (small : K → PartsView T M) (h : AnyWindow T M K) (w
         × (stand_of (Some (writer_slot v b)) ≡ stand_of (Some s))
         × (found ≡ false → writer_slot v b ≡ s)
     slot-reclaims v found did =
-        let all = reclaims b w fit writer (room drops first size w k) v found did in
+        let all = reclaims is_sole keeps-sole b w fit writer (room drops first size w k) v found
+        did in
         subst (λ t. Reclaims (room drops first size (row_of s) k) (row_of t)
         (row_of (writer_slot v b)) found
         × (is_numbered b v.place ≡ true) × (is_sole v.role ≡ true)
@@ -712,12 +770,9 @@ module _ {T M : Type 0} (layout : LayoutFacts) (drops : Bool) (items : List T) (
   frozen-numbered (Some k) (on_block (Some o) offset info) fits writes =
       numbered-block info.sort writes (Some k) (on_block (Some o) offset info) refl
 
-module _ {T M K : Type 0} (small : K → PartsView T M) (h : AnyWindow T M K) (w : PartsView T M)
-    (b : Option ℕ) (is : h ≡ Write w) (s : SlotView T M) (view : held small h b ≡ s)
-    (fits : is_numbered b (window_in small h).place ≡ true) (layout : LayoutFacts) where
-  seen-slot : writer_slot w b ≡ s
-  seen-slot = sym (writes-view small h w b is) ∙ view
-
+module _ {T M : Type 0} (w : PartsView T M) (b : Option ℕ) (s : SlotView T M)
+    (seen-slot : writer_slot w b ≡ s) (fits : is_numbered b w.place ≡ true)
+    (layout : LayoutFacts) where
   pub slot-frozen : IsWriterPlace w.place → (drops : Bool) (passes left : List (Pass Whole))
       (p q : Pass Whole) (v : Window T M) (n : Option ℕ) (passes' : List (Pass Whole))
       (begins : Bool) → TakenOut passes b p left
@@ -731,7 +786,7 @@ module _ {T M K : Type 0} (small : K → PartsView T M) (h : AnyWindow T M K) (w
       subst (λ (t : SlotView T M). FreezesBy (layout_move layout (row_of t).place) drops t
       (read_slot v n) passes passes') seen-slot
       (frozen_each layout drops w.items w.role passes left p q v n passes' begins b
-      w.place (writes-fits small h w b is fits) writes took frozen
+      w.place fits writes took frozen
       (begun ∙ ap (λ (t : SlotView T M). is_new (layout_move layout (row_of t).place))
       (sym seen-slot)) same new)
 
@@ -745,7 +800,7 @@ module _ {T M K : Type 0} (small : K → PartsView T M) (h : AnyWindow T M K) (w
       → is_numbered n v.place ≡ true
   slot-numbered writes drops left p q v n passes' begins frozen begun same new =
       frozen-numbered layout drops w.items w.role left p q v n passes' begins b w.place
-      (writes-fits small h w b is fits) writes frozen
+      fits writes frozen
       (begun ∙ ap (λ (t : SlotView T M). is_new (layout_move layout (row_of t).place))
       (sym seen-slot)) same new
 
@@ -756,7 +811,7 @@ module _ {T M K : Type 0} (small : K → PartsView T M) (h : AnyWindow T M K) (w
       → is_new (layout_move layout (row_of s).place) ≡ true → length left < m
   room-to-read writes passes left p m took room begins =
       let told : (not (is_some b) && not layout.has_static) ≡ true =
-      sym (new_is layout b w.place (writes-fits small h w b is fits) writes)
+      sym (new_is layout b w.place fits writes)
       ∙ ap (λ (t : SlotView T M). is_new (layout_move layout (row_of t).place)) seen-slot
       ∙ begins in
       let none : b ≡ None = none-is b (and_parts (not (is_some b)) (not layout.has_static) told).0 in

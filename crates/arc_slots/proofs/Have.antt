@@ -6,7 +6,7 @@ use Rattle.std.proofs.lemmas.Bool.{false≢true, and_parts}
 use Rattle.arc_owners.specs.count.Calls.{Owner}
 use Rattle.arc_block.specs.Block.{Sort, native, vector, buffer, raw, IsBuffer}
 use Rattle.arc_block.specs.Place.{Place, nowhere, static_data, on_block}
-use Rattle.arc_block.specs.Window.{IsBufferWhole, IsRawWhole}
+use Rattle.arc_parts.specs.Window.{IsBufferWhole, IsRawWhole}
 use Rattle.arc_commands.specs.Changes.{is_all_full, is_buffer, is_buffer_whole, is_raw}
 use Rattle.arc_commands.specs.Changes.{is_raw_whole}
 use Rattle.arc_commands.specs.Changes.{is_on_block}

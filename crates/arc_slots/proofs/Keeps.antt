@@ -57,7 +57,7 @@ module _ {H : Type 0} (stands : List Stand) (passes : List (Pass H))
       list_any-IsPermutation (λ m. m == o.number) _ _ (k.live n p was)
       ∙ filter_map-in (number_on n) stands i (Some (n, o)) o.number at (number_here n o)
 
-  gone-at : (here : Stand) → slice_get stands i ≡ Some here → (passes' : List (Pass H))
+  pub gone-at : (here : Stand) → slice_get stands i ≡ Some here → (passes' : List (Pass H))
       → AddsAt here ended passes passes'
       → IsKept MAX_OWNERS (slice_set stands i None) passes'
   gone-at None at passes' adds =

@@ -1,4 +1,5 @@
 pub mod Taken
+pub mod Roles
 pub mod Slots
 pub mod Native
 pub mod Have
@@ -6,14 +7,19 @@ pub mod Takes
 pub mod Index
 pub mod Splits
 pub mod Filled
+pub mod FilledBeside
+pub mod Shared
 pub mod Ended
 pub mod Added
 pub mod ByForm
 pub mod Told
 pub mod Answered
 pub mod HandedOut
+pub mod Parted
+pub mod HandedBeside
 pub mod Turned
 pub mod Asked
 pub mod Reclaimed
+pub mod Roomed
 pub mod Keeps
 pub mod Made

@@ -3,8 +3,8 @@ use Rattle.std.proofs.Common.{inl, inr, ◌≡◌, ℕ, Bool, true, List, []}
 use Rattle.std.proofs.Common.{sym, ap, ◌∙◌, subst}
 use Rattle.arc_owners.specs.declared.mark.Whole.{Whole}
 use Rattle.arc_owners.specs.declared.count.tokens.Pass.{Pass}
-use Rattle.arc_block.specs.Window.{PartsView}
-use Rattle.arc_block.specs.Writers.{IsNewWriter, MakesWriter}
+use Rattle.arc_parts.specs.Window.{PartsView}
+use Rattle.arc_parts.specs.Writers.{IsNewWriter, MakesWriter}
 use Rattle.arc_commands.proofs.Lists.{none-or-some}
 
 module _ {T M : Type 0} where

@@ -8,10 +8,11 @@ use Rattle.arc_owners.specs.declared.count.tokens.Pass.{Pass}
 use Rattle.arc_owners.specs.count.Calls.{Owner, Asks, TakesBlock}
 use Rattle.arc_block.specs.Block.{Sort, BlockInfo, native, vector, buffer, raw}
 use Rattle.arc_block.specs.Place.{Place, nowhere, static_data, on_block, at_owner}
-use Rattle.arc_block.specs.Steps.{TakesAt, RefusesTaking}
+use Rattle.arc_parts.specs.Steps.{TakesAt, RefusesTaking}
 use Rattle.arc_block.specs.Unique.{AsksUnique, AsksUniqueAt}
-use Rattle.arc_block.specs.Window.{IsBoxWhole, IsVecPart}
-use Rattle.arc_block.specs.Writers.{BecomesSoleAt, RefusesSoleAt, MayWrite}
+use Rattle.arc_parts.specs.Window.{IsBoxWhole, IsVecPart}
+use Rattle.arc_parts.specs.Writers.{BecomesSoleAt, RefusesSoleAt}
+use Rattle.arc_block.specs.Layouts.{MayWrite}
 use Rattle.arc_commands.specs.Changes.{is_all_full, is_box_whole, is_on_block, is_vector}
 use Rattle.arc_commands.specs.Changes.{is_vector_part}
 use Rattle.arc_commands.specs.Changes.{is_writable_at, may_write_at, may_write_sort}

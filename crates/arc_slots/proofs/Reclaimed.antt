@@ -5,11 +5,11 @@ use Rattle.std.proofs.lemmas.Bool.{false≢true}
 use Rattle.arc_owners.specs.declared.mark.Whole.{Whole}
 use Rattle.arc_owners.specs.declared.count.tokens.Pass.{Pass}
 use Rattle.arc_block.specs.Owned.{Stand}
-use Rattle.arc_block.specs.Shared.{asks_alone}
+use Rattle.arc_parts.specs.Shared.{asks_alone}
 use Rattle.arc_block.specs.Table.{Row}
-use Rattle.arc_block.specs.Writers.{Reclaims}
-use Rattle.arc_block.specs.declared.parts.room.Room.{Room}
-use Rattle.arc_block.specs.declared.parts.room.Room.TheVariants as from
+use Rattle.arc_parts.specs.Writers.{Reclaims}
+use Rattle.arc_parts.specs.declared.room.Room.{Room}
+use Rattle.arc_parts.specs.declared.room.Room.TheVariants as from
 use Rattle.arc_commands.specs.Additions.{AsksFirst, asks_first}
 use Rattle.arc_commands.specs.Blocks.{is_several, is_sole}
 use Rattle.arc_commands.specs.Changes.{Around, Setting, is_now, no_shortage, reclaimed}
@@ -23,6 +23,28 @@ use Rattle.arc_commands.proofs.Roles.{sole-several}
 use Rattle.arc_slots.specs.Answers.{Answers, around_in}
 use Rattle.arc_slots.specs.Slots.{SlotView, row_of, stand_of}
 use Rattle.arc_slots.proofs.Answered.{changes, for-role, writes-for}
+
+-- what room without memory comes to, as it was found
+module _ {T M : Type 0} (row new : Row T M) where
+  pub yes-as : (room : Room) → Reclaims room row new true
+      → reclaimed row room ≡ is_now reply.Yes new
+  yes-as from.Spare did = ap (is_now reply.Yes) (sym did.1)
+  yes-as from.Behind did = ap (is_now reply.Yes) (sym did.1)
+  yes-as from.Front did = ap (is_now reply.Yes) (sym did.1)
+  yes-as (from.Fresh places) did = absurd (false≢true (sym did.0))
+  yes-as (from.Growth places) did = absurd (false≢true (sym did.0))
+  yes-as (from.Own additional) did = absurd (false≢true (sym did.0))
+  yes-as (from.Refused e) did = absurd (false≢true (sym did.0))
+
+  pub no-as : (room : Room) → Reclaims room row new false
+      → reclaimed row room ≡ is_now reply.No row
+  no-as from.Spare did = absurd (false≢true did.0)
+  no-as from.Behind did = absurd (false≢true did.0)
+  no-as from.Front did = absurd (false≢true did.0)
+  no-as (from.Fresh places) did = refl
+  no-as (from.Growth places) did = refl
+  no-as (from.Own additional) did = refl
+  no-as (from.Refused e) did = refl
 
 module _ {T M : Type 0} (setting : Setting T) (windows : ℕ) (s : SlotView T M)
     (passes : List (Pass Whole)) (writes : is_sole s.role ≡ true) (i k : ℕ) where
@@ -59,36 +81,14 @@ module _ {T M : Type 0} (setting : Setting T) (windows : ℕ) (s : SlotView T M)
   Said r new = Answers setting windows rec s passes r (Some new) None passes
 
   module _ (new : SlotView T M) (stays : stand_of (Some new) ≡ here) where
-    yes-as : (room : Room) → room_of setting row k ≡ room
-        → Reclaims room row (row_of new) true
-        → reclaimed row (room_of setting row k) ≡ is_now reply.Yes (row_of new)
-    yes-as from.Spare is did = ap (reclaimed row) is ∙ ap (is_now reply.Yes) (sym did.1)
-    yes-as from.Behind is did = ap (reclaimed row) is ∙ ap (is_now reply.Yes) (sym did.1)
-    yes-as from.Front is did = ap (reclaimed row) is ∙ ap (is_now reply.Yes) (sym did.1)
-    yes-as (from.Fresh places) is did = absurd (false≢true (sym did.0))
-    yes-as (from.Growth places) is did = absurd (false≢true (sym did.0))
-    yes-as (from.Own additional) is did = absurd (false≢true (sym did.0))
-    yes-as (from.Refused e) is did = absurd (false≢true (sym did.0))
-
     pub has-room : Reclaims (room_of setting row k) row (row_of new) true → Said reply.Yes new
     has-room did =
         changes setting windows s passes rec reply.Yes new
-        (rec-is ∙ yes-as (room_of setting row k) refl did) (unasked new stays true)
-
-  no-as : (new : Row T M) (room : Room) → room_of setting row k ≡ room
-      → Reclaims room row new false
-      → reclaimed row (room_of setting row k) ≡ is_now reply.No row
-  no-as new from.Spare is did = absurd (false≢true did.0)
-  no-as new from.Behind is did = absurd (false≢true did.0)
-  no-as new from.Front is did = absurd (false≢true did.0)
-  no-as new (from.Fresh places) is did = ap (reclaimed row) is
-  no-as new (from.Growth places) is did = ap (reclaimed row) is
-  no-as new (from.Own additional) is did = ap (reclaimed row) is
-  no-as new (from.Refused e) is did = ap (reclaimed row) is
+        (rec-is ∙ yes-as row (row_of new) (room_of setting row k) did) (unasked new stays true)
 
   pub no-room : (new : SlotView T M) → new ≡ s
       → Reclaims (room_of setting row k) row (row_of new) false → Said reply.No new
   no-room new same did =
       subst (λ x. Said reply.No x) (sym same)
       (changes setting windows s passes rec reply.No s
-      (rec-is ∙ no-as (row_of new) (room_of setting row k) refl did) (false, unasked s refl false))
+      (rec-is ∙ no-as row (row_of new) (room_of setting row k) did) (false, unasked s refl false))

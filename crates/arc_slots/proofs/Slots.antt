@@ -10,10 +10,10 @@ use Rattle.arc_owners.specs.declared.error.OwnerError.{OwnerError}
 use Rattle.arc_owners.specs.declared.error.OwnerError.TheVariants.{AllocError, CountFull}
 use Rattle.arc_block.specs.Block.{Sort, BlockInfo}
 use Rattle.arc_block.specs.Place.{Place, nowhere, static_data, on_block, at_owner, moved}
-use Rattle.arc_block.specs.Steps.{IsPassAt, Shares, Refuses}
+use Rattle.arc_parts.specs.Steps.{IsPassAt, Shares, Refuses}
 use Rattle.arc_block.specs.Table.{Row, Role, reader}
-use Rattle.arc_block.specs.Window.{Window, PartsView}
-use Rattle.arc_block.specs.Writers.{sole_at}
+use Rattle.arc_parts.specs.Window.{Window, PartsView}
+use Rattle.arc_parts.specs.Writers.{sole_at}
 use Rattle.arc_slots.specs.Slots.{AnyWindow, held, row_of, window_in, writer_slot}
 use Rattle.arc_slots.specs.declared.window.Held.TheVariants.{Read}
 use Rattle.arc_slots.specs.Calls.{Through, Along, Beside, RefusesAt, AddsNothing}
@@ -59,7 +59,7 @@ moved-stand b start (on_block None offset facts) = refl
 moved-stand None start (on_block (Some owner) offset facts) = refl
 moved-stand (Some n) start (on_block (Some owner) offset facts) = refl
 
-moved-fits : {M : Type 0} (b : Option ℕ) (start : ℕ) (place : At M)
+pub moved-fits : {M : Type 0} (b : Option ℕ) (start : ℕ) (place : At M)
     → is_numbered b (moved start place) ≡ is_numbered b place
 moved-fits None start nowhere = refl
 moved-fits None start static_data = refl

@@ -7,9 +7,9 @@ use Rattle.arc_owners.specs.declared.count.tokens.Pass.{Pass}
 use Rattle.arc_owners.specs.count.Calls.{Owner, Leaves}
 use Rattle.arc_block.specs.Owned.{Stand}
 use Rattle.arc_block.specs.Place.{Place, at_owner}
-use Rattle.arc_block.specs.Steps.{IsPassAt, TakesAt, RefusesTaking}
+use Rattle.arc_parts.specs.Steps.{IsPassAt, TakesAt, RefusesTaking}
 use Rattle.arc_block.specs.Table.{Role, reader}
-use Rattle.arc_block.specs.Window.{Window, PartsView, parts_of, window_of}
+use Rattle.arc_parts.specs.Window.{Window, PartsView, parts_of, window_of}
 use Rattle.arc_slots.specs.Calls.{Along, RefusesOut, TakesOut}
 use Rattle.arc_slots.specs.Slots.{SlotView, row_of, stand_of, writer_slot}
 use Rattle.arc_slots.specs.Stands.{HasNumber, HasPassFor, TakenOut, numbered, is_numbered, put_back}

@@ -1,5 +1,5 @@
 -- What a slot's writer is answered that reads from now on.
-use Rattle.std.proofs.Common.{◌≡◌, ℕ, true, false, List}
+use Rattle.std.proofs.Common.{◌≡◌, ℕ, Bool, true, false, if◌then◌else◌, List}
 use Rattle.std.proofs.Common.{length, Option, Some, None, refl, sym, ap}
 use Rattle.std.proofs.Common.{◌∙◌, subst}
 use Rattle.std.proofs.lemmas.Bool.{false≢true}
@@ -8,17 +8,20 @@ use Rattle.arc_owners.specs.declared.count.tokens.Pass.{Pass}
 use Rattle.arc_owners.specs.count.Calls.{Owner}
 use Rattle.arc_block.specs.Layouts.{LayoutFacts}
 use Rattle.arc_block.specs.Moves.{IsRefused, layout_move}
-use Rattle.arc_block.specs.declared.parts.moves.Move.{Move}
-use Rattle.arc_block.specs.declared.parts.moves.Move.TheVariants as to
+use Rattle.arc_block.specs.declared.layout.Move.{Move}
+use Rattle.arc_block.specs.declared.layout.Move.TheVariants as to
 use Rattle.arc_block.specs.Owned.{Stand}
 use Rattle.arc_block.specs.Place.{Place, nowhere, static_data, on_block}
 use Rattle.arc_block.specs.Table.{Row}
 use Rattle.arc_commands.specs.Changes.{Setting, Shortage, no_shortage, of_blocks}
 use Rattle.arc_commands.specs.Changes.{Around}
-use Rattle.arc_commands.specs.Step.{answer_any}
+use Rattle.arc_commands.specs.Step.{answer_any, is_allowed}
 use Rattle.arc_commands.specs.Changes.{is_now, made_row}
 use Rattle.arc_commands.specs.Changes.{after_move}
-use Rattle.arc_commands.specs.Blocks.{is_sole}
+use Rattle.arc_commands.specs.Blocks.{is_sole, is_writer}
+use Rattle.arc_commands.specs.Several.{can_share}
+use Rattle.arc_commands.proofs.Roles.{sole_each}
+use Rattle.arc_parts.specs.Shared.{as_shared}
 use Rattle.arc_commands.specs.Commands.{ListCmd, ListReply}
 use Rattle.arc_commands.specs.declared.command.Cmd.TheVariants as command
 use Rattle.arc_commands.specs.declared.command.Reply.TheVariants as reply
@@ -27,7 +30,8 @@ use Rattle.arc_slots.specs.Slots.{SlotView, row_of, stand_of}
 use Rattle.arc_slots.specs.Stands.{numbered, stand_at}
 use Rattle.arc_slots.specs.Writing.{FreezesBy, is_new}
 use Rattle.arc_slots.proofs.Filled.{new-moved}
-use Rattle.arc_slots.proofs.Answered.{begins-as, changes, for-role, same, stays-there, writes-for}
+use Rattle.arc_slots.proofs.Answered.{begins-as, changes, for-role, same, stays-there}
+use Rattle.arc_slots.proofs.Roles.{writer_each}
 
 module _ {T M : Type 0} (setting : Setting T) (windows : ℕ) (s : SlotView T M)
     (passes : List (Pass Whole)) where
@@ -47,7 +51,7 @@ module _ {T M : Type 0} (setting : Setting T) (windows : ℕ) (s : SlotView T M)
       → Option (SlotView T M) → List (Pass Whole) → Type 0
   Said c r new made passes' = Answers setting windows c s passes r new made passes'
 
-  module _ (writes : is_sole s.role ≡ true) (i : ℕ) where
+  module _ (writes : is_writer s.role ≡ true) (i : ℕ) where
     abbrev freeze : Command
     freeze = command.Freeze i
 
@@ -57,7 +61,9 @@ module _ {T M : Type 0} (setting : Setting T) (windows : ℕ) (s : SlotView T M)
     frozen-is : (short : Shortage) (move : Move) → goes_to ≡ move
         → answer_any setting short around freeze row ≡ after_move setting short around row move
     frozen-is short move is =
-        for-role setting windows s passes short freeze (writes-for setting windows s passes writes freeze true (λ n. refl))
+        for-role setting windows s passes short freeze
+        (writer_each (λ role. is_allowed setting.calls freeze role ≡ true) (λ n. refl) (λ n. refl)
+        s.role writes)
         ∙ ap (after_move setting short around row) is
 
     -- a first block is made where no owner stands
@@ -88,7 +94,7 @@ module _ {T M : Type 0} (setting : Setting T) (windows : ℕ) (s : SlotView T M)
         by to.NewCount is did = absurd did
         by to.LeavesCount is did = absurd did
         by to.NewEmpty is did =
-            begins-as setting windows s passes writes i freeze new (made_row false setting.drops (length passes) row.items) passes'
+            begins-as setting windows s passes freeze new (made_row false setting.drops (length passes) row.items) passes'
             (frozen-is no_shortage to.NewEmpty is) (λ there adds. adds)
             (new-none setting.layout s.block s.window.place (ap is_new is))
             did.1 did.0
@@ -109,6 +115,33 @@ module _ {T M : Type 0} (setting : Setting T) (windows : ℕ) (s : SlotView T M)
             same setting windows s passes freeze reply.Refused (frozen-is of_blocks to.LeavesCount is) (refl, refl, refl)
         by to.NewEmpty is none =
             same setting windows s passes freeze reply.Refused (frozen-is of_blocks to.NewEmpty is) (refl, refl, refl)
+
+  -- ---- who is one of several from now on
+
+  module _ (i : ℕ) (sole : is_sole s.role ≡ true) (shares : setting.calls.shares ≡ true) where
+    abbrev share : Command
+    share = command.Share i
+
+    share-is : (may : Bool) → can_share setting.drops row.place ≡ may
+        → answer_any setting no_shortage around share row
+        ≡ (if may then is_now reply.Ok (as_shared row) else is_now reply.Refused row)
+    share-is may is =
+        for-role setting windows s passes no_shortage share
+        (sole_each (λ role. is_allowed setting.calls share role ≡ true) (λ places. shares) s.role
+        sole)
+        ∙ ap (λ b. if b then is_now reply.Ok (as_shared row) else is_now reply.Refused row) is
+
+    pub shared : can_share setting.drops row.place ≡ true → (new : SlotView T M)
+        → stand_of (Some new) ≡ here → row_of new ≡ as_shared row
+        → Said share reply.Ok (Some new) None passes
+    shared may new stays is =
+        changes setting windows s passes share reply.Ok new
+        (share-is true may ∙ ap (is_now reply.Ok) (sym is)) (stays, refl, refl)
+
+    pub unshared : can_share setting.drops row.place ≡ false
+        → Said share reply.Refused (Some s) None passes
+    unshared not =
+        same setting windows s passes share reply.Refused (share-is false not) (refl, refl, refl)
 
 -- where a first block is wanted, memory for it may be refused
 pub refused-new : (move : Move) → is_new move ≡ true → IsRefused move

@@ -1,16 +1,20 @@
 -- What the window of a slot is answered to a command, and what becomes of it.
-use Rattle.std.specs.Prelude.{◌≡◌, ℕ, ◌==◌, Bool, List, length, Option, Some, None, slice_get}
+use Rattle.std.specs.Prelude.{◌≡◌, ℕ, ◌==◌, Bool, true, false, List, length, Option, Some, None, slice_get}
 use Rattle.std.specs.Option.{option_map, option_map_or}
 use Rattle.arc_owners.specs.declared.mark.Whole.{Whole}
 use Rattle.arc_owners.specs.declared.count.tokens.Pass.{Pass}
 use Rattle.arc_owners.specs.history.Histories.{live_owners}
-use Rattle.arc_owners.specs.count.Calls.{seen}
+use Rattle.arc_owners.specs.count.Calls.{Leaves, seen}
 use Rattle.arc_block.specs.declared.block.TheConstants.{MAX_OWNERS}
 use Rattle.arc_block.specs.Owned.{Stand}
 use Rattle.arc_commands.specs.Additions.{RowAdds}
-use Rattle.arc_commands.specs.Changes.{Setting, Around}
-use Rattle.arc_commands.specs.Step.{answer_any, shortage, with_block}
+use Rattle.arc_commands.specs.Changes.{Calls, Setting, Around}
+use Rattle.arc_commands.specs.Several.{join_answer}
+use Rattle.arc_commands.specs.Step.{answer_any, is_for_both, shortage, with_block}
 use Rattle.arc_commands.specs.Commands.{ListCmd, ListReply}
+use Rattle.arc_commands.specs.declared.command.Cmd.TheVariants as command
+use Rattle.arc_commands.specs.declared.command.Reply.TheVariants as reply
+use Rattle.arc_slots.specs.Calls.{Along}
 use Rattle.arc_slots.specs.Slots.{SlotView, row_of, stand_of}
 
 module _ {H : Type 0} where
@@ -50,3 +54,24 @@ pub record Answers {T M : Type 0} (setting : Setting T) (windows : ℕ) (c : Lis
   pub blocks : length after ≡ with_block begins (length before)
   pub adds : RowAdds (stand_of (Some old)) (stand_of new)
       (option_map (λ s. stand_of (Some s)) made) before after setting (row_of old) c r
+
+module _ {T M H : Type 0} where
+  -- Two slots' windows were to be joined, and this was said: they were, and the other has gone, whose
+  -- owner ended; or they weren't, and nothing changed.
+  abbrev pub JoinAnswers : Calls → (i j : ℕ) → (old other : SlotView T M)
+      → (before : List (Pass H)) → ListReply T M → (new its : Option (SlotView T M))
+      → (after : List (Pass H)) → Type 0
+  JoinAnswers calls i j old other before reply.Ok new its after =
+      (whole : SlotView T M)
+      × (is_for_both calls (command.Join i j) i j (row_of old) (row_of other) ≡ true)
+      × (join_answer (row_of old) (row_of other) ≡ (reply.Ok, Some (row_of whole)))
+      × (new ≡ Some whole) × (its ≡ None) × (stand_of (Some whole) ≡ stand_of (Some old))
+      × Along (stand_of (Some other)) before after (λ o p q. (last : Bool) × Leaves o p q last)
+  JoinAnswers calls i j old other before reply.Refused new its after =
+      (is_for_both calls (command.Join i j) i j (row_of old) (row_of other) ≡ true)
+      × (join_answer (row_of old) (row_of other) ≡ (reply.Refused, None))
+      × (new ≡ Some old) × (its ≡ Some other) × (after ≡ before)
+  JoinAnswers calls i j old other before reply.Kind new its after =
+      (is_for_both calls (command.Join i j) i j (row_of old) (row_of other) ≡ false)
+      × (new ≡ Some old) × (its ≡ Some other) × (after ≡ before)
+  JoinAnswers calls i j old other before reply new its after = ⊥

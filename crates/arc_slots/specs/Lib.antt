@@ -5,6 +5,7 @@ pub mod Calls
 pub mod Parts
 pub mod Splits
 pub mod Writing
+pub mod Several
 pub mod Answers
 pub mod Makers
 pub mod Taking

@@ -3,15 +3,15 @@ use Rattle.std.specs.Prelude.{ℕ, Bool, true, List, [], ◌∷◌, ◌++◌, Op
 use Rattle.std.specs.Option.{option_map}
 use Rattle.arc_owners.specs.declared.count.tokens.Pass.{Pass}
 use Rattle.arc_owners.specs.declared.mark.Whole.{Whole}
-use Rattle.arc_block.specs.Window.{Window, PartsView, window_of}
+use Rattle.arc_parts.specs.Window.{Window, PartsView, window_of}
 use Rattle.arc_block.specs.Owned.{Stand}
 use Rattle.arc_block.specs.Table.{Row, Role, forgotten, inline, one_writer_of_several, reader}
 use Rattle.arc_block.specs.Table.{sole_writer}
-use Rattle.arc_commands.specs.Blocks.{is_sole}
+use Rattle.arc_commands.specs.Blocks.{is_several, is_sole}
 use Rattle.arc_commands.specs.State.{State}
 use Rattle.arc_slots.specs.Stands.{numbered, stand_at}
 use Rattle.arc_slots.specs.declared.window.Held.{Held}
-use Rattle.arc_slots.specs.declared.window.Held.TheVariants.{Read, Small, Write}
+use Rattle.arc_slots.specs.declared.window.Held.TheVariants.{Read, Several, Small, Write}
 
 -- what is seen of a slot: its window, what that may do, and the number of the block on which it
 -- stands
@@ -20,40 +20,58 @@ pub record SlotView (T M : Type 0) : Type 0 where
   pub role : Role
   pub block : Option ℕ
 
--- the role of a slot's window: it is read, or a sole writer's, or a small one
+-- the role of a slot's window: it is read, or a writer's, or a small one
 abbrev pub IsSlotRole : Role → Type 0
 IsSlotRole reader = Unit {0}
 IsSlotRole (sole_writer places) = Unit {0}
-IsSlotRole (one_writer_of_several places) = ⊥
+IsSlotRole (one_writer_of_several places) = Unit {0}
 IsSlotRole inline = Unit {0}
 IsSlotRole forgotten = ⊥
 
 -- the window that a slot holds, of small ones K
 abbrev pub AnyWindow : (T M K : Type 0) → Type 0
-AnyWindow T M K = Held (Window T M) (PartsView T M) K
+AnyWindow T M K = Held (Window T M) (PartsView T M) (PartsView T M) K
 
 module _ {T M K : Type 0} where
   -- the window by itself, where a small one is seen as these parts
   abbrev pub window_in : (K → PartsView T M) → AnyWindow T M K → Window T M
   window_in small (Read window) = window
   window_in small (Write window) = window_of window
+  window_in small (Several window) = window_of window
   window_in small (Small window) = window_of (small window)
 
   -- what it may do
   abbrev pub role_in : AnyWindow T M K → Role
   role_in (Read window) = reader
   role_in (Write window) = window.role
+  role_in (Several window) = window.role
   role_in (Small window) = inline
+
+  -- its items, where they stand, and what it may do
+  abbrev pub parts_in : (K → PartsView T M) → AnyWindow T M K → PartsView T M
+  parts_in small h = record {
+    items = (window_in small h).items;
+    place = (window_in small h).place;
+    role = role_in h;
+  }
 
   -- it, on the block with this number, as it is seen of a slot
   abbrev pub held : (K → PartsView T M) → AnyWindow T M K → Option ℕ → SlotView T M
   held small h block = record { window = window_in small h; role = role_in h; block = block }
 
-  -- a window that is written is a sole writer
+  -- a window that is written is a sole writer's, or that of one of several
   abbrev pub role_fits : AnyWindow T M K → Bool
   role_fits (Read window) = true
   role_fits (Write window) = is_sole window.role
+  role_fits (Several window) = is_several window.role
   role_fits (Small window) = true
+
+  -- several write only where the kind has windows of several writers
+  abbrev pub may_be_shared : (shares : Bool) → AnyWindow T M K → Bool
+  may_be_shared shares (Read window) = true
+  may_be_shared shares (Write window) = true
+  may_be_shared shares (Several window) = shares
+  may_be_shared shares (Small window) = true
 
 module _ {T M : Type 0} where
   -- a writer's window, on the block with this number, as it is seen of a slot

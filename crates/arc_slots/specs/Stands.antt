@@ -2,8 +2,8 @@
 use Rattle.std.specs.Prelude.{◌≡◌, ℕ, ◌<◌, Bool, true, false, List, Option, Some, None, length}
 use Rattle.std.specs.Prelude.{slice_get, slice_set}
 use Rattle.arc_owners.specs.declared.count.tokens.Pass.{Pass}
-use Rattle.arc_owners.specs.count.Calls.{Owner, IsPassOfNone, seen}
-use Rattle.arc_owners.specs.history.Histories.{is_in, live_owners}
+use Rattle.arc_owners.specs.count.Calls.{Owner, IsOfBlock, IsPassOfNone, pass_block, seen}
+use Rattle.arc_owners.specs.history.Histories.{IsLegal, is_in, live_owners}
 use Rattle.arc_block.specs.declared.block.TheConstants.{MAX_OWNERS}
 use Rattle.arc_block.specs.Owned.{Stand, HasPass}
 use Rattle.arc_block.specs.Place.{Place, nowhere, static_data, on_block}
@@ -72,3 +72,9 @@ module _ {H : Type 0} where
   abbrev pub HasNumber : List (Pass H) → Option ℕ → Type 0
   HasNumber passes None = Unit {0}
   HasNumber passes (Some number) = number < length passes
+
+  -- what the pass with this number has seen is legal
+  abbrev pub IsAttested : List (Pass H) → Option ℕ → Type 0
+  IsAttested passes None = Unit {0}
+  IsAttested passes (Some number) = (p : Pass H) → slice_get passes number ≡ Some p → IsOfBlock p
+      → IsLegal (pass_block p).most (pass_block p).began (seen p)

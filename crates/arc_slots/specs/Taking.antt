@@ -1,7 +1,7 @@
 -- What of a window is taken out, and the command to take it.
 use Rattle.std.specs.Prelude.{ℕ, Bool, true, false, List}
 use Rattle.arc_block.specs.Place.{Place}
-use Rattle.arc_block.specs.Window.{IsVecPart, IsBoxWhole, IsBufferWhole, IsRawWhole}
+use Rattle.arc_parts.specs.Window.{IsVecPart, IsBoxWhole, IsBufferWhole, IsRawWhole}
 use Rattle.arc_commands.specs.Commands.{ListCmd, ListReply}
 use Rattle.arc_commands.specs.Changes.{is_vector_part, is_box_whole, is_buffer_whole, is_raw_whole}
 use Rattle.arc_commands.specs.declared.command.Cmd.TheVariants as command

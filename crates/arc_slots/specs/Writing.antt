@@ -6,13 +6,14 @@ use Rattle.std.specs.Vec.{vec_items}
 use Rattle.arc_owners.specs.declared.count.tokens.Pass.{Pass}
 use Rattle.arc_owners.specs.declared.error.TryReserveError.{TryReserveError}
 use Rattle.arc_owners.specs.declared.error.TryReserveError.TheVariants.{AllocError}
-use Rattle.arc_block.specs.declared.parts.room.Room.{Room}
-use Rattle.arc_block.specs.declared.parts.room.Room.TheVariants.{Fresh, Growth, Own, Refused}
-use Rattle.arc_block.specs.declared.parts.moves.Move.{Move}
-use Rattle.arc_block.specs.declared.parts.moves.Move.TheVariants.{Stays, HandedBack, NewEmpty}
-use Rattle.arc_block.specs.declared.parts.moves.Move.TheVariants.{NewCount, LeavesCount}
-use Rattle.arc_block.specs.Room.{IsBuffersRefusal}
-use Rattle.arc_block.specs.Writers.{as_reader, new_writer, offset_at, with_more, with_room}
+use Rattle.arc_parts.specs.declared.room.Room.{Room}
+use Rattle.arc_parts.specs.declared.room.Room.TheVariants.{Fresh, Growth, Own, Refused}
+use Rattle.arc_block.specs.declared.layout.Move.{Move}
+use Rattle.arc_block.specs.declared.layout.Move.TheVariants.{Stays, HandedBack, NewEmpty}
+use Rattle.arc_block.specs.declared.layout.Move.TheVariants.{NewCount, LeavesCount}
+use Rattle.arc_parts.specs.Room.{IsBuffersRefusal}
+use Rattle.arc_parts.specs.Writers.{as_reader, new_writer, with_more, with_room}
+use Rattle.arc_block.specs.Place.{offset_at}
 use Rattle.arc_commands.specs.Additions.{Founds}
 use Rattle.arc_commands.specs.Changes.{Calls, made_row}
 use Rattle.arc_slots.specs.Slots.{SlotView, row_of, stand_of}

@@ -55,6 +55,9 @@ where
         ensures room { is_some result.1 ≡ true → has_room ≡ true }
     {
         self.known_role();
+        if self.is_several() {
+            return self.hand_out_places(rt, part, next, has_room, passes);
+        }
         if !self.has_part(part) {
             return (Reply::Kind, None);
         }
@@ -160,7 +163,7 @@ where
     }
 
     /// Whether the window's kind has the call that writes this.
-    fn may_write(what: &Writing<Vec<S::Item, A>, S::Item>) -> bool
+    pub(crate) fn may_write(what: &Writing<Vec<S::Item, A>, S::Item>) -> bool
         ensures { result ≡ can_write S.Calls.calls (seen_writing what.now) }
     {
         match what {
@@ -187,6 +190,9 @@ where
             self.old passes.old.of_blocks.items (seen_reply S.items_in S.items_in_box B.list result)
             (Some self.new) None passes.new.of_blocks.items }
     {
+        if self.is_several() {
+            return self.fill_beside(what, passes);
+        }
         if !self.is_written() {
             return Reply::Kind;
         }
@@ -207,16 +213,19 @@ where
     pub(crate) fn reclaim(
         &mut self,
         additional: usize,
-        passes: &Passes<A>,
+        passes: &mut Passes<A>,
     ) -> TableReply<S, B, M, A>
-        requires { FitsInMemory S.Item.row }
+        requires item { FitsInMemory S.Item.row }
+        requires pass { HasPassFor passes.old.of_blocks.items (stand_of (Some self.old)) }
         ensures { (next i : ℕ) → Answers (setting_of (layout_facts L.Layout) L.Writable.ANY
             L.clone_wants S.DROPS S.boundary
             (type_size S.Item.row) S.Zero.zero S.Calls.calls) next (command.Rec i additional)
-            self.old passes.now.of_blocks.items (seen_reply S.items_in S.items_in_box B.list result)
-            (Some self.new) None passes.now.of_blocks.items }
+            self.old passes.old.of_blocks.items (seen_reply S.items_in S.items_in_box B.list result)
+            (Some self.new) None passes.new.of_blocks.items }
     {
-        let _ = passes;
+        if self.is_several() {
+            return self.reclaim_beside(additional, passes);
+        }
         if !self.is_written() {
             return Reply::Kind;
         }
@@ -226,34 +235,7 @@ where
         Reply::No
     }
 
-    /// Makes the window, which is written alone, one of several on its block: no kind has such a
-    /// window.
-    pub(crate) fn share(&self, passes: &Passes<A>) -> TableReply<S, B, M, A>
-        ensures { (next i : ℕ) → Answers (setting_of (layout_facts L.Layout) L.Writable.ANY
-            L.clone_wants S.DROPS S.boundary
-            (type_size S.Item.row) S.Zero.zero S.Calls.calls) next (command.Share i)
-            self.now passes.now.of_blocks.items (seen_reply S.items_in S.items_in_box B.list result)
-            (Some self.now) None passes.now.of_blocks.items }
-    {
-        let _ = passes;
-        self.known_role();
-        Reply::Kind
-    }
-
-    /// Makes the window, which is one of several, the only one. None is one of several.
-    pub(crate) fn make_unique(&self, passes: &Passes<A>) -> TableReply<S, B, M, A>
-        ensures { (next i : ℕ) → Answers (setting_of (layout_facts L.Layout) L.Writable.ANY
-            L.clone_wants S.DROPS S.boundary
-            (type_size S.Item.row) S.Zero.zero S.Calls.calls) next (command.Unique i)
-            self.now passes.now.of_blocks.items (seen_reply S.items_in S.items_in_box B.list result)
-            (Some self.now) None passes.now.of_blocks.items }
-    {
-        let _ = passes;
-        self.known_role();
-        Reply::Kind
-    }
-
-    /// Joins the window, which is one of several, with another one. None is.
+    /// A join is on two windows (`join_at`), and of one alone there is none.
     pub(crate) fn join(&self, passes: &Passes<A>) -> TableReply<S, B, M, A>
         ensures { (next i j : ℕ) → Answers (setting_of (layout_facts L.Layout) L.Writable.ANY
             L.clone_wants S.DROPS S.boundary
@@ -262,7 +244,6 @@ where
             (Some self.now) None passes.now.of_blocks.items }
     {
         let _ = passes;
-        self.known_role();
         Reply::Kind
     }
 
@@ -315,7 +296,7 @@ where
             self passes.old.of_blocks.items (seen_reply S.items_in S.items_in_box B.list result.0)
             (Some result.1) None passes.new.of_blocks.items }
     {
-        if !self.is_written() {
+        if !self.is_writer() {
             return (Reply::Kind, self);
         }
         let begins = self.wants_block_to_read();

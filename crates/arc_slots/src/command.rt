@@ -71,6 +71,51 @@ where
     reply
 }
 
+/// The window is one of several from now on, if it was written alone.
+fn share_at<S: Commands<A>, L: Layout, B: BufferMut<S::Item> + Drop, M: Drop, A: Allocator + Copy>(
+    place: &mut Option<Slot<S, L, B, M, A>>,
+    passes: &Passes<A>,
+) -> TableReply<S, B, M, A>
+where
+    L::Writable: LayoutMut,
+    S::Small: SmallOf<S, L, B, M, A>,
+    ensures { IfSome place.old (λ s. (next i : ℕ) → Answers (setting_of (layout_facts L.Layout)
+        L.Writable.ANY L.clone_wants
+        S.DROPS S.boundary (type_size S.Item.row) S.Zero.zero S.Calls.calls) next (command.Share i)
+        s passes.now.of_blocks.items (seen_reply S.items_in S.items_in_box B.list result)
+        place.new None passes.now.of_blocks.items) }
+{
+    let Some(slot) = mem::replace(place, None) else {
+        return Reply::NoWindow;
+    };
+    let (reply, slot) = slot.share(passes);
+    set_slot(place, Some(slot));
+    reply
+}
+
+/// The window is the only one that is written from now on, if it was one of several and is alone.
+fn unique_at<S: Commands<A>, L: Layout, B: BufferMut<S::Item> + Drop, M: Drop, A: Allocator + Copy>(
+    place: &mut Option<Slot<S, L, B, M, A>>,
+    passes: &mut Passes<A>,
+) -> TableReply<S, B, M, A>
+where
+    L::Writable: LayoutMut,
+    S::Small: SmallOf<S, L, B, M, A>,
+    requires { HasPassFor passes.old.of_blocks.items (stand_of place.old) }
+    ensures { IfSome place.old (λ s. (next i : ℕ) → Answers (setting_of (layout_facts L.Layout)
+        L.Writable.ANY L.clone_wants
+        S.DROPS S.boundary (type_size S.Item.row) S.Zero.zero S.Calls.calls) next (command.Unique i)
+        s passes.old.of_blocks.items (seen_reply S.items_in S.items_in_box B.list result)
+        place.new None passes.new.of_blocks.items) }
+{
+    let Some(slot) = mem::replace(place, None) else {
+        return Reply::NoWindow;
+    };
+    let (reply, slot) = slot.make_unique(passes);
+    set_slot(place, Some(slot));
+    reply
+}
+
 /// The window ends, if there is one, whatever the table is run under. Takes no memory.
 #[tactic(auto, using(crate::proofs::Taken::has_both))]
 pub fn drop_at<
@@ -210,8 +255,8 @@ where
         Cmd::Trunc { len, .. } => (slot.cut(len, passes), None),
         Cmd::Freeze { .. } => (freeze_at(place, passes), None),
         Cmd::Mut { .. } => (mut_at(place, passes), None),
-        Cmd::Share { .. } => (slot.share(passes), None),
-        Cmd::Unique { .. } => (slot.make_unique(passes), None),
+        Cmd::Share { .. } => (share_at(place, passes), None),
+        Cmd::Unique { .. } => (unique_at(place, passes), None),
         Cmd::Join { .. } => (slot.join(passes), None),
         Cmd::Drop { .. } => (drop_at(place, passes), None),
         Cmd::Take { .. } => (take_at(place, Taking::Vector, passes), None),

@@ -1,6 +1,6 @@
 //! What a table's commands may ask of a kind, beside what all its kinds have.
-ghost use Rattle.std.specs.Prelude.{◌≡◌, ◌≤◌, List, Option, Some, None, true, is_some, replicate};
-ghost use Rattle.std.specs.Prelude.{IfNone, IfOk, IfSome, OnErr, refl};
+ghost use Rattle.std.specs.Prelude.{◌≡◌, ◌≤◌, Bool, List, Option, Some, None, true, false, is_some};
+ghost use Rattle.std.specs.Prelude.{IfNone, IfOk, IfSome, OnErr, refl, replicate};
 ghost use Rattle.std.specs.Vec.{vec_items};
 ghost use Rattle.std.specs.String.{string_bytes};
 ghost use Rattle.std.specs.declared.vec.Vec.{Vec};
@@ -10,7 +10,7 @@ ghost use Rattle.std.proofs.Common.{ap};
 ghost use Rattle.std.proofs.lemmas.Bool.{false≢true};
 ghost use Rattle.std.proofs.lemmas.Str.{IsUtf8-had};
 ghost use Rattle.arc_owners.specs.count.Calls.{IsPassOfNone};
-ghost use Rattle.arc_block.specs.Writers.{MakesWriter};
+ghost use Rattle.arc_parts.specs.Writers.{MakesWriter};
 
 use arc_block::layout::LayoutMut;
 use arc_block::static_slice::StaticSlice;
@@ -29,8 +29,12 @@ use std::alloc::Allocator;
 use std::boxed::{BoxedSlice, BoxedStr};
 use std::sync::Arc;
 
-/// A kind of which a table may have windows, and whether it has small ones.
+/// A kind of which a table may have windows, and whether it has small ones, and windows of several
+/// writers.
 pub trait TableKind: Subsliceable {
+    /// Whether several may write one block.
+    ghost SHARES: { Bool };
+
     /// `HasSmall` where it has, else `NoSmall`.
     type Small: Smalls;
 }
@@ -97,6 +101,9 @@ pub trait Commands<A: Allocator>: Emptyable + TableKind {
 
     /// Its calls say that it has small windows where it has.
     ghost small_is: { Self.Calls.calls.small ≡ Self.Small.small };
+
+    /// Several write one block where the kind's windows may.
+    ghost shares_is: { Self.Calls.calls.shares ≡ Self.SHARES };
 }
 
 /// What a table of windows of kind S is asked, with callers' buffers B, metadata M, and A for
@@ -160,6 +167,11 @@ pub(crate) fn box_of<S: Commands<A>, A: Allocator>(items: Vec<S::Item, A>) -> S:
 pub(crate) fn known_legal<S: Commands<A>, A: Allocator>()
     requires { S.Calls.calls.any_list ≡ true }
     ensures { (xs : List S.Item) → ∥ S.is_legal xs ∥₁ }
+{}
+
+/// Several write one block of a kind where its calls say so. Does nothing: its contract is the law.
+pub(crate) fn known_shares<S: Commands<A>, A: Allocator>()
+    ensures { S.Calls.calls.shares ≡ S.SHARES }
 {}
 
 /// A kind has small windows where its calls say so. Does nothing: its contract is the law.
@@ -259,18 +271,26 @@ where
 }
 
 impl<T: TableItem> TableKind for Plain<T> {
+    ghost SHARES = { true };
+
     type Small = T::Small;
 }
 
 impl TableKind for ByteText {
+    ghost SHARES = { true };
+
     type Small = HasSmall;
 }
 
 impl TableKind for Text {
+    ghost SHARES = { true };
+
     type Small = HasSmall;
 }
 
 impl<T: Drop> TableKind for Owned<T> {
+    ghost SHARES = { false };
+
     type Small = NoSmall;
 }
 
@@ -310,6 +330,8 @@ impl<T: TableItem, A: Allocator> Commands<A> for Plain<T> {
     ghost legal_is_fact = { λ _ _. tt };
 
     ghost small_is = { refl };
+
+    ghost shares_is = { refl };
 }
 
 impl<A: Allocator> Commands<A> for ByteText {
@@ -348,6 +370,8 @@ impl<A: Allocator> Commands<A> for ByteText {
     ghost legal_is_fact = { λ _ _. tt };
 
     ghost small_is = { refl };
+
+    ghost shares_is = { refl };
 }
 
 impl<A: Allocator> Commands<A> for Text {
@@ -386,6 +410,8 @@ impl<A: Allocator> Commands<A> for Text {
     ghost legal_is_fact = { λ xs had. IsUtf8-had xs had };
 
     ghost small_is = { refl };
+
+    ghost shares_is = { refl };
 }
 
 impl<T: Drop, A: Allocator> Commands<A> for Owned<T> {
@@ -424,6 +450,8 @@ impl<T: Drop, A: Allocator> Commands<A> for Owned<T> {
     ghost legal_is_fact = { λ _ _. tt };
 
     ghost small_is = { refl };
+
+    ghost shares_is = { refl };
 }
 
 impl TableItem for () {

@@ -2,12 +2,16 @@
 #![tactic(auto)]
 
 pub mod answer;
+pub mod beside;
 pub mod command;
+pub mod freeze;
+pub mod join;
 pub mod kinds;
 pub mod list;
 pub mod maker;
 pub mod part;
 pub mod passes;
+pub mod several;
 pub mod slot;
 pub mod take;
 pub mod window;

@@ -41,6 +41,8 @@ impl<X, A: Allocator> Slots<X, A> {
         ensures told { IfSome result (λ p. slice_get self.now.index.items number ≡ Some p) }
         ensures whose { IfSome result (λ p. slice_get self.now.numbers.items p ≡ Some number) }
         ensures within { IfSome result (λ p. p < length self.now.places.items) }
+        ensures there { IfSome result (λ p.
+            is_some (option_flatten (slice_get self.now.places.items p)) ≡ true) }
         ensures none { result ≡ None → option_flatten (slice_get (windows_of self.now.index.items
             self.now.numbers.items self.now.places.items) number) ≡ None }
     {
@@ -208,7 +210,7 @@ impl<X, A: Allocator> Slots<X, A> {
 }
 
 /// Puts a slot, if there is one, where there is none.
-pub(crate) fn set_slot<X>(place: &mut Option<X>, slot: Option<X>)
+pub fn set_slot<X>(place: &mut Option<X>, slot: Option<X>)
     requires { place.old ≡ None }
     ensures { place.new ≡ slot }
 {

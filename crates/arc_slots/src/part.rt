@@ -1,5 +1,6 @@
 //! Windows that are made beside others.
 ghost use Rattle.std.specs.Prelude.{◌≡◌, Bool, true, IsOk};
+ghost use Rattle.arc_slots.specs.Several.{is_split};
 
 use crate::kinds::{SmallOf, TableKind};
 use crate::passes::Passes;
@@ -23,6 +24,18 @@ pub enum Part {
     Back(usize),
     /// The items up to this place, which the window then has no more.
     Front(usize),
+}
+
+impl Part {
+    /// Whether places are split at the part.
+    pub fn is_split(self) -> bool
+        ensures { result ≡ is_split self }
+    {
+        match self {
+            Part::Whole | Part::Range { .. } => false,
+            Part::Back(_) | Part::Front(_) => true,
+        }
+    }
 }
 
 impl<S: TableKind, L: Layout, B: BufferMut<S::Item> + Drop, M: Drop, A: Allocator + Copy> Slot<
@@ -50,7 +63,7 @@ where
     {
         match &self.window {
             Held::Read(_) => true,
-            Held::Write(_) => false,
+            Held::Write(_) | Held::Several(_) => false,
             Held::Small(_) => match part {
                 Part::Whole | Part::Range { .. } => true,
                 Part::Back(_) | Part::Front(_) => false,

@@ -17,7 +17,7 @@ impl<A: Allocator> Passes<A> {
     ghost use Rattle.std.specs.Prelude.{◌≡◌, ◌<◌, ◌++◌, ◌∷◌, [], true, false, length, Some};
     ghost use Rattle.std.specs.Prelude.{OnOk, OnErr};
     ghost use Rattle.std.specs.Vec.{vec_capacity};
-    ghost use Rattle.arc_slots.specs.Stands.{HasNumber, TakenOut, put_back};
+    ghost use Rattle.arc_slots.specs.Stands.{HasNumber, IsAttested, TakenOut, put_back};
 
     /// The pass of a block, for a call that steps on it, or a pass of none. It comes back by
     /// `give_back`.
@@ -39,6 +39,16 @@ impl<A: Allocator> Passes<A> {
     {
         if let Some(number) = block {
             self.of_blocks[number] = pass;
+        }
+    }
+
+    /// What the pass of a block has seen is legal. Does nothing: its contract is the law.
+    pub(crate) fn attest(&self, block: Option<usize>)
+        requires { HasNumber self.now.of_blocks.items block }
+        ensures { IsAttested self.now.of_blocks.items block }
+    {
+        if let Some(number) = block {
+            self.of_blocks[number].attest();
         }
     }
 

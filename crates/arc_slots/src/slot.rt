@@ -1,10 +1,9 @@
 //! One window of a table.
 ghost use Rattle.std.specs.Prelude.{◌≡◌, ◌==◌, ◌&&◌, if◌then◌else◌, Bool, None, true, IfErr, OnOk};
-ghost use Rattle.arc_block.specs.LayoutFacts.{layout_facts};
 ghost use Rattle.std.specs.Prelude.{Err};
 ghost use Rattle.std.specs.Mem.{FitsInMemory, type_size};
-ghost use Rattle.arc_block.specs.Steps.{IsPassAt};
-ghost use Rattle.arc_block.specs.Writers.{room_for, MakesRoom, Pushes};
+ghost use Rattle.arc_parts.specs.Steps.{IsPassAt};
+ghost use Rattle.arc_parts.specs.Writers.{room_for, MakesRoom, Pushes};
 ghost use Rattle.arc_slots.specs.Writing.{IsLegal, can_write, seen_writing, items_of};
 ghost use Rattle.arc_slots.specs.Writing.{additional_of};
 
@@ -12,13 +11,13 @@ use crate::kinds::{CallsOf, Commands, SmallOf, TableKind};
 use crate::passes::Passes;
 use crate::window::{AnyWindow, Held, clone_window, cut_window, end_window};
 use arc_block::layout::{Layout, LayoutMut, stands_on_nothing};
-use arc_block::parts::Parts;
 use arc_block::static_slice::StaticSlice;
 use arc_buffer::buffer::BufferMut;
 use arc_buffer::kinds::Slice;
 use arc_owners::error::{OwnerError, RangeError, TryReserveError};
 use arc_owners::mark::Whole;
 use arc_owners::owners::Pass;
+use arc_parts::parts::Parts;
 use arc_read::slice::ArcSlice;
 use arc_write::slice_mut::{ArcSliceMut, IntoMut};
 use std::alloc::Allocator;
@@ -45,14 +44,14 @@ where
 {
     ghost use Rattle.std.specs.Prelude.{◌≡◌, true};
     ghost use Rattle.arc_slots.specs.Stands.{is_numbered};
-    ghost use Rattle.arc_slots.specs.Slots.{SlotView, held, role_fits, window_in};
+    ghost use Rattle.arc_slots.specs.Slots.{SlotView, held, may_be_shared, role_fits, window_in};
 
     ghost Value = { SlotView S.Item M };
 
     ghost view = { λ s. held S.Small.seen s.window s.block };
 
     ghost invariant = { λ s. (is_numbered s.block (window_in S.Small.seen s.window).place ≡ true)
-        × (role_fits s.window ≡ true) };
+        × (role_fits s.window ≡ true) × (may_be_shared S.SHARES s.window ≡ true) };
 }
 
 /// What is written into a window, where X holds items and T is one.
@@ -145,8 +144,8 @@ where
     ghost use Rattle.arc_block.specs.Place.{metadata_at, part_place};
     ghost use Rattle.std.specs.Prelude.{IfSome};
     ghost use Rattle.arc_block.specs.Table.{reader};
-    ghost use Rattle.arc_block.specs.Window.{window_of};
-    ghost use Rattle.arc_block.specs.Writers.{after_advance, as_sole, capacity_of};
+    ghost use Rattle.arc_parts.specs.Window.{window_of};
+    ghost use Rattle.arc_parts.specs.Writers.{after_advance, as_sole, capacity_of};
     ghost use Rattle.arc_block.specs.Place.{static_data};
     ghost use Rattle.arc_owners.specs.count.Calls.{Leaves};
     ghost use Rattle.arc_slots.specs.Stands.{HasPassFor, is_numbered};
@@ -154,12 +153,12 @@ where
     ghost use Rattle.arc_commands.specs.Changes.{cut_row, off_part, part_of, to_part};
     ghost use Rattle.arc_commands.specs.Changes.{is_on_block, is_writable_at, may_write_at};
     ghost use Rattle.arc_commands.specs.Changes.{truncated};
-    ghost use Rattle.arc_block.specs.Moves.{IsRefused, layout_move};
     ghost use Rattle.arc_slots.specs.Splits.{IsSplit};
-    ghost use Rattle.arc_commands.specs.Blocks.{is_reader, is_small, is_sole, is_writer};
+    ghost use Rattle.arc_commands.specs.Blocks.{is_reader, is_several, is_small, is_sole};
+    ghost use Rattle.arc_commands.specs.Blocks.{is_writer};
     ghost use Rattle.arc_slots.specs.Slots.{IsSlotRole, row_of, stand_of};
-    ghost use Rattle.arc_slots.specs.Writing.{Fills, FreezesBy, is_fresh, is_new};
-    ghost use Rattle.arc_block.specs.Writers.{Reclaims};
+    ghost use Rattle.arc_slots.specs.Writing.{Fills, is_fresh};
+    ghost use Rattle.arc_parts.specs.Writers.{Reclaims};
     ghost use Rattle.std.specs.Vec.{vec_capacity};
 
     /// A window over a slice that is there for good and legal, under a layout with static data.
@@ -197,15 +196,56 @@ where
         }
     }
 
-    /// Whether the window is one that is written.
-    pub fn is_written(&self) -> bool
-        ensures answer { result ≡ is_sole self.now.role }
-        ensures other { result ≡ false → is_writer self.now.role ≡ false }
+    /// The window of one of several writers, on the block with this number, where the kind has such.
+    pub fn written_beside(
+        window: ArcSliceMut<S, L::Writable, 0, B, M, A, Whole>,
+        block: Option<usize>,
+    ) -> Self
+        requires writes { is_several window.role ≡ true }
+        requires shares { S.SHARES ≡ true }
+        requires block { is_numbered block window.place ≡ true }
+        ensures { result ≡ record {
+          window = window_of window;
+          role = window.role;
+          block = block;
+        } }
+    {
+        Slot {
+            window: Held::Several(window),
+            block,
+        }
+    }
+
+    /// Whether the window is one that is written, alone or by one of several.
+    pub fn is_writer(&self) -> bool
+        ensures { result ≡ is_writer self.now.role }
     {
         match &self.window {
-            Held::Read(_) => false,
+            Held::Read(_) | Held::Small(_) => false,
+            Held::Write(_) | Held::Several(_) => true,
+        }
+    }
+
+    /// Whether the window is one that is written alone.
+    pub fn is_written(&self) -> bool
+        ensures answer { result ≡ is_sole self.now.role }
+        ensures other { result ≡ false → is_several self.now.role ≡ false
+            → is_writer self.now.role ≡ false }
+    {
+        match &self.window {
+            Held::Read(_) | Held::Several(_) | Held::Small(_) => false,
             Held::Write(_) => true,
-            Held::Small(_) => false,
+        }
+    }
+
+    /// Whether the window is one of several that are written.
+    pub fn is_several(&self) -> bool
+        ensures answer { result ≡ is_several self.now.role }
+        ensures shares { result ≡ true → S.SHARES ≡ true }
+    {
+        match &self.window {
+            Held::Read(_) | Held::Write(_) | Held::Small(_) => false,
+            Held::Several(_) => true,
         }
     }
 
@@ -216,8 +256,7 @@ where
     {
         match &self.window {
             Held::Read(_) => true,
-            Held::Write(_) => false,
-            Held::Small(_) => false,
+            Held::Write(_) | Held::Several(_) | Held::Small(_) => false,
         }
     }
 
@@ -226,33 +265,29 @@ where
         ensures { result ≡ is_small self.now.role }
     {
         match &self.window {
-            Held::Read(_) => false,
-            Held::Write(_) => false,
+            Held::Read(_) | Held::Write(_) | Held::Several(_) => false,
             Held::Small(_) => true,
         }
     }
 
-    /// A window is read, or it is its block's only owner's, who writes, or a small one. Does
-    /// nothing: its contract is the law.
+    /// A window is read, or it is a writer's, or a small one. Does nothing: its contract is the law.
     pub fn known_role(&self)
         ensures { IsSlotRole self.now.role }
     {
         match &self.window {
-            Held::Read(_) => (),
-            Held::Write(_) => (),
-            Held::Small(_) => (),
+            Held::Read(_) | Held::Write(_) | Held::Several(_) | Held::Small(_) => (),
         }
     }
 
     /// How many places the window has, if it is one that is written.
     pub fn capacity(&self) -> Option<usize>
         ensures { MatchOption result (is_writer self.now.role ≡ false) (λ places.
-            (is_sole self.now.role ≡ true) × (places ≡ capacity_of self.now.role)) }
+            (is_writer self.now.role ≡ true) × (places ≡ capacity_of self.now.role)) }
     {
         match &self.window {
-            Held::Read(_) => None,
+            Held::Read(_) | Held::Small(_) => None,
             Held::Write(window) => Some(window.capacity()),
-            Held::Small(_) => None,
+            Held::Several(window) => Some(window.capacity()),
         }
     }
 
@@ -266,6 +301,7 @@ where
         match &self.window {
             Held::Read(window) => window.metadata(),
             Held::Write(window) => window.metadata(),
+            Held::Several(window) => window.metadata(),
             Held::Small(_) => unreachable!(),
         }
     }
@@ -277,20 +313,21 @@ where
         match &self.window {
             Held::Read(window) => window.as_slice(),
             Held::Write(window) => window.as_slice(),
+            Held::Several(window) => window.as_slice(),
             Held::Small(window) => S::Small::as_slice(window),
         }
     }
 
     /// Whether `start` to `end` is a range of the window, which isn't one that is written.
     pub fn check_range(&self, start: usize, end: usize) -> Result<(), RangeError>
-        requires { is_sole self.now.role ≡ false }
+        requires { is_writer self.now.role ≡ false }
         ensures answer { result ≡ range_answer S.boundary self.now.window.items start end }
         ensures ok { IsOk result ↔ IsRange S.boundary self.now.window.items start end }
     {
         match &self.window {
             Held::Read(window) => window.check_range(start, end),
             Held::Small(window) => S::Small::check_range(window, start, end),
-            Held::Write(_) => unreachable!(),
+            Held::Write(_) | Held::Several(_) => unreachable!(),
         }
     }
 
@@ -301,6 +338,7 @@ where
         match &self.window {
             Held::Read(window) => window.len(),
             Held::Write(window) => window.len(),
+            Held::Several(window) => window.len(),
             Held::Small(window) => S::Small::as_slice(window).len(),
         }
     }
@@ -313,6 +351,7 @@ where
         match &self.window {
             Held::Read(window) => window.check_at(at),
             Held::Write(window) => window.check_at(at),
+            Held::Several(window) => window.check_at(at),
             Held::Small(window) => S::Small::check_at(window, at),
         }
     }
@@ -326,6 +365,7 @@ where
         match &mut self.window {
             Held::Read(window) => window.advance(by),
             Held::Write(window) => window.advance(by),
+            Held::Several(window) => window.advance(by),
             Held::Small(window) => S::Small::advance(window, by),
         }
     }
@@ -341,6 +381,7 @@ where
         match &mut self.window {
             Held::Read(window) => window.truncate(len),
             Held::Write(window) => window.truncate(len),
+            Held::Several(window) => window.truncate(len),
             Held::Small(_) => unreachable!(),
         }
     }
@@ -360,7 +401,7 @@ where
     ///
     /// On a block Up, or Full where refused.
     pub fn try_clone(&self, rt: &impl Wait, passes: &mut Passes<A>) -> Result<Self, OwnerError>
-        requires cuts { is_sole self.now.role ≡ false }
+        requires cuts { is_writer self.now.role ≡ false }
         requires pass { HasPassFor passes.old.of_blocks.items (stand_of (Some self.now)) }
         ensures row { IfOk result (λ slot. row_of slot ≡ row_of self.now) }
         ensures stand { IfOk result (λ slot.
@@ -403,7 +444,7 @@ where
         passes: &mut Passes<A>,
     ) -> Result<Self, OwnerError>
         requires range { IsRange S.boundary self.now.window.items start end }
-        requires cuts { is_sole self.now.role ≡ false }
+        requires cuts { is_writer self.now.role ≡ false }
         requires pass { HasPassFor passes.old.of_blocks.items (stand_of (Some self.now)) }
         ensures row { IfOk result (λ slot.
             row_of slot ≡ part_of L.STATIC (row_of self.now) start end) }
@@ -590,15 +631,21 @@ where
 
     /// Whether a first block has to be made for so many items more in the window, which is written.
     pub fn wants_block(&self, additional: usize) -> bool
-        requires { is_sole self.now.role ≡ true }
+        requires { is_writer self.now.role ≡ true }
         ensures { result ≡ is_fresh
             (room_for S.DROPS (type_size S.Item.row) (row_of self.now) additional) }
     {
-        let Held::Write(window) = &self.window else {
-            unreachable!()
-        };
-        window.known_place();
-        self.block.is_none() && window.capacity().saturating_sub(window.len()) < additional
+        match &self.window {
+            Held::Write(window) => {
+                window.known_place();
+                self.block.is_none() && window.capacity().saturating_sub(window.len()) < additional
+            }
+            Held::Several(window) => {
+                window.known_shared_place();
+                self.block.is_none() && window.capacity().saturating_sub(window.len()) < additional
+            }
+            Held::Read(_) | Held::Small(_) => unreachable!(),
+        }
     }
 
     /// Writes into the window, which is one that is written, by a call that its kind has: `what`
@@ -667,73 +714,6 @@ where
             unreachable!()
         };
         window.try_reclaim(additional)
-    }
-
-    /// Whether a first block has to be made for the window, which is written, to be read: it stands
-    /// on none, and the layout has no static data.
-    #[tactic(auto, using(crate::proofs::Filled::new_is))]
-    pub fn wants_block_to_read(&self) -> bool
-        requires { is_sole self.now.role ≡ true }
-        ensures { result ≡ is_new (layout_move (layout_facts L.Layout) (row_of self.now).place) }
-    {
-        let Held::Write(window) = &self.window else {
-            unreachable!()
-        };
-        window.known_place();
-        self.block.is_none() && !L::STATIC
-    }
-
-    /// The window, which is one that is written, as one that is read: where it stands, or on a
-    /// block of no places.
-    ///
-    /// # Errors
-    ///
-    /// The window itself, on a block that the layout doesn't hold, and on none under a layout
-    /// without static data, where memory for a block is refused.
-    ///
-    /// # Allocates
-    ///
-    /// Only there: a block.
-    ///
-    /// # History
-    ///
-    /// None. A first block's history begins.
-    pub fn try_freeze(self, passes: &mut Passes<A>) -> Result<Self, Self>
-        requires writes { is_sole self.role ≡ true }
-        requires pass { HasPassFor passes.old.of_blocks.items (stand_of (Some self)) }
-        requires room { is_new (layout_move (layout_facts L.Layout) (row_of self).place) ≡ true
-            → length passes.old.of_blocks.items < vec_capacity passes.old.of_blocks }
-        ensures frozen { IfOk result (λ slot. FreezesBy
-            (layout_move (layout_facts L.Layout) (row_of self).place) S.DROPS self slot
-            passes.old.of_blocks.items passes.new.of_blocks.items) }
-        ensures back { IfErr result (λ slot. (slot ≡ self)
-            × (passes.new.of_blocks.items ≡ passes.old.of_blocks.items)) }
-        ensures refused { IfErr result (λ _.
-            IsRefused (layout_move (layout_facts L.Layout) (row_of self).place)) }
-    {
-        let begins = self.wants_block_to_read();
-        let Slot { window, block } = self;
-        let Held::Write(window) = window else {
-            unreachable!()
-        };
-        window.known_place();
-        let mut pass = passes.lend(block);
-        match window.try_freeze_as::<L>(&mut pass) {
-            Ok(window) => {
-                let block = passes.keep(block, begins, pass);
-                Ok(Slot {
-                    window: Held::Read(window),
-                    block,
-                })
-            }
-            Err(window) => {
-                passes.give_back(block, pass);
-                Err(Slot {
-                    window: Held::Write(window),
-                    block,
-                })
-            }
-        }
     }
 
     /// Whether nobody else has a part of what the window stands on: on a block the count is asked,

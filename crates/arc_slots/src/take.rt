@@ -4,7 +4,7 @@ ghost use Rattle.std.specs.Mem.{type_size};
 ghost use Rattle.arc_owners.specs.count.Calls.{Leaves};
 ghost use Rattle.arc_block.specs.LayoutFacts.{layout_facts};
 ghost use Rattle.arc_block.specs.Place.{at_owner};
-ghost use Rattle.arc_block.specs.Steps.{IsPassAt, RefusesTaking, TakesAt};
+ghost use Rattle.arc_parts.specs.Steps.{IsPassAt, RefusesTaking, TakesAt};
 ghost use Rattle.arc_block.specs.Table.{reader};
 ghost use Rattle.arc_commands.specs.Seen.{seen_reply};
 ghost use Rattle.arc_slots.specs.Taking.{CanHave, is_writers, take_reply};
@@ -14,15 +14,16 @@ use crate::passes::Passes;
 use crate::slot::Slot;
 use crate::window::Held;
 use arc_block::layout::{Layout, LayoutMut};
-use arc_block::parts::{Parts, SoleParts};
 use arc_block::static_slice::StaticSlice;
 use arc_buffer::buffer::BufferMut;
 use arc_buffer::kinds::Slice;
 use arc_commands::command::Reply;
 use arc_owners::mark::Whole;
 use arc_owners::owners::Pass;
+use arc_parts::parts::Parts;
 use arc_read::slice::ArcSlice;
 use arc_write::slice_mut::ArcSliceMut;
+use arc_writer_parts::sole::SoleParts;
 use std::alloc::Allocator;
 
 /// What of a window's block is taken out.
@@ -147,12 +148,13 @@ where
     S::Small: SmallOf<S, L, B, M, A>,
 {
     ghost use Rattle.std.specs.Prelude.{false, Some, length};
-    ghost use Rattle.arc_commands.specs.Blocks.{is_sole};
+    ghost use Rattle.arc_commands.specs.Blocks.{is_several, is_sole};
     ghost use Rattle.arc_commands.specs.Changes.{is_on_block};
     ghost use Rattle.arc_slots.specs.Calls.{Along, RefusesOut, TakesOut};
     ghost use Rattle.arc_slots.specs.Slots.{row_of, stand_of};
     ghost use Rattle.arc_slots.specs.Stands.{HasPassFor};
     ghost use Rattle.arc_slots.specs.Taking.{can_have};
+    ghost use Rattle.arc_slots.specs.declared.take.Taking.TheVariants.{Vector as vector_of};
 
     /// What the window stands on, which is read, taken out, as a reply: where it can be had so, and
     /// no other owner lives.
@@ -242,6 +244,48 @@ where
         }
     }
 
+    /// The vector on which the window stands, which is one of several, taken out, as a reply: where it
+    /// can be had so, and no other owner lives.
+    ///
+    /// # Errors
+    ///
+    /// The window itself.
+    ///
+    /// # History
+    ///
+    /// Taken, Alone and Down. Refused, Alone with no where only the count could decide, and else
+    /// nothing.
+    fn try_take_beside(self, passes: &mut Passes<A>) -> Result<TableReply<S, B, M, A>, Self>
+    where
+        S: Commands<A>,
+        requires role { is_several self.role ≡ true }
+        requires pass { HasPassFor passes.old.of_blocks.items (stand_of (Some self)) }
+        ensures reply { IfOk result (λ r. seen_reply S.items_in S.items_in_box B.list r
+            ≡ take_reply vector_of self.window.items) }
+        ensures taken { IfOk result (λ _. TakesOut
+            (can_have S.DROPS vector_of (row_of self).place (length self.window.items))
+            (stand_of (Some self)) passes.old.of_blocks.items passes.new.of_blocks.items) }
+        ensures back { IfErr result (λ slot. slot ≡ self) }
+        ensures refused { IfErr result (λ _. RefusesOut
+            (can_have S.DROPS vector_of (row_of self).place (length self.window.items))
+            (stand_of (Some self)) passes.old.of_blocks.items passes.new.of_blocks.items) }
+    {
+        let Slot { window, block } = self;
+        let Held::Several(window) = window else {
+            unreachable!()
+        };
+        let mut pass = passes.lend(block);
+        let taken = window.into_shared_parts().try_into_vec_as(&mut pass);
+        passes.give_back(block, pass);
+        match taken {
+            Ok(items) => Ok(Reply::Vec(items_of::<S, A>(items))),
+            Err(parts) => Err(Slot {
+                window: Held::Several(ArcSliceMut::from_shared_parts(parts)),
+                block,
+            }),
+        }
+    }
+
     /// The items of the window, which is read, for good, where it stands on no block. Takes no
     /// memory.
     ///
@@ -281,6 +325,7 @@ where
     S::Small: SmallOf<S, L, B, M, A>,
 {
     ghost use Rattle.std.specs.Prelude.{ℕ, None, Some};
+    ghost use Rattle.arc_commands.specs.Blocks.{is_several};
     ghost use Rattle.arc_commands.specs.Changes.{setting_of};
     ghost use Rattle.arc_commands.specs.declared.command.Cmd.TheVariants as command;
     ghost use Rattle.arc_slots.specs.Answers.{Answers};
@@ -307,6 +352,31 @@ where
         }
     }
 
+    /// Takes out the vector on which the window stands, which is one of several, if it can be had;
+    /// then the window is gone. Nothing else is taken out of such a window.
+    fn take_beside(
+        self,
+        what: Taking,
+        passes: &mut Passes<A>,
+    ) -> (TableReply<S, B, M, A>, Option<Self>)
+        requires role { is_several self.role ≡ true }
+        requires pass { HasPassFor passes.old.of_blocks.items (stand_of (Some self)) }
+        ensures { (next i : ℕ) → Answers (setting_of (layout_facts L.Layout) L.Writable.ANY
+            L.clone_wants
+            S.DROPS S.boundary (type_size S.Item.row) S.Zero.zero S.Calls.calls) next
+            (take_command i what) self passes.old.of_blocks.items
+            (seen_reply S.items_in S.items_in_box B.list result.0)
+            result.1 None passes.new.of_blocks.items }
+    {
+        match what {
+            Taking::Vector => match self.try_take_beside(passes) {
+                Ok(reply) => (reply, None),
+                Err(slot) => (Reply::Refused, Some(slot)),
+            },
+            Taking::Boxed | Taking::Buffer | Taking::Raw => (Reply::Kind, Some(self)),
+        }
+    }
+
     /// Takes out what the window stands on, if it is for its role and can be had; then the window
     /// is gone.
     pub(crate) fn take(
@@ -327,6 +397,9 @@ where
                 Ok(reply) => (reply, None),
                 Err(slot) => (Reply::Refused, Some(slot)),
             };
+        }
+        if self.is_several() {
+            return self.take_beside(what, passes);
         }
         if !self.is_written() {
             return (Reply::Kind, Some(self));

@@ -3,10 +3,10 @@ ghost use Rattle.std.specs.Prelude.{◌≡◌, Bool, true, false, IfErr, IfOk};
 ghost use Rattle.arc_owners.specs.count.Calls.{Leaves};
 ghost use Rattle.arc_buffer.specs.Slice.{IsRange, sub};
 ghost use Rattle.arc_block.specs.Place.{at_owner};
-ghost use Rattle.arc_block.specs.Steps.{IsPassAt, Refuses, Shares};
-ghost use Rattle.arc_commands.specs.Blocks.{is_sole};
+ghost use Rattle.arc_parts.specs.Steps.{IsPassAt, Refuses, Shares};
+ghost use Rattle.arc_commands.specs.Blocks.{is_writer};
 ghost use Rattle.arc_read.specs.Cuts.{sub_place};
-ghost use Rattle.arc_slots.specs.Slots.{role_fits, role_in, window_in};
+ghost use Rattle.arc_slots.specs.Slots.{may_be_shared, role_fits, role_in, window_in};
 
 use crate::kinds::{SmallOf, TableKind};
 use arc_block::layout::{Layout, LayoutMut};
@@ -20,10 +20,12 @@ use arc_write::slice_mut::ArcSliceMut;
 use std::alloc::Allocator;
 use std::sync::Wait;
 
-/// A window that is read, one that is written, or a small one.
-pub enum Held<R, W, K> {
+/// A window that is read, one that is written alone, one of several that are written, or a small
+/// one.
+pub enum Held<R, W, V, K> {
     Read(R),
     Write(W),
+    Several(V),
     Small(K),
 }
 
@@ -31,6 +33,7 @@ pub enum Held<R, W, K> {
 pub type AnyWindow<S, L, K, B, M, A> = Held<
     ArcSlice<S, L, B, M, A, Whole>,
     ArcSliceMut<S, K, 1, B, M, A, Whole>,
+    ArcSliceMut<S, K, 0, B, M, A, Whole>,
     SmallWindow<S, L, B, M, A>,
 >;
 
@@ -52,7 +55,7 @@ pub(crate) fn clone_window<
 ) -> Result<AnyWindow<S, L, K, B, M, A>, OwnerError>
 where
     S::Small: SmallOf<S, L, B, M, A>,
-    requires cuts { is_sole (role_in window.now) ≡ false }
+    requires cuts { is_writer (role_in window.now) ≡ false }
     requires fits { role_fits window.now ≡ true }
     requires pass { IsPassAt (window_in S.Small.seen window.now).place pass.old }
     ensures items { IfOk result (λ made. (window_in S.Small.seen made).items
@@ -61,6 +64,7 @@ where
     ensures place { IfOk result (λ made. Shares (window_in S.Small.seen window.now).place
         pass.old pass.new (window_in S.Small.seen made).place) }
     ensures fits { IfOk result (λ made. role_fits made ≡ true) }
+    ensures shared { IfOk result (λ made. may_be_shared S.SHARES made ≡ true) }
     ensures refused { IfErr result (λ e. Refuses L.clone_wants
         (window_in S.Small.seen window.now).place pass.old pass.new e) }
 {
@@ -73,7 +77,7 @@ where
             Ok(made) => Ok(Held::Small(made)),
             Err(e) => Err(e),
         },
-        Held::Write(_) => unreachable!(),
+        Held::Write(_) | Held::Several(_) => unreachable!(),
     }
 }
 
@@ -95,7 +99,7 @@ pub(crate) fn cut_window<
 ) -> Result<AnyWindow<S, L, K, B, M, A>, OwnerError>
 where
     S::Small: SmallOf<S, L, B, M, A>,
-    requires cuts { is_sole (role_in window.now) ≡ false }
+    requires cuts { is_writer (role_in window.now) ≡ false }
     requires fits { role_fits window.now ≡ true }
     requires range { IsRange S.boundary (window_in S.Small.seen window.now).items start end }
     requires pass { IsPassAt (window_in S.Small.seen window.now).place pass.old }
@@ -106,6 +110,7 @@ where
         (sub_place L.STATIC (window_in S.Small.seen window.now) start end)
         pass.old pass.new (window_in S.Small.seen made).place) }
     ensures fits { IfOk result (λ made. role_fits made ≡ true) }
+    ensures shared { IfOk result (λ made. may_be_shared S.SHARES made ≡ true) }
     ensures refused { IfErr result (λ e. Refuses L.clone_wants
         (sub_place L.STATIC (window_in S.Small.seen window.now) start end)
         pass.old pass.new e) }
@@ -119,7 +124,7 @@ where
             Ok(made) => Ok(Held::Small(made)),
             Err(e) => Err(e),
         },
-        Held::Write(_) => unreachable!(),
+        Held::Write(_) | Held::Several(_) => unreachable!(),
     }
 }
 
@@ -141,6 +146,7 @@ where
     match window {
         Held::Read(window) => window.release_as(pass),
         Held::Write(window) => window.release_as(pass),
+        Held::Several(window) => window.release_as(pass),
         Held::Small(window) => S::Small::release_as(window, pass),
     }
 }

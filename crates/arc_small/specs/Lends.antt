@@ -8,7 +8,7 @@ use Rattle.arc_owners.specs.declared.mark.Mark as mark
 use Rattle.arc_buffer.specs.declared.buffer.Buffer as buffer
 use Rattle.arc_buffer.specs.declared.kinds.Slice as kind
 use Rattle.arc_block.specs.declared.layout.Layout as layout
-use Rattle.arc_block.specs.Window.{PartsView, Window}
+use Rattle.arc_parts.specs.Window.{PartsView, Window}
 use Rattle.arc_read.specs.contracts.slice.ArcSlice as window
 use Rattle.arc_small.specs.Inline.{Inlined}
 use Rattle.arc_small.specs.Small.{row_of}

@@ -4,8 +4,8 @@ use Rattle.either.specs.declared.Either.{Either}
 use Rattle.either.specs.declared.Either.TheVariants.{Left, Right}
 use Rattle.arc_block.specs.Place.{nowhere}
 use Rattle.arc_block.specs.Table.{inline, reader}
-use Rattle.arc_block.specs.Window.{Window, PartsView, window_of, parts_of}
-use Rattle.arc_block.specs.Steps.{Makes}
+use Rattle.arc_parts.specs.Window.{Window, PartsView, window_of, parts_of}
+use Rattle.arc_parts.specs.Steps.{Makes}
 use Rattle.arc_small.specs.Inline.{Inlined}
 
 -- the row of a list that lies in the window itself

@@ -1,8 +1,8 @@
 //! `SmallArcSlice`, a list of bytes that lies in the window itself where it is short, and else a
 //! window that is read.
 ghost use Rattle.std.specs.Prelude.{◌≡◌, [], false};
-ghost use Rattle.arc_block.specs.Steps.{EndsShownAt};
-ghost use Rattle.arc_block.specs.Window.{parts_of};
+ghost use Rattle.arc_parts.specs.Steps.{EndsShownAt};
+ghost use Rattle.arc_parts.specs.Window.{parts_of};
 ghost use Rattle.arc_small.specs.Small.{inline_row, row_of};
 
 use super::slice::SmallSlice;
@@ -38,7 +38,7 @@ impl<
     H: Mark,
 > Model for SmallArcSlice<S, L, B, M, A, H> {
     ghost use Rattle.std.specs.Prelude.{ℕ};
-    ghost use Rattle.arc_block.specs.Window.{PartsView};
+    ghost use Rattle.arc_parts.specs.Window.{PartsView};
     ghost use Rattle.arc_small.specs.Small.{row_of};
 
     ghost Value = { PartsView ℕ M };

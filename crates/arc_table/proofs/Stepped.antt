@@ -2,7 +2,7 @@
 use Rattle.std.proofs.Common.{◌≡◌, ℕ, zero, suc, ◌==◌, Bool, true, false, if◌then◌else◌, List, []}
 use Rattle.std.proofs.Common.{◌∷◌, ◌++◌, length, map, Option, Some, None, is_some, slice_get}
 use Rattle.std.proofs.Common.{slice_set, slice_index_or, refl, sym, ap, ◌∙◌, subst, arith, inl, inr}
-use Rattle.std.proofs.Common.{◌<◌, ◌≤◌, ◌⊎◌}
+use Rattle.std.proofs.Common.{◌<◌, ◌≤◌, ◌⊎◌, ◌&&◌, not}
 use Rattle.std.specs.Prelude.{MatchOption, IfSome}
 use Rattle.std.specs.Option.{option_map, option_map_or, option_flatten}
 use Rattle.std.proofs.lemmas.List.{map-append, length-append, length-map}
@@ -14,8 +14,8 @@ use Rattle.arc_block.specs.declared.block.TheConstants.{MAX_OWNERS}
 use Rattle.arc_block.specs.Owned.{Stand, IsKept}
 use Rattle.arc_block.specs.Place.{Place}
 use Rattle.arc_block.specs.Table.{Row, Table, block_of, is_alone, owners, row_at}
-use Rattle.arc_commands.specs.Additions.{Adds, AddsBy, AddsOn, Founds, JoinAdds, MakerAdds, RowAdds}
-use Rattle.arc_commands.specs.Additions.{stand_in}
+use Rattle.arc_commands.specs.Additions.{Adds, AddsAt, AddsBy, AddsOn, Founds, JoinAdds}
+use Rattle.arc_commands.specs.Additions.{MakerAdds, RowAdds, ended as end_entry, stand_in}
 use Rattle.arc_commands.specs.Additions.{with_stand}
 use Rattle.arc_commands.specs.State.{State}
 use Rattle.arc_commands.specs.Step.{Step}
@@ -31,15 +31,19 @@ use Rattle.arc_commands.specs.declared.command.Cmd.TheVariants as command
 use Rattle.arc_commands.specs.declared.command.Reply.TheVariants as reply
 use Rattle.arc_commands.specs.Several.{join_answer}
 use Rattle.arc_commands.specs.Step.{answer, answer_on, is_for_both, joined, other_of}
-use Rattle.arc_slots.specs.Answers.{Answers, around_in, live_on}
+use Rattle.arc_slots.specs.Answers.{Answers, JoinAnswers, around_in, live_on}
+use Rattle.arc_slots.specs.Calls.{Along}
 use Rattle.arc_slots.specs.Makers.{Makes}
 use Rattle.arc_slots.specs.Slots.{IsSlotRole, SlotView, row_of, stand_of, stands_of, state_of}
 use Rattle.arc_slots.specs.Slots.{with_slot}
-use Rattle.arc_slots.proofs.Keeps.{founded-kept, known-pass, many-live, row-kept}
+use Rattle.arc_slots.proofs.Keeps.{founded-kept, gone-at, known-pass, many-live, row-kept}
 use Rattle.arc_slots.specs.Stands.{HasPassFor}
 use Rattle.arc_slots.proofs.Answered.{for-each, not-for, same, shown, slot_each}
-use Rattle.arc_slots.proofs.Taken.{set-back}
-use Rattle.arc_slots.proofs.Told.{none-stands, row-block, stand_block}
+use Rattle.arc_slots.proofs.Taken.{set-back, set-twice}
+use Rattle.arc_slots.proofs.Added.{Ended, ended-comes, enters-along}
+use Rattle.arc_slots.proofs.Told.{many_along, none-stands, row-block, stand_block}
+use Rattle.std.proofs.lemmas.Bool.{eq-eqb, eqb-true, false≢true}
+use Rattle.arc_block.proofs.Lists.{get-set_other}
 use Rattle.arc_table.proofs.Done.{Done, Fact, done}
 use Rattle.arc_table.proofs.Places.{rows-counted}
 
@@ -428,7 +432,8 @@ module _ {T M : Type 0} (setting : Setting T) (slots : List (Option (SlotView T 
       (answered i s there (command.Show i) refl refl (reply.Items s.window.items)
       (Some s) None passes
       (shown setting (length slots) s passes i
-      (for-each setting (length slots) s passes role (command.Show i) copies (λ n. copies) copies)))
+      (for-each setting (length slots) s passes role (command.Show i) copies (λ n. copies)
+      (λ n. copies) copies)))
 
   -- and so does one of a kind without copies
   pub unshown-there : (i : ℕ) (s : SlotView T M) → slice_get slots i ≡ Some (Some s)
@@ -441,7 +446,7 @@ module _ {T M : Type 0} (setting : Setting T) (slots : List (Option (SlotView T 
       (same setting (length slots) s passes (command.Show i) reply.Kind
       (not-for setting (length slots) s passes no_shortage (command.Show i)
       (slot_each (λ r. is_allowed {T = T} {M = M} setting.calls (command.Show i) r ≡ false) none (λ n. none)
-      none s.role role)) (refl, refl, refl)))
+      (λ n. none) none s.role role)) (refl, refl, refl)))
 
   -- ---- a join of two windows
 
@@ -486,22 +491,139 @@ module _ {T M : Type 0} (setting : Setting T) (slots : List (Option (SlotView T 
         by (inl none) = ap (λ x. pair x (row_at t j)) (gone i none)
         by (inr none) = ap (λ x. pair (row_at t i) x) (gone j none) ∙ without (row_at t i)
 
-    -- no window of a slot is one of several writers'
-    pub joined-kind : (s o : SlotView T M) → slice_get slots i ≡ Some (Some s)
-        → slice_get slots j ≡ Some (Some o) → IsSlotRole s.role
-        → Done setting old join reply.Kind slots passes
-    joined-kind s o there beside role =
-        stays reply.Kind (record {
-          places = 0;
-          enough = omega arith;
-          answered =
-              ap (λ x. pair x (row_at t j)) (row-there i s there)
-              ∙ ap (pair (Some (row_of s))) (row-there j o beside)
-              ∙ ap (λ (b : Bool). if b then joined t i j (join_answer (row_of s) (row_of o)) else
-              (reply.Kind, t)) (slot_each (λ r. is_for_both setting.calls join i j
-              (record (row_of s) { role = r }) (row_of o) ≡ false) refl (λ n. refl) refl s.role
-              role);
-        }) refl
+    module _ (s o : SlotView T M) (there : slice_get slots i ≡ Some (Some s))
+        (beside : slice_get slots j ≡ Some (Some o)) where
+      abbrev told : ListReply T M × Table T M
+      told =
+          if is_for_both setting.calls join i j (row_of s) (row_of o)
+          then joined t i j (join_answer (row_of s) (row_of o)) else (reply.Kind, t)
+
+      pair-is : answer setting no_shortage 0 t join ≡ told
+      pair-is =
+          ap (λ x. pair x (row_at t j)) (row-there i s there)
+          ∙ ap (pair (Some (row_of s))) (row-there j o beside)
+
+      -- a window isn't joined with itself
+      pub joined-itself : i ≡ j → Done setting old join reply.Kind slots passes
+      joined-itself is =
+          stays reply.Kind (record {
+            places = 0;
+            enough = omega arith;
+            answered =
+                pair-is
+                ∙ ap (λ b. if b then joined t i j (join_answer (row_of s) (row_of o)) else
+                (reply.Kind, t)) (never (eq-eqb i j is));
+          }) refl
+        where
+          and-last : (b c : Bool) → c ≡ false → (b && c) ≡ false
+          and-last true c none = none
+          and-last false c none = refl
+
+          never : (i == j) ≡ true → is_for_both setting.calls join i j (row_of s) (row_of o) ≡ false
+          never alike =
+              and-last (is_allowed setting.calls join (row_of s).role
+              && is_allowed setting.calls join (row_of o).role) (not (i == j)) (ap not alike)
+
+      module _ (two : (i == j) ≡ false) (passes' : List (Pass Whole)) where
+        -- nothing changed
+        unchanged : (r : ListReply T M) (new its : Option (SlotView T M)) → told ≡ (r, t)
+            → JoinAdds old.standing r old.standing j → new ≡ Some s → its ≡ Some o
+            → passes' ≡ passes
+            → Done setting old join r (slice_set (slice_set slots j its) i new) passes'
+        unchanged r new its is adds kept back same =
+            subst (λ ps. Done setting old join r (slice_set (slice_set slots j its) i new) ps)
+            (sym same)
+            (subst (λ ss. Done setting old join r ss passes)
+            (sym (ap (λ x. slice_set (slice_set slots j its) i x) kept
+            ∙ ap (λ x. slice_set (slice_set slots j x) i (Some s)) back
+            ∙ ap (λ ss. slice_set ss i (Some s)) (set-back slots j (Some o) beside)
+            ∙ set-back slots i (Some s) there))
+            (stays r
+            (record { places = 0; enough = omega arith; answered = pair-is ∙ is }) adds))
+
+        -- the two rows as one, and the other has gone
+        module _ (whole : SlotView T M) (stand : stand_of (Some whole) ≡ stand_of (Some s))
+            (left : Along (stand_of (Some o)) passes passes' Ended) where
+          abbrev slots' : List (Option (SlotView T M))
+          slots' = slice_set (slice_set slots j None) i (Some whole)
+
+          rows' : map (option_map row_of) slots'
+              ≡ slice_set (slice_set t.rows j None) i (Some (row_of whole))
+          rows' =
+              map-slice_set (option_map row_of) (slice_set slots j None) i (Some whole)
+              ∙ ap (λ rs. slice_set rs i (Some (row_of whole)))
+              (map-slice_set (option_map row_of) slots j None)
+
+          apart : j ≡ i → ⊥
+          apart is = false≢true (sym two ∙ eq-eqb i j (sym is))
+
+          stands' : stands_of slots' ≡ slice_set (stands_of slots) j None
+          stands' =
+              map-slice_set stand_of (slice_set slots j None) i (Some whole)
+              ∙ ap (λ ss. slice_set ss i (stand_of (Some whole))) (map-slice_set stand_of slots j None)
+              ∙ ap (slice_set (slice_set (stands_of slots) j None) i) stand
+              ∙ set-back (slice_set (stands_of slots) j None) i (stand_of (Some s))
+              (get-set_other (stands_of slots) j i None apart ∙ stand-at i s there)
+
+          ends : AddsAt (stand_of (Some o)) end_entry passes passes'
+          ends = enters-along passes passes' Ended end_entry ended-comes (stand_of (Some o)) left
+
+          pub joined-both : told ≡ joined t i j (reply.Ok, Some (row_of whole))
+              → Done setting old join reply.Ok slots' passes'
+          joined-both is =
+              done fact.1
+              (subst (λ ss. IsKept MAX_OWNERS ss passes') (sym stands')
+              (gone-at (stands_of slots) passes fact.0 j (stand_of (Some o)) (stand-at j o beside)
+              passes' ends))
+              (record {
+                places = 0;
+                enough = omega arith;
+                answered =
+                    pair-is ∙ is
+                    ∙ ap (λ rs. (reply.Ok, record { rows = rs; blocks = length passes })) (sym rows')
+                    ∙ ap (λ n. (reply.Ok, record { rows = map (option_map row_of) slots'; blocks = n }))
+                    (sym (many_along passes passes' (stand_of (Some o)) Ended left));
+              }) (
+                subst (λ st. AddsAt st end_entry passes passes') (sym (stand-is j o beside)) ends,
+                stands',
+              )
+
+        pub paired : (r : ListReply T M) (new its : Option (SlotView T M))
+            → JoinAnswers setting.calls i j s o passes r new its passes'
+            → Done setting old join r (slice_set (slice_set slots j its) i new) passes'
+        paired reply.Ok new its said =
+            let whole = said.0 in
+            subst (λ x. Done setting old join reply.Ok (slice_set (slice_set slots j its) i x) passes')
+            (sym said.3)
+            (subst (λ x. Done setting old join reply.Ok
+            (slice_set (slice_set slots j x) i (Some whole)) passes') (sym said.4)
+            (joined-both whole said.5 said.6
+            (ap (λ b. if b then joined t i j (join_answer (row_of s) (row_of o)) else
+            (reply.Kind, t)) said.1 ∙ ap (joined t i j) said.2)))
+        paired reply.Refused new its said =
+            unchanged reply.Refused new its
+            (ap (λ b. if b then joined t i j (join_answer (row_of s) (row_of o)) else
+            (reply.Kind, t)) said.0 ∙ ap (joined t i j) said.1) refl said.2 said.3 said.4
+        paired reply.Kind new its said =
+            unchanged reply.Kind new its
+            (ap (λ b. if b then joined t i j (join_answer (row_of s) (row_of o)) else
+            (reply.Kind, t)) said.0) refl said.1 said.2 said.3
+        paired r new its said = absurd said
+
+    -- what is said of two windows that are there is said of what stands under both numbers
+    pub paired-at : (i == j) ≡ false → (place other : Option (SlotView T M))
+        → slice_get slots i ≡ Some place → slice_get slots j ≡ Some other
+        → is_some place ≡ true → is_some other ≡ true
+        → (passes' : List (Pass Whole)) (r : ListReply T M) (new its : Option (SlotView T M))
+        → IfSome place (λ s. IfSome other (λ o. (k l : ℕ) → (k == l) ≡ false
+        → JoinAnswers setting.calls k l s o passes r new its passes'))
+        → Done setting old join r (slice_set (slice_set slots j its) i new) passes'
+    paired-at two None other there beside some is passes' r new its said =
+        absurd (false≢true some)
+    paired-at two (Some s) None there beside some is passes' r new its said =
+        absurd (false≢true is)
+    paired-at two (Some s) (Some o) there beside some is passes' r new its said =
+        paired s o there beside two passes' r new its (said i j two)
 
 -- what is the same is seen as the same
 pub seen-so : {S X Y : Type 0} (f : X → Y) (x y : X) (place : Option S)
@@ -522,6 +644,21 @@ past-end xs i past = elim (slice_get_cases xs i).1 [
   | inr none ↦ ap option_flatten none.1
 ]
 
+-- what stands at a place where a window is
+pub stands-there : {X : Type 0} (x : Option (Option X)) → is_some (option_flatten x) ≡ true
+    → (y : X) × (x ≡ Some (Some y))
+stands-there None is = absurd (false≢true is)
+stands-there (Some None) is = absurd (false≢true is)
+stands-there (Some (Some y)) is = (y, refl)
+
+-- two numbers that aren't the same
+pub apart-test : (i j : ℕ) → ¬ (i ≡ j) → (i == j) ≡ false
+apart-test i j far = by (i == j) refl
+  where
+    by : (b : Bool) → (i == j) ≡ b → b ≡ false
+    by false is = refl
+    by true is = absurd (far (eqb-true i j is))
+
 -- a command on these two windows is their join
 pub is-join : {T M : Type 0} (c : ListCmd T M) (i j : ℕ) → window_of c ≡ Some i
     → other_of c ≡ Some j → command.Join i j ≡ c
@@ -529,3 +666,13 @@ is-join (command.Join k l) i j on other =
     ap (λ n. command.Join n j) (sym (same_Some k i on))
     ∙ ap (command.Join k) (sym (same_Some l j other))
 is-join c i j on other = absurd (none-some j other)
+
+-- a place that is set, with another one set between, is as it was set last
+pub set-swap : {X : Type 0} (xs : List X) (i j : ℕ) (x y z : X) → ¬ (i ≡ j)
+    → slice_set (slice_set (slice_set xs j x) i y) j z ≡ slice_set (slice_set xs j z) i y
+set-swap [] i j x y z far = refl
+set-swap (w ∷ ws) zero zero x y z far = absurd (far refl)
+set-swap (w ∷ ws) zero (suc j) x y z far = ap (λ vs. y ∷ vs) (set-twice ws j x z)
+set-swap (w ∷ ws) (suc i) zero x y z far = refl
+set-swap (w ∷ ws) (suc i) (suc j) x y z far =
+    ap (λ vs. w ∷ vs) (set-swap ws i j x y z (λ e. far (ap suc e)))

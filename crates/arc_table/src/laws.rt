@@ -1,8 +1,8 @@
 //! Laws of the table of lists.
 ghost use Rattle.std.specs.Prelude.{◌≡◌, ◌≤◌, ℕ, true, Bool, List};
-ghost use Rattle.arc_block.specs.Shared.{can_join, front_of, joined_row};
+ghost use Rattle.arc_parts.specs.Shared.{can_join, front_of, joined_row};
 ghost use Rattle.arc_block.specs.Table.{Row, Table, empty_table};
-ghost use Rattle.arc_block.specs.Writers.{after_advance, capacity_of};
+ghost use Rattle.arc_parts.specs.Writers.{after_advance, capacity_of};
 ghost use Rattle.arc_commands.specs.Apart.{IsLawful, IsParted};
 ghost use Rattle.arc_commands.specs.Blocks.{RowsAgree, is_several};
 ghost use Rattle.arc_commands.specs.Fits.{RowsFit};

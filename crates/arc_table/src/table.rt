@@ -7,13 +7,15 @@ use arc_buffer::buffer::BufferMut;
 use arc_buffer::kinds::Slice;
 use arc_commands::command::Reply;
 use arc_slots::command::{answer, drop_at};
+use arc_slots::join::join_at;
 use arc_slots::kinds::{CallsOf, Commands, LentReply, SmallOf, TableCmd, TableKind, TableReply};
-use arc_slots::list::{Slots, end_slots};
+use arc_slots::list::{Slots, end_slots, set_slot};
 use arc_slots::maker::make;
 use arc_slots::passes::Passes;
 use arc_slots::slot::Slot;
 use std::alloc::{Allocator, Global};
 use std::marker::Model;
+use std::mem;
 use std::sync::Wait;
 
 /// The windows of a table under their numbers, `None` where one has gone, and the passes of the
@@ -204,29 +206,34 @@ where
         reply
     }
 
-    /// Carries out a `Cmd::Join` of the windows under these numbers. None is one of several that
-    /// are written on one block, so nothing changes.
-    fn join(&self, i: usize, j: usize) -> TableReply<S, B, M, A>
+    /// Carries out a `Cmd::Join` of the windows under these numbers, which are two: joined, the
+    /// second one is gone.
+    fn join(&mut self, i: usize, j: usize) -> TableReply<S, B, M, A>
         ensures rows { Step (setting_of (layout_facts L.Layout) L.Writable.ANY L.clone_wants S.DROPS
             S.boundary
-            (type_size S.Item.row) S.Zero.zero S.Calls.calls) self.now.table
-            (command.Join i j) (seen_reply S.items_in S.items_in_box B.list result) self.now.table }
+            (type_size S.Item.row) S.Zero.zero S.Calls.calls) self.old.table
+            (command.Join i j) (seen_reply S.items_in S.items_in_box B.list result) self.new.table }
         ensures passes { Adds (setting_of (layout_facts L.Layout) L.Writable.ANY L.clone_wants
             S.DROPS S.boundary
-            (type_size S.Item.row) S.Zero.zero S.Calls.calls) self.now.table self.now.standing
+            (type_size S.Item.row) S.Zero.zero S.Calls.calls) self.old.table self.old.standing
             (command.Join i j) (seen_reply S.items_in S.items_in_box B.list result)
-            self.now.standing }
+            self.new.standing }
     {
-        match self.slots.get(i) {
-            Some(slot) => {
-                slot.known_role();
-                match self.slots.get(j) {
-                    Some(_) => Reply::Kind,
-                    None => Reply::NoWindow,
-                }
-            }
-            None => Reply::NoWindow,
+        let Some(here) = self.slots.place_of(i) else {
+            return Reply::NoWindow;
+        };
+        let Some(there) = self.slots.place_of(j) else {
+            return Reply::NoWindow;
+        };
+        if i == j {
+            return Reply::Kind;
         }
+        let mut other = mem::replace(&mut self.slots.places[there], None);
+        let window = &mut self.slots.places[here];
+        let reply = join_at(window, &mut other, &mut self.passes);
+        set_slot(&mut self.slots.places[there], other);
+        self.slots.settle(there);
+        reply
     }
 
     /// Each window stands on the block of its row. Rows on one block agree about it, each lies

@@ -13,6 +13,8 @@ mod kinds;
 #[cfg(test)]
 mod needs;
 #[cfg(test)]
+mod several;
+#[cfg(test)]
 mod small;
 pub mod tables;
 #[cfg(test)]

@@ -1,7 +1,7 @@
 //! Read windows: calls with a pass, threads, and memory that is counted, refused or given back.
 ghost use Rattle.std.specs.Prelude.{◌≡◌, IfOk};
 ghost use Rattle.arc_owners.specs.count.Calls.{IsPassOfNone};
-ghost use Rattle.arc_block.specs.Steps.{IsPassAt};
+ghost use Rattle.arc_parts.specs.Steps.{IsPassAt};
 
 use crate::living::{Values, first_three, living, values};
 use arc_block::layout::DefaultLayout;

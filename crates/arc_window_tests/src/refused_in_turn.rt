@@ -7,22 +7,29 @@ use arc_block::layout::{
 use call::Line;
 use counting_heap::CountingHeap;
 use kept::{TAKINGS, Taking, takes};
+use lendings::{LENDINGS, Lending, lends};
 use moves::{WAYS, Way, has_gone};
-use rows::{ALL, BY_ITSELF, COUNTED, WITH_NOTHING, WITHOUT_NOTHING};
+use rows::{ALL, BY_ITSELF, COUNTED, TO_BLOCK, VECTORS, WITH_NOTHING, WITHOUT_NOTHING};
 use run::run;
 use std::alloc::{AllocError, Global};
 use std::sync::Wait;
 use std::test::Fail;
+use text::rows::{TEXTS, TextLine};
+use text::run_text;
 use window::Heap;
 
 mod call;
 mod change;
 mod kept;
+mod lendings;
 mod make;
 mod moves;
+mod over;
 mod part;
 mod rows;
 mod run;
+mod several;
+mod text;
 mod turn;
 mod window;
 
@@ -93,13 +100,15 @@ fn missed_by_layout(
     rt: &impl Wait,
     alloc: Global,
     heap: Heap<'_>,
-) -> Result<[Option<(usize, Miss)>; 5], AllocError> {
+) -> Result<[Option<(usize, Miss)>; 7], AllocError> {
     Ok([
         missed::<DefaultLayout, DefaultLayoutMut>(rt, alloc, heap, ALL)?,
         missed::<Any, Any>(rt, alloc, heap, ALL)?,
         missed::<BoxedSliceLayout, DefaultLayoutMut>(rt, alloc, heap, ALL)?,
         missed::<VecLayout, VecLayout>(rt, alloc, heap, ALL)?,
         missed::<RawLayout, DefaultLayoutMut>(rt, alloc, heap, ALL)?,
+        missed::<RawLayout, Any>(rt, alloc, heap, ALL)?,
+        missed::<Any, DefaultLayoutMut>(rt, alloc, heap, ALL)?,
     ])
 }
 
@@ -108,7 +117,7 @@ fn missed_by_row(
     rt: &impl Wait,
     alloc: Global,
     heap: Heap<'_>,
-) -> Result<[Option<(usize, Miss)>; 6], AllocError> {
+) -> Result<[Option<(usize, Miss)>; 10], AllocError> {
     Ok([
         missed::<DefaultLayout, DefaultLayoutMut>(rt, alloc, heap, COUNTED)?,
         missed::<VecLayout, VecLayout>(rt, alloc, heap, COUNTED)?,
@@ -116,6 +125,10 @@ fn missed_by_row(
         missed::<BoxedSliceLayout, DefaultLayoutMut>(rt, alloc, heap, WITH_NOTHING)?,
         missed::<VecLayout, VecLayout>(rt, alloc, heap, WITH_NOTHING)?,
         missed::<Any, Any>(rt, alloc, heap, WITHOUT_NOTHING)?,
+        missed::<Any, DefaultLayoutMut>(rt, alloc, heap, WITHOUT_NOTHING)?,
+        missed::<RawLayout, Any>(rt, alloc, heap, TO_BLOCK)?,
+        missed::<VecLayout, DefaultLayoutMut>(rt, alloc, heap, VECTORS)?,
+        missed::<DefaultLayout, VecLayout>(rt, alloc, heap, VECTORS)?,
     ])
 }
 
@@ -147,8 +160,23 @@ fn takes_in_turn(heap: Heap<'_>, taking: Taking) -> bool {
     false
 }
 
-/// How many ways a window goes, and how many calls take all that comes.
-fn counted(rt: &impl Wait, heap: Heap<'_>) -> (usize, usize) {
+/// Whether a caller's buffer takes what it is to take with each request refused in turn, at least
+/// one of them.
+fn lends_in_turn(alloc: Global, heap: Heap<'_>, lending: Lending) -> bool {
+    for request in 1..1000u64 {
+        heap.refuse(request);
+        if (lends(alloc, heap, lending), heap.pieces()) != (Some(true), 0) {
+            return false;
+        }
+        if heap.refusals() == 0 {
+            return request > 1;
+        }
+    }
+    false
+}
+
+/// How many ways a window goes, how many calls take all that comes, and how many buffers do.
+fn counted(rt: &impl Wait, alloc: Global, heap: Heap<'_>) -> [usize; 3] {
     let mut ways = 0usize;
     for way in WAYS {
         if goes_in_turn(rt, heap, *way) {
@@ -161,7 +189,49 @@ fn counted(rt: &impl Wait, heap: Heap<'_>) -> (usize, usize) {
             takings = takings.saturating_add(1);
         }
     }
-    (ways, takings)
+    let mut lendings = 0usize;
+    for lending in LENDINGS {
+        if lends_in_turn(alloc, heap, *lending) {
+            lendings = lendings.saturating_add(1);
+        }
+    }
+    [ways, takings, lendings]
+}
+
+/// Whether a row of texts goes as it is to go with each request refused in turn, at least one of
+/// them.
+fn text_in_turn<L: AnyBufferLayout>(
+    rt: &impl Wait,
+    alloc: Global,
+    heap: Heap<'_>,
+    row: &[TextLine],
+) -> Result<bool, AllocError> {
+    for request in 1..1000u64 {
+        heap.refuse(request);
+        let missed = run_text::<L>(rt, alloc, heap, row)?;
+        if (missed, heap.pieces()) != (None, 0) {
+            return Ok(false);
+        }
+        if heap.refusals() == 0 {
+            return Ok(request > 1);
+        }
+    }
+    Ok(false)
+}
+
+/// How many rows of texts do.
+fn texts_counted<L: AnyBufferLayout>(
+    rt: &impl Wait,
+    alloc: Global,
+    heap: Heap<'_>,
+) -> Result<usize, AllocError> {
+    let mut count = 0usize;
+    for row in TEXTS {
+        if text_in_turn::<L>(rt, alloc, heap, row)? {
+            count = count.saturating_add(1);
+        }
+    }
+    Ok(count)
 }
 
 /// A refused call says so, or gives back what went in; all windows are as before; made again it is
@@ -169,8 +239,11 @@ fn counted(rt: &impl Wait, heap: Heap<'_>) -> (usize, usize) {
 #[test]
 fn refused_in_turn(rt: HostRuntime) -> Result<(), Fail> {
     let heap = CountingHeap::new(rt.alloc());
-    assert!(rt; missed_by_layout(&rt, rt.alloc(), &heap)? == [None; 5]);
-    assert!(rt; missed_by_row(&rt, rt.alloc(), &heap)? == [None; 6]);
-    assert!(rt; counted(&rt, &heap) == (WAYS.len(), TAKINGS.len()));
+    assert!(rt; missed_by_layout(&rt, rt.alloc(), &heap)? == [None; 7]);
+    assert!(rt; missed_by_row(&rt, rt.alloc(), &heap)? == [None; 10]);
+    let all = [WAYS.len(), TAKINGS.len(), LENDINGS.len()];
+    assert!(rt; counted(&rt, rt.alloc(), &heap) == all);
+    assert!(rt; texts_counted::<DefaultLayout>(&rt, rt.alloc(), &heap)? == TEXTS.len());
+    assert!(rt; texts_counted::<VecLayout>(&rt, rt.alloc(), &heap)? == TEXTS.len());
     Ok(())
 }

@@ -7,6 +7,7 @@ use arc_owners::error::TryReserveError;
 use arc_read::slice::ArcSlice;
 use arc_write::slice_mut::{ArcBytesMut, ArcStrMut, IntoMut};
 use std::alloc::Global;
+use std::fmt::Write;
 use std::test::Fail;
 
 /// Writers of bytes beside buffers of this type.
@@ -25,16 +26,26 @@ fn vector(alloc: Global, places: usize, bytes: &[u8]) -> Option<Vec<u8>> {
     Some(vector)
 }
 
-/// What refuses four bytes behind the three of a buffer of five places, and whether the window and
-/// then the buffer, taken back, have the first five.
-fn pushed_without_room(alloc: Global) -> Option<(Refusal, [bool; 2])> {
+/// What refuses four bytes behind the three of a buffer of five places, what comes next, and whether
+/// the window and then the buffer, taken back, have the first five.
+fn pushed_without_room(alloc: Global) -> Option<(Refusal, Option<u8>, [bool; 2])> {
     let bytes = vector(alloc, 5, &[1, 2, 3])?;
     let mut window = Over::<NoRoom>::try_from_buffer(alloc, NoRoom { bytes }).ok()?;
-    let refusal = window.try_extend([4u8, 5, 6, 7]).err();
+    let mut coming = 4..8u8;
+    let refusal = window.try_extend(&mut coming).err();
     let is_full = window.as_slice() == [1u8, 2, 3, 4, 5].as_slice();
     let buffer = window.try_into_buffer().ok()?;
     let is_back = buffer.bytes.as_slice() == [1u8, 2, 3, 4, 5].as_slice();
-    Some((refusal, [is_full, is_back]))
+    Some((refusal, coming.next(), [is_full, is_back]))
+}
+
+/// Whether a text in two parts is written into a buffer of two places, and whether the first part
+/// is there then.
+fn formatted_without_room(alloc: Global, first: &str, second: &str) -> Option<[bool; 2]> {
+    let bytes = vector(alloc, 2, &[])?;
+    let mut window = Over::<NoRoom>::try_from_buffer(alloc, NoRoom { bytes }).ok()?;
+    let is_written = write!(window, "{first}{second}").is_ok();
+    Some([is_written, window.as_slice() == first.as_bytes()])
 }
 
 /// How a byte is refused that is pushed twice behind a full buffer, and whether both bytes are
@@ -98,14 +109,15 @@ fn shifted(alloc: Global) -> Option<(([Refusal; 2], [usize; 2], bool), bool)> {
     Some((told, first_set(window)?))
 }
 
-/// A buffer without room takes what it has places for, and is taken back once it is full. One that
-/// refuses once hands its refusal on, with the item, and grows then. A vector as a buffer takes a
+/// A buffer without room takes what it has places for, asks for no item after that, and is taken
+/// back once it is full; of formatted text it keeps what came first. One that refuses once hands its refusal on, with the item, and grows then. A vector as a buffer takes a
 /// thousand items. What is lent never grows; a window that begins further in moves to the front of
 /// it.
 #[test]
 fn pushed_to_buffers(rt: HostRuntime) -> Result<(), Fail> {
     let told = pushed_without_room(rt.alloc());
-    assert!(rt; told == Some((Some((TryReserveError::Unsupported, 6)), [true; 2])));
+    assert!(rt; told == Some((Some((TryReserveError::Unsupported, 6)), Some(7), [true; 2])));
+    assert!(rt; formatted_without_room(rt.alloc(), "ab", "cde") == Some([false, true]));
     let told = pushed_twice(rt.alloc());
     assert!(rt; told == Some(([Some((TryReserveError::AllocError, 2)), None], true)));
     assert!(rt; pushed_often(rt.alloc()) == Some((1001, Some(246))));

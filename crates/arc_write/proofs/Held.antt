@@ -6,19 +6,21 @@ use Rattle.arc_owners.specs.count.Calls.{Owner}
 use Rattle.arc_owners.specs.declared.count.tokens.Pass.{Pass}
 use Rattle.arc_owners.specs.declared.error.TryReserveError.{TryReserveError}
 use Rattle.arc_block.specs.Block.{Sort, native, vector, buffer, raw, buffer_info}
-use Rattle.arc_block.specs.declared.parts.room.Room.{Room}
-use Rattle.arc_block.specs.declared.parts.room.Room.TheVariants.{Spare, Fresh, Behind, Front}
-use Rattle.arc_block.specs.declared.parts.room.Room.TheVariants.{Growth, Own, Refused}
+use Rattle.arc_parts.specs.declared.room.Room.{Room}
+use Rattle.arc_parts.specs.declared.room.Room.TheVariants.{Spare, Fresh, Behind, Front}
+use Rattle.arc_parts.specs.declared.room.Room.TheVariants.{Growth, Own, Refused}
 use Rattle.arc_block.specs.Layouts.{LayoutFacts, holds_block}
 use Rattle.arc_block.specs.Moves.{IsRefused, counted_move, layout_move}
-use Rattle.arc_block.specs.declared.parts.moves.Move.TheVariants.{Stays, HandedBack}
+use Rattle.arc_block.specs.declared.layout.Move.TheVariants.{Stays, HandedBack}
 use Rattle.arc_block.specs.Place.{Place, nowhere, static_data, on_block, IsOnBlock, moved}
-use Rattle.arc_block.specs.Window.{PartsView, IsBlockHeld}
-use Rattle.arc_block.specs.Writers.{at_front, with_size, with_full, with_room, with_more}
-use Rattle.arc_block.specs.Writers.{with_capacity, after_advance, after_truncate}
-use Rattle.arc_block.specs.Writers.{MakesRoom, Pushes, Reclaims}
-use Rattle.arc_block.specs.Writers.{MakesWriterOver, MakesBufferWriter}
-use Rattle.arc_block.specs.Writers.{MayWrite, BecomesSoleAt, RefusesSoleAt}
+use Rattle.arc_parts.specs.Window.{PartsView, IsBlockHeld}
+use Rattle.arc_block.specs.Place.{at_front}
+use Rattle.arc_parts.specs.Writers.{with_size, with_full, with_room, with_more}
+use Rattle.arc_parts.specs.Writers.{with_capacity, after_advance, after_truncate}
+use Rattle.arc_parts.specs.Writers.{MakesRoom, Pushes, Reclaims}
+use Rattle.arc_parts.specs.Writers.{MakesWriterOver, MakesBufferWriter}
+use Rattle.arc_block.specs.Layouts.{MayWrite}
+use Rattle.arc_parts.specs.Writers.{BecomesSoleAt, RefusesSoleAt}
 
 -- another place of the block, and one of the block with other places, are held too
 module _ {M : Type 0} (layout : LayoutFacts) where

@@ -7,16 +7,16 @@ use Rattle.arc_owners.specs.count.Invariant.{BlockId, Line}
 use Rattle.arc_owners.specs.declared.count.tokens.Pass.{Pass}
 use Rattle.arc_owners.specs.declared.error.TryReserveError.{TryReserveError}
 use Rattle.arc_block.specs.Block.{Sort, native, vector, buffer, raw}
-use Rattle.arc_block.specs.declared.parts.room.Room.{Room}
+use Rattle.arc_parts.specs.declared.room.Room.{Room}
 use Rattle.arc_block.specs.Layouts.{LayoutFacts}
 use Rattle.arc_block.specs.Place.{Place, nowhere, static_data, on_block, moved}
-use Rattle.arc_block.specs.Shared.{LeavesVector, MakesRoomBeside, MakesRoomIf, MakesSharedRoom}
-use Rattle.arc_block.specs.Shared.{PushesShared}
-use Rattle.arc_block.specs.Shared.{ReclaimsIf, ReclaimsShared, StandsToSplit, StandsToSplitAt}
-use Rattle.arc_block.specs.Shared.{SplitsWriterOff, SplitsWriterTo, as_unique, extended, front_of}
-use Rattle.arc_block.specs.Steps.{Shares}
-use Rattle.arc_block.specs.Window.{PartsView, IsBlockHeld}
-use Rattle.arc_block.specs.Writers.{after_advance, with_full, with_more}
+use Rattle.arc_parts.specs.Shared.{LeavesVector, MakesRoomBeside, MakesRoomIf, MakesSharedRoom}
+use Rattle.arc_parts.specs.Shared.{PushesShared}
+use Rattle.arc_parts.specs.Shared.{ReclaimsIf, ReclaimsShared, StandsToSplit, StandsToSplitAt}
+use Rattle.arc_parts.specs.Shared.{SplitsWriterOff, SplitsWriterTo, as_unique, extended, front_of}
+use Rattle.arc_parts.specs.Steps.{Shares}
+use Rattle.arc_parts.specs.Window.{PartsView, IsBlockHeld}
+use Rattle.arc_parts.specs.Writers.{after_advance, with_full, with_more}
 use Rattle.arc_write.proofs.Held.{room_held, reclaimed_held, advanced_held}
 
 module _ {M : Type 0} (layout : LayoutFacts) where

@@ -8,16 +8,16 @@ use Rattle.std.proofs.lemmas.Bool.{false≢true}
 use Rattle.std.proofs.lemmas.List.{take_all, drop_all}
 use Rattle.arc_owners.specs.declared.error.TryReserveError.{TryReserveError}
 use Rattle.arc_owners.specs.declared.count.tokens.Pass.{Pass}
-use Rattle.arc_block.specs.declared.parts.room.Room.{Room}
-use Rattle.arc_block.specs.declared.parts.room.Room.TheVariants.{Spare, Fresh, Behind, Front}
-use Rattle.arc_block.specs.declared.parts.room.Room.TheVariants.{Growth, Own, Refused}
+use Rattle.arc_parts.specs.declared.room.Room.{Room}
+use Rattle.arc_parts.specs.declared.room.Room.TheVariants.{Spare, Fresh, Behind, Front}
+use Rattle.arc_parts.specs.declared.room.Room.TheVariants.{Growth, Own, Refused}
 use Rattle.arc_owners.specs.count.Calls.{Owner}
 use Rattle.arc_buffer.specs.Slice.{sub, IsEdge, IsRange}
 use Rattle.arc_block.specs.Place.{Place, nowhere, static_data, on_block}
-use Rattle.arc_block.specs.Window.{PartsView}
-use Rattle.arc_block.specs.Writers.{MakesRoom, Reclaims, as_sole, sole_at}
-use Rattle.arc_block.specs.Writers.{after_advance, after_truncate, with_capacity}
-use Rattle.arc_block.specs.Writers.{BecomesSole, BecomesSoleAt}
+use Rattle.arc_parts.specs.Window.{PartsView}
+use Rattle.arc_parts.specs.Writers.{MakesRoom, Reclaims, as_sole, sole_at}
+use Rattle.arc_parts.specs.Writers.{after_advance, after_truncate, with_capacity}
+use Rattle.arc_parts.specs.Writers.{BecomesSole, BecomesSoleAt}
 
 yes : (b : Bool) → b ≡ true → T b
 yes true e = tt

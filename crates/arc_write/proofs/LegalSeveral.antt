@@ -10,11 +10,11 @@ use Rattle.arc_owners.specs.declared.error.TryReserveError.{TryReserveError}
 use Rattle.arc_buffer.specs.Slice.{sub, IsEdge, IsRange}
 use Rattle.arc_block.specs.Block.{Sort, native, vector, buffer, raw}
 use Rattle.arc_block.specs.Place.{Place, nowhere, static_data, on_block}
-use Rattle.arc_block.specs.declared.parts.room.Room.{Room}
-use Rattle.arc_block.specs.Shared.{MakesRoomBeside, MakesRoomIf, MakesSharedRoom, as_unique}
-use Rattle.arc_block.specs.Shared.{CanSplit, StandsToSplit, StandsToSplitAt, joined_row}
-use Rattle.arc_block.specs.Shared.{SplitsWriterOff, SplitsWriterTo}
-use Rattle.arc_block.specs.Window.{PartsView}
+use Rattle.arc_parts.specs.declared.room.Room.{Room}
+use Rattle.arc_parts.specs.Shared.{MakesRoomBeside, MakesRoomIf, MakesSharedRoom, as_unique}
+use Rattle.arc_parts.specs.Shared.{CanSplit, StandsToSplit, StandsToSplitAt, joined_row}
+use Rattle.arc_parts.specs.Shared.{SplitsWriterOff, SplitsWriterTo}
+use Rattle.arc_parts.specs.Window.{PartsView}
 use Rattle.arc_write.proofs.Legal.{refused-items, split_legal}
 
 module _ {T M H : Type 0} (real : BlockId → ℕ → List Line → Type 0) (one_pass : Bool) where

@@ -2,8 +2,8 @@
 use Rattle.std.proofs.Common.{◌≡◌, ◌∷◌, [], ℕ, ◌+◌, List, replicate, ap, ◌∙◌}
 use Rattle.std.proofs.lemmas.List.{replicate-append-replicate}
 use Rattle.arc_block.specs.Table.{RowOf}
-use Rattle.arc_block.specs.Writers.{with_more}
-use Rattle.arc_block.proofs.More as more
+use Rattle.arc_parts.specs.Writers.{with_more}
+use Rattle.arc_parts.proofs.More as more
 
 module _ {N T M : Type 0} where
   -- no items more leave all as it is

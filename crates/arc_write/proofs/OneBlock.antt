@@ -4,9 +4,9 @@ use Rattle.arc_owners.specs.count.Calls.{Owner}
 use Rattle.arc_owners.specs.count.Invariant.{BlockId, Line}
 use Rattle.arc_owners.specs.declared.count.tokens.Pass.{Pass}
 use Rattle.arc_block.specs.Place.{Place, nowhere, static_data, on_block, at_owner, moved}
-use Rattle.arc_block.specs.Shared.{IsOneBlock, SplitsWriterOff, SplitsWriterTo}
-use Rattle.arc_block.specs.Steps.{Shares}
-use Rattle.arc_block.specs.Window.{PartsView}
+use Rattle.arc_parts.specs.Shared.{IsOneBlock, SplitsWriterOff, SplitsWriterTo}
+use Rattle.arc_parts.specs.Steps.{Shares}
+use Rattle.arc_parts.specs.Window.{PartsView}
 
 module _ {M : Type 0} where
   other-way : (here there : Place (Option Owner) M) → IsOneBlock here there

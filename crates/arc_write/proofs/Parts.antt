@@ -1,8 +1,8 @@
 -- What is known of a window's parts, once it is known whose they are.
 use Rattle.std.proofs.Common.{◌≡◌, ℕ, List, sym, ap, ◌∙◌, subst}
 use Rattle.arc_block.specs.Layouts.{LayoutFacts}
-use Rattle.arc_block.specs.Window.{PartsView, IsBlockHeld}
-use Rattle.arc_block.specs.Writers.{with_items}
+use Rattle.arc_parts.specs.Window.{PartsView, IsBlockHeld}
+use Rattle.arc_parts.specs.Writers.{with_items}
 use Rattle.arc_write.specs.declared.slice_mut.parts.WriterStorage.{WriterStorage}
 use Rattle.arc_write.specs.declared.slice_mut.parts.WriterStorage.TheVariants.{Sole, Several}
 use Rattle.arc_write.specs.Parts.{written_on, IsOfUnique, with_stored_items}

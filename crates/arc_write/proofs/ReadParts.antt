@@ -7,11 +7,11 @@ use Rattle.std.proofs.lemmas.Bool.{le-ltb}
 use Rattle.std.specs.Prelude.{nat_lt, min, Result, Ok, Err}
 use Rattle.arc_owners.specs.declared.error.RangeError.TheVariants.{OutOfRange}
 use Rattle.arc_buffer.specs.Slice.{IsEdge, edge_answer}
-use Rattle.arc_block.specs.Shared.{CanSplit, split_answer}
+use Rattle.arc_parts.specs.Shared.{CanSplit, split_answer}
 use Rattle.bytes.specs.Unread.{IsChunkOf}
 use Rattle.arc_block.specs.Table.{Role, RowOf, reader, sole_writer, one_writer_of_several, inline}
 use Rattle.arc_block.specs.Table.{forgotten}
-use Rattle.arc_block.specs.Writers.{after_advance, capacity_of, with_capacity, with_more}
+use Rattle.arc_parts.specs.Writers.{after_advance, capacity_of, with_capacity, with_more}
 use Rattle.arc_write.specs.Within.{spare_places}
 
 -- all bytes are a chunk of themselves

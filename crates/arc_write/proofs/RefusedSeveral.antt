@@ -4,14 +4,14 @@ use Rattle.std.specs.Prelude.{Result, Ok, Err, is_ok}
 use Rattle.std.proofs.lemmas.Bool.{false≢true}
 use Rattle.arc_owners.specs.declared.count.tokens.Pass.{Pass}
 use Rattle.arc_owners.specs.declared.error.TryReserveError.{TryReserveError}
-use Rattle.arc_block.specs.declared.parts.room.Room.{Room}
-use Rattle.arc_block.specs.declared.parts.room.Room.TheVariants.{Spare, Behind, Front, Fresh}
-use Rattle.arc_block.specs.declared.parts.room.Room.TheVariants.{Growth, Own, Refused}
-use Rattle.arc_block.specs.Shared.{MakesRoomAlone, MakesRoomIf, MakesSharedRoom}
-use Rattle.arc_block.specs.Shared.{as_shared, as_unique}
+use Rattle.arc_parts.specs.declared.room.Room.{Room}
+use Rattle.arc_parts.specs.declared.room.Room.TheVariants.{Spare, Behind, Front, Fresh}
+use Rattle.arc_parts.specs.declared.room.Room.TheVariants.{Growth, Own, Refused}
+use Rattle.arc_parts.specs.Shared.{MakesRoomAlone, MakesRoomIf, MakesSharedRoom}
+use Rattle.arc_parts.specs.Shared.{as_shared, as_unique}
 use Rattle.arc_block.specs.Table.{one_writer_of_several}
-use Rattle.arc_block.specs.Window.{PartsView}
-use Rattle.arc_block.specs.Writers.{capacity_of, MakesRoom}
+use Rattle.arc_parts.specs.Window.{PartsView}
+use Rattle.arc_parts.specs.Writers.{capacity_of, MakesRoom}
 
 module _ {T M H : Type 0} (one_pass : Bool) (old : PartsView T M) (before after : Pass H)
     (e : TryReserveError) where

@@ -1,8 +1,8 @@
 -- Zeros that a window was made of are legal.
 use Rattle.std.proofs.Common.{◌≡◌, ℕ, zero, suc, Bool, List, replicate, refl, sym, ap, subst, arith}
 use Rattle.arc_owners.specs.declared.count.tokens.Pass.{Pass}
-use Rattle.arc_block.specs.Window.{PartsView}
-use Rattle.arc_block.specs.Writers.{MakesWriter}
+use Rattle.arc_parts.specs.Window.{PartsView}
+use Rattle.arc_parts.specs.Writers.{MakesWriter}
 
 -- they are the items of the window, also where there are none
 zeros-made : {T M H : Type 0} → (drops one_pass : Bool) (z : T) (n : ℕ) (w : PartsView T M) (before after : Pass H)

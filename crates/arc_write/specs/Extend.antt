@@ -2,11 +2,12 @@
 use Rattle.std.specs.Prelude.{◌≡◌, ℕ, Bool, false, List, [], ◌∷◌, Result, Ok, Err}
 use Rattle.arc_owners.specs.declared.error.TryReserveError.{TryReserveError}
 use Rattle.arc_owners.specs.count.Invariant.{BlockId, Line}
-use Rattle.arc_block.specs.declared.parts.room.Room.{Room}
-use Rattle.arc_block.specs.Growth.{AsksForRoom, IfAsked}
-use Rattle.arc_block.specs.Shared.{MakesSharedRoom, PushesShared, asks_alone}
-use Rattle.arc_block.specs.Window.{PartsView}
-use Rattle.arc_block.specs.Writers.{room_for, size_at, MakesRoom, Pushes}
+use Rattle.arc_parts.specs.declared.room.Room.{Room}
+use Rattle.arc_sort_writers.specs.Growth.{AsksForRoom, IfAsked}
+use Rattle.arc_parts.specs.Shared.{MakesSharedRoom, PushesShared, asks_alone}
+use Rattle.arc_parts.specs.Window.{PartsView}
+use Rattle.arc_parts.specs.Writers.{room_for, MakesRoom, Pushes}
+use Rattle.arc_block.specs.Place.{size_at}
 use Rattle.arc_read.specs.Steps.{WithNewPass}
 
 -- where a window has room for one item more

@@ -7,10 +7,10 @@ use Rattle.arc_buffer.specs.declared.buffer.Buffer as buffer
 use Rattle.arc_buffer.specs.declared.buffer.BufferMut as buffer_mut
 use Rattle.arc_buffer.specs.declared.kinds.Slice as kind
 use Rattle.arc_block.specs.declared.layout.Layout as layout
-use Rattle.arc_block.specs.Window.{PartsView}
-use Rattle.arc_block.specs.Writers.{with_items}
-use Rattle.arc_block.specs.contracts.parts.sole.SoleParts as sole
-use Rattle.arc_block.specs.contracts.parts.shared.SharedParts as shared
+use Rattle.arc_parts.specs.Window.{PartsView}
+use Rattle.arc_parts.specs.Writers.{with_items}
+use Rattle.arc_writer_parts.specs.contracts.sole.SoleParts as sole
+use Rattle.arc_writer_parts.specs.contracts.shared.SharedParts as shared
 use Rattle.arc_write.specs.contracts.slice_mut.ArcSliceMut.{the_row}
 use Rattle.arc_write.specs.contracts.slice_mut.parts.WriterStorage as storage
 use Rattle.arc_write.specs.declared.slice_mut.parts.WriterStorage.{WriterStorage}

@@ -1,7 +1,7 @@
 -- Whose parts a write window has.
 use Rattle.std.specs.Prelude.{◌≡◌, ℕ, List}
-use Rattle.arc_block.specs.Window.{PartsView}
-use Rattle.arc_block.specs.Writers.{with_items}
+use Rattle.arc_parts.specs.Window.{PartsView}
+use Rattle.arc_parts.specs.Writers.{with_items}
 use Rattle.arc_write.specs.declared.slice_mut.parts.WriterStorage.{WriterStorage}
 use Rattle.arc_write.specs.declared.slice_mut.parts.WriterStorage.TheVariants.{Sole, Several}
 

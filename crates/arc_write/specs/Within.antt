@@ -1,7 +1,7 @@
 -- What is written into the places that a window has already.
 use Rattle.std.specs.Prelude.{◌≡◌, ℕ, ◌-◌, ◌+◌, ◌≤◌, min, Bool, true, List, length, take}
 use Rattle.arc_block.specs.Table.{RowOf}
-use Rattle.arc_block.specs.Writers.{capacity_of, with_more}
+use Rattle.arc_parts.specs.Writers.{capacity_of, with_more}
 
 module _ {N T M : Type 0} where
   -- how many items more the window has places for

@@ -1,15 +1,16 @@
 //! `ArcSliceMut`, a window that is written.
 ghost use Rattle.std.specs.Prelude.{◌≡◌, false};
 ghost use Rattle.arc_block.specs.LayoutFacts.{layout_facts};
-ghost use Rattle.arc_block.specs.Steps.{EndsShownAt};
-ghost use Rattle.arc_block.specs.Window.{IsBlockHeld};
-ghost use Rattle.arc_block.specs.Writers.{IsWriterPlace, idle_writer};
+ghost use Rattle.arc_parts.specs.Steps.{EndsShownAt};
+ghost use Rattle.arc_parts.specs.Window.{IsBlockHeld};
+ghost use Rattle.arc_parts.specs.Writers.{IsWriterPlace, idle_writer};
 
 use arc_block::layout::{DefaultLayoutMut, LayoutMut};
-use arc_block::parts::{SharedParts, SoleParts};
 use arc_buffer::buffer::BufferMut;
 use arc_buffer::kinds::{Emptyable, Plain, Slice, Text};
 use arc_owners::mark::{Mark, Open};
+use arc_writer_parts::shared::SharedParts;
+use arc_writer_parts::sole::SoleParts;
 pub use into_mut::IntoMut;
 use parts::WriterStorage;
 use std::alloc::{Allocator, Global};
@@ -80,7 +81,7 @@ impl<
     H: Mark,
 > Model for ArcSliceMut<S, L, UNIQUE, B, M, A, H> {
     ghost use Rattle.arc_block.specs.LayoutFacts.{layout_facts};
-    ghost use Rattle.arc_block.specs.Window.{PartsView, IsBlockHeld};
+    ghost use Rattle.arc_parts.specs.Window.{PartsView, IsBlockHeld};
     ghost use Rattle.arc_write.specs.Parts.{written_on, IsOfUnique};
 
     ghost Value = { PartsView S.Item M };

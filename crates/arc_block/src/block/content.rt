@@ -47,7 +47,7 @@ impl<T: Drop, B: Drop, M: Drop, A: Allocator> Content<T, B, M, A> {
     ghost use Rattle.arc_block.specs.LendsBuffers.{LendsBuffer, KeepsBuffer};
 
     /// The vector, with its items.
-    pub(crate) fn into_vec(self) -> Vec<T, A>
+    pub fn into_vec(self) -> Vec<T, A>
         requires { content_sort self ≡ vector }
         ensures { IsVecOf self result }
     {
@@ -58,7 +58,7 @@ impl<T: Drop, B: Drop, M: Drop, A: Allocator> Content<T, B, M, A> {
     }
 
     /// The buffer, with its metadata.
-    pub(crate) fn into_buffer(self) -> CallersBuffer<B, M>
+    pub fn into_buffer(self) -> CallersBuffer<B, M>
         requires { IsBuffer (content_sort self) }
         ensures { self ≡ Buffer result }
     {
@@ -69,7 +69,7 @@ impl<T: Drop, B: Drop, M: Drop, A: Allocator> Content<T, B, M, A> {
     }
 
     /// The `Arc`.
-    pub(crate) fn into_raw(self) -> Arc<B, A>
+    pub fn into_raw(self) -> Arc<B, A>
         requires { content_sort self ≡ raw }
         ensures { self ≡ Raw result }
     {
@@ -80,7 +80,7 @@ impl<T: Drop, B: Drop, M: Drop, A: Allocator> Content<T, B, M, A> {
     }
 
     /// The caller's buffer, to be changed in its place.
-    pub(crate) fn buffer_mut(&mut self) -> &mut B
+    pub fn buffer_mut(&mut self) -> &mut B
         requires { IsBuffer (content_sort self.old) }
         ensures* writes_back { sem 𝓛 (LendsBuffer T.row B.row M.row A.row A.Allocator
             self.entry result) }

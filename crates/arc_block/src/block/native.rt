@@ -30,7 +30,7 @@ use std::marker::Model;
 use std::mem;
 
 /// The count of a native block, with its only owner.
-pub(crate) type NativeCount<T, A, const MAX: u64, H> = SoleBox<Kept<T, A>, A, MAX, H>;
+pub type NativeCount<T, A, const MAX: u64, H> = SoleBox<Kept<T, A>, A, MAX, H>;
 
 /// An owner of a native block, which at most `MAX` owners share, and who reads items that lie side
 /// by side in the block. Its memory is given back with its last owner.
@@ -335,10 +335,7 @@ impl<S: Slice, A: Allocator + Copy, const MAX: u64, H: Mark> NativeBlock<S, A, M
     /// The same owner of the same block, whose memory is lent anew: it may be shared from now on.
     /// It adds no entry and takes no memory.
     #[inline(always)]
-    pub(crate) fn of_sole(
-        count: NativeCount<S::Item, A, MAX, H>,
-        memory: WriterMemory<S::Item, A>,
-    ) -> Self
+    pub fn of_sole(count: NativeCount<S::Item, A, MAX, H>, memory: WriterMemory<S::Item, A>) -> Self
         requires limited { IsLimited MAX H.whole (sole_in count) }
         requires front { S.DROPS ≡ true → memory.places.under.start ≡ 0 }
         ensures { result ≡ native_over S.DROPS (sole_in count) memory }
@@ -360,7 +357,7 @@ impl<S: Slice, A: Allocator + Copy, const MAX: u64, H: Mark> NativeBlock<S, A, M
 
     /// An owner who reads a range of the block's places, in memory that begins at this base.
     #[inline(always)]
-    pub(crate) fn of_reader(
+    pub fn of_reader(
         base: Base<S::Item>,
         reader: FrozenReader<S::Item, Kept<S::Item, A>, A, MAX, H>,
     ) -> Self
@@ -381,7 +378,7 @@ impl<S: Slice, A: Allocator + Copy, const MAX: u64, H: Mark> NativeBlock<S, A, M
     ///
     /// Alone with the answer.
     #[tactic(auto, using(crate::proofs::Natives::kept_alike))]
-    pub(crate) fn try_into_sole_as(
+    pub fn try_into_sole_as(
         self,
         start: usize,
         end: usize,

@@ -20,7 +20,7 @@ use std::alloc::Allocator;
 use std::mem;
 
 /// The count of a block, with its only owner, who has the block's items elsewhere.
-pub(crate) type SoleCount<T, B, M, A, const MAX: u64, H> = SoleBox<Content<T, B, M, A>, A, MAX, H>;
+pub type SoleCount<T, B, M, A, const MAX: u64, H> = SoleBox<Content<T, B, M, A>, A, MAX, H>;
 
 /// The only owner of a new block that is a vector, with a pass of it, who has the vector.
 /// `MAX` is at least 2.
@@ -32,7 +32,7 @@ pub(crate) type SoleCount<T, B, M, A, const MAX: u64, H> = SoleBox<Content<T, B,
 /// # Allocates
 ///
 /// Once.
-pub(crate) fn new_count<T: Drop, B: Drop, M: Drop, A: Allocator + Copy, const MAX: u64, H: Mark>(
+pub fn new_count<T: Drop, B: Drop, M: Drop, A: Allocator + Copy, const MAX: u64, H: Mark>(
     alloc: A,
 ) -> Result<(SoleCount<T, B, M, A, MAX, H>, Pass<H>), AllocError>
     requires { 2 ≤ MAX }
@@ -52,7 +52,7 @@ pub(crate) fn new_count<T: Drop, B: Drop, M: Drop, A: Allocator + Copy, const MA
 /// What a drop does: under `Open` the owner ends with a new pass, and its items are dropped; under
 /// `Whole` it is forgotten, and so are its items, which stay where they are. The pass is the one
 /// that the owner ended with; under `Whole` it is of no block.
-pub(crate) fn end_sole<T: Drop, B: Drop, M: Drop, A: Allocator + Copy, const MAX: u64, H: Mark>(
+pub fn end_sole<T: Drop, B: Drop, M: Drop, A: Allocator + Copy, const MAX: u64, H: Mark>(
     count: SoleCount<T, B, M, A, MAX, H>,
     items: Vec<T, A>,
 ) -> Pass<H>
@@ -78,10 +78,7 @@ impl<
 > Block<S, B, M, A, MAX, H> {
     /// The same owner of the same block, a vector, which may be shared from now on. It adds no
     /// entry and takes no memory.
-    pub(crate) fn of_sole(
-        count: SoleCount<S::Item, B, M, A, MAX, H>,
-        items: Vec<S::Item, A>,
-    ) -> Self
+    pub fn of_sole(count: SoleCount<S::Item, B, M, A, MAX, H>, items: Vec<S::Item, A>) -> Self
         requires { IsLimited MAX H.whole (sole_in count) }
         ensures { result ≡ held_as vector S.DROPS (sole_in count) items }
     {
@@ -97,7 +94,7 @@ impl<
     /// # History
     ///
     /// Alone with the answer.
-    pub(crate) fn try_into_sole_as(
+    pub fn try_into_sole_as(
         self,
         alloc: A,
         pass: &mut Pass<H>,
@@ -122,7 +119,7 @@ impl<
 
     /// The same owner of the same block, a caller's buffer, which may be shared from now on. It
     /// adds no entry and takes no memory.
-    pub(crate) fn of_sole_buffer(count: SoleCount<S::Item, B, M, A, MAX, H>) -> Self
+    pub fn of_sole_buffer(count: SoleCount<S::Item, B, M, A, MAX, H>) -> Self
         requires { IsLimited MAX H.whole (sole_in count) }
         ensures { result
             ≡ held_in B.list B.places S.DROPS (sole_in count) (sole_value count) }
@@ -136,7 +133,7 @@ impl<
     /// # History
     ///
     /// Alone with the answer.
-    pub(crate) fn try_into_sole_buffer_as(
+    pub fn try_into_sole_buffer_as(
         self,
         pass: &mut Pass<H>,
     ) -> Result<SoleCount<S::Item, B, M, A, MAX, H>, Self>

@@ -1,7 +1,7 @@
 //! Parts of a read window that are borrowed: made, read, tested, borrowed again, and made windows.
 ghost use Rattle.std.specs.Prelude.{◌≡◌, ◌↔◌, IsOk, IfOk, IfErr};
 ghost use Rattle.arc_buffer.specs.Slice.{IsRange, range_answer};
-ghost use Rattle.arc_block.specs.Steps.{IsPassAt, Shares, Refuses};
+ghost use Rattle.arc_parts.specs.Steps.{IsPassAt, Shares, Refuses};
 ghost use Rattle.arc_read.specs.Borrow.{borrowed_part, clone_place};
 ghost use Rattle.arc_read.specs.Cuts.{cut_window};
 ghost use Rattle.arc_read.specs.Steps.{WithNewPass};

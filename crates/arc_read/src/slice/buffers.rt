@@ -6,19 +6,19 @@ ghost use Rattle.arc_owners.specs.count.Calls.{IsPassOfNone};
 ghost use Rattle.arc_block.specs.Block.{buffer_info};
 ghost use Rattle.arc_block.specs.Metadata.{IsMetadataAt, IsOnCallers};
 ghost use Rattle.arc_block.specs.Place.{nowhere, metadata_at};
-ghost use Rattle.arc_block.specs.Window.{IsBufferWhole, IsRawWhole};
-ghost use Rattle.arc_block.specs.Writers.{size_at};
-ghost use Rattle.arc_block.specs.Steps.{IsPassAt, MakesOver, MakesOverRaw, Begins};
-ghost use Rattle.arc_block.specs.Steps.{TakesAt, RefusesTaking};
+ghost use Rattle.arc_parts.specs.Window.{IsBufferWhole, IsRawWhole};
+ghost use Rattle.arc_block.specs.Place.{size_at};
+ghost use Rattle.arc_parts.specs.Steps.{IsPassAt, MakesOver, MakesOverRaw, Begins};
+ghost use Rattle.arc_parts.specs.Steps.{TakesAt, RefusesTaking};
 ghost use Rattle.arc_read.specs.Steps.{WithNewPass};
 
 use super::ArcSlice;
 use arc_block::layout::{AnyBufferLayout, Layout};
-use arc_block::parts::Parts;
 use arc_buffer::buffer::{BorrowMetadata, Buffer};
 use arc_buffer::kinds::{AnyItems, Slice};
 use arc_owners::mark::{Mark, Stepping};
 use arc_owners::owners::Pass;
+use arc_parts::parts::Parts;
 use std::alloc::Allocator;
 use std::sync::Arc;
 
@@ -123,7 +123,7 @@ impl<
     /// # Allocates
     ///
     /// Once, unless the `Arc` is a block by itself.
-    #[tactic(auto, using(arc_block::proofs::Held::raw_held))]
+    #[tactic(auto, using(arc_parts::proofs::Held::raw_held))]
     pub fn try_from_raw_buffer_as(
         alloc: A,
         shared: Arc<B, A>,

@@ -3,7 +3,7 @@ ghost use Rattle.std.specs.Prelude.{◌≡◌, ◌<◌, length, drop, take, slic
 ghost use Rattle.std.specs.Prelude.{IfOk, IfErr, IfSome, IfNone};
 ghost use Rattle.arc_buffer.specs.Slice.{IsEdge, IsRange, sub};
 ghost use Rattle.arc_block.specs.Place.{at_owner, moved};
-ghost use Rattle.arc_block.specs.Steps.{IsPassAt, Shares, Refuses};
+ghost use Rattle.arc_parts.specs.Steps.{IsPassAt, Shares, Refuses};
 ghost use Rattle.arc_read.specs.Cuts.{sub_place};
 
 use super::ArcSlice;
@@ -27,7 +27,7 @@ impl<
 > ArcSlice<S, L, B, M, A, H> {
     /// One attempt of `try_clone_as`: nothing where another thread's step came between, which only
     /// a block's owner can meet, and then no entry is added.
-    #[tactic(auto, using(arc_block::proofs::Held::shared_held))]
+    #[tactic(auto, using(arc_parts::proofs::Held::shared_held))]
     #[inline(always)]
     pub(super) fn try_clone_once_as(
         &self,

@@ -2,19 +2,19 @@
 ghost use Rattle.std.specs.Prelude.{◌≡◌, IfOk, IfErr, OnErr};
 ghost use Rattle.arc_owners.specs.count.Calls.{IsPassOfNone};
 ghost use Rattle.arc_block.specs.Place.{nowhere, static_data};
-ghost use Rattle.arc_block.specs.Window.{NeedsBlock};
-ghost use Rattle.arc_block.specs.Steps.{Makes, Begins};
+ghost use Rattle.arc_parts.specs.Window.{NeedsBlock};
+ghost use Rattle.arc_parts.specs.Steps.{Makes, Begins};
 ghost use Rattle.arc_read.specs.Steps.{WithNewPass};
 
 use super::ArcSlice;
 use arc_block::layout::{Layout, StaticLayout};
-use arc_block::parts::Parts;
 use arc_block::static_slice::StaticSlice;
 use arc_buffer::buffer::Buffer;
 use arc_buffer::kinds::{AnyItems, CopySlice, Slice};
 use arc_owners::error::AllocError;
 use arc_owners::mark::{Mark, Stepping};
 use arc_owners::owners::Pass;
+use arc_parts::parts::Parts;
 use std::alloc::Allocator;
 
 impl<
@@ -26,7 +26,7 @@ impl<
     H: Mark,
 > ArcSlice<S, L, B, M, A, H> {
     /// A window over a copy of the items, which are legal.
-    #[tactic(auto, using(arc_block::proofs::Held::made_held))]
+    #[tactic(auto, using(arc_parts::proofs::Held::made_held))]
     pub(super) fn try_from_legal_slice_as(
         alloc: A,
         items: &[S::Item],
@@ -82,7 +82,7 @@ impl<
     /// # Allocates
     ///
     /// Where the items need a block.
-    #[tactic(auto, using(arc_block::proofs::Held::made_held))]
+    #[tactic(auto, using(arc_parts::proofs::Held::made_held))]
     pub fn try_from_array_as<const N: usize>(
         alloc: A,
         array: [S::Item; N],

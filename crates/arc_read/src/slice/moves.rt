@@ -1,9 +1,10 @@
 //! Read windows that become those of another layout.
 ghost use Rattle.std.specs.Prelude.{◌≡◌, IfOk, IfErr};
 ghost use Rattle.arc_block.specs.LayoutFacts.{layout_facts};
-ghost use Rattle.arc_block.specs.Moves.{Moves, IsRefused, layout_move};
-ghost use Rattle.arc_block.specs.Steps.{IsPassAt};
-ghost use Rattle.arc_block.specs.Window.{parts_of};
+ghost use Rattle.arc_parts.specs.Moves.{Moves};
+ghost use Rattle.arc_block.specs.Moves.{IsRefused, layout_move};
+ghost use Rattle.arc_parts.specs.Steps.{IsPassAt};
+ghost use Rattle.arc_parts.specs.Window.{parts_of};
 ghost use Rattle.arc_read.specs.Steps.{WithNewPass};
 
 use super::ArcSlice;

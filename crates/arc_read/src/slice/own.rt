@@ -2,8 +2,8 @@
 ghost use Rattle.std.specs.Prelude.{◌≡◌, Bool, true, false, IfOk, IfErr};
 ghost use Rattle.arc_block.specs.Block.{IsLimited};
 ghost use Rattle.arc_block.specs.Place.{IsOnBlock, at_owner};
-ghost use Rattle.arc_block.specs.Window.{IsWholeOf};
-ghost use Rattle.arc_block.specs.Steps.{IsPassAt, RefusesArray, EndsAt};
+ghost use Rattle.arc_parts.specs.Window.{IsWholeOf};
+ghost use Rattle.arc_parts.specs.Steps.{IsPassAt, RefusesArray, EndsAt};
 ghost use Rattle.arc_block.specs.Unique.{AsksUniqueAt, AsksOwnAt, IsAnswerAt};
 ghost use Rattle.arc_owners.specs.count.Calls.{IsPassOfNone, IsNewPass, Learns, Leaves};
 ghost use Rattle.arc_owners.specs.count.Calls.{TakesBlock, AsksAndLeaves};

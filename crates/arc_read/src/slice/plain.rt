@@ -2,8 +2,8 @@
 ghost use Rattle.std.specs.Prelude.{◌≡◌, slice_range, IfOk, IfErr};
 ghost use Rattle.arc_buffer.specs.Slice.{IsRange, sub};
 ghost use Rattle.arc_block.specs.Place.{at_owner};
-ghost use Rattle.arc_block.specs.Window.{IsWholeOf};
-ghost use Rattle.arc_block.specs.Steps.{Shares, Refuses, RefusesArray};
+ghost use Rattle.arc_parts.specs.Window.{IsWholeOf};
+ghost use Rattle.arc_parts.specs.Steps.{Shares, Refuses, RefusesArray};
 ghost use Rattle.arc_block.specs.Unique.{AsksUniqueAt, AsksOwnAt, IsAnswerAt};
 ghost use Rattle.arc_owners.specs.count.Calls.{TakesBlock, AsksAndLeaves};
 ghost use Rattle.arc_read.specs.Steps.{WithNewPass};

@@ -1,7 +1,7 @@
 //! Splits of a read window.
 ghost use Rattle.std.specs.Prelude.{◌≡◌, ◌≤◌, ◌+◌, ℕ, length, IfOk, IfErr};
 ghost use Rattle.arc_buffer.specs.Slice.{IsEdge, IsRange, sub};
-ghost use Rattle.arc_block.specs.Steps.{IsPassAt, Refuses};
+ghost use Rattle.arc_parts.specs.Steps.{IsPassAt, Refuses};
 ghost use Rattle.arc_read.specs.Steps.{WithNewPass};
 ghost use Rattle.arc_read.specs.Cuts.{SplitsOff, SplitsTo, off_place, to_place};
 

@@ -4,20 +4,20 @@ ghost use Rattle.std.specs.Vec.{vec_capacity};
 ghost use Rattle.std.specs.declared.vec.Vec.{Vec};
 ghost use Rattle.arc_owners.specs.count.Calls.{IsPassOfNone};
 ghost use Rattle.arc_block.specs.Place.{nowhere};
-ghost use Rattle.arc_block.specs.Window.{IsVecPart, IsBoxWhole};
-ghost use Rattle.arc_block.specs.Writers.{size_at};
-ghost use Rattle.arc_block.specs.Steps.{IsPassAt, MakesOfVec, NeedsVecBlock, Begins};
-ghost use Rattle.arc_block.specs.Steps.{TakesAt, RefusesTaking};
+ghost use Rattle.arc_parts.specs.Window.{IsVecPart, IsBoxWhole};
+ghost use Rattle.arc_block.specs.Place.{size_at};
+ghost use Rattle.arc_parts.specs.Steps.{IsPassAt, MakesOfVec, NeedsVecBlock, Begins};
+ghost use Rattle.arc_parts.specs.Steps.{TakesAt, RefusesTaking};
 ghost use Rattle.arc_read.specs.Steps.{WithNewPass};
 
 use super::ArcSlice;
 use arc_block::block::exact;
 use arc_block::layout::{AnyBufferLayout, Layout};
-use arc_block::parts::Parts;
 use arc_buffer::buffer::Buffer;
 use arc_buffer::kinds::{Slice, VecIn, Wraps};
 use arc_owners::mark::{Mark, Stepping};
 use arc_owners::owners::Pass;
+use arc_parts::parts::Parts;
 use std::alloc::Allocator;
 use std::boxed::BoxedSlice;
 

@@ -1,20 +1,29 @@
 //! The calls that not all kinds have, and which kind has which.
 ghost use Rattle.std.specs.Prelude.{◌≡◌, ◌≤◌, ◌∷◌, [], Err, true, false, length, is_some, refl};
-ghost use Rattle.std.specs.Prelude.{IfNone, IfSome};
+ghost use Rattle.std.specs.Prelude.{IfNone, IfSome, None};
 ghost use Rattle.std.specs.Prelude.{IfOk, IfErr, OnErr, OnOk};
 ghost use Rattle.std.specs.Mem.{FitsInMemory, type_size};
 ghost use Rattle.std.specs.Str.{IsUtf8};
 ghost use Rattle.arc_owners.specs.count.Calls.{IsPassOfNone};
-ghost use Rattle.arc_block.specs.Steps.{Begins, IsPassAt, Makes};
-ghost use Rattle.arc_block.specs.Window.{NeedsBlock};
-ghost use Rattle.arc_block.specs.Writers.{MakesRoom, MakesWriter, Pushes, room_for};
+ghost use Rattle.arc_owners.specs.declared.mark.Whole.{Whole as whole_mark};
+ghost use Rattle.arc_parts.specs.Shared.{CanSplit, IsOneBlock, LeavesAt, MakesSharedRoom};
+ghost use Rattle.arc_parts.specs.Shared.{PushesShared, RefusesSplitAt, SplitsWriterOff};
+ghost use Rattle.arc_parts.specs.Shared.{SplitsWriterTo, as_shared, asks_alone, can_join};
+ghost use Rattle.arc_parts.specs.Shared.{LeavesVector, is_vector_at, joined_row};
+ghost use Rattle.arc_parts.specs.Steps.{Begins, IsPassAt, Makes};
+ghost use Rattle.arc_parts.specs.Window.{IsOfBuffer, NeedsBlock};
+ghost use Rattle.arc_parts.specs.Writers.{MakesRoom, MakesWriter, Pushes, capacity_of};
+ghost use Rattle.arc_parts.specs.Writers.{room_for};
 ghost use Rattle.arc_commands.specs.Changes.{Calls};
+ghost use Rattle.arc_slots.specs.Several.{is_any};
 
 use super::smalls::Smalls;
 use arc_block::layout::{Layout, LayoutMut};
 use arc_buffer::buffer::BufferMut;
-use arc_buffer::kinds::{CopySlice, Extendable, Slice, Text};
-use arc_owners::error::{AllocError, TryReserveError};
+use arc_buffer::kinds::{
+    Concatenable, CopySlice, Extendable, Shareable, Slice, Subsliceable, Text,
+};
+use arc_owners::error::{AllocError, OwnerError, TryReserveError};
 use arc_owners::mark::Whole;
 use arc_owners::owners::Pass;
 use arc_read::slice::ArcSlice;
@@ -22,10 +31,11 @@ use arc_write::slice_mut::ArcSliceMut;
 use std::alloc::Allocator;
 use std::marker::PhantomData;
 use std::str;
+use std::sync::Wait;
 
 /// Which calls a kind S has, of those that not all kinds have, and these calls: each is answered
 /// `None` where the kind hasn't it, and then nothing changes.
-pub trait CallsOf<S: Slice> {
+pub trait CallsOf<S: Subsliceable> {
     /// Which calls it has.
     ghost calls: { Calls };
 
@@ -44,6 +54,10 @@ pub trait CallsOf<S: Slice> {
     /// Whether each list is legal, so that a window is made of a caller's buffer.
     fn any_list() -> bool
         ensures { result ≡ calls.any_list };
+
+    /// Whether several write one block.
+    fn shares() -> bool
+        ensures { result ≡ calls.shares };
 
     /// A vector with a copy of the items.
     ///
@@ -175,8 +189,192 @@ pub trait CallsOf<S: Slice> {
             window.old window.new pass.old pass.new (Err e))) }
         ensures none { IfNone result ((window.new ≡ window.old) × (pass.new ≡ pass.old)) };
 
-    /// No window is written by several.
-    ghost not_shared: { calls.shares ≡ false };
+    /// The window as one of several, as `ArcSliceMut::into_shared` makes it, where it isn't over a
+    /// caller's buffer; else it stays in its place. Takes no memory.
+    fn into_shared<L: LayoutMut, B: BufferMut<S::Item> + Drop, M: Drop, A: Allocator + Copy>(
+        sole: &mut Option<ArcSliceMut<S, L, 1, B, M, A, Whole>>,
+    ) -> Option<ArcSliceMut<S, L, 0, B, M, A, Whole>>
+        requires call { calls.shares ≡ true }
+        ensures shared { IfSome result (λ window. IfSome sole.old (λ w.
+            (window ≡ as_shared w) × (¬ IsOfBuffer w.place))) }
+        ensures taken { IfSome result (λ _. sole.new ≡ None) }
+        ensures kept { IfNone result (sole.new ≡ sole.old) }
+        ensures refused { IfNone result (IfSome sole.old (λ w. IsOfBuffer w.place)) };
+
+    /// Moves a window of several from its vector to a native block with as many places, as
+    /// `ArcSliceMut::try_leave_vector_as`, and answers the new block's pass.
+    ///
+    /// # Errors
+    ///
+    /// Those of that call.
+    ///
+    /// # Allocates
+    ///
+    /// As that call.
+    ///
+    /// # History
+    ///
+    /// As that call.
+    fn try_leave_vector_as<
+        L: LayoutMut,
+        B: BufferMut<S::Item> + Drop,
+        M: Drop,
+        A: Allocator + Copy,
+    >(
+        window: &mut ArcSliceMut<S, L, 0, B, M, A, Whole>,
+        pass: &mut Pass<Whole>,
+    ) -> Result<Pass<Whole>, AllocError>
+        requires call { calls.shares ≡ true }
+        requires vector { is_vector_at window.old.place ≡ true }
+        requires pass { IsPassAt window.old.place pass.old }
+        ensures moved { IfOk result (λ new. LeavesVector false true window.old window.new
+            pass.old pass.new new) }
+        ensures refused { OnErr result ((window.new ≡ window.old) × (pass.new ≡ pass.old)) };
+
+    /// The part of a window of several behind `at` places, as `ArcSliceMut::try_split_off_as`.
+    ///
+    /// # Errors
+    ///
+    /// Those of that call.
+    ///
+    /// # Allocates
+    ///
+    /// As that call.
+    ///
+    /// # History
+    ///
+    /// As that call.
+    fn try_split_off_as<L: LayoutMut, B: BufferMut<S::Item> + Drop, M: Drop, A: Allocator + Copy>(
+        window: &mut ArcSliceMut<S, L, 0, B, M, A, Whole>,
+        rt: &impl Wait,
+        at: usize,
+        pass: &mut Pass<Whole>,
+    ) -> Result<ArcSliceMut<S, L, 0, B, M, A, Whole>, OwnerError>
+        requires call { calls.shares ≡ true }
+        requires at { CanSplit S.boundary window.old.items (capacity_of window.old.role) at }
+        requires pass { IsPassAt window.old.place pass.old }
+        ensures made { IfOk result (λ back. SplitsWriterOff whole_mark is_any false true at
+            window.old window.new back pass.old pass.new) }
+        ensures kept { IfErr result (λ _. window.new ≡ window.old) }
+        ensures refused { IfErr result (RefusesSplitAt window.old.place pass.old pass.new) };
+
+    /// The part of a window of several before `at` places, as `ArcSliceMut::try_split_to_as`.
+    ///
+    /// # Errors
+    ///
+    /// Those of that call.
+    ///
+    /// # Allocates
+    ///
+    /// As that call.
+    ///
+    /// # History
+    ///
+    /// As that call.
+    fn try_split_to_as<L: LayoutMut, B: BufferMut<S::Item> + Drop, M: Drop, A: Allocator + Copy>(
+        window: &mut ArcSliceMut<S, L, 0, B, M, A, Whole>,
+        rt: &impl Wait,
+        at: usize,
+        pass: &mut Pass<Whole>,
+    ) -> Result<ArcSliceMut<S, L, 0, B, M, A, Whole>, OwnerError>
+        requires call { calls.shares ≡ true }
+        requires at { CanSplit S.boundary window.old.items (capacity_of window.old.role) at }
+        requires pass { IsPassAt window.old.place pass.old }
+        ensures made { IfOk result (λ front. SplitsWriterTo whole_mark is_any false true at
+            window.old front window.new pass.old pass.new) }
+        ensures kept { IfErr result (λ _. window.new ≡ window.old) }
+        ensures refused { IfErr result (RefusesSplitAt window.old.place pass.old pass.new) };
+
+    /// Puts the other window's places behind this one's, as `ArcSliceMut::try_unsplit_as`; where it
+    /// doesn't, the other one stays in its place.
+    ///
+    /// # History
+    ///
+    /// As that call.
+    fn try_unsplit_as<L: LayoutMut, B: BufferMut<S::Item> + Drop, M: Drop, A: Allocator + Copy>(
+        window: &mut ArcSliceMut<S, L, 0, B, M, A, Whole>,
+        other: &mut Option<ArcSliceMut<S, L, 0, B, M, A, Whole>>,
+        pass: &mut Pass<Whole>,
+    ) -> Option<()>
+        requires call { calls.shares ≡ true }
+        requires block { IfSome other.old (λ w. IsOneBlock window.old.place w.place) }
+        requires pass { IsPassAt window.old.place pass.old }
+        ensures joined { IfSome result (λ _. IfSome other.old (λ w.
+            (can_join window.old w ≡ true) × (window.new ≡ joined_row window.old w)
+            × LeavesAt w.place pass.old pass.new)) }
+        ensures taken { IfSome result (λ _. other.new ≡ None) }
+        ensures kept { IfNone result ((window.new ≡ window.old) × (other.new ≡ other.old)
+            × (pass.new ≡ pass.old)) }
+        ensures refused { IfNone result (IfSome other.old (λ w.
+            can_join window.old w ≡ false)) };
+
+    /// An item more in a window of several, as `ArcSliceMut::try_push_as` pushes it. Refused, it is
+    /// let go.
+    ///
+    /// # Errors
+    ///
+    /// Those of that call.
+    ///
+    /// # Allocates
+    ///
+    /// As that call.
+    ///
+    /// # History
+    ///
+    /// As that call.
+    fn try_push_beside_as<L: LayoutMut, B: BufferMut<S::Item> + Drop, M: Drop, A: Allocator + Copy>(
+        window: &mut ArcSliceMut<S, L, 0, B, M, A, Whole>,
+        item: S::Item,
+        pass: &mut Pass<Whole>,
+    ) -> Result<(), TryReserveError>
+        requires call { calls.pushes ≡ true }
+        requires shares { calls.shares ≡ true }
+        requires item { FitsInMemory S.Item.row }
+        requires pass { IsPassAt window.old.place pass.old }
+        ensures pushed { OnOk result (PushesShared (asks_alone window.old 1) true
+            (room_for false (type_size S.Item.row) window.old 1) (item ∷ [])
+            window.old window.new pass.old pass.new) }
+        ensures refused { IfErr result (λ e. MakesSharedRoom (asks_alone window.old 1) true
+            (room_for false (type_size S.Item.row) window.old 1)
+            window.old window.new pass.old pass.new (Err e)) };
+
+    /// A copy of the items more in a window of several, which are legal, as
+    /// `ArcSliceMut::try_extend_from_slice_as` or `try_extend_from_str_as` puts it behind the others.
+    ///
+    /// # Errors
+    ///
+    /// Those of that call.
+    ///
+    /// # Allocates
+    ///
+    /// As that call.
+    ///
+    /// # History
+    ///
+    /// As that call.
+    fn try_extend_beside_as<
+        L: LayoutMut,
+        B: BufferMut<S::Item> + Drop,
+        M: Drop,
+        A: Allocator + Copy,
+    >(
+        window: &mut ArcSliceMut<S, L, 0, B, M, A, Whole>,
+        items: &[S::Item],
+        pass: &mut Pass<Whole>,
+    ) -> Result<(), TryReserveError>
+        requires call { calls.extends ≡ true }
+        requires shares { calls.shares ≡ true }
+        requires legal { ∥ S.is_legal items.now ∥₁ }
+        requires item { FitsInMemory S.Item.row }
+        requires pass { IsPassAt window.old.place pass.old }
+        ensures extended { OnOk result (PushesShared
+            (asks_alone window.old (length items.now)) true
+            (room_for false (type_size S.Item.row) window.old (length items.now)) items.now
+            window.old window.new pass.old pass.new) }
+        ensures refused { IfErr result (λ e. MakesSharedRoom
+            (asks_alone window.old (length items.now)) true
+            (room_for false (type_size S.Item.row) window.old (length items.now))
+            window.old window.new pass.old pass.new (Err e)) };
 }
 
 /// All of them: the calls of `Plain` and `ByteText`. W says whether there are small windows.
@@ -190,83 +388,6 @@ pub struct TextCalls;
 /// Items that are moved are pushed, and never copied.
 pub struct OwnedCalls;
 
-impl<S: CopySlice + Extendable, W: Smalls> CallsOf<S> for AllCalls<W>
-where
-    S::Item: Copy,
-{
-    ghost calls = { record {
-      copies = true;
-      pushes = true;
-      extends = true;
-      any_list = true;
-      small = W.small;
-      shares = false;
-    } };
-
-    ghost not_shared = { refl };
-
-    fn copies() -> bool {
-        true
-    }
-
-    fn pushes() -> bool {
-        true
-    }
-
-    fn extends() -> bool {
-        true
-    }
-
-    fn any_list() -> bool {
-        true
-    }
-
-    fn try_copy<A: Allocator>(
-        alloc: A,
-        items: &[S::Item],
-    ) -> Option<Result<Vec<S::Item, A>, AllocError>> {
-        match Vec::from_slice(alloc, items) {
-            Ok(copy) => Some(Ok(copy)),
-            Err(_) => Some(Err(AllocError)),
-        }
-    }
-
-    fn try_read_as<L: Layout, B: BufferMut<S::Item> + Drop, M: Drop, A: Allocator + Copy>(
-        alloc: A,
-        items: &[S::Item],
-        pass: &mut Pass<Whole>,
-    ) -> Option<Result<ArcSlice<S, L, B, M, A, Whole>, AllocError>> {
-        Some(ArcSlice::try_from_slice_as(alloc, items, pass))
-    }
-
-    fn try_written_as<L: LayoutMut, B: BufferMut<S::Item> + Drop, M: Drop, A: Allocator + Copy>(
-        alloc: A,
-        items: &[S::Item],
-        pass: &mut Pass<Whole>,
-    ) -> Option<Result<ArcSliceMut<S, L, 1, B, M, A, Whole>, AllocError>> {
-        Some(ArcSliceMut::try_from_slice_as(alloc, items, pass))
-    }
-
-    fn try_push_as<L: LayoutMut, B: BufferMut<S::Item> + Drop, M: Drop, A: Allocator + Copy>(
-        window: &mut ArcSliceMut<S, L, 1, B, M, A, Whole>,
-        item: S::Item,
-        pass: &mut Pass<Whole>,
-    ) -> Option<Result<(), TryReserveError>> {
-        match window.try_push_as(item, pass) {
-            Ok(()) => Some(Ok(())),
-            Err((e, _)) => Some(Err(e)),
-        }
-    }
-
-    fn try_extend_as<L: LayoutMut, B: BufferMut<S::Item> + Drop, M: Drop, A: Allocator + Copy>(
-        window: &mut ArcSliceMut<S, L, 1, B, M, A, Whole>,
-        items: &[S::Item],
-        pass: &mut Pass<Whole>,
-    ) -> Option<Result<(), TryReserveError>> {
-        Some(window.try_extend_from_slice_as(items, pass))
-    }
-}
-
 /// The items of a legal list of `Text`, as a `str`.
 pub(super) fn as_text(items: &[u8]) -> &str
     requires { ∥ IsUtf8 items.now ∥₁ }
@@ -275,158 +396,6 @@ pub(super) fn as_text(items: &[u8]) -> &str
     unsafe { str::from_utf8_unchecked(items) }
 }
 
-impl CallsOf<Text> for TextCalls {
-    ghost calls = { record {
-      copies = true;
-      pushes = false;
-      extends = true;
-      any_list = false;
-      small = true;
-      shares = false;
-    } };
-
-    ghost not_shared = { refl };
-
-    fn copies() -> bool {
-        true
-    }
-
-    fn pushes() -> bool {
-        false
-    }
-
-    fn extends() -> bool {
-        true
-    }
-
-    fn any_list() -> bool {
-        false
-    }
-
-    fn try_copy<A: Allocator>(alloc: A, items: &[u8]) -> Option<Result<Vec<u8, A>, AllocError>> {
-        match Vec::from_slice(alloc, items) {
-            Ok(copy) => Some(Ok(copy)),
-            Err(_) => Some(Err(AllocError)),
-        }
-    }
-
-    fn try_read_as<L: Layout, B: BufferMut<u8> + Drop, M: Drop, A: Allocator + Copy>(
-        alloc: A,
-        items: &[u8],
-        pass: &mut Pass<Whole>,
-    ) -> Option<Result<ArcSlice<Text, L, B, M, A, Whole>, AllocError>> {
-        let text = as_text(items);
-        Some(ArcSlice::<Text, L, B, M, A, Whole>::try_from_str_as(alloc, text, pass))
-    }
-
-    fn try_written_as<L: LayoutMut, B: BufferMut<u8> + Drop, M: Drop, A: Allocator + Copy>(
-        alloc: A,
-        items: &[u8],
-        pass: &mut Pass<Whole>,
-    ) -> Option<Result<ArcSliceMut<Text, L, 1, B, M, A, Whole>, AllocError>> {
-        let text = as_text(items);
-        Some(ArcSliceMut::<Text, L, 1, B, M, A, Whole>::try_from_str_as(alloc, text, pass))
-    }
-
-    fn try_push_as<L: LayoutMut, B: BufferMut<u8> + Drop, M: Drop, A: Allocator + Copy>(
-        window: &mut ArcSliceMut<Text, L, 1, B, M, A, Whole>,
-        item: u8,
-        pass: &mut Pass<Whole>,
-    ) -> Option<Result<(), TryReserveError>> {
-        let _ = window;
-        let _ = item;
-        let _ = pass;
-        None
-    }
-
-    fn try_extend_as<L: LayoutMut, B: BufferMut<u8> + Drop, M: Drop, A: Allocator + Copy>(
-        window: &mut ArcSliceMut<Text, L, 1, B, M, A, Whole>,
-        items: &[u8],
-        pass: &mut Pass<Whole>,
-    ) -> Option<Result<(), TryReserveError>> {
-        let text = as_text(items);
-        Some(window.try_extend_from_str_as(text, pass))
-    }
-}
-
-impl<S: Extendable> CallsOf<S> for OwnedCalls {
-    ghost calls = { record {
-      copies = false;
-      pushes = true;
-      extends = false;
-      any_list = true;
-      small = false;
-      shares = false;
-    } };
-
-    ghost not_shared = { refl };
-
-    fn copies() -> bool {
-        false
-    }
-
-    fn pushes() -> bool {
-        true
-    }
-
-    fn extends() -> bool {
-        false
-    }
-
-    fn any_list() -> bool {
-        true
-    }
-
-    fn try_copy<A: Allocator>(
-        alloc: A,
-        items: &[S::Item],
-    ) -> Option<Result<Vec<S::Item, A>, AllocError>> {
-        let _ = alloc;
-        let _ = items;
-        None
-    }
-
-    fn try_read_as<L: Layout, B: BufferMut<S::Item> + Drop, M: Drop, A: Allocator + Copy>(
-        alloc: A,
-        items: &[S::Item],
-        pass: &mut Pass<Whole>,
-    ) -> Option<Result<ArcSlice<S, L, B, M, A, Whole>, AllocError>> {
-        let _ = alloc;
-        let _ = items;
-        let _ = pass;
-        None
-    }
-
-    fn try_written_as<L: LayoutMut, B: BufferMut<S::Item> + Drop, M: Drop, A: Allocator + Copy>(
-        alloc: A,
-        items: &[S::Item],
-        pass: &mut Pass<Whole>,
-    ) -> Option<Result<ArcSliceMut<S, L, 1, B, M, A, Whole>, AllocError>> {
-        let _ = alloc;
-        let _ = items;
-        let _ = pass;
-        None
-    }
-
-    fn try_push_as<L: LayoutMut, B: BufferMut<S::Item> + Drop, M: Drop, A: Allocator + Copy>(
-        window: &mut ArcSliceMut<S, L, 1, B, M, A, Whole>,
-        item: S::Item,
-        pass: &mut Pass<Whole>,
-    ) -> Option<Result<(), TryReserveError>> {
-        match window.try_push_as(item, pass) {
-            Ok(()) => Some(Ok(())),
-            Err((e, _)) => Some(Err(e)),
-        }
-    }
-
-    fn try_extend_as<L: LayoutMut, B: BufferMut<S::Item> + Drop, M: Drop, A: Allocator + Copy>(
-        window: &mut ArcSliceMut<S, L, 1, B, M, A, Whole>,
-        items: &[S::Item],
-        pass: &mut Pass<Whole>,
-    ) -> Option<Result<(), TryReserveError>> {
-        let _ = window;
-        let _ = items;
-        let _ = pass;
-        None
-    }
-}
+mod all;
+mod owned;
+mod text;

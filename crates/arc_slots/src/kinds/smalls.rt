@@ -6,9 +6,9 @@ ghost use Rattle.arc_buffer.specs.Slice.{IsEdge, IsRange, edge_answer, range_ans
 ghost use Rattle.arc_block.specs.Inline.{inline_limit};
 ghost use Rattle.arc_block.specs.LayoutFacts.{layout_facts};
 ghost use Rattle.arc_block.specs.Place.{at_owner, moved, nowhere};
-ghost use Rattle.arc_block.specs.Steps.{Begins, IsPassAt, Refuses, Shares};
+ghost use Rattle.arc_parts.specs.Steps.{Begins, IsPassAt, Refuses, Shares};
 ghost use Rattle.arc_block.specs.Table.{inline};
-ghost use Rattle.arc_block.specs.Window.{PartsView, window_of};
+ghost use Rattle.arc_parts.specs.Window.{PartsView, window_of};
 ghost use Rattle.arc_read.specs.Cuts.{sub_place};
 ghost use Rattle.arc_small.specs.Small.{MakesSmall};
 

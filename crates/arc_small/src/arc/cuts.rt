@@ -3,8 +3,8 @@ ghost use Rattle.std.specs.Prelude.{◌≡◌, Bool, drop, slice_range, IfOk, If
 ghost use Rattle.arc_owners.specs.count.Calls.{Leaves};
 ghost use Rattle.arc_buffer.specs.Slice.{IsEdge, IsRange, sub};
 ghost use Rattle.arc_block.specs.Place.{at_owner, moved};
-ghost use Rattle.arc_block.specs.Steps.{IsPassAt, Shares, Refuses};
-ghost use Rattle.arc_block.specs.Window.{window_of};
+ghost use Rattle.arc_parts.specs.Steps.{IsPassAt, Shares, Refuses};
+ghost use Rattle.arc_parts.specs.Window.{window_of};
 ghost use Rattle.arc_read.specs.Cuts.{sub_place};
 
 use super::SmallArcSlice;

@@ -3,8 +3,8 @@ ghost use Rattle.std.specs.Prelude.{◌≡◌, slice_range, IfOk, IfErr};
 ghost use Rattle.arc_owners.specs.count.Calls.{IsPassOfNone, IsNewPass};
 ghost use Rattle.arc_buffer.specs.Slice.{IsRange, sub};
 ghost use Rattle.arc_block.specs.Place.{at_owner};
-ghost use Rattle.arc_block.specs.Steps.{Shares, Refuses};
-ghost use Rattle.arc_block.specs.Window.{window_of};
+ghost use Rattle.arc_parts.specs.Steps.{Shares, Refuses};
+ghost use Rattle.arc_parts.specs.Window.{window_of};
 ghost use Rattle.arc_read.specs.Steps.{WithNewPass};
 ghost use Rattle.arc_read.specs.Cuts.{sub_place};
 

@@ -2,9 +2,9 @@
 ghost use Rattle.std.specs.Prelude.{◌≡◌, ◌<◌, false, length, IfOk, OnErr};
 ghost use Rattle.arc_owners.specs.count.Calls.{IsPassOfNone};
 ghost use Rattle.arc_block.specs.Place.{nowhere, static_data};
-ghost use Rattle.arc_block.specs.Steps.{Begins};
+ghost use Rattle.arc_parts.specs.Steps.{Begins};
 ghost use Rattle.arc_block.specs.Table.{reader};
-ghost use Rattle.arc_block.specs.Window.{window_of};
+ghost use Rattle.arc_parts.specs.Window.{window_of};
 ghost use Rattle.arc_read.specs.Steps.{WithNewPass};
 ghost use Rattle.arc_block.specs.Inline.{inline_limit};
 ghost use Rattle.arc_block.specs.LayoutFacts.{layout_facts};

@@ -4,9 +4,9 @@ ghost use Rattle.std.specs.Vec.{vec_capacity};
 ghost use Rattle.std.specs.declared.vec.Vec.{Vec};
 ghost use Rattle.arc_owners.specs.count.Calls.{IsPassOfNone};
 ghost use Rattle.arc_block.specs.Place.{nowhere};
-ghost use Rattle.arc_block.specs.Steps.{MakesOfVec, NeedsVecBlock, Begins};
+ghost use Rattle.arc_parts.specs.Steps.{MakesOfVec, NeedsVecBlock, Begins};
 ghost use Rattle.arc_block.specs.Table.{reader};
-ghost use Rattle.arc_block.specs.Window.{window_of};
+ghost use Rattle.arc_parts.specs.Window.{window_of};
 ghost use Rattle.arc_read.specs.Steps.{WithNewPass};
 
 use super::SmallArcSlice;

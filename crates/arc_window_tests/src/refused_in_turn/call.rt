@@ -36,7 +36,7 @@ pub enum Make {
     WrittenBufferWith(&'static str, u8),
 }
 
-/// A window that is made of one that is read.
+/// A window that is made of one that is read, or of one of several writers, which can only be split.
 #[derive(Clone, Copy)]
 pub enum Part {
     /// A clone.
@@ -75,6 +75,8 @@ pub enum Change {
     Push(u8),
     /// A list more.
     Extend(&'static str),
+    /// As much of a list as there are places for, by `write`.
+    Put(&'static str),
     /// Room for so many more.
     Reserve(usize),
     /// The same without memory.
@@ -88,6 +90,17 @@ pub enum Turn {
     Freeze,
     /// From read to written.
     Mut,
+    /// From an only writer to one of several.
+    Share,
+    /// Back again.
+    Unique,
+    /// One of several writers is split behind so many places, each part gets a text more in its
+    /// places, and the parts are joined again; else the one behind ends.
+    Rejoin(usize, &'static str, &'static str),
+    /// To another layout and back: of one that is read to that of those that are written.
+    Over,
+    /// The same by the layout that holds no vectors and buffers.
+    OverNative,
     /// Its items, which are these, as its vector.
     TakeVec(&'static str),
     /// Its items, which are these, as a box.
@@ -96,6 +109,8 @@ pub enum Turn {
     TakeBuffer(&'static str),
     /// The `Arc` of its buffer, which has these items.
     TakeRaw(&'static str),
+    /// Its items, of which there are none, as an array.
+    TakeNone,
     /// Its items as an array of two.
     TakeTwo,
     /// Its items as an array of three, which are these.

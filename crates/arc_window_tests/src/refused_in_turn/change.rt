@@ -3,9 +3,10 @@ use super::call::{Ask, Change, Reply, done_where, yes_or_no};
 use super::window::{Reader, Writer};
 use arc_block::layout::{Layout, LayoutMut};
 use arc_owners::error::TryReserveError;
+use std::io::Write;
 
 /// The reply to room that is refused.
-fn room_reply(e: TryReserveError) -> Reply {
+pub fn room_reply(e: TryReserveError) -> Reply {
     match e {
         TryReserveError::NotUnique => Reply::NotUnique,
         TryReserveError::Unsupported => Reply::Unsupported,
@@ -15,7 +16,7 @@ fn room_reply(e: TryReserveError) -> Reply {
 }
 
 /// Metadata as a reply.
-fn metadata_reply(metadata: Option<&u8>) -> Reply {
+pub fn metadata_reply(metadata: Option<&u8>) -> Reply {
     match metadata {
         Some(metadata) => Reply::Number(usize::from(*metadata)),
         None => Reply::No,
@@ -82,10 +83,18 @@ fn push<K: LayoutMut>(window: &mut Writer<'_, K>, item: u8) -> Reply {
 }
 
 /// The reply to room that is made or refused.
-fn room_made(made: Result<(), TryReserveError>) -> Reply {
+pub fn room_made(made: Result<(), TryReserveError>) -> Reply {
     match made {
         Ok(()) => Reply::Done,
         Err(e) => room_reply(e),
+    }
+}
+
+/// How many of these bytes a window takes.
+pub fn put<W: Write>(window: &mut W, text: &str) -> Reply {
+    match window.write(text.as_bytes()) {
+        Ok(count) => Reply::Number(count),
+        Err(_) => Reply::Wrong,
     }
 }
 
@@ -99,6 +108,7 @@ pub fn change_writer<K: LayoutMut>(window: &mut Writer<'_, K>, what: Change) -> 
         }
         Change::Push(item) => push(window, item),
         Change::Extend(text) => room_made(window.try_extend_from_slice(text.as_bytes())),
+        Change::Put(text) => put(window, text),
         Change::Reserve(more) => room_made(window.try_reserve(more)),
         Change::Reclaim(more) => yes_or_no(window.try_reclaim(more)),
     }

@@ -133,7 +133,7 @@ fn written_buffer_with<'a, K: LayoutMut + AnyBufferLayout>(
 }
 
 /// As a window that is read.
-fn read<R, W>(made: Result<R, Reply>) -> Result<Role<R, W>, Reply> {
+fn read<R, W, S>(made: Result<R, Reply>) -> Result<Role<R, W, S>, Reply> {
     match made {
         Ok(window) => Ok(Role::Read(window)),
         Err(reply) => Err(reply),
@@ -141,7 +141,7 @@ fn read<R, W>(made: Result<R, Reply>) -> Result<Role<R, W>, Reply> {
 }
 
 /// As a window that is written.
-fn written<R, W>(made: Result<W, Reply>) -> Result<Role<R, W>, Reply> {
+fn written<R, W, S>(made: Result<W, Reply>) -> Result<Role<R, W, S>, Reply> {
     match made {
         Ok(window) => Ok(Role::Write(window)),
         Err(reply) => Err(reply),

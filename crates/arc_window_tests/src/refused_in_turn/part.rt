@@ -6,7 +6,7 @@ use arc_owners::error::OwnerError;
 use std::sync::Wait;
 
 /// The window, or the reply without one.
-fn or_reply<W>(made: Result<W, OwnerError>) -> Result<W, Reply> {
+pub fn or_reply<W>(made: Result<W, OwnerError>) -> Result<W, Reply> {
     match made {
         Ok(window) => Ok(window),
         Err(OwnerError::AllocError) => Err(Reply::NoMemory),

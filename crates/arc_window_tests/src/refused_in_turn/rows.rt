@@ -102,6 +102,18 @@ const ARRAYS: &[Line] = &[
     (Call::Make(Make::WrittenArray([4, 5, 6])), Reply::Done),
     (Call::Turn(2, Turn::TakeTwo), Reply::Refused),
     (Call::Turn(2, Turn::TakeThree([4, 5, 6])), Reply::Done),
+    (Call::Make(Make::Written), Reply::Done),
+    (Call::Turn(3, Turn::TakeNone), Reply::Done),
+];
+
+/// `write` fills the places that are there, and makes none.
+const PUT: &[Line] = &[
+    (Call::Make(Make::WrittenPlaces(4)), Reply::Done),
+    (Call::Change(0, Change::Extend("abc")), Reply::Done),
+    (Call::Change(0, Change::Put("defgh")), Reply::Number(1)),
+    (Call::Change(0, Change::Put("x")), Reply::Number(0)),
+    (Call::Ask(0, Ask::Show("abcd")), Reply::Done),
+    (Call::Ask(0, Ask::Room), Reply::Number(4)),
 ];
 
 /// Owners of one block read it, and the last one ends it.
@@ -146,6 +158,28 @@ const VECTOR_CLONED: &[Line] = &[
     (Call::Turn(1, Turn::Drop), Reply::Done),
     (Call::Ask(0, Ask::IsUnique), Reply::Yes),
     (Call::Turn(0, Turn::TakeBoxed("*")), Reply::Done),
+];
+
+/// A vector is cut in each way, written, frozen, and comes back.
+const VECTOR_PARTS: &[Line] = &[
+    (Call::Make(Make::Vec("123")), Reply::Done),
+    (Call::Part(0, Part::Sub(0, 2)), Reply::Done),
+    (Call::Ask(1, Ask::Show("12")), Reply::Done),
+    (Call::Make(Make::Vec("123")), Reply::Done),
+    (Call::Part(2, Part::Off(1)), Reply::Done),
+    (Call::Ask(3, Ask::Show("23")), Reply::Done),
+    (Call::Make(Make::Vec("123")), Reply::Done),
+    (Call::Part(4, Part::To(1)), Reply::Done),
+    (Call::Ask(5, Ask::Show("1")), Reply::Done),
+    (Call::Make(Make::Vec("123")), Reply::Done),
+    (Call::Part(6, Part::Borrowed(0, 2)), Reply::Done),
+    (Call::Ask(7, Ask::Show("12")), Reply::Done),
+    (Call::Make(Make::Vec("123")), Reply::Done),
+    (Call::Turn(8, Turn::Mut), Reply::Done),
+    (Call::Make(Make::WrittenVec("123")), Reply::Done),
+    (Call::Turn(9, Turn::Freeze), Reply::Done),
+    (Call::Ask(9, Ask::Show("123")), Reply::Done),
+    (Call::Turn(9, Turn::TakeVec("123")), Reply::Done),
 ];
 
 /// A vector's block grows, is frozen, and comes back.
@@ -204,6 +238,35 @@ const BUFFER_WRITTEN: &[Line] = &[
     (Call::Turn(1, Turn::TakeBuffer("b")), Reply::Refused),
     (Call::Change(1, Change::Push(b'c')), Reply::Done),
     (Call::Ask(1, Ask::Show("bc")), Reply::Done),
+];
+
+/// Each block is given back by the hint that its owner is alone, where that is so and where not.
+const HINTS: &[Line] = &[
+    (Call::Make(Make::Slice("ab")), Reply::Done),
+    (Call::Part(0, Part::Clone), Reply::Done),
+    (Call::Turn(0, Turn::Hint), Reply::Done),
+    (Call::Turn(1, Turn::Hint), Reply::Done),
+    (Call::Make(Make::Vec("ab")), Reply::Done),
+    (Call::Part(2, Part::Clone), Reply::Done),
+    (Call::Turn(2, Turn::Hint), Reply::Done),
+    (Call::Ask(3, Ask::IsUnique), Reply::Yes),
+    (Call::Turn(3, Turn::Hint), Reply::Done),
+    (Call::Make(Make::BufferWith("ab", 7)), Reply::Done),
+    (Call::Turn(4, Turn::Hint), Reply::Done),
+    (Call::Make(Make::Raw("ab")), Reply::Done),
+    (Call::Turn(5, Turn::Hint), Reply::Done),
+    (Call::Make(Make::WrittenSlice("ab")), Reply::Done),
+    (Call::Turn(6, Turn::Hint), Reply::Done),
+    (Call::Make(Make::WrittenVec("ab")), Reply::Done),
+    (Call::Turn(7, Turn::Hint), Reply::Done),
+    (Call::Make(Make::WrittenBufferWith("ab", 7)), Reply::Done),
+    (Call::Turn(8, Turn::Hint), Reply::Done),
+    (Call::Make(Make::WrittenVec("ab")), Reply::Done),
+    (Call::Turn(9, Turn::Share), Reply::Done),
+    (Call::Turn(9, Turn::Hint), Reply::Done),
+    (Call::Make(Make::WrittenSlice("ab")), Reply::Done),
+    (Call::Turn(10, Turn::Share), Reply::Done),
+    (Call::Turn(10, Turn::Hint), Reply::Done),
 ];
 
 /// An `Arc` that is counted once more comes back alone.
@@ -266,6 +329,249 @@ const NOTHING_ON_BLOCK: &[Line] = &[
     (Call::Ask(2, Ask::Show("1")), Reply::Done),
 ];
 
+/// Any layout holds a native block; a vector, a buffer and its metadata go where buffers are held,
+/// and nowhere else.
+const MOVED: &[Line] = &[
+    (Call::Make(Make::Slice("abc")), Reply::Done),
+    (Call::Turn(0, Turn::Over), Reply::Done),
+    (Call::Turn(0, Turn::OverNative), Reply::Done),
+    (Call::Ask(0, Ask::Show("abc")), Reply::Done),
+    (Call::Make(Make::Vec("0123")), Reply::Done),
+    (Call::Turn(1, Turn::Over), Reply::Done),
+    (Call::Turn(1, Turn::OverNative), Reply::Refused),
+    (Call::Turn(1, Turn::TakeVec("0123")), Reply::Done),
+    (Call::Make(Make::BufferWith("*", 7)), Reply::Done),
+    (Call::Turn(2, Turn::Over), Reply::Done),
+    (Call::Ask(2, Ask::Metadata), Reply::Number(7)),
+    (Call::Turn(2, Turn::OverNative), Reply::Refused),
+    (Call::Turn(2, Turn::TakeBuffer("*")), Reply::Done),
+];
+
+/// So do windows that are written.
+const MOVED_WRITTEN: &[Line] = &[
+    (Call::Make(Make::WrittenSlice("abc")), Reply::Done),
+    (Call::Change(0, Change::Advance(1)), Reply::Done),
+    (Call::Turn(0, Turn::Over), Reply::Done),
+    (Call::Turn(0, Turn::OverNative), Reply::Done),
+    (Call::Ask(0, Ask::Show("bc")), Reply::Done),
+    (Call::Ask(0, Ask::Room), Reply::Number(2)),
+    (Call::Make(Make::WrittenBufferWith("ab", 9)), Reply::Done),
+    (Call::Turn(1, Turn::Over), Reply::Done),
+    (Call::Ask(1, Ask::Metadata), Reply::Number(9)),
+    (Call::Turn(1, Turn::OverNative), Reply::Refused),
+    (Call::Change(1, Change::Push(b'c')), Reply::Done),
+    (Call::Turn(1, Turn::TakeBuffer("abc")), Reply::Done),
+    (Call::Make(Make::WrittenVec("ab")), Reply::Done),
+    (Call::Turn(2, Turn::Share), Reply::Done),
+    (Call::Turn(2, Turn::Over), Reply::Done),
+    (Call::Turn(2, Turn::OverNative), Reply::Refused),
+    (Call::Turn(2, Turn::TakeVec("ab")), Reply::Done),
+    (Call::Make(Make::WrittenPlaces(3)), Reply::Done),
+    (Call::Turn(3, Turn::Share), Reply::Done),
+    (Call::Turn(3, Turn::Over), Reply::Done),
+    (Call::Turn(3, Turn::OverNative), Reply::Done),
+    (Call::Ask(3, Ask::Room), Reply::Number(3)),
+];
+
+/// Two halves of a full window are joined again.
+const SPLIT_AND_JOINED: &[Line] = &[
+    (Call::Make(Make::WrittenSlice("1234")), Reply::Done),
+    (Call::Turn(0, Turn::Share), Reply::Done),
+    (Call::Turn(0, Turn::Rejoin(2, "", "")), Reply::Done),
+    (Call::Ask(0, Ask::Show("1234")), Reply::Done),
+    (Call::Ask(0, Ask::Room), Reply::Number(4)),
+    (Call::Part(0, Part::To(1)), Reply::Done),
+    (Call::Ask(1, Ask::Show("1")), Reply::Done),
+    (Call::Ask(0, Ask::Show("234")), Reply::Done),
+    (Call::Turn(1, Turn::Hint), Reply::Done),
+    (Call::Turn(0, Turn::Hint), Reply::Done),
+];
+
+/// What isn't full isn't joined, and once it is, it is.
+const JOINED_WHERE_FULL: &[Line] = &[
+    (Call::Make(Make::WrittenPlaces(8)), Reply::Done),
+    (Call::Change(0, Change::Extend("abc")), Reply::Done),
+    (Call::Turn(0, Turn::Share), Reply::Done),
+    (Call::Turn(0, Turn::Rejoin(5, "de", "")), Reply::Done),
+    (Call::Ask(0, Ask::Show("abcde")), Reply::Done),
+    (Call::Ask(0, Ask::Room), Reply::Number(8)),
+    (Call::Turn(0, Turn::Rejoin(6, "", "gh")), Reply::Refused),
+    (Call::Ask(0, Ask::Show("abcde")), Reply::Done),
+    (Call::Ask(0, Ask::Room), Reply::Number(6)),
+];
+
+/// A part without items keeps its places, and the other becomes the only writer once it has ended.
+const SPLIT_BEHIND: &[Line] = &[
+    (Call::Make(Make::WrittenPlaces(8)), Reply::Done),
+    (Call::Change(0, Change::Extend("abc")), Reply::Done),
+    (Call::Turn(0, Turn::Share), Reply::Done),
+    (Call::Part(0, Part::Off(5)), Reply::Done),
+    (Call::Ask(0, Ask::Show("abc")), Reply::Done),
+    (Call::Ask(0, Ask::Room), Reply::Number(5)),
+    (Call::Ask(1, Ask::Show("")), Reply::Done),
+    (Call::Ask(1, Ask::Room), Reply::Number(3)),
+    (Call::Turn(0, Turn::Unique), Reply::Refused),
+    (Call::Turn(1, Turn::Drop), Reply::Done),
+    (Call::Turn(0, Turn::Unique), Reply::Done),
+    (Call::Change(0, Change::Reclaim(4)), Reply::Yes),
+    (Call::Ask(0, Ask::Show("abc")), Reply::Done),
+    (Call::Ask(0, Ask::Room), Reply::Number(8)),
+];
+
+/// Beside another writer there is no room but in the window's own places, and none is made.
+const ROOM_BESIDE: &[Line] = &[
+    (Call::Make(Make::WrittenSlice("1234")), Reply::Done),
+    (Call::Turn(0, Turn::Share), Reply::Done),
+    (Call::Part(0, Part::Off(2)), Reply::Done),
+    (Call::Change(0, Change::Push(b'5')), Reply::NotUnique),
+    (Call::Change(0, Change::Extend("xyz")), Reply::NotUnique),
+    (Call::Change(0, Change::Reserve(1)), Reply::NotUnique),
+    (Call::Change(0, Change::Reclaim(1)), Reply::No),
+    (Call::Change(0, Change::Put("x")), Reply::Number(0)),
+    (Call::Change(1, Change::Advance(1)), Reply::Done),
+    (Call::Change(1, Change::Truncate(0)), Reply::Done),
+    (Call::Change(1, Change::Push(b'6')), Reply::Done),
+    (Call::Ask(1, Ask::Show("6")), Reply::Done),
+    (Call::Ask(1, Ask::Room), Reply::Number(1)),
+    (Call::Turn(1, Turn::Drop), Reply::Done),
+    (Call::Change(0, Change::Push(b'5')), Reply::Done),
+    (Call::Ask(0, Ask::Show("125")), Reply::Done),
+    (Call::Ask(0, Ask::Room), Reply::Number(4)),
+    (Call::Change(0, Change::Extend("xyz")), Reply::Done),
+    (Call::Ask(0, Ask::Show("125xyz")), Reply::Done),
+    (Call::Ask(0, Ask::Room), Reply::Number(8)),
+];
+
+/// The last of several writers has the places in front of its own too.
+const LAST_RECLAIMS: &[Line] = &[
+    (Call::Make(Make::WrittenSlice("12345678")), Reply::Done),
+    (Call::Turn(0, Turn::Share), Reply::Done),
+    (Call::Part(0, Part::Off(6)), Reply::Done),
+    (Call::Change(1, Change::Reclaim(4)), Reply::No),
+    (Call::Turn(0, Turn::Hint), Reply::Done),
+    (Call::Change(1, Change::Reclaim(4)), Reply::Yes),
+    (Call::Ask(1, Ask::Show("78")), Reply::Done),
+    (Call::Ask(1, Ask::Room), Reply::Number(8)),
+    (Call::Change(1, Change::Reserve(7)), Reply::Done),
+    (Call::Ask(1, Ask::Room), Reply::Number(16)),
+];
+
+/// A vector moves to a native block when it is split, and then no vector comes back.
+const VECTOR_SPLIT: &[Line] = &[
+    (Call::Make(Make::WrittenVec("12")), Reply::Done),
+    (Call::Turn(0, Turn::Share), Reply::Done),
+    (Call::Part(0, Part::Off(1)), Reply::Done),
+    (Call::Ask(0, Ask::Show("1")), Reply::Done),
+    (Call::Ask(1, Ask::Show("2")), Reply::Done),
+    (Call::Make(Make::WrittenVec("34")), Reply::Done),
+    (Call::Turn(2, Turn::Share), Reply::Done),
+    (Call::Turn(2, Turn::Rejoin(1, "", "")), Reply::Done),
+    (Call::Ask(2, Ask::Show("34")), Reply::Done),
+    (Call::Turn(2, Turn::TakeVec("34")), Reply::Refused),
+    (Call::Make(Make::WrittenVec("567")), Reply::Done),
+    (Call::Turn(3, Turn::Share), Reply::Done),
+    (Call::Part(3, Part::To(1)), Reply::Done),
+    (Call::Ask(4, Ask::Show("5")), Reply::Done),
+    (Call::Ask(3, Ask::Show("67")), Reply::Done),
+];
+
+/// One that isn't split comes back, also as a box, and grows; a buffer has one writer.
+const VECTOR_SHARED: &[Line] = &[
+    (Call::Make(Make::WrittenVec("123")), Reply::Done),
+    (Call::Turn(0, Turn::Share), Reply::Done),
+    (Call::Turn(0, Turn::TakeBuffer("123")), Reply::Refused),
+    (Call::Turn(0, Turn::TakeVec("123")), Reply::Done),
+    (Call::Make(Make::WrittenVec("23")), Reply::Done),
+    (Call::Turn(1, Turn::Share), Reply::Done),
+    (Call::Turn(1, Turn::TakeBoxed("23")), Reply::Done),
+    (Call::Make(Make::WrittenVec("ab")), Reply::Done),
+    (Call::Turn(2, Turn::Share), Reply::Done),
+    (Call::Change(2, Change::Extend("cdefgh")), Reply::Done),
+    (Call::Turn(2, Turn::Unique), Reply::Done),
+    (Call::Turn(2, Turn::TakeVec("abcdefgh")), Reply::Done),
+    (Call::Make(Make::WrittenBuffer("ab")), Reply::Done),
+    (Call::Turn(3, Turn::Share), Reply::Refused),
+    (Call::Turn(3, Turn::TakeBuffer("ab")), Reply::Done),
+];
+
+/// One part is frozen beside the other, and written again once it is alone.
+const FROZEN_BESIDE: &[Line] = &[
+    (Call::Make(Make::WrittenZeros(4)), Reply::Done),
+    (Call::Turn(0, Turn::Share), Reply::Done),
+    (Call::Part(0, Part::Off(2)), Reply::Done),
+    (Call::Turn(0, Turn::Freeze), Reply::Done),
+    (Call::Part(0, Part::Clone), Reply::Done),
+    (Call::Change(1, Change::Truncate(0)), Reply::Done),
+    (Call::Change(1, Change::Put("ab")), Reply::Number(2)),
+    (Call::Change(1, Change::Push(b'c')), Reply::NotUnique),
+    (Call::Ask(0, Ask::Show("\0\0")), Reply::Done),
+    (Call::Ask(0, Ask::IsUnique), Reply::No),
+    (Call::Turn(0, Turn::Mut), Reply::Refused),
+    (Call::Turn(1, Turn::Freeze), Reply::Done),
+    (Call::Ask(1, Ask::Show("ab")), Reply::Done),
+    (Call::Turn(1, Turn::Drop), Reply::Done),
+    (Call::Turn(2, Turn::Drop), Reply::Done),
+    (Call::Turn(0, Turn::Mut), Reply::Done),
+    (Call::Ask(0, Ask::Room), Reply::Number(4)),
+];
+
+/// On nothing parts are joined, and none becomes an only writer; each has a block of its own then.
+const SPLIT_ON_NOTHING: &[Line] = &[
+    (Call::Make(Make::Written), Reply::Done),
+    (Call::Turn(0, Turn::Share), Reply::Done),
+    (Call::Turn(0, Turn::Rejoin(0, "", "")), Reply::Done),
+    (Call::Ask(0, Ask::Show("")), Reply::Done),
+    (Call::Turn(0, Turn::Unique), Reply::Refused),
+    (Call::Part(0, Part::Off(0)), Reply::Done),
+    (Call::Change(0, Change::Push(b'1')), Reply::Done),
+    (Call::Ask(0, Ask::Room), Reply::Number(8)),
+    (Call::Change(1, Change::Extend("23")), Reply::Done),
+    (Call::Ask(0, Ask::Show("1")), Reply::Done),
+    (Call::Ask(1, Ask::Show("23")), Reply::Done),
+    (Call::Turn(0, Turn::Unique), Reply::Done),
+    (Call::Make(Make::Written), Reply::Done),
+    (Call::Turn(2, Turn::Share), Reply::Done),
+    (Call::Turn(2, Turn::TakeNone), Reply::Done),
+];
+
+/// An array comes back where it is the whole block, and the only writer left.
+const ARRAYS_SHARED: &[Line] = &[
+    (Call::Make(Make::WrittenArray([1, 2, 3])), Reply::Done),
+    (Call::Turn(0, Turn::Share), Reply::Done),
+    (Call::Turn(0, Turn::TakeTwo), Reply::Refused),
+    (Call::Part(0, Part::Off(3)), Reply::Done),
+    (Call::Turn(0, Turn::TakeThree([1, 2, 3])), Reply::Refused),
+    (Call::Turn(1, Turn::Drop), Reply::Done),
+    (Call::Turn(0, Turn::TakeThree([1, 2, 3])), Reply::Done),
+];
+
+/// An `Arc` that is a block by itself is counted once more under another layout, which takes
+/// memory, and comes back beside a clone.
+const RAW_MOVED: &[Line] = &[
+    (Call::Make(Make::Raw("123")), Reply::Done),
+    (Call::Part(0, Part::Clone), Reply::Done),
+    (Call::Turn(0, Turn::Over), Reply::Done),
+    (Call::Turn(0, Turn::OverNative), Reply::Refused),
+    (Call::Ask(0, Ask::Show("123")), Reply::Done),
+    (Call::Turn(0, Turn::TakeRaw("123")), Reply::Done),
+];
+
+/// A window on nothing has a block of no places where there is no static data, and keeps it. One
+/// that is written is frozen on nothing, and written again.
+const NOTHING_MOVED: &[Line] = &[
+    (Call::Make(Make::Slice("")), Reply::Done),
+    (Call::Ask(0, Ask::IsUnique), Reply::No),
+    (Call::Turn(0, Turn::OverNative), Reply::Done),
+    (Call::Ask(0, Ask::IsUnique), Reply::No),
+    (Call::Turn(0, Turn::Over), Reply::Done),
+    (Call::Ask(0, Ask::IsUnique), Reply::Yes),
+    (Call::Make(Make::Written), Reply::Done),
+    (Call::Turn(1, Turn::Freeze), Reply::Done),
+    (Call::Ask(1, Ask::IsUnique), Reply::No),
+    (Call::Turn(1, Turn::Mut), Reply::Done),
+    (Call::Ask(1, Ask::Room), Reply::Number(0)),
+];
+
 /// Rows under each layout.
 pub const ALL: &[&[Line]] = &[
     EXTENDED_AND_FROZEN,
@@ -279,20 +585,41 @@ pub const ALL: &[&[Line]] = &[
     CLONED,
     VECTOR_CUT,
     VECTOR_CLONED,
+    VECTOR_PARTS,
     VECTOR_WRITTEN,
     BOXES,
     BUFFER,
     BUFFER_WRITTEN,
+    HINTS,
+    PUT,
+    MOVED,
+    MOVED_WRITTEN,
+    SPLIT_AND_JOINED,
+    JOINED_WHERE_FULL,
+    SPLIT_BEHIND,
+    ROOM_BESIDE,
+    LAST_RECLAIMS,
+    VECTOR_SPLIT,
+    VECTOR_SHARED,
+    FROZEN_BESIDE,
+    SPLIT_ON_NOTHING,
+    ARRAYS_SHARED,
 ];
 
 /// Rows under layouts that count an `Arc` once more.
 pub const COUNTED: &[&[Line]] = &[RAW_COUNTED];
 
 /// Rows under the layout that doesn't.
-pub const BY_ITSELF: &[&[Line]] = &[RAW_BY_ITSELF];
+pub const BY_ITSELF: &[&[Line]] = &[RAW_BY_ITSELF, RAW_MOVED];
 
 /// Rows under layouts whose windows may stand on nothing.
 pub const WITH_NOTHING: &[&[Line]] = &[EMPTY_ON_NOTHING];
 
 /// Rows under those whose readers may not.
 pub const WITHOUT_NOTHING: &[&[Line]] = &[EMPTY_ON_BLOCK, NOTHING_ON_BLOCK];
+
+/// Rows of vectors that go from one layout that holds them to another.
+pub const VECTORS: &[&[Line]] = &[VECTOR_PARTS, VECTOR_WRITTEN];
+
+/// Rows of readers that may stand on nothing beside writers whose layout has no static data.
+pub const TO_BLOCK: &[&[Line]] = &[NOTHING_MOVED];

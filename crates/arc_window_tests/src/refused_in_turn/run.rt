@@ -3,6 +3,7 @@ use super::call::{Ask, Call, Change, Line, Part, Reply, Turn, is_refusal};
 use super::change::{ask_reader, ask_writer, change_reader, change_writer};
 use super::make::make;
 use super::part::made_of;
+use super::several::{ask_several, change_several, split_of, turn_several};
 use super::turn::{turn_reader, turn_writer};
 use super::window::{Heap, Role, Window, Windows, seen};
 use arc_block::layout::{AnyBufferLayout, Layout, LayoutMut};
@@ -38,6 +39,10 @@ fn part_of<'a, L: Layout, K: LayoutMut>(
             Ok(made) => Ok(Role::Read(made)),
             Err(reply) => Err(reply),
         },
+        Role::Share(window) => match split_of(rt, window, what) {
+            Ok(made) => Ok(Role::Share(made)),
+            Err(reply) => Err(reply),
+        },
         Role::Write(_) => Err(Reply::NoCall),
     }
 }
@@ -50,6 +55,7 @@ fn asked<L: Layout, K: LayoutMut>(windows: &Windows<'_, L, K>, number: usize, wh
     match window {
         Role::Read(window) => ask_reader(window, what),
         Role::Write(window) => ask_writer(window, what),
+        Role::Share(window) => ask_several(window, what),
     }
 }
 
@@ -65,11 +71,13 @@ fn changed<L: Layout, K: LayoutMut>(
     match window {
         Role::Read(window) => change_reader(window, what),
         Role::Write(window) => change_writer(window, what),
+        Role::Share(window) => change_several(window, what),
     }
 }
 
 /// Takes the window with this number out of its place, and puts back what becomes of it.
 fn turned<L: Layout, K: LayoutMut>(
+    rt: &impl Wait,
     windows: &mut Windows<'_, L, K>,
     number: usize,
     what: Turn,
@@ -83,6 +91,7 @@ fn turned<L: Layout, K: LayoutMut>(
     let (back, reply) = match window {
         Role::Read(window) => turn_reader(window, what),
         Role::Write(window) => turn_writer(window, what),
+        Role::Share(window) => turn_several(rt, window, what),
     };
     *place = back;
     reply
@@ -103,7 +112,7 @@ fn called<'a, L: AnyBufferLayout, K: LayoutMut + AnyBufferLayout>(
         }
         Call::Ask(number, what) => Ok(asked(windows, number, what)),
         Call::Change(number, what) => Ok(changed(windows, number, what)),
-        Call::Turn(number, what) => Ok(turned(windows, number, what)),
+        Call::Turn(number, what) => Ok(turned(rt, windows, number, what)),
     }
 }
 

@@ -1,11 +1,12 @@
 //! Calls that take a window, and may give it back.
 use super::call::{Reply, Turn, done_where};
+use super::over::{Native, over_reader, over_writer};
 use super::window::{Reader, Role, Window, Writer};
-use arc_block::layout::{Layout, LayoutMut};
+use arc_block::layout::{Layout, LayoutMut, VecLayout};
 use arc_write::slice_mut::IntoMut;
 
 /// What stands in the window's place afterwards, and the reply.
-type Turned<W> = (Option<W>, Reply);
+pub type Turned<W> = (Option<W>, Reply);
 
 fn vec_of_reader<'a, L: Layout>(window: Reader<'a, L>, text: &str) -> Turned<Reader<'a, L>> {
     match window.try_into_vec() {
@@ -35,6 +36,13 @@ fn raw_of_reader<'a, L: Layout>(window: Reader<'a, L>, text: &str) -> Turned<Rea
     }
 }
 
+fn none_of_reader<L: Layout>(window: Reader<'_, L>) -> Turned<Reader<'_, L>> {
+    match window.try_into_array::<0>() {
+        Ok(_) => (None, Reply::Done),
+        Err(window) => (Some(window), Reply::Refused),
+    }
+}
+
 fn two_of_reader<L: Layout>(window: Reader<'_, L>) -> Turned<Reader<'_, L>> {
     match window.try_into_array::<2>() {
         Ok(_) => (None, Reply::Done),
@@ -57,7 +65,7 @@ fn written_again<'a, L: Layout, K: LayoutMut>(window: Reader<'a, L>) -> Turned<W
 }
 
 /// A window that is read and stays so, if it comes back.
-fn still_read<R, W>(turned: Turned<R>) -> Turned<Role<R, W>> {
+fn still_read<R, W, S>(turned: Turned<R>) -> Turned<Role<R, W, S>> {
     let (window, reply) = turned;
     match window {
         Some(window) => (Some(Role::Read(window)), reply),
@@ -71,12 +79,14 @@ pub fn turn_reader<'a, L: Layout, K: LayoutMut>(
     what: Turn,
 ) -> Turned<Window<'a, L, K>> {
     match what {
-        Turn::Freeze => (Some(Role::Read(window)), Reply::NoCall),
         Turn::Mut => written_again(window),
+        Turn::Over => still_read(over_reader::<L, K>(window)),
+        Turn::OverNative => still_read(over_reader::<L, Native>(window)),
         Turn::TakeVec(text) => still_read(vec_of_reader(window, text)),
         Turn::TakeBoxed(text) => still_read(boxed_of_reader(window, text)),
         Turn::TakeBuffer(text) => still_read(buffer_of_reader(window, text)),
         Turn::TakeRaw(text) => still_read(raw_of_reader(window, text)),
+        Turn::TakeNone => still_read(none_of_reader(window)),
         Turn::TakeTwo => still_read(two_of_reader(window)),
         Turn::TakeThree(items) => still_read(three_of_reader(window, items)),
         Turn::Drop => {
@@ -86,6 +96,9 @@ pub fn turn_reader<'a, L: Layout, K: LayoutMut>(
         Turn::Hint => {
             window.drop_with_unique_hint();
             (None, Reply::Done)
+        }
+        Turn::Freeze | Turn::Share | Turn::Unique | Turn::Rejoin(_, _, _) => {
+            (Some(Role::Read(window)), Reply::NoCall)
         }
     }
 }
@@ -111,6 +124,13 @@ fn buffer_of_writer<'a, K: LayoutMut>(window: Writer<'a, K>, text: &str) -> Turn
     }
 }
 
+fn none_of_writer<K: LayoutMut>(window: Writer<'_, K>) -> Turned<Writer<'_, K>> {
+    match window.try_into_array::<0>() {
+        Ok(_) => (None, Reply::Done),
+        Err(window) => (Some(window), Reply::Refused),
+    }
+}
+
 fn two_of_writer<K: LayoutMut>(window: Writer<'_, K>) -> Turned<Writer<'_, K>> {
     match window.try_into_array::<2>() {
         Ok(_) => (None, Reply::Done),
@@ -132,8 +152,15 @@ fn frozen<'a, L: Layout, K: LayoutMut>(window: Writer<'a, K>) -> Turned<Window<'
     }
 }
 
+fn shared<'a, L: Layout, K: LayoutMut>(window: Writer<'a, K>) -> Turned<Window<'a, L, K>> {
+    match window.into_shared() {
+        Ok(window) => (Some(Role::Share(window)), Reply::Done),
+        Err(window) => (Some(Role::Write(window)), Reply::Refused),
+    }
+}
+
 /// A window that is written and stays so, if it comes back.
-fn still_written<R, W>(turned: Turned<W>) -> Turned<Role<R, W>> {
+fn still_written<R, W, S>(turned: Turned<W>) -> Turned<Role<R, W, S>> {
     let (window, reply) = turned;
     match window {
         Some(window) => (Some(Role::Write(window)), reply),
@@ -148,9 +175,13 @@ pub fn turn_writer<'a, L: Layout, K: LayoutMut>(
 ) -> Turned<Window<'a, L, K>> {
     match what {
         Turn::Freeze => frozen(window),
+        Turn::Share => shared(window),
+        Turn::Over => still_written(over_writer::<K, VecLayout>(window)),
+        Turn::OverNative => still_written(over_writer::<K, Native>(window)),
         Turn::TakeVec(text) => still_written(vec_of_writer(window, text)),
         Turn::TakeBoxed(text) => still_written(boxed_of_writer(window, text)),
         Turn::TakeBuffer(text) => still_written(buffer_of_writer(window, text)),
+        Turn::TakeNone => still_written(none_of_writer(window)),
         Turn::TakeTwo => still_written(two_of_writer(window)),
         Turn::TakeThree(items) => still_written(three_of_writer(window, items)),
         Turn::Drop => {
@@ -161,6 +192,8 @@ pub fn turn_writer<'a, L: Layout, K: LayoutMut>(
             window.drop_with_unique_hint();
             (None, Reply::Done)
         }
-        Turn::Mut | Turn::TakeRaw(_) => (Some(Role::Write(window)), Reply::NoCall),
+        Turn::Mut | Turn::Unique | Turn::Rejoin(_, _, _) | Turn::TakeRaw(_) => {
+            (Some(Role::Write(window)), Reply::NoCall)
+        }
     }
 }

@@ -19,15 +19,19 @@ pub type Reader<'a, L> = ArcSlice<Plain<u8>, L, Bytes<'a>, u8, Heap<'a>>;
 /// A window that is written.
 pub type Writer<'a, K> = ArcSliceMut<Plain<u8>, K, 1, Bytes<'a>, u8, Heap<'a>>;
 
-/// A window that is read, or one that is written.
+/// A window of one of several writers.
+pub type Several<'a, K> = ArcSliceMut<Plain<u8>, K, 0, Bytes<'a>, u8, Heap<'a>>;
+
+/// A window that is read, one that is written, or one of several writers.
 #[derive(Drop)]
-pub enum Role<R, W> {
+pub enum Role<R, W, S> {
     Read(R),
     Write(W),
+    Share(S),
 }
 
 /// A window.
-pub type Window<'a, L, K> = Role<Reader<'a, L>, Writer<'a, K>>;
+pub type Window<'a, L, K> = Role<Reader<'a, L>, Writer<'a, K>, Several<'a, K>>;
 
 /// The windows of a row, by number. Nothing stands where one has ended.
 pub type Windows<'a, L, K> = Vec<Option<Window<'a, L, K>>>;
@@ -75,6 +79,21 @@ fn tell_writer<K: LayoutMut>(
     tell_items(window.as_slice(), out)
 }
 
+/// The same of one of several writers.
+fn tell_several<K: LayoutMut>(
+    window: &Several<'_, K>,
+    out: &mut Vec<usize>,
+) -> Result<(), AllocError> {
+    let numbers = [
+        3,
+        window.len(),
+        window.capacity(),
+        metadata_number(window.metadata()),
+    ];
+    out.extend_from_slice(&numbers)?;
+    tell_items(window.as_slice(), out)
+}
+
 /// What is seen of all windows.
 pub fn seen<L: Layout, K: LayoutMut>(
     alloc: Global,
@@ -85,6 +104,7 @@ pub fn seen<L: Layout, K: LayoutMut>(
         match window {
             Some(Role::Read(window)) => tell_reader(window, &mut out)?,
             Some(Role::Write(window)) => tell_writer(window, &mut out)?,
+            Some(Role::Share(window)) => tell_several(window, &mut out)?,
             None => out.push(0)?,
         }
     }

@@ -1,6 +1,6 @@
 //! `Buf` of write windows over bytes and byte text.
 ghost use Rattle.std.specs.Prelude.{◌≡◌, ◌≤◌, length, drop};
-ghost use Rattle.arc_block.specs.Writers.{after_advance};
+ghost use Rattle.arc_parts.specs.Writers.{after_advance};
 ghost use Rattle.arc_write.specs.Within.{spare_places};
 ghost use Rattle.bytes.specs.Adapters.{kept_spare};
 ghost use Rattle.bytes.specs.Unread.{IsChunkOf};

@@ -2,7 +2,7 @@
 //! makes no room.
 ghost use Rattle.std.specs.Prelude.{◌≡◌, ◌≤◌, ◌+◌, ◌-◌, ◌^◌, ◌++◌, ◌∷◌, [], min, length};
 ghost use Rattle.std.specs.Prelude.{OnOk, OnErr, Some, replicate};
-ghost use Rattle.arc_block.specs.Writers.{capacity_of, with_more};
+ghost use Rattle.arc_parts.specs.Writers.{capacity_of, with_more};
 ghost use Rattle.arc_write.specs.Within.{spare_places};
 ghost use Rattle.bytes.specs.Filled.{KeepsMaxSpare, MakesSpare, UsesMaxSpare, UsesSpare};
 

@@ -2,8 +2,9 @@
 ghost use Rattle.std.specs.Prelude.{◌≡◌, ◌++◌, false, length, is_ok, IsOk, OnOk, OnErr, Err};
 ghost use Rattle.std.specs.Prelude.{Result};
 ghost use Rattle.arc_owners.specs.declared.error.TryReserveError.{TryReserveError};
-ghost use Rattle.arc_block.specs.Growth.{AsksForRoom, IfAsked};
-ghost use Rattle.arc_block.specs.Writers.{MakesRoom, Pushes, room_for, size_at};
+ghost use Rattle.arc_sort_writers.specs.Growth.{AsksForRoom, IfAsked};
+ghost use Rattle.arc_parts.specs.Writers.{MakesRoom, Pushes, room_for};
+ghost use Rattle.arc_block.specs.Place.{size_at};
 ghost use Rattle.arc_read.specs.Steps.{WithNewPass};
 
 use crate::slice_mut::ArcSliceMut;

@@ -2,8 +2,8 @@
 //! nothing.
 ghost use Rattle.std.specs.Prelude.{◌≡◌, ◌++◌, false, length, IsOk, OnOk, OnErr, Err};
 ghost use Rattle.arc_owners.specs.declared.error.TryReserveError.{TryReserveError};
-ghost use Rattle.arc_block.specs.Shared.{MakesSharedRoom, PushesShared, asks_alone};
-ghost use Rattle.arc_block.specs.Writers.{room_for};
+ghost use Rattle.arc_parts.specs.Shared.{MakesSharedRoom, PushesShared, asks_alone};
+ghost use Rattle.arc_parts.specs.Writers.{room_for};
 ghost use Rattle.arc_read.specs.Steps.{WithNewPass};
 
 use crate::slice_mut::ArcSliceMut;

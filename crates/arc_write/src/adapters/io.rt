@@ -4,7 +4,7 @@ ghost use Rattle.std.specs.Prelude.{IsOk, OnOk, IfErr};
 ghost use Rattle.std.specs.Io.{ReadsAtMost, WritesAtMost};
 ghost use Rattle.std.specs.Io.KnownBytes.{Appends, Consumes, Keeps, ReadConsumes, WriteAppends};
 ghost use Rattle.std.specs.IoError.{error_kind};
-ghost use Rattle.arc_block.specs.Writers.{after_advance};
+ghost use Rattle.arc_parts.specs.Writers.{after_advance};
 ghost use Rattle.arc_write.specs.Within.{after_write, spare_places, taken};
 
 use crate::slice_mut::ArcSliceMut;

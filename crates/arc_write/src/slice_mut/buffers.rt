@@ -5,19 +5,20 @@ ghost use Rattle.arc_owners.specs.count.Calls.{IsPassOfNone, Leaves};
 ghost use Rattle.arc_block.specs.Block.{buffer_info};
 ghost use Rattle.arc_block.specs.Metadata.{IsMetadataAt, IsOnCallers};
 ghost use Rattle.arc_block.specs.Place.{nowhere, at_owner, metadata_at};
-ghost use Rattle.arc_block.specs.Steps.{IsPassAt};
-ghost use Rattle.arc_block.specs.Window.{IsBufferWhole, IsOfBuffer};
-ghost use Rattle.arc_block.specs.Writers.{MakesBufferWriter, size_at};
+ghost use Rattle.arc_parts.specs.Steps.{IsPassAt};
+ghost use Rattle.arc_parts.specs.Window.{IsBufferWhole, IsOfBuffer};
+ghost use Rattle.arc_parts.specs.Writers.{MakesBufferWriter};
+ghost use Rattle.arc_block.specs.Place.{size_at};
 ghost use Rattle.arc_read.specs.Steps.{WithNewPass};
 
 use super::ArcSliceMut;
 use super::parts::WriterStorage;
 use arc_block::layout::{AnyBufferLayout, LayoutMut};
-use arc_block::parts::SoleParts;
 use arc_buffer::buffer::{BorrowMetadata, BufferMut};
 use arc_buffer::kinds::{AnyItems, Slice};
 use arc_owners::mark::{Mark, Stepping};
 use arc_owners::owners::Pass;
+use arc_writer_parts::sole::SoleParts;
 use std::alloc::Allocator;
 
 impl<

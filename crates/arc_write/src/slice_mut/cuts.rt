@@ -1,7 +1,7 @@
 //! Cuts of a write window.
 ghost use Rattle.std.specs.Prelude.{◌≡◌, ◌<◌, length};
 ghost use Rattle.arc_buffer.specs.Slice.{IsEdge};
-ghost use Rattle.arc_block.specs.Writers.{after_advance, after_truncate};
+ghost use Rattle.arc_parts.specs.Writers.{after_advance, after_truncate};
 
 use super::ArcSliceMut;
 use super::parts::WriterStorage;

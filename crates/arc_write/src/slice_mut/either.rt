@@ -3,7 +3,7 @@
 ghost use Rattle.std.specs.Prelude.{◌≡◌, ◌<◌, ◌≤◌, ◌+◌, length, OnOk, OnErr};
 ghost use Rattle.std.specs.Borrow.{sem};
 ghost use Rattle.arc_buffer.specs.Slice.{IsEdge};
-ghost use Rattle.arc_block.specs.Writers.{after_advance, capacity_of, with_more};
+ghost use Rattle.arc_parts.specs.Writers.{after_advance, capacity_of, with_more};
 ghost use Rattle.arc_write.specs.Within.{spare_places};
 
 use super::ArcSliceMut;

@@ -3,10 +3,10 @@ ghost use Rattle.std.specs.Prelude.{◌≡◌, IfOk, IfErr};
 ghost use Rattle.arc_block.specs.LayoutFacts.{layout_facts};
 ghost use Rattle.arc_block.specs.Moves.{layout_move};
 ghost use Rattle.arc_block.specs.Place.{IsOnBlock};
-ghost use Rattle.arc_block.specs.declared.parts.moves.Move.TheVariants.{Stays, HandedBack};
-ghost use Rattle.arc_block.specs.Window.{Window, parts_of};
-ghost use Rattle.arc_block.specs.Steps.{IsPassAt};
-ghost use Rattle.arc_block.specs.Writers.{as_sole, BecomesSole, RefusesSole};
+ghost use Rattle.arc_block.specs.declared.layout.Move.TheVariants.{Stays, HandedBack};
+ghost use Rattle.arc_parts.specs.Window.{Window, parts_of};
+ghost use Rattle.arc_parts.specs.Steps.{IsPassAt};
+ghost use Rattle.arc_parts.specs.Writers.{as_sole, BecomesSole, RefusesSole};
 ghost use Rattle.arc_read.specs.Steps.{WithNewPass};
 
 use super::ArcSliceMut;
@@ -16,6 +16,7 @@ use arc_buffer::kinds::Slice;
 use arc_owners::mark::{Mark, Stepping};
 use arc_owners::owners::Pass;
 use arc_read::slice::ArcSlice;
+use arc_writer_parts::sole::SoleParts;
 use std::alloc::Allocator;
 
 /// Windows that are read, and may be written again where no other owner of their block lives:
@@ -132,7 +133,7 @@ impl<
         ensures unasked { IfErr result (λ _.
             layout_move (layout_facts K.Layout) self.place ≡ HandedBack → pass.new ≡ pass.old) }
     {
-        match self.into_parts().try_into_sole_as::<K>(pass) {
+        match SoleParts::try_from_parts_as::<K>(self.into_parts(), pass) {
             Ok(parts) => Ok(ArcSliceMut::from_parts(parts)),
             Err(parts) => Err(ArcSlice::from_parts(parts)),
         }

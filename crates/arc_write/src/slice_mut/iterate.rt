@@ -3,8 +3,8 @@ ghost use Rattle.std.specs.Prelude.{◌≡◌, ◌++◌, List, IfOk, IfErr, OnOk
 ghost use Rattle.std.specs.Iterator.{IsFinite, Drains, Yields, YieldsThen, ExtendsWithItems};
 ghost use Rattle.std.specs.Iterator.Runs.{WholeRun};
 ghost use Rattle.std.specs.Mem.{FitsInMemory, type_size};
-ghost use Rattle.arc_block.specs.Window.{PartsView};
-ghost use Rattle.arc_block.specs.Writers.{idle_writer};
+ghost use Rattle.arc_parts.specs.Window.{PartsView};
+ghost use Rattle.arc_parts.specs.Writers.{idle_writer};
 ghost use Rattle.arc_write.specs.Extend.{PushesEach, RefusesOne};
 
 use super::ArcSliceMut;

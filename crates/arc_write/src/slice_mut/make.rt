@@ -1,16 +1,16 @@
 //! Making of windows that are written.
 ghost use Rattle.std.specs.Prelude.{◌≡◌, ◌≤◌, false, length, replicate, [], IfOk, IfErr, OnErr};
 ghost use Rattle.arc_owners.specs.count.Calls.{IsPassOfNone};
-ghost use Rattle.arc_block.specs.Writers.{MakesWriter};
+ghost use Rattle.arc_parts.specs.Writers.{MakesWriter};
 
 use super::ArcSliceMut;
 use arc_block::layout::LayoutMut;
-use arc_block::parts::SoleParts;
 use arc_buffer::buffer::BufferMut;
 use arc_buffer::kinds::{AnyItems, CopySlice, Emptyable, Slice, Zeroable};
 use arc_owners::error::AllocError;
 use arc_owners::mark::Mark;
 use arc_owners::owners::Pass;
+use arc_writer_parts::sole::SoleParts;
 use std::alloc::Allocator;
 
 impl<

@@ -3,8 +3,8 @@ ghost use Rattle.std.specs.Prelude.{◌≡◌, true, false, IfOk, IfErr};
 ghost use Rattle.arc_owners.specs.count.Calls.{Leaves, Learns, IsNewPass, IsPassOfNone};
 ghost use Rattle.arc_owners.specs.count.Calls.{SeesAlone};
 ghost use Rattle.arc_block.specs.Place.{at_owner};
-ghost use Rattle.arc_block.specs.Steps.{IsPassAt, EndsAt};
-ghost use Rattle.arc_block.specs.Writers.{IsWholeWriter};
+ghost use Rattle.arc_parts.specs.Steps.{IsPassAt, EndsAt};
+ghost use Rattle.arc_parts.specs.Writers.{IsWholeWriter};
 
 use super::ArcSliceMut;
 use super::parts::WriterStorage;

@@ -2,10 +2,11 @@
 ghost use Rattle.std.specs.Prelude.{◌≡◌};
 ghost use Rattle.std.specs.Borrow.{sem};
 
-use arc_block::parts::{SharedParts, SoleParts};
 use arc_buffer::buffer::BufferMut;
 use arc_buffer::kinds::Slice;
 use arc_owners::mark::Mark;
+use arc_writer_parts::shared::SharedParts;
+use arc_writer_parts::sole::SoleParts;
 use std::alloc::Allocator;
 
 /// A write window's parts: those of its block's only owner, or of one of several owners.

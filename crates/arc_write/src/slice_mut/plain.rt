@@ -3,14 +3,15 @@ ghost use Rattle.std.specs.Prelude.{◌≡◌, ◌≤◌, ◌+◌, ◌++◌, ◌
 ghost use Rattle.std.specs.Prelude.{length, replicate, IfOk, IfErr, OnOk, OnErr, Err};
 ghost use Rattle.std.specs.Mem.{FitsInMemory, type_size};
 ghost use Rattle.arc_owners.specs.count.Calls.{Leaves};
-ghost use Rattle.arc_block.specs.Growth.{IfAsked, AsksForRoom, without_item};
+ghost use Rattle.arc_sort_writers.specs.Growth.{IfAsked, AsksForRoom, without_item};
 ghost use Rattle.arc_block.specs.LayoutFacts.{layout_facts};
 ghost use Rattle.arc_block.specs.Moves.{IsRefused, layout_move};
 ghost use Rattle.arc_block.specs.Place.{nowhere, at_owner};
-ghost use Rattle.arc_block.specs.Window.{parts_of};
-ghost use Rattle.arc_block.specs.Writers.{capacity_of, room_for, MakesWriter, MakesRoom};
-ghost use Rattle.arc_block.specs.Writers.{Pushes, size_at};
-ghost use Rattle.arc_block.specs.Writers.{Freezes, IsWholeWriter};
+ghost use Rattle.arc_parts.specs.Window.{parts_of};
+ghost use Rattle.arc_parts.specs.Writers.{capacity_of, room_for, MakesWriter, MakesRoom};
+ghost use Rattle.arc_parts.specs.Writers.{Pushes};
+ghost use Rattle.arc_block.specs.Place.{size_at};
+ghost use Rattle.arc_parts.specs.Writers.{Freezes, IsWholeWriter};
 ghost use Rattle.arc_read.specs.Steps.{WithNewPass};
 
 use super::ArcSliceMut;

@@ -1,8 +1,8 @@
 //! Views of a write window, and the test of where it may be cut.
 ghost use Rattle.std.specs.Prelude.{◌≡◌, ◌≤◌, ◌==◌, ◌↔◌, length, IsOk};
 ghost use Rattle.arc_buffer.specs.Slice.{IsEdge, edge_answer};
-ghost use Rattle.arc_block.specs.Writers.{capacity_of};
-ghost use Rattle.arc_block.specs.Shared.{CanSplit, split_answer};
+ghost use Rattle.arc_parts.specs.Writers.{capacity_of};
+ghost use Rattle.arc_parts.specs.Shared.{CanSplit, split_answer};
 
 use super::ArcSliceMut;
 use super::parts::WriterStorage;

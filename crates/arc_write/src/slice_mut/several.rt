@@ -4,22 +4,22 @@ ghost use Rattle.std.specs.Prelude.{◌≡◌, ℕ, false, IfOk, IfErr, is_ok};
 ghost use Rattle.arc_owners.specs.count.Calls.{IsNewPass, IsPassOfNone};
 ghost use Rattle.arc_block.specs.LayoutFacts.{layout_facts};
 ghost use Rattle.arc_block.specs.Place.{at_owner};
-ghost use Rattle.arc_block.specs.Shared.{AsksAlone, IsSharedPlace, as_shared, as_unique};
-ghost use Rattle.arc_block.specs.Shared.{is_vector_at};
-ghost use Rattle.arc_block.specs.Steps.{IsPassAt};
+ghost use Rattle.arc_parts.specs.Shared.{AsksAlone, IsSharedPlace, as_shared, as_unique};
+ghost use Rattle.arc_parts.specs.Shared.{is_vector_at};
+ghost use Rattle.arc_parts.specs.Steps.{IsPassAt};
 ghost use Rattle.arc_block.specs.Table.{one_writer_of_several};
-ghost use Rattle.arc_block.specs.Window.{IsBlockHeld, IsOfBuffer};
-ghost use Rattle.arc_block.specs.Writers.{capacity_of, with_full};
+ghost use Rattle.arc_parts.specs.Window.{IsBlockHeld, IsOfBuffer};
+ghost use Rattle.arc_parts.specs.Writers.{capacity_of, with_full};
 ghost use Rattle.arc_read.specs.Steps.{WithNewPass};
 
 use super::ArcSliceMut;
 use super::parts::WriterStorage;
 use arc_block::layout::LayoutMut;
-use arc_block::parts::SharedParts;
 use arc_buffer::buffer::BufferMut;
 use arc_buffer::kinds::{Shareable, Slice};
 use arc_owners::mark::{Mark, Stepping};
 use arc_owners::owners::Pass;
+use arc_writer_parts::shared::SharedParts;
 use std::alloc::Allocator;
 use std::marker::PhantomData;
 

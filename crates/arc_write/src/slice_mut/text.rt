@@ -2,19 +2,20 @@
 ghost use Rattle.std.specs.Prelude.{◌≡◌, ◌≤◌, ◌++◌, ◌==◌, if◌then◌else◌, false, length};
 ghost use Rattle.std.specs.Prelude.{IfOk, IfErr, OnOk, OnErr, Err};
 ghost use Rattle.arc_owners.specs.count.Calls.{IsPassOfNone};
-ghost use Rattle.arc_block.specs.Growth.{IfAsked, AsksForRoom};
-ghost use Rattle.arc_block.specs.Steps.{IsPassAt};
-ghost use Rattle.arc_block.specs.Writers.{MakesWriter, MakesRoom, Pushes, room_for, size_at};
+ghost use Rattle.arc_sort_writers.specs.Growth.{IfAsked, AsksForRoom};
+ghost use Rattle.arc_parts.specs.Steps.{IsPassAt};
+ghost use Rattle.arc_parts.specs.Writers.{MakesWriter, MakesRoom, Pushes, room_for};
+ghost use Rattle.arc_block.specs.Place.{size_at};
 
 use super::ArcSliceMut;
 use super::parts::WriterStorage;
 use arc_block::layout::LayoutMut;
-use arc_block::parts::SoleParts;
 use arc_buffer::buffer::BufferMut;
 use arc_buffer::kinds::Text;
 use arc_owners::error::{AllocError, TryReserveError};
 use arc_owners::mark::Mark;
 use arc_owners::owners::Pass;
+use arc_writer_parts::sole::SoleParts;
 use std::alloc::Allocator;
 use std::str;
 

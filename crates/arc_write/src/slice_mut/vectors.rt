@@ -5,18 +5,19 @@ ghost use Rattle.std.specs.declared.vec.Vec.{Vec};
 ghost use Rattle.arc_owners.specs.count.Calls.{IsPassOfNone, Leaves};
 ghost use Rattle.arc_block.specs.Block.{vector};
 ghost use Rattle.arc_block.specs.Place.{nowhere, at_owner};
-ghost use Rattle.arc_block.specs.Window.{IsVecPart, IsBoxWhole};
-ghost use Rattle.arc_block.specs.Writers.{MakesWriterOver, size_at};
-ghost use Rattle.arc_block.specs.Steps.{IsPassAt};
+ghost use Rattle.arc_parts.specs.Window.{IsVecPart, IsBoxWhole};
+ghost use Rattle.arc_parts.specs.Writers.{MakesWriterOver};
+ghost use Rattle.arc_block.specs.Place.{size_at};
+ghost use Rattle.arc_parts.specs.Steps.{IsPassAt};
 ghost use Rattle.arc_read.specs.Steps.{WithNewPass};
 
 use super::ArcSliceMut;
 use arc_block::layout::{AnyBufferLayout, LayoutMut};
-use arc_block::parts::SoleParts;
 use arc_buffer::buffer::BufferMut;
 use arc_buffer::kinds::{Slice, VecIn, Wraps};
 use arc_owners::mark::{Mark, Stepping};
 use arc_owners::owners::Pass;
+use arc_writer_parts::sole::SoleParts;
 use std::alloc::Allocator;
 
 impl<

@@ -3,7 +3,7 @@ use Rattle.std.proofs.Common.{if◌then◌else◌, ◌==◌, true, sym, subst}
 use Rattle.std.specs.Mem.{type_size}
 use Rattle.std.specs.Result.{OnOk}
 use Rattle.std.specs.declared.vec.Vec.{Vec}
-use Rattle.arc_block.specs.Writers.{room, Pushes}
+use Rattle.arc_parts.specs.Writers.{room, Pushes}
 use Rattle.arc_slots.specs.Writing.{seen_writing, items_of, additional_of}
 use Rattle.arc_slots.specs.declared.slot.Writing.{Writing}
 use Rattle.arc_slots.proofs.Filled.{nothing-written}

@@ -4,10 +4,10 @@ ghost use Rattle.std.specs.Str.{IsUtf8, valid_up_to, error_len};
 ghost use Rattle.std.specs.Str.Lossy.{utf8_valid_len, utf8_error_len};
 ghost use Rattle.arc_block.specs.LayoutFacts.{layout_facts};
 ghost use Rattle.arc_block.specs.Moves.{IsRefused, layout_move};
-ghost use Rattle.arc_block.specs.Window.{parts_of, IsBlockHeld};
+ghost use Rattle.arc_parts.specs.Window.{parts_of, IsBlockHeld};
 ghost use Rattle.arc_block.specs.Place.{IsOnBlock};
-ghost use Rattle.arc_block.specs.Steps.{IsPassAt, Makes, Begins};
-ghost use Rattle.arc_block.specs.Writers.{Freezes, as_reader};
+ghost use Rattle.arc_parts.specs.Steps.{IsPassAt, Makes, Begins};
+ghost use Rattle.arc_parts.specs.Writers.{Freezes, as_reader};
 
 use crate::slice_mut::ArcSliceMut;
 use arc_block::layout::{Layout, LayoutMut};

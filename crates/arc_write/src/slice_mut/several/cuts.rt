@@ -1,7 +1,7 @@
 //! Cuts of the window of one of several writers.
 ghost use Rattle.std.specs.Prelude.{◌≡◌, ◌<◌, length};
 ghost use Rattle.arc_buffer.specs.Slice.{IsEdge};
-ghost use Rattle.arc_block.specs.Writers.{after_advance, after_truncate};
+ghost use Rattle.arc_parts.specs.Writers.{after_advance, after_truncate};
 
 use crate::slice_mut::ArcSliceMut;
 use crate::slice_mut::parts::WriterStorage;

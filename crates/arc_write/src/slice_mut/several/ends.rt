@@ -4,10 +4,10 @@ ghost use Rattle.arc_owners.specs.count.Calls.{AsksAndLeaves, IsPassOfNone, Lear
 ghost use Rattle.arc_block.specs.LayoutFacts.{layout_facts};
 ghost use Rattle.arc_block.specs.Moves.{IsRefused, layout_move};
 ghost use Rattle.arc_block.specs.Place.{at_owner};
-ghost use Rattle.arc_block.specs.Shared.{LeavesAt};
-ghost use Rattle.arc_block.specs.Steps.{EndsAt, IsPassAt};
-ghost use Rattle.arc_block.specs.Window.{parts_of};
-ghost use Rattle.arc_block.specs.Writers.{Freezes};
+ghost use Rattle.arc_parts.specs.Shared.{LeavesAt};
+ghost use Rattle.arc_parts.specs.Steps.{EndsAt, IsPassAt};
+ghost use Rattle.arc_parts.specs.Window.{parts_of};
+ghost use Rattle.arc_parts.specs.Writers.{Freezes};
 ghost use Rattle.arc_read.specs.Steps.{WithNewPass};
 
 use crate::slice_mut::ArcSliceMut;

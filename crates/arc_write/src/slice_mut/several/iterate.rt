@@ -3,7 +3,7 @@ ghost use Rattle.std.specs.Prelude.{◌≡◌, ◌++◌, List, IfErr, OnOk, Some
 ghost use Rattle.std.specs.Iterator.{IsFinite, Drains, YieldsThen, ExtendsWithItems};
 ghost use Rattle.std.specs.Iterator.Runs.{WholeRun};
 ghost use Rattle.std.specs.Mem.{FitsInMemory, type_size};
-ghost use Rattle.arc_block.specs.Window.{PartsView};
+ghost use Rattle.arc_parts.specs.Window.{PartsView};
 ghost use Rattle.arc_write.specs.Extend.{PushesEachShared, RefusesOneShared};
 
 use crate::slice_mut::ArcSliceMut;

@@ -1,8 +1,8 @@
 //! Views of one of several writers, and the test of where he may be cut or split.
 ghost use Rattle.std.specs.Prelude.{◌≡◌, ◌≤◌, ◌==◌, ◌↔◌, length, IsOk};
 ghost use Rattle.arc_buffer.specs.Slice.{IsEdge, edge_answer};
-ghost use Rattle.arc_block.specs.Writers.{capacity_of};
-ghost use Rattle.arc_block.specs.Shared.{CanSplit, split_answer};
+ghost use Rattle.arc_parts.specs.Writers.{capacity_of};
+ghost use Rattle.arc_parts.specs.Shared.{CanSplit, split_answer};
 
 use crate::slice_mut::ArcSliceMut;
 use crate::slice_mut::parts::WriterStorage;

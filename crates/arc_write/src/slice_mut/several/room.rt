@@ -1,9 +1,9 @@
 //! Room for one of several writers, who has to be alone for it.
 ghost use Rattle.std.specs.Prelude.{◌≡◌, ◌≤◌, ◌+◌, false, length, OnOk, is_ok};
 ghost use Rattle.std.specs.Mem.{FitsInMemory, type_size};
-ghost use Rattle.arc_block.specs.Shared.{MakesSharedRoom, ReclaimsShared, asks_alone};
-ghost use Rattle.arc_block.specs.Steps.{IsPassAt};
-ghost use Rattle.arc_block.specs.Writers.{capacity_of, room_for};
+ghost use Rattle.arc_parts.specs.Shared.{MakesSharedRoom, ReclaimsShared, asks_alone};
+ghost use Rattle.arc_parts.specs.Steps.{IsPassAt};
+ghost use Rattle.arc_parts.specs.Writers.{capacity_of, room_for};
 ghost use Rattle.arc_read.specs.Steps.{WithNewPass};
 ghost use Rattle.arc_write.specs.Within.{StaysWithin};
 

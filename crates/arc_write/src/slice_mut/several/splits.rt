@@ -1,10 +1,10 @@
 //! How the places of one of several writers are split, and joined again.
 ghost use Rattle.std.specs.Prelude.{◌≡◌, ◌≤◌, false, true, IfOk, IfErr, OnErr, OnOk};
-ghost use Rattle.arc_block.specs.Shared.{CanSplit, IsOneBlock, LeavesAt, LeavesVector, RefusesSplitAt};
-ghost use Rattle.arc_block.specs.Shared.{is_vector_at};
-ghost use Rattle.arc_block.specs.Shared.{SplitsWriterOff, SplitsWriterTo, can_join, joined_row};
-ghost use Rattle.arc_block.specs.Steps.{IsPassAt};
-ghost use Rattle.arc_block.specs.Writers.{capacity_of};
+ghost use Rattle.arc_parts.specs.Shared.{CanSplit, IsOneBlock, LeavesAt, LeavesVector, RefusesSplitAt};
+ghost use Rattle.arc_parts.specs.Shared.{is_vector_at};
+ghost use Rattle.arc_parts.specs.Shared.{SplitsWriterOff, SplitsWriterTo, can_join, joined_row};
+ghost use Rattle.arc_parts.specs.Steps.{IsPassAt};
+ghost use Rattle.arc_parts.specs.Writers.{capacity_of};
 ghost use Rattle.arc_read.specs.Steps.{WithNewPass};
 
 use crate::slice_mut::ArcSliceMut;

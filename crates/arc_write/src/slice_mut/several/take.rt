@@ -4,9 +4,10 @@ ghost use Rattle.std.specs.Vec.{vec_capacity};
 ghost use Rattle.std.specs.declared.vec.Vec.{Vec};
 ghost use Rattle.arc_block.specs.Metadata.{IsMetadataAt, IsOnCallers};
 ghost use Rattle.arc_block.specs.Place.{metadata_at};
-ghost use Rattle.arc_block.specs.Steps.{IsPassAt, RefusesTaking, TakesAt};
-ghost use Rattle.arc_block.specs.Window.{IsBoxWhole, IsVecPart};
-ghost use Rattle.arc_block.specs.Writers.{IsWholeWriter, size_at};
+ghost use Rattle.arc_parts.specs.Steps.{IsPassAt, RefusesTaking, TakesAt};
+ghost use Rattle.arc_parts.specs.Window.{IsBoxWhole, IsVecPart};
+ghost use Rattle.arc_parts.specs.Writers.{IsWholeWriter};
+ghost use Rattle.arc_block.specs.Place.{size_at};
 ghost use Rattle.arc_read.specs.Steps.{WithNewPass};
 
 use crate::slice_mut::ArcSliceMut;

@@ -1,6 +1,6 @@
 use Rattle.std.proofs.Common.{length, subst}
 use Rattle.arc_buffer.specs.Slice.{IsEdge}
-use Rattle.arc_block.specs.Window.{Window}
+use Rattle.arc_parts.specs.Window.{Window}
 use Rattle.arc_read.proofs.Cuts.{both_edges}
 use Rattle.arc_read.proofs.slice.ArcSlice.has_edges.Goals as goal
 

@@ -1,6 +1,6 @@
 use Rattle.std.proofs.Common.{◌≡◌, ◌≤◌, ◌+◌, ℕ, subst}
 use Rattle.arc_buffer.specs.Slice.{IsRange, sub}
-use Rattle.arc_block.specs.Window.{Window}
+use Rattle.arc_parts.specs.Window.{Window}
 use Rattle.arc_read.proofs.Cuts.{part_legal, part_cuts}
 use Rattle.arc_read.proofs.slice.ArcSlice.has_part.Goals as goal
 

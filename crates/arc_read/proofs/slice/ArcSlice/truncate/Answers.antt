@@ -2,7 +2,7 @@
 use Rattle.std.proofs.Common.{◌<◌, length, sym, ap, subst, arith}
 use Rattle.arc_buffer.specs.Slice.{IsEdge}
 use Rattle.arc_block.specs.LayoutFacts.{layout_facts}
-use Rattle.arc_block.specs.Window.{Window}
+use Rattle.arc_parts.specs.Window.{Window}
 use Rattle.arc_read.proofs.Cuts.{keeps}
 use Rattle.arc_read.proofs.slice.ArcSlice.truncate.Goals as goal
 

@@ -1,6 +1,6 @@
 -- Until an attempt succeeds, the pass is the one that was passed.
 use Rattle.std.proofs.Common.{IfOk, IfErr, refl, sym, ◌∙◌, subst}
-use Rattle.arc_block.specs.Steps.{IsPassAt, Shares, Refuses}
+use Rattle.arc_parts.specs.Steps.{IsPassAt, Shares, Refuses}
 use Rattle.arc_read.proofs.slice.ArcSlice.try_clone_as.Goals as goal
 
 pub loop-preserved : goal.loop-preserved

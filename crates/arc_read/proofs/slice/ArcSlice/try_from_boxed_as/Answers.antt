@@ -1,7 +1,7 @@
 -- The vector has the box's items, and a place for each.
 use Rattle.std.proofs.Common.{length, ◌∙◌, ap, subst}
 use Rattle.std.specs.Vec.{vec_capacity}
-use Rattle.arc_block.specs.Steps.{MakesOfVec}
+use Rattle.arc_parts.specs.Steps.{MakesOfVec}
 use Rattle.arc_read.proofs.slice.ArcSlice.try_from_boxed_as.Goals as goal
 
 pub returns-in-Ok-try_from_legal_vec_as-clause-made :

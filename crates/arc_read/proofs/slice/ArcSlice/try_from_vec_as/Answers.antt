@@ -1,7 +1,7 @@
 -- What went in wraps the vector that was asked for.
 use Rattle.std.proofs.Common.{subst}
 use Rattle.std.specs.Vec.{vec_capacity}
-use Rattle.arc_block.specs.Steps.{MakesOfVec}
+use Rattle.arc_parts.specs.Steps.{MakesOfVec}
 use Rattle.arc_read.proofs.slice.ArcSlice.try_from_vec_as.Goals as goal
 
 pub returns-in-Ok-clause-made : goal.returns-in-Ok-clause-made

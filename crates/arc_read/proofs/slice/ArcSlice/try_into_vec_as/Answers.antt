@@ -1,7 +1,7 @@
 -- The vector has the window's list, which is legal.
 use Rattle.std.proofs.Common.{sym, ap, ◌∙◌, subst}
-use Rattle.arc_block.specs.Window.{PartsView}
-use Rattle.arc_block.specs.Writers.{size_at}
+use Rattle.arc_parts.specs.Window.{PartsView}
+use Rattle.arc_block.specs.Place.{size_at}
 use Rattle.arc_read.proofs.slice.ArcSlice.try_into_vec_as.Goals as goal
 
 pub from_inner-requires : goal.from_inner-requires

@@ -2,7 +2,7 @@
 use Rattle.std.proofs.Common.{IfOk, IfErr, refl, sym, ◌∙◌, subst}
 use Rattle.arc_buffer.specs.Slice.{sub}
 use Rattle.arc_block.specs.Place.{part_place}
-use Rattle.arc_block.specs.Steps.{IsPassAt, Shares, Refuses}
+use Rattle.arc_parts.specs.Steps.{IsPassAt, Shares, Refuses}
 use Rattle.arc_read.proofs.Cuts.{slice_of}
 use Rattle.arc_read.proofs.slice.ArcSlice.try_subslice_as.Goals as goal
 

@@ -3,9 +3,9 @@ use Rattle.std.proofs.Common.{◌≡◌, sym, subst, IfOk}
 use Rattle.arc_buffer.specs.Slice.{sub, IsRange}
 use Rattle.arc_block.specs.LayoutFacts.{layout_facts}
 use Rattle.arc_block.specs.Place.{part_place}
-use Rattle.arc_block.specs.Window.{Window}
-use Rattle.arc_block.specs.Steps.{Shares}
-use Rattle.arc_block.proofs.Held.{part_held, shared_held}
+use Rattle.arc_parts.specs.Window.{Window}
+use Rattle.arc_parts.specs.Steps.{Shares}
+use Rattle.arc_parts.proofs.Held.{part_held, shared_held}
 use Rattle.arc_read.proofs.Cuts.{part_legal}
 use Rattle.arc_read.proofs.slice.ArcSlice.try_subslice_once_as.Goals as goal
 

@@ -1,5 +1,6 @@
 -- A number's place is its own while its window is there.
 use Rattle.std.proofs.Common.{◌≡◌, ℕ, ◌<◌, List, None, Some, length, slice_get, slice_index_or}
+use Rattle.std.proofs.Common.{is_some, true}
 use Rattle.std.proofs.Common.{refl, sym, ap, ◌∙◌, arith, rules}
 use Rattle.std.proofs.lemmas.Option.{same_Some, slice_get_read, slice_get_within}
 use Rattle.std.specs.Option.{option_flatten}
@@ -84,3 +85,14 @@ returns-clause-whose g c =
     at s.numbers.items c.index-place.result.now c.index.result.now
     (omega (arith, c.if-place-len.false, c.len-2.ensures, s.numbers.ok.0)) c.index.ensures
     ∙ ap Some c.if-index-number.false
+
+pub returns-clause-there : goal.returns-clause-there
+returns-clause-there g c =
+    let s = c.args.self.now in
+    let place = c.index-place.result.now in
+    let stands =
+    at s.places.items place c.index-2.result.now
+    (omega (arith, c.if-place-len.false, c.len-2.ensures, s.numbers.ok.0, c.requires.many))
+    c.index-2.ensures in
+    let held : is_some c.index-2.result.now ≡ true = search rules in
+    ap (λ x. is_some (option_flatten x)) stands ∙ held

@@ -21,4 +21,5 @@ returns g c next i =
     subst (λ n. Answers (setting g) next (command.Len i) s passes (reply.Number n) (Some s) None passes)
     (sym c.len.ensures)
     (counted (setting g) next s passes i
-    (for-each (setting g) next s passes c.known_role.ensures (command.Len i) refl (λ n. refl) refl))
+    (for-each (setting g) next s passes c.known_role.ensures (command.Len i) refl (λ n. refl)
+    (λ n. refl) refl))

@@ -22,7 +22,7 @@ returns-in-Ok g c next i =
     let s = c.args.self in
     let slot = c.in-Ok.slot in
     let after = c.try_freeze.new.passes.of_blocks.items in
-    let writes = sym c.is_written.ensures.answer ∙ c.if-not-is_written.false in
+    let writes = sym c.is_writer.ensures ∙ c.if-not-is_writer.false in
     subst (λ ps. Answers (setting g) next (command.Freeze i) s ps reply.Ok (Some slot) None after)
     c.reserve_for.ensures.items
     (froze (setting g) next s c.reserve_for.new.self.of_blocks.items writes i slot after
@@ -33,7 +33,7 @@ returns-in-Err g c next i =
     let s = c.args.self in
     let after = c.try_freeze.new.passes.of_blocks.items in
     let passes = c.args.passes.now.of_blocks.items in
-    let writes = sym c.is_written.ensures.answer ∙ c.if-not-is_written.false in
+    let writes = sym c.is_writer.ensures ∙ c.if-not-is_writer.false in
     subst (λ x. Answers (setting g) next (command.Freeze i) s passes reply.Refused (Some x) None after)
     (sym c.in-Err.ensures.back.0)
     (subst (λ ps. Answers (setting g) next (command.Freeze i) s passes reply.Refused (Some s) None ps)
@@ -44,7 +44,7 @@ pub returns-then-is_err : goal.returns-then-is_err
 returns-then-is_err g c next i =
     let s = c.args.self in
     let passes = c.args.passes.now.of_blocks.items in
-    let writes = sym c.is_written.ensures.answer ∙ c.if-not-is_written.false in
+    let writes = sym c.is_writer.ensures ∙ c.if-not-is_writer.false in
     let begins =
     an_error c.reserve_for.result (sym c.is_err.ensures.value ∙ c.if-is_err.true)
     c.reserve_for.ensures.refused in

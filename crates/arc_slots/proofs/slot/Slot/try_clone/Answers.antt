@@ -25,6 +25,7 @@ invariant_of-result g c =
       shares-fits c.lend-pass.result c.clone_window-made.new.pass b w.place made.place
           c.self.invariant.0 c.in-Ok.ensures.place,
       c.in-Ok.ensures.fits,
+      c.in-Ok.ensures.shared,
     )
 
 pub returns-in-Err-clause-refused : goal.returns-in-Err-clause-refused

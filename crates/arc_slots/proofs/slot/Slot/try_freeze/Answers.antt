@@ -2,31 +2,36 @@
 use Rattle.arc_block.specs.LayoutFacts.{layout_facts}
 use Rattle.std.proofs.Common.{Some, ◌<◌, length, refl, sym, ap, ◌∙◌, subst}
 use Rattle.std.specs.Vec.{vec_capacity}
-use Rattle.arc_slots.specs.Slots.{stand_of, writer_slot}
+use Rattle.arc_slots.specs.Slots.{held, parts_in, stand_of, window_in}
 use Rattle.arc_slots.specs.Stands.{HasPassFor}
-use Rattle.arc_slots.proofs.Filled.{slot-frozen, slot-numbered, room-to-read, writes-view}
-use Rattle.arc_slots.proofs.Filled.{writes-fits}
-use Rattle.arc_slots.proofs.Slots.{still-number}
+use Rattle.arc_slots.proofs.Filled.{slot-frozen, slot-numbered, room-to-read}
+use Rattle.arc_slots.proofs.Slots.{still-number, window-pass}
 use Rattle.arc_slots.proofs.Taken.{back-same}
 use Rattle.arc_slots.proofs.slot.Slot.try_freeze.Goals as goal
 
+pub freeze_window-requires-clause-pass : goal.freeze_window-requires-clause-pass
+freeze_window-requires-clause-pass g c =
+    let passes = c.args.passes.now.of_blocks.items in
+    window-pass passes c.lend-pass.new.self.of_blocks.items c.lend-pass.result
+    c.self.inside.block (window_in g.S.Small.SmallOf.seen c.self.inside.window).place
+    c.self.invariant.0
+    (subst (λ s. HasPassFor passes (stand_of (Some s))) (sym c.self.view_is) c.requires.pass)
+    c.lend-pass.ensures.taken
+
 pub keep-block-requires-clause-number : goal.keep-block-requires-clause-number
 keep-block-requires-clause-number g c =
-    let b = c.self.inside.block in
-    let w = c.in-Write.window in
-    let h = c.self.inside.window in
     let passes = c.args.passes.now.of_blocks.items in
-    still-number passes c.lend-pass.new.self.of_blocks.items c.lend-pass.result b w.place
-    (writes-fits g.S.Small.SmallOf.seen h w b c.in-Write.is c.self.invariant.0)
-    (subst (λ s. HasPassFor passes (stand_of (Some s)))
-    (sym (sym (writes-view g.S.Small.SmallOf.seen h w b c.in-Write.is) ∙ c.self.view_is)) c.requires.pass)
+    still-number passes c.lend-pass.new.self.of_blocks.items c.lend-pass.result
+    c.self.inside.block (window_in g.S.Small.SmallOf.seen c.self.inside.window).place
+    c.self.invariant.0
+    (subst (λ s. HasPassFor passes (stand_of (Some s))) (sym c.self.view_is) c.requires.pass)
     c.lend-pass.ensures.taken
 
 pub keep-block-requires-clause-room : goal.keep-block-requires-clause-room
 keep-block-requires-clause-room g c begins =
-    room-to-read g.S.Small.SmallOf.seen c.self.inside.window c.in-Write.window c.self.inside.block c.in-Write.is c.args.self
-    c.self.view_is c.self.invariant.0 (layout_facts g.L.Layout)
-    c.known_place.ensures c.args.passes.now.of_blocks.items
+    room-to-read (parts_in g.S.Small.SmallOf.seen c.self.inside.window) c.self.inside.block
+    c.args.self c.self.view_is c.self.invariant.0 (layout_facts g.L.Layout)
+    c.in-Ok.ensures.writer c.args.passes.now.of_blocks.items
     c.lend-pass.new.self.of_blocks.items c.lend-pass.result
     (vec_capacity c.lend-pass.new.self.of_blocks) c.lend-pass.ensures.taken (λ new.
     subst (λ n. length c.args.passes.now.of_blocks.items < n) (sym c.lend-pass.ensures.room)
@@ -35,47 +40,43 @@ keep-block-requires-clause-room g c begins =
 
 pub returns-in-Ok-clause-frozen : goal.returns-in-Ok-clause-frozen
 returns-in-Ok-clause-frozen g c =
-    slot-frozen g.S.Small.SmallOf.seen c.self.inside.window c.in-Write.window c.self.inside.block c.in-Write.is c.args.self
-    c.self.view_is c.self.invariant.0 (layout_facts g.L.Layout)
-    c.known_place.ensures g.S.Slice.DROPS
+    slot-frozen (parts_in g.S.Small.SmallOf.seen c.self.inside.window) c.self.inside.block
+    c.args.self c.self.view_is c.self.invariant.0 (layout_facts g.L.Layout)
+    c.in-Ok.ensures.writer g.S.Slice.DROPS
     c.args.passes.now.of_blocks.items c.lend-pass.new.self.of_blocks.items c.lend-pass.result
-    c.try_freeze_as.new.pass c.in-Ok.window c.keep-block.result
-    c.keep-block.new.self.of_blocks.items c.wants_block_to_read-begins.result c.lend-pass.ensures.taken
-    c.in-Ok.ensures.frozen c.wants_block_to_read-begins.ensures c.keep-block.ensures.same
-    c.keep-block.ensures.new
+    c.freeze_window.new.pass c.in-Ok.window c.keep-block.result
+    c.keep-block.new.self.of_blocks.items c.wants_block_to_read-begins.result
+    c.lend-pass.ensures.taken c.in-Ok.ensures.frozen c.wants_block_to_read-begins.ensures
+    c.keep-block.ensures.same c.keep-block.ensures.new
 
 pub give_back-requires : goal.give_back-requires
 give_back-requires g c =
-    let b = c.self.inside.block in
-    let w = c.in-Write.window in
-    let h = c.self.inside.window in
     let passes = c.args.passes.now.of_blocks.items in
-    still-number passes c.lend-pass.new.self.of_blocks.items c.lend-pass.result b w.place
-    (writes-fits g.S.Small.SmallOf.seen h w b c.in-Write.is c.self.invariant.0)
-    (subst (λ s. HasPassFor passes (stand_of (Some s)))
-    (sym (sym (writes-view g.S.Small.SmallOf.seen h w b c.in-Write.is) ∙ c.self.view_is)) c.requires.pass)
+    still-number passes c.lend-pass.new.self.of_blocks.items c.lend-pass.result
+    c.self.inside.block (window_in g.S.Small.SmallOf.seen c.self.inside.window).place
+    c.self.invariant.0
+    (subst (λ s. HasPassFor passes (stand_of (Some s))) (sym c.self.view_is) c.requires.pass)
     c.lend-pass.ensures.taken
 
 pub returns-in-Err-clause-back : goal.returns-in-Err-clause-back
-returns-in-Err-clause-back g c =
-    let b = c.self.inside.block in
-    let w = c.in-Write.window in (
-      ap (λ u. writer_slot u b) c.in-Err.ensures.refused.0
-          ∙ sym (writes-view g.S.Small.SmallOf.seen c.self.inside.window w b c.in-Write.is) ∙ c.self.view_is,
-      c.give_back.ensures
-          ∙ back-same c.args.passes.now.of_blocks.items c.lend-pass.new.self.of_blocks.items
-          c.lend-pass.result b c.lend-pass.ensures.taken c.try_freeze_as.new.pass
-          c.in-Err.ensures.refused.2,
-    )
+returns-in-Err-clause-back g c = (
+  ap (λ h. held g.S.Small.SmallOf.seen h c.self.inside.block) c.in-Err.ensures.back
+      ∙ c.self.view_is,
+  c.give_back.ensures
+      ∙ back-same c.args.passes.now.of_blocks.items c.lend-pass.new.self.of_blocks.items
+      c.lend-pass.result c.self.inside.block c.lend-pass.ensures.taken
+      c.freeze_window.new.pass c.in-Err.ensures.kept,
+)
 
 pub invariant_of-result : goal.invariant_of-result
 invariant_of-result g c = (
-  slot-numbered g.S.Small.SmallOf.seen c.self.inside.window c.in-Write.window c.self.inside.block
-      c.in-Write.is c.args.self c.self.view_is c.self.invariant.0 (layout_facts g.L.Layout)
-      c.known_place.ensures g.S.Slice.DROPS c.lend-pass.new.self.of_blocks.items
-      c.lend-pass.result c.try_freeze_as.new.pass c.in-Ok.window c.keep-block.result
+  slot-numbered (parts_in g.S.Small.SmallOf.seen c.self.inside.window) c.self.inside.block
+      c.args.self c.self.view_is c.self.invariant.0 (layout_facts g.L.Layout)
+      c.in-Ok.ensures.writer g.S.Slice.DROPS c.lend-pass.new.self.of_blocks.items
+      c.lend-pass.result c.freeze_window.new.pass c.in-Ok.window c.keep-block.result
       c.keep-block.new.self.of_blocks.items c.wants_block_to_read-begins.result
       c.in-Ok.ensures.frozen c.wants_block_to_read-begins.ensures c.keep-block.ensures.same
       c.keep-block.ensures.new,
+  refl,
   refl,
 )

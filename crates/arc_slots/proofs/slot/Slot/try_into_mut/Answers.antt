@@ -1,7 +1,7 @@
 -- What asking adds to the pass that was lent for it, it adds to the passes.
 use Rattle.std.proofs.Common.{◌≡◌, Some, true, false, is_some, length, sym, ap, subst, ◌∙◌}
-use Rattle.arc_block.specs.Window.{PartsView}
-use Rattle.arc_block.specs.Writers.{as_sole}
+use Rattle.arc_parts.specs.Window.{PartsView}
+use Rattle.arc_parts.specs.Writers.{as_sole}
 use Rattle.arc_commands.specs.Changes.{is_on_block, is_writable_at, may_write_at}
 use Rattle.arc_slots.specs.Calls.{MayAsk}
 use Rattle.arc_slots.specs.Slots.{SlotView, row_of, stand_of, writer_slot}

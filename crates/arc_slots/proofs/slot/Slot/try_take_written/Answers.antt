@@ -1,6 +1,6 @@
 -- What is taken out by the pass that was lent for it is taken out of the table.
 use Rattle.std.proofs.Common.{◌≡◌, true, sym, ap, ◌∙◌}
-use Rattle.arc_block.specs.Window.{PartsView, window_of}
+use Rattle.arc_parts.specs.Window.{PartsView, window_of}
 use Rattle.arc_slots.specs.Slots.{SlotView, writer_slot}
 use Rattle.arc_slots.specs.Stands.{is_numbered}
 use Rattle.arc_slots.specs.Taking.{can_have, CanHave}

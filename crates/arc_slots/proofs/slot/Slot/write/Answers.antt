@@ -1,8 +1,8 @@
 -- What is written becomes the slot's, and a first block's pass one of the passes.
-use Rattle.std.proofs.Common.{Some, ◌≡◌, ◌<◌, length, ℕ, if◌then◌else◌, ◌==◌, sym, ap, ◌∙◌, subst}
+use Rattle.std.proofs.Common.{refl, Some, ◌≡◌, ◌<◌, length, ℕ, if◌then◌else◌, ◌==◌, sym, ap, ◌∙◌, subst}
 use Rattle.std.specs.Mem.{type_size}
 use Rattle.std.specs.Vec.{vec_capacity}
-use Rattle.arc_block.specs.Writers.{room}
+use Rattle.arc_parts.specs.Writers.{room}
 use Rattle.arc_slots.specs.Slots.{row_of, stand_of}
 use Rattle.arc_slots.specs.Stands.{HasPassFor}
 use Rattle.arc_slots.specs.Writing.{is_fresh, additional_of, items_of, seen_writing}
@@ -54,7 +54,7 @@ keep-self-inside-requires-clause-room g c begins =
     let wants = c.wants_block-begins.ensures ∙ fresh-is g
     (goal.at.keep-self-inside-requires-clause-room g c).After-additional in
     room-for-pass g.S.Small.SmallOf.seen c.self.inside.window c.in-Write.window c.self.inside.block c.in-Write.is
-    c.args.self.now c.self.view_is c.self.invariant g.S.Slice.DROPS (first g)
+    c.args.self.now c.self.view_is (c.self.invariant.0, c.self.invariant.1) g.S.Slice.DROPS (first g)
     (type_size g.row.S-Item) (additional_of (seen_writing c.args.what)) (items_of (seen_writing c.args.what)) c.args.passes.now.of_blocks.items
     c.lend-pass.new.self.of_blocks.items c.lend-pass.result
     c.write_as.new.pass c.lend-pass.ensures.taken (vec_capacity c.lend-pass.new.self.of_blocks)
@@ -67,21 +67,21 @@ invariant_of-self g c =
     (goal.at.invariant_of-self g c).After-additional in
     let all =
     slot-fills g.S.Small.SmallOf.seen c.self.inside.window c.in-Write.window c.self.inside.block c.in-Write.is
-    c.args.self.now c.self.view_is c.self.invariant g.S.Slice.DROPS (first g)
+    c.args.self.now c.self.view_is (c.self.invariant.0, c.self.invariant.1) g.S.Slice.DROPS (first g)
     (type_size g.row.S-Item) (additional_of (seen_writing c.args.what)) (items_of (seen_writing c.args.what)) c.args.passes.now.of_blocks.items
     c.lend-pass.new.self.of_blocks.items c.lend-pass.result
     c.write_as.new.pass c.lend-pass.ensures.taken c.write_as.new.window c.keep-self-inside.result
     c.keep-self-inside.new.self.of_blocks.items c.in-Ok.ensures.written
     (λ old. c.keep-self-inside.ensures.same (wants ∙ old))
     (λ fresh. c.keep-self-inside.ensures.new (wants ∙ fresh)) in
-    (all.1, all.2)
+    (all.1, all.2, refl)
 
 pub returns-in-Ok : goal.returns-in-Ok
 returns-in-Ok g c =
     let wants = c.wants_block-begins.ensures ∙ fresh-is g
     (goal.at.returns-in-Ok g c).After-additional in
     (slot-fills g.S.Small.SmallOf.seen c.self.inside.window c.in-Write.window c.self.inside.block c.in-Write.is
-    c.args.self.now c.self.view_is c.self.invariant g.S.Slice.DROPS (first g)
+    c.args.self.now c.self.view_is (c.self.invariant.0, c.self.invariant.1) g.S.Slice.DROPS (first g)
     (type_size g.row.S-Item) (additional_of (seen_writing c.args.what)) (items_of (seen_writing c.args.what)) c.args.passes.now.of_blocks.items
     c.lend-pass.new.self.of_blocks.items c.lend-pass.result
     c.write_as.new.pass c.lend-pass.ensures.taken c.write_as.new.window c.keep-self-inside.result
@@ -93,17 +93,17 @@ pub invariant_of-self-in-Err : goal.invariant_of-self-in-Err
 invariant_of-self-in-Err g c =
     let all =
     slot-unfilled g.S.Small.SmallOf.seen c.self.inside.window c.in-Write.window c.self.inside.block c.in-Write.is
-    c.args.self.now c.self.view_is c.self.invariant g.S.Slice.DROPS (first g)
+    c.args.self.now c.self.view_is (c.self.invariant.0, c.self.invariant.1) g.S.Slice.DROPS (first g)
     (type_size g.row.S-Item) (additional_of (seen_writing c.args.what)) (items_of (seen_writing c.args.what)) c.args.passes.now.of_blocks.items
     c.lend-pass.new.self.of_blocks.items c.lend-pass.result
     c.write_as.new.pass c.lend-pass.ensures.taken c.in-Err.e c.write_as.new.window
     c.give_back.new.self.of_blocks.items c.in-Err.ensures.refused c.give_back.ensures in
-    (all.1, all.2)
+    (all.1, all.2, refl)
 
 pub returns-in-Err : goal.returns-in-Err
 returns-in-Err g c =
     (slot-unfilled g.S.Small.SmallOf.seen c.self.inside.window c.in-Write.window c.self.inside.block c.in-Write.is
-    c.args.self.now c.self.view_is c.self.invariant g.S.Slice.DROPS (first g)
+    c.args.self.now c.self.view_is (c.self.invariant.0, c.self.invariant.1) g.S.Slice.DROPS (first g)
     (type_size g.row.S-Item) (additional_of (seen_writing c.args.what)) (items_of (seen_writing c.args.what)) c.args.passes.now.of_blocks.items
     c.lend-pass.new.self.of_blocks.items c.lend-pass.result
     c.write_as.new.pass c.lend-pass.ensures.taken c.in-Err.e c.write_as.new.window

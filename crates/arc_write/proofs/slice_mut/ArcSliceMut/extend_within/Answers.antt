@@ -1,6 +1,6 @@
 use Rattle.std.proofs.Common.{sym, ap, ◌∙◌}
 use Rattle.arc_block.specs.LayoutFacts.{layout_facts}
-use Rattle.arc_block.specs.Writers.{with_more}
+use Rattle.arc_parts.specs.Writers.{with_more}
 use Rattle.arc_write.proofs.Held.{more_held}
 use Rattle.arc_write.proofs.HeldSeveral.{more_uncounted}
 use Rattle.arc_write.proofs.Parts.{held_as, seen_as}

@@ -1,5 +1,5 @@
 use Rattle.std.proofs.Common.{◌≡◌, replicate}
-use Rattle.arc_block.specs.Writers.{with_more}
+use Rattle.arc_parts.specs.Writers.{with_more}
 use Rattle.arc_write.proofs.slice_mut.ArcSliceMut.fill.Given as goal
 
 abbrev pub invariant-loop : goal.invariant-loop

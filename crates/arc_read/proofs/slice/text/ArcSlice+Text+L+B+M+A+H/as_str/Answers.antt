@@ -2,7 +2,7 @@
 use Rattle.std.proofs.Common.{ℕ, ap, sym, ◌∙◌, subst}
 use Rattle.std.specs.Str.{IsUtf8}
 use Rattle.std.proofs.lemmas.Str.{IsUtf8-had}
-use Rattle.arc_block.specs.Window.{Window}
+use Rattle.arc_parts.specs.Window.{Window}
 use Rattle.arc_read.proofs.slice.text.ArcSlice+Text+L+B+M+A+H.as_str.Goals as goal
 
 pub from_utf8_unchecked-requires : goal.from_utf8_unchecked-requires

@@ -1,6 +1,6 @@
 use Rattle.std.proofs.Common.{ap, ◌∙◌}
 use Rattle.bytes.specs.Adapters.{kept_spare}
-use Rattle.arc_block.specs.Window.{PartsView}
+use Rattle.arc_parts.specs.Window.{PartsView}
 use Rattle.arc_write.specs.Within.{spare_places}
 use Rattle.arc_write.proofs.ReadParts.{spare_advanced}
 use Rattle.arc_write.proofs.adapters.buf.ArcSliceMutByteTextBuf.advance.Goals as goal

@@ -1,8 +1,8 @@
 use Rattle.std.proofs.Common.{sym, ap, ◌∙◌, subst}
 use Rattle.arc_buffer.specs.Slice.{IsEdge}
 use Rattle.arc_block.specs.LayoutFacts.{layout_facts}
-use Rattle.arc_block.specs.Window.{PartsView}
-use Rattle.arc_block.specs.Writers.{after_advance}
+use Rattle.arc_parts.specs.Window.{PartsView}
+use Rattle.arc_parts.specs.Writers.{after_advance}
 use Rattle.arc_write.proofs.Held.{advanced_held}
 use Rattle.arc_write.proofs.Legal.{advanced_legal}
 use Rattle.arc_write.proofs.Parts.{held_as, seen_as}

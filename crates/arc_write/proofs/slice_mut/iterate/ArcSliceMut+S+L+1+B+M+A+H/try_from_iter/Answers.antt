@@ -1,7 +1,7 @@
 -- The window that is extended stands on nothing.
 use Rattle.std.proofs.Common.{◌≡◌, ◌++◌, subst}
 use Rattle.std.specs.Mem.{type_size}
-use Rattle.arc_block.specs.Window.{PartsView}
+use Rattle.arc_parts.specs.Window.{PartsView}
 use Rattle.arc_write.specs.Extend.{PushesEach}
 use Rattle.arc_write.proofs.slice_mut.iterate.ArcSliceMut+S+L+1+B+M+A+H.try_from_iter.Goals as goal
 

@@ -1,6 +1,6 @@
 -- Where a writer may be split, by the place's three cases.
 use Rattle.std.proofs.Common.{arith, refl}
-use Rattle.arc_block.specs.Writers.{capacity_of}
+use Rattle.arc_parts.specs.Writers.{capacity_of}
 use Rattle.arc_write.proofs.ReadParts.{split_answer_behind, split_behind, split_inside}
 use Rattle.arc_write.proofs.slice_mut.read.ArcSliceMut+S+L+1+B+M+A+H.check_split_off.Goals as goal
 

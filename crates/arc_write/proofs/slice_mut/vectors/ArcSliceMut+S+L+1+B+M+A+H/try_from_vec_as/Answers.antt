@@ -2,7 +2,7 @@
 use Rattle.std.proofs.Common.{subst}
 use Rattle.std.specs.Vec.{vec_capacity}
 use Rattle.arc_block.specs.Block.{vector}
-use Rattle.arc_block.specs.Writers.{MakesWriterOver}
+use Rattle.arc_parts.specs.Writers.{MakesWriterOver}
 use Rattle.arc_write.proofs.slice_mut.vectors.ArcSliceMut+S+L+1+B+M+A+H.try_from_vec_as.Goals as goal
 
 pub returns-in-Ok-clause-made : goal.returns-in-Ok-clause-made

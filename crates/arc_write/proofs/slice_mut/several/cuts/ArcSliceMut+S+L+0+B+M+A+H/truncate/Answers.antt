@@ -1,8 +1,8 @@
 use Rattle.std.proofs.Common.{◌≡◌, ◌<◌, false, length, sym, ap, ◌∙◌, subst}
 use Rattle.arc_buffer.specs.Slice.{IsEdge}
 use Rattle.arc_block.specs.LayoutFacts.{layout_facts}
-use Rattle.arc_block.specs.Window.{PartsView}
-use Rattle.arc_block.specs.Writers.{after_truncate}
+use Rattle.arc_parts.specs.Window.{PartsView}
+use Rattle.arc_parts.specs.Writers.{after_truncate}
 use Rattle.arc_write.proofs.Held.{truncated_held}
 use Rattle.arc_write.proofs.Legal.{truncated_legal}
 use Rattle.arc_write.proofs.Parts.{held_as, seen_as}

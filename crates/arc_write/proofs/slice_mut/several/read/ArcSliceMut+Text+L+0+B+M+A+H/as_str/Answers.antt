@@ -1,7 +1,7 @@
 use Rattle.std.proofs.Common.{ℕ, ap, sym, ◌∙◌, subst}
 use Rattle.std.specs.Str.{IsUtf8}
 use Rattle.std.proofs.lemmas.Str.{IsUtf8-had}
-use Rattle.arc_block.specs.Window.{PartsView}
+use Rattle.arc_parts.specs.Window.{PartsView}
 use Rattle.arc_write.proofs.slice_mut.several.read.ArcSliceMut+Text+L+0+B+M+A+H.as_str.Goals as goal
 
 pub from_utf8_unchecked-requires : goal.from_utf8_unchecked-requires

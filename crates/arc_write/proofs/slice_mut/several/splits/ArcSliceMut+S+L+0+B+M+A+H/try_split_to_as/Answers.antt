@@ -1,8 +1,8 @@
 use Rattle.std.proofs.Common.{◌≡◌, ℕ, refl, sym, subst}
 use Rattle.arc_block.specs.LayoutFacts.{layout_facts}
-use Rattle.arc_block.specs.Shared.{CanSplit}
-use Rattle.arc_block.specs.Window.{PartsView, IsBlockHeld}
-use Rattle.arc_block.specs.Writers.{capacity_of}
+use Rattle.arc_parts.specs.Shared.{CanSplit}
+use Rattle.arc_parts.specs.Window.{PartsView, IsBlockHeld}
+use Rattle.arc_parts.specs.Writers.{capacity_of}
 use Rattle.arc_write.proofs.HeldSeveral.{split_to_held}
 use Rattle.arc_write.proofs.LegalSeveral.{split_to_legal}
 use Rattle.arc_write.proofs.Parts.{held_as, seen_as}

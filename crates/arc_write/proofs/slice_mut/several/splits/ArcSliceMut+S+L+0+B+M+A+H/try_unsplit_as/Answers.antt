@@ -1,8 +1,8 @@
 use Rattle.std.proofs.Common.{◌≡◌, ℕ, refl, sym, subst}
 use Rattle.arc_block.specs.LayoutFacts.{layout_facts}
-use Rattle.arc_block.specs.Shared.{IsOneBlock}
-use Rattle.arc_block.specs.Steps.{IsPassAt}
-use Rattle.arc_block.specs.Window.{PartsView, IsBlockHeld}
+use Rattle.arc_parts.specs.Shared.{IsOneBlock}
+use Rattle.arc_parts.specs.Steps.{IsPassAt}
+use Rattle.arc_parts.specs.Window.{PartsView, IsBlockHeld}
 use Rattle.arc_write.proofs.LegalSeveral.{joined_legal}
 use Rattle.arc_write.proofs.Parts.{held_as, seen_as}
 use Rattle.arc_write.proofs.slice_mut.several.splits.ArcSliceMut+S+L+0+B+M+A+H.try_unsplit_as.Goals as goal

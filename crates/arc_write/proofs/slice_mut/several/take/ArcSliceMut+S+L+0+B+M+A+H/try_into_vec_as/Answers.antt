@@ -1,7 +1,7 @@
 -- The vector has the places of the window's block.
 use Rattle.std.proofs.Common.{ap, ◌∙◌}
-use Rattle.arc_block.specs.Window.{PartsView}
-use Rattle.arc_block.specs.Writers.{size_at}
+use Rattle.arc_parts.specs.Window.{PartsView}
+use Rattle.arc_block.specs.Place.{size_at}
 use Rattle.arc_write.proofs.slice_mut.several.take.ArcSliceMut+S+L+0+B+M+A+H.try_into_vec_as.Goals as goal
 
 pub returns-in-Ok-clause-places : goal.returns-in-Ok-clause-places

@@ -1,8 +1,0 @@
--- A reader of the writer's items.
-use Rattle.arc_block.proofs.Frozen.{frozen_several}
-use Rattle.arc_block.proofs.parts.shared.SharedParts.freeze_several.Goals as goal
-
-pub returns : goal.returns
-returns g c =
-    frozen_several g.S.Slice.DROPS c.args.writer c.freeze.result c.start-start.result c.len.result
-    c.requires c.freeze.ensures c.start-start.ensures.start c.len.ensures

@@ -1,9 +1,0 @@
--- Room leads to no caller's buffer.
-use Rattle.arc_block.proofs.Rooms.{no_buffer_room}
-use Rattle.arc_block.proofs.parts.shared.SharedParts.room_alone_as.Goals as goal
-
-pub into_shared_memory-requires-clause-place : goal.into_shared_memory-requires-clause-place
-into_shared_memory-requires-clause-place g c =
-    no_buffer_room g.S.Slice.DROPS g.H.Mark.whole _ c.args.sole c.try_reserve_as-made.new.self
-    c.args.pass.now c.try_reserve_as-made.new.pass c.try_reserve_as-made.result
-    c.try_reserve_as-made.ensures.room c.requires.place

@@ -1,0 +1,6 @@
+pub mod NativeWindows
+pub mod Windows
+pub mod Raws
+pub mod Held
+pub mod Moves
+pub mod More

@@ -1,0 +1,81 @@
+-- Parts that stand on an `Arc` that is a block by itself.
+use Rattle.std.proofs.Common.{◌≡◌, ℕ, ◌+◌, ◌-◌, ◌≤◌, ◌==◌, ◌&&◌, Bool, false, if◌then◌else◌, List, length}
+use Rattle.std.proofs.Common.{Option, Some, None, refl, sym, ap, ◌∙◌, subst, arith}
+use Rattle.std.proofs.lemmas.Option.{same_Some}
+use Rattle.arc_owners.specs.declared.count.tokens.Pass.{Pass}
+use Rattle.arc_owners.specs.declared.error.OwnerError.TheVariants.{AllocError}
+use Rattle.arc_owners.specs.count.Calls.{Owner}
+use Rattle.arc_buffer.specs.Slice.{sub}
+use Rattle.arc_buffer.proofs.Sub.{sub-sub, sub-whole, length-sub}
+use Rattle.arc_block.specs.Block.{Sort, BlockView, raw, raw_info, raw_block}
+use Rattle.arc_block.specs.Layouts.{LayoutFacts}
+use Rattle.arc_block.specs.Place.{Place, nowhere, on_block, part_place, owned_by}
+use Rattle.arc_parts.specs.declared.storage.Storage.TheVariants.{Block, Raw}
+use Rattle.arc_parts.specs.Window.{PartsView, StandsBy, parts_of, window_seen, IsWithin, IsHeld, IsAllFull, IsRawWhole}
+use Rattle.arc_parts.specs.Steps.{Refuses}
+
+module _ {T M : Type 0} (inner : StandsBy T M) (from to : ℕ) (p : PartsView T M) (all : List T)
+    (view : parts_of (window_seen inner from to) ≡ p) (is : inner ≡ Raw all)
+    (within : IsWithin inner from to) where
+  inside_raw : IsWithin {T = T} {M = M} (Raw all) from to
+  inside_raw = subst (λ x. IsWithin x from to) is within
+
+  on_raw_seen : p ≡ parts_of (window_seen (Raw all) from to)
+  on_raw_seen = sym view ∙ ap (λ x. parts_of (window_seen x from to)) is
+
+  in_raw : length p.items ≡ to - from
+  in_raw =
+      ap (λ (v : PartsView T M). length v.items) on_raw_seen
+      ∙ length-sub all from to inside_raw.0 inside_raw.1
+
+  module _ (start end : ℕ) (ordered : start ≤ end) (inside : end ≤ length p.items) where
+    -- a part has the items of the part
+    pub raw_items : (items : List T) → items ≡ all
+        → sub items (from + start) (from + end) ≡ sub p.items start end
+    raw_items items same =
+        ap (λ xs. sub xs (from + start) (from + end)) same
+        ∙ sym (sub-sub all from to start end (omega (arith, inside, in_raw, inside_raw.0)))
+        ∙ ap (λ (v : PartsView T M). sub v.items start end) (sym on_raw_seen)
+
+    -- where the `Arc` refuses to be cloned, the layout's clones want memory
+    pub raw_refuses : {H : Type 0} (has_static : Bool) → (has_static && ((end - start) == 0)) ≡ false
+        → (layout : LayoutFacts) → IsHeld layout p.place → (wants : Sort → Bool)
+        → wants raw ≡ layout.by_itself → (old : Pass H)
+        → Refuses wants (part_place has_static (sub p.items start end) start p.place) old old AllocError
+    raw_refuses has_static kept layout held wants told old =
+        let long : length (sub p.items start end) ≡ end - start =
+        length-sub p.items start end ordered inside in
+        let there : Place (Option Owner) M = on_block None (from + start) (raw_info (length all)) in
+        let itself = subst (λ (v : PartsView T M). IsHeld layout v.place) on_raw_seen held in
+        subst (λ place. Refuses wants place old old AllocError)
+        (ap (λ b. if b then nowhere else there)
+        (sym (ap (λ n. has_static && (n == 0)) long ∙ kept))
+        ∙ ap (λ (v : PartsView T M). part_place has_static (sub p.items start end) start v.place)
+        (sym on_raw_seen)) (told ∙ itself, refl)
+
+  -- as many items as the buffer has are all of it
+  pub raw_whole_is_all : IsRawWhole p.items p.place → all ≡ p.items
+  raw_whole_is_all whole =
+      let full = subst (λ (v : PartsView T M). IsAllFull (length p.items) v.place) on_raw_seen
+      whole.whole in
+      let many : length all ≡ to - from = same_Some (length all) (length p.items) full.1 ∙ in_raw in
+      let last : to ≡ length all = omega (arith, many, full.0, inside_raw.0, inside_raw.1) in
+      sym (sub-whole all) ∙ ap (λ n. sub all 0 n) (sym last)
+      ∙ ap (λ n. sub all n to) (sym full.0) ∙ ap (λ (v : PartsView T M). v.items) (sym on_raw_seen)
+
+  -- on a block that counts its owners, and keeps the `Arc`, they are seen as one's
+  pub counted_seen : (b : BlockView T M) (items : List T) → items ≡ all
+      → b ≡ raw_block items b.owner → parts_of (window_seen (Block b) from to) ≡ record {
+        items = p.items;
+        place = owned_by (Some b.owner) p.place;
+        role = p.role;
+      }
+  counted_seen b items same made =
+      let P : PartsView T M → Type 0 = λ v.
+      parts_of (window_seen (Block b) from to) ≡ record {
+        items = v.items;
+        place = owned_by (Some b.owner) v.place;
+        role = v.role;
+      } in
+      subst P (sym on_raw_seen) (ap (λ x. parts_of (window_seen (Block x) from to)) made
+      ∙ ap (λ xs. parts_of (window_seen (Block (raw_block {M = M} xs b.owner)) from to)) same)

@@ -1,0 +1,288 @@
+-- What a window's parts are seen as: over a block, and cut.
+use Rattle.std.proofs.Common.{Fits, Fits-le, ◌≡◌, ℕ, ◌+◌, ◌-◌, ◌≤◌, ◌==◌, ◌&&◌, Bool, true, false, if◌then◌else◌, List, [], ◌∷◌, length, Option, Some, None, refl, sym, ap, ◌∙◌, subst, arith}
+use mir.Syntax.{w64}
+use Rattle.std.proofs.lemmas.Bool.{eqb-true, false≢true}
+use Rattle.std.proofs.lemmas.List.{nil_from_length}
+use Rattle.arc_owners.specs.declared.count.tokens.Pass.{Pass}
+use Rattle.arc_owners.specs.count.Calls.{Owner, IsFirst, MakesAnother, Asks}
+use Rattle.arc_buffer.specs.Slice.{sub}
+use Rattle.arc_buffer.proofs.Sub.{sub-sub, length-sub}
+use Rattle.arc_block.specs.Block.{BlockInfo, BlockView, vector, memory_info, native_facts, raw_info}
+use Rattle.arc_block.specs.declared.block.TheConstants.{MAX_OWNERS}
+use Rattle.arc_block.specs.Place.{Place, nowhere, static_data, on_block, moved, part_place, at_owner}
+use Rattle.arc_block.specs.Natives.{NativeView, native_info}
+use Rattle.arc_block.specs.Table.{reader}
+use Rattle.arc_parts.specs.declared.storage.Storage.TheVariants.{Nothing, Static, Native, Block, Raw}
+use Rattle.arc_parts.specs.Window.{Window, PartsView, StandsBy, NeedsBlock, parts_of, window_of, window_seen, IsWithin}
+use Rattle.arc_parts.specs.Steps.{Shares, Makes, MakesOfVec, NeedsVecBlock, RefusesTaking}
+
+stays : {M : Type 0} (place : Place (Option Owner) M) → moved 0 place ≡ place
+stays nowhere = refl
+stays static_data = refl
+stays (on_block owner offset facts) = let same : offset + 0 ≡ offset = omega arith in ap (λ n. on_block owner n facts) same
+
+-- the part of a part of a native block, by the numbers of its places
+pub part-of-part : {T : Type 0} (b : NativeView T) (from to start end : ℕ) → b.first ≤ from
+    → from + end ≤ to → sub b.items ((from + start) - b.first) ((from + end) - b.first)
+    ≡ sub (sub b.items (from - b.first) (to - b.first)) start end
+part-of-part b from to start end after inside =
+    let first : from - b.first + start ≡ (from + start) - b.first = omega (arith, after) in
+    let last : from - b.first + end ≡ (from + end) - b.first = omega (arith, after) in
+    sym (sub-sub b.items (from - b.first) (to - b.first) start end (omega (arith, inside, after))
+    ∙ ap (λ n. sub b.items n (from - b.first + end)) first
+    ∙ ap (λ n. sub b.items ((from + start) - b.first) n) last)
+
+module _ {T M : Type 0} where
+  -- how many items there are
+  pub how_long : (inner : StandsBy T M) (from to : ℕ) (p : PartsView T M) → parts_of (window_seen inner from to) ≡ p → IsWithin inner from to → from + length p.items ≡ to
+  how_long (Nothing none) from to p view within = omega (arith, ap (λ (v : PartsView T M). length v.items) view, within.0, within.1)
+  how_long (Static items) from to p view within = omega (arith, ap (λ (v : PartsView T M). length v.items) view, length-sub items from to within.0 within.1, within.0)
+  how_long (Native b) from to p view within =
+      let f = within.0.from in let o = within.0.ordered in let t = within.0.to in
+      omega (
+        arith,
+        ap (λ (v : PartsView T M). length v.items) view,
+        length-sub b.items (from - b.first) (to - b.first) (omega (arith, f, o)) (omega (arith, t)),
+        f,
+        o,
+      )
+  how_long (Block b) from to p view within = omega (arith, ap (λ (v : PartsView T M). length v.items) view, length-sub b.items from to within.0 within.1, within.0)
+  how_long (Raw items) from to p view within = omega (arith, ap (λ (v : PartsView T M). length v.items) view, length-sub items from to within.0 within.1, within.0)
+
+  -- places among the items are as small as the end, and so numbers of the code's
+  pub places_fit : (inner : StandsBy T M) (from to : ℕ) (p : PartsView T M)
+      → parts_of (window_seen inner from to) ≡ p → IsWithin inner from to → Fits w64 to
+      → (start end : ℕ) → start ≤ end → end ≤ length p.items
+      → Fits w64 (from + start) × Fits w64 (from + end)
+  places_fit inner from to p view within fits start end ordered inside =
+      let long = how_long inner from to p view within in
+      (Fits-le (omega (arith, long, ordered, inside)) fits, Fits-le (omega (arith, long, inside)) fits)
+
+  -- what is left between two ends lies within the block
+  pub kept_within : (inner : StandsBy T M) (from to start end : ℕ) → IsWithin inner from to → start ≤ end → from + end ≤ to → IsWithin inner (from + start) (from + end)
+  kept_within (Nothing none) from to start end within ordered inside = (omega (arith, within.0, within.1, ordered, inside), omega (arith, within.0, within.1, inside))
+  kept_within (Static items) from to start end within ordered inside = (omega (arith, ordered), omega (arith, inside, within.1))
+  kept_within (Native b) from to start end within ordered inside =
+      let f = within.0.from in let t = within.0.to in (
+        record {
+          from = omega (arith, f);
+          ordered = omega (arith, ordered);
+          to = omega (arith, inside, t);
+        },
+        within.1,
+      )
+  kept_within (Block b) from to start end within ordered inside = (omega (arith, ordered), omega (arith, inside, within.1), within.2)
+  kept_within (Raw items) from to start end within ordered inside = (omega (arith, ordered), omega (arith, inside, within.1))
+
+  -- and is seen as the items between them, that much further in
+  pub kept_seen : (inner : StandsBy T M) (from to start end : ℕ) (p : PartsView T M) → parts_of (window_seen inner from to) ≡ p → IsWithin inner from to → start ≤ end → from + end ≤ to
+      → parts_of (window_seen inner (from + start) (from + end)) ≡ record { items = sub p.items start end; place = moved start p.place; role = p.role }
+  kept_seen (Nothing none) from to start end p view within ordered inside =
+      let nil : List T = [] in
+      let empty : sub nil start end ≡ [] = nil_from_length (sub nil start end) (omega (arith, length-sub nil start end ordered (omega (arith, within.0, within.1, inside)), within.0, within.1, inside)) in
+      let seen : PartsView T M → Type 0 = λ v. parts_of (window_seen {T = T} (Nothing none) (from + start) (from + end)) ≡ record { items = sub v.items start end; place = moved start v.place; role = v.role } in
+      subst seen view (ap (λ xs. record { items = xs; place = nowhere; role = reader }) (sym empty))
+  kept_seen (Static items) from to start end p view within ordered inside =
+      let seen : PartsView T M → Type 0 = λ v. parts_of (window_seen {T = T} (Static items) (from + start) (from + end)) ≡ record { items = sub v.items start end; place = moved start v.place; role = v.role } in
+      subst seen view (ap (λ xs. record { items = xs; place = static_data; role = reader }) (sym (sub-sub items from to start end inside)))
+  kept_seen (Native b) from to start end p view within ordered inside =
+      let seen : PartsView T M → Type 0 = λ v.
+      parts_of (window_seen (Native b) (from + start) (from + end)) ≡ record {
+        items = sub v.items start end;
+        place = moved start v.place;
+        role = v.role;
+      } in
+      let there : Place (Option Owner) M = on_block (Some b.owner) (from + start) (native_info b) in
+      subst seen view (ap (λ xs. record { items = xs; place = there; role = reader })
+      (part-of-part b from to start end within.0.from inside))
+  kept_seen (Block b) from to start end p view within ordered inside =
+      let seen : PartsView T M → Type 0 = λ v. parts_of (window_seen (Block b) (from + start) (from + end)) ≡ record { items = sub v.items start end; place = moved start v.place; role = v.role } in
+      let there : Place (Option Owner) M = on_block (Some b.owner) (from + start) b.facts in
+      subst seen view (ap (λ xs. record { items = xs; place = there; role = reader }) (sym (sub-sub b.items from to start end inside)))
+  kept_seen (Raw items) from to start end p view within ordered inside =
+      let seen : PartsView T M → Type 0 = λ v. parts_of (window_seen {T = T} (Raw items) (from + start) (from + end)) ≡ record { items = sub v.items start end; place = moved start v.place; role = v.role } in
+      let there : Place (Option Owner) M = on_block None (from + start) (raw_info (length items)) in
+      subst seen view (ap (λ xs. record { items = xs; place = there; role = reader }) (sym (sub-sub items from to start end inside)))
+
+-- the block that another owner stands on: its items and what is known of it are the same
+abbrev reowned : {T M : Type 0} → BlockView T M → Owner → BlockView T M
+reowned b other = record { owner = other; items = b.items; facts = b.facts }
+
+as_reowned : {T M : Type 0} (b b' : BlockView T M) → b'.items ≡ b.items → b'.facts ≡ b.facts → reowned b b'.owner ≡ b'
+as_reowned {T} {M} b b' items facts =
+    let f : List T → BlockView T M = λ xs. record { owner = b'.owner; items = xs; facts = b.facts } in
+    let g : BlockInfo M → BlockView T M = λ x. record { owner = b'.owner; items = b'.items; facts = x } in
+    ap f (sym items) ∙ ap g (sym facts)
+
+-- parts that stand on a block b
+module _ {T M : Type 0} (inner : StandsBy T M) (from to : ℕ) (p : PartsView T M) (b : BlockView T M) (view : parts_of (window_seen inner from to) ≡ p) (is : inner ≡ Block b) (within : IsWithin inner from to) where
+  here : IsWithin (Block b) from to
+  here = subst (λ x. IsWithin x from to) is within
+
+  on_block_seen : p ≡ parts_of (window_seen (Block b) from to)
+  on_block_seen = sym view ∙ ap (λ x. parts_of (window_seen x from to)) is
+
+  -- the items are those of the block between the ends
+  pub items_on_block : (items : List T) → items ≡ sub b.items from to → items ≡ p.items
+  items_on_block items read = read ∙ ap (λ (v : PartsView T M). v.items) (sym on_block_seen)
+
+  -- there are as many as lie between the ends
+  pub between : length p.items ≡ to - from
+  between = ap (λ (v : PartsView T M). length v.items) on_block_seen ∙ length-sub b.items from to here.0 here.1
+
+  module _ (has_static : Bool) (start end : ℕ) (ordered : start ≤ end) (inside : end ≤ length p.items) (kept : (has_static && ((end - start) == 0)) ≡ false) where
+    upto : from + end ≤ to
+    upto = omega (arith, inside, between, here.0)
+
+    -- a part of them is seen as a part
+    part_seen : parts_of (window_seen (Block b) (from + start) (from + end)) ≡ record { items = sub p.items start end; place = part_place has_static (sub p.items start end) start p.place; role = reader }
+    part_seen =
+        let parts : sub b.items (from + start) (from + end) ≡ sub (sub b.items from to) start end = sym (sub-sub b.items from to start end upto) in
+        let whole : length (sub b.items from to) ≡ to - from = length-sub b.items from to here.0 here.1 in
+        let long : length (sub (sub b.items from to) start end) ≡ end - start = length-sub (sub b.items from to) start end ordered (omega (arith, inside, between, whole)) in
+        let there : Place (Option Owner) M = on_block (Some b.owner) (from + start) b.facts in
+        let P : PartsView T M → Type 0 = λ v. parts_of (window_seen (Block b) (from + start) (from + end)) ≡ record { items = sub v.items start end; place = part_place has_static (sub v.items start end) start v.place; role = reader } in
+        subst P (sym on_block_seen)
+        (ap (λ xs. record { items = xs; place = there; role = reader }) parts
+        ∙ ap (λ t. record { items = sub (sub b.items from to) start end; place = if t then nowhere else there; role = reader }) (sym (ap (λ n. has_static && (n == 0)) long ∙ kept)))
+
+    -- also as parts of another owner
+    module _ (b' : BlockView T M) (items : b'.items ≡ b.items) (facts : b'.facts ≡ b.facts) where
+      pub part_items : (window_seen (Block b') (from + start) (from + end)).items ≡ sub p.items start end
+      part_items = ap (λ xs. sub xs (from + start) (from + end)) items ∙ ap (λ (v : PartsView T M). v.items) part_seen
+
+      pub part_within : IsWithin (Block b') (from + start) (from + end)
+      part_within =
+          let places = ap (λ (f : BlockInfo M). f.size) facts in
+          let many = ap length items in
+          (omega (arith, ordered), omega (arith, upto, here.1, many), omega (arith, here.2, places, many))
+
+      pub part_shares : {H : Type 0} (old new : Pass H) → MakesAnother b.owner old new b'.owner → Shares (part_place has_static (sub p.items start end) start p.place) old new (window_seen (Block b') (from + start) (from + end)).place
+      part_shares old new makes =
+          let P : Place (Option Owner) M → Type 0 = λ place. Shares place old new (on_block (Some b'.owner) (from + start) b'.facts) in
+          subst P (ap (λ (v : PartsView T M). v.place) part_seen) (b'.owner, makes, ap (λ x. on_block (Some b'.owner) (from + start) x) facts)
+
+  -- they come back where all was as wanted but the count
+  pub taking_refused : {H : Type 0} (b' : BlockView T M) → b' ≡ b → (wanted : Type 0) → wanted → (old new : Pass H) → Asks b.owner old new false
+      → (parts_of (window_seen (Block b') from to) ≡ p) × RefusesTaking wanted p.place old new
+  taking_refused b' same wanted met old new asks = (
+    ap (λ x. parts_of (window_seen (Block x) from to)) same ∙ sym on_block_seen,
+    record {
+      asked = λ _. subst (λ (v : PartsView T M). at_owner v.place ⊥ (λ o. Asks o old new false)) (sym on_block_seen) asks;
+      unasked = λ unmet. absurd (unmet met);
+    },
+  )
+
+-- parts that stand on a static slice
+module _ {T M : Type 0} (inner : StandsBy T M) (from to : ℕ) (p : PartsView T M) (all : List T) (view : parts_of (window_seen inner from to) ≡ p) (is : inner ≡ Static all) (within : IsWithin inner from to) where
+  inside_slice : IsWithin {T = T} {M = M} (Static all) from to
+  inside_slice = subst (λ x. IsWithin x from to) is within
+
+  on_slice_seen : p ≡ parts_of (window_seen (Static all) from to)
+  on_slice_seen = sym view ∙ ap (λ x. parts_of (window_seen x from to)) is
+
+  in_slice : length p.items ≡ to - from
+  in_slice = ap (λ (v : PartsView T M). length v.items) on_slice_seen ∙ length-sub all from to inside_slice.0 inside_slice.1
+
+  -- a part of them
+  module _ (start end : ℕ) (ordered : start ≤ end) (inside : end ≤ length p.items) where
+    pub slice_items : (items : List T) → items ≡ all → sub items (from + start) (from + end) ≡ sub p.items start end
+    slice_items items same =
+        ap (λ xs. sub xs (from + start) (from + end)) same ∙ sym (sub-sub all from to start end (omega (arith, inside, in_slice, inside_slice.0)))
+        ∙ ap (λ (v : PartsView T M). sub v.items start end) (sym on_slice_seen)
+
+    pub slice_within : (items : List T) → items ≡ all
+        → IsWithin {T = T} {M = M} (Static items) (from + start) (from + end)
+    slice_within items same =
+        let many = ap length same in (
+          omega (arith, ordered),
+          omega (arith, inside, in_slice, inside_slice.0, inside_slice.1, many),
+        )
+
+    pub slice_shares : {H : Type 0} (has_static : Bool) (old : Pass H) → (has_static && ((end - start) == 0)) ≡ false
+        → Shares (part_place has_static (sub p.items start end) start p.place) old old static_data
+    slice_shares has_static old kept =
+        let long : length (sub p.items start end) ≡ end - start = length-sub p.items start end ordered inside in
+        let P : Place (Option Owner) M → Type 0 = λ place. Shares place old old static_data in
+        subst P (ap (λ b. if b then nowhere else static_data) (sym (ap (λ n. has_static && (n == 0)) long ∙ kept)) ∙ ap (λ (v : PartsView T M). part_place has_static (sub p.items start end) start v.place) (sym on_slice_seen)) (refl, refl)
+
+both_true : (b : Bool) (n : ℕ) → (b && (n == 0)) ≡ true → n ≡ 0
+both_true true n both = eqb-true n 0 both
+both_true false n both = absurd (false≢true both)
+
+-- a part that the code finds to have no items has none
+pub none_there : {T : Type 0} (has_static : Bool) (xs : List T) (start end : ℕ) → start ≤ end
+    → end ≤ length xs → (has_static && ((end - start) == 0)) ≡ true → [] ≡ sub xs start end
+none_there has_static xs start end ordered inside nothing =
+    let none = both_true has_static (end - start) nothing in
+    sym (nil_from_length (sub xs start end) (length-sub xs start end ordered inside ∙ none))
+
+-- nor has a part of what stands on nothing
+pub none_on_nothing : {T M : Type 0} (inner : StandsBy T M) (from to : ℕ)
+    (p : PartsView T M) (none : List T) → parts_of (window_seen inner from to) ≡ p
+    → inner ≡ Nothing none → (start end : ℕ) → start ≤ end → end ≤ length p.items → [] ≡ sub p.items start end
+none_on_nothing {T} {M} inner from to p none view is start end ordered inside =
+    let empty : p.items ≡ [] =
+    ap (λ (v : PartsView T M). v.items) (sym view ∙ ap (λ x. parts_of (window_seen x from to)) is) in
+    let long = length-sub p.items start end ordered inside in
+    let few = ap length empty in
+    sym (nil_from_length (sub p.items start end) (omega (arith, long, inside, few)))
+
+module _ {T M : Type 0} (has_static drops one_pass : Bool) (items : List T) where
+  -- no items, on nothing
+  pub made_on_nothing : (owner : Owner) → (has_static && (length items == 0)) ≡ true
+      → Makes {M = M} has_static drops one_pass items (record { items = []; place = nowhere })
+  made_on_nothing owner nothing =
+      let empty : items ≡ [] = nil_from_length items (both_true has_static (length items) nothing) in
+      let there : Bool → Place (Option Owner) M = λ b. if b then nowhere else on_block (Some owner) 0 (native_facts drops (length items)) in record {
+        owner = owner;
+        made = ap (λ xs. record { items = xs; place = nowhere }) (sym empty) ∙ ap (λ b. record { items = items; place = there b }) (sym nothing);
+        first = tt;
+      }
+
+-- an owner, for parts that stand on nothing and have none
+pub owner_for : {H : Type 0} → Pass H → Owner
+owner_for p = record { block = p.trace.block; number = 0; born = [] }
+
+-- where a list of no items needs a block, a vector without places does
+pub none_needs : {T : Type 0} (has_static : Bool) (xs : List T) (places : ℕ) → length xs ≡ 0
+    → places ≡ 0 → NeedsBlock has_static xs → NeedsVecBlock has_static places
+none_needs true [] places few none needs = absurd needs
+none_needs true (x ∷ xs) places few none needs = absurd (omega (arith, few))
+none_needs false xs places few none needs = refl
+
+module _ {T M : Type 0} (has_static drops one_pass : Bool) (items : List T) (places : ℕ)
+    (fit : length items ≤ places) where
+  -- a vector without places, as a list of no items
+  pub vec_of_none : places ≡ 0 → (xs : List T) → length xs ≡ 0 → (w : Window T M)
+      → Makes has_static drops one_pass xs w
+      → MakesOfVec has_static drops one_pass items places w
+  vec_of_none zero xs few w made =
+      let none : items ≡ [] = nil_from_length items (omega (arith, fit, zero)) in record {
+        none = λ _. subst (λ ys. Makes has_static drops one_pass ys w)
+            (nil_from_length xs few ∙ sym none) made;
+        some = λ more. absurd (omega (arith, more, zero));
+      }
+
+  -- and on a block with its places
+  pub vec_on_block : (b : BlockView T M)
+      → b ≡ record {
+        owner = b.owner;
+        items = items;
+        facts = memory_info vector drops places (length items);
+      }
+      → IsFirst MAX_OWNERS one_pass b.owner → (places ≡ 0 → ⊥) → (w : PartsView T M)
+      → w ≡ record { items = b.items; place = on_block (Some b.owner) 0 b.facts; role = reader }
+      → MakesOfVec has_static drops one_pass items places (window_of w)
+  vec_on_block b is first many w seen = record {
+    none = λ zero. absurd (many zero);
+    some = λ more. record {
+      owner = b.owner;
+      made = ap window_of seen
+          ∙ ap (λ (x : BlockView T M). record {
+            items = x.items;
+            place = on_block (Some b.owner) 0 x.facts;
+          }) is;
+      first = first;
+    };
+  }

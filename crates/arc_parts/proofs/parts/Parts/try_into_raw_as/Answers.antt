@@ -1,0 +1,21 @@
+-- The same parts come back, over the same block.
+use Rattle.std.proofs.Common.{refl, ◌∙◌}
+use Rattle.arc_parts.specs.Window.{IsRawWhole}
+use Rattle.arc_parts.proofs.Raws.{raw_whole_is_all}
+use Rattle.arc_parts.proofs.Windows.{taking_refused}
+use Rattle.arc_parts.proofs.parts.Parts.try_into_raw_as.Goals as goal
+
+pub returns-in-Err-clause-refused : goal.returns-in-Err-clause-refused
+returns-in-Err-clause-refused g c =
+    taking_refused _ _ _ c.args.self _ c.self.view_is c.in-Block.is c.self.invariant
+    c.in-Err.block c.in-Err.ensures.others.0 (IsRawWhole c.args.self.items c.args.self.place)
+    (c.if-not-is_raw_whole.ensures.0 refl)
+    c.args.pass.now c.try_into_content_as.new.pass c.in-Err.ensures.others.1
+
+pub returns-in-Raw-clause-taken : goal.returns-in-Raw-clause-taken
+returns-in-Raw-clause-taken g c =
+    let whole = c.if-not-is_raw_whole.ensures.0 refl in (
+      whole,
+      c.into_arc.ensures ∙ raw_whole_is_all _ _ _ c.args.self _ c.self.view_is c.in-Raw.is
+          c.self.invariant whole,
+    )

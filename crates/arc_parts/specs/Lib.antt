@@ -1,0 +1,6 @@
+pub mod Window
+pub mod Steps
+pub mod Moves
+pub mod Room
+pub mod Writers
+pub mod Shared

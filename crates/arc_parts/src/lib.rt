@@ -1,0 +1,7 @@
+//! Parts: what a window is made of that is read; and where a writer's room comes from.
+#![tactic(auto)]
+
+pub mod parts;
+pub mod room;
+pub mod shared_buffer;
+pub mod storage;

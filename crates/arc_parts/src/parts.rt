@@ -1,0 +1,344 @@
+//! Parts: what a window is made of, whatever its kind and its layout.
+//!
+//! What all windows have in common stands here once: where a window without items stands, how far
+//! into its block a part begins, and how items and owner are reached. That a list is legal for its
+//! kind, and where it may be cut, is known to the windows alone.
+ghost use Rattle.std.specs.Prelude.{◌≡◌, ◌≤◌, ◌==◌, ◌&&◌, false, length, []};
+ghost use Rattle.std.specs.Prelude.{Some, IfOk, IfErr, OnErr};
+ghost use Rattle.arc_buffer.specs.Slice.{sub};
+ghost use Rattle.arc_owners.specs.count.Calls.{IsFirst, IsFreshPass, IsPassOfNone};
+ghost use Rattle.arc_block.specs.Natives.{made_native};
+ghost use Rattle.arc_block.specs.LayoutFacts.{layout_facts};
+ghost use Rattle.arc_block.specs.Place.{nowhere, static_data, on_block, moved, IsCounted};
+ghost use Rattle.arc_block.specs.Table.{reader};
+ghost use Rattle.arc_parts.specs.Window.{window_of, NeedsBlock, IsHeld};
+ghost use Rattle.arc_parts.specs.Window.{parts_of, window_seen, IsWithin};
+ghost use Rattle.arc_parts.specs.Steps.{Makes, Begins, EndsShownAt};
+
+use crate::shared_buffer::SharedBuffer;
+use crate::storage::Storage;
+use arc_block::block::{Block, MAX_OWNERS, NativeBlock};
+use arc_block::layout::{Layout, stands_on_nothing};
+use arc_block::static_slice::{StaticItems, StaticSlice};
+use arc_buffer::buffer::Buffer;
+use arc_buffer::kinds::Slice;
+use arc_owners::error::AllocError;
+use arc_owners::mark::{Mark, Open};
+use arc_owners::owners::Pass;
+use std::alloc::{Allocator, Global};
+use std::marker::Model;
+pub use vectors::cut_to;
+
+/// What a reader's parts stand on.
+pub type PartsStorage<S, B, M, A, H> = Storage<
+    <S as Slice>::Item,
+    NativeBlock<S, A, MAX_OWNERS, H>,
+    Block<S, B, M, A, MAX_OWNERS, H>,
+    SharedBuffer<<S as Slice>::Item, B, A>,
+>;
+
+/// A row of the table of lists, with its owner: the items, where they stand, and what may be done
+/// with them.
+///
+/// `B` is the type of callers' buffers and `M` that of their metadata.
+///
+/// Where a call says what it adds on a block, it adds nothing on an `Arc` that is a block by
+/// itself: that has no owners of ours, and a pass of none.
+///
+/// Dropped, parts end as a window does: under the mark `Open` with a new pass; under `Whole` their
+/// owner is a forgotten one.
+pub struct Parts<
+    S: Slice,
+    B: Buffer<<S as Slice>::Item> + Drop = Vec<<S as Slice>::Item>,
+    M: Drop = (),
+    A: Allocator + Copy = Global,
+    H: Mark = Open,
+> {
+    on: PartsStorage<S, B, M, A, H>,
+    start: usize,
+    end: usize,
+    alloc: A,
+}
+
+impl<S: Slice, B: Buffer<S::Item> + Drop, M: Drop, A: Allocator + Copy, H: Mark> Model
+    for Parts<S, B, M, A, H> {
+    ghost use Rattle.arc_parts.specs.Window.{PartsView, parts_of, window_seen, IsWithin};
+
+    ghost Value = { PartsView S.Item M };
+
+    ghost view = { λ p. parts_of (window_seen p.on p.start p.end) };
+
+    ghost invariant = { λ p. IsWithin p.on p.start p.end };
+}
+
+impl<S: Slice, B: Buffer<S::Item> + Drop, M: Drop, A: Allocator + Copy, H: Mark> Drop
+    for Parts<S, B, M, A, H> {
+    #[inline(always)]
+    fn drop(self)
+        ensures ended { H.whole ≡ false → EndsShownAt H H.real self.place }
+    {
+        let Parts {
+            on,
+            start: _,
+            end: _,
+            alloc,
+        } = self;
+        match on {
+            Storage::Native(block) => drop(block),
+            Storage::Block(block) => drop(block),
+            Storage::Static(items) => drop(items),
+            Storage::Nothing(items) => drop(items),
+            Storage::Raw(shared) => drop(shared),
+        }
+        drop(alloc);
+    }
+}
+
+impl<S: Slice, B: Buffer<S::Item> + Drop, M: Drop, A: Allocator + Copy, H: Mark> Parts<
+    S,
+    B,
+    M,
+    A,
+    H,
+> {
+    /// The part from `start` to before `end` of what is stood on. Of a native block these are the
+    /// numbers of places, of others those of items.
+    #[inline(always)]
+    pub fn over(on: PartsStorage<S, B, M, A, H>, start: usize, end: usize, alloc: A) -> Self
+        requires { IsWithin on start end }
+        ensures { result ≡ parts_of (window_seen on start end) }
+    {
+        Parts {
+            on,
+            start,
+            end,
+            alloc,
+        }
+    }
+
+    /// What the parts stand on, from where to before where, and the allocator.
+    #[inline(always)]
+    pub fn into_storage(self) -> (PartsStorage<S, B, M, A, H>, usize, usize, A)
+        ensures within { IsWithin result.0 result.1 result.2 }
+        ensures parts { self ≡ parts_of (window_seen result.0 result.1 result.2) }
+    {
+        let Parts {
+            on,
+            start,
+            end,
+            alloc,
+        } = self;
+        (on, start, end, alloc)
+    }
+
+    /// No items, on nothing.
+    #[inline(always)]
+    pub fn on_nothing(alloc: A) -> Self
+        ensures { result ≡ record { items = []; place = nowhere; role = reader } }
+    {
+        Parts {
+            on: Storage::Nothing(StaticItems::none()),
+            start: 0,
+            end: 0,
+            alloc,
+        }
+    }
+
+    /// A slice that is there for good. No owner has it.
+    pub fn on_static(alloc: A, items: StaticSlice<S::Item>) -> Self
+        ensures { result ≡ record { items = items; place = static_data; role = reader } }
+    {
+        let (items, start, end) = items.into_items();
+        Parts {
+            on: Storage::Static(items),
+            start,
+            end,
+            alloc,
+        }
+    }
+
+    /// All of a native block that was just made; the pass becomes the block's.
+    fn over_new<L: Layout>(
+        alloc: A,
+        block: NativeBlock<S, A, MAX_OWNERS, H>,
+        end: usize,
+        new: Pass<H>,
+        pass: &mut Pass<H>,
+    ) -> Self
+        requires made { (block ≡ made_native S.DROPS block.owner block.items)
+            × IsFirst MAX_OWNERS H.whole block.owner × IsFreshPass block.owner new }
+        requires all { end ≡ length block.items }
+        requires stands { (L.STATIC && (length block.items == 0)) ≡ false }
+        ensures made { Makes L.STATIC S.DROPS H.whole block.items (window_of result) }
+        ensures role { result.role ≡ reader }
+        ensures pass { Begins (window_of result) pass.old pass.new }
+    {
+        *pass = new;
+        Parts {
+            on: Storage::Native(block),
+            start: 0,
+            end,
+            alloc,
+        }
+    }
+
+    /// All items of a block of a caller's making, of which there are so many.
+    fn over_all(alloc: A, block: Block<S, B, M, A, MAX_OWNERS, H>, end: usize) -> Self
+        requires all { end ≡ length block.items }
+        requires places { length block.items ≤ block.facts.size }
+        ensures { result ≡ record {
+          items = block.items;
+          place = on_block (Some block.owner) 0 block.facts;
+          role = reader;
+        } }
+    {
+        Parts {
+            on: Storage::Block(block),
+            start: 0,
+            end,
+            alloc,
+        }
+    }
+
+    /// A copy of the items: no items stand on nothing where the layout has static data, else they
+    /// stand on a new native block with exactly a place for each. The pass, which is of no block,
+    /// becomes the block's.
+    ///
+    /// # Errors
+    ///
+    /// `AllocError` where memory for a block is refused; the pass is then as before.
+    ///
+    /// # Allocates
+    ///
+    /// Where the items need a block.
+    pub fn try_from_slice_as<L: Layout>(
+        alloc: A,
+        items: &[S::Item],
+        pass: &mut Pass<H>,
+    ) -> Result<Self, AllocError>
+    where
+        S::Item: Copy,
+        requires pass { IsPassOfNone pass.old }
+        ensures made { IfOk result (λ parts.
+            Makes L.STATIC S.DROPS H.whole items.now (window_of parts)) }
+        ensures role { IfOk result (λ parts. parts.role ≡ reader) }
+        ensures pass { IfOk result (λ parts. Begins (window_of parts) pass.old pass.new) }
+        ensures refused { OnErr result (NeedsBlock L.STATIC items.now × (pass.new ≡ pass.old)) }
+    {
+        if stands_on_nothing::<L>(items.len()) {
+            return Ok(Self::on_nothing(alloc));
+        }
+        let (block, new) = NativeBlock::try_from_slice(alloc, items)?;
+        Ok(Self::over_new::<L>(alloc, block, items.len(), new, pass))
+    }
+
+    /// An array's items, which are moved as `try_from_slice_as` copies.
+    ///
+    /// # Errors
+    ///
+    /// The array comes back where memory for a block is refused; the pass is then as before.
+    ///
+    /// # Allocates
+    ///
+    /// Where the items need a block.
+    pub fn try_from_array_as<L: Layout, const N: usize>(
+        alloc: A,
+        array: [S::Item; N],
+        pass: &mut Pass<H>,
+    ) -> Result<Self, [S::Item; N]>
+        requires pass { IsPassOfNone pass.old }
+        ensures made { IfOk result (λ parts.
+            Makes L.STATIC S.DROPS H.whole array (window_of parts)) }
+        ensures role { IfOk result (λ parts. parts.role ≡ reader) }
+        ensures pass { IfOk result (λ parts. Begins (window_of parts) pass.old pass.new) }
+        ensures refused { IfErr result (λ back. (back ≡ array) × NeedsBlock L.STATIC array
+            × (pass.new ≡ pass.old)) }
+    {
+        let end = array.as_slice().len();
+        if stands_on_nothing::<L>(end) {
+            drop(array);
+            return Ok(Self::on_nothing(alloc));
+        }
+        let (block, new) = NativeBlock::try_from_array(alloc, array)?;
+        Ok(Self::over_new::<L>(alloc, block, end, new, pass))
+    }
+}
+
+impl<S: Slice, B: Buffer<S::Item> + Drop, M: Drop, A: Allocator + Copy, H: Mark> Parts<
+    S,
+    B,
+    M,
+    A,
+    H,
+> {
+    /// How many items there are.
+    #[inline(always)]
+    pub fn len(&self) -> usize
+        ensures { result ≡ length self.now.items }
+    {
+        self.end - self.start
+    }
+
+    /// The items, of parts that a layout holds: only where an `Arc` may be a block by itself is it
+    /// asked what the parts stand on.
+    #[inline(always)]
+    pub fn as_slice<L: Layout>(&self) -> &[S::Item]
+        requires held { IsHeld (layout_facts L.Layout) self.now.place }
+        ensures { result.now ≡ self.now.items }
+    {
+        if L::RAW {
+            return self.as_any_slice();
+        }
+        self.as_counted_slice()
+    }
+
+    /// The items, whatever the parts stand on.
+    fn as_any_slice(&self) -> &[S::Item]
+        ensures { result.now ≡ self.now.items }
+    {
+        match &self.on {
+            Storage::Native(block) => block.range(self.start, self.end),
+            Storage::Block(block) => block.range(self.start, self.end),
+            Storage::Static(items) => items.range(self.start, self.end),
+            Storage::Nothing(items) => items.range(self.start, self.end),
+            Storage::Raw(shared) => shared.range(self.start, self.end),
+        }
+    }
+
+    /// The items, of parts that stand on no `Arc` that is a block by itself.
+    #[inline(always)]
+    fn as_counted_slice(&self) -> &[S::Item]
+        requires { IsCounted self.now.place }
+        ensures { result.now ≡ self.now.items }
+    {
+        match &self.on {
+            Storage::Native(block) => block.range(self.start, self.end),
+            Storage::Block(block) => block.range(self.start, self.end),
+            Storage::Static(items) => items.range(self.start, self.end),
+            Storage::Nothing(items) => items.range(self.start, self.end),
+            // It isn't reached, and reads as the others do, so that all are one read.
+            Storage::Raw(shared) => shared.none.range(self.start, self.end),
+        }
+    }
+
+    /// Leaves the items from `start` to `end`, where they stand, also where these are none.
+    #[inline(always)]
+    pub fn keep(&mut self, start: usize, end: usize)
+        requires range { (start ≤ end) × (end ≤ length self.old.items) }
+        requires role { self.old.role ≡ reader }
+        ensures { self.new ≡ record {
+          items = sub self.old.items start end;
+          place = moved start self.old.place;
+          role = self.old.role;
+        } }
+    {
+        self.end = self.start + end;
+        self.start += start;
+    }
+}
+
+mod buffers;
+mod ends;
+mod moves;
+mod owners;
+mod vectors;

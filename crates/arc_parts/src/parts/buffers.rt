@@ -1,0 +1,282 @@
+//! Parts over a caller's buffer, or over an `Arc` of one: made of them, and taken back.
+ghost use Rattle.std.specs.Prelude.{◌≡◌, ◌↔◌, false, length, Some, None};
+ghost use Rattle.std.specs.Prelude.{IfOk, IfErr, IfSome, IfNone, IsTrue};
+ghost use Rattle.std.specs.Arc.{arc_value};
+ghost use Rattle.arc_owners.specs.count.Calls.{IsPassOfNone};
+ghost use Rattle.arc_block.specs.Block.{buffer_info, raw_info};
+ghost use Rattle.arc_block.specs.Metadata.{IsMetadataAt, IsOnCallers};
+ghost use Rattle.arc_block.specs.Place.{on_block, metadata_at};
+ghost use Rattle.arc_block.specs.Table.{reader};
+ghost use Rattle.arc_parts.specs.Window.{IsBufferWhole, IsRawWhole, window_of};
+ghost use Rattle.arc_block.specs.Place.{size_at};
+ghost use Rattle.arc_parts.specs.Steps.{IsPassAt, MakesOver, MakesOverRaw, Begins};
+ghost use Rattle.arc_parts.specs.Steps.{TakesAt, RefusesTaking};
+
+use super::Parts;
+use crate::shared_buffer::SharedBuffer;
+use crate::storage::Storage;
+use arc_block::block::{Block, CallersBuffer};
+use arc_block::layout::Layout;
+use arc_buffer::buffer::{BorrowMetadata, Buffer};
+use arc_buffer::kinds::Slice;
+use arc_owners::mark::Mark;
+use arc_owners::owners::Pass;
+use std::alloc::Allocator;
+use std::sync::Arc;
+
+impl<S: Slice, B: Buffer<S::Item> + Drop, M: Drop, A: Allocator + Copy, H: Mark> Parts<
+    S,
+    B,
+    M,
+    A,
+    H,
+> {
+    /// All items of a caller's buffer, on a block that keeps the buffer, with its metadata where
+    /// there is some: no item is copied. The pass, which is of no block, becomes the block's.
+    ///
+    /// # Errors
+    ///
+    /// Buffer and metadata come back where memory for the block is refused; the pass is then as
+    /// before.
+    ///
+    /// # Allocates
+    ///
+    /// Once.
+    pub fn try_from_buffer_as(
+        alloc: A,
+        buffer: B,
+        metadata: Option<M>,
+        pass: &mut Pass<H>,
+    ) -> Result<Self, (B, Option<M>)>
+        requires pass { IsPassOfNone pass.old }
+        ensures made { IfOk result (λ parts. MakesOver H.whole
+            (buffer_info false (B.places buffer) (length (B.list buffer)) metadata)
+            (B.list buffer) (window_of parts)) }
+        ensures role { IfOk result (λ parts. parts.role ≡ reader) }
+        ensures pass { IfOk result (λ parts. Begins (window_of parts) pass.old pass.new) }
+        ensures refused { IfErr result (λ back. (back.0 ≡ buffer) × (back.1 ≡ metadata)
+            × (pass.new ≡ pass.old)) }
+    {
+        let end = buffer.as_slice().len();
+        match Block::try_from_buffer(alloc, buffer, metadata) {
+            Ok((block, new)) => {
+                *pass = new;
+                Ok(Self::over_all(alloc, block, end))
+            }
+            Err(back) => Err(back),
+        }
+    }
+
+    /// All items of a caller's buffer behind an `Arc`: no item is copied. Where the layout has an
+    /// `Arc` as a block by itself they stand on that, and nothing is added. Else they stand on a
+    /// block that keeps the `Arc` and counts its own owners, and the pass, which is of no block,
+    /// becomes the block's.
+    ///
+    /// # Errors
+    ///
+    /// The `Arc` comes back where memory for a block is refused; the pass is then as before.
+    ///
+    /// # Allocates
+    ///
+    /// Once, unless the `Arc` is a block by itself.
+    pub fn try_from_raw_as<L: Layout>(
+        alloc: A,
+        shared: Arc<B, A>,
+        pass: &mut Pass<H>,
+    ) -> Result<Self, Arc<B, A>>
+        requires pass { IsPassOfNone pass.old }
+        ensures made { IfOk result (λ parts. MakesOverRaw L.RAW H.whole
+            (B.list (arc_value shared)) (window_of parts)) }
+        ensures role { IfOk result (λ parts. parts.role ≡ reader) }
+        ensures pass { IfOk result (λ parts. Begins (window_of parts) pass.old pass.new) }
+        ensures refused { IfErr result (λ back. (back ≡ shared) × (L.RAW ≡ false)
+            × (pass.new ≡ pass.old)) }
+    {
+        if L::RAW {
+            let end = shared.as_slice().len();
+            return Ok(Self::on_shared(alloc, SharedBuffer::new(shared), end));
+        }
+        Self::try_over_raw_as(alloc, shared, pass)
+    }
+
+    /// All items of a caller's buffer behind an `Arc`, on a block that keeps the `Arc` and counts
+    /// its own owners. The pass becomes the block's.
+    fn try_over_raw_as(alloc: A, shared: Arc<B, A>, pass: &mut Pass<H>) -> Result<Self, Arc<B, A>>
+        ensures made { IfOk result (λ parts. MakesOver H.whole
+            (raw_info (length (B.list (arc_value shared)))) (B.list (arc_value shared))
+            (window_of parts)) }
+        ensures role { IfOk result (λ parts. parts.role ≡ reader) }
+        ensures pass { IfOk result (λ parts. Begins (window_of parts) pass.old pass.new) }
+        ensures refused { IfErr result (λ back. (back ≡ shared) × (pass.new ≡ pass.old)) }
+    {
+        let end = shared.as_slice().len();
+        match Block::try_from_raw(alloc, shared) {
+            Ok((block, new)) => {
+                *pass = new;
+                Ok(Self::over_all(alloc, block, end))
+            }
+            Err(back) => Err(back),
+        }
+    }
+
+    /// All items of an `Arc` that is a block by itself, of which there are so many.
+    fn on_shared(alloc: A, shared: SharedBuffer<S::Item, B, A>, end: usize) -> Self
+        requires { end ≡ length shared }
+        ensures { result ≡ record {
+          items = shared;
+          place = on_block None 0 (raw_info (length shared));
+          role = reader;
+        } }
+    {
+        Parts {
+            on: Storage::Raw(shared),
+            start: 0,
+            end,
+            alloc,
+        }
+    }
+
+    /// The metadata of the block, where it was made with some.
+    pub fn metadata(&self) -> Option<&M>
+        ensures some { IfSome result (λ m. metadata_at self.now.place ≡ Some m.now) }
+        ensures none { IfNone result (metadata_at self.now.place ≡ None) }
+    {
+        match &self.on {
+            Storage::Block(block) => block.metadata(),
+            _ => None,
+        }
+    }
+
+    /// Whether the items are all of a caller's buffer.
+    fn is_buffer_whole(&self) -> bool
+        ensures { IsTrue result ↔ IsBufferWhole self.now.items self.now.place }
+    {
+        match &self.on {
+            Storage::Block(block) => self.start == 0 && block.is_buffer_of_items(self.end),
+            _ => false,
+        }
+    }
+
+    /// The caller's buffer, where the items are all of it, and no other owner lives. Its metadata
+    /// is dropped.
+    ///
+    /// # Errors
+    ///
+    /// The parts, on another block or none, where another owner lives, and where the items are a
+    /// part alone.
+    ///
+    /// # History
+    ///
+    /// Taken, Alone and Down. Refused, Alone with no where only the count could decide, and else
+    /// nothing.
+    pub fn try_into_buffer_as(self, pass: &mut Pass<H>) -> Result<B, Self>
+        requires role { self.role ≡ reader }
+        requires pass { IsPassAt self.place pass.old }
+        ensures taken { IfOk result (λ buffer. IsBufferWhole self.items self.place
+            × (B.list buffer ≡ self.items) × (B.places buffer ≡ size_at self.place)) }
+        ensures entries { IfOk result (λ _. TakesAt self.place pass.old pass.new) }
+        ensures refused { IfErr result (λ parts. (parts ≡ self) × RefusesTaking
+            (IsBufferWhole self.items self.place) self.place pass.old pass.new) }
+    {
+        if !self.is_buffer_whole() {
+            return Err(self);
+        }
+        let Parts {
+            on,
+            start,
+            end,
+            alloc,
+        } = self;
+        let Storage::Block(block) = on else {
+            unreachable!()
+        };
+        match block.try_into_content_as(pass) {
+            Ok(content) => {
+                let CallersBuffer {
+                    buffer,
+                    metadata,
+                    writable: _,
+                } = content.into_buffer();
+                drop(metadata);
+                Ok(buffer)
+            }
+            Err(block) => Err(Parts {
+                on: Storage::Block(block),
+                start,
+                end,
+                alloc,
+            }),
+        }
+    }
+
+    /// Whether the items are all of a caller's buffer behind an `Arc`.
+    fn is_raw_whole(&self) -> bool
+        ensures { IsTrue result ↔ IsRawWhole self.now.items self.now.place }
+    {
+        match &self.on {
+            Storage::Block(block) => self.start == 0 && block.is_raw_of_items(self.end),
+            Storage::Raw(shared) => self.start == 0 && shared.len() == self.end,
+            _ => false,
+        }
+    }
+
+    /// The `Arc` of the caller's buffer, where the items are all of that, and no other owner of the
+    /// block lives. Of an `Arc` that is a block by itself nobody is asked.
+    ///
+    /// # Errors
+    ///
+    /// The parts, on another block or none, where another owner of a block that counts them lives,
+    /// and where the items are a part alone.
+    ///
+    /// # History
+    ///
+    /// Taken, Alone and Down. Refused, Alone with no where only the count could decide, and else
+    /// nothing.
+    pub fn try_into_raw_as(self, pass: &mut Pass<H>) -> Result<Arc<B, A>, Self>
+        requires role { self.role ≡ reader }
+        requires pass { IsPassAt self.place pass.old }
+        ensures taken { IfOk result (λ shared. IsRawWhole self.items self.place
+            × (B.list (arc_value shared) ≡ self.items)) }
+        ensures entries { IfOk result (λ _. TakesAt self.place pass.old pass.new) }
+        ensures refused { IfErr result (λ parts. (parts ≡ self) × RefusesTaking
+            (IsRawWhole self.items self.place) self.place pass.old pass.new) }
+    {
+        if !self.is_raw_whole() {
+            return Err(self);
+        }
+        let Parts {
+            on,
+            start,
+            end,
+            alloc,
+        } = self;
+        match on {
+            Storage::Block(block) => match block.try_into_content_as(pass) {
+                Ok(content) => Ok(content.into_raw()),
+                Err(block) => Err(Parts {
+                    on: Storage::Block(block),
+                    start,
+                    end,
+                    alloc,
+                }),
+            },
+            Storage::Raw(shared) => Ok(shared.into_arc()),
+            _ => unreachable!(),
+        }
+    }
+
+    /// The metadata of the caller's buffer on which the parts stand, behind an `Arc` or not.
+    pub fn borrowed_metadata(&self) -> Option<&B::Metadata>
+    where
+        B: BorrowMetadata,
+        ensures some { IfSome result (λ m.
+            IsMetadataAt B.list B.metadata self.now.place self.now.items m.now) }
+        ensures none { IfNone result (¬ IsOnCallers self.now.place) }
+    {
+        match &self.on {
+            Storage::Block(block) => block.borrowed_metadata(),
+            Storage::Raw(shared) => Some(shared.borrowed_metadata()),
+            _ => None,
+        }
+    }
+}

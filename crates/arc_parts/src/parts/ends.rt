@@ -1,0 +1,215 @@
+//! Ends of parts: what is taken back, and what is let go.
+ghost use Rattle.std.specs.Prelude.{◌≡◌, ◌↔◌, Bool, true, false, IfOk, IfErr, IsTrue};
+ghost use Rattle.arc_owners.specs.count.Calls.{AsksAndLeaves, Leaves, TakesBlock, IsPassOfNone};
+ghost use Rattle.arc_block.specs.Place.{IsOnBlock, at_owner};
+ghost use Rattle.arc_block.specs.Table.{reader};
+ghost use Rattle.arc_parts.specs.Window.{IsWholeOf, window_of};
+ghost use Rattle.arc_parts.specs.Steps.{IsPassAt, RefusesArray, EndsAt};
+
+use super::Parts;
+use crate::storage::Storage;
+use arc_block::static_slice::StaticSlice;
+use arc_buffer::buffer::Buffer;
+use arc_buffer::kinds::Slice;
+use arc_owners::mark::Mark;
+use arc_owners::owners::Pass;
+use std::alloc::Allocator;
+
+impl<S: Slice, B: Buffer<S::Item> + Drop, M: Drop, A: Allocator + Copy, H: Mark> Parts<
+    S,
+    B,
+    M,
+    A,
+    H,
+> {
+    /// Whether there are `n` items, which are all places of a native block.
+    fn is_whole(&self, n: usize) -> bool
+        ensures { IsTrue result ↔ IsWholeOf n (window_of self.now) }
+    {
+        match &self.on {
+            Storage::Native(block) => block.is_of_places(n) && self.len() == n,
+            Storage::Block(block) => {
+                block.known_sort();
+                false
+            }
+            _ => false,
+        }
+    }
+
+    /// The items as an array, where there are `N` of them, which are all places of a native block,
+    /// and no other owner lives. Else the parts come back.
+    ///
+    /// # Errors
+    ///
+    /// The parts, on no block always.
+    ///
+    /// # History
+    ///
+    /// Taken, Alone and Down. Refused, Alone with no where only the count could decide, and else
+    /// nothing.
+    pub fn try_into_array_as<const N: usize>(self, pass: &mut Pass<H>) -> Result<[S::Item; N], Self>
+        requires role { self.role ≡ reader }
+        requires pass { IsPassAt self.place pass.old }
+        ensures taken { IfOk result (λ array. IsWholeOf N (window_of self)
+            × (array ≡ self.items)) }
+        ensures entries { IfOk result (λ _.
+            at_owner self.place ⊥ (λ o. TakesBlock o pass.old pass.new)) }
+        ensures refused { IfErr result (λ parts. (parts ≡ self)
+            × RefusesArray N (window_of self) pass.old pass.new) }
+    {
+        if !self.is_whole(N) {
+            return Err(self);
+        }
+        let Parts {
+            on,
+            start,
+            end,
+            alloc,
+        } = self;
+        match on {
+            Storage::Native(block) => match block.try_into_memory_as(start, end, pass) {
+                Ok(memory) => Ok(memory.into_array()),
+                Err(block) => Err(Parts {
+                    on: Storage::Native(block),
+                    start,
+                    end,
+                    alloc,
+                }),
+            },
+            Storage::Block(block) => {
+                block.known_sort();
+                unreachable!()
+            }
+            _ => unreachable!(),
+        }
+    }
+
+    /// Ends the parts. The last owner gives the block back.
+    ///
+    /// # History
+    ///
+    /// On a block Down.
+    #[inline(always)]
+    pub fn release_as(self, pass: &mut Pass<H>)
+        requires pass { IsPassAt self.place pass.old }
+        ensures entry { at_owner self.place (pass.new ≡ pass.old) (λ o. (last : Bool)
+            × Leaves o pass.old pass.new last) }
+    {
+        let Parts {
+            on,
+            start: _,
+            end: _,
+            alloc: _,
+        } = self;
+        match on {
+            Storage::Native(block) => {
+                let _ = block.release_as(pass);
+            }
+            Storage::Block(block) => {
+                let _ = block.release_as(pass);
+            }
+            _ => {}
+        }
+    }
+
+    /// What a drop does: under `Open` the owner ends with a new pass, and the last one gives the
+    /// block back; under `Whole` it is forgotten, without a step. The pass is the one that the
+    /// owner ended with; on no block, and under `Whole`, it is of none.
+    ///
+    /// # History
+    ///
+    /// On a block Down under `Open`, and nothing under `Whole`.
+    #[inline(always)]
+    pub fn let_go(self) -> Pass<H>
+        ensures forgotten { H.whole ≡ true → IsPassOfNone result }
+        ensures ended { H.whole ≡ false → EndsAt self.place result }
+    {
+        let Parts {
+            on,
+            start: _,
+            end: _,
+            alloc: _,
+        } = self;
+        match on {
+            Storage::Native(block) => block.let_go(),
+            Storage::Block(block) => block.let_go(),
+            _ => Pass::none(),
+        }
+    }
+
+    /// Ends the parts: it reads the count first, and gives the block back without a further step
+    /// where no other owner lives, else it counts down.
+    ///
+    /// # History
+    ///
+    /// On a block Alone with what was found, then Down.
+    pub fn drop_with_unique_hint_as(self, pass: &mut Pass<H>)
+        requires role { self.role ≡ reader }
+        requires pass { IsPassAt self.place pass.old }
+        ensures entries { at_owner self.place (pass.new ≡ pass.old) (λ o.
+            AsksAndLeaves o pass.old pass.new) }
+    {
+        let Parts {
+            on,
+            start: _,
+            end: _,
+            alloc: _,
+        } = self;
+        match on {
+            Storage::Native(block) => block.drop_with_unique_hint_as(pass),
+            Storage::Block(block) => match block.try_into_content_as(pass) {
+                Ok(content) => drop(content),
+                Err(shared) => {
+                    let _ = shared.release_as(pass);
+                }
+            },
+            _ => {}
+        }
+    }
+
+    /// The same parts, of items of another kind. It adds nothing.
+    pub fn into_kind<K: Slice<Item = S::Item>>(self) -> Parts<K, B, M, A, H>
+        requires { K.DROPS ≡ S.DROPS }
+        ensures { result ≡ self }
+    {
+        let Parts {
+            on,
+            start,
+            end,
+            alloc,
+        } = self;
+        let on = match on {
+            Storage::Native(block) => Storage::Native(block.into_kind()),
+            Storage::Block(block) => Storage::Block(block.into_kind()),
+            Storage::Static(items) => Storage::Static(items),
+            Storage::Nothing(items) => Storage::Nothing(items),
+            Storage::Raw(shared) => Storage::Raw(shared),
+        };
+        Parts {
+            on,
+            start,
+            end,
+            alloc,
+        }
+    }
+
+    /// The items as a slice that is there for good, where they stand on one, or on nothing. Else
+    /// the parts come back.
+    ///
+    /// # Errors
+    ///
+    /// The parts, exactly where they stand on a block.
+    pub fn try_into_static(self) -> Result<StaticSlice<S::Item>, Self>
+        requires role { self.role ≡ reader }
+        ensures taken { IfOk result (λ items. (items ≡ self.items) × ¬ IsOnBlock self.place) }
+        ensures refused { IfErr result (λ parts. (parts ≡ self) × IsOnBlock self.place) }
+    {
+        match &self.on {
+            Storage::Native(_) | Storage::Block(_) | Storage::Raw(_) => Err(self),
+            Storage::Static(items) => {
+                Ok(StaticSlice::of_items(items.again(), self.start, self.end))
+            }
+            Storage::Nothing(_) => Ok(StaticSlice::empty()),
+        }
+    }
+}

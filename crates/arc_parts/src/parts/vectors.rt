@@ -1,0 +1,196 @@
+//! Parts over a vector: made of one, and taken back as one.
+ghost use Rattle.std.specs.Prelude.{◌≡◌, ◌≤◌, ◌↔◌, false, length, IfOk, IfErr, IsTrue};
+ghost use Rattle.std.specs.Vec.{vec_capacity, vec_len};
+ghost use Rattle.arc_buffer.specs.Slice.{sub};
+ghost use Rattle.arc_owners.specs.count.Calls.{IsPassOfNone, Asks};
+ghost use Rattle.arc_block.specs.Place.{at_owner};
+ghost use Rattle.arc_block.specs.Table.{reader};
+ghost use Rattle.arc_parts.specs.Window.{IsOfSort, IsVecPart, IsBoxWhole, window_of};
+ghost use Rattle.arc_block.specs.Place.{size_at};
+ghost use Rattle.arc_block.specs.Block.{vector};
+ghost use Rattle.arc_parts.specs.Steps.{IsPassAt, MakesOfVec, NeedsVecBlock, Begins};
+ghost use Rattle.arc_parts.specs.Steps.{TakesAt, RefusesTaking};
+
+use super::Parts;
+use crate::storage::Storage;
+use arc_block::block::Block;
+use arc_block::layout::Layout;
+use arc_buffer::buffer::Buffer;
+use arc_buffer::kinds::Slice;
+use arc_owners::mark::Mark;
+use arc_owners::owners::Pass;
+use std::alloc::Allocator;
+
+/// The items of a vector from `start` to before `end`, moved to its front.
+pub fn cut_to<T: Drop, A: Allocator>(items: Vec<T, A>, start: usize, end: usize) -> Vec<T, A>
+    requires { (start ≤ end) × (end ≤ vec_len items) }
+    ensures items { result.items ≡ sub items.items start end }
+    ensures places { vec_capacity result ≡ vec_capacity items }
+{
+    let mut items = items;
+    items.truncate(end);
+    items.rotate_left(start);
+    items.truncate(end - start);
+    items
+}
+
+impl<S: Slice, B: Buffer<S::Item> + Drop, M: Drop, A: Allocator + Copy, H: Mark> Parts<
+    S,
+    B,
+    M,
+    A,
+    H,
+> {
+    /// All items of a vector, on a block that is the vector: no item is copied. One without places
+    /// is as a list of no items. The pass, which is of no block, becomes the block's.
+    ///
+    /// # Errors
+    ///
+    /// The vector comes back where memory for the count is refused; the pass is then as before.
+    ///
+    /// # Allocates
+    ///
+    /// Once, where a block is needed.
+    pub fn try_from_vec_as<L: Layout>(
+        alloc: A,
+        items: Vec<S::Item, A>,
+        pass: &mut Pass<H>,
+    ) -> Result<Self, Vec<S::Item, A>>
+        requires pass { IsPassOfNone pass.old }
+        ensures made { IfOk result (λ parts. MakesOfVec L.STATIC S.DROPS H.whole items.items
+            (vec_capacity items) (window_of parts)) }
+        ensures role { IfOk result (λ parts. parts.role ≡ reader) }
+        ensures pass { IfOk result (λ parts. Begins (window_of parts) pass.old pass.new) }
+        ensures refused { IfErr result (λ back. (back ≡ items)
+            × NeedsVecBlock L.STATIC (vec_capacity items) × (pass.new ≡ pass.old)) }
+    {
+        if items.capacity() == 0 {
+            return match Self::try_from_array_as::<L, 0>(alloc, [], pass) {
+                Ok(parts) => {
+                    drop(items);
+                    Ok(parts)
+                }
+                Err(_) => Err(items),
+            };
+        }
+        let end = items.len();
+        match Block::try_from_vec(alloc, items) {
+            Ok((block, new)) => {
+                *pass = new;
+                Ok(Self::over_all(alloc, block, end))
+            }
+            Err(back) => Err(back),
+        }
+    }
+
+    /// Whether the list can be had as the block's vector.
+    fn is_vec_part(&self) -> bool
+        ensures { IsTrue result ↔ IsVecPart S.DROPS self.now.items self.now.place }
+    {
+        match &self.on {
+            Storage::Block(block) if S::DROPS => {
+                self.start == 0 && block.is_vector_of_items(self.end)
+            }
+            Storage::Block(block) => block.is_vector(),
+            _ => false,
+        }
+    }
+
+    /// The items as the block's vector, moved to its front, where the block is a vector and no
+    /// other owner lives. Items that are dropped one by one have to be all of the vector.
+    ///
+    /// # Errors
+    ///
+    /// The parts, on another block or none, where another owner lives, and where items that are
+    /// dropped one by one are a part alone.
+    ///
+    /// # History
+    ///
+    /// Taken, Alone and Down. Refused, Alone with no where only the count could decide, and else
+    /// nothing.
+    pub fn try_into_vec_as(self, pass: &mut Pass<H>) -> Result<Vec<S::Item, A>, Self>
+        requires role { self.role ≡ reader }
+        requires pass { IsPassAt self.place pass.old }
+        ensures taken { IfOk result (λ v. IsVecPart S.DROPS self.items self.place
+            × (v.items ≡ self.items) × (vec_capacity v ≡ size_at self.place)) }
+        ensures entries { IfOk result (λ _. TakesAt self.place pass.old pass.new) }
+        ensures refused { IfErr result (λ parts. (parts ≡ self) × RefusesTaking
+            (IsVecPart S.DROPS self.items self.place) self.place pass.old pass.new) }
+    {
+        if !self.is_vec_part() {
+            return Err(self);
+        }
+        self.try_take_memory_as(pass)
+    }
+
+    /// Whether the list is all of the block's vector, which has no places more.
+    fn is_box_whole(&self) -> bool
+        ensures { IsTrue result ↔ IsBoxWhole self.now.items self.now.place }
+    {
+        match &self.on {
+            Storage::Block(block) => self.start == 0 && block.is_vector_of(self.end),
+            _ => false,
+        }
+    }
+
+    /// The items as the block's vector, where they are all of it, it has no places more, and no
+    /// other owner lives: so it is a box.
+    ///
+    /// # Errors
+    ///
+    /// The parts, on another block or none, where another owner lives, and where the items are a
+    /// part of the vector's places alone.
+    ///
+    /// # History
+    ///
+    /// Taken, Alone and Down. Refused, Alone with no where only the count could decide, and else
+    /// nothing.
+    pub fn try_into_box_vec_as(self, pass: &mut Pass<H>) -> Result<Vec<S::Item, A>, Self>
+        requires role { self.role ≡ reader }
+        requires pass { IsPassAt self.place pass.old }
+        ensures taken { IfOk result (λ v. IsBoxWhole self.items self.place
+            × (v.items ≡ self.items) × (vec_capacity v ≡ size_at self.place)) }
+        ensures entries { IfOk result (λ _. TakesAt self.place pass.old pass.new) }
+        ensures refused { IfErr result (λ parts. (parts ≡ self) × RefusesTaking
+            (IsBoxWhole self.items self.place) self.place pass.old pass.new) }
+    {
+        if !self.is_box_whole() {
+            return Err(self);
+        }
+        self.try_take_memory_as(pass)
+    }
+
+    /// The items as the vector of their block, which is one, where no other owner lives.
+    ///
+    /// # Errors
+    ///
+    /// The parts, where another owner lives.
+    fn try_take_memory_as(self, pass: &mut Pass<H>) -> Result<Vec<S::Item, A>, Self>
+        requires pass { IsPassAt self.place pass.old }
+        requires sort { IsOfSort vector self.place }
+        ensures taken { IfOk result (λ v. (v.items ≡ self.items)
+            × (vec_capacity v ≡ size_at self.place)) }
+        ensures entries { IfOk result (λ _. TakesAt self.place pass.old pass.new) }
+        ensures refused { IfErr result (λ parts. (parts ≡ self)
+            × at_owner self.place ⊥ (λ o. Asks o pass.old pass.new false)) }
+    {
+        let Parts {
+            on,
+            start,
+            end,
+            alloc,
+        } = self;
+        let Storage::Block(block) = on else {
+            unreachable!()
+        };
+        match block.try_into_content_as(pass) {
+            Ok(content) => Ok(cut_to(content.into_vec(), start, end)),
+            Err(block) => Err(Parts {
+                on: Storage::Block(block),
+                start,
+                end,
+                alloc,
+            }),
+        }
+    }
+}

@@ -1,0 +1,121 @@
+-- The pass of the vector comes back to its place, and that of the new block behind the others.
+use Rattle.std.proofs.Common.{◌≡◌, ◌∙◌, ◌<◌, length, refl, sym, subst, Some}
+use Rattle.std.specs.Vec.{vec_capacity}
+use Rattle.arc_slots.specs.Slots.{SlotView, stand_of, window_in}
+use Rattle.arc_slots.specs.Stands.{HasNumber, HasPassFor, IsAttested}
+use Rattle.arc_slots.proofs.Parted.{left-many, moved-by-number, moved-row, moved-several, moved-to}
+use Rattle.arc_slots.proofs.FilledBeside.{beside-several, beside-shares}
+use Rattle.arc_slots.proofs.Parted.{shared-still, shared-vector}
+use Rattle.arc_slots.proofs.Parted.{slot-nothing, still-more}
+use Rattle.arc_slots.proofs.Slots.{has-number}
+use Rattle.arc_slots.proofs.Taken.{back-same}
+use Rattle.arc_slots.proofs.slot.Slot.leave_vector.Given.{Over}
+use Rattle.arc_slots.proofs.slot.Slot.leave_vector.Goals.{After-give_back-in-Err}
+use Rattle.arc_slots.proofs.slot.Slot.leave_vector.Goals as goal
+
+pub try_leave_vector_as-requires-clause-vector : goal.try_leave_vector_as-requires-clause-vector
+try_leave_vector_as-requires-clause-vector g c =
+    shared-vector g.S.Small.SmallOf.seen c.self.inside.window c.in-Several.window
+    c.self.inside.block c.in-Several.is c.args.self.now c.self.view_is c.self.invariant.0
+    ∙ c.requires.vector
+
+pub keep-self-inside-requires-clause-room : goal.keep-self-inside-requires-clause-room
+keep-self-inside-requires-clause-room g c begins =
+    subst (λ m. length c.lend-pass.new.self.of_blocks.items < m) (sym c.lend-pass.ensures.room)
+    (subst (λ n. n < vec_capacity c.args.passes.now.of_blocks)
+    (sym (left-many c.args.passes.now.of_blocks.items c.lend-pass.new.self.of_blocks.items
+    c.lend-pass.result c.self.inside.block c.lend-pass.ensures.taken)) c.requires.room)
+
+pub give_back-requires : goal.give_back-requires
+give_back-requires g c =
+    subst (λ ps. HasNumber ps c.self.inside.block)
+    (sym (c.keep-self-inside.ensures.new refl).1)
+    (still-more c.lend-pass.new.self.of_blocks.items c.in-Ok.first c.self.inside.block
+    (shared-still g.S.Small.SmallOf.seen c.self.inside.window c.in-Several.window
+    c.self.inside.block c.in-Several.is c.args.self.now c.self.view_is c.self.invariant.0
+    c.args.passes.now.of_blocks.items c.lend-pass.new.self.of_blocks.items c.lend-pass.result
+    c.requires.pass c.lend-pass.ensures.taken))
+
+pub invariant_of-self : goal.invariant_of-self
+invariant_of-self g c = (
+  moved-by-number g.S.Small.SmallOf.seen c.self.inside.window c.in-Several.window
+      c.self.inside.block c.in-Several.is c.args.self.now c.self.view_is c.self.invariant.0
+      c.args.passes.now.of_blocks.items c.lend-pass.new.self.of_blocks.items c.lend-pass.result
+      c.requires.pass c.lend-pass.ensures.taken
+      c.try_leave_vector_as.new.window c.try_leave_vector_as.new.pass c.in-Ok.first
+      c.in-Ok.ensures.moved c.keep-self-inside.result c.keep-self-inside.new.self.of_blocks.items
+      c.give_back.new.self.of_blocks.items (c.keep-self-inside.ensures.new refl).0
+      (c.keep-self-inside.ensures.new refl).1 c.give_back.ensures,
+  moved-several g.S.Small.SmallOf.seen c.self.inside.window c.in-Several.window
+      c.self.inside.block c.in-Several.is c.args.self.now c.self.view_is c.self.invariant.0
+      c.args.passes.now.of_blocks.items c.lend-pass.new.self.of_blocks.items c.lend-pass.result
+      c.requires.pass c.lend-pass.ensures.taken
+      c.try_leave_vector_as.new.window c.try_leave_vector_as.new.pass c.in-Ok.first
+      c.in-Ok.ensures.moved c.keep-self-inside.result c.keep-self-inside.new.self.of_blocks.items
+      c.give_back.new.self.of_blocks.items (c.keep-self-inside.ensures.new refl).0
+      (c.keep-self-inside.ensures.new refl).1 c.give_back.ensures
+      (beside-several g.S.Small.SmallOf.seen c.self.inside.window c.in-Several.window
+      c.self.inside.block c.in-Several.is c.self.invariant.1),
+  beside-shares g.S.Small.SmallOf.seen c.self.inside.window c.in-Several.window c.self.inside.block
+      c.in-Several.is g.S.TableKind.SHARES c.self.invariant.2,
+)
+
+pub returns-in-Ok-clause-row : goal.returns-in-Ok-clause-row
+returns-in-Ok-clause-row g c =
+    moved-row g.S.Small.SmallOf.seen c.self.inside.window c.in-Several.window
+    c.self.inside.block c.in-Several.is c.args.self.now c.self.view_is c.self.invariant.0
+    c.args.passes.now.of_blocks.items c.lend-pass.new.self.of_blocks.items c.lend-pass.result
+    c.requires.pass c.lend-pass.ensures.taken
+    c.try_leave_vector_as.new.window c.try_leave_vector_as.new.pass c.in-Ok.first
+    c.in-Ok.ensures.moved c.keep-self-inside.result c.keep-self-inside.new.self.of_blocks.items
+    c.give_back.new.self.of_blocks.items (c.keep-self-inside.ensures.new refl).0
+    (c.keep-self-inside.ensures.new refl).1 c.give_back.ensures
+
+pub returns-in-Ok-clause-moved : goal.returns-in-Ok-clause-moved
+returns-in-Ok-clause-moved g c =
+    moved-to g.S.Small.SmallOf.seen c.self.inside.window c.in-Several.window
+    c.self.inside.block c.in-Several.is c.args.self.now c.self.view_is c.self.invariant.0
+    c.args.passes.now.of_blocks.items c.lend-pass.new.self.of_blocks.items c.lend-pass.result
+    c.requires.pass c.lend-pass.ensures.taken
+    c.try_leave_vector_as.new.window c.try_leave_vector_as.new.pass c.in-Ok.first
+    c.in-Ok.ensures.moved c.keep-self-inside.result c.keep-self-inside.new.self.of_blocks.items
+    c.give_back.new.self.of_blocks.items (c.keep-self-inside.ensures.new refl).0
+    (c.keep-self-inside.ensures.new refl).1 c.give_back.ensures
+
+pub give_back-requires-in-Err : goal.give_back-requires-in-Err
+give_back-requires-in-Err g c =
+    shared-still g.S.Small.SmallOf.seen c.self.inside.window c.in-Several.window
+    c.self.inside.block c.in-Several.is c.args.self.now c.self.view_is c.self.invariant.0
+    c.args.passes.now.of_blocks.items c.lend-pass.new.self.of_blocks.items c.lend-pass.result
+    c.requires.pass c.lend-pass.ensures.taken
+
+-- the passes are then as before
+same-passes : (g : Over) (c : After-give_back-in-Err g)
+    → c.give_back-in-Err.new.self.of_blocks.items ≡ c.args.passes.now.of_blocks.items
+same-passes g c =
+    c.give_back-in-Err.ensures
+    ∙ back-same c.args.passes.now.of_blocks.items c.lend-pass.new.self.of_blocks.items
+    c.lend-pass.result c.self.inside.block c.lend-pass.ensures.taken
+    c.try_leave_vector_as.new.pass c.in-Err.ensures.refused.1
+
+pub attest-requires : goal.attest-requires
+attest-requires g c =
+    let passes = c.args.passes.now.of_blocks.items in
+    subst (λ ps. HasNumber ps c.self.inside.block)
+    (sym (same-passes g (goal.at.attest-requires g c).After-give_back-in-Err))
+    (has-number passes c.self.inside.block
+    (window_in g.S.Small.SmallOf.seen c.self.inside.window).place c.self.invariant.0
+    (subst (λ s. HasPassFor passes (stand_of (Some s))) (sym c.self.view_is) c.requires.pass))
+
+pub returns-in-Err-clause-passes : goal.returns-in-Err-clause-passes
+returns-in-Err-clause-passes g c =
+    same-passes g (goal.at.returns-in-Err-clause-passes g c).After-give_back-in-Err
+
+pub returns-in-Err-clause-nothing : goal.returns-in-Err-clause-nothing
+returns-in-Err-clause-nothing g c =
+    slot-nothing c.args.passes.now.of_blocks.items c.give_back-in-Err.new.self.of_blocks.items
+    c.args.self.now c.requires.pass
+    (same-passes g (goal.at.returns-in-Err-clause-nothing g c).After-give_back-in-Err)
+    (subst (λ (s : SlotView g.row.S-Item.Denot g.row.M.Denot).
+    IsAttested c.give_back-in-Err.new.self.of_blocks.items s.block) c.self.view_is
+    c.attest.ensures)

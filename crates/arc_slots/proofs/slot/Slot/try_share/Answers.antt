@@ -1,0 +1,42 @@
+-- The window stands where it stood, as one of several.
+use Rattle.std.proofs.Common.{◌≡◌, Option, sym, ap, ◌∙◌, subst}
+use Rattle.std.specs.Prelude.{IfNone}
+use Rattle.arc_parts.specs.Window.{IsOfBuffer, PartsView}
+use Rattle.arc_slots.specs.Slots.{SlotView, row_of, stand_of, writer_slot}
+use Rattle.arc_slots.specs.Stands.{is_numbered}
+use Rattle.arc_slots.proofs.Filled.{writes-fits, writes-view}
+use Rattle.arc_slots.proofs.Shared.{may-not-share, may-share, shared-row}
+use Rattle.arc_slots.proofs.slot.Slot.try_share.Goals as goal
+
+pub returns-in-Some-clause-row : goal.returns-in-Some-clause-row
+returns-in-Some-clause-row g c =
+    let b = c.self.inside.block in
+    let w = c.in-Write.window in
+    let h = c.self.inside.window in
+    ap row_of c.written_beside.ensures
+    ∙ shared-row w b c.args.self
+    (sym (writes-view g.S.Small.SmallOf.seen h w b c.in-Write.is) ∙ c.self.view_is)
+    (writes-fits g.S.Small.SmallOf.seen h w b c.in-Write.is c.self.invariant.0)
+    c.in-Some.window c.in-Some.ensures.shared.0
+
+pub returns-in-Some-clause-may : goal.returns-in-Some-clause-may
+returns-in-Some-clause-may g c =
+    let b = c.self.inside.block in
+    let w = c.in-Write.window in
+    let h = c.self.inside.window in
+    may-share w b c.args.self
+    (sym (writes-view g.S.Small.SmallOf.seen h w b c.in-Write.is) ∙ c.self.view_is)
+    (writes-fits g.S.Small.SmallOf.seen h w b c.in-Write.is c.self.invariant.0)
+    g.S.Slice.DROPS c.known_kind.ensures c.known_place.ensures c.in-Some.ensures.shared.1
+
+pub returns-clause-may_not : goal.returns-clause-may_not
+returns-clause-may_not g c =
+    let b = c.self.inside.block in
+    let w = c.in-Write.window in
+    let h = c.self.inside.window in
+    may-not-share w b c.args.self
+    (sym (writes-view g.S.Small.SmallOf.seen h w b c.in-Write.is) ∙ c.self.view_is)
+    (writes-fits g.S.Small.SmallOf.seen h w b c.in-Write.is c.self.invariant.0)
+    g.S.Slice.DROPS
+    (subst (λ (r : Option (PartsView g.row.S-Item.Denot g.row.M.Denot)).
+    IfNone r (IsOfBuffer w.place)) c.in_default-into_shared.is c.into_shared.ensures.refused)

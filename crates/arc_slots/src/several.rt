@@ -1,0 +1,430 @@
+//! The window of one of several writers on a block.
+ghost use Rattle.std.specs.Prelude.{◌≡◌, ◌<◌, true, false, length, Err, Some};
+ghost use Rattle.std.specs.Prelude.{IfErr, IfOk, OnOk};
+ghost use Rattle.std.specs.Mem.{FitsInMemory, type_size};
+ghost use Rattle.std.specs.Vec.{vec_capacity};
+ghost use Rattle.arc_owners.specs.declared.error.OwnerError.TheVariants.{AllocError as no_memory};
+ghost use Rattle.arc_owners.specs.declared.mark.Whole.{Whole as whole_mark};
+ghost use Rattle.arc_parts.specs.Shared.{MakesSharedRoom, PushesShared, as_shared, as_unique};
+ghost use Rattle.arc_parts.specs.Shared.{asks_alone, is_vector_at, on_native};
+ghost use Rattle.arc_parts.specs.Shared.{RefusesSplitAt, SplitsWriter};
+ghost use Rattle.arc_parts.specs.Steps.{IsPassAt};
+ghost use Rattle.arc_parts.specs.Writers.{capacity_of, room_for};
+ghost use Rattle.arc_commands.specs.Blocks.{is_several, is_sole};
+ghost use Rattle.arc_commands.specs.Several.{can_share};
+ghost use Rattle.arc_slots.specs.Calls.{AddsNothing, Along};
+ghost use Rattle.arc_slots.specs.Several.{AsksAt, FillsBeside, HasPlaces, MovesTo, RefusesPlaces};
+ghost use Rattle.arc_slots.specs.Several.{RoomBeside, SplitsThere, handed_places, is_any, is_split};
+ghost use Rattle.arc_slots.specs.Several.{kept_places, places_answer};
+ghost use Rattle.arc_slots.specs.Slots.{row_of, stand_of};
+ghost use Rattle.arc_slots.specs.Stands.{HasPassFor};
+ghost use Rattle.arc_slots.specs.Writing.{IsLegal, additional_of, can_write, is_fresh};
+ghost use Rattle.arc_slots.specs.Writing.{items_of, seen_writing};
+
+use crate::kinds::{CallsOf, Commands, SmallOf, TableKind, known_shares};
+use crate::part::Part;
+use crate::passes::Passes;
+use crate::slot::{Slot, Writing};
+use crate::window::Held;
+use arc_block::layout::{Layout, LayoutMut};
+use arc_buffer::buffer::BufferMut;
+use arc_buffer::kinds::Slice;
+use arc_owners::error::{OwnerError, RangeError, TryReserveError};
+use arc_owners::mark::Whole;
+use arc_owners::owners::Pass;
+use arc_write::slice_mut::ArcSliceMut;
+use std::alloc::Allocator;
+use std::sync::Wait;
+
+/// Writes into a window of several, by a call that its kind has: room is made, and the items are
+/// put behind the others. Refused, nothing changes, and what was to be written is let go.
+fn write_beside_as<
+    S: Commands<A>,
+    K: LayoutMut,
+    B: BufferMut<S::Item> + Drop,
+    M: Drop,
+    A: Allocator + Copy,
+>(
+    window: &mut ArcSliceMut<S, K, 0, B, M, A, Whole>,
+    what: Writing<Vec<S::Item, A>, S::Item>,
+    pass: &mut Pass<Whole>,
+) -> Result<(), TryReserveError>
+    requires shares { S.Calls.calls.shares ≡ true }
+    requires call { can_write S.Calls.calls (seen_writing what) ≡ true }
+    requires legal { IsLegal S.is_legal (seen_writing what) }
+    requires item { FitsInMemory S.Item.row }
+    requires pass { IsPassAt window.old.place pass.old }
+    ensures written { OnOk result (PushesShared
+        (asks_alone window.old (additional_of (seen_writing what))) true
+        (room_for false (type_size S.Item.row) window.old (additional_of (seen_writing what)))
+        (items_of (seen_writing what)) window.old window.new pass.old pass.new) }
+    ensures refused { IfErr result (λ e. MakesSharedRoom
+        (asks_alone window.old (additional_of (seen_writing what))) true
+        (room_for false (type_size S.Item.row) window.old (additional_of (seen_writing what)))
+        window.old window.new pass.old pass.new (Err e)) }
+{
+    match what {
+        Writing::Nothing(additional) => window.try_reserve_as(additional, pass),
+        Writing::Item(item) => S::Calls::try_push_beside_as(window, item, pass),
+        Writing::Items(items) => S::Calls::try_extend_beside_as(window, &items, pass),
+    }
+}
+
+/// Splits the places of a window of several, which stands on no vector, and answers the part that
+/// is handed out.
+fn split_as<
+    S: Commands<A>,
+    K: LayoutMut,
+    B: BufferMut<S::Item> + Drop,
+    M: Drop,
+    A: Allocator + Copy,
+>(
+    window: &mut ArcSliceMut<S, K, 0, B, M, A, Whole>,
+    rt: &impl Wait,
+    part: Part,
+    pass: &mut Pass<Whole>,
+) -> Result<ArcSliceMut<S, K, 0, B, M, A, Whole>, OwnerError>
+    requires shares { S.Calls.calls.shares ≡ true }
+    requires within { HasPlaces S.boundary window.old.items (capacity_of window.old.role) part }
+    requires pass { IsPassAt window.old.place pass.old }
+    ensures made { IfOk result (λ handed. SplitsWriter whole_mark is_any false true
+        (kept_places part) (handed_places part) window.old window.new handed pass.old pass.new) }
+    ensures kept { IfErr result (λ _. window.new ≡ window.old) }
+    ensures refused { IfErr result (RefusesSplitAt window.old.place pass.old pass.new) }
+{
+    match part {
+        Part::Back(at) => S::Calls::try_split_off_as(window, rt, at, pass),
+        Part::Front(at) => {
+            let _ = window.capacity();
+            S::Calls::try_split_to_as(window, rt, at, pass)
+        }
+        Part::Whole | Part::Range { .. } => unreachable!(),
+    }
+}
+
+impl<S: TableKind, L: Layout, B: BufferMut<S::Item> + Drop, M: Drop, A: Allocator + Copy> Slot<
+    S,
+    L,
+    B,
+    M,
+    A,
+>
+where
+    L::Writable: LayoutMut,
+    S::Small: SmallOf<S, L, B, M, A>,
+{
+    /// Items of the window, which is one of several, need no drop. Does nothing: its contract is
+    /// the law.
+    pub fn known_undropped(&self)
+        requires { is_several self.now.role ≡ true }
+        ensures { S.DROPS ≡ false }
+    {
+        match &self.window {
+            Held::Several(window) => window.known_kind(),
+            Held::Read(_) | Held::Write(_) | Held::Small(_) => unreachable!(),
+        }
+    }
+
+    /// Whether the window, which is one of several, stands on a vector, from which it moves before
+    /// its places are split.
+    pub fn is_on_vector(&self) -> bool
+        requires { is_several self.now.role ≡ true }
+        ensures { result ≡ is_vector_at (row_of self.now).place }
+    {
+        match &self.window {
+            Held::Several(window) => window.is_on_vector(),
+            Held::Read(_) | Held::Write(_) | Held::Small(_) => unreachable!(),
+        }
+    }
+
+    /// Whether the places of the window, which is one of several, may be split so.
+    ///
+    /// # Errors
+    ///
+    /// `OutOfRange` of a back that begins behind all places, and of a front that ends behind the
+    /// items; `NotBoundary` where the items may not be cut there.
+    pub fn check_places(&self, part: Part) -> Result<(), RangeError>
+        requires role { is_several self.now.role ≡ true }
+        requires part { is_split part ≡ true }
+        ensures answer { result ≡ places_answer S.boundary self.now.window.items
+            (capacity_of self.now.role) part }
+        ensures ok { OnOk result (HasPlaces S.boundary self.now.window.items
+            (capacity_of self.now.role) part) }
+    {
+        let Held::Several(window) = &self.window else {
+            unreachable!()
+        };
+        match part {
+            Part::Back(at) => window.check_split_off(at),
+            Part::Front(at) => window.check_at(at),
+            Part::Whole | Part::Range { .. } => unreachable!(),
+        }
+    }
+
+    /// The window, which is one of several, as the only one that is written, where it stands on a
+    /// block and no other owner of that lives. Takes no memory.
+    ///
+    /// # Errors
+    ///
+    /// The window itself.
+    ///
+    /// # History
+    ///
+    /// On a block Alone, which says whether it is.
+    pub fn try_into_unique(self, passes: &mut Passes<A>) -> Result<Self, Self>
+        requires role { is_several self.role ≡ true }
+        requires pass { HasPassFor passes.old.of_blocks.items (stand_of (Some self)) }
+        ensures row { IfOk result (λ slot. row_of slot ≡ as_unique (row_of self)) }
+        ensures stand { IfOk result (λ slot. stand_of (Some slot) ≡ stand_of (Some self)) }
+        ensures alone { IfOk result (λ _. AsksAt (stand_of (Some self)) passes.old.of_blocks.items
+            passes.new.of_blocks.items true) }
+        ensures back { IfErr result (λ slot. slot ≡ self) }
+        ensures beside { IfErr result (λ _. AsksAt (stand_of (Some self)) passes.old.of_blocks.items
+            passes.new.of_blocks.items false) }
+    {
+        let Slot { window, block } = self;
+        let Held::Several(window) = window else {
+            unreachable!()
+        };
+        let mut pass = passes.lend(block);
+        let made = window.try_into_unique_as(&mut pass);
+        passes.give_back(block, pass);
+        match made {
+            Ok(window) => Ok(Slot::written(window, block)),
+            Err(window) => Err(Slot {
+                window: Held::Several(window),
+                block,
+            }),
+        }
+    }
+
+    /// Makes room for so many items more in the window, which is one of several, if that takes no
+    /// memory: where its places don't do, it has to be alone.
+    ///
+    /// # History
+    ///
+    /// On a block, where the window hasn't the places already, Alone with the answer.
+    pub fn try_reclaim_beside(&mut self, additional: usize, passes: &mut Passes<A>) -> bool
+        requires item { FitsInMemory S.Item.row }
+        requires role { is_several self.old.role ≡ true }
+        requires pass { HasPassFor passes.old.of_blocks.items (stand_of (Some self.old)) }
+        ensures row { RoomBeside (asks_alone (row_of self.old) additional)
+            (room_for false (type_size S.Item.row) (row_of self.old) additional)
+            (stand_of (Some self.old)) (row_of self.old) (row_of self.new)
+            passes.old.of_blocks.items passes.new.of_blocks.items result }
+        ensures kept { result ≡ false → self.new ≡ self.old }
+        ensures stand { stand_of (Some self.new) ≡ stand_of (Some self.old) }
+    {
+        let block = self.block;
+        let Held::Several(window) = &mut self.window else {
+            unreachable!()
+        };
+        let mut pass = passes.lend(block);
+        let found = window.try_reclaim_as(additional, &mut pass);
+        passes.give_back(block, pass);
+        found
+    }
+}
+
+impl<S: Commands<A>, L: Layout, B: BufferMut<S::Item> + Drop, M: Drop, A: Allocator + Copy> Slot<
+    S,
+    L,
+    B,
+    M,
+    A,
+>
+where
+    L::Writable: LayoutMut,
+    S::Small: SmallOf<S, L, B, M, A>,
+{
+    /// The kind has calls for several writers, of whom this window is one. Does nothing: its
+    /// contract is the law.
+    pub(crate) fn known_shared(&self)
+        requires { is_several self.now.role ≡ true }
+        ensures { S.Calls.calls.shares ≡ true }
+    {
+        known_shares::<S, A>();
+        match &self.window {
+            Held::Several(_) => (),
+            Held::Read(_) | Held::Write(_) | Held::Small(_) => unreachable!(),
+        }
+    }
+
+    /// The window, which is written alone, as one of several, where it stands on no caller's buffer.
+    /// Takes no memory.
+    ///
+    /// # Errors
+    ///
+    /// The window itself.
+    pub fn try_share(self) -> Result<Self, Self>
+        requires writes { is_sole self.role ≡ true }
+        requires shares { S.Calls.calls.shares ≡ true }
+        ensures row { IfOk result (λ slot. row_of slot ≡ as_shared (row_of self)) }
+        ensures stand { IfOk result (λ slot. stand_of (Some slot) ≡ stand_of (Some self)) }
+        ensures may { IfOk result (λ _. can_share S.DROPS (row_of self).place ≡ true) }
+        ensures back { IfErr result (λ slot. slot ≡ self) }
+        ensures may_not { IfErr result (λ _. can_share S.DROPS (row_of self).place ≡ false) }
+    {
+        known_shares::<S, A>();
+        let Slot { window, block } = self;
+        let Held::Write(window) = window else {
+            unreachable!()
+        };
+        window.known_place();
+        let mut sole = Some(window);
+        if let Some(window) = S::Calls::into_shared(&mut sole) {
+            let None = sole else { unreachable!() };
+            window.known_kind();
+            return Ok(Slot::written_beside(window, block));
+        }
+        let Some(window) = sole else { unreachable!() };
+        Err(Slot::written(window, block))
+    }
+
+    /// Moves the window, which is one of several on a vector, to a native block with as many
+    /// places, as its first owner. Refused, the window is as before.
+    ///
+    /// # Errors
+    ///
+    /// `AllocError` where memory for the block is refused.
+    ///
+    /// # Allocates
+    ///
+    /// The block.
+    ///
+    /// # History
+    ///
+    /// On the vector Down. The new block's history begins.
+    pub fn leave_vector(&mut self, passes: &mut Passes<A>) -> Result<(), OwnerError>
+        requires role { is_several self.old.role ≡ true }
+        requires vector { is_vector_at (row_of self.old).place ≡ true }
+        requires room { length passes.old.of_blocks.items < vec_capacity passes.old.of_blocks }
+        requires pass { HasPassFor passes.old.of_blocks.items (stand_of (Some self.old)) }
+        ensures row { OnOk result (row_of self.new
+            ≡ on_native false (Some (length passes.old.of_blocks.items)) (row_of self.old)) }
+        ensures moved { OnOk result (MovesTo (stand_of (Some self.old)) (stand_of (Some self.new))
+            passes.old.of_blocks.items passes.new.of_blocks.items) }
+        ensures kept { IfErr result (λ _. self.new ≡ self.old) }
+        ensures passes { IfErr result (λ _.
+            passes.new.of_blocks.items ≡ passes.old.of_blocks.items) }
+        ensures nothing { IfErr result (λ _. Along (stand_of (Some self.old))
+            passes.old.of_blocks.items passes.new.of_blocks.items AddsNothing) }
+        ensures refused { IfErr result (λ e. e ≡ no_memory) }
+    {
+        self.known_shared();
+        let block = self.block;
+        let Held::Several(window) = &mut self.window else {
+            unreachable!()
+        };
+        let mut pass = passes.lend(block);
+        match S::Calls::try_leave_vector_as(window, &mut pass) {
+            Ok(first) => {
+                self.block = passes.keep(None, true, first);
+                passes.give_back(block, pass);
+                Ok(())
+            }
+            Err(_) => {
+                passes.give_back(block, pass);
+                passes.attest(block);
+                Err(OwnerError::AllocError)
+            }
+        }
+    }
+
+    /// Splits the places of the window, which is one of several on no vector, and hands out the
+    /// part. Refused, the window is as before.
+    ///
+    /// # Errors
+    ///
+    /// On a block `CountFull`, exactly where `MAX_OWNERS` owners live.
+    ///
+    /// # History
+    ///
+    /// On a block Up, or Full where refused.
+    pub fn split_places(
+        &mut self,
+        rt: &impl Wait,
+        part: Part,
+        passes: &mut Passes<A>,
+    ) -> Result<Self, OwnerError>
+        requires role { is_several self.old.role ≡ true }
+        requires there { is_vector_at (row_of self.old).place ≡ false }
+        requires within { HasPlaces S.boundary self.old.window.items (capacity_of self.old.role)
+            part }
+        requires pass { HasPassFor passes.old.of_blocks.items (stand_of (Some self.old)) }
+        ensures made { IfOk result (λ handed. SplitsThere part self.old self.new handed
+            passes.old.of_blocks.items passes.new.of_blocks.items) }
+        ensures kept { IfErr result (λ _. self.new ≡ self.old) }
+        ensures refused { IfErr result (RefusesPlaces (row_of self.old).place
+            (stand_of (Some self.old)) passes.old.of_blocks.items passes.new.of_blocks.items) }
+    {
+        self.known_shared();
+        let block = self.block;
+        let Held::Several(window) = &mut self.window else {
+            unreachable!()
+        };
+        let mut pass = passes.lend(block);
+        let made = split_as(window, rt, part, &mut pass);
+        passes.give_back(block, pass);
+        let window = match made {
+            Ok(window) => window,
+            Err(e) => return Err(e),
+        };
+        let window = Held::Several(window);
+        Ok(Slot { window, block })
+    }
+
+    /// Writes into the window, which is one of several, by a call that its kind has: `what` goes
+    /// behind its items. Refused, nothing changes, and what was to be written is let go.
+    ///
+    /// # Errors
+    ///
+    /// `TryReserveError`, as `try_reserve` of such a window.
+    ///
+    /// # Allocates
+    ///
+    /// Where its places don't do: a first block, or a larger one.
+    ///
+    /// # History
+    ///
+    /// On a block, where the window hasn't the places already, Alone with the answer. A first
+    /// block's history begins.
+    pub fn write_beside(
+        &mut self,
+        what: Writing<Vec<S::Item, A>, S::Item>,
+        passes: &mut Passes<A>,
+    ) -> Result<(), TryReserveError>
+        requires call { can_write S.Calls.calls (seen_writing what) ≡ true }
+        requires legal { IsLegal S.is_legal (seen_writing what) }
+        requires item { FitsInMemory S.Item.row }
+        requires role { is_several self.old.role ≡ true }
+        requires room { is_fresh (room_for S.DROPS (type_size S.Item.row) (row_of self.old)
+            (additional_of (seen_writing what))) ≡ true
+            → length passes.old.of_blocks.items < vec_capacity passes.old.of_blocks }
+        requires pass { HasPassFor passes.old.of_blocks.items (stand_of (Some self.old)) }
+        ensures { FillsBeside (asks_alone (row_of self.old) (additional_of (seen_writing what)))
+            (room_for S.DROPS (type_size S.Item.row) (row_of self.old)
+            (additional_of (seen_writing what))) (items_of (seen_writing what))
+            self.old self.new passes.old.of_blocks.items passes.new.of_blocks.items result }
+    {
+        self.known_shared();
+        self.known_undropped();
+        let begins = self.wants_block(what.additional());
+        let block = self.block;
+        let Held::Several(window) = &mut self.window else {
+            unreachable!()
+        };
+        window.known_shared_place();
+        let mut pass = passes.lend(block);
+        match write_beside_as(window, what, &mut pass) {
+            Ok(()) => {
+                self.block = passes.keep(block, begins, pass);
+                Ok(())
+            }
+            Err(e) => {
+                passes.give_back(block, pass);
+                Err(e)
+            }
+        }
+    }
+}

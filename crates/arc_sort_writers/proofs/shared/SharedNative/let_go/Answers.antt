@@ -1,0 +1,19 @@
+-- It was the last one exactly where the writer gave out what the block keeps.
+use Rattle.std.proofs.Common.{subst}
+use Rattle.std.specs.Option.{is_some}
+use Rattle.arc_owners.specs.count.Calls.{EndsByItself}
+use Rattle.arc_sort_writers.proofs.shared.SharedNative.let_go.Goals as goal
+
+pub returns-in-Some-clause-ended : goal.returns-in-Some-clause-ended
+returns-in-Some-clause-ended g c many = let found = c.let_go-last in (
+  is_some found.result.0,
+  subst (λ w. EndsByItself w.owner found.result.1 (is_some found.result.0)) c.self.view_is
+      (found.ensures.ended many),
+)
+
+pub returns-in_default-clause-ended : goal.returns-in_default-clause-ended
+returns-in_default-clause-ended g c many = let found = c.let_go-last in (
+  is_some found.result.0,
+  subst (λ w. EndsByItself w.owner found.result.1 (is_some found.result.0)) c.self.view_is
+      (found.ensures.ended many),
+)

@@ -1,0 +1,4 @@
+pub mod SortParts
+pub mod Growth
+pub mod NativeWriters
+pub mod Lends

@@ -1,0 +1,259 @@
+//! How a sole writer's parts in a caller's buffer end, and what they become.
+ghost use Rattle.std.specs.Prelude.{◌≡◌, ◌≤◌, ◌↔◌, true, false, length, Some, None, ℕ};
+ghost use Rattle.std.specs.Prelude.{IfOk, IfErr, IfSome, IfNone, IsTrue};
+ghost use Rattle.arc_owners.specs.count.Calls.{Leaves, Learns, IsNewPass, IsPassOfNone};
+ghost use Rattle.arc_owners.specs.count.Calls.{SeesAlone};
+ghost use Rattle.arc_owners.specs.memory.SoleBoxes.{sole_in, sole_value};
+ghost use Rattle.arc_block.specs.LayoutFacts.{layout_facts};
+ghost use Rattle.arc_block.specs.Contents.{held_in};
+ghost use Rattle.arc_block.specs.Metadata.{IsMetadataAt, IsOnCallers};
+ghost use Rattle.arc_block.specs.Moves.{IsRefused, layout_move};
+ghost use Rattle.arc_block.specs.Place.{at_owner, metadata_at, IsOnBlock};
+ghost use Rattle.arc_parts.specs.Steps.{IsPassAt, EndsAt, Makes, Begins};
+ghost use Rattle.arc_block.specs.Table.{reader};
+ghost use Rattle.arc_parts.specs.Window.{IsBufferWhole, IsVecPart, IsBoxWhole, IsHeld};
+ghost use Rattle.arc_parts.specs.Window.{IsBlockHeld, window_of};
+ghost use Rattle.arc_parts.specs.Writers.{as_reader};
+ghost use Rattle.arc_sort_writers.specs.SortParts.{block_part, IsBufferWithin};
+ghost use Rattle.arc_block.specs.Place.{size_at};
+ghost use Rattle.arc_parts.specs.Writers.{Freezes, IsWholeWriter};
+
+use super::SoleBuffer;
+use arc_block::block::{Block, Content, MAX_OWNERS, SoleCount};
+use arc_block::layout::Layout;
+use arc_buffer::buffer::{BorrowMetadata, Buffer, BufferMut};
+use arc_buffer::kinds::Slice;
+use arc_owners::mark::{Mark, Stepping};
+use arc_owners::owners::Pass;
+use arc_parts::parts::Parts;
+use arc_parts::storage::Storage;
+use std::alloc::Allocator;
+
+impl<S: Slice, B: BufferMut<S::Item> + Drop, M: Drop, A: Allocator + Copy, H: Mark> SoleBuffer<
+    S,
+    B,
+    M,
+    A,
+    H,
+> {
+    /// Items from start to end of a caller's buffer, whose only owner this is.
+    pub fn over(
+        alloc: A,
+        count: SoleCount<S::Item, B, M, A, MAX_OWNERS, H>,
+        start: usize,
+        end: usize,
+    ) -> Self
+        requires { IsBufferWithin H.whole
+            (held_in B.list B.places S.DROPS (sole_in count) (sole_value count)) start end }
+        ensures { result ≡ block_part S.DROPS
+            (held_in B.list B.places S.DROPS (sole_in count) (sole_value count)) start end }
+    {
+        SoleBuffer {
+            count,
+            start,
+            end,
+            alloc,
+        }
+    }
+
+    /// The same items and places, which others may read from now on.
+    pub fn freeze(self) -> Parts<S, B, M, A, H>
+        ensures { result ≡ as_reader self }
+    {
+        let SoleBuffer {
+            count,
+            start,
+            end,
+            alloc,
+        } = self;
+        Parts::over(
+            Storage::Block(Block::of_sole_buffer(count)),
+            start,
+            end,
+            alloc,
+        )
+    }
+
+    /// `try_freeze_as` of a sole writer's parts.
+    pub fn try_freeze_as<L: Layout>(self, pass: &mut Pass<H>) -> Result<Parts<S, B, M, A, H>, Self>
+        requires pass { IsPassAt self.place pass.old }
+        ensures frozen { IfOk result (λ parts.
+            Freezes (layout_facts L.Layout) S.DROPS H.whole self parts pass.old pass.new) }
+        ensures stays { IfOk result (λ parts. IsOnBlock self.place
+            → (parts ≡ as_reader self) × (pass.new ≡ pass.old)) }
+        ensures made { IfOk result (λ parts. (¬ IsOnBlock self.place)
+            → Makes L.STATIC S.DROPS H.whole self.items (window_of parts)
+            × Begins (window_of parts) pass.old pass.new) }
+        ensures items { IfOk result (λ parts. parts.items ≡ self.items) }
+        ensures role { IfOk result (λ parts. parts.role ≡ reader) }
+        ensures held { IfOk result (λ parts. IsHeld (layout_facts L.Layout) parts.place) }
+        ensures refused { IfErr result (λ back. (back ≡ self)
+            × IsRefused (layout_move (layout_facts L.Layout) self.place) × (pass.new ≡ pass.old)) }
+    {
+        let _ = pass;
+        if !self.is_held::<L>() {
+            return Err(self);
+        }
+        Ok(self.freeze())
+    }
+
+    /// Whether a layout holds the block, which says whether one may be of a caller's making.
+    pub fn is_held<L: Layout>(&self) -> bool
+        ensures { IsTrue result ↔ IsBlockHeld (layout_facts L.Layout) self.now.place }
+    {
+        let _ = &self.count;
+        L::ANY
+    }
+
+    /// The same parts, which have no vector and no array.
+    pub fn not_memory(self) -> Self
+        ensures same { result ≡ self }
+        ensures array { (n : ℕ) → ¬ IsWholeWriter n self }
+        ensures vec { ¬ IsVecPart S.DROPS self.items self.place }
+        ensures boxed { ¬ IsBoxWhole self.items self.place }
+    {
+        let _ = &self.count;
+        self
+    }
+
+    /// Whether the items are all of the buffer.
+    fn is_whole(&self) -> bool
+        ensures { IsTrue result ↔ IsBufferWhole self.now.items self.now.place }
+    {
+        match self.count.get() {
+            Content::Buffer(held) => { self.start == 0 && self.end == held.buffer.as_slice().len() }
+            _ => unreachable!(),
+        }
+    }
+
+    /// The caller's buffer, where the items are all of it. Its metadata is dropped.
+    pub fn try_into_buffer_as(self, pass: &mut Pass<H>) -> Result<B, Self>
+        requires pass { IsPassAt self.place pass.old }
+        ensures taken { IfOk result (λ buffer. IsBufferWhole self.items self.place
+            × (B.list buffer ≡ self.items) × (B.places buffer ≡ size_at self.place)) }
+        ensures entry { IfOk result (λ _. at_owner self.place ⊥ (λ o.
+            Leaves o pass.old pass.new true)) }
+        ensures refused { IfErr result (λ back. (back ≡ self)
+            × (¬ IsBufferWhole self.items self.place) × (pass.new ≡ pass.old)) }
+    {
+        if !self.is_whole() {
+            return Err(self);
+        }
+        let SoleBuffer {
+            count,
+            start: _,
+            end: _,
+            alloc: _,
+        } = self;
+        let held = count.into_value_as(pass).into_buffer();
+        drop(held.metadata);
+        Ok(held.buffer)
+    }
+
+    /// The metadata of the block, where it was made with some.
+    pub fn metadata(&self) -> Option<&M>
+        ensures some { IfSome result (λ m. metadata_at self.now.place ≡ Some m.now) }
+        ensures none { IfNone result (metadata_at self.now.place ≡ None) }
+    {
+        match self.count.get() {
+            Content::Buffer(held) => held.metadata.as_ref(),
+            _ => unreachable!(),
+        }
+    }
+
+    /// The metadata of the buffer.
+    pub fn borrowed_metadata(&self) -> &B::Metadata
+    where
+        B: BorrowMetadata,
+        ensures { IsMetadataAt B.list B.metadata self.now.place self.now.items result.now }
+    {
+        match self.count.get() {
+            Content::Buffer(held) => held.buffer.borrow_metadata(),
+            _ => unreachable!(),
+        }
+    }
+
+    /// The same parts, of items of another kind.
+    pub fn into_kind<K: Slice<Item = S::Item>>(self) -> SoleBuffer<K, B, M, A, H>
+        requires { K.DROPS ≡ S.DROPS }
+        ensures { result ≡ self }
+    {
+        let SoleBuffer {
+            count,
+            start,
+            end,
+            alloc,
+        } = self;
+        SoleBuffer {
+            count,
+            start,
+            end,
+            alloc,
+        }
+    }
+
+    /// Ends the parts, and gives the block back.
+    pub fn release_as(self, pass: &mut Pass<H>)
+        requires pass { IsPassAt self.place pass.old }
+        ensures entry { at_owner self.place (pass.new ≡ pass.old) (λ o.
+            Leaves o pass.old pass.new true) }
+    {
+        let SoleBuffer {
+            count,
+            start: _,
+            end: _,
+            alloc: _,
+        } = self;
+        drop(count.into_value_as(pass));
+    }
+
+    /// What a drop does, with the pass that the owner ended with.
+    pub fn let_go(self) -> Pass<H>
+        ensures forgotten { H.whole ≡ true → IsPassOfNone result }
+        ensures ended { H.whole ≡ false → EndsAt self.place result }
+    {
+        let SoleBuffer {
+            count,
+            start: _,
+            end: _,
+            alloc: _,
+        } = self;
+        let (content, pass) = count.let_go();
+        drop(content);
+        pass
+    }
+
+    /// Shows a pass the block's whole history so far, in which no other owner lives.
+    pub fn only(&self, pass: &mut Pass<H>)
+        requires pass { IsPassAt self.now.place pass.old }
+        ensures { at_owner self.now.place (pass.new ≡ pass.old) (λ o.
+            SeesAlone o pass.old pass.new) }
+    {
+        self.count.only(pass);
+    }
+
+    /// Afterwards the first pass has seen at least what the other had.
+    pub fn learn(&self, pass: &mut Pass<H>, other: &Pass<H>)
+        requires pass { IsPassAt self.now.place pass.old }
+        requires other { IsPassAt self.now.place other.now }
+        ensures { at_owner self.now.place (pass.new ≡ pass.old) (λ o.
+            Learns o.block pass.old other.now pass.new) }
+    {
+        self.count.learn(pass, other);
+    }
+}
+
+impl<S: Slice, B: BufferMut<S::Item> + Drop, M: Drop, A: Allocator + Copy, H: Stepping> SoleBuffer<
+    S,
+    B,
+    M,
+    A,
+    H,
+> {
+    /// A new pass of the block.
+    pub fn pass(&self) -> Pass<H>
+        ensures { at_owner self.now.place (IsPassOfNone result) (λ o. IsNewPass o result) }
+    {
+        self.count.pass()
+    }
+}

@@ -1,0 +1,562 @@
+//! Parts of a window that writes as the only owner of a native block, or on nothing.
+ghost use Rattle.std.specs.Prelude.{◌≡◌, ◌≤◌, ◌<◌, ◌+◌, ◌-◌, ◌^◌, ◌++◌, ◌∷◌};
+ghost use Rattle.std.specs.Prelude.{[], length, replicate, true, false, IfOk, IfErr, OnOk, OnErr};
+ghost use Rattle.std.specs.Mem.{FitsInMemory, type_size};
+ghost use Rattle.arc_owners.specs.count.Calls.{IsPassOfNone};
+ghost use Rattle.arc_owners.specs.memory.SoleBoxes.{sole_in};
+ghost use Rattle.arc_block.specs.declared.block.TheConstants.{MAX_OWNERS};
+ghost use Rattle.arc_parts.specs.declared.room.Room.TheVariants.{Behind, Front, Growth};
+ghost use Rattle.arc_block.specs.Block.{IsLimited, native};
+ghost use Rattle.arc_block.specs.Place.{nowhere};
+ghost use Rattle.arc_parts.specs.Room.{IfSpare, IfFresh, IfBehind, IfGrowth, IfFront, IfOwn};
+ghost use Rattle.arc_parts.specs.Steps.{IsPassAt, EndsShownAt};
+ghost use Rattle.arc_block.specs.Table.{sole_writer};
+ghost use Rattle.arc_parts.specs.Writers.{capacity_of, room_for, with_room};
+ghost use Rattle.arc_sort_writers.specs.SortParts.{sole_native_part};
+ghost use Rattle.arc_parts.specs.Writers.{IsNewWriter, IsWriterOver, MakesWriter};
+ghost use Rattle.arc_parts.specs.Writers.{MakesRoom};
+ghost use Rattle.arc_sort_writers.specs.SortParts.{CanGrowNative};
+ghost use Rattle.arc_parts.specs.Writers.{IsWriterPlace};
+ghost use Rattle.arc_block.specs.Place.{size_at, offset_at};
+ghost use Rattle.std.specs.Prelude.{IsTrue};
+ghost use Rattle.std.specs.Prelude.{◌↔◌};
+ghost use Rattle.arc_parts.specs.Window.{IsOfBuffer};
+ghost use Rattle.arc_parts.specs.Shared.{is_vector_at};
+
+use arc_block::block::{MAX_OWNERS, NativeCount};
+use arc_buffer::kinds::{Slice, Zeroable};
+use arc_memory::{Kept, WriterMemory};
+use arc_owners::error::{AllocError, TryReserveError};
+use arc_owners::mark::{Mark, Open};
+use arc_owners::owners::{Pass, SoleBox};
+use arc_parts::room::{Room, room_in};
+use ends::end_native;
+use std::alloc::{Allocator, Global};
+use std::cmp::max;
+use std::marker::{Model, PhantomData};
+
+/// A row of the table of lists that its only owner writes, on a native block whose memory he has,
+/// or on nothing: the items, where they stand, and how many places they have.
+///
+/// Dropped, they end as a window does.
+pub struct SoleNative<S: Slice, M: Drop = (), A: Allocator + Copy = Global, H: Mark = Open> {
+    // None where they stand on nothing: then there are no places.
+    count: Option<NativeCount<S::Item, A, MAX_OWNERS, H>>,
+    memory: WriterMemory<S::Item, A>,
+    start: usize,
+    // How many items lie behind these in the memory: those that were cut off, where they are
+    // dropped one by one, and else none. So a push has no end to move.
+    behind: usize,
+    // How many of the block's last places aren't his: who was one of several writers keeps the
+    // places that he had, until he wants room.
+    beyond: usize,
+    alloc: A,
+    // Metadata of a native block, which has none.
+    marker: PhantomData<M>,
+}
+
+impl<S: Slice, M: Drop, A: Allocator + Copy, H: Mark> Model for SoleNative<S, M, A, H> {
+    ghost use Rattle.std.specs.Prelude.{◌-◌, length};
+    ghost use Rattle.std.specs.Option.{option_map};
+    ghost use Rattle.arc_owners.specs.memory.SoleBoxes.{sole_in};
+    ghost use Rattle.arc_parts.specs.Window.{PartsView};
+    ghost use Rattle.arc_sort_writers.specs.SortParts.{sole_native, IsNativeWithin, CanLeave};
+    ghost use Rattle.arc_parts.specs.Writers.{with_fewer};
+
+    ghost Value = { PartsView S.Item M };
+
+    ghost view = { λ p. with_fewer p.beyond (sole_native S.DROPS (option_map sole_in p.count)
+        p.memory p.start (length p.memory.places.vec.items - p.behind)) };
+
+    ghost invariant = { λ p.
+        IsNativeWithin S.DROPS H.whole (option_map sole_in p.count) p.memory p.start p.behind
+        × CanLeave S.DROPS (option_map sole_in p.count) p.memory p.beyond };
+}
+
+impl<S: Slice, M: Drop, A: Allocator + Copy, H: Mark> Drop for SoleNative<S, M, A, H> {
+    fn drop(self)
+        ensures ended { H.whole ≡ false → EndsShownAt H H.real self.place }
+    {
+        let SoleNative {
+            count,
+            memory,
+            start: _,
+            behind: _,
+            beyond: _,
+            alloc,
+            marker: _,
+        } = self;
+        match count {
+            Some(count) => end_native(count, memory).show(),
+            None => drop(memory),
+        }
+        drop(alloc);
+    }
+}
+
+/// Where a window's items end among those of its memory, where so many lie behind them.
+#[inline(always)]
+fn end_in<S: Slice, A: Allocator>(memory: &WriterMemory<S::Item, A>, behind: usize) -> usize
+    requires inside { behind ≤ length memory.now.places.vec.items }
+    requires none { S.DROPS ≡ false → behind ≡ 0 }
+    ensures { result ≡ length memory.now.places.vec.items - behind }
+{
+    if S::DROPS {
+        memory.len() - behind
+    } else {
+        memory.len()
+    }
+}
+
+impl<S: Slice, M: Drop, A: Allocator + Copy, H: Mark> SoleNative<S, M, A, H> {
+    /// No items and no places, on nothing.
+    pub fn on_nothing(alloc: A) -> Self
+        ensures { result ≡ record { items = []; place = nowhere; role = sole_writer 0 } }
+    {
+        let Ok(memory) = WriterMemory::new(alloc, 0) else {
+            unreachable!()
+        };
+        SoleNative {
+            count: None,
+            memory,
+            start: 0,
+            behind: 0,
+            beyond: 0,
+            alloc,
+            marker: PhantomData,
+        }
+    }
+
+    /// They stand on no caller's buffer.
+    pub fn is_on_buffer(&self) -> bool
+        ensures { IsTrue result ↔ IsOfBuffer self.now.place }
+    {
+        match &self.count {
+            Some(_) => false,
+            None => false,
+        }
+    }
+
+    /// They stand on no vector.
+    pub fn is_on_vector(&self) -> bool
+        ensures { result ≡ is_vector_at self.now.place }
+    {
+        match &self.count {
+            Some(_) => false,
+            None => false,
+        }
+    }
+
+    /// They stand on nothing, or on a block that counts its owners and may be written.
+    pub fn known_place(&self)
+        ensures { IsWriterPlace self.now.place }
+    {
+        match &self.count {
+            Some(_) => (),
+            None => (),
+        }
+    }
+
+    /// How many items there are.
+    #[inline(always)]
+    pub fn len(&self) -> usize
+        ensures { result ≡ length self.now.items }
+    {
+        end_in::<S, A>(&self.memory, self.behind) - self.start
+    }
+
+    /// The items.
+    #[inline(always)]
+    pub fn as_slice(&self) -> &[S::Item]
+        ensures { result.now ≡ self.now.items }
+    {
+        let end = end_in::<S, A>(&self.memory, self.behind);
+        &self.memory.as_slice()[self.start..end]
+    }
+
+    /// How many places there are for items, from the first of them on.
+    #[inline(always)]
+    pub fn capacity(&self) -> usize
+        ensures capacity { result ≡ capacity_of self.now.role }
+        ensures enough { length self.now.items ≤ result }
+    {
+        self.len() + self.spare()
+    }
+
+    /// How many places there are behind the items.
+    #[inline(always)]
+    fn spare(&self) -> usize
+        ensures spare { result ≡ capacity_of self.now.role - length self.now.items }
+        ensures places { length self.now.items + result ≡ capacity_of self.now.role }
+        ensures fits { length self.now.items + result < 2 ^ 64 }
+    {
+        if S::DROPS && self.behind != 0 {
+            return 0;
+        }
+        self.memory.capacity() - self.memory.len() - self.beyond
+    }
+
+    /// Where there is room for so many items more.
+    pub fn room(&self, additional: usize) -> Room
+        requires item { FitsInMemory S.Item.row }
+        ensures room { result ≡ room_for S.DROPS (type_size S.Item.row) self.now additional }
+        ensures fresh { IfFresh result (λ places. (self.now.place ≡ nowhere)
+            × (length self.now.items ≡ 0) × (1 ≤ places) × (additional ≤ places)) }
+        ensures behind { IfBehind result (S.DROPS ≡ false) }
+        ensures more { IfBehind result (length self.now.items + additional
+            ≤ size_at self.now.place - offset_at self.now.place) }
+        ensures memory { IfOwn result ⊥ }
+        ensures grows { IfGrowth result (λ places. CanGrowNative S.DROPS self.now places
+            × (length self.now.items + additional ≤ places - offset_at self.now.place)) }
+        ensures front { IfFront result (S.DROPS ≡ false) }
+        ensures shift { IfFront result
+            (length self.now.items + additional ≤ size_at self.now.place) }
+        ensures spare { IfSpare result
+            (length self.now.items + additional ≤ capacity_of self.now.role) }
+    {
+        if additional <= self.spare() {
+            return Room::Spare;
+        }
+        if self.count.is_none() {
+            return Room::Fresh(max(S::first(), additional));
+        }
+        let size = self.memory.count();
+        let first = self.memory.start();
+        let (full, offset) = (first + self.memory.len(), first + self.start);
+        room_in::<S>(false, size, full, offset, self.len(), additional)
+    }
+
+    /// No items, with so many places: for none on nothing, else on a new native block. The pass,
+    /// which is of no block, becomes the block's.
+    ///
+    /// # Errors
+    ///
+    /// `AllocError` where memory for the block is refused; the pass is then as before.
+    ///
+    /// # Allocates
+    ///
+    /// Twice, except for none.
+    pub fn try_with_capacity_as(
+        alloc: A,
+        capacity: usize,
+        pass: &mut Pass<H>,
+    ) -> Result<Self, AllocError>
+        requires pass { IsPassOfNone pass.old }
+        ensures made { IfOk result (λ parts.
+            MakesWriter S.DROPS H.whole [] capacity parts pass.old pass.new) }
+        ensures refused { OnErr result ((1 ≤ capacity) × (pass.new ≡ pass.old)) }
+    {
+        if capacity == 0 {
+            return Ok(Self::on_nothing(alloc));
+        }
+        match WriterMemory::new(alloc, capacity) {
+            Ok(memory) => match Self::try_over(alloc, memory, pass) {
+                Ok(parts) => Ok(parts),
+                Err(_) => Err(AllocError),
+            },
+            Err(AllocError) => Err(AllocError),
+        }
+    }
+
+    /// A copy of the items, on a new native block with exactly a place for each; no items stand on
+    /// nothing. The pass, which is of no block, becomes the block's.
+    ///
+    /// # Errors
+    ///
+    /// `AllocError` where memory for the block is refused; the pass is then as before.
+    ///
+    /// # Allocates
+    ///
+    /// Twice, except for no items.
+    pub fn try_from_slice_as(
+        alloc: A,
+        items: &[S::Item],
+        pass: &mut Pass<H>,
+    ) -> Result<Self, AllocError>
+    where
+        S::Item: Copy,
+        requires pass { IsPassOfNone pass.old }
+        ensures made { IfOk result (λ parts.
+            MakesWriter S.DROPS H.whole items.now (length items.now) parts pass.old pass.new) }
+        ensures refused { OnErr result ((1 ≤ length items.now) × (pass.new ≡ pass.old)) }
+    {
+        if items.is_empty() {
+            return Ok(Self::on_nothing(alloc));
+        }
+        match WriterMemory::from_slice(alloc, items) {
+            Ok(memory) => match Self::try_over(alloc, memory, pass) {
+                Ok(parts) => Ok(parts),
+                Err(_) => Err(AllocError),
+            },
+            Err(AllocError) => Err(AllocError),
+        }
+    }
+
+    /// So many zeros, on a new native block with exactly a place for each; none stand on nothing.
+    /// The pass, which is of no block, becomes the block's.
+    ///
+    /// # Errors
+    ///
+    /// `AllocError` where memory for the block is refused; the pass is then as before.
+    ///
+    /// # Allocates
+    ///
+    /// Twice, except for none.
+    pub fn try_zeroed_as(alloc: A, count: usize, pass: &mut Pass<H>) -> Result<Self, AllocError>
+    where
+        S: Zeroable,
+        S::Item: Copy,
+        requires pass { IsPassOfNone pass.old }
+        ensures made { IfOk result (λ parts. MakesWriter S.DROPS H.whole
+            (replicate count S.zero_item) count parts pass.old pass.new) }
+        ensures refused { OnErr result ((1 ≤ count) × (pass.new ≡ pass.old)) }
+    {
+        if count == 0 {
+            return Ok(Self::on_nothing(alloc));
+        }
+        match WriterMemory::filled(alloc, S::zero(), count) {
+            Ok(memory) => match Self::try_over(alloc, memory, pass) {
+                Ok(parts) => Ok(parts),
+                Err(_) => Err(AllocError),
+            },
+            Err(AllocError) => Err(AllocError),
+        }
+    }
+
+    /// An array's items, which are moved as `try_from_slice_as` copies.
+    ///
+    /// # Errors
+    ///
+    /// The array comes back where memory for the block is refused; the pass is then as before.
+    ///
+    /// # Allocates
+    ///
+    /// Twice, except for no items.
+    pub fn try_from_array_as<const N: usize>(
+        alloc: A,
+        array: [S::Item; N],
+        pass: &mut Pass<H>,
+    ) -> Result<Self, [S::Item; N]>
+        requires pass { IsPassOfNone pass.old }
+        ensures made { IfOk result (λ parts.
+            MakesWriter S.DROPS H.whole array (length array) parts pass.old pass.new) }
+        ensures refused { IfErr result (λ back. (back ≡ array) × (1 ≤ length array)
+            × (pass.new ≡ pass.old)) }
+    {
+        if array.as_slice().is_empty() {
+            drop(array);
+            return Ok(Self::on_nothing(alloc));
+        }
+        match WriterMemory::from_array(alloc, array) {
+            Ok(memory) => match Self::try_over(alloc, memory, pass) {
+                Ok(parts) => Ok(parts),
+                Err(memory) => Err(memory.into_array()),
+            },
+            Err(array) => Err(array),
+        }
+    }
+
+    /// All items of this memory, which becomes that of a new block. The pass becomes the block's.
+    ///
+    /// # Errors
+    ///
+    /// The memory comes back where memory for the count is refused; the pass is then as before.
+    fn try_over(
+        alloc: A,
+        memory: WriterMemory<S::Item, A>,
+        pass: &mut Pass<H>,
+    ) -> Result<Self, WriterMemory<S::Item, A>>
+        requires { memory.places.under.start ≡ 0 }
+        ensures made { IfOk result (λ parts. IsWriterOver native S.DROPS H.whole
+            memory.places.vec.items memory.allocation.count parts pass.new) }
+        ensures refused { IfErr result (λ back. (back ≡ memory) × (pass.new ≡ pass.old)) }
+    {
+        match SoleBox::new(alloc, Kept::Nothing) {
+            Ok((count, new)) => {
+                *pass = new;
+                Ok(SoleNative {
+                    count: Some(count),
+                    memory,
+                    start: 0,
+                    behind: 0,
+                    beyond: 0,
+                    alloc,
+                    marker: PhantomData,
+                })
+            }
+            Err(_) => Err(memory),
+        }
+    }
+
+    /// Items from start to end of a block's memory, whose only owner this is. Those behind them are
+    /// let go, but for items that are dropped one by one, which stay.
+    pub fn over(
+        alloc: A,
+        count: NativeCount<S::Item, A, MAX_OWNERS, H>,
+        memory: WriterMemory<S::Item, A>,
+        start: usize,
+        end: usize,
+    ) -> Self
+        requires count { IsLimited MAX_OWNERS H.whole (sole_in count) }
+        requires range { (start ≤ end) × (end ≤ length memory.places.vec.items) }
+        requires first { S.DROPS ≡ true → memory.places.under.start ≡ 0 }
+        ensures { result ≡ sole_native_part S.DROPS (sole_in count) memory start end }
+    {
+        let mut memory = memory;
+        if !S::DROPS {
+            memory.truncate(end);
+        }
+        let behind = memory.len() - end;
+        SoleNative {
+            count: Some(count),
+            memory,
+            start,
+            behind,
+            beyond: 0,
+            alloc,
+            marker: PhantomData,
+        }
+    }
+
+    /// Makes room for so many items more.
+    ///
+    /// # Errors
+    ///
+    /// Where the window hasn't the places already, in this order:
+    ///
+    /// - `Unsupported` where items that are dropped one by one end before the block's full places.
+    /// - `CapacityOverflow` where a block would have to grow to more than 2^63 - 1 places or bytes.
+    /// - `AllocError` where memory is refused for a larger block, or for a first one of any size.
+    ///
+    /// Everything is then as before.
+    ///
+    /// # Allocates
+    ///
+    /// Twice for a first block, and once where the block grows: where the places behind the items
+    /// aren't enough, unless items that aren't dropped one by one are no more than the places in
+    /// front of them, and the whole block is large enough.
+    ///
+    /// # History
+    ///
+    /// Nothing is added. Where a first block is made, the pass, which was of none, becomes that
+    /// block's.
+    #[inline(always)]
+    pub fn try_reserve_as(
+        &mut self,
+        additional: usize,
+        pass: &mut Pass<H>,
+    ) -> Result<(), TryReserveError>
+        requires item { FitsInMemory S.Item.row }
+        requires pass { IsPassAt self.old.place pass.old }
+        ensures room { MakesRoom S.DROPS H.whole
+            (room_for S.DROPS (type_size S.Item.row) self.old additional)
+            self.old self.new pass.old pass.new result }
+        ensures items { self.new.items ≡ self.old.items }
+        ensures enough { OnOk result
+            (length self.new.items + additional ≤ capacity_of self.new.role) }
+        ensures memory { IfOwn (room_for S.DROPS (type_size S.Item.row) self.old additional) ⊥ }
+    {
+        if additional <= self.spare() {
+            return Ok(());
+        }
+        self.try_make_room(additional, pass)
+    }
+
+    /// `try_reserve_as` where there may be no room yet, apart so that the test is inlined alone.
+    #[cold]
+    #[inline(never)]
+    fn try_make_room(
+        &mut self,
+        additional: usize,
+        pass: &mut Pass<H>,
+    ) -> Result<(), TryReserveError>
+        requires item { FitsInMemory S.Item.row }
+        requires pass { IsPassAt self.old.place pass.old }
+        ensures room { MakesRoom S.DROPS H.whole
+            (room_for S.DROPS (type_size S.Item.row) self.old additional)
+            self.old self.new pass.old pass.new result }
+        ensures items { self.new.items ≡ self.old.items }
+        ensures enough { OnOk result
+            (length self.new.items + additional ≤ capacity_of self.new.role) }
+        ensures memory { IfOwn (room_for S.DROPS (type_size S.Item.row) self.old additional) ⊥ }
+    {
+        match self.room(additional) {
+            Room::Spare => Ok(()),
+            // The block is no caller's buffer.
+            Room::Own(_) => unreachable!(),
+            Room::Behind => {
+                self.widen();
+                Ok(())
+            }
+            Room::Refused(e) => Err(e),
+            Room::Fresh(places) => match self.try_fresh(places, pass) {
+                Ok(()) => Ok(()),
+                Err(AllocError) => Err(TryReserveError::AllocError),
+            },
+            Room::Front => {
+                self.to_front();
+                Ok(())
+            }
+            Room::Growth(places) => match self.try_grow(places) {
+                Ok(()) => Ok(()),
+                Err(AllocError) => Err(TryReserveError::AllocError),
+            },
+        }
+    }
+
+    /// Stands on a new block of so many places instead.
+    fn try_fresh(&mut self, places: usize, pass: &mut Pass<H>) -> Result<(), AllocError>
+        requires places { 1 ≤ places }
+        requires pass { IsPassOfNone pass.old }
+        ensures made { OnOk result
+            (IsNewWriter S.DROPS H.whole [] places self.new pass.new) }
+        ensures refused { OnErr result ((self.new ≡ self.old) × (pass.new ≡ pass.old)) }
+    {
+        *self = Self::try_with_capacity_as(self.alloc, places, pass)?;
+        Ok(())
+    }
+
+    /// Makes the block one of so many places.
+    fn try_grow(&mut self, places: usize) -> Result<(), AllocError>
+        requires { CanGrowNative S.DROPS self.old places }
+        ensures grown { OnOk result (self.new ≡ with_room (Growth places) self.old) }
+        ensures room { OnOk result ((length self.new.items ≡ length self.old.items)
+            × (capacity_of self.new.role ≡ places - offset_at self.old.place)) }
+        ensures refused { OnErr result (self.new ≡ self.old) }
+    {
+        match self.memory.grow(self.alloc, places) {
+            Ok(()) => {
+                self.beyond = 0;
+                Ok(())
+            }
+            Err(e) => Err(e),
+        }
+    }
+
+    /// Has all places up to the end of the block.
+    fn widen(&mut self)
+        requires { S.DROPS ≡ false }
+        ensures wider { self.new ≡ with_room Behind self.old }
+        ensures room { (length self.new.items ≡ length self.old.items) × (capacity_of self.new.role
+            ≡ size_at self.old.place - offset_at self.old.place) }
+    {
+        self.beyond = 0;
+    }
+
+    /// Moves the items to the front of their memory; those before them are let go.
+    fn to_front(&mut self)
+        requires { S.DROPS ≡ false }
+        ensures shifted { self.new ≡ with_room Front self.old }
+        ensures room { (length self.new.items ≡ length self.old.items)
+            × (size_at self.old.place ≤ capacity_of self.new.role) }
+    {
+        self.memory.to_front(self.start);
+        self.start = 0;
+        self.beyond = 0;
+    }
+}
+
+mod alone;
+mod ends;
+mod shared;
+mod write;

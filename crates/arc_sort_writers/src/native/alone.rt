@@ -1,0 +1,75 @@
+//! What a sole writer on a native block has to tell who writes in the role of one of several.
+ghost use Rattle.std.specs.Prelude.{◌≡◌, ◌↔◌, true, false, IsTrue};
+ghost use Rattle.arc_sort_writers.specs.NativeWriters.{IsAlonePlace};
+ghost use Rattle.arc_block.specs.Place.{IsOnBlock, at_owner, nowhere};
+ghost use Rattle.arc_parts.specs.Shared.{AsksAlone};
+ghost use Rattle.arc_parts.specs.Steps.{IsPassAt};
+ghost use Rattle.arc_block.specs.Table.{sole_writer};
+ghost use Rattle.arc_parts.specs.Writers.{capacity_of, idle_writer};
+
+use super::SoleNative;
+use crate::shared::SharedNative;
+use arc_buffer::kinds::Slice;
+use arc_owners::mark::Mark;
+use arc_owners::owners::Pass;
+use std::alloc::Allocator;
+
+impl<S: Slice, M: Drop, A: Allocator + Copy, H: Mark> SoleNative<S, M, A, H> {
+    /// They are a sole writer's.
+    pub fn known_role(&self)
+        ensures { self.now.role ≡ sole_writer (capacity_of self.now.role) }
+    {
+        match &self.count {
+            Some(_) => (),
+            None => (),
+        }
+    }
+
+    /// Whether they stand on a block; else there are no items and no places.
+    pub fn is_on_block(&self) -> bool
+        ensures answer { IsTrue result ↔ IsOnBlock self.now.place }
+        ensures idle { result ≡ false → self.now ≡ idle_writer }
+    {
+        match &self.count {
+            Some(_) => true,
+            None => false,
+        }
+    }
+
+    /// Whether no other owner lives, by one load. On no block the answer is no.
+    ///
+    /// # History
+    ///
+    /// On a block Alone with the answer.
+    pub fn is_alone_as(&self, pass: &mut Pass<H>) -> bool
+        requires pass { IsPassAt self.now.place pass.old }
+        ensures { AsksAlone self.now.place pass.old pass.new result }
+    {
+        match &self.count {
+            Some(count) => count.is_unique_as(pass),
+            None => false,
+        }
+    }
+
+    /// On a block they are of another one than one of several writers. Does nothing: its contract
+    /// is the law.
+    pub fn apart_from(&self, writer: &SharedNative<S::Item, A, H>)
+        ensures { at_owner self.now.place (Unit {0}) (λ o. ¬ (writer.now.owner.block ≡ o.block)) }
+    {
+        if let Some(count) = &self.count {
+            writer.apart_from(count);
+        }
+    }
+
+    /// They stand on nothing where one of several writers would be by himself. Does nothing: its
+    /// contract is the law.
+    pub fn is_nowhere(&self)
+        requires { IsAlonePlace self.now.place }
+        ensures { self.now.place ≡ nowhere }
+    {
+        match &self.count {
+            Some(_) => (),
+            None => (),
+        }
+    }
+}

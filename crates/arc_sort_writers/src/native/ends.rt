@@ -1,0 +1,324 @@
+//! How a sole writer's parts on a native block end, and what they become.
+ghost use Rattle.std.specs.Prelude.{◌≡◌, ◌↔◌, true, false, length, IfOk, IfErr, IsTrue};
+ghost use Rattle.std.specs.Prelude.{IfSome, IfNone, Some, None};
+ghost use Rattle.arc_owners.specs.count.Calls.{Leaves, Learns, IsNewPass, IsPassOfNone};
+ghost use Rattle.arc_owners.specs.count.Calls.{SeesAlone, EndsByItself};
+ghost use Rattle.arc_owners.specs.memory.SoleBoxes.{sole_in};
+ghost use Rattle.arc_block.specs.LayoutFacts.{layout_facts};
+ghost use Rattle.arc_block.specs.Metadata.{IsMetadataAt, IsOnCallers};
+ghost use Rattle.arc_block.specs.Place.{at_owner, metadata_at, IsOnBlock};
+ghost use Rattle.arc_block.specs.Table.{reader};
+ghost use Rattle.arc_parts.specs.Steps.{IsPassAt, EndsAt, Makes, Begins};
+ghost use Rattle.arc_parts.specs.Writers.{as_reader, Freezes, IsWholeWriter};
+ghost use Rattle.arc_parts.specs.Window.{IsHeld, IsBlockHeld, IsBufferWhole, window_of};
+ghost use Rattle.arc_parts.specs.Window.{IsVecPart, IsBoxWhole};
+ghost use Rattle.arc_block.specs.Moves.{IsRefused, layout_move};
+
+use super::{SoleNative, end_in};
+use arc_block::block::{NativeBlock, NativeCount};
+use arc_block::layout::Layout;
+use arc_buffer::buffer::{BorrowMetadata, Buffer};
+use arc_buffer::kinds::Slice;
+use arc_memory::WriterMemory;
+use arc_owners::mark::{Mark, Stepping};
+use arc_owners::owners::Pass;
+use arc_parts::parts::Parts;
+use arc_parts::storage::Storage;
+use std::alloc::Allocator;
+use std::mem;
+
+/// What a drop does: under `Open` the owner ends with a new pass, and its items are dropped; under
+/// `Whole` it is forgotten, and so are its items, which stay where they are. The pass is the one
+/// that the owner ended with; under `Whole` it is of no block.
+pub(super) fn end_native<T: Drop, A: Allocator + Copy, const MAX: u64, H: Mark>(
+    count: NativeCount<T, A, MAX, H>,
+    memory: WriterMemory<T, A>,
+) -> Pass<H>
+    ensures forgotten { H.whole ≡ true → IsPassOfNone result }
+    ensures ended { H.whole ≡ false → EndsByItself (sole_in count) result true }
+{
+    let (value, pass) = count.let_go();
+    if value.is_some() {
+        drop(memory);
+    } else {
+        mem::forget(memory);
+    }
+    pass
+}
+
+impl<S: Slice, M: Drop, A: Allocator + Copy, H: Mark> SoleNative<S, M, A, H> {
+    /// The same items and places, which others may read from now on. It adds nothing and takes no
+    /// memory.
+    pub fn freeze<B: Buffer<S::Item> + Drop>(self) -> Parts<S, B, M, A, H>
+        ensures { result ≡ as_reader self }
+    {
+        let SoleNative {
+            count,
+            memory,
+            start,
+            behind,
+            beyond: _,
+            alloc,
+            marker: _,
+        } = self;
+        match count {
+            Some(count) => {
+                let first = memory.start();
+                let end = first + end_in::<S, A>(&memory, behind);
+                let on = Storage::Native(NativeBlock::of_sole(count, memory));
+                Parts::over(on, first + start, end, alloc)
+            }
+            None => {
+                drop(memory);
+                Parts::on_nothing(alloc)
+            }
+        }
+    }
+
+    /// The same items and places, which others may read from now on, as a window under the layout
+    /// `L` is. On nothing they are what no items are made of: a native block of no places, of which
+    /// the pass becomes one, where the layout has no static data.
+    ///
+    /// # Errors
+    ///
+    /// The parts, where memory for a block of no places is refused; the pass is then as before.
+    ///
+    /// # Allocates
+    ///
+    /// On nothing, where the layout has no static data.
+    pub fn try_freeze_as<L: Layout, B: Buffer<S::Item> + Drop>(
+        self,
+        pass: &mut Pass<H>,
+    ) -> Result<Parts<S, B, M, A, H>, Self>
+        requires pass { IsPassAt self.place pass.old }
+        ensures frozen { IfOk result (λ parts.
+            Freezes (layout_facts L.Layout) S.DROPS H.whole self parts pass.old pass.new) }
+        ensures stays { IfOk result (λ parts. IsOnBlock self.place
+            → (parts ≡ as_reader self) × (pass.new ≡ pass.old)) }
+        ensures made { IfOk result (λ parts. (¬ IsOnBlock self.place)
+            → Makes L.STATIC S.DROPS H.whole self.items (window_of parts)
+            × Begins (window_of parts) pass.old pass.new) }
+        ensures items { IfOk result (λ parts. parts.items ≡ self.items) }
+        ensures role { IfOk result (λ parts. parts.role ≡ reader) }
+        ensures held { IfOk result (λ parts. IsHeld (layout_facts L.Layout) parts.place) }
+        ensures refused { IfErr result (λ back. (back ≡ self)
+            × IsRefused (layout_move (layout_facts L.Layout) self.place) × (pass.new ≡ pass.old)) }
+    {
+        match &self.count {
+            Some(_) => Ok(self.freeze()),
+            None => match Parts::try_from_array_as::<L, 0>(self.alloc, [], pass) {
+                Ok(parts) => Ok(parts),
+                Err(_) => Err(self),
+            },
+        }
+    }
+
+    /// Every layout holds a native block.
+    pub fn is_held<L: Layout>(&self) -> bool
+        ensures { IsTrue result ↔ IsBlockHeld (layout_facts L.Layout) self.now.place }
+    {
+        match &self.count {
+            Some(_) => true,
+            None => true,
+        }
+    }
+
+    /// The same parts, which stand on no caller's buffer.
+    pub fn not_buffer(self) -> Self
+        ensures same { result ≡ self }
+        ensures other { ¬ IsBufferWhole self.items self.place }
+    {
+        let _ = &self.count;
+        self
+    }
+
+    /// None: a native block has no metadata.
+    pub fn metadata(&self) -> Option<&M>
+        ensures some { IfSome result (λ m. metadata_at self.now.place ≡ Some m.now) }
+        ensures none { IfNone result (metadata_at self.now.place ≡ None) }
+    {
+        let _ = &self.count;
+        None
+    }
+
+    /// None: nothing of a caller's lies there.
+    pub fn borrowed_metadata<B: Buffer<S::Item> + BorrowMetadata>(&self) -> Option<&B::Metadata>
+        ensures some { IfSome result (λ m.
+            IsMetadataAt B.list B.metadata self.now.place self.now.items m.now) }
+        ensures none { IfNone result (¬ IsOnCallers self.now.place) }
+    {
+        let _ = &self.count;
+        None
+    }
+
+    /// The same parts, which have no vector.
+    pub fn not_vector(self) -> Self
+        ensures same { result ≡ self }
+        ensures vec { ¬ IsVecPart S.DROPS self.items self.place }
+        ensures boxed { ¬ IsBoxWhole self.items self.place }
+    {
+        match &self.count {
+            Some(_) => self,
+            None => self,
+        }
+    }
+
+    /// Whether there are `n` items, which on a block are all its places.
+    fn is_whole(&self, n: usize) -> bool
+        ensures { IsTrue result ↔ IsWholeWriter n self.now }
+    {
+        self.len() == n && (self.count.is_none() || self.memory.count() == n)
+    }
+
+    /// The items as an array, where there are `N` of them, which on a block are all its places.
+    /// Else the parts come back.
+    ///
+    /// # Errors
+    ///
+    /// The parts, with another number of items or of places; the pass is then as before.
+    ///
+    /// # History
+    ///
+    /// Taken off a block, Down without a step.
+    pub fn try_into_array_as<const N: usize>(self, pass: &mut Pass<H>) -> Result<[S::Item; N], Self>
+        requires pass { IsPassAt self.place pass.old }
+        ensures taken { IfOk result (λ array. IsWholeWriter N self × (array ≡ self.items)) }
+        ensures entry { IfOk result (λ _. at_owner self.place (pass.new ≡ pass.old) (λ o.
+            Leaves o pass.old pass.new true)) }
+        ensures refused { IfErr result (λ back. (back ≡ self) × (¬ IsWholeWriter N self)
+            × (pass.new ≡ pass.old)) }
+    {
+        if !self.is_whole(N) {
+            return Err(self);
+        }
+        let SoleNative {
+            count,
+            memory,
+            start: _,
+            behind: _,
+            beyond: _,
+            alloc: _,
+            marker: _,
+        } = self;
+        if let Some(count) = count {
+            drop(count.into_value_as(pass));
+        }
+        Ok(memory.into_array())
+    }
+
+    /// The same parts, of items of another kind. It adds nothing.
+    pub fn into_kind<K: Slice<Item = S::Item>>(self) -> SoleNative<K, M, A, H>
+        requires { K.DROPS ≡ S.DROPS }
+        ensures { result ≡ self }
+    {
+        let SoleNative {
+            count,
+            memory,
+            start,
+            behind,
+            beyond,
+            alloc,
+            marker,
+        } = self;
+        SoleNative {
+            count,
+            memory,
+            start,
+            behind,
+            beyond,
+            alloc,
+            marker,
+        }
+    }
+
+    /// Ends the parts, and gives the block back.
+    ///
+    /// # History
+    ///
+    /// On a block Down, without a step.
+    pub fn release_as(self, pass: &mut Pass<H>)
+        requires pass { IsPassAt self.place pass.old }
+        ensures entry { at_owner self.place (pass.new ≡ pass.old) (λ o.
+            Leaves o pass.old pass.new true) }
+    {
+        let SoleNative {
+            count,
+            memory,
+            start: _,
+            behind: _,
+            beyond: _,
+            alloc: _,
+            marker: _,
+        } = self;
+        if let Some(count) = count {
+            drop(count.into_value_as(pass));
+        }
+        drop(memory);
+    }
+
+    /// What a drop does: under `Open` the owner ends with a new pass, and the block is given back
+    /// with its items; under `Whole` it is forgotten, without a step, and its items stay. The pass
+    /// is the one that the owner ended with; on no block, and under `Whole`, it is of none.
+    ///
+    /// # History
+    ///
+    /// On a block Down under `Open`, without a step, and nothing under `Whole`.
+    pub fn let_go(self) -> Pass<H>
+        ensures forgotten { H.whole ≡ true → IsPassOfNone result }
+        ensures ended { H.whole ≡ false → EndsAt self.place result }
+    {
+        let SoleNative {
+            count,
+            memory,
+            start: _,
+            behind: _,
+            beyond: _,
+            alloc: _,
+            marker: _,
+        } = self;
+        match count {
+            Some(count) => end_native(count, memory),
+            None => {
+                drop(memory);
+                Pass::none()
+            }
+        }
+    }
+
+    /// Shows a pass the block's whole history so far, in which no other owner lives. It adds
+    /// nothing.
+    pub fn only(&self, pass: &mut Pass<H>)
+        requires pass { IsPassAt self.now.place pass.old }
+        ensures { at_owner self.now.place (pass.new ≡ pass.old) (λ o.
+            SeesAlone o pass.old pass.new) }
+    {
+        if let Some(count) = &self.count {
+            count.only(pass);
+        }
+    }
+
+    /// Afterwards the first pass has seen at least what the other had. It adds nothing.
+    pub fn learn(&self, pass: &mut Pass<H>, other: &Pass<H>)
+        requires pass { IsPassAt self.now.place pass.old }
+        requires other { IsPassAt self.now.place other.now }
+        ensures { at_owner self.now.place (pass.new ≡ pass.old) (λ o.
+            Learns o.block pass.old other.now pass.new) }
+    {
+        if let Some(count) = &self.count {
+            count.learn(pass, other);
+        }
+    }
+}
+
+impl<S: Slice, M: Drop, A: Allocator + Copy, H: Stepping> SoleNative<S, M, A, H> {
+    /// A new pass of the block, which has seen at least how this owner became one, and made
+    /// nothing; on no block a pass of none. It adds nothing.
+    pub fn pass(&self) -> Pass<H>
+        ensures { at_owner self.now.place (IsPassOfNone result) (λ o. IsNewPass o result) }
+    {
+        match &self.count {
+            Some(count) => count.pass(),
+            None => Pass::none(),
+        }
+    }
+}

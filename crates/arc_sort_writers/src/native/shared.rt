@@ -1,0 +1,111 @@
+//! A sole writer on a native block, as one of several writers, and one who was one of several.
+ghost use Rattle.std.specs.Prelude.{◌≡◌, ℕ, ◌≤◌, ◌↔◌, IsTrue, false, length, IfOk, IfErr};
+ghost use Rattle.arc_owners.specs.memory.SoleBoxes.{sole_in};
+ghost use Rattle.arc_block.specs.Block.{IsLimited};
+ghost use Rattle.arc_sort_writers.specs.NativeWriters.{native_row, native_writer_over};
+ghost use Rattle.arc_sort_writers.specs.NativeWriters.{IsAlonePlace};
+ghost use Rattle.arc_parts.specs.Shared.{as_shared, as_unique};
+ghost use Rattle.arc_parts.specs.Window.{IsBoxWhole};
+ghost use Rattle.arc_parts.specs.Writers.{with_full};
+ghost use Rattle.arc_block.specs.declared.block.TheConstants.{MAX_OWNERS};
+
+use super::SoleNative;
+use crate::shared::SharedNative;
+use arc_block::block::{MAX_OWNERS, NativeCount};
+use arc_buffer::kinds::Slice;
+use arc_memory::WriterMemory;
+use arc_owners::mark::Mark;
+use std::alloc::Allocator;
+use std::marker::PhantomData;
+
+impl<S: Slice, M: Drop, A: Allocator + Copy, H: Mark> SoleNative<S, M, A, H> {
+    /// What gives and takes memory for them.
+    pub fn alloc(&self) -> A {
+        self.alloc
+    }
+
+    /// Full places aren't counted: none are more when items are pushed. Does nothing: its contract
+    /// is the law.
+    #[tactic(auto, using(crate::proofs::SoleNatives::uncounted_native))]
+    pub fn known_uncounted(&self)
+        requires { S.DROPS ≡ false }
+        ensures { (len more : ℕ) → with_full len more self.now.place ≡ self.now.place }
+    {
+        let _ = &self.count;
+    }
+
+    /// Their block is no vector, and so none that is a box.
+    pub fn is_box_whole(&self) -> bool
+        ensures { IsTrue result ↔ IsBoxWhole self.now.items self.now.place }
+    {
+        match &self.count {
+            Some(_) => false,
+            None => false,
+        }
+    }
+
+    /// The same items and places, as one of several writers. It adds no entry and takes no memory.
+    ///
+    /// # Errors
+    ///
+    /// The parts, exactly where they stand on nothing.
+    pub fn into_several(self) -> Result<SharedNative<S::Item, A, H>, Self>
+        requires { S.DROPS ≡ false }
+        ensures shared { IfOk result (λ writer. native_row writer ≡ as_shared self) }
+        ensures idle { IfErr result (λ back. (back ≡ self) × IsAlonePlace self.place) }
+    {
+        let SoleNative {
+            count,
+            memory,
+            start,
+            behind,
+            beyond,
+            alloc,
+            marker,
+        } = self;
+        match count {
+            Some(count) => {
+                let capacity = memory.capacity() - beyond;
+                let mut writer = SharedNative::of_sole(count, memory, capacity);
+                writer.advance(start);
+                Ok(writer)
+            }
+            None => Err(SoleNative {
+                count: None,
+                memory,
+                start,
+                behind,
+                beyond,
+                alloc,
+                marker,
+            }),
+        }
+    }
+
+    /// All items of a block's memory, whose only owner this is, with the first `capacity` of the
+    /// memory's places.
+    pub fn of_several(
+        alloc: A,
+        count: NativeCount<S::Item, A, MAX_OWNERS, H>,
+        memory: WriterMemory<S::Item, A>,
+        capacity: usize,
+    ) -> Self
+        requires kind { S.DROPS ≡ false }
+        requires count { IsLimited MAX_OWNERS H.whole (sole_in count) }
+        requires places { (length memory.places.vec.items ≤ capacity)
+            × (capacity ≤ memory.places.under.count) }
+        ensures { result
+            ≡ as_unique (native_row (native_writer_over (sole_in count) memory capacity)) }
+    {
+        let beyond = memory.capacity() - capacity;
+        SoleNative {
+            count: Some(count),
+            memory,
+            start: 0,
+            behind: 0,
+            beyond,
+            alloc,
+            marker: PhantomData,
+        }
+    }
+}

@@ -1,0 +1,421 @@
+//! One of several writers on a native block.
+ghost use Rattle.std.specs.Prelude.{◌≡◌, ◌==◌, ◌+◌, ◌-◌, ◌^◌, ◌<◌, ◌≤◌, ◌++◌, ◌∷◌, [], Bool};
+ghost use Rattle.std.specs.Prelude.{length, take, true, false, ◌&&◌, IfOk, IfErr, is_ok};
+ghost use Rattle.arc_owners.specs.count.Calls.{IsPassFor, IsPassOfNone, IsNewPass, Learns};
+ghost use Rattle.arc_owners.specs.count.Calls.{MakesAnother, FindsFull, Leaves, EndsByItself};
+ghost use Rattle.arc_owners.specs.count.Calls.{EndsShown, AsksAndLeaves};
+ghost use Rattle.arc_sort_writers.specs.NativeWriters.{front_writer, back_writer, joined_writer};
+ghost use Rattle.arc_sort_writers.specs.NativeWriters.{with_writer_items, native_writer_over};
+ghost use Rattle.arc_sort_writers.specs.NativeWriters.{new_native_writer};
+ghost use Rattle.arc_block.specs.Block.{IsLimited};
+ghost use Rattle.arc_block.specs.Natives.{native_view};
+ghost use Rattle.arc_block.specs.declared.block.TheConstants.{MAX_OWNERS};
+ghost use Rattle.arc_owners.specs.count.Calls.{Asks, IsFirst, IsFreshPass};
+ghost use Rattle.arc_owners.specs.memory.SoleBoxes.{sole_in};
+
+use arc_block::block::{MAX_OWNERS, NativeBlock, NativeCount};
+use arc_buffer::kinds::Slice;
+use arc_memory::{Base, Kept, LifetimeToken, SharedWriter, WriterMemory, WriterPart};
+use arc_owners::error::{AllocError, CountFull};
+use arc_owners::mark::{Mark, Open, Stepping};
+use arc_owners::owners::{Pass, SoleBox};
+use std::alloc::{Allocator, Global};
+use std::marker::Model;
+use std::mem;
+use std::sync::Wait;
+
+/// One of several writers on a native block: an owner, with places that no other owner reaches. Its
+/// items need no drop.
+///
+/// Dropped, it ends as a window does.
+pub struct SharedNative<T: Drop, A: Allocator + Copy = Global, H: Mark = Open> {
+    writer: SharedWriter<T, Kept<T, A>, A, MAX_OWNERS, H>,
+}
+
+impl<T: Drop, A: Allocator + Copy, H: Mark> Model for SharedNative<T, A, H> {
+    ghost use Rattle.arc_owners.specs.count.Calls.{Owner};
+    ghost use Rattle.arc_memory.specs.SharedWriters.{writer_owner, writer_value, writer_range};
+    ghost use Rattle.arc_block.specs.Block.{IsLimited};
+    ghost use Rattle.arc_sort_writers.specs.NativeWriters.{NativeWriter, native_writer_seen};
+    ghost use Rattle.arc_sort_writers.specs.NativeWriters.{KeepsPlaces};
+    ghost use Rattle.arc_block.specs.declared.block.TheConstants.{MAX_OWNERS};
+
+    ghost Value = { NativeWriter T };
+
+    ghost view = { λ w. native_writer_seen w.writer };
+
+    ghost invariant = { λ w. IsLimited MAX_OWNERS H.whole (writer_owner w.writer)
+        × KeepsPlaces (writer_value w.writer) (writer_range w.writer).memory };
+}
+
+impl<T: Drop, A: Allocator + Copy, H: Mark> Drop for SharedNative<T, A, H> {
+    fn drop(self)
+        ensures ended { H.whole ≡ false → EndsShown H H.real self.owner }
+    {
+        self.let_go().show();
+    }
+}
+
+impl<T: Drop, A: Allocator + Copy, H: Mark> SharedNative<T, A, H> {
+    ghost use Rattle.std.specs.Borrow.{sem};
+    ghost use Rattle.arc_sort_writers.specs.Lends.{lends_writer_items};
+
+    /// The only owner of a native block, with its memory, as one of several writers from now on: of
+    /// the same items, and the first `capacity` of the memory's places. It adds no entry and takes
+    /// no memory.
+    pub fn of_sole(
+        count: NativeCount<T, A, MAX_OWNERS, H>,
+        memory: WriterMemory<T, A>,
+        capacity: usize,
+    ) -> Self
+        requires owner { IsLimited MAX_OWNERS H.whole (sole_in count) }
+        requires places { (length memory.places.vec.items ≤ capacity)
+            × (capacity ≤ memory.places.under.count) }
+        ensures { result ≡ native_writer_over (sole_in count) memory capacity }
+    {
+        let mut count = count;
+        let (base, start) = (memory.base(), memory.start());
+        let len = memory.len();
+        let lifetime = LifetimeToken::new();
+        let (part, kept) = memory.lend(&lifetime);
+        let (part, beyond) = part.split(capacity);
+        beyond.give_up();
+        drop(mem::replace(count.get_mut(), Kept::Places(kept)));
+        let part = WriterPart::lend(count, lifetime, part);
+        SharedNative {
+            writer: unsafe { SharedWriter::of(part, base, start, len, capacity) },
+        }
+    }
+
+    /// The only owner of the same block, with its memory, where no other owner lives: his places
+    /// begin where the writer's did. Else the writer is handed back. Takes no memory.
+    ///
+    /// # History
+    ///
+    /// Alone with the answer.
+    pub fn try_into_sole_as(
+        self,
+        pass: &mut Pass<H>,
+    ) -> Result<(NativeCount<T, A, MAX_OWNERS, H>, WriterMemory<T, A>), Self>
+        requires pass { IsPassFor self.owner pass.old }
+        ensures entry { Asks self.owner pass.old pass.new (is_ok result) }
+        ensures owner { IfOk result (λ r. (sole_in r.0 ≡ self.owner)
+            × IsLimited MAX_OWNERS H.whole (sole_in r.0)) }
+        ensures memory { IfOk result (λ r. (r.1.places.vec.items ≡ self.items)
+            × (r.1.places.under.start ≡ self.start) × (r.1.allocation.count ≡ self.size)) }
+        ensures others { IfErr result (λ back. back ≡ self) }
+    {
+        let SharedNative { writer } = self;
+        let (base, start) = (writer.places.base(), writer.places.start());
+        let len = writer.places.len();
+        match writer.try_into_sole_as(pass) {
+            Ok((mut count, ended, part)) => {
+                let Kept::Places(kept) = mem::replace(count.get_mut(), Kept::Nothing) else {
+                    unreachable!()
+                };
+                let memory = unsafe { kept.regain_writer(ended, part, base, start, len) };
+                Ok((count, memory))
+            }
+            Err(writer) => Err(SharedNative { writer }),
+        }
+    }
+
+    /// How many items there are.
+    #[inline(always)]
+    pub fn len(&self) -> usize
+        ensures { result ≡ length self.now.items }
+    {
+        self.writer.places.len()
+    }
+
+    /// The items.
+    #[inline(always)]
+    pub fn as_slice(&self) -> &[T]
+        ensures { result.now ≡ self.now.items }
+    {
+        self.writer.as_slice()
+    }
+
+    /// The items, to be changed in their places: what is written there they are afterwards.
+    #[inline(always)]
+    pub fn as_mut_slice(&mut self) -> &mut [T]
+        ensures* writes_back { sem 𝓛 (lends_writer_items T.row A.row H.row H.Mark A.Allocator
+            self.entry result) }
+        ensures value { result.now ≡ self.old.items }
+    {
+        self.writer.as_mut_slice()
+    }
+
+    /// How many places there are, from the first item on.
+    #[inline(always)]
+    pub fn capacity(&self) -> usize
+        ensures capacity { result ≡ self.now.capacity }
+        ensures enough { length self.now.items ≤ result }
+    {
+        self.writer.places.capacity()
+    }
+
+    /// The number of the first place in the block.
+    #[inline(always)]
+    pub fn start(&self) -> usize
+        ensures start { result ≡ self.now.start }
+        ensures places { result + self.now.capacity ≤ self.now.size }
+        ensures fits { result + self.now.capacity < 2 ^ 64 }
+    {
+        self.writer.places.start()
+    }
+
+    /// An item more, behind the others, where there is a place for it.
+    #[inline(always)]
+    pub fn push_reserved(&mut self, item: T)
+        requires { length self.old.items < self.old.capacity }
+        ensures { self.new ≡ with_writer_items self.old (self.old.items ++ item ∷ []) }
+    {
+        self.writer.push_reserved(item);
+    }
+
+    /// Leaves the first `len` items, and all places.
+    #[inline(always)]
+    pub fn truncate(&mut self, len: usize)
+        ensures { self.new ≡ with_writer_items self.old (take len self.old.items) }
+    {
+        self.writer.truncate(len);
+    }
+
+    /// Takes the first `at` places off, with the items that lie there.
+    #[inline(always)]
+    pub fn advance(&mut self, at: usize)
+        requires { at ≤ length self.old.items }
+        ensures { self.new ≡ back_writer at self.old }
+    {
+        self.writer.advance(at);
+    }
+
+    /// This writer of the first `at` places, and another one of those behind them: one owner more
+    /// of the same block. Takes no memory.
+    ///
+    /// # Errors
+    ///
+    /// `CountFull` exactly where `MAX_OWNERS` owners live; the writer is handed back.
+    ///
+    /// # History
+    ///
+    /// Up, or Full where refused.
+    pub fn try_split_off_as(
+        self,
+        rt: &impl Wait,
+        at: usize,
+        pass: &mut Pass<H>,
+    ) -> Result<(Self, Self), (Self, CountFull)>
+        requires pass { IsPassFor self.owner pass.old }
+        requires at { at ≤ self.capacity }
+        ensures front { IfOk result (λ r. r.0 ≡ front_writer at self) }
+        ensures back { IfOk result (λ r.
+            (r.1 ≡ record (back_writer at self) { owner = r.1.owner })
+            × MakesAnother self.owner pass.old pass.new r.1.owner) }
+        ensures full { IfErr result (λ r. (r.0 ≡ self)
+            × FindsFull self.owner pass.old pass.new) }
+    {
+        let SharedNative { writer } = self;
+        match writer.try_split_off_as(rt, at, pass) {
+            Ok((front, back)) => Ok((
+                SharedNative { writer: front },
+                SharedNative { writer: back },
+            )),
+            Err((writer, e)) => Err((SharedNative { writer }, e)),
+        }
+    }
+
+    /// This writer of the places behind the first `at`, and another one of these: one owner more of
+    /// the same block. Takes no memory.
+    ///
+    /// # Errors
+    ///
+    /// `CountFull` exactly where `MAX_OWNERS` owners live; the writer is handed back.
+    ///
+    /// # History
+    ///
+    /// Up, or Full where refused.
+    pub fn try_split_to_as(
+        self,
+        rt: &impl Wait,
+        at: usize,
+        pass: &mut Pass<H>,
+    ) -> Result<(Self, Self), (Self, CountFull)>
+        requires pass { IsPassFor self.owner pass.old }
+        requires at { at ≤ self.capacity }
+        ensures back { IfOk result (λ r. r.0 ≡ back_writer at self) }
+        ensures front { IfOk result (λ r.
+            (r.1 ≡ record (front_writer at self) { owner = r.1.owner })
+            × MakesAnother self.owner pass.old pass.new r.1.owner) }
+        ensures full { IfErr result (λ r. (r.0 ≡ self)
+            × FindsFull self.owner pass.old pass.new) }
+    {
+        let SharedNative { writer } = self;
+        match writer.try_split_to_as(rt, at, pass) {
+            Ok((back, front)) => Ok((
+                SharedNative { writer: back },
+                SharedNative { writer: front },
+            )),
+            Err((writer, e)) => Err((SharedNative { writer }, e)),
+        }
+    }
+
+    /// Whether the other's places begin where these end, and these are full: of one block.
+    pub fn can_join(&self, other: &Self) -> bool
+        ensures { result ≡ ((length self.now.items == self.now.capacity)
+            && (self.now.start + self.now.capacity == other.now.start)) }
+    {
+        self.len() == self.capacity() && self.start() + self.capacity() == other.start()
+    }
+
+    /// Who has a block to himself is of another one than this writer. Does nothing: its contract is
+    /// the law.
+    pub fn apart_from<V: Drop>(&self, sole: &SoleBox<V, A, MAX_OWNERS, H>)
+        ensures { ¬ (self.now.owner.block ≡ (sole_in sole.now).block) }
+    {
+        sole.apart_from_rest(&self.writer.rest.rest);
+    }
+
+    /// The places of both as this writer's: the other's begin where these end, and both are owners
+    /// of one block. These are full. The other owner ends. Takes no memory.
+    ///
+    /// # History
+    ///
+    /// Down of the other owner.
+    pub fn unsplit_as(self, other: Self, pass: &mut Pass<H>) -> Self
+        requires pass { IsPassFor other.owner pass.old }
+        requires block { other.owner.block ≡ self.owner.block }
+        requires next { other.start ≡ self.start + self.capacity }
+        requires full { length self.items ≡ self.capacity }
+        ensures joined { result ≡ joined_writer self other }
+        ensures entry { (last : Bool) × Leaves other.owner pass.old pass.new last }
+    {
+        let SharedNative { writer } = self;
+        let SharedNative { writer: back } = other;
+        SharedNative {
+            writer: writer.unsplit_as(back, pass),
+        }
+    }
+
+    /// A reader of the items, which nobody changes again, while other owners write their own
+    /// places. Those behind the items are given up. It adds no entry and takes no memory.
+    pub fn freeze<S: Slice<Item = T>>(self) -> NativeBlock<S, A, MAX_OWNERS, H>
+        requires { S.DROPS ≡ false }
+        ensures { result ≡ native_view S.DROPS self.owner self.items self.start self.size }
+    {
+        let SharedNative { writer } = self;
+        let at = writer.places.base();
+        NativeBlock::of_reader(Base { at }, writer.freeze())
+    }
+
+    /// Ends this writer; the last owner gives the block back. Takes no memory.
+    ///
+    /// # History
+    ///
+    /// Down.
+    pub fn release_as(self, pass: &mut Pass<H>)
+        requires pass { IsPassFor self.owner pass.old }
+        ensures entry { (last : Bool) × Leaves self.owner pass.old pass.new last }
+    {
+        let SharedNative { writer } = self;
+        if let Some((kept, ended)) = writer.release_as(pass) {
+            kept.free(ended);
+        }
+    }
+
+    /// Ends this writer: it reads the count first, and where no other owner lives gives the block
+    /// back without a further step.
+    ///
+    /// # History
+    ///
+    /// Alone with the answer, then Down.
+    pub fn release_with_unique_hint_as(self, pass: &mut Pass<H>)
+        requires pass { IsPassFor self.owner pass.old }
+        ensures entry { AsksAndLeaves self.owner pass.old pass.new }
+    {
+        let SharedNative { writer } = self;
+        match writer.try_into_sole_as(pass) {
+            Ok((count, ended, part)) => {
+                part.forget();
+                count.into_value_as(pass).free(ended);
+            }
+            Err(writer) => {
+                if let Some((kept, ended)) = writer.release_as(pass) {
+                    kept.free(ended);
+                }
+            }
+        }
+    }
+
+    /// What a drop does: under `Open` this owner ends with a new pass, and the last one gives the
+    /// block back; under `Whole` it is forgotten, without a step. Takes no memory. The pass is the
+    /// one that the owner ended with; under `Whole` it is of no block.
+    pub fn let_go(self) -> Pass<H>
+        ensures forgotten { H.whole ≡ true → IsPassOfNone result }
+        ensures ended { H.whole ≡ false → (last : Bool) × EndsByItself self.owner result last }
+    {
+        let SharedNative { writer } = self;
+        let (last, pass) = writer.let_go();
+        if let Some((kept, ended)) = last {
+            kept.free(ended);
+        }
+        pass
+    }
+
+    /// Afterwards the first pass has seen at least what the other had. It adds nothing.
+    pub fn learn(&self, pass: &mut Pass<H>, other: &Pass<H>)
+        requires pass { IsPassFor self.now.owner pass.old }
+        requires other { IsPassFor self.now.owner other.now }
+        ensures { Learns self.now.owner.block pass.old other.now pass.new }
+    {
+        self.writer.learn(pass, other);
+    }
+}
+
+impl<T: Copy + Drop, A: Allocator + Copy, H: Mark> SharedNative<T, A, H> {
+    /// A writer with a copy of the items, on a new native block with so many places, all of them
+    /// his, and a pass of the block.
+    ///
+    /// # Errors
+    ///
+    /// `AllocError` where memory for the block is refused.
+    ///
+    /// # Allocates
+    ///
+    /// Twice, or once for no places.
+    pub fn try_copy(alloc: A, items: &[T], capacity: usize) -> Result<(Self, Pass<H>), AllocError>
+        requires { length items.now ≤ capacity }
+        ensures made { IfOk result (λ r. (r.0 ≡ new_native_writer r.0.owner items.now capacity)
+            × IsFirst MAX_OWNERS H.whole r.0.owner) }
+        ensures pass { IfOk result (λ r. IsFreshPass r.0.owner r.1) }
+    {
+        let mut memory = WriterMemory::new(alloc, capacity)?;
+        memory.extend_from_slice(items);
+        match SoleBox::new(alloc, Kept::Nothing) {
+            Ok((count, pass)) => Ok((Self::of_sole(count, memory, capacity), pass)),
+            Err(_) => Err(AllocError),
+        }
+    }
+
+    /// A copy of these items, behind the others, where there are places for them.
+    #[inline(always)]
+    pub fn extend_reserved(&mut self, items: &[T])
+        requires { length self.old.items + length items.now ≤ self.old.capacity }
+        ensures { self.new ≡ with_writer_items self.old (self.old.items ++ items.now) }
+    {
+        self.writer.extend_from_slice(items);
+    }
+}
+
+impl<T: Drop, A: Allocator + Copy, H: Stepping> SharedNative<T, A, H> {
+    /// A new pass of the block, which has seen at least how this owner became one, and made
+    /// nothing. It adds nothing.
+    pub fn pass(&self) -> Pass<H>
+        ensures { IsNewPass self.now.owner result }
+    {
+        self.writer.pass()
+    }
+}
+
+mod take;

@@ -1,0 +1,4 @@
+pub mod Splits
+pub mod Rooms
+pub mod Takes
+pub mod Frozen

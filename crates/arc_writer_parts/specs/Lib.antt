@@ -1,0 +1,2 @@
+pub mod PartsOn
+pub mod Lends

@@ -1,0 +1,5 @@
+//! Parts of windows that are written, whatever the sort of their block.
+#![tactic(auto)]
+
+pub mod shared;
+pub mod sole;

@@ -1,0 +1,225 @@
+//! Room for one of several writers, who has to be alone for it.
+ghost use Rattle.std.specs.Prelude.{◌≡◌, ◌≤◌, ◌<◌, ◌+◌, ◌-◌, false, length, OnOk};
+ghost use Rattle.std.specs.Mem.{FitsInMemory, type_size};
+ghost use Rattle.arc_parts.specs.Shared.{MakesSharedRoom, MakesRoomBeside, ReclaimsShared};
+ghost use Rattle.arc_parts.specs.Shared.{asks_alone, as_shared, is_on_block};
+ghost use Rattle.arc_parts.specs.Steps.{IsPassAt};
+ghost use Rattle.arc_parts.specs.Window.{IsOfBuffer, PartsView};
+ghost use Rattle.arc_parts.specs.Writers.{capacity_of, room_for};
+
+use super::{SharedParts, SharedStorage};
+use crate::sole::SoleParts;
+use arc_buffer::buffer::BufferMut;
+use arc_buffer::kinds::Slice;
+use arc_owners::error::TryReserveError;
+use arc_owners::mark::Mark;
+use arc_owners::owners::Pass;
+use std::alloc::Allocator;
+use std::mem;
+
+impl<S: Slice, B: BufferMut<S::Item> + Drop, M: Drop, A: Allocator + Copy, H: Mark> SharedParts<
+    S,
+    B,
+    M,
+    A,
+    H,
+> {
+    /// Makes room for so many items more.
+    ///
+    /// # Errors
+    ///
+    /// Where the window hasn't the places already, in this order:
+    ///
+    /// - `NotUnique` on a block where another owner lives.
+    /// - `CapacityOverflow` where a block would have to grow to more than 2^63 - 1 places or bytes.
+    /// - `AllocError` where memory is refused for a larger block, or for a first one of any size.
+    ///
+    /// Everything is then as before.
+    ///
+    /// # Allocates
+    ///
+    /// Twice for a first block, and once where the block grows, as a sole writer's.
+    ///
+    /// # History
+    ///
+    /// On a block, where the window hasn't the places already, Alone with the answer. Where a first
+    /// block is made, the pass, which was of none, becomes that block's.
+    #[inline(always)]
+    #[tactic(auto, using(crate::proofs::Rooms::spare_shared))]
+    pub fn try_reserve_as(
+        &mut self,
+        additional: usize,
+        pass: &mut Pass<H>,
+    ) -> Result<(), TryReserveError>
+        requires item { FitsInMemory S.Item.row }
+        requires pass { IsPassAt self.old.place pass.old }
+        ensures room { MakesSharedRoom (asks_alone self.old additional) H.whole
+            (room_for false (type_size S.Item.row) self.old additional)
+            self.old self.new pass.old pass.new result }
+        ensures items { self.new.items ≡ self.old.items }
+        ensures enough { OnOk result
+            (length self.new.items + additional ≤ capacity_of self.new.role) }
+    {
+        if additional <= self.spare() {
+            return Ok(());
+        }
+        self.try_make_room(additional, pass)
+    }
+
+    /// How many places there are behind the items.
+    #[inline(always)]
+    #[tactic(auto, using(crate::proofs::Rooms::several_again))]
+    fn spare(&self) -> usize
+        ensures spare { result ≡ capacity_of self.now.role - length self.now.items }
+        ensures several { as_shared self.now ≡ self.now }
+        ensures enough { length self.now.items ≤ capacity_of self.now.role }
+    {
+        self.known_place();
+        self.capacity() - self.len()
+    }
+
+    /// Whether they stand on a block.
+    #[tactic(auto, using(crate::proofs::Rooms::on_block_answer))]
+    fn is_on_block(&self) -> bool
+        ensures { result ≡ is_on_block self.now.place }
+    {
+        match &self.on {
+            SharedStorage::Several(_) => true,
+            SharedStorage::Alone(parts) => parts.is_on_block(),
+        }
+    }
+
+    /// `try_reserve_as` where there are too few places, apart so that the test is inlined alone.
+    #[cold]
+    #[inline(never)]
+    fn try_make_room(
+        &mut self,
+        additional: usize,
+        pass: &mut Pass<H>,
+    ) -> Result<(), TryReserveError>
+        requires item { FitsInMemory S.Item.row }
+        requires short { capacity_of self.old.role - length self.old.items < additional }
+        requires pass { IsPassAt self.old.place pass.old }
+        ensures room { MakesSharedRoom (asks_alone self.old additional) H.whole
+            (room_for false (type_size S.Item.row) self.old additional)
+            self.old self.new pass.old pass.new result }
+        ensures items { self.new.items ≡ self.old.items }
+        ensures enough { OnOk result
+            (length self.new.items + additional ≤ capacity_of self.new.role) }
+    {
+        self.known_kind();
+        let nothing = Self::on_nothing(self.alloc);
+        let (parts, made) = mem::replace(self, nothing).with_room_as(additional, pass);
+        *self = parts;
+        made
+    }
+
+    /// The same by value.
+    #[tactic(auto, using(crate::proofs::Rooms::asked_shared, crate::proofs::Rooms::refused_shared, crate::proofs::Rooms::alone_shared, crate::proofs::Rooms::no_buffer_shared, crate::proofs::Rooms::sole_again))]
+    fn with_room_as(
+        self,
+        additional: usize,
+        pass: &mut Pass<H>,
+    ) -> (Self, Result<(), TryReserveError>)
+        requires item { FitsInMemory S.Item.row }
+        requires short { capacity_of self.role - length self.items < additional }
+        requires pass { IsPassAt self.place pass.old }
+        ensures room { MakesSharedRoom (asks_alone self additional) H.whole
+            (room_for false (type_size S.Item.row) self additional)
+            self result.0 pass.old pass.new result.1 }
+        ensures items { result.0.items ≡ self.items }
+        ensures enough { OnOk result.1
+            (length result.0.items + additional ≤ capacity_of result.0.role) }
+    {
+        self.known_kind();
+        self.known_place();
+        if self.is_on_block() {
+            return match self.try_into_unique_as(pass) {
+                Ok(sole) => Self::room_alone_as(sole, additional, pass),
+                Err(parts) => (parts, Err(TryReserveError::NotUnique)),
+            };
+        }
+        let SharedParts { on, alloc: _ } = self;
+        match on {
+            SharedStorage::Alone(parts) => {
+                parts.known_role();
+                Self::room_alone_as(parts, additional, pass)
+            }
+            SharedStorage::Several(_) => unreachable!(),
+        }
+    }
+
+    /// The only writer with room for so many items more, where there is some, as one of several.
+    #[tactic(auto, using(crate::proofs::Rooms::no_buffer_room))]
+    fn room_alone_as(
+        sole: SoleParts<S, B, M, A, H>,
+        additional: usize,
+        pass: &mut Pass<H>,
+    ) -> (Self, Result<(), TryReserveError>)
+        requires kind { S.DROPS ≡ false }
+        requires item { FitsInMemory S.Item.row }
+        requires place { ¬ IsOfBuffer sole.place }
+        requires pass { IsPassAt sole.place pass.old }
+        ensures room { MakesRoomBeside H.whole
+            (room_for false (type_size S.Item.row) sole additional)
+            sole result.0 pass.old pass.new result.1 }
+        ensures items { result.0.items ≡ sole.items }
+        ensures enough { OnOk result.1
+            (length result.0.items + additional ≤ capacity_of result.0.role) }
+    {
+        let mut sole = sole;
+        let made = sole.try_reserve_as(additional, pass);
+        (sole.into_shared_memory(), made)
+    }
+
+    /// Whether there is room for so many items more without memory; then it is made.
+    ///
+    /// # History
+    ///
+    /// On a block, where the window hasn't the places already, Alone with the answer.
+    #[tactic(auto, using(crate::proofs::Rooms::spare_reclaimed))]
+    pub fn try_reclaim_as(&mut self, additional: usize, pass: &mut Pass<H>) -> bool
+        requires item { FitsInMemory S.Item.row }
+        requires pass { IsPassAt self.old.place pass.old }
+        ensures room { ReclaimsShared (asks_alone self.old additional)
+            (room_for false (type_size S.Item.row) self.old additional)
+            self.old self.new pass.old pass.new result }
+        ensures items { self.new.items ≡ self.old.items }
+    {
+        if additional <= self.spare() {
+            return true;
+        }
+        self.known_kind();
+        let nothing = Self::on_nothing(self.alloc);
+        let (parts, found) = mem::replace(self, nothing).with_places_as(additional, pass);
+        *self = parts;
+        found
+    }
+
+    /// The same by value, where there are too few places.
+    #[tactic(auto, using(crate::proofs::Rooms::asked_reclaimed, crate::proofs::Rooms::refused_reclaimed, crate::proofs::Rooms::idle_reclaimed, crate::proofs::Rooms::no_buffer_shared, crate::proofs::Rooms::no_buffer_reclaimed))]
+    fn with_places_as(self, additional: usize, pass: &mut Pass<H>) -> (Self, bool)
+        requires item { FitsInMemory S.Item.row }
+        requires short { capacity_of self.role - length self.items < additional }
+        requires several { as_shared self ≡ self }
+        requires pass { IsPassAt self.place pass.old }
+        ensures room { ReclaimsShared (asks_alone self additional)
+            (room_for false (type_size S.Item.row) self additional)
+            self result.0 pass.old pass.new result.1 }
+        ensures items { result.0.items ≡ self.items }
+    {
+        self.known_kind();
+        self.known_place();
+        if self.is_on_block() {
+            return match self.try_into_unique_as(pass) {
+                Ok(sole) => {
+                    let mut sole = sole;
+                    let found = sole.try_reclaim(additional);
+                    (sole.into_shared_memory(), found)
+                }
+                Err(parts) => (parts, false),
+            };
+        }
+        (self, false)
+    }
+}

@@ -1,0 +1,63 @@
+//! One of several writers, as the only one.
+ghost use Rattle.std.specs.Prelude.{◌≡◌, IfOk, IfErr, is_ok};
+ghost use Rattle.arc_parts.specs.Shared.{AsksAlone, as_unique};
+ghost use Rattle.arc_parts.specs.Steps.{IsPassAt};
+
+use super::{SharedParts, SharedStorage};
+use crate::sole::SoleParts;
+use arc_buffer::buffer::BufferMut;
+use arc_buffer::kinds::Slice;
+use arc_owners::mark::Mark;
+use arc_owners::owners::Pass;
+use arc_sort_writers::native::SoleNative;
+use std::alloc::Allocator;
+
+impl<S: Slice, B: BufferMut<S::Item> + Drop, M: Drop, A: Allocator + Copy, H: Mark> SharedParts<
+    S,
+    B,
+    M,
+    A,
+    H,
+> {
+    /// The same items and places, as their only writer, where they stand on a block that no other
+    /// owner has. The places stay as many as they were, also where the block has more behind them:
+    /// those come where room is asked for (`SoleParts::try_reserve_as`). It takes no memory.
+    ///
+    /// # Errors
+    ///
+    /// The parts, on no block, and where another owner lives.
+    ///
+    /// # History
+    ///
+    /// On a block Alone with the answer.
+    pub fn try_into_unique_as(self, pass: &mut Pass<H>) -> Result<SoleParts<S, B, M, A, H>, Self>
+        requires pass { IsPassAt self.place pass.old }
+        ensures entry { AsksAlone self.place pass.old pass.new (is_ok result) }
+        ensures sole { IfOk result (λ sole. sole ≡ as_unique self) }
+        ensures refused { IfErr result (λ back. back ≡ self) }
+    {
+        self.known_kind();
+        let SharedParts { on, alloc } = self;
+        match on {
+            SharedStorage::Several(writer) => {
+                let capacity = writer.capacity();
+                let _ = writer.start();
+                match writer.try_into_sole_as(pass) {
+                    Ok((count, memory)) => {
+                        let parts = SoleNative::of_several(alloc, count, memory, capacity);
+                        Ok(SoleParts::in_native(parts))
+                    }
+                    Err(writer) => Err(Self::several(alloc, writer)),
+                }
+            }
+            SharedStorage::Alone(parts) => {
+                parts.known_role();
+                if parts.is_alone_as(pass) {
+                    Ok(parts)
+                } else {
+                    Err(Self::alone(alloc, parts))
+                }
+            }
+        }
+    }
+}

@@ -1,0 +1,353 @@
+//! Parts of a window that writes as the only owner of its block.
+ghost use Rattle.std.specs.Prelude.{◌≡◌, ◌≤◌, ◌+◌, [], length, replicate, false};
+ghost use Rattle.std.specs.Prelude.{IfOk, IfErr, OnOk, OnErr};
+ghost use Rattle.std.specs.Mem.{FitsInMemory, type_size};
+ghost use Rattle.arc_owners.specs.count.Calls.{IsPassOfNone};
+ghost use Rattle.arc_sort_writers.specs.Growth.{IfAsked, AsksForRoom};
+ghost use Rattle.arc_block.specs.Place.{nowhere};
+ghost use Rattle.arc_parts.specs.Steps.{IsPassAt, EndsShownAt};
+ghost use Rattle.arc_block.specs.Table.{sole_writer};
+ghost use Rattle.arc_parts.specs.Writers.{capacity_of, room_for, MakesWriter, MakesRoom};
+ghost use Rattle.arc_parts.specs.Writers.{IsWriterPlace};
+ghost use Rattle.arc_block.specs.Place.{size_at};
+ghost use Rattle.std.specs.Prelude.{IsTrue};
+ghost use Rattle.std.specs.Prelude.{◌↔◌};
+ghost use Rattle.arc_parts.specs.Window.{IsOfBuffer};
+ghost use Rattle.arc_parts.specs.Shared.{is_vector_at};
+
+use arc_buffer::buffer::BufferMut;
+use arc_buffer::kinds::{Slice, Zeroable};
+use arc_owners::error::{AllocError, TryReserveError};
+use arc_owners::mark::{Mark, Open};
+use arc_owners::owners::Pass;
+use arc_sort_writers::buffer::SoleBuffer;
+use arc_sort_writers::native::SoleNative;
+use arc_sort_writers::vector::SoleVector;
+use std::alloc::{Allocator, Global};
+use std::marker::Model;
+
+/// What a sole writer's parts are: items in memory of ours, in a vector, or in a caller's buffer.
+///
+/// This tag tells which, so that nothing of the block is read for it. Where all three are matched,
+/// the buffer's arm stands first: the compiler makes the first arm the last that it tests.
+#[derive(Drop)]
+pub(crate) enum SoleStorage<N, V, B> {
+    /// A native block's memory, or none.
+    Native(N),
+    /// A vector.
+    Vector(V),
+    /// A caller's buffer.
+    Buffer(B),
+}
+
+/// A row of the table of lists that its only owner writes: the items, where they stand, and how
+/// many places they have.
+///
+/// Dropped, they end as a window does.
+pub struct SoleParts<
+    S: Slice,
+    B: BufferMut<<S as Slice>::Item> + Drop = Vec<<S as Slice>::Item>,
+    M: Drop = (),
+    A: Allocator + Copy = Global,
+    H: Mark = Open,
+> {
+    on: SoleStorage<SoleNative<S, M, A, H>, SoleVector<S, B, M, A, H>, SoleBuffer<S, B, M, A, H>>,
+}
+
+impl<S: Slice, B: BufferMut<S::Item> + Drop, M: Drop, A: Allocator + Copy, H: Mark> Model
+    for SoleParts<S, B, M, A, H> {
+    ghost use Rattle.arc_parts.specs.Window.{PartsView};
+    ghost use Rattle.arc_writer_parts.specs.PartsOn.{sole_on};
+
+    ghost Value = { PartsView S.Item M };
+
+    ghost view = { λ p. sole_on p.on };
+}
+
+impl<S: Slice, B: BufferMut<S::Item> + Drop, M: Drop, A: Allocator + Copy, H: Mark> Drop
+    for SoleParts<S, B, M, A, H> {
+    fn drop(self)
+        ensures ended { H.whole ≡ false → EndsShownAt H H.real self.place }
+    {
+        let SoleParts { on } = self;
+        match on {
+            SoleStorage::Buffer(parts) => drop(parts),
+            SoleStorage::Native(parts) => drop(parts),
+            SoleStorage::Vector(parts) => drop(parts),
+        }
+    }
+}
+
+impl<S: Slice, B: BufferMut<S::Item> + Drop, M: Drop, A: Allocator + Copy, H: Mark> SoleParts<
+    S,
+    B,
+    M,
+    A,
+    H,
+> {
+    /// Items in memory of ours, or nothing.
+    #[inline(always)]
+    pub(crate) fn in_native(parts: SoleNative<S, M, A, H>) -> Self
+        ensures { result ≡ parts }
+    {
+        SoleParts {
+            on: SoleStorage::Native(parts),
+        }
+    }
+
+    /// Items in a vector.
+    pub(crate) fn in_vector(parts: SoleVector<S, B, M, A, H>) -> Self
+        ensures { result ≡ parts }
+    {
+        SoleParts {
+            on: SoleStorage::Vector(parts),
+        }
+    }
+
+    /// Items in a caller's buffer.
+    pub(crate) fn in_buffer(parts: SoleBuffer<S, B, M, A, H>) -> Self
+        ensures { result ≡ parts }
+    {
+        SoleParts {
+            on: SoleStorage::Buffer(parts),
+        }
+    }
+
+    /// No items and no places, on nothing.
+    pub fn on_nothing(alloc: A) -> Self
+        ensures { result ≡ record { items = []; place = nowhere; role = sole_writer 0 } }
+    {
+        Self::in_native(SoleNative::on_nothing(alloc))
+    }
+
+    /// Whether they stand on a caller's buffer.
+    pub fn is_on_buffer(&self) -> bool
+        ensures { IsTrue result ↔ IsOfBuffer self.now.place }
+    {
+        match &self.on {
+            SoleStorage::Buffer(parts) => parts.is_on_buffer(),
+            SoleStorage::Native(parts) => parts.is_on_buffer(),
+            SoleStorage::Vector(parts) => parts.is_on_buffer(),
+        }
+    }
+
+    /// Whether they stand on a vector.
+    pub fn is_on_vector(&self) -> bool
+        ensures { result ≡ is_vector_at self.now.place }
+    {
+        match &self.on {
+            SoleStorage::Buffer(parts) => parts.is_on_vector(),
+            SoleStorage::Native(parts) => parts.is_on_vector(),
+            SoleStorage::Vector(parts) => parts.is_on_vector(),
+        }
+    }
+
+    /// They stand on nothing, or on a block that counts its owners and may be written. Does
+    /// nothing: its contract is the law.
+    pub fn known_place(&self)
+        ensures { IsWriterPlace self.now.place }
+    {
+        match &self.on {
+            SoleStorage::Buffer(parts) => parts.known_place(),
+            SoleStorage::Native(parts) => parts.known_place(),
+            SoleStorage::Vector(parts) => parts.known_place(),
+        }
+    }
+
+    /// How many items there are.
+    #[inline(always)]
+    pub fn len(&self) -> usize
+        ensures { result ≡ length self.now.items }
+    {
+        match &self.on {
+            SoleStorage::Buffer(parts) => parts.len(),
+            SoleStorage::Native(parts) => parts.len(),
+            SoleStorage::Vector(parts) => parts.len(),
+        }
+    }
+
+    /// The items.
+    #[inline(always)]
+    pub fn as_slice(&self) -> &[S::Item]
+        ensures { result.now ≡ self.now.items }
+    {
+        match &self.on {
+            SoleStorage::Buffer(parts) => parts.as_slice(),
+            SoleStorage::Native(parts) => parts.as_slice(),
+            SoleStorage::Vector(parts) => parts.as_slice(),
+        }
+    }
+
+    /// How many places there are for items, from the first of them on.
+    #[inline(always)]
+    pub fn capacity(&self) -> usize
+        ensures capacity { result ≡ capacity_of self.now.role }
+        ensures enough { length self.now.items ≤ result }
+    {
+        match &self.on {
+            SoleStorage::Buffer(parts) => parts.capacity(),
+            SoleStorage::Native(parts) => parts.capacity(),
+            SoleStorage::Vector(parts) => parts.capacity(),
+        }
+    }
+
+    /// No items, with so many places: for none on nothing, else on a new native block. The pass,
+    /// which is of no block, becomes the block's.
+    ///
+    /// # Errors
+    ///
+    /// `AllocError` where memory for the block is refused; the pass is then as before.
+    ///
+    /// # Allocates
+    ///
+    /// Twice, except for none.
+    pub fn try_with_capacity_as(
+        alloc: A,
+        capacity: usize,
+        pass: &mut Pass<H>,
+    ) -> Result<Self, AllocError>
+        requires pass { IsPassOfNone pass.old }
+        ensures made { IfOk result (λ parts.
+            MakesWriter S.DROPS H.whole [] capacity parts pass.old pass.new) }
+        ensures refused { OnErr result ((1 ≤ capacity) × (pass.new ≡ pass.old)) }
+    {
+        match SoleNative::try_with_capacity_as(alloc, capacity, pass) {
+            Ok(parts) => Ok(Self::in_native(parts)),
+            Err(e) => Err(e),
+        }
+    }
+
+    /// A copy of the items, on a new native block with exactly a place for each; no items stand on
+    /// nothing. The pass, which is of no block, becomes the block's.
+    ///
+    /// # Errors
+    ///
+    /// `AllocError` where memory for the block is refused; the pass is then as before.
+    ///
+    /// # Allocates
+    ///
+    /// Twice, except for no items.
+    pub fn try_from_slice_as(
+        alloc: A,
+        items: &[S::Item],
+        pass: &mut Pass<H>,
+    ) -> Result<Self, AllocError>
+    where
+        S::Item: Copy,
+        requires pass { IsPassOfNone pass.old }
+        ensures made { IfOk result (λ parts.
+            MakesWriter S.DROPS H.whole items.now (length items.now) parts pass.old pass.new) }
+        ensures refused { OnErr result ((1 ≤ length items.now) × (pass.new ≡ pass.old)) }
+    {
+        match SoleNative::try_from_slice_as(alloc, items, pass) {
+            Ok(parts) => Ok(Self::in_native(parts)),
+            Err(e) => Err(e),
+        }
+    }
+
+    /// So many zeros, on a new native block with exactly a place for each; none stand on nothing.
+    /// The pass, which is of no block, becomes the block's.
+    ///
+    /// # Errors
+    ///
+    /// `AllocError` where memory for the block is refused; the pass is then as before.
+    ///
+    /// # Allocates
+    ///
+    /// Twice, except for none.
+    pub fn try_zeroed_as(alloc: A, count: usize, pass: &mut Pass<H>) -> Result<Self, AllocError>
+    where
+        S: Zeroable,
+        S::Item: Copy,
+        requires pass { IsPassOfNone pass.old }
+        ensures made { IfOk result (λ parts. MakesWriter S.DROPS H.whole
+            (replicate count S.zero_item) count parts pass.old pass.new) }
+        ensures refused { OnErr result ((1 ≤ count) × (pass.new ≡ pass.old)) }
+    {
+        match SoleNative::try_zeroed_as(alloc, count, pass) {
+            Ok(parts) => Ok(Self::in_native(parts)),
+            Err(e) => Err(e),
+        }
+    }
+
+    /// An array's items, which are moved as `try_from_slice_as` copies.
+    ///
+    /// # Errors
+    ///
+    /// The array comes back where memory for the block is refused; the pass is then as before.
+    ///
+    /// # Allocates
+    ///
+    /// Twice, except for no items.
+    pub fn try_from_array_as<const N: usize>(
+        alloc: A,
+        array: [S::Item; N],
+        pass: &mut Pass<H>,
+    ) -> Result<Self, [S::Item; N]>
+        requires pass { IsPassOfNone pass.old }
+        ensures made { IfOk result (λ parts.
+            MakesWriter S.DROPS H.whole array (length array) parts pass.old pass.new) }
+        ensures refused { IfErr result (λ back. (back ≡ array) × (1 ≤ length array)
+            × (pass.new ≡ pass.old)) }
+    {
+        match SoleNative::try_from_array_as::<N>(alloc, array, pass) {
+            Ok(parts) => Ok(Self::in_native(parts)),
+            Err(e) => Err(e),
+        }
+    }
+
+    /// Makes room for so many items more.
+    ///
+    /// # Errors
+    ///
+    /// Where the window hasn't the places already, in this order:
+    ///
+    /// - `Unsupported` where items that are dropped one by one end before the block's full places.
+    /// - `CapacityOverflow` where a block would have to grow to more than 2^63 - 1 places or bytes.
+    /// - `AllocError` where memory is refused for a larger block, or for a first one of any size.
+    ///
+    /// Everything is then as before.
+    ///
+    /// # Allocates
+    ///
+    /// Twice for a first block, and once where the block grows: where the places behind the items
+    /// aren't enough, unless items that aren't dropped one by one are no more than the places in
+    /// front of them, and the whole block is large enough.
+    ///
+    /// # History
+    ///
+    /// Nothing is added. Where a first block is made, the pass, which was of none, becomes that
+    /// block's.
+    #[inline(always)]
+    #[tactic(auto, using(arc_sort_writers::proofs::Growth::never_asked))]
+    pub fn try_reserve_as(
+        &mut self,
+        additional: usize,
+        pass: &mut Pass<H>,
+    ) -> Result<(), TryReserveError>
+        requires item { FitsInMemory S.Item.row }
+        requires pass { IsPassAt self.old.place pass.old }
+        ensures room { MakesRoom S.DROPS H.whole
+            (room_for S.DROPS (type_size S.Item.row) self.old additional)
+            self.old self.new pass.old pass.new result }
+        ensures items { self.new.items ≡ self.old.items }
+        ensures enough { OnOk result
+            (length self.new.items + additional ≤ capacity_of self.new.role) }
+        ensures own { IfAsked (room_for S.DROPS (type_size S.Item.row) self.old additional) (λ k.
+            AsksForRoom B.list B.places B.grows B.refuses self.old k (size_at self.new.place)
+            result) }
+    {
+        match &mut self.on {
+            SoleStorage::Buffer(parts) => parts.try_reserve_as(additional, pass),
+            SoleStorage::Native(parts) => parts.try_reserve_as(additional, pass),
+            SoleStorage::Vector(parts) => parts.try_reserve_as(additional, pass),
+        }
+    }
+}
+
+mod alone;
+mod buffers;
+mod ends;
+mod shared;
+mod vectors;
+mod write;

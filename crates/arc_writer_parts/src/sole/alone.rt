@@ -1,0 +1,121 @@
+//! What a sole writer has to tell who writes in the role of one of several.
+ghost use Rattle.std.specs.Prelude.{◌≡◌, ℕ, ◌↔◌, true, false, IsTrue};
+ghost use Rattle.arc_sort_writers.specs.NativeWriters.{IsAlonePlace};
+ghost use Rattle.arc_block.specs.Place.{IsOnBlock, at_owner};
+ghost use Rattle.arc_parts.specs.Shared.{AsksAlone};
+ghost use Rattle.arc_parts.specs.Steps.{IsPassAt};
+ghost use Rattle.arc_block.specs.Table.{sole_writer};
+ghost use Rattle.arc_parts.specs.Window.{IsBoxWhole};
+ghost use Rattle.arc_parts.specs.Writers.{capacity_of, idle_writer, with_full};
+
+use super::{SoleParts, SoleStorage};
+use arc_buffer::buffer::BufferMut;
+use arc_buffer::kinds::Slice;
+use arc_owners::mark::Mark;
+use arc_owners::owners::Pass;
+use arc_sort_writers::shared::SharedNative;
+use std::alloc::Allocator;
+
+impl<S: Slice, B: BufferMut<S::Item> + Drop, M: Drop, A: Allocator + Copy, H: Mark> SoleParts<
+    S,
+    B,
+    M,
+    A,
+    H,
+> {
+    /// They are a sole writer's. Does nothing: its contract is the law.
+    pub(crate) fn known_role(&self)
+        ensures { self.now.role ≡ sole_writer (capacity_of self.now.role) }
+    {
+        match &self.on {
+            SoleStorage::Native(parts) => parts.known_role(),
+            SoleStorage::Vector(parts) => parts.known_role(),
+            SoleStorage::Buffer(parts) => parts.known_role(),
+        }
+    }
+
+    /// Where one of several writers is by himself, full places aren't counted: none are more when
+    /// items are pushed. Does nothing: its contract is the law.
+    pub(crate) fn known_uncounted(&self)
+        requires kind { S.DROPS ≡ false }
+        requires place { IsAlonePlace self.now.place }
+        ensures { (len more : ℕ) → with_full len more self.now.place ≡ self.now.place }
+    {
+        match &self.on {
+            SoleStorage::Native(parts) => parts.known_uncounted(),
+            SoleStorage::Vector(parts) => parts.known_uncounted(),
+            SoleStorage::Buffer(parts) => parts.not_alone(),
+        }
+    }
+
+    /// Whether they stand on a block; else there are no items and no places.
+    pub(crate) fn is_on_block(&self) -> bool
+        ensures answer { IsTrue result ↔ IsOnBlock self.now.place }
+        ensures idle { result ≡ false → self.now ≡ idle_writer }
+    {
+        match &self.on {
+            SoleStorage::Native(parts) => parts.is_on_block(),
+            SoleStorage::Vector(parts) => parts.is_on_block(),
+            SoleStorage::Buffer(parts) => parts.is_on_block(),
+        }
+    }
+
+    /// Whether the list is all of the block's vector, which has no places more.
+    pub(crate) fn is_box_whole(&self) -> bool
+        ensures { IsTrue result ↔ IsBoxWhole self.now.items self.now.place }
+    {
+        match &self.on {
+            SoleStorage::Native(parts) => parts.is_box_whole(),
+            SoleStorage::Vector(parts) => parts.is_box_whole(),
+            SoleStorage::Buffer(parts) => parts.is_box_whole(),
+        }
+    }
+
+    /// Whether no other owner lives, by one load, as one of several owners asks. On no block the
+    /// answer is no.
+    ///
+    /// # History
+    ///
+    /// On a block Alone with the answer.
+    pub(crate) fn is_alone_as(&self, pass: &mut Pass<H>) -> bool
+        requires pass { IsPassAt self.now.place pass.old }
+        ensures { AsksAlone self.now.place pass.old pass.new result }
+    {
+        match &self.on {
+            SoleStorage::Native(parts) => parts.is_alone_as(pass),
+            SoleStorage::Vector(parts) => parts.is_alone_as(pass),
+            SoleStorage::Buffer(parts) => parts.is_alone_as(pass),
+        }
+    }
+
+    /// On a block they are of another one than one of several writers. Does nothing: its contract
+    /// is the law.
+    pub(crate) fn apart_from(&self, writer: &SharedNative<S::Item, A, H>)
+        ensures { at_owner self.now.place (Unit {0}) (λ o. ¬ (writer.now.owner.block ≡ o.block)) }
+    {
+        match &self.on {
+            SoleStorage::Native(parts) => parts.apart_from(writer),
+            SoleStorage::Vector(parts) => parts.apart_from(writer),
+            SoleStorage::Buffer(parts) => parts.apart_from(writer),
+        }
+    }
+
+    /// On a vector they are of another block than other parts on a vector, and stay as they are.
+    /// Does nothing: its contract is the law.
+    pub(crate) fn apart_from_sole(&mut self, other: &Self)
+        requires { IsAlonePlace self.old.place × IsAlonePlace other.now.place }
+        ensures same { self.new ≡ self.old }
+        ensures apart { at_owner self.old.place (Unit {0}) (λ o.
+            at_owner other.now.place (Unit {0}) (λ p. ¬ (p.block ≡ o.block))) }
+    {
+        match &mut self.on {
+            SoleStorage::Native(parts) => parts.is_nowhere(),
+            SoleStorage::Vector(parts) => match &other.on {
+                SoleStorage::Native(its) => its.is_nowhere(),
+                SoleStorage::Vector(its) => parts.apart_from_sole(its),
+                SoleStorage::Buffer(its) => its.not_alone(),
+            },
+            SoleStorage::Buffer(parts) => parts.not_alone(),
+        }
+    }
+}

@@ -1,0 +1,115 @@
+//! A sole writer's parts over a caller's buffer: made of one, and taken back as one.
+ghost use Rattle.std.specs.Prelude.{◌≡◌, true, length, Some, None};
+ghost use Rattle.std.specs.Prelude.{IfOk, IfErr, IfSome, IfNone};
+ghost use Rattle.arc_owners.specs.count.Calls.{IsPassOfNone, Leaves};
+ghost use Rattle.arc_block.specs.Block.{buffer_info};
+ghost use Rattle.arc_block.specs.Metadata.{IsMetadataAt, IsOnCallers};
+ghost use Rattle.arc_block.specs.Place.{at_owner, metadata_at};
+ghost use Rattle.arc_parts.specs.Steps.{IsPassAt};
+ghost use Rattle.arc_parts.specs.Window.{IsBufferWhole};
+ghost use Rattle.arc_parts.specs.Writers.{MakesBufferWriter};
+ghost use Rattle.arc_block.specs.Place.{size_at};
+
+use super::{SoleParts, SoleStorage};
+use arc_buffer::buffer::{BorrowMetadata, BufferMut};
+use arc_buffer::kinds::Slice;
+use arc_owners::mark::Mark;
+use arc_owners::owners::Pass;
+use arc_sort_writers::buffer::SoleBuffer;
+use std::alloc::Allocator;
+
+impl<S: Slice, B: BufferMut<S::Item> + Drop, M: Drop, A: Allocator + Copy, H: Mark> SoleParts<
+    S,
+    B,
+    M,
+    A,
+    H,
+> {
+    /// All items of a caller's buffer with its places, on a block that keeps the buffer as one that
+    /// may be written, with its metadata where there is some: no item is copied. The pass, which is
+    /// of no block, becomes the block's.
+    ///
+    /// # Errors
+    ///
+    /// Buffer and metadata come back where memory for the block is refused; the pass is then as
+    /// before.
+    ///
+    /// # Allocates
+    ///
+    /// Once.
+    pub fn try_from_buffer_as(
+        alloc: A,
+        buffer: B,
+        metadata: Option<M>,
+        pass: &mut Pass<H>,
+    ) -> Result<Self, (B, Option<M>)>
+        requires pass { IsPassOfNone pass.old }
+        ensures made { IfOk result (λ parts. MakesBufferWriter H.whole
+            (buffer_info true (B.places buffer) (length (B.list buffer)) metadata)
+            (B.list buffer) parts pass.new) }
+        ensures refused { IfErr result (λ back. (back.0 ≡ buffer) × (back.1 ≡ metadata)
+            × (pass.new ≡ pass.old)) }
+    {
+        match SoleBuffer::try_from_buffer_as(alloc, buffer, metadata, pass) {
+            Ok(parts) => Ok(Self::in_buffer(parts)),
+            Err(back) => Err(back),
+        }
+    }
+
+    /// The caller's buffer, where the items are all of it. Its metadata is dropped.
+    ///
+    /// # Errors
+    ///
+    /// The parts, on another block or none, and where the items are a part alone; the pass is then
+    /// as before.
+    ///
+    /// # History
+    ///
+    /// Taken, Down without a step.
+    pub fn try_into_buffer_as(self, pass: &mut Pass<H>) -> Result<B, Self>
+        requires pass { IsPassAt self.place pass.old }
+        ensures taken { IfOk result (λ buffer. IsBufferWhole self.items self.place
+            × (B.list buffer ≡ self.items) × (B.places buffer ≡ size_at self.place)) }
+        ensures entry { IfOk result (λ _. at_owner self.place ⊥ (λ o.
+            Leaves o pass.old pass.new true)) }
+        ensures refused { IfErr result (λ back. (back ≡ self)
+            × (¬ IsBufferWhole self.items self.place) × (pass.new ≡ pass.old)) }
+    {
+        let SoleParts { on } = self;
+        match on {
+            SoleStorage::Native(parts) => Err(Self::in_native(parts.not_buffer())),
+            SoleStorage::Vector(parts) => Err(Self::in_vector(parts.not_buffer())),
+            SoleStorage::Buffer(parts) => match parts.try_into_buffer_as(pass) {
+                Ok(buffer) => Ok(buffer),
+                Err(back) => Err(Self::in_buffer(back)),
+            },
+        }
+    }
+
+    /// The metadata of the block, where it was made with some.
+    pub fn metadata(&self) -> Option<&M>
+        ensures some { IfSome result (λ m. metadata_at self.now.place ≡ Some m.now) }
+        ensures none { IfNone result (metadata_at self.now.place ≡ None) }
+    {
+        match &self.on {
+            SoleStorage::Native(parts) => parts.metadata(),
+            SoleStorage::Vector(parts) => parts.metadata(),
+            SoleStorage::Buffer(parts) => parts.metadata(),
+        }
+    }
+
+    /// The metadata of the caller's buffer on which the parts stand.
+    pub fn borrowed_metadata(&self) -> Option<&B::Metadata>
+    where
+        B: BorrowMetadata,
+        ensures some { IfSome result (λ m.
+            IsMetadataAt B.list B.metadata self.now.place self.now.items m.now) }
+        ensures none { IfNone result (¬ IsOnCallers self.now.place) }
+    {
+        match &self.on {
+            SoleStorage::Native(parts) => parts.borrowed_metadata::<B>(),
+            SoleStorage::Vector(parts) => parts.borrowed_metadata(),
+            SoleStorage::Buffer(parts) => Some(parts.borrowed_metadata()),
+        }
+    }
+}

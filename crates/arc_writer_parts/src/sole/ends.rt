@@ -1,0 +1,363 @@
+//! How a sole writer's parts end, and what they become.
+ghost use Rattle.std.specs.Prelude.{◌≡◌, ◌≤◌, ◌↔◌, true, false, length, IfOk, IfErr, IsTrue, is_ok};
+ghost use Rattle.arc_owners.specs.count.Calls.{Asks, Leaves, Learns, IsNewPass, IsPassOfNone};
+ghost use Rattle.arc_block.specs.LayoutFacts.{layout_facts};
+ghost use Rattle.arc_owners.specs.count.Calls.{SeesAlone, IsPassFor};
+ghost use Rattle.arc_parts.specs.declared.storage.Storage.TheVariants.{Block as In};
+ghost use Rattle.arc_parts.specs.declared.storage.Storage.TheVariants.{Native as On};
+ghost use Rattle.arc_block.specs.Block.{IsWritable};
+ghost use Rattle.arc_block.specs.Place.{at_owner, IsOnBlock};
+ghost use Rattle.arc_block.specs.Table.{reader};
+ghost use Rattle.arc_parts.specs.Steps.{IsPassAt, EndsAt, Makes, Begins};
+ghost use Rattle.arc_parts.specs.Writers.{as_reader, as_sole, Freezes, IsWholeWriter};
+ghost use Rattle.arc_parts.specs.Writers.{BecomesSole, RefusesSole};
+ghost use Rattle.arc_parts.specs.Window.{IsHeld, IsBlockHeld, window_of};
+ghost use Rattle.arc_parts.specs.Window.{IsWithin, parts_of, window_seen};
+ghost use Rattle.arc_block.specs.Moves.{IsRefused, layout_move};
+
+use super::{SoleParts, SoleStorage};
+use arc_block::block::{Block, MAX_OWNERS, NativeBlock};
+use arc_block::layout::Layout;
+use arc_buffer::buffer::BufferMut;
+use arc_buffer::kinds::Slice;
+use arc_owners::mark::{Mark, Stepping};
+use arc_owners::owners::Pass;
+use arc_parts::parts::Parts;
+use arc_parts::storage::Storage;
+use arc_sort_writers::buffer::SoleBuffer;
+use arc_sort_writers::native::SoleNative;
+use arc_sort_writers::vector::SoleVector;
+use std::alloc::Allocator;
+
+impl<S: Slice, B: BufferMut<S::Item> + Drop, M: Drop, A: Allocator + Copy, H: Mark> SoleParts<
+    S,
+    B,
+    M,
+    A,
+    H,
+> {
+    /// The items from `start` to before `end` of a block that may be written, as their only
+    /// writer, where no other owner lives. Else the block comes back.
+    ///
+    /// # History
+    ///
+    /// Alone with the answer.
+    fn try_of_block_as(
+        alloc: A,
+        block: Block<S, B, M, A, MAX_OWNERS, H>,
+        start: usize,
+        end: usize,
+        pass: &mut Pass<H>,
+    ) -> Result<Self, Block<S, B, M, A, MAX_OWNERS, H>>
+        requires pass { IsPassFor block.owner pass.old }
+        requires within { IsWithin {T = S.Item} {M = M} (In block) start end }
+        requires writable { IsWritable block.facts.sort }
+        ensures entry { Asks block.owner pass.old pass.new (is_ok result) }
+        ensures sole { IfOk result (λ sole.
+            sole ≡ as_sole S.DROPS (parts_of (window_seen (In block) start end))) }
+        ensures others { IfErr result (λ back. back ≡ block) }
+    {
+        if block.is_vector() {
+            return match block.try_into_sole_as(alloc, pass) {
+                Ok((count, items)) => {
+                    Ok(Self::in_vector(SoleVector::over(alloc, count, items, start, end)))
+                }
+                Err(block) => Err(block),
+            };
+        }
+        match block.try_into_sole_buffer_as(pass) {
+            Ok(count) => Ok(Self::in_buffer(SoleBuffer::over(alloc, count, start, end))),
+            Err(block) => Err(block),
+        }
+    }
+
+    /// The items from `start` to before `end` of a native block, as their only writer, where no
+    /// other owner lives. Else the block comes back.
+    ///
+    /// # History
+    ///
+    /// Alone with the answer.
+    fn try_of_native_as(
+        alloc: A,
+        block: NativeBlock<S, A, MAX_OWNERS, H>,
+        start: usize,
+        end: usize,
+        pass: &mut Pass<H>,
+    ) -> Result<Self, NativeBlock<S, A, MAX_OWNERS, H>>
+        requires pass { IsPassFor block.owner pass.old }
+        requires within { IsWithin {T = S.Item} {M = M} (On block) start end }
+        ensures entry { Asks block.owner pass.old pass.new (is_ok result) }
+        ensures sole { IfOk result (λ sole.
+            sole ≡ as_sole S.DROPS (parts_of (window_seen (On block) start end))) }
+        ensures others { IfErr result (λ back. back ≡ block) }
+    {
+        match block.try_into_sole_as(start, end, pass) {
+            Ok((count, memory)) => {
+                // Of items that need no drop the memory has those from `start` on alone.
+                let first = memory.start();
+                let (start, end) = (start - first, end - first);
+                Ok(Self::in_native(SoleNative::over(alloc, count, memory, start, end)))
+            }
+            Err(shared) => Err(shared),
+        }
+    }
+
+    /// The same items at the same place as a reader's parts, as their only writer under the layout
+    /// `L`, where they stand on a block that may be written and that the layout holds, and that no
+    /// other owner has, or where there are none and they stand on no block.
+    ///
+    /// # Errors
+    ///
+    /// The parts, where the block's sort may not be written, or isn't held, or another owner lives,
+    /// or where there are items of a static slice.
+    ///
+    /// # History
+    ///
+    /// On a block that may be written Alone with the answer.
+    pub fn try_from_parts_as<L: Layout>(
+        parts: Parts<S, B, M, A, H>,
+        pass: &mut Pass<H>,
+    ) -> Result<Self, Parts<S, B, M, A, H>>
+        requires role { parts.role ≡ reader }
+        requires pass { IsPassAt parts.place pass.old }
+        ensures sole { IfOk result (λ sole. (sole ≡ as_sole S.DROPS parts)
+            × BecomesSole L.ANY parts pass.old pass.new) }
+        ensures refused { IfErr result (λ back. (back ≡ parts)
+            × RefusesSole L.ANY parts pass.old pass.new) }
+        ensures held { IfOk result (λ sole. IsBlockHeld (layout_facts L.Layout) sole.place) }
+    {
+        let (on, start, end, alloc) = parts.into_storage();
+        match on {
+            Storage::Native(block) => match Self::try_of_native_as(alloc, block, start, end, pass) {
+                Ok(sole) => Ok(sole),
+                Err(block) => Err(Parts::over(Storage::Native(block), start, end, alloc)),
+            },
+            Storage::Block(block) if !block.may_write(L::ANY) => {
+                Err(Parts::over(Storage::Block(block), start, end, alloc))
+            }
+            Storage::Block(block) => match Self::try_of_block_as(alloc, block, start, end, pass) {
+                Ok(sole) => Ok(sole),
+                Err(block) => Err(Parts::over(Storage::Block(block), start, end, alloc)),
+            },
+            Storage::Static(items) if start < end => {
+                Err(Parts::over(Storage::Static(items), start, end, alloc))
+            }
+            Storage::Raw(shared) => Err(Parts::over(Storage::Raw(shared), start, end, alloc)),
+            Storage::Static(_) => Ok(Self::on_nothing(alloc)),
+            Storage::Nothing(_) => Ok(Self::on_nothing(alloc)),
+        }
+    }
+
+    /// The same items and places, which others may read from now on. It adds nothing and takes no
+    /// memory.
+    pub fn freeze(self) -> Parts<S, B, M, A, H>
+        ensures { result ≡ as_reader self }
+    {
+        let SoleParts { on } = self;
+        match on {
+            SoleStorage::Native(parts) => parts.freeze(),
+            SoleStorage::Vector(parts) => parts.freeze(),
+            SoleStorage::Buffer(parts) => parts.freeze(),
+        }
+    }
+
+    /// The same items and places, which others may read from now on, as a window under the layout
+    /// `L` is. On nothing they are what no items are made of: a native block of no places, of which
+    /// the pass becomes one, where the layout has no static data.
+    ///
+    /// # Errors
+    ///
+    /// The parts, where the layout doesn't hold the block, or where memory for one of no places is
+    /// refused; the pass is then as before.
+    ///
+    /// # Allocates
+    ///
+    /// On nothing, where the layout has no static data.
+    pub fn try_freeze_as<L: Layout>(self, pass: &mut Pass<H>) -> Result<Parts<S, B, M, A, H>, Self>
+        requires pass { IsPassAt self.place pass.old }
+        ensures frozen { IfOk result (λ parts.
+            Freezes (layout_facts L.Layout) S.DROPS H.whole self parts pass.old pass.new) }
+        ensures stays { IfOk result (λ parts. IsOnBlock self.place
+            → (parts ≡ as_reader self) × (pass.new ≡ pass.old)) }
+        ensures made { IfOk result (λ parts. (¬ IsOnBlock self.place)
+            → Makes L.STATIC S.DROPS H.whole self.items (window_of parts)
+            × Begins (window_of parts) pass.old pass.new) }
+        ensures items { IfOk result (λ parts. parts.items ≡ self.items) }
+        ensures role { IfOk result (λ parts. parts.role ≡ reader) }
+        ensures held { IfOk result (λ parts. IsHeld (layout_facts L.Layout) parts.place) }
+        ensures refused { IfErr result (λ back. (back ≡ self)
+            × IsRefused (layout_move (layout_facts L.Layout) self.place) × (pass.new ≡ pass.old)) }
+    {
+        let SoleParts { on } = self;
+        match on {
+            SoleStorage::Native(parts) => match parts.try_freeze_as::<L, B>(pass) {
+                Ok(parts) => Ok(parts),
+                Err(back) => Err(Self::in_native(back)),
+            },
+            SoleStorage::Vector(parts) => match parts.try_freeze_as::<L>(pass) {
+                Ok(parts) => Ok(parts),
+                Err(back) => Err(Self::in_vector(back)),
+            },
+            SoleStorage::Buffer(parts) => match parts.try_freeze_as::<L>(pass) {
+                Ok(parts) => Ok(parts),
+                Err(back) => Err(Self::in_buffer(back)),
+            },
+        }
+    }
+
+    /// The same parts, as those of a window under the layout `L`, where that holds their block. It
+    /// adds nothing and takes no memory.
+    ///
+    /// # Errors
+    ///
+    /// The parts, exactly where they stand on a block that the layout doesn't hold.
+    pub fn try_with_layout<L: Layout>(self) -> Result<Self, Self>
+        ensures moved { IfOk result (λ parts. (parts ≡ self)
+            × IsBlockHeld (layout_facts L.Layout) self.place) }
+        ensures refused { IfErr result (λ back. (back ≡ self)
+            × (¬ IsBlockHeld (layout_facts L.Layout) self.place)) }
+    {
+        if self.is_held::<L>() {
+            return Ok(self);
+        }
+        Err(self)
+    }
+
+    /// Whether a layout holds the block, where there is one.
+    pub(crate) fn is_held<L: Layout>(&self) -> bool
+        ensures { IsTrue result ↔ IsBlockHeld (layout_facts L.Layout) self.now.place }
+    {
+        match &self.on {
+            SoleStorage::Native(parts) => parts.is_held::<L>(),
+            SoleStorage::Vector(parts) => parts.is_held::<L>(),
+            SoleStorage::Buffer(parts) => parts.is_held::<L>(),
+        }
+    }
+
+    /// The items as an array, where there are `N` of them, which on a block are all places of a
+    /// native one. Else the parts come back.
+    ///
+    /// # Errors
+    ///
+    /// The parts, with another number of items or of places; the pass is then as before.
+    ///
+    /// # History
+    ///
+    /// Taken off a block, Down without a step.
+    pub fn try_into_array_as<const N: usize>(self, pass: &mut Pass<H>) -> Result<[S::Item; N], Self>
+        requires pass { IsPassAt self.place pass.old }
+        ensures taken { IfOk result (λ array. IsWholeWriter N self × (array ≡ self.items)) }
+        ensures entry { IfOk result (λ _. at_owner self.place (pass.new ≡ pass.old) (λ o.
+            Leaves o pass.old pass.new true)) }
+        ensures refused { IfErr result (λ back. (back ≡ self) × (¬ IsWholeWriter N self)
+            × (pass.new ≡ pass.old)) }
+    {
+        let SoleParts { on } = self;
+        match on {
+            SoleStorage::Native(parts) => match parts.try_into_array_as::<N>(pass) {
+                Ok(array) => Ok(array),
+                Err(back) => Err(Self::in_native(back)),
+            },
+            SoleStorage::Vector(parts) => Err(Self::in_vector(parts.not_array())),
+            SoleStorage::Buffer(parts) => Err(Self::in_buffer(parts.not_memory())),
+        }
+    }
+
+    /// The same parts, of items of another kind. It adds nothing.
+    pub fn into_kind<K: Slice<Item = S::Item>>(self) -> SoleParts<K, B, M, A, H>
+        requires { K.DROPS ≡ S.DROPS }
+        ensures { result ≡ self }
+    {
+        let SoleParts { on } = self;
+        match on {
+            SoleStorage::Native(parts) => SoleParts::in_native(parts.into_kind()),
+            SoleStorage::Vector(parts) => SoleParts::in_vector(parts.into_kind()),
+            SoleStorage::Buffer(parts) => SoleParts::in_buffer(parts.into_kind()),
+        }
+    }
+
+    /// Ends the parts, and gives the block back.
+    ///
+    /// # History
+    ///
+    /// On a block Down, without a step.
+    pub fn release_as(self, pass: &mut Pass<H>)
+        requires pass { IsPassAt self.place pass.old }
+        ensures entry { at_owner self.place (pass.new ≡ pass.old) (λ o.
+            Leaves o pass.old pass.new true) }
+    {
+        let SoleParts { on } = self;
+        match on {
+            SoleStorage::Native(parts) => parts.release_as(pass),
+            SoleStorage::Vector(parts) => parts.release_as(pass),
+            SoleStorage::Buffer(parts) => parts.release_as(pass),
+        }
+    }
+
+    /// What a drop does: under `Open` the owner ends with a new pass, and the block is given back
+    /// with its items; under `Whole` it is forgotten, without a step, and its items stay. The pass
+    /// is the one that the owner ended with; on no block, and under `Whole`, it is of none.
+    ///
+    /// # History
+    ///
+    /// On a block Down under `Open`, without a step, and nothing under `Whole`.
+    pub fn let_go(self) -> Pass<H>
+        ensures forgotten { H.whole ≡ true → IsPassOfNone result }
+        ensures ended { H.whole ≡ false → EndsAt self.place result }
+    {
+        let SoleParts { on } = self;
+        match on {
+            SoleStorage::Native(parts) => parts.let_go(),
+            SoleStorage::Vector(parts) => parts.let_go(),
+            SoleStorage::Buffer(parts) => parts.let_go(),
+        }
+    }
+
+    /// Shows a pass the block's whole history so far, in which no other owner lives. It adds
+    /// nothing.
+    pub fn only(&self, pass: &mut Pass<H>)
+        requires pass { IsPassAt self.now.place pass.old }
+        ensures { at_owner self.now.place (pass.new ≡ pass.old) (λ o.
+            SeesAlone o pass.old pass.new) }
+    {
+        match &self.on {
+            SoleStorage::Native(parts) => parts.only(pass),
+            SoleStorage::Vector(parts) => parts.only(pass),
+            SoleStorage::Buffer(parts) => parts.only(pass),
+        }
+    }
+
+    /// Afterwards the first pass has seen at least what the other had. It adds nothing.
+    pub fn learn(&self, pass: &mut Pass<H>, other: &Pass<H>)
+        requires pass { IsPassAt self.now.place pass.old }
+        requires other { IsPassAt self.now.place other.now }
+        ensures { at_owner self.now.place (pass.new ≡ pass.old) (λ o.
+            Learns o.block pass.old other.now pass.new) }
+    {
+        match &self.on {
+            SoleStorage::Native(parts) => parts.learn(pass, other),
+            SoleStorage::Vector(parts) => parts.learn(pass, other),
+            SoleStorage::Buffer(parts) => parts.learn(pass, other),
+        }
+    }
+}
+
+impl<S: Slice, B: BufferMut<S::Item> + Drop, M: Drop, A: Allocator + Copy, H: Stepping> SoleParts<
+    S,
+    B,
+    M,
+    A,
+    H,
+> {
+    /// A new pass of the block, which has seen at least how this owner became one, and made
+    /// nothing; on no block a pass of none. It adds nothing.
+    pub fn pass(&self) -> Pass<H>
+        ensures { at_owner self.now.place (IsPassOfNone result) (λ o. IsNewPass o result) }
+    {
+        match &self.on {
+            SoleStorage::Native(parts) => parts.pass(),
+            SoleStorage::Vector(parts) => parts.pass(),
+            SoleStorage::Buffer(parts) => parts.pass(),
+        }
+    }
+}
