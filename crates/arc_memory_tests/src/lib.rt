@@ -7,8 +7,6 @@ mod blocks;
 #[cfg(test)]
 mod buffer;
 #[cfg(test)]
-mod headers;
-#[cfg(test)]
 mod kinds;
 #[cfg(test)]
 mod lease_writers;
@@ -16,6 +14,8 @@ mod lease_writers;
 mod lent_allocations;
 #[cfg(test)]
 mod page;
+#[cfg(test)]
+mod pieces;
 #[cfg(test)]
 mod places;
 #[cfg(test)]

@@ -37,11 +37,11 @@ pub enum StormError {
     /// A clone was refused.
     #[error(transparent)]
     Owner(OwnerError),
-    /// A thread could not be started.
-    #[error("no thread")]
+    /// A thread was refused.
+    #[error("thread refused")]
     Thread,
     /// Another window stands on the vector.
-    #[error("not alone")]
+    #[error("not unique")]
     Taken,
 }
 

@@ -116,7 +116,7 @@ where
     ///
     /// # Allocates
     ///
-    /// Twice, or once for no places.
+    /// Once.
     ///
     /// # History
     ///
