@@ -7,6 +7,8 @@ mod blocks;
 #[cfg(test)]
 mod buffer;
 #[cfg(test)]
+mod headers;
+#[cfg(test)]
 mod kinds;
 #[cfg(test)]
 mod lease_writers;
@@ -14,8 +16,6 @@ mod lease_writers;
 mod lent_allocations;
 #[cfg(test)]
 mod page;
-#[cfg(test)]
-mod pieces;
 #[cfg(test)]
 mod places;
 #[cfg(test)]

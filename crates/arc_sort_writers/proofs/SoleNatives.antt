@@ -33,7 +33,7 @@ module _ {T A : Type 0} where
   first m = m.places.under.start
 
   abbrev size : WriterMemory T A → ℕ
-  size m = m.places.under.whole
+  size m = m.allocation.count
 
   -- where a part ends behind which so many items lie
   abbrev last : WriterMemory T A → ℕ → ℕ
@@ -194,7 +194,7 @@ module _ {T M A : Type 0} where
   whole_native drops one_pass (Some o) m start behind beyond n seen view within left whole =
       let long = (long_native drops one_pass (Some o) m start behind beyond seen view within).0 in
       let there = subst (λ s. IsOnBlock s.place → IsNativeOf n s.place) (sym view) whole.block tt in
-      let all : length (xs m) ≤ n = omega (arith, left.1, m.own, there.1) in
+      let all : length (xs m) ≤ n = omega (arith, left.1, m.own.2, there.1) in
       let front : start ≡ 0 = omega (arith, long, whole.items, all, within.1) in
       let ends : last m behind ≡ length (xs m) = omega (arith, long, whole.items, all, within.1) in
       sym ((λ i. sub (xs m) (front i) (ends i)) ∙ sub-whole (xs m)) ∙ ap (λ s. s.items) view

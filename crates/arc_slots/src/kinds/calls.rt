@@ -110,7 +110,7 @@ pub trait CallsOf<S: Subsliceable> {
     ///
     /// # Allocates
     ///
-    /// Once, except for no items.
+    /// Twice, except for no items.
     ///
     /// # History
     ///

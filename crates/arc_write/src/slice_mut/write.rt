@@ -72,7 +72,7 @@ impl<
     ///
     /// # Allocates
     ///
-    /// Once for a first block, and once where the block grows: where the places behind the items
+    /// Twice for a first block, and once where the block grows: where the places behind the items
     /// aren't enough, unless items that aren't dropped one by one are no more than the places in
     /// front of them, and the whole block is large enough.
     ///

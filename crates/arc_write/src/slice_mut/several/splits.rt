@@ -116,7 +116,7 @@ where
     ///
     /// # Allocates
     ///
-    /// Once.
+    /// Twice, or once for no places.
     ///
     /// # History
     ///
