@@ -128,7 +128,6 @@ struct Hex<'a> {
 }
 
 /// The first word of a line, and what is left behind it.
-#[inline(always)]
 fn word(line: &[u8]) -> (&[u8], Rest)
     ensures { words_of_line line.now ≡ result.0.now ∷ words_in result.1 }
 {
@@ -141,7 +140,6 @@ fn word(line: &[u8]) -> (&[u8], Rest)
 }
 
 /// The number that a word says: at most 18 digits, the first one 0 in `0` alone.
-#[inline(always)]
 pub fn number_in(word: &[u8]) -> Option<usize>
     ensures { result ≡ number_of word.now }
 {
@@ -163,7 +161,6 @@ pub fn number_in(word: &[u8]) -> Option<usize>
 }
 
 /// The number that the first word says, and what is left behind it.
-#[inline(always)]
 fn number(rest: Rest) -> Option<(usize, Rest)>
     ensures { option_map (λ x. (Number x.0, words_in x.1)) result
         ≡ first_by (operand_of ANumber) (words_in rest.entry) }
@@ -179,7 +176,6 @@ fn number(rest: Rest) -> Option<(usize, Rest)>
 }
 
 /// The one number that is left.
-#[inline(always)]
 #[tactic(auto, using(crate::proofs::Forms::last_operand, crate::proofs::Forms::none_left))]
 fn one_number(rest: Rest) -> Option<usize>
     ensures { option_map (λ n. Number n ∷ []) result
@@ -193,7 +189,6 @@ fn one_number(rest: Rest) -> Option<usize>
 }
 
 /// The two numbers that are left.
-#[inline(always)]
 #[tactic(auto, unfolding(crate::specs::Reading::operands_of))]
 fn two_numbers(rest: Rest) -> Option<(usize, usize)>
     ensures { option_map (λ x. Number x.0 ∷ Number x.1 ∷ []) result
@@ -437,8 +432,7 @@ fn turning_verb_named(word: &[u8]) -> Option<Verb>
 }
 
 /// The form that a line begins with, and what is left of the line behind its first word, where that
-/// is a form which many lines have, and something is left.
-#[inline(always)]
+/// is a form which most lines have, and something is left.
 #[tactic(auto, unfolding(crate::specs::Reading::command_of, crate::specs::Reading::read_as))]
 fn usual_verb(line: &[u8]) -> Option<(Verb, &[u8])>
     ensures { IfSome result (λ found.
@@ -451,27 +445,9 @@ fn usual_verb(line: &[u8]) -> Option<(Verb, &[u8])>
             Some((Verb::Items(JustItems::Slice), rest))
         }
         [b's', b'u', b'b', b' ', rest @ ..] => Some((Verb::Sub, rest)),
-        [b'c', b'l', b'o', b'n', b'e', b' ', rest @ ..] => Some((
-            Verb::Number(OneNumber::Clone),
-            rest,
-        )),
-        [b'l', b'e', b'n', b' ', rest @ ..] => Some((Verb::Number(OneNumber::Len), rest)),
-        [b'r', b'o', b'o', b'm', b' ', rest @ ..] => Some((Verb::Number(OneNumber::Room), rest)),
-        [b'u', b'n', b'i', b'q', b' ', rest @ ..] => Some((Verb::Number(OneNumber::Uniq), rest)),
-        [b'p', b'u', b's', b'h', b' ', rest @ ..] => Some((Verb::Push, rest)),
-        [b'e', b'x', b't', b' ', rest @ ..] => Some((Verb::Ext, rest)),
-        [b'r', b'e', b's', b' ', rest @ ..] => Some((Verb::Numbers(TwoNumbers::Res), rest)),
-        [b'r', b'e', b'c', b' ', rest @ ..] => Some((Verb::Numbers(TwoNumbers::Rec), rest)),
-        [b't', b'r', b'u', b'n', b'c', b' ', rest @ ..] => Some((
-            Verb::Numbers(TwoNumbers::Trunc),
-            rest,
-        )),
-        [b'o', b'f', b'f', b' ', rest @ ..] => Some((Verb::Numbers(TwoNumbers::Off), rest)),
-        [b'c', b'a', b'p', b' ', rest @ ..] => Some((Verb::Number(OneNumber::Cap), rest)),
-        [b's', b'm', b'a', b'l', b'l', b' ', rest @ ..] => Some((
-            Verb::Items(JustItems::Small),
-            rest,
-        )),
+        [b'c', b'l', b'o', b'n', b'e', b' ', rest @ ..] => {
+            Some((Verb::Number(OneNumber::Clone), rest))
+        }
         _ => None,
     }
 }
@@ -506,7 +482,6 @@ fn with_nothing<A: Allocator>(verb: Bare, rest: Rest) -> Option<Command<A>>
 }
 
 /// The command that a form of one number makes of it.
-#[inline(always)]
 fn number_command<A: Allocator>(verb: OneNumber, number: usize) -> Command<A>
     ensures { line_command result ≡ (number_form verb).1 number }
 {
@@ -534,7 +509,6 @@ fn number_command<A: Allocator>(verb: OneNumber, number: usize) -> Command<A>
 }
 
 /// The command of a form of one number.
-#[inline(always)]
 #[tactic(auto, unfolding(crate::specs::Reading::read_as))]
 fn with_number<A: Allocator>(verb: OneNumber, rest: Rest) -> Option<Command<A>>
     ensures { option_map line_command result
@@ -586,7 +560,6 @@ fn with_numbers<A: Allocator>(verb: TwoNumbers, rest: Rest) -> Option<Command<A>
 }
 
 /// The command `Sub`.
-#[inline(always)]
 #[tactic(auto, unfolding(crate::specs::Reading::operands_of, crate::specs::Reading::read_as))]
 fn sub<A: Allocator>(rest: Rest) -> Option<Command<A>>
     ensures { option_map line_command result ≡ read_as (words_in rest.entry) Verb.Sub }
@@ -738,22 +711,6 @@ pub fn parse<A: Allocator + Copy>(alloc: A, line: &[u8]) -> Result<Option<Comman
         return Ok(None);
     }
     command(alloc, line)
-}
-
-/// The command that a line says, if it is one of those that most lines say, on a window that is
-/// there: to show it, to end it, to clone it or a part of it. `None` tells nothing of the line.
-#[inline(always)]
-pub fn parse_usual<A: Allocator>(line: &[u8]) -> Option<Command<A>>
-    ensures { IfSome result (λ c. Says line.now (line_command c)) }
-{
-    if line.len() > LONGEST_LINE {
-        return None;
-    }
-    match usual_verb(line) {
-        Some((Verb::Number(verb), rest)) => with_number(verb, Some(rest)),
-        Some((Verb::Sub, rest)) => sub(Some(rest)),
-        _ => None,
-    }
 }
 
 /// No line says two commands. Does nothing: its contract is the law.

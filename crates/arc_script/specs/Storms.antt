@@ -36,8 +36,8 @@ abbrev pub storm_fault_text : StormError → List ℕ
 storm_fault_text Alloc = codes "allocation error" ++ line_feed ∷ []
 storm_fault_text (Owner AllocError) = codes "allocation error" ++ line_feed ∷ []
 storm_fault_text (Owner CountFull) = codes "count full" ++ line_feed ∷ []
-storm_fault_text Thread = codes "thread refused" ++ line_feed ∷ []
-storm_fault_text Taken = codes "not unique" ++ line_feed ∷ []
+storm_fault_text Thread = codes "no thread" ++ line_feed ∷ []
+storm_fault_text Taken = codes "not alone" ++ line_feed ∷ []
 
 -- what the writer took
 abbrev pub StormWrites : StormEnd → (writer writer' : Traffic) → Type 0

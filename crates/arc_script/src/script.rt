@@ -1,7 +1,7 @@
 //! Running a script: lines from a reader, replies to a writer.
 ghost use Rattle.std.specs.Prelude.{◌≡◌, ◌<◌, ◌≤◌, ◌+◌, ◌++◌, ◌∷◌, List, ℕ, [], false, length};
 ghost use Rattle.std.specs.Prelude.{take, drop, OnOk, OnErr, IfOk, IfErr, IfSome, MatchOption};
-ghost use Rattle.std.specs.Prelude.{Option, Some, vec_len};
+ghost use Rattle.std.specs.Prelude.{Option, vec_len};
 ghost use Rattle.arc_forms.specs.Text.{line_feed};
 ghost use Rattle.arc_script.specs.Script.{AreLines, BeginsReplyText, HasNoFeed, IsReplyText};
 ghost use Rattle.arc_block.specs.Owned.{IsKept};
@@ -24,7 +24,7 @@ use crate::layout::{NamedLayout, ScriptLayout};
 use arc_block::layout::{BoxedSliceLayout, DefaultLayout, LayoutMut, RawLayout, VecLayout};
 use arc_buffer::kinds::Plain;
 use arc_commands::command::Cmd;
-use arc_forms::parse::{Command, LONGEST_LINE, parse, parse_usual};
+use arc_forms::parse::{Command, LONGEST_LINE, parse};
 use arc_forms::text::{push_answer, push_bad_line};
 use arc_owners::error::AllocError;
 use arc_table::passes::Passes;
@@ -85,59 +85,10 @@ pub fn write_out<W: Sink>(writer: &mut W, bytes: &[u8]) -> Result<(), ScriptErro
 /// The windows of a script, over bytes.
 type ByteTable<L, A> = Table<Plain<u8>, L, Vec<u8, A>, u64, A>;
 
-/// Carries out a command, and appends what it is answered.
-#[inline(always)]
-fn answer_command<L: NamedLayout, A: Allocator + Copy>(
-    table: &mut ByteTable<L, A>,
-    rt: &impl Wait,
-    command: Command<A>,
-    out: &mut Vec<u8, A>,
-) -> Result<(), AllocError>
-where
-    L::Writable: LayoutMut,
-    ensures ok { OnOk result (AnswersInto L.named (Some (line_command command)) table.old table.new
-        out.old.items out.new.items) }
-    ensures err { OnErr result (out.new.items ≡ out.old.items) }
-    ensures broken { OnErr result ((reply : Option ByteReply)
-        × CarriesOutSaid L.named table.old (Some (line_command command)) reply table.new) }
-{
-    let reply = table.step_here(rt, command);
-    push_answer(out, &reply)
-}
-
 /// Carries out the command that a line was read as, and appends what it is answered; a line that
 /// says none changes nothing else. The items that a `show` is answered go from the window into the
 /// reply's text. `Err` where memory is refused for that text, of which nothing is left then.
-#[inline(always)]
 fn answer<L: NamedLayout, A: Allocator + Copy>(
-    table: &mut ByteTable<L, A>,
-    rt: &impl Wait,
-    said: Option<Command<A>>,
-    out: &mut Vec<u8, A>,
-) -> Result<(), AllocError>
-where
-    L::Writable: LayoutMut,
-    ensures ok { OnOk result (AnswersInto L.named (option_map line_command said) table.old table.new
-        out.old.items out.new.items) }
-    ensures err { OnErr result (out.new.items ≡ out.old.items) }
-    ensures broken { OnErr result ((reply : Option ByteReply)
-        × CarriesOutSaid L.named table.old (option_map line_command said) reply table.new) }
-{
-    match said {
-        Some(Cmd::Show { window }) => push_answer(out, &table.show_in_place(window)),
-        Some(Cmd::Drop { window }) => answer_command(table, rt, Cmd::Drop { window }, out),
-        Some(Cmd::Clone { window }) => answer_command(table, rt, Cmd::Clone { window }, out),
-        Some(Cmd::Sub { window, start, end }) => {
-            answer_command(table, rt, Cmd::Sub { window, start, end }, out)
-        }
-        Some(command) => answer_said(table, rt, Some(command), out),
-        None => push_bad_line(out),
-    }
-}
-
-/// The same, wherever it isn't known what the line says.
-#[inline(never)]
-fn answer_said<L: NamedLayout, A: Allocator + Copy>(
     table: &mut ByteTable<L, A>,
     rt: &impl Wait,
     said: Option<Command<A>>,
@@ -235,7 +186,6 @@ where
     }
 
     /// Answers the line that is held.
-    #[inline(never)]
     fn end_line(&mut self, rt: &impl Wait) -> Result<(), AllocError>
         ensures ok { OnOk result
             (Ends L.named self.old.line.items self.old.too_long self.old.table
@@ -248,30 +198,13 @@ where
     {
         self.table.agree();
         let said = self.read_line()?;
-        answer_said(&mut self.table, rt, said, &mut self.out)?;
+        answer(&mut self.table, rt, said, &mut self.out)?;
         self.line.clear();
         self.too_long = false;
         Ok(())
     }
 
-    /// Answers a line where it stands, whatever it says.
-    #[inline(never)]
-    fn answer_any(&mut self, rt: &impl Wait, line: &[u8]) -> Result<(), AllocError>
-        ensures ok { OnOk result (Ends L.named line.now false self.old.table self.new.table
-            self.old.out.items self.new.out.items) }
-        ensures line { (self.new.line.items ≡ self.old.line.items)
-            × (self.new.too_long ≡ self.old.too_long) }
-        ensures err { OnErr result (self.new.out.items ≡ self.old.out.items) }
-        ensures broken { OnErr result
-            (MayEnd L.named line.now false self.old.table self.new.table) }
-    {
-        self.table.agree();
-        let said = parse(self.alloc, line)?;
-        answer_said(&mut self.table, rt, said, &mut self.out)
-    }
-
     /// Answers a line where it stands. Of the line that is held nothing changes.
-    #[inline(always)]
     fn answer_in_place(&mut self, rt: &impl Wait, line: &[u8]) -> Result<(), AllocError>
         ensures ok { OnOk result (Ends L.named line.now false self.old.table self.new.table
             self.old.out.items self.new.out.items) }
@@ -282,10 +215,8 @@ where
             (MayEnd L.named line.now false self.old.table self.new.table) }
     {
         self.table.agree();
-        match parse_usual(line) {
-            Some(command) => answer(&mut self.table, rt, Some(command), &mut self.out),
-            None => self.answer_any(rt, line),
-        }
+        let said = parse(self.alloc, line)?;
+        answer(&mut self.table, rt, said, &mut self.out)
     }
 
     /// Takes the end of a line and its line feed, and answers the line: where it stands, if nothing
@@ -534,7 +465,6 @@ where
 }
 
 /// The bytes before the first line feed, and those behind it.
-#[inline(always)]
 fn first_line(bytes: &[u8]) -> Option<(&[u8], &[u8])>
     ensures { MatchOption result (HasNoFeed bytes.now) (λ parts. HasNoFeed parts.0.now
         × (bytes.now ≡ parts.0.now ++ line_feed ∷ parts.1.now)) }

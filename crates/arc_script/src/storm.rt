@@ -37,11 +37,11 @@ pub enum StormError {
     /// A clone was refused.
     #[error(transparent)]
     Owner(OwnerError),
-    /// A thread was refused.
-    #[error("thread refused")]
+    /// A thread could not be started.
+    #[error("no thread")]
     Thread,
     /// Another window stands on the vector.
-    #[error("not unique")]
+    #[error("not alone")]
     Taken,
 }
 

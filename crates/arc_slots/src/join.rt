@@ -1,6 +1,6 @@
 //! Two windows of several writers, joined.
 ghost use Rattle.std.specs.Prelude.{◌≡◌, ◌==◌, ℕ, true, false, Bool, IfErr, IfSome, OnOk};
-ghost use Rattle.std.specs.Prelude.{None, Some};
+ghost use Rattle.std.specs.Prelude.{IfNone, None, Some};
 ghost use Rattle.arc_owners.specs.count.Calls.{Leaves};
 ghost use Rattle.arc_commands.specs.Blocks.{is_several};
 ghost use Rattle.arc_commands.specs.Seen.{seen_reply};
@@ -24,6 +24,7 @@ use std::alloc::Allocator;
 use std::mem;
 
 /// Joins the windows that are here, if both are of several writers: then the other one is gone.
+/// Where none is here, or no other one, nothing changes.
 pub fn join_at<
     S: Commands<A>,
     L: Layout,
@@ -40,10 +41,14 @@ where
     S::Small: SmallOf<S, L, B, M, A>,
     requires pass { HasPassFor passes.old.of_blocks.items (stand_of place.old) }
     requires other_pass { HasPassFor passes.old.of_blocks.items (stand_of other.old) }
-    ensures { IfSome place.old (λ s. IfSome other.old (λ o. (i j : ℕ) → (i == j) ≡ false
+    ensures joined { IfSome place.old (λ s. IfSome other.old (λ o. (i j : ℕ) → (i == j) ≡ false
         → JoinAnswers S.Calls.calls i j s o passes.old.of_blocks.items
         (seen_reply S.items_in S.items_in_box B.list result)
         place.new other.new passes.new.of_blocks.items)) }
+    ensures none { IfNone place.old ((result ≡ reply.NoWindow) × (place.new ≡ place.old)
+        × (other.new ≡ other.old) × (passes.new ≡ passes.old)) }
+    ensures no_other { IfNone other.old ((result ≡ reply.NoWindow) × (place.new ≡ place.old)
+        × (other.new ≡ other.old) × (passes.new ≡ passes.old)) }
 {
     let Some(slot) = place else {
         return Reply::NoWindow;

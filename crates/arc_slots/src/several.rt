@@ -1,12 +1,12 @@
 //! The window of one of several writers on a block.
 ghost use Rattle.std.specs.Prelude.{◌≡◌, ◌<◌, true, false, length, Err, Some};
-ghost use Rattle.std.specs.Prelude.{IfErr, IfOk, OnOk};
+ghost use Rattle.std.specs.Prelude.{IfErr, IfOk, OnErr, OnOk};
 ghost use Rattle.std.specs.Mem.{FitsInMemory, type_size};
 ghost use Rattle.std.specs.Vec.{vec_capacity};
 ghost use Rattle.arc_owners.specs.declared.error.OwnerError.TheVariants.{AllocError as no_memory};
 ghost use Rattle.arc_owners.specs.declared.mark.Whole.{Whole as whole_mark};
 ghost use Rattle.arc_parts.specs.Shared.{MakesSharedRoom, PushesShared, as_shared, as_unique};
-ghost use Rattle.arc_parts.specs.Shared.{asks_alone, is_vector_at, on_native};
+ghost use Rattle.arc_parts.specs.Shared.{LeavesVector, asks_alone, is_vector_at, on_native};
 ghost use Rattle.arc_parts.specs.Shared.{RefusesSplitAt, SplitsWriter};
 ghost use Rattle.arc_parts.specs.Steps.{IsPassAt};
 ghost use Rattle.arc_parts.specs.Writers.{capacity_of, room_for};
@@ -29,7 +29,7 @@ use crate::window::Held;
 use arc_block::layout::{Layout, LayoutMut};
 use arc_buffer::buffer::BufferMut;
 use arc_buffer::kinds::Slice;
-use arc_owners::error::{OwnerError, RangeError, TryReserveError};
+use arc_owners::error::{AllocError, OwnerError, RangeError, TryReserveError};
 use arc_owners::mark::Whole;
 use arc_owners::owners::Pass;
 use arc_write::slice_mut::ArcSliceMut;
@@ -65,8 +65,39 @@ fn write_beside_as<
 {
     match what {
         Writing::Nothing(additional) => window.try_reserve_as(additional, pass),
-        Writing::Item(item) => S::Calls::try_push_beside_as(window, item, pass),
-        Writing::Items(items) => S::Calls::try_extend_beside_as(window, &items, pass),
+        Writing::Item(item) => match S::Calls::try_push_beside_as(window, item, pass) {
+            Some(done) => done,
+            None => unreachable!(),
+        },
+        Writing::Items(items) => match S::Calls::try_extend_beside_as(window, &items, pass) {
+            Some(done) => done,
+            None => unreachable!(),
+        },
+    }
+}
+
+/// Moves a window of several from its vector to a native block, by a call that its kind has, and
+/// answers the new block's pass.
+fn try_leave_vector_as<
+    S: Commands<A>,
+    K: LayoutMut,
+    B: BufferMut<S::Item> + Drop,
+    M: Drop,
+    A: Allocator + Copy,
+>(
+    window: &mut ArcSliceMut<S, K, 0, B, M, A, Whole>,
+    pass: &mut Pass<Whole>,
+) -> Result<Pass<Whole>, AllocError>
+    requires shares { S.Calls.calls.shares ≡ true }
+    requires vector { is_vector_at window.old.place ≡ true }
+    requires pass { IsPassAt window.old.place pass.old }
+    ensures moved { IfOk result (λ new. LeavesVector false true window.old window.new
+        pass.old pass.new new) }
+    ensures refused { OnErr result ((window.new ≡ window.old) × (pass.new ≡ pass.old)) }
+{
+    match S::Calls::try_leave_vector_as(window, pass) {
+        Some(made) => made,
+        None => unreachable!(),
     }
 }
 
@@ -93,10 +124,16 @@ fn split_as<
     ensures refused { IfErr result (RefusesSplitAt window.old.place pass.old pass.new) }
 {
     match part {
-        Part::Back(at) => S::Calls::try_split_off_as(window, rt, at, pass),
+        Part::Back(at) => match S::Calls::try_split_off_as(window, rt, at, pass) {
+            Some(made) => made,
+            None => unreachable!(),
+        },
         Part::Front(at) => {
             let _ = window.capacity();
-            S::Calls::try_split_to_as(window, rt, at, pass)
+            match S::Calls::try_split_to_as(window, rt, at, pass) {
+                Some(made) => made,
+                None => unreachable!(),
+            }
         }
         Part::Whole | Part::Range { .. } => unreachable!(),
     }
@@ -317,7 +354,7 @@ where
             unreachable!()
         };
         let mut pass = passes.lend(block);
-        match S::Calls::try_leave_vector_as(window, &mut pass) {
+        match try_leave_vector_as::<S, _, _, _, _>(window, &mut pass) {
             Ok(first) => {
                 self.block = passes.keep(None, true, first);
                 passes.give_back(block, pass);

@@ -49,8 +49,8 @@ fn refusal_line(error: StormError) -> &'static [u8]
     match error {
         StormError::Alloc | StormError::Owner(OwnerError::AllocError) => b"allocation error\n",
         StormError::Owner(OwnerError::CountFull) => b"count full\n",
-        StormError::Thread => b"thread refused\n",
-        StormError::Taken => b"not unique\n",
+        StormError::Thread => b"no thread\n",
+        StormError::Taken => b"not alone\n",
     }
 }
 

@@ -1,6 +1,6 @@
 //! The calls that not all kinds have, and which kind has which.
 ghost use Rattle.std.specs.Prelude.{◌≡◌, ◌≤◌, ◌∷◌, [], Err, true, false, length, is_some, refl};
-ghost use Rattle.std.specs.Prelude.{IfNone, IfSome, None};
+ghost use Rattle.std.specs.Prelude.{◌&&◌, IfNone, IfSome, None};
 ghost use Rattle.std.specs.Prelude.{IfOk, IfErr, OnErr, OnOk};
 ghost use Rattle.std.specs.Mem.{FitsInMemory, type_size};
 ghost use Rattle.std.specs.Str.{IsUtf8};
@@ -194,12 +194,13 @@ pub trait CallsOf<S: Subsliceable> {
     fn into_shared<L: LayoutMut, B: BufferMut<S::Item> + Drop, M: Drop, A: Allocator + Copy>(
         sole: &mut Option<ArcSliceMut<S, L, 1, B, M, A, Whole>>,
     ) -> Option<ArcSliceMut<S, L, 0, B, M, A, Whole>>
-        requires call { calls.shares ≡ true }
+        ensures call { IfSome result (λ _. calls.shares ≡ true) }
         ensures shared { IfSome result (λ window. IfSome sole.old (λ w.
             (window ≡ as_shared w) × (¬ IsOfBuffer w.place))) }
         ensures taken { IfSome result (λ _. sole.new ≡ None) }
         ensures kept { IfNone result (sole.new ≡ sole.old) }
-        ensures refused { IfNone result (IfSome sole.old (λ w. IsOfBuffer w.place)) };
+        ensures refused { IfNone result (calls.shares ≡ true
+            → IfSome sole.old (λ w. IsOfBuffer w.place)) };
 
     /// Moves a window of several from its vector to a native block with as many places, as
     /// `ArcSliceMut::try_leave_vector_as`, and answers the new block's pass.
@@ -223,13 +224,15 @@ pub trait CallsOf<S: Subsliceable> {
     >(
         window: &mut ArcSliceMut<S, L, 0, B, M, A, Whole>,
         pass: &mut Pass<Whole>,
-    ) -> Result<Pass<Whole>, AllocError>
-        requires call { calls.shares ≡ true }
+    ) -> Option<Result<Pass<Whole>, AllocError>>
         requires vector { is_vector_at window.old.place ≡ true }
         requires pass { IsPassAt window.old.place pass.old }
-        ensures moved { IfOk result (λ new. LeavesVector false true window.old window.new
-            pass.old pass.new new) }
-        ensures refused { OnErr result ((window.new ≡ window.old) × (pass.new ≡ pass.old)) };
+        ensures call { is_some result ≡ calls.shares }
+        ensures moved { IfSome result (λ made. IfOk made (λ new. LeavesVector false true
+            window.old window.new pass.old pass.new new)) }
+        ensures refused { IfSome result (λ made. OnErr made ((window.new ≡ window.old)
+            × (pass.new ≡ pass.old))) }
+        ensures none { IfNone result ((window.new ≡ window.old) × (pass.new ≡ pass.old)) };
 
     /// The part of a window of several behind `at` places, as `ArcSliceMut::try_split_off_as`.
     ///
@@ -249,14 +252,16 @@ pub trait CallsOf<S: Subsliceable> {
         rt: &impl Wait,
         at: usize,
         pass: &mut Pass<Whole>,
-    ) -> Result<ArcSliceMut<S, L, 0, B, M, A, Whole>, OwnerError>
-        requires call { calls.shares ≡ true }
+    ) -> Option<Result<ArcSliceMut<S, L, 0, B, M, A, Whole>, OwnerError>>
         requires at { CanSplit S.boundary window.old.items (capacity_of window.old.role) at }
         requires pass { IsPassAt window.old.place pass.old }
-        ensures made { IfOk result (λ back. SplitsWriterOff whole_mark is_any false true at
-            window.old window.new back pass.old pass.new) }
-        ensures kept { IfErr result (λ _. window.new ≡ window.old) }
-        ensures refused { IfErr result (RefusesSplitAt window.old.place pass.old pass.new) };
+        ensures call { is_some result ≡ calls.shares }
+        ensures made { IfSome result (λ made. IfOk made (λ back. SplitsWriterOff whole_mark is_any false true at
+            window.old window.new back pass.old pass.new)) }
+        ensures kept { IfSome result (λ made. IfErr made (λ _. window.new ≡ window.old)) }
+        ensures refused { IfSome result (λ made. IfErr made
+            (RefusesSplitAt window.old.place pass.old pass.new)) }
+        ensures none { IfNone result ((window.new ≡ window.old) × (pass.new ≡ pass.old)) };
 
     /// The part of a window of several before `at` places, as `ArcSliceMut::try_split_to_as`.
     ///
@@ -276,14 +281,16 @@ pub trait CallsOf<S: Subsliceable> {
         rt: &impl Wait,
         at: usize,
         pass: &mut Pass<Whole>,
-    ) -> Result<ArcSliceMut<S, L, 0, B, M, A, Whole>, OwnerError>
-        requires call { calls.shares ≡ true }
+    ) -> Option<Result<ArcSliceMut<S, L, 0, B, M, A, Whole>, OwnerError>>
         requires at { CanSplit S.boundary window.old.items (capacity_of window.old.role) at }
         requires pass { IsPassAt window.old.place pass.old }
-        ensures made { IfOk result (λ front. SplitsWriterTo whole_mark is_any false true at
-            window.old front window.new pass.old pass.new) }
-        ensures kept { IfErr result (λ _. window.new ≡ window.old) }
-        ensures refused { IfErr result (RefusesSplitAt window.old.place pass.old pass.new) };
+        ensures call { is_some result ≡ calls.shares }
+        ensures made { IfSome result (λ made. IfOk made (λ front. SplitsWriterTo whole_mark is_any false true at
+            window.old front window.new pass.old pass.new)) }
+        ensures kept { IfSome result (λ made. IfErr made (λ _. window.new ≡ window.old)) }
+        ensures refused { IfSome result (λ made. IfErr made
+            (RefusesSplitAt window.old.place pass.old pass.new)) }
+        ensures none { IfNone result ((window.new ≡ window.old) × (pass.new ≡ pass.old)) };
 
     /// Puts the other window's places behind this one's, as `ArcSliceMut::try_unsplit_as`; where it
     /// doesn't, the other one stays in its place.
@@ -296,16 +303,16 @@ pub trait CallsOf<S: Subsliceable> {
         other: &mut Option<ArcSliceMut<S, L, 0, B, M, A, Whole>>,
         pass: &mut Pass<Whole>,
     ) -> Option<()>
-        requires call { calls.shares ≡ true }
         requires block { IfSome other.old (λ w. IsOneBlock window.old.place w.place) }
         requires pass { IsPassAt window.old.place pass.old }
+        ensures call { IfSome result (λ _. calls.shares ≡ true) }
         ensures joined { IfSome result (λ _. IfSome other.old (λ w.
             (can_join window.old w ≡ true) × (window.new ≡ joined_row window.old w)
             × LeavesAt w.place pass.old pass.new)) }
         ensures taken { IfSome result (λ _. other.new ≡ None) }
         ensures kept { IfNone result ((window.new ≡ window.old) × (other.new ≡ other.old)
             × (pass.new ≡ pass.old)) }
-        ensures refused { IfNone result (IfSome other.old (λ w.
+        ensures refused { IfNone result (calls.shares ≡ true → IfSome other.old (λ w.
             can_join window.old w ≡ false)) };
 
     /// An item more in a window of several, as `ArcSliceMut::try_push_as` pushes it. Refused, it is
@@ -326,17 +333,19 @@ pub trait CallsOf<S: Subsliceable> {
         window: &mut ArcSliceMut<S, L, 0, B, M, A, Whole>,
         item: S::Item,
         pass: &mut Pass<Whole>,
-    ) -> Result<(), TryReserveError>
-        requires call { calls.pushes ≡ true }
-        requires shares { calls.shares ≡ true }
+    ) -> Option<Result<(), TryReserveError>>
         requires item { FitsInMemory S.Item.row }
         requires pass { IsPassAt window.old.place pass.old }
-        ensures pushed { OnOk result (PushesShared (asks_alone window.old 1) true
+        ensures call { is_some result ≡ calls.pushes && calls.shares }
+        ensures pushed { IfSome result (λ done. OnOk done (PushesShared
+            (asks_alone window.old 1) true
             (room_for false (type_size S.Item.row) window.old 1) (item ∷ [])
-            window.old window.new pass.old pass.new) }
-        ensures refused { IfErr result (λ e. MakesSharedRoom (asks_alone window.old 1) true
+            window.old window.new pass.old pass.new)) }
+        ensures refused { IfSome result (λ done. IfErr done (λ e. MakesSharedRoom
+            (asks_alone window.old 1) true
             (room_for false (type_size S.Item.row) window.old 1)
-            window.old window.new pass.old pass.new (Err e)) };
+            window.old window.new pass.old pass.new (Err e))) }
+        ensures none { IfNone result ((window.new ≡ window.old) × (pass.new ≡ pass.old)) };
 
     /// A copy of the items more in a window of several, which are legal, as
     /// `ArcSliceMut::try_extend_from_slice_as` or `try_extend_from_str_as` puts it behind the others.
@@ -361,20 +370,20 @@ pub trait CallsOf<S: Subsliceable> {
         window: &mut ArcSliceMut<S, L, 0, B, M, A, Whole>,
         items: &[S::Item],
         pass: &mut Pass<Whole>,
-    ) -> Result<(), TryReserveError>
-        requires call { calls.extends ≡ true }
-        requires shares { calls.shares ≡ true }
+    ) -> Option<Result<(), TryReserveError>>
         requires legal { ∥ S.is_legal items.now ∥₁ }
         requires item { FitsInMemory S.Item.row }
         requires pass { IsPassAt window.old.place pass.old }
-        ensures extended { OnOk result (PushesShared
+        ensures call { is_some result ≡ calls.extends && calls.shares }
+        ensures extended { IfSome result (λ done. OnOk done (PushesShared
             (asks_alone window.old (length items.now)) true
             (room_for false (type_size S.Item.row) window.old (length items.now)) items.now
-            window.old window.new pass.old pass.new) }
-        ensures refused { IfErr result (λ e. MakesSharedRoom
+            window.old window.new pass.old pass.new)) }
+        ensures refused { IfSome result (λ done. IfErr done (λ e. MakesSharedRoom
             (asks_alone window.old (length items.now)) true
             (room_for false (type_size S.Item.row) window.old (length items.now))
-            window.old window.new pass.old pass.new (Err e)) };
+            window.old window.new pass.old pass.new (Err e))) }
+        ensures none { IfNone result ((window.new ≡ window.old) × (pass.new ≡ pass.old)) };
 }
 
 /// All of them: the calls of `Plain` and `ByteText`. W says whether there are small windows.

@@ -1,12 +1,17 @@
-//! Calls that keep what they had taken when memory is refused; and text.
+//! Calls that keep what they had taken when memory is refused; text; and what is printed.
 use super::window::{Heap, Writer};
-use arc_block::layout::DefaultLayoutMut;
+use arc_block::layout::{DefaultLayout, DefaultLayoutMut};
+use arc_buffer::kinds::Plain;
 use arc_owners::error::TryReserveError;
+use arc_read::slice::ArcSlice;
 use arc_write::slice_mut::ArcStrMut;
-use std::fmt::Write;
+use std::fmt::{self, Debug, LowerHex, Write};
 
 /// A window that writes text, whose memory a heap counts.
 type Text<'a> = ArcStrMut<DefaultLayoutMut, Vec<u8>, (), Heap<'a>>;
+
+/// A window of bytes that are read, whose memory a heap counts.
+type Bytes<'a> = ArcSlice<Plain<u8>, DefaultLayout, Vec<u8>, (), Heap<'a>>;
 
 /// Calls that take items one by one, and text.
 #[derive(Clone, Copy)]
@@ -19,6 +24,8 @@ pub enum Taking {
     Formatted,
     /// A text behind another.
     Text,
+    /// Bytes as a text.
+    Printed,
 }
 
 /// All of them.
@@ -27,6 +34,7 @@ pub const TAKINGS: &[Taking] = &[
     Taking::FromIter,
     Taking::Formatted,
     Taking::Text,
+    Taking::Printed,
 ];
 
 /// What comes: more than two blocks of a window that grows hold.
@@ -118,6 +126,30 @@ fn text(heap: Heap<'_>) -> Option<bool> {
     Some(grows(&mut text))
 }
 
+/// Whether two bytes are written in hexadecimal digits and then as a byte string; nothing where
+/// memory for the text is refused.
+fn as_text(heap: Heap<'_>, window: &Bytes<'_>) -> Option<bool> {
+    let mut out = fmt::Formatter::new(String::new(heap));
+    LowerHex::fmt(window, &mut out).ok()?;
+    Debug::fmt(window, &mut out).ok()?;
+    Some(out.into_inner().as_str() == "0affb\"\\n\\xff\"")
+}
+
+/// Whether bytes are printed. Where memory for the text is refused the window is as before, and is
+/// printed again.
+fn printed(heap: Heap<'_>) -> Option<bool> {
+    let bytes = [10, 255];
+    let window = match Bytes::try_from_slice(heap, &bytes) {
+        Ok(window) => window,
+        Err(_) => Bytes::try_from_slice(heap, &bytes).ok()?,
+    };
+    let is_written = match as_text(heap, &window) {
+        Some(is_written) => is_written,
+        None => as_text(heap, &window)?,
+    };
+    Some((is_written, window.as_slice()) == (true, bytes.as_slice()))
+}
+
 /// Whether a call takes all that comes.
 pub fn takes(heap: Heap<'_>, taking: Taking) -> Option<bool> {
     match taking {
@@ -125,5 +157,6 @@ pub fn takes(heap: Heap<'_>, taking: Taking) -> Option<bool> {
         Taking::FromIter => Some(from_iter(heap)),
         Taking::Formatted => Some(formatted(heap)),
         Taking::Text => text(heap),
+        Taking::Printed => printed(heap),
     }
 }

@@ -113,8 +113,8 @@ where
     >(
         window: &mut ArcSliceMut<S, L, 0, B, M, A, Whole>,
         pass: &mut Pass<Whole>,
-    ) -> Result<Pass<Whole>, AllocError> {
-        window.try_leave_vector_as(pass)
+    ) -> Option<Result<Pass<Whole>, AllocError>> {
+        Some(window.try_leave_vector_as(pass))
     }
 
     fn try_split_off_as<L: LayoutMut, B: BufferMut<S::Item> + Drop, M: Drop, A: Allocator + Copy>(
@@ -122,8 +122,8 @@ where
         rt: &impl Wait,
         at: usize,
         pass: &mut Pass<Whole>,
-    ) -> Result<ArcSliceMut<S, L, 0, B, M, A, Whole>, OwnerError> {
-        window.try_split_off_as(rt, at, pass)
+    ) -> Option<Result<ArcSliceMut<S, L, 0, B, M, A, Whole>, OwnerError>> {
+        Some(window.try_split_off_as(rt, at, pass))
     }
 
     fn try_split_to_as<L: LayoutMut, B: BufferMut<S::Item> + Drop, M: Drop, A: Allocator + Copy>(
@@ -131,8 +131,8 @@ where
         rt: &impl Wait,
         at: usize,
         pass: &mut Pass<Whole>,
-    ) -> Result<ArcSliceMut<S, L, 0, B, M, A, Whole>, OwnerError> {
-        window.try_split_to_as(rt, at, pass)
+    ) -> Option<Result<ArcSliceMut<S, L, 0, B, M, A, Whole>, OwnerError>> {
+        Some(window.try_split_to_as(rt, at, pass))
     }
 
     fn try_unsplit_as<L: LayoutMut, B: BufferMut<S::Item> + Drop, M: Drop, A: Allocator + Copy>(
@@ -153,10 +153,10 @@ where
         window: &mut ArcSliceMut<S, L, 0, B, M, A, Whole>,
         item: S::Item,
         pass: &mut Pass<Whole>,
-    ) -> Result<(), TryReserveError> {
+    ) -> Option<Result<(), TryReserveError>> {
         match window.try_push_as(item, pass) {
-            Ok(()) => Ok(()),
-            Err((e, _)) => Err(e),
+            Ok(()) => Some(Ok(())),
+            Err((e, _)) => Some(Err(e)),
         }
     }
 
@@ -169,7 +169,7 @@ where
         window: &mut ArcSliceMut<S, L, 0, B, M, A, Whole>,
         items: &[S::Item],
         pass: &mut Pass<Whole>,
-    ) -> Result<(), TryReserveError> {
-        window.try_extend_from_slice_as(items, pass)
+    ) -> Option<Result<(), TryReserveError>> {
+        Some(window.try_extend_from_slice_as(items, pass))
     }
 }

@@ -100,7 +100,7 @@ impl<S: Extendable + Subsliceable> CallsOf<S> for OwnedCalls {
         sole: &mut Option<ArcSliceMut<S, L, 1, B, M, A, Whole>>,
     ) -> Option<ArcSliceMut<S, L, 0, B, M, A, Whole>> {
         let _ = sole;
-        unreachable!()
+        None
     }
 
     fn try_leave_vector_as<
@@ -111,10 +111,10 @@ impl<S: Extendable + Subsliceable> CallsOf<S> for OwnedCalls {
     >(
         window: &mut ArcSliceMut<S, L, 0, B, M, A, Whole>,
         pass: &mut Pass<Whole>,
-    ) -> Result<Pass<Whole>, AllocError> {
+    ) -> Option<Result<Pass<Whole>, AllocError>> {
         let _ = window;
         let _ = pass;
-        unreachable!()
+        None
     }
 
     fn try_split_off_as<L: LayoutMut, B: BufferMut<S::Item> + Drop, M: Drop, A: Allocator + Copy>(
@@ -122,12 +122,12 @@ impl<S: Extendable + Subsliceable> CallsOf<S> for OwnedCalls {
         rt: &impl Wait,
         at: usize,
         pass: &mut Pass<Whole>,
-    ) -> Result<ArcSliceMut<S, L, 0, B, M, A, Whole>, OwnerError> {
+    ) -> Option<Result<ArcSliceMut<S, L, 0, B, M, A, Whole>, OwnerError>> {
         let _ = window;
         let _ = rt;
         let _ = at;
         let _ = pass;
-        unreachable!()
+        None
     }
 
     fn try_split_to_as<L: LayoutMut, B: BufferMut<S::Item> + Drop, M: Drop, A: Allocator + Copy>(
@@ -135,12 +135,12 @@ impl<S: Extendable + Subsliceable> CallsOf<S> for OwnedCalls {
         rt: &impl Wait,
         at: usize,
         pass: &mut Pass<Whole>,
-    ) -> Result<ArcSliceMut<S, L, 0, B, M, A, Whole>, OwnerError> {
+    ) -> Option<Result<ArcSliceMut<S, L, 0, B, M, A, Whole>, OwnerError>> {
         let _ = window;
         let _ = rt;
         let _ = at;
         let _ = pass;
-        unreachable!()
+        None
     }
 
     fn try_unsplit_as<L: LayoutMut, B: BufferMut<S::Item> + Drop, M: Drop, A: Allocator + Copy>(
@@ -151,18 +151,18 @@ impl<S: Extendable + Subsliceable> CallsOf<S> for OwnedCalls {
         let _ = window;
         let _ = other;
         let _ = pass;
-        unreachable!()
+        None
     }
 
     fn try_push_beside_as<L: LayoutMut, B: BufferMut<S::Item> + Drop, M: Drop, A: Allocator + Copy>(
         window: &mut ArcSliceMut<S, L, 0, B, M, A, Whole>,
         item: S::Item,
         pass: &mut Pass<Whole>,
-    ) -> Result<(), TryReserveError> {
+    ) -> Option<Result<(), TryReserveError>> {
         let _ = window;
         let _ = item;
         let _ = pass;
-        unreachable!()
+        None
     }
 
     fn try_extend_beside_as<
@@ -174,10 +174,10 @@ impl<S: Extendable + Subsliceable> CallsOf<S> for OwnedCalls {
         window: &mut ArcSliceMut<S, L, 0, B, M, A, Whole>,
         items: &[S::Item],
         pass: &mut Pass<Whole>,
-    ) -> Result<(), TryReserveError> {
+    ) -> Option<Result<(), TryReserveError>> {
         let _ = window;
         let _ = items;
         let _ = pass;
-        unreachable!()
+        None
     }
 }

@@ -104,8 +104,8 @@ impl CallsOf<Text> for TextCalls {
     fn try_leave_vector_as<L: LayoutMut, B: BufferMut<u8> + Drop, M: Drop, A: Allocator + Copy>(
         window: &mut ArcSliceMut<Text, L, 0, B, M, A, Whole>,
         pass: &mut Pass<Whole>,
-    ) -> Result<Pass<Whole>, AllocError> {
-        window.try_leave_vector_as(pass)
+    ) -> Option<Result<Pass<Whole>, AllocError>> {
+        Some(window.try_leave_vector_as(pass))
     }
 
     fn try_split_off_as<L: LayoutMut, B: BufferMut<u8> + Drop, M: Drop, A: Allocator + Copy>(
@@ -113,8 +113,8 @@ impl CallsOf<Text> for TextCalls {
         rt: &impl Wait,
         at: usize,
         pass: &mut Pass<Whole>,
-    ) -> Result<ArcSliceMut<Text, L, 0, B, M, A, Whole>, OwnerError> {
-        window.try_split_off_as(rt, at, pass)
+    ) -> Option<Result<ArcSliceMut<Text, L, 0, B, M, A, Whole>, OwnerError>> {
+        Some(window.try_split_off_as(rt, at, pass))
     }
 
     fn try_split_to_as<L: LayoutMut, B: BufferMut<u8> + Drop, M: Drop, A: Allocator + Copy>(
@@ -122,8 +122,8 @@ impl CallsOf<Text> for TextCalls {
         rt: &impl Wait,
         at: usize,
         pass: &mut Pass<Whole>,
-    ) -> Result<ArcSliceMut<Text, L, 0, B, M, A, Whole>, OwnerError> {
-        window.try_split_to_as(rt, at, pass)
+    ) -> Option<Result<ArcSliceMut<Text, L, 0, B, M, A, Whole>, OwnerError>> {
+        Some(window.try_split_to_as(rt, at, pass))
     }
 
     fn try_unsplit_as<L: LayoutMut, B: BufferMut<u8> + Drop, M: Drop, A: Allocator + Copy>(
@@ -144,19 +144,19 @@ impl CallsOf<Text> for TextCalls {
         window: &mut ArcSliceMut<Text, L, 0, B, M, A, Whole>,
         item: u8,
         pass: &mut Pass<Whole>,
-    ) -> Result<(), TryReserveError> {
+    ) -> Option<Result<(), TryReserveError>> {
         let _ = window;
         let _ = item;
         let _ = pass;
-        unreachable!()
+        None
     }
 
     fn try_extend_beside_as<L: LayoutMut, B: BufferMut<u8> + Drop, M: Drop, A: Allocator + Copy>(
         window: &mut ArcSliceMut<Text, L, 0, B, M, A, Whole>,
         items: &[u8],
         pass: &mut Pass<Whole>,
-    ) -> Result<(), TryReserveError> {
+    ) -> Option<Result<(), TryReserveError>> {
         let text = as_text(items);
-        window.try_extend_from_str_as(text, pass)
+        Some(window.try_extend_from_str_as(text, pass))
     }
 }

@@ -1,5 +1,5 @@
 -- The window stands where it stood, as one of several.
-use Rattle.std.proofs.Common.{◌≡◌, Option, sym, ap, ◌∙◌, subst}
+use Rattle.std.proofs.Common.{◌≡◌, Option, true, sym, ap, ◌∙◌, subst}
 use Rattle.std.specs.Prelude.{IfNone}
 use Rattle.arc_parts.specs.Window.{IsOfBuffer, PartsView}
 use Rattle.arc_slots.specs.Slots.{SlotView, row_of, stand_of, writer_slot}
@@ -39,4 +39,5 @@ returns-clause-may_not g c =
     (writes-fits g.S.Small.SmallOf.seen h w b c.in-Write.is c.self.invariant.0)
     g.S.Slice.DROPS
     (subst (λ (r : Option (PartsView g.row.S-Item.Denot g.row.M.Denot)).
-    IfNone r (IsOfBuffer w.place)) c.in_default-into_shared.is c.into_shared.ensures.refused)
+    IfNone r (g.S.Calls.CallsOf.calls.shares ≡ true → IsOfBuffer w.place))
+    c.in_default-into_shared.is c.into_shared.ensures.refused c.requires.shares)

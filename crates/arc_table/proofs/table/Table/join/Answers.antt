@@ -357,7 +357,7 @@ module _ (g : Over) (c : After-settle g) where
       let said = subst (λ (x : Option (SlotView g.row.S-Item.Denot g.row.M.Denot)).
       IfSome w (λ s. IfSome x (λ o. (k l : ℕ) → (k == l) ≡ false
       → JoinAnswers g.S.Calls.CallsOf.calls k l s o passes told new back after)))
-      c.replace-other.ensures.value c.join_at-reply.ensures in
+      c.replace-other.ensures.value c.join_at-reply.ensures.joined in
       subst (λ (x : State g.row.S-Item.Denot g.row.M.Denot). Done (setting g) x
       (command.Join c.args.i c.args.j) told (windows_of c.settle.new.self.index.items
       c.settle.new.self.numbers.items c.settle.new.self.places.items) after) c.self.view_is
