@@ -1,6 +1,6 @@
 -- Commands: what is read is written so, and what can be written is read again.
 use Rattle.std.proofs.Common.{◌≡◌, ℕ, ◌+◌, arith, Bool, true, false, leb, ◌≤◌, List, [], ◌∷◌, ◌++◌, length, cond, Option, Some, None, ◌⊎◌, inl, inr, refl, sym, ap, subst, ◌∙◌, append_assoc, append-nil, not}
-use Rattle.std.specs.Prelude.{map, IsSomeAnd, IfOk, OnErr, MatchOption, Result, Ok, Err}
+use Rattle.std.specs.Prelude.{map, IsSomeAnd, IfOk, IfSome, OnErr, MatchOption, Result, Ok, Err}
 use Rattle.std.specs.List.{join_with_byte, list_all, AllByRecursion}
 use Rattle.std.specs.Option.{option_map}
 use Rattle.std.proofs.lemmas.Bool.{cases_Bool, leb-true, le-leb, cond-false, cond-true}
@@ -310,6 +310,12 @@ pub read_ok : {V E : Type 0} (see : V → ByteCmd) (line : List ℕ) (r : Result
 read_ok see line (Ok None) fits e = unread_is_bad line (sym e)
 read_ok see line (Ok (Some c)) fits e = line_says line (see c) fits (sym e)
 read_ok see line (Err error) fits e = e
+
+-- the same of what is answered for some lines alone
+pub read_some : {V : Type 0} (see : V → ByteCmd) (line : List ℕ) (o : Option V) → length line ≤ longest_line
+    → option_map see o ≡ command_of (words_of_line line) → IfSome o (λ c. Says line (see c))
+read_some see line None fits e = tt
+read_some see line (Some c) fits e = line_says line (see c) fits (sym e)
 
 pub read_err : {V E : Type 0} (line : List ℕ) (r : Result V E) → length line ≤ longest_line
     → OnErr r (IsSomeAnd (command_of (words_of_line line)) BringsItems) → OnErr r ((c : ByteCmd) × Says line c × BringsItems c)

@@ -128,6 +128,7 @@ struct Hex<'a> {
 }
 
 /// The first word of a line, and what is left behind it.
+#[inline(always)]
 fn word(line: &[u8]) -> (&[u8], Rest)
     ensures { words_of_line line.now ≡ result.0.now ∷ words_in result.1 }
 {
@@ -140,6 +141,7 @@ fn word(line: &[u8]) -> (&[u8], Rest)
 }
 
 /// The number that a word says: at most 18 digits, the first one 0 in `0` alone.
+#[inline(always)]
 pub fn number_in(word: &[u8]) -> Option<usize>
     ensures { result ≡ number_of word.now }
 {
@@ -161,6 +163,7 @@ pub fn number_in(word: &[u8]) -> Option<usize>
 }
 
 /// The number that the first word says, and what is left behind it.
+#[inline(always)]
 fn number(rest: Rest) -> Option<(usize, Rest)>
     ensures { option_map (λ x. (Number x.0, words_in x.1)) result
         ≡ first_by (operand_of ANumber) (words_in rest.entry) }
@@ -176,6 +179,7 @@ fn number(rest: Rest) -> Option<(usize, Rest)>
 }
 
 /// The one number that is left.
+#[inline(always)]
 #[tactic(auto, using(crate::proofs::Forms::last_operand, crate::proofs::Forms::none_left))]
 fn one_number(rest: Rest) -> Option<usize>
     ensures { option_map (λ n. Number n ∷ []) result
@@ -189,6 +193,7 @@ fn one_number(rest: Rest) -> Option<usize>
 }
 
 /// The two numbers that are left.
+#[inline(always)]
 #[tactic(auto, unfolding(crate::specs::Reading::operands_of))]
 fn two_numbers(rest: Rest) -> Option<(usize, usize)>
     ensures { option_map (λ x. Number x.0 ∷ Number x.1 ∷ []) result
@@ -211,6 +216,7 @@ fn is_digit(byte: u8) -> bool
 }
 
 /// Whether each byte is a hex digit.
+#[inline(always)]
 fn are_digits(word: &[u8]) -> bool
     ensures { result ≡ list_all is_hex_digit word.now }
 {
@@ -235,6 +241,7 @@ fn value_of(digit: u8) -> u8
 }
 
 /// The byte that a word says, in two digits.
+#[inline(always)]
 fn byte_in(word: &[u8]) -> Option<u8>
     ensures { result ≡ byte_of word.now }
 {
@@ -248,6 +255,7 @@ fn byte_in(word: &[u8]) -> Option<u8>
 }
 
 /// The one byte that is left.
+#[inline(always)]
 #[tactic(auto, using(crate::proofs::Forms::last_operand, crate::proofs::Forms::none_left))]
 fn one_byte(rest: Rest) -> Option<u8>
     ensures { option_map (λ x. Byte x ∷ []) result
@@ -432,7 +440,8 @@ fn turning_verb_named(word: &[u8]) -> Option<Verb>
 }
 
 /// The form that a line begins with, and what is left of the line behind its first word, where that
-/// is a form which most lines have, and something is left.
+/// is a form which many lines have, and something is left.
+#[inline(always)]
 #[tactic(auto, unfolding(crate::specs::Reading::command_of, crate::specs::Reading::read_as))]
 fn usual_verb(line: &[u8]) -> Option<(Verb, &[u8])>
     ensures { IfSome result (λ found.
@@ -445,9 +454,27 @@ fn usual_verb(line: &[u8]) -> Option<(Verb, &[u8])>
             Some((Verb::Items(JustItems::Slice), rest))
         }
         [b's', b'u', b'b', b' ', rest @ ..] => Some((Verb::Sub, rest)),
-        [b'c', b'l', b'o', b'n', b'e', b' ', rest @ ..] => {
-            Some((Verb::Number(OneNumber::Clone), rest))
-        }
+        [b'c', b'l', b'o', b'n', b'e', b' ', rest @ ..] => Some((
+            Verb::Number(OneNumber::Clone),
+            rest,
+        )),
+        [b'l', b'e', b'n', b' ', rest @ ..] => Some((Verb::Number(OneNumber::Len), rest)),
+        [b'r', b'o', b'o', b'm', b' ', rest @ ..] => Some((Verb::Number(OneNumber::Room), rest)),
+        [b'u', b'n', b'i', b'q', b' ', rest @ ..] => Some((Verb::Number(OneNumber::Uniq), rest)),
+        [b'p', b'u', b's', b'h', b' ', rest @ ..] => Some((Verb::Push, rest)),
+        [b'e', b'x', b't', b' ', rest @ ..] => Some((Verb::Ext, rest)),
+        [b'r', b'e', b's', b' ', rest @ ..] => Some((Verb::Numbers(TwoNumbers::Res), rest)),
+        [b'r', b'e', b'c', b' ', rest @ ..] => Some((Verb::Numbers(TwoNumbers::Rec), rest)),
+        [b't', b'r', b'u', b'n', b'c', b' ', rest @ ..] => Some((
+            Verb::Numbers(TwoNumbers::Trunc),
+            rest,
+        )),
+        [b'o', b'f', b'f', b' ', rest @ ..] => Some((Verb::Numbers(TwoNumbers::Off), rest)),
+        [b'c', b'a', b'p', b' ', rest @ ..] => Some((Verb::Number(OneNumber::Cap), rest)),
+        [b's', b'm', b'a', b'l', b'l', b' ', rest @ ..] => Some((
+            Verb::Items(JustItems::Small),
+            rest,
+        )),
         _ => None,
     }
 }
@@ -482,6 +509,7 @@ fn with_nothing<A: Allocator>(verb: Bare, rest: Rest) -> Option<Command<A>>
 }
 
 /// The command that a form of one number makes of it.
+#[inline(always)]
 fn number_command<A: Allocator>(verb: OneNumber, number: usize) -> Command<A>
     ensures { line_command result ≡ (number_form verb).1 number }
 {
@@ -509,6 +537,7 @@ fn number_command<A: Allocator>(verb: OneNumber, number: usize) -> Command<A>
 }
 
 /// The command of a form of one number.
+#[inline(always)]
 #[tactic(auto, unfolding(crate::specs::Reading::read_as))]
 fn with_number<A: Allocator>(verb: OneNumber, rest: Rest) -> Option<Command<A>>
     ensures { option_map line_command result
@@ -521,6 +550,7 @@ fn with_number<A: Allocator>(verb: OneNumber, rest: Rest) -> Option<Command<A>>
 }
 
 /// The command that a form of two numbers makes of them.
+#[inline(always)]
 fn numbers_command<A: Allocator>(verb: TwoNumbers, window: usize, number: usize) -> Command<A>
     ensures { line_command result ≡ (numbers_form verb).1 window number }
 {
@@ -548,6 +578,7 @@ fn numbers_command<A: Allocator>(verb: TwoNumbers, window: usize, number: usize)
 }
 
 /// The command of a form of two numbers.
+#[inline(always)]
 #[tactic(auto, unfolding(crate::specs::Reading::read_as))]
 fn with_numbers<A: Allocator>(verb: TwoNumbers, rest: Rest) -> Option<Command<A>>
     ensures { option_map line_command result
@@ -560,6 +591,7 @@ fn with_numbers<A: Allocator>(verb: TwoNumbers, rest: Rest) -> Option<Command<A>
 }
 
 /// The command `Sub`.
+#[inline(always)]
 #[tactic(auto, unfolding(crate::specs::Reading::operands_of, crate::specs::Reading::read_as))]
 fn sub<A: Allocator>(rest: Rest) -> Option<Command<A>>
     ensures { option_map line_command result ≡ read_as (words_in rest.entry) Verb.Sub }
@@ -574,6 +606,7 @@ fn sub<A: Allocator>(rest: Rest) -> Option<Command<A>>
 }
 
 /// The command `Push`.
+#[inline(always)]
 #[tactic(auto, unfolding(crate::specs::Reading::operands_of, crate::specs::Reading::read_as))]
 fn push<A: Allocator>(rest: Rest) -> Option<Command<A>>
     ensures { option_map line_command result ≡ read_as (words_in rest.entry) Verb.Push }
@@ -711,6 +744,25 @@ pub fn parse<A: Allocator + Copy>(alloc: A, line: &[u8]) -> Result<Option<Comman
         return Ok(None);
     }
     command(alloc, line)
+}
+
+/// The command that a line says, if it is one of those that many lines say and that bring no items:
+/// its form is one of `usual_verb`, with numbers or a byte behind its first word. `None` tells
+/// nothing of the line. Takes no memory.
+#[inline(always)]
+pub fn parse_usual<A: Allocator>(line: &[u8]) -> Option<Command<A>>
+    ensures { IfSome result (λ c. Says line.now (line_command c)) }
+{
+    if line.len() > LONGEST_LINE {
+        return None;
+    }
+    match usual_verb(line) {
+        Some((Verb::Number(verb), rest)) => with_number(verb, Some(rest)),
+        Some((Verb::Numbers(verb), rest)) => with_numbers(verb, Some(rest)),
+        Some((Verb::Sub, rest)) => sub(Some(rest)),
+        Some((Verb::Push, rest)) => push(Some(rest)),
+        _ => None,
+    }
 }
 
 /// No line says two commands. Does nothing: its contract is the law.

@@ -66,6 +66,7 @@ fn reserve_words(error: TryReserveError) -> &'static [u8]
 }
 
 /// Appends words as they are.
+#[inline(always)]
 fn push_words<A: Allocator>(out: &mut Vec<u8, A>, words: &[u8]) -> Result<(), AllocError>
     ensures ok { OnOk result (out.new.items ≡ out.old.items ++ words.now) }
     ensures err { OnErr result (Extends out.old.items out.new.items) }
@@ -74,6 +75,20 @@ fn push_words<A: Allocator>(out: &mut Vec<u8, A>, words: &[u8]) -> Result<(), Al
         Ok(()) => Ok(()),
         Err(error) => Err(error.into()),
     }
+}
+
+/// Appends words as they are, or nothing where memory for them is refused.
+#[inline(always)]
+fn push_whole<A: Allocator>(out: &mut Vec<u8, A>, words: &[u8]) -> Result<(), AllocError>
+    ensures ok { OnOk result (out.new.items ≡ out.old.items ++ words.now) }
+    ensures err { OnErr result (out.new.items ≡ out.old.items) }
+{
+    let len = out.len();
+    let pushed = push_words(out, words);
+    if pushed.is_err() {
+        out.truncate(len);
+    }
+    pushed
 }
 
 /// Appends a number in decimal.
@@ -130,6 +145,55 @@ fn push_items<A: Allocator>(out: &mut Vec<u8, A>, items: &[u8]) -> Result<(), Al
     push_hex(out, items)
 }
 
+/// Appends the number of a window, and a line feed, or nothing where memory for them is refused.
+fn push_window_line<A: Allocator>(out: &mut Vec<u8, A>, number: usize) -> Result<(), AllocError>
+    ensures ok { OnOk result
+        (out.new.items ≡ out.old.items ++ (codes "h" ++ decimal number) ++ codes "\n") }
+    ensures err { OnErr result (out.new.items ≡ out.old.items) }
+{
+    let len = out.len();
+    let mut buffer = Buffer::new();
+    let digits = buffer.format(number as u64).as_bytes();
+    out.reserve(digits.len() + 2)?;
+    out.push_reserved(b'h');
+    if out.extend_from_slice(digits).is_err() {
+        out.truncate(len);
+        return Err(AllocError);
+    }
+    out.push_reserved(b'\n');
+    Ok(())
+}
+
+/// Appends that it is done, and a line feed, or nothing where memory for that is refused.
+#[inline(always)]
+fn push_ok<A: Allocator>(out: &mut Vec<u8, A>) -> Result<(), AllocError>
+    ensures ok { OnOk result (out.new.items ≡ out.old.items ++ codes "ok\n") }
+    ensures err { OnErr result (out.new.items ≡ out.old.items) }
+{
+    out.reserve(3)?;
+    out.push_reserved(b'o');
+    out.push_reserved(b'k');
+    out.push_reserved(b'\n');
+    Ok(())
+}
+
+/// Appends items as a word, and a line feed, or nothing where memory for them is refused.
+fn push_items_line<A: Allocator>(out: &mut Vec<u8, A>, items: &[u8]) -> Result<(), AllocError>
+    ensures ok { OnOk result
+        (out.new.items ≡ out.old.items ++ items_word items.now ++ codes "\n") }
+    ensures err { OnErr result (out.new.items ≡ out.old.items) }
+{
+    let len = out.len();
+    let pushed = match push_items(out, items) {
+        Ok(()) => push_words(out, b"\n"),
+        Err(error) => Err(error),
+    };
+    if pushed.is_err() {
+        out.truncate(len);
+    }
+    pushed
+}
+
 /// Appends the text of a reply. An `Err` may leave a part of it.
 fn push_reply<A: Allocator, X: AsSlice<u8>>(
     out: &mut Vec<u8, A>,
@@ -182,7 +246,29 @@ fn push_line<A: Allocator, X: AsSlice<u8>>(
 /// Appends what a line is answered that says a command: the text of the reply (`answer_text` in
 /// `specs/`), and a line feed. Items take two bytes each. Takes memory where `out` has no room:
 /// `Err` where that is refused, and `out` then has the bytes that it had.
+#[inline(always)]
 pub fn push_answer<A: Allocator, X: AsSlice<u8>>(
+    out: &mut Vec<u8, A>,
+    reply: &ByteReply<X, A>,
+) -> Result<(), AllocError>
+    ensures ok { OnOk result
+        (out.new.items ≡ out.old.items ++ answer_line (Some (line_reply X.items reply.now))) }
+    ensures err { OnErr result (out.new.items ≡ out.old.items) }
+{
+    match reply {
+        Reply::Ok => push_ok(out),
+        Reply::Yes => push_whole(out, b"yes\n"),
+        Reply::No => push_whole(out, b"no\n"),
+        Reply::New(number) => push_window_line(out, *number),
+        Reply::Items(items) => push_items_line(out, items.as_slice()),
+        reply => push_any(out, reply),
+    }
+}
+
+/// Appends the text of any reply, and a line feed. `Err` where memory for that is refused, and
+/// `out` then has the bytes that it had.
+#[inline(never)]
+fn push_any<A: Allocator, X: AsSlice<u8>>(
     out: &mut Vec<u8, A>,
     reply: &ByteReply<X, A>,
 ) -> Result<(), AllocError>
@@ -205,10 +291,5 @@ pub fn push_bad_line<A: Allocator>(out: &mut Vec<u8, A>) -> Result<(), AllocErro
         (out.new.items ≡ out.old.items ++ answer_line None) }
     ensures err { OnErr result (out.new.items ≡ out.old.items) }
 {
-    let len = out.len();
-    let pushed = push_words(out, b"bad line\n");
-    if pushed.is_err() {
-        out.truncate(len);
-    }
-    pushed
+    push_whole(out, b"bad line\n")
 }

@@ -8,7 +8,7 @@ use Rattle.arc_block.specs.declared.layout.Layout as Layout
 use Rattle.arc_script.specs.declared.layout.ScriptLayout.{ScriptLayout}
 use Rattle.arc_script.specs.State.{ByteState}
 use Rattle.arc_forms.specs.Text.{line_feed}
-use Rattle.arc_script.specs.Script.{HasNoFeed}
+use Rattle.arc_script.specs.Script.{HasNoFeed, OfWholeLines}
 use Rattle.arc_script.specs.Traffic.{Traffic, Exchanges, NoFault, TakesFront}
 use Rattle.arc_script.specs.Underway.{Holds, Ends, MayEnd, IsUnderway, IsAnswered, IsBegun}
 use Rattle.arc_script.specs.Underway.{IsThrough, IsBrokenOff}
@@ -19,6 +19,7 @@ use Rattle.arc_script.specs.declared.script.ScriptError.{ScriptError}
 use Rattle.arc_script.specs.declared.script.ScriptError.TheVariants.{Read, Write, Alloc}
 use Rattle.arc_script.proofs.Underway.{nothing_read, more_held, line_ended, went_out, begun_out}
 use Rattle.arc_script.proofs.Underway.{begun_front, answered_begun, still_begun, line_broken, begun_nothing}
+use Rattle.arc_script.proofs.Underway.{whole_answered}
 
 -- what holds whatever is answered
 pub on_ok : {T E P : Type 0} (r : Result T E) → P → OnOk r P
@@ -266,6 +267,17 @@ module _ {layout : ScriptLayout} {L A W : Type 0} {N : Named.Ghosts L W}
       (subst (λ o. IsBegun layout fault w.bytes run.input w1 o e.table) run.none_held
       (begun_at_end fault w1 e w.bytes run.input run.read))
 
+  -- then each whole line is answered
+  pub run_answered : (r r1 r2 w w1 : Traffic) (e : Engine L A W N G K) → IsRunning layout r r1 w w1 e
+      → r2.bytes ≡ r1.bytes → Exchanges (OfWholeLines (IsThrough layout e.table)) r r2 w w1
+  run_answered r r1 r2 w w1 e run same = record {
+    input = run.input;
+    text = run.read.text;
+    given = same ∙ run.given;
+    taken = run.read.taken;
+    fit = whole_answered run.read run.none_held;
+  }
+
   -- a run that stops within the bytes that it has read
   pub run_stops : (fault : ScriptError) (r r1 r2 w w1 w2 : Traffic) (e e1 : Engine L A W N G K)
       (bytes : List ℕ) → IsRunning layout r r1 w w1 e → r2.bytes ≡ r1.bytes ++ bytes
@@ -355,6 +367,12 @@ pub if_err_then : {T E : Type 0} {P Q : E → Type 0} (r : Result T E) → IfErr
     → ((e : E) → P e → Q e) → IfErr r Q
 if_err_then (Ok x) p f = tt
 if_err_then (Err e) p f = f e p
+
+-- the engine doesn't stop because a read failed
+pub why_no_read : {P : Type 0} (w w' : Traffic) (e : ScriptError) → IsWhy w w' e → e ≡ Read → P
+why_no_read w w' Read why is = absurd why
+why_no_read w w' Write why is = absurd cc
+why_no_read w w' Alloc why is = absurd cc
 
 -- why the engine stopped is the cause of the run's fault
 pub why_is_cause : (r r' w w1 w2 : Traffic) → r'.failures ≡ r.failures → NoFault w w1

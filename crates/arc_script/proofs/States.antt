@@ -6,6 +6,7 @@ use Rattle.std.specs.Option.{option_map}
 use Rattle.arc_commands.specs.RunOf.{RunOf}
 use Rattle.arc_script.specs.declared.layout.ScriptLayout.{ScriptLayout}
 use Rattle.arc_script.specs.Script.{AreLines, Answers, IsReplyText, BeginsReplyText}
+use Rattle.arc_script.specs.Script.{OfWholeLines, ended}
 use Rattle.arc_forms.specs.Seen.{IsReadAs}
 use Rattle.arc_forms.specs.Seen.{line_command}
 use Rattle.arc_commands.specs.State.{empty_state}
@@ -96,3 +97,16 @@ exchange_as P Q r r' w w' fit e = record {
   taken = e.taken;
   fit = fit e.input e.text e.fit;
 }
+
+-- and so with the whole lines of an input
+pub exchange_whole_as : (P Q : List ℕ → List ℕ → Type 0) (r r' w w' : Traffic)
+    → ((input text : List ℕ) → P input text → Q input text)
+    → Exchanges (OfWholeLines P) r r' w w' → Exchanges (OfWholeLines Q) r r' w w'
+exchange_whole_as P Q r r' w w' fit = exchange_as (OfWholeLines P) (OfWholeLines Q) r r' w w'
+    (λ input text h. record {
+      whole = h.whole;
+      rest = h.rest;
+      cut = h.cut;
+      last = h.last;
+      fit = fit (ended h.whole) text h.fit;
+    })

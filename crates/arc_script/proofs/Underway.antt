@@ -11,9 +11,10 @@ use Rattle.arc_script.specs.declared.layout.ScriptLayout.{ScriptLayout}
 use Rattle.arc_script.specs.State.{AnswersLine, ByteState}
 use Rattle.arc_forms.specs.Text.{line_feed, answer_text}
 use Rattle.arc_script.specs.Script.{HasNoFeed, AreLines, ended, last_line, IsReplyText}
+use Rattle.arc_script.specs.Script.{OfWholeLines}
 use Rattle.arc_script.specs.Traffic.{Traffic, TakesFront}
 use Rattle.arc_script.specs.Underway.{AnswersHeld, Holds, IsUnderway, IsAnswered}
-use Rattle.arc_script.specs.Underway.{IsBegun, Ends, MayEnd, MayLack}
+use Rattle.arc_script.specs.Underway.{IsBegun, IsThrough, Ends, MayEnd, MayLack}
 use Rattle.arc_script.specs.declared.script.ScriptError.{ScriptError}
 use Rattle.arc_script.specs.declared.script.ScriptError.TheVariants.{Read, Write, Alloc}
 use Rattle.arc_forms.specs.Commands.{ByteReply}
@@ -212,6 +213,29 @@ module _ {layout : ScriptLayout} {start input out held : List ℕ} {writer : Tra
     holds = u.holds;
     run = u.run;
     written = append-nil (u.text ++ out) ∙ u.written;
+  }
+
+  -- where no replies are held, the whole lines are answered
+  pub whole_answered : out ≡ [] → OfWholeLines (IsThrough layout state) input u.text
+  whole_answered none = record {
+    whole = u.whole;
+    rest = u.line;
+    cut = u.cut;
+    last = u.last;
+    fit = record {
+      lines = u.whole;
+      replies = u.replies;
+      cut = record {
+        whole = u.whole;
+        rest = [];
+        cut = sym (append-nil (ended u.whole));
+        each = u.each;
+        last = empty_has_no_feed;
+        are = refl;
+      };
+      run = u.run;
+      written = ap (λ xs. u.text ++ xs) (sym none) ∙ u.written;
+    };
   }
 
   -- whatever is read more, what was written and what is held begins the replies

@@ -3,7 +3,7 @@ use Rattle.std.specs.Prelude.{◌≡◌, ◌<◌, ℕ, List, [], ◌∷◌, map,
 use Rattle.std.specs.Prelude.{string_bytes, codes, ◌⊎◌, ◌++◌}
 use Rattle.std.specs.declared.alloc.Global.{Global}
 use Rattle.arc_script.specs.Arguments.{Answer, AreWords}
-use Rattle.arc_script.specs.Script.{IsReplyText, BeginsReplyText}
+use Rattle.arc_script.specs.Script.{IsReplyText, BeginsReplyText, AnswersWhole}
 use Rattle.arc_forms.specs.Text.{line_feed}
 use Rattle.arc_script.specs.Traffic.{Traffic, Exchanges, NoFault, Tells}
 use Rattle.arc_script.specs.Faults.{IsCause, fault_text}
@@ -49,9 +49,11 @@ module _ (layout : ScriptLayout) where
     pub failures : reader'.failures ≡ reader.failures
     pub clean : NoFault writer writer'
 
-  -- a run that was given up
+  -- a run that was given up; where a read failed, each whole line that came is answered
   pub record IsCut (reader reader' writer writer' : Traffic) (error : ScriptError) : Type 0 where
     pub text : Exchanges (BeginsReplyText layout) reader reader' writer writer'
+    pub answered : error ≡ Read
+        → Exchanges (AnswersWhole layout) reader reader' writer writer'
     pub cause : IsCause reader reader' writer writer' error
 
   -- a run of the script, its status, and what is told of it: nothing, or the line of its fault

@@ -50,6 +50,15 @@ byte_setting layout writes_any clone_wants =
       shares = true;
     })
 
+-- it goes together with the whole lines of an input, those that end by a line feed; what stands
+-- behind the last line feed is left
+pub record OfWholeLines (fits : List ℕ → List ℕ → Type 0) (input text : List ℕ) : Type 0 where
+  pub whole : List (List ℕ)
+  pub rest : List ℕ
+  pub cut : input ≡ ended whole ++ rest
+  pub last : HasNoFeed rest
+  pub fit : fits (ended whole) text
+
 -- static data, and blocks of a caller's making
 abbrev pub of_any : (by_itself : Bool) → (lone : ℕ → ℕ → Bool) → LayoutFacts
 of_any by_itself lone = record {
@@ -60,8 +69,8 @@ of_any by_itself lone = record {
 }
 
 -- What a script's tables are run under, by its layout: each has static data, and blocks may be of a
--- caller's making, for readers and writers. Clones may want memory on vectors, on an `Arc` that is a
--- block by itself, or on none.
+-- caller's making, for readers and writers. Clones may want memory on vectors, on an `Arc` that is
+-- a block by itself, or on none.
 abbrev pub script_setting : ScriptLayout → Setting ℕ
 script_setting under.Arc = byte_setting (of_any false never) true (λ sort. false)
 script_setting under.Boxed =
@@ -97,6 +106,10 @@ module _ (layout : ScriptLayout) where
     pub cut : AreLines input lines
     pub run : RunOf Answers empty_table lines replies after
     pub written : text ≡ ended (map answer_text replies)
+
+  -- what is written for the whole lines of an input
+  abbrev pub AnswersWhole : List ℕ → List ℕ → Type 0
+  AnswersWhole = OfWholeLines IsReplyText
 
   -- a beginning of what is written for an input
   pub record BeginsReplyText (input text : List ℕ) : Type 0 where

@@ -14,6 +14,7 @@ ghost use Rattle.arc_script.specs.Storms.{AsksForStorm, IsStorm};
 use crate::io::{Sink, Source};
 use crate::layout::ScriptLayout;
 use crate::script::{ScriptError, run_script, write_out};
+use crate::storm::OpenGate;
 use arc_owners::error::AllocError;
 use std::alloc::{Allocator, Global};
 use std::env::FillError;
@@ -23,7 +24,7 @@ use std::sync::Wait;
 use std::thread::Threads;
 use storms::{run_storm, workers_of};
 
-mod storms;
+pub mod storms;
 
 /// How long a word of the program's may be, in bytes: each that it knows is shorter.
 const WORD: usize = 64;
@@ -130,7 +131,7 @@ pub fn run_args<
 {
     let Some(layout) = layout_of(words) else {
         if let Some(workers) = workers_of(words) {
-            return run_storm(rt, workers, writer, faults);
+            return run_storm(rt, &OpenGate, workers, writer, faults);
         }
         tell(faults, b"usage: arcs arc|boxed|vec|raw|storm N\n");
         return 2;

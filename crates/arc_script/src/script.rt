@@ -1,9 +1,10 @@
 //! Running a script: lines from a reader, replies to a writer.
 ghost use Rattle.std.specs.Prelude.{◌≡◌, ◌<◌, ◌≤◌, ◌+◌, ◌++◌, ◌∷◌, List, ℕ, [], false, length};
 ghost use Rattle.std.specs.Prelude.{take, drop, OnOk, OnErr, IfOk, IfErr, IfSome, MatchOption};
-ghost use Rattle.std.specs.Prelude.{Option, vec_len};
+ghost use Rattle.std.specs.Prelude.{Option, Some, vec_len};
 ghost use Rattle.arc_forms.specs.Text.{line_feed};
-ghost use Rattle.arc_script.specs.Script.{AreLines, BeginsReplyText, HasNoFeed, IsReplyText};
+ghost use Rattle.arc_script.specs.Script.{AnswersWhole, AreLines, BeginsReplyText, HasNoFeed};
+ghost use Rattle.arc_script.specs.Script.{IsReplyText, OfWholeLines};
 ghost use Rattle.arc_block.specs.Owned.{IsKept};
 ghost use Rattle.arc_block.specs.declared.block.TheConstants.{MAX_OWNERS};
 ghost use Rattle.arc_script.specs.State.{CarriesOutSaid};
@@ -24,7 +25,7 @@ use crate::layout::{NamedLayout, ScriptLayout};
 use arc_block::layout::{BoxedSliceLayout, DefaultLayout, LayoutMut, RawLayout, VecLayout};
 use arc_buffer::kinds::Plain;
 use arc_commands::command::Cmd;
-use arc_forms::parse::{Command, LONGEST_LINE, parse};
+use arc_forms::parse::{Command, LONGEST_LINE, parse, parse_usual};
 use arc_forms::text::{push_answer, push_bad_line};
 use arc_owners::error::AllocError;
 use arc_table::passes::Passes;
@@ -85,10 +86,59 @@ pub fn write_out<W: Sink>(writer: &mut W, bytes: &[u8]) -> Result<(), ScriptErro
 /// The windows of a script, over bytes.
 type ByteTable<L, A> = Table<Plain<u8>, L, Vec<u8, A>, u64, A>;
 
+/// Carries out a command, and appends what it is answered.
+#[inline(always)]
+fn answer_command<L: NamedLayout, A: Allocator + Copy>(
+    table: &mut ByteTable<L, A>,
+    rt: &impl Wait,
+    command: Command<A>,
+    out: &mut Vec<u8, A>,
+) -> Result<(), AllocError>
+where
+    L::Writable: LayoutMut,
+    ensures ok { OnOk result (AnswersInto L.named (Some (line_command command)) table.old table.new
+        out.old.items out.new.items) }
+    ensures err { OnErr result (out.new.items ≡ out.old.items) }
+    ensures broken { OnErr result ((reply : Option ByteReply)
+        × CarriesOutSaid L.named table.old (Some (line_command command)) reply table.new) }
+{
+    let reply = table.step_here(rt, command);
+    push_answer(out, &reply)
+}
+
 /// Carries out the command that a line was read as, and appends what it is answered; a line that
 /// says none changes nothing else. The items that a `show` is answered go from the window into the
 /// reply's text. `Err` where memory is refused for that text, of which nothing is left then.
+#[inline(always)]
 fn answer<L: NamedLayout, A: Allocator + Copy>(
+    table: &mut ByteTable<L, A>,
+    rt: &impl Wait,
+    said: Option<Command<A>>,
+    out: &mut Vec<u8, A>,
+) -> Result<(), AllocError>
+where
+    L::Writable: LayoutMut,
+    ensures ok { OnOk result (AnswersInto L.named (option_map line_command said) table.old table.new
+        out.old.items out.new.items) }
+    ensures err { OnErr result (out.new.items ≡ out.old.items) }
+    ensures broken { OnErr result ((reply : Option ByteReply)
+        × CarriesOutSaid L.named table.old (option_map line_command said) reply table.new) }
+{
+    match said {
+        Some(Cmd::Show { window }) => push_answer(out, &table.show_in_place(window)),
+        Some(Cmd::Drop { window }) => answer_command(table, rt, Cmd::Drop { window }, out),
+        Some(Cmd::Clone { window }) => answer_command(table, rt, Cmd::Clone { window }, out),
+        Some(Cmd::Sub { window, start, end }) => {
+            answer_command(table, rt, Cmd::Sub { window, start, end }, out)
+        }
+        Some(command) => answer_said(table, rt, Some(command), out),
+        None => push_bad_line(out),
+    }
+}
+
+/// The same, wherever it isn't known what the line says.
+#[inline(always)]
+fn answer_said<L: NamedLayout, A: Allocator + Copy>(
     table: &mut ByteTable<L, A>,
     rt: &impl Wait,
     said: Option<Command<A>>,
@@ -186,6 +236,7 @@ where
     }
 
     /// Answers the line that is held.
+    #[inline(never)]
     fn end_line(&mut self, rt: &impl Wait) -> Result<(), AllocError>
         ensures ok { OnOk result
             (Ends L.named self.old.line.items self.old.too_long self.old.table
@@ -198,14 +249,15 @@ where
     {
         self.table.agree();
         let said = self.read_line()?;
-        answer(&mut self.table, rt, said, &mut self.out)?;
+        answer_said(&mut self.table, rt, said, &mut self.out)?;
         self.line.clear();
         self.too_long = false;
         Ok(())
     }
 
-    /// Answers a line where it stands. Of the line that is held nothing changes.
-    fn answer_in_place(&mut self, rt: &impl Wait, line: &[u8]) -> Result<(), AllocError>
+    /// Answers a line where it stands, whatever it says.
+    #[inline(never)]
+    fn answer_any(&mut self, rt: &impl Wait, line: &[u8]) -> Result<(), AllocError>
         ensures ok { OnOk result (Ends L.named line.now false self.old.table self.new.table
             self.old.out.items self.new.out.items) }
         ensures line { (self.new.line.items ≡ self.old.line.items)
@@ -216,7 +268,25 @@ where
     {
         self.table.agree();
         let said = parse(self.alloc, line)?;
-        answer(&mut self.table, rt, said, &mut self.out)
+        answer_said(&mut self.table, rt, said, &mut self.out)
+    }
+
+    /// Answers a line where it stands. Of the line that is held nothing changes.
+    #[inline(always)]
+    fn answer_in_place(&mut self, rt: &impl Wait, line: &[u8]) -> Result<(), AllocError>
+        ensures ok { OnOk result (Ends L.named line.now false self.old.table self.new.table
+            self.old.out.items self.new.out.items) }
+        ensures line { (self.new.line.items ≡ self.old.line.items)
+            × (self.new.too_long ≡ self.old.too_long) }
+        ensures err { OnErr result (self.new.out.items ≡ self.old.out.items) }
+        ensures broken { OnErr result
+            (MayEnd L.named line.now false self.old.table self.new.table) }
+    {
+        self.table.agree();
+        match parse_usual(line) {
+            Some(command) => answer(&mut self.table, rt, Some(command), &mut self.out),
+            None => self.answer_any(rt, line),
+        }
     }
 
     /// Takes the end of a line and its line feed, and answers the line: where it stands, if nothing
@@ -346,6 +416,10 @@ where
             → IsRunning L.named r (R.traffic reader.old) w (W.traffic writer.old) self.old
             → Exchanges (IsBrokenOff L.named fault self.new.table) r (R.traffic reader.new)
             w (W.traffic writer.new)) }
+        ensures answered { IfErr result (λ fault. fault ≡ ScriptError.Read → (r w : Traffic)
+            → IsRunning L.named r (R.traffic reader.old) w (W.traffic writer.old) self.old
+            → Exchanges (OfWholeLines (IsThrough L.named self.new.table)) r (R.traffic reader.new)
+            w (W.traffic writer.new)) }
         ensures fault { IfErr result
             (IsCause (R.traffic reader.old) (R.traffic reader.new) (W.traffic writer.old)
             (W.traffic writer.new)) }
@@ -432,6 +506,9 @@ where
         ensures begun { IfErr result (λ fault.
             Exchanges (IsBrokenOff L.named fault self.new.table) (R.traffic reader.old)
             (R.traffic reader.new) (W.traffic writer.old) (W.traffic writer.new)) }
+        ensures answered { IfErr result (λ fault. fault ≡ ScriptError.Read
+            → Exchanges (OfWholeLines (IsThrough L.named self.new.table)) (R.traffic reader.old)
+            (R.traffic reader.new) (W.traffic writer.old) (W.traffic writer.new)) }
         ensures fault { IfErr result
             (IsCause (R.traffic reader.old) (R.traffic reader.new) (W.traffic writer.old)
             (W.traffic writer.new)) }
@@ -465,6 +542,7 @@ where
 }
 
 /// The bytes before the first line feed, and those behind it.
+#[inline(always)]
 fn first_line(bytes: &[u8]) -> Option<(&[u8], &[u8])>
     ensures { MatchOption result (HasNoFeed bytes.now) (λ parts. HasNoFeed parts.0.now
         × (bytes.now ≡ parts.0.now ++ line_feed ∷ parts.1.now)) }
@@ -509,6 +587,11 @@ where
         Exchanges (ThenEnds L.named (IsBrokenOff L.named fault) result.1.of_blocks.items)
         (R.traffic reader.old) (R.traffic reader.new) (W.traffic writer.old)
         (W.traffic writer.new)) }
+    ensures answered { IfErr result.0 (λ fault. fault ≡ ScriptError.Read
+        → Exchanges (OfWholeLines
+        (ThenEnds L.named (IsThrough L.named) result.1.of_blocks.items))
+        (R.traffic reader.old) (R.traffic reader.new) (W.traffic writer.old)
+        (W.traffic writer.new)) }
     ensures fault { IfErr result.0
         (IsCause (R.traffic reader.old) (R.traffic reader.new) (W.traffic writer.old)
         (W.traffic writer.new)) }
@@ -543,6 +626,9 @@ where
     ensures begun { OnErr result
         (Exchanges (BeginsReplyText L.named) (R.traffic reader.old) (R.traffic reader.new)
         (W.traffic writer.old) (W.traffic writer.new)) }
+    ensures answered { IfErr result (λ fault. fault ≡ ScriptError.Read
+        → Exchanges (AnswersWhole L.named) (R.traffic reader.old) (R.traffic reader.new)
+        (W.traffic writer.old) (W.traffic writer.new)) }
     ensures fault { IfErr result
         (IsCause (R.traffic reader.old) (R.traffic reader.new) (W.traffic writer.old)
         (W.traffic writer.new)) }
@@ -558,8 +644,9 @@ where
 /// writes the replies when a piece is done and whenever 65,536 bytes of them are held. `Read` where
 /// a read failed, `Write` where a write failed or took nothing, `Alloc` where memory was refused
 /// for a line, for its items or for replies that are held; what was written is then a beginning of
-/// the replies: all of those to the lines that were carried out where a read failed, and all but
-/// one at most where memory was refused. Each window is released at the end and on every fault.
+/// the replies: where a read failed, those to each whole line that came, and to nothing behind the
+/// last line feed; where memory was refused, all but one at most of those to the lines that were
+/// carried out. Each window is released at the end and on every fault.
 pub fn run_script<R: Source, W: Sink, A: Allocator + Copy>(
     rt: &impl Wait,
     alloc: A,
@@ -581,6 +668,9 @@ pub fn run_script<R: Source, W: Sink, A: Allocator + Copy>(
         × NoFault (W.traffic writer.old) (W.traffic writer.new)) }
     ensures begun { OnErr result
         (Exchanges (BeginsReplyText layout) (R.traffic reader.old) (R.traffic reader.new)
+        (W.traffic writer.old) (W.traffic writer.new)) }
+    ensures answered { IfErr result (λ fault. fault ≡ ScriptError.Read
+        → Exchanges (AnswersWhole layout) (R.traffic reader.old) (R.traffic reader.new)
         (W.traffic writer.old) (W.traffic writer.new)) }
     ensures fault { IfErr result
         (IsCause (R.traffic reader.old) (R.traffic reader.new) (W.traffic writer.old)

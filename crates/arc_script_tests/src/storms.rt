@@ -1,9 +1,13 @@
 //! Storms of clones: two workers that have a clone each at one time, and how often each passes.
+use crate::devices::Taken;
+use arc_script::io::Counted;
+use arc_script::program::storms::run_storm;
 use arc_script::storm::{Gate, OpenGate, storm};
+use std::sync::Wait;
 use std::sync::atomic::AtomicU64;
 use std::sync::atomic::Ordering::SeqCst;
 use std::test::Fail;
-use std::thread::yield_now;
+use std::thread::{Threads, yield_now};
 
 /// How often the first worker yields at most until the second one has a clone.
 const TURNS: u32 = 1_000_000;
@@ -40,23 +44,37 @@ impl Gate for Meeting {
     }
 }
 
-/// Two workers have a clone at one time, within 1,000,000 turns, and each passes 1,000 times: one
-/// worker after the other would wait in vain.
+/// The program's storm of two workers through this gate: its status, what it wrote, and what it
+/// told.
+fn storm_of_two<R: Threads + Wait + Sync + AllocGlobal, G: Gate + Sync>(
+    rt: &R,
+    gate: &G,
+) -> (u8, Vec<u8>, Vec<u8>) {
+    let mut taken = Taken::new(rt.alloc(), usize::MAX);
+    let mut told = Taken::new(rt.alloc(), usize::MAX);
+    let mut writer = Counted::new(&mut taken);
+    let mut faults = Counted::new(&mut told);
+    let status = run_storm(rt, gate, 2, &mut writer, &mut faults);
+    (status, taken.bytes, told.bytes)
+}
+
+/// Two workers of the program's storm have a clone at one time, within 1,000,000 turns, and each
+/// passes 1,000 times: one worker after the other would wait in vain.
 #[test]
-fn both_cloned(rt: HostRuntime) -> Result<(), Fail> {
+fn both_cloned(rt: HostRuntime) {
     let gate = Meeting {
         first: AtomicU64::new(0),
         second: AtomicU64::new(0),
         missed: AtomicU64::new(0),
     };
-    let bytes = storm(&rt, rt.alloc(), &gate, 2)?;
-    let told = [
+    let (status, written, told) = storm_of_two(&rt, &gate);
+    let passed = [
         gate.first.load(SeqCst),
         gate.second.load(SeqCst),
         gate.missed.load(SeqCst),
     ];
-    assert!(rt; (bytes.as_slice(), told) == ([42].as_slice(), [1000, 1000, 0]));
-    Ok(())
+    let found = (status, written.as_slice(), told.as_slice(), passed);
+    assert!(rt; found == (0, b"2a\n".as_slice(), b"".as_slice(), [1000, 1000, 0]));
 }
 
 /// As many workers as the program lets in, and none.

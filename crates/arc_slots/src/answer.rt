@@ -37,6 +37,7 @@ where
     ghost use Rattle.arc_slots.specs.Writing.{IsLegal, can_write, seen_writing, write_command};
 
     /// Hands out a part of the window under the next number, if there is room for it.
+    #[inline(never)]
     pub(crate) fn hand_out(
         &mut self,
         rt: &impl Wait,

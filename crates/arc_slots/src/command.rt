@@ -197,6 +197,7 @@ where
 
 /// Carries out a command on the window that is here, if there is one: its reply, and the window
 /// that was made beside it, if one was. That goes under the next number, where there is room.
+#[inline(always)]
 #[tactic(auto, using(crate::proofs::Taken::has_block, crate::proofs::Taken::has_life))]
 pub fn answer<
     S: Commands<A>,

@@ -36,6 +36,7 @@ pub struct Slots<X, A: Allocator> {
 
 impl<X, A: Allocator> Slots<X, A> {
     /// The place of the window with this number, if it was made and hasn't gone.
+    #[inline(always)]
     pub fn place_of(&self, number: usize) -> Option<usize>
         requires { IsIndexed self.now.index.items self.now.numbers.items self.now.places.items }
         ensures told { IfSome result (λ p. slice_get self.now.index.items number ≡ Some p) }
@@ -78,6 +79,7 @@ impl<X, A: Allocator> Slots<X, A> {
 
     /// Whether there is room for a window more, where it is wanted. Takes memory for it there, and
     /// so that its place can be given again.
+    #[inline(always)]
     pub fn room_if(&mut self, wanted: bool) -> bool
         ensures index { self.new.index.items ≡ self.old.index.items }
         ensures numbers { self.new.numbers.items ≡ self.old.numbers.items }
@@ -183,6 +185,7 @@ impl<X, A: Allocator> Slots<X, A> {
     }
 
     /// Puts a window that was made, if one was, under the next number.
+    #[inline(always)]
     pub fn push_made(&mut self, made: Option<X>)
         requires indexed { IsIndexed self.old.index.items self.old.numbers.items
             self.old.places.items }

@@ -5,7 +5,7 @@ ghost use Rattle.arc_block.specs.LayoutFacts.{layout_facts};
 use arc_block::layout::{DefaultLayout, Layout, LayoutMut};
 use arc_buffer::buffer::BufferMut;
 use arc_buffer::kinds::Slice;
-use arc_commands::command::Reply;
+use arc_commands::command::{Cmd, Gives, Reply};
 use arc_slots::command::{answer, drop_at};
 use arc_slots::join::join_at;
 use arc_slots::kinds::{CallsOf, Commands, LentReply, SmallOf, TableCmd, TableKind, TableReply};
@@ -143,8 +143,59 @@ where
         reply
     }
 
+    /// Carries out one command as `step` does, compiled where it is called. For callers who know
+    /// which command it is: one that ends a window, or makes another one beside it.
+    #[inline(always)]
+    pub fn step_here(
+        &mut self,
+        rt: &impl Wait,
+        command: TableCmd<S, B, M, A>,
+    ) -> TableReply<S, B, M, A>
+        requires item { FitsInMemory S.Item.row }
+        ensures { CarriesOut (setting_of (layout_facts L.Layout) L.Writable.ANY L.clone_wants
+            S.DROPS S.boundary
+            (type_size S.Item.row) S.Zero.zero S.Calls.calls) self.old
+            (map_command S.items_in S.static_in B.list command) (seen_reply S.items_in
+            S.items_in_box B.list result) self.new }
+    {
+        let reply = self.answer_here(rt, command);
+        self.agree();
+        reply
+    }
+
+    /// The reply to one command, compiled where it is asked for: where it is known there which
+    /// command that is, nothing is left of the others.
+    #[inline(always)]
+    fn answer_here(
+        &mut self,
+        rt: &impl Wait,
+        command: TableCmd<S, B, M, A>,
+    ) -> TableReply<S, B, M, A>
+        requires item { FitsInMemory S.Item.row }
+        ensures rows { Step (setting_of (layout_facts L.Layout) L.Writable.ANY L.clone_wants S.DROPS
+            S.boundary
+            (type_size S.Item.row) S.Zero.zero S.Calls.calls) self.old.table
+            (map_command S.items_in S.static_in B.list command) (seen_reply S.items_in
+            S.items_in_box B.list result) self.new.table }
+        ensures passes { Adds (setting_of (layout_facts L.Layout) L.Writable.ANY L.clone_wants
+            S.DROPS S.boundary
+            (type_size S.Item.row) S.Zero.zero S.Calls.calls) self.old.table self.old.standing
+            (map_command S.items_in S.static_in B.list command)
+            (seen_reply S.items_in S.items_in_box B.list result) self.new.standing }
+    {
+        match command {
+            Cmd::Drop { window } => self.release(window),
+            Cmd::Clone { window } => self.on_window(rt, window, Cmd::Clone { window }),
+            Cmd::Sub { window, start, end } => {
+                self.on_window(rt, window, Cmd::Sub { window, start, end })
+            }
+            command => self.answer(rt, command),
+        }
+    }
+
     /// The reply to one command: on the window under its number; or the window is made of what it
     /// brings.
+    #[inline(never)]
     fn answer(&mut self, rt: &impl Wait, command: TableCmd<S, B, M, A>) -> TableReply<S, B, M, A>
         requires item { FitsInMemory S.Item.row }
         ensures rows { Step (setting_of (layout_facts L.Layout) L.Writable.ANY L.clone_wants S.DROPS
@@ -173,6 +224,7 @@ where
 
     /// Carries out a command on the window under this number. Room for a window that it makes is
     /// reserved before it is asked, and used where the tests before that are passed.
+    #[inline(always)]
     fn on_window(
         &mut self,
         rt: &impl Wait,
@@ -289,6 +341,7 @@ where
 
     /// Carries out a `Cmd::Show`, and answers with the items where they stand in the window. Takes
     /// no memory.
+    #[inline(always)]
     pub fn show_in_place(&self, i: usize) -> LentReply<'_, S, B, M, A>
         ensures carried { CarriesOut (setting_of (layout_facts L.Layout) L.Writable.ANY
             L.clone_wants S.DROPS S.boundary
@@ -313,6 +366,7 @@ where
     }
 
     /// The end of a window, if one has this number.
+    #[inline(always)]
     fn release(&mut self, i: usize) -> TableReply<S, B, M, A>
         ensures rows { Step (setting_of (layout_facts L.Layout) L.Writable.ANY L.clone_wants S.DROPS
             S.boundary
@@ -331,9 +385,11 @@ where
         };
         let window = &mut self.slots.places[place];
         let passes = &mut self.passes;
-        let reply = drop_at(window, passes);
+        // The window is there, so the reply is `Ok`: it is asked for as one without values, so that
+        // nothing of it is left to be dropped.
+        let _: Reply<Gives<(), (), (), (), (), (), ()>> = drop_at(window, passes);
         self.slots.settle(place);
-        reply
+        Reply::Ok
     }
 }
 

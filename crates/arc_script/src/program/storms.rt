@@ -8,7 +8,7 @@ ghost use Rattle.arc_script.specs.Storms.{AsksForStorm, IsStorm, storm_fault_tex
 use super::{report, tell};
 use crate::io::Sink;
 use crate::script::write_out;
-use crate::storm::{OpenGate, StormError, storm};
+use crate::storm::{Gate, StormError, storm};
 use arc_forms::parse::number_in;
 use arc_forms::text::digit_of;
 use arc_owners::error::OwnerError;
@@ -62,9 +62,11 @@ fn item_line(item: u8) -> [u8; 3]
 }
 
 /// Lets so many threads clone one window, writes the vector that comes back, and answers the
-/// program's status; a fault is told in one line.
-pub(crate) fn run_storm<R: Threads + Wait + Sync + AllocGlobal, W: Sink, F: Sink>(
+/// program's status; a fault is told in one line. The threads pass the gate as `storm` says; the
+/// program's holds nobody up.
+pub fn run_storm<R: Threads + Wait + Sync + AllocGlobal, G: Gate + Sync, W: Sink, F: Sink>(
     rt: &R,
+    gate: &G,
     workers: usize,
     writer: &mut W,
     faults: &mut F,
@@ -74,7 +76,7 @@ pub(crate) fn run_storm<R: Threads + Wait + Sync + AllocGlobal, W: Sink, F: Sink
     ensures taken { Takes (W.traffic writer.old) (W.traffic writer.new)
         (W.contents writer.old) (W.contents writer.new) }
 {
-    match storm(rt, rt.alloc(), &OpenGate, workers) {
+    match storm(rt, rt.alloc(), gate, workers) {
         Ok(bytes) => match write_out(writer, &item_line(bytes[0])) {
             Ok(()) => 0,
             Err(error) => report(faults, error),

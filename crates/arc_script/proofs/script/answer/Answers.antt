@@ -29,19 +29,3 @@ returns-in-Some-Show g c =
       err = push.ensures.err;
       broken = on_err push.result (Some reply, does);
     }
-
-pub returns-in-Some : goal.returns-in-Some
-returns-in-Some g c =
-    let table = c.args.table.now in
-    let reply = line_reply vec_items c.step-reply.result in
-    let does : CarriesOutSaid g.L.NamedLayout.named table (option_map line_command c.args.said) (Some reply)
-    c.step-reply.new.self =
-    rw c.in-Some.is (subst (λ s. CarriesOut s table (line_command c.in-Some.command) reply c.step-reply.new.self)
-    g.met.L.NamedLayout.run_so c.step-reply.ensures) in
-    let push = c.push_answer-in-Some in
-    record {
-      ok = on_ok_then push.result push.ensures.ok (λ wrote.
-          record { answer = Some reply; does = does; appended = wrote });
-      err = push.ensures.err;
-      broken = on_err push.result (Some reply, does);
-    }

@@ -2,7 +2,7 @@
 use Rattle.arc_script.specs.Script.{IsReplyText, BeginsReplyText}
 use Rattle.arc_script.specs.Underway.{IsThrough, IsBrokenOff, ThenEnds}
 use Rattle.arc_script.proofs.Going.{on_ok_then, if_err_then}
-use Rattle.arc_script.proofs.States.{exchange_as, through_text, broken_text}
+use Rattle.arc_script.proofs.States.{exchange_as, exchange_whole_as, through_text, broken_text}
 use Rattle.arc_script.proofs.script.run_under.Goals as goal
 
 pub returns-clause-ok : goal.returns-clause-ok
@@ -20,3 +20,12 @@ returns-clause-begun g c =
     if_err_then ran.result.0 ran.ensures.begun (λ fault.
     exchange_as (ThenEnds g.L.NamedLayout.named (IsBrokenOff g.L.NamedLayout.named fault) passes) (BeginsReplyText g.L.NamedLayout.named) _ _ _ _
     (λ input text h. broken_text fault h.0 input text h.1))
+
+pub returns-clause-answered : goal.returns-clause-answered
+returns-clause-answered g c =
+    let named = g.L.NamedLayout.named in
+    let ran = c.run_to_end-result in
+    if_err_then ran.result.0 ran.ensures.answered (λ fault told is.
+    exchange_whole_as (ThenEnds named (IsThrough named) ran.result.1.of_blocks.items)
+    (IsReplyText named) _ _ _ _
+    (λ input text h. through_text h.0 input text h.1) (told is))

@@ -3,6 +3,7 @@ use Rattle.std.proofs.Common.{◌∙◌, arith}
 use Rattle.arc_script.specs.declared.script.ScriptError.TheVariants.{Alloc}
 use Rattle.arc_script.proofs.Going.{if_err_is, on_ok, on_ok_then, if_err_then, run_begins}
 use Rattle.arc_script.proofs.Going.{nothing_exchanged, exchange_answered, exchange_begun, why_is_cause}
+use Rattle.arc_script.proofs.Going.{why_no_read}
 use Rattle.arc_script.proofs.Devices.{gives_nothing, gives_on, gives_all, takes_nothing, takes_on}
 use Rattle.arc_script.proofs.script.Engine.run.Goals as goal
 
@@ -89,3 +90,19 @@ returns-in_err-take_piece-clause-begun g c =
     if_err_is _ c.from_residual-in_err-take_piece.result c.in_err-take_piece.field-0.0
     c.from_residual-in_err-take_piece.ensures.1
     (c.in_err-take_piece.ensures.begun _ _ c.pieces.invariant.running)
+
+pub returns-in_err-piece-clause-answered : goal.returns-in_err-piece-clause-answered
+returns-in_err-piece-clause-answered g c =
+    if_err_is _ c.from_residual.result Alloc c.from_residual.ensures.1 (λ is. absurd cc)
+
+pub returns-in_err-take_piece-clause-answered : goal.returns-in_err-take_piece-clause-answered
+returns-in_err-take_piece-clause-answered g c =
+    if_err_is _ c.from_residual-in_err-take_piece.result c.in_err-take_piece.field-0.0
+    c.from_residual-in_err-take_piece.ensures.1
+    (λ is. c.in_err-take_piece.ensures.answered is _ _ c.pieces.invariant.running)
+
+pub returns-then-not-branch-clause-answered : goal.returns-then-not-branch-clause-answered
+returns-then-not-branch-clause-answered g c =
+    let w = g.W.Sink.traffic in
+    if_err_then c.finish.result c.finish.ensures.fault
+    (why_no_read (w c.take_piece.new.writer) (w c.finish.new.writer))

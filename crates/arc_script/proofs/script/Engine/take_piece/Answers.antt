@@ -2,7 +2,8 @@
 use Rattle.std.proofs.Common.{ap, ◌∙◌}
 use Rattle.arc_script.specs.declared.script.ScriptError.TheVariants.{Read, Write}
 use Rattle.arc_script.proofs.Going.{if_err_is, if_err_as, reads_and_out, stops_and_out, fed_then_stops}
-use Rattle.arc_script.proofs.Going.{run_stops_now, run_stops, run_goes_on}
+use Rattle.arc_script.proofs.Going.{run_stops_now, run_answered, run_stops, run_goes_on}
+use Rattle.arc_script.proofs.Going.{why_no_read}
 use Rattle.arc_script.proofs.Devices.{takes_on}
 use Rattle.arc_script.proofs.script.Engine.take_piece.Goals as goal
 
@@ -53,3 +54,20 @@ returns-in_err-fed-clause-taken g c =
 pub returns-clause-taken : goal.returns-clause-taken
 returns-clause-taken g c =
     takes_on c.feed-fed.ensures.taken c.in_ok-flush.ensures.taken
+
+pub returns-in_default-clause-answered : goal.returns-in_default-clause-answered
+returns-in_default-clause-answered g c = λ is r w run.
+    run_answered r _ _ w _ c.args.self.now run (ap (λ t. t.bytes) c.in_default.ensures.told)
+
+pub returns-in_err-flush-clause-answered : goal.returns-in_err-flush-clause-answered
+returns-in_err-flush-clause-answered g c =
+    if_err_as _ c.from_residual.result _ Write c.from_residual.ensures.1
+    c.in_err-flush.ensures.write (λ is r w run. absurd cc)
+
+pub returns-in_err-fed-clause-answered : goal.returns-in_err-fed-clause-answered
+returns-in_err-fed-clause-answered g c =
+    let w = g.W.Sink.traffic in
+    let fault = c.in_err-fed.field-0.0 in
+    if_err_is _ c.from_residual-in_err-fed.result fault c.from_residual-in_err-fed.ensures.1
+    (why_no_read (w c.args.writer.now) (w c.feed-fed.new.writer) fault
+    c.in_err-fed.ensures.fault)

@@ -1,9 +1,9 @@
 -- The window under the number ends, if there is one.
 use Rattle.arc_block.specs.LayoutFacts.{layout_facts}
 use Rattle.std.specs.Mem.{type_size}
-use Rattle.std.proofs.Common.{◌≡◌, None, map, slice_set, refl, sym, ap, ◌∙◌, subst}
-use Rattle.std.specs.Option.{option_map}
-use Rattle.arc_commands.specs.Seen.{seen_reply}
+use Rattle.std.proofs.Common.{◌≡◌, None, is_some, map, slice_set, refl, sym, ap, ◌∙◌, subst}
+use Rattle.std.proofs.lemmas.Bool.{false≢true}
+use Rattle.std.specs.Option.{option_flatten, option_map}
 use Rattle.arc_commands.specs.State.{State}
 use Rattle.arc_commands.specs.Additions.{Adds}
 use Rattle.arc_commands.specs.Changes.{Setting, setting_of}
@@ -28,10 +28,9 @@ setting g =
     (type_size g.row.S-Item) g.S.Zero.ZeroOf.zero g.S.Calls.CallsOf.calls
 
 did : (g : Over) (c : After-settle g)
-    → Done (setting g) c.args.self.now (command.Drop c.args.i) (seen_reply g.S.Commands.items_in g.S.Commands.items_in_box
-    g.B.Buffer.list c.drop_at-reply.result)
+    → Done (setting g) c.args.self.now (command.Drop c.args.i) reply.Ok
     (windows_of c.settle.new.self.index.items c.settle.new.self.numbers.items
-    c.settle.new.self.places.items) c.drop_at-reply.new.passes.of_blocks.items
+    c.settle.new.self.places.items) c.drop_at.new.passes.of_blocks.items
 did g c =
     let s = c.self.inside.slots in
     let slots = windows_of s.index.items s.numbers.items s.places.items in
@@ -45,34 +44,31 @@ did g c =
     window-there s.index.items s.numbers.items s.places.items i c.in-Some.place
     c.in-Some.ensures.told c.in-Some.ensures.whose old stands in
     let end = c.settle.new.self in
-    let new = c.drop_at-reply.new.place in
+    let new = c.drop_at.new.place in
     let ends =
     same-parts end.index.items s.index.items end.numbers.items s.numbers.items end.places.items
     (slice_set s.places.items c.in-Some.place new) c.settle.ensures.index c.settle.ensures.numbers
     c.settle.ensures.places
     ∙ set-window s.index.items s.numbers.items s.places.items i c.in-Some.place
     c.in-Some.ensures.told c.in-Some.ensures.whose old stands new in
-    let after = c.drop_at-reply.new.passes.of_blocks.items in
-    let told = seen_reply g.S.Commands.items_in g.S.Commands.items_in_box g.B.Buffer.list
-    c.drop_at-reply.result in
-    subst (λ (o : State g.row.S-Item.Denot g.row.M.Denot). Done (setting g) o (command.Drop i) told
+    let after = c.drop_at.new.passes.of_blocks.items in
+    subst (λ (o : State g.row.S-Item.Denot g.row.M.Denot). Done (setting g) o (command.Drop i) reply.Ok
     (windows_of end.index.items end.numbers.items end.places.items) after) c.self.view_is
-    (subst (λ ss. Done (setting g) (state_of slots passes) (command.Drop i) told ss after)
+    (subst (λ ss. Done (setting g) (state_of slots passes) (command.Drop i) reply.Ok ss after)
     (sym ends)
     (carried (setting g) slots passes c.self.invariant.0 i old stood
-    (command.Drop i) refl refl told new
-    None after (ended (setting g) slots passes c.self.invariant.0 i old told new after
-    c.drop_at-reply.ensures.dropped
-    (seen-so (seen_reply g.S.Commands.items_in g.S.Commands.items_in_box g.B.Buffer.list)
-    c.drop_at-reply.result reply.Ok old c.drop_at-reply.ensures.some))
-    (λ none. let so = c.drop_at-reply.ensures.none none in
-    (ap (seen_reply g.S.Commands.items_in g.S.Commands.items_in_box g.B.Buffer.list) so.0, refl, c.drop_at-reply.ensures.gone, so.1))))
+    (command.Drop i) refl refl reply.Ok new
+    None after (ended (setting g) slots passes c.self.invariant.0 i old reply.Ok new after
+    c.drop_at.ensures.dropped
+    (seen-so (λ _. reply.Ok) c.drop_at.result reply.Ok old c.drop_at.ensures.some))
+    (λ none. absurd (false≢true (ap is_some (sym none)
+    ∙ ap (λ o. is_some (option_flatten o)) (sym stands) ∙ c.in-Some.ensures.there)))))
 
 pub place_of-requires : goal.place_of-requires
 place_of-requires g c = c.self.invariant.1
 
-pub drop_at-reply-requires-clause-pass : goal.drop_at-reply-requires-clause-pass
-drop_at-reply-requires-clause-pass g c =
+pub drop_at-requires-clause-pass : goal.drop_at-requires-clause-pass
+drop_at-requires-clause-pass g c =
     let s = c.self.inside.slots in
     let slots = windows_of s.index.items s.numbers.items s.places.items in
     let passes = c.self.inside.passes.of_blocks.items in
@@ -86,8 +82,8 @@ drop_at-reply-requires-clause-pass g c =
     c.in-Some.ensures.told c.in-Some.ensures.whose old stands in
     has_block passes (stand_of old) (known (setting g) slots passes c.self.invariant.0 i old stood)
 
-pub drop_at-reply-requires-clause-lives : goal.drop_at-reply-requires-clause-lives
-drop_at-reply-requires-clause-lives g c =
+pub drop_at-requires-clause-lives : goal.drop_at-requires-clause-lives
+drop_at-requires-clause-lives g c =
     let s = c.self.inside.slots in
     let slots = windows_of s.index.items s.numbers.items s.places.items in
     let passes = c.self.inside.passes.of_blocks.items in
@@ -115,7 +111,7 @@ invariant_of-self g c =
     window-there s.index.items s.numbers.items s.places.items i c.in-Some.place
     c.in-Some.ensures.told c.in-Some.ensures.whose old stands in
     let end = c.settle.new.self in
-    let new = c.drop_at-reply.new.place in (
+    let new = c.drop_at.new.place in (
       (did g (goal.at.invariant_of-self g c).After-settle).kept,
       same-indexed end.index.items s.index.items end.numbers.items s.numbers.items
           end.places.items (slice_set s.places.items c.in-Some.place new) c.settle.ensures.index
@@ -144,7 +140,7 @@ returns-clause-gone g c =
     window-there s.index.items s.numbers.items s.places.items i c.in-Some.place
     c.in-Some.ensures.told c.in-Some.ensures.whose old stands in
     let end = c.settle.new.self in
-    let new = c.drop_at-reply.new.place in
+    let new = c.drop_at.new.place in
     let ends =
     same-parts end.index.items s.index.items end.numbers.items s.numbers.items end.places.items
     (slice_set s.places.items c.in-Some.place new) c.settle.ensures.index c.settle.ensures.numbers
@@ -154,7 +150,7 @@ returns-clause-gone g c =
     subst (λ (o : State g.row.S-Item.Denot g.row.M.Denot).
     map (option_map row_of) (windows_of end.index.items end.numbers.items end.places.items)
     ≡ slice_set o.table.rows i None) c.self.view_is
-    (ap (map (option_map row_of)) ends ∙ gone-rows slots i new c.drop_at-reply.ensures.gone)
+    (ap (map (option_map row_of)) ends ∙ gone-rows slots i new c.drop_at.ensures.gone)
 
 -- no window has the number
 none : (g : Over) (c : In_default g)
