@@ -32,11 +32,11 @@ abbrev pub with_all_written : {T A : Type 0} → ℕ → WriterMemory T A → Li
 with_all_written start m ws = record {
   before = m.before;
   places = with_written_from start m.places ws;
-  source = m.source;
+  allocation = m.allocation;
   front = m.front;
   unused = m.unused;
   own = m.own;
-  from = m.from;
+  kept = m.kept;
 }
 
 abbrev pub LendsMemory : (T A : RattleType) → Ghosts A.Denot → ℕ

@@ -3,7 +3,6 @@
 
 mod count;
 pub mod error;
-pub mod hint;
 mod history;
 pub mod leave;
 pub mod lend;

@@ -13,8 +13,6 @@ mod forgotten;
 #[cfg(test)]
 mod full;
 #[cfg(test)]
-mod hint;
-#[cfg(test)]
 mod histories;
 #[cfg(test)]
 mod lent_values;

@@ -207,7 +207,7 @@ pub trait ZeroOf<S: Slice> {
     ///
     /// # Allocates
     ///
-    /// Once, except for no zeros.
+    /// Twice, except for no zeros.
     ///
     /// # History
     ///

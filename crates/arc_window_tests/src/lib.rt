@@ -20,8 +20,6 @@ mod layouts;
 #[cfg(test)]
 mod living;
 #[cfg(test)]
-mod one_piece;
-#[cfg(test)]
 mod owned;
 #[cfg(test)]
 mod owned_buffers;

@@ -8,7 +8,6 @@ use super::parts::WriterStorage;
 use arc_block::layout::LayoutMut;
 use arc_buffer::buffer::BufferMut;
 use arc_buffer::kinds::Subsliceable;
-use arc_owners::hint::assert_unchecked;
 use arc_owners::mark::Mark;
 use std::alloc::Allocator;
 
@@ -28,10 +27,7 @@ impl<
     {
         match &mut self.parts {
             WriterStorage::Sole(parts) => parts.advance(n),
-            WriterStorage::Several(_) => unsafe {
-                assert_unchecked(false);
-                unreachable!()
-            },
+            WriterStorage::Several(_) => unreachable!(),
         }
     }
 
@@ -45,10 +41,7 @@ impl<
     {
         match &mut self.parts {
             WriterStorage::Sole(parts) => parts.truncate(n),
-            WriterStorage::Several(_) => unsafe {
-                assert_unchecked(false);
-                unreachable!()
-            },
+            WriterStorage::Several(_) => unreachable!(),
         }
     }
 }

@@ -10,7 +10,6 @@ use arc_block::layout::LayoutMut;
 use arc_buffer::buffer::BufferMut;
 use arc_buffer::kinds::{Slice, Subsliceable};
 use arc_owners::error::RangeError;
-use arc_owners::hint::assert_unchecked;
 use arc_owners::mark::Mark;
 use std::alloc::Allocator;
 
@@ -29,10 +28,7 @@ impl<
     {
         match &self.parts {
             WriterStorage::Sole(parts) => parts.len(),
-            WriterStorage::Several(_) => unsafe {
-                assert_unchecked(false);
-                unreachable!()
-            },
+            WriterStorage::Several(_) => unreachable!(),
         }
     }
 
@@ -51,10 +47,7 @@ impl<
     {
         match &self.parts {
             WriterStorage::Sole(parts) => parts.as_slice(),
-            WriterStorage::Several(_) => unsafe {
-                assert_unchecked(false);
-                unreachable!()
-            },
+            WriterStorage::Several(_) => unreachable!(),
         }
     }
 
@@ -66,10 +59,7 @@ impl<
     {
         match &self.parts {
             WriterStorage::Sole(parts) => parts.capacity(),
-            WriterStorage::Several(_) => unsafe {
-                assert_unchecked(false);
-                unreachable!()
-            },
+            WriterStorage::Several(_) => unreachable!(),
         }
     }
 

@@ -15,7 +15,6 @@ use arc_block::layout::LayoutMut;
 use arc_buffer::buffer::BufferMut;
 use arc_buffer::kinds::{AnyItems, CopySlice, Extendable, Slice};
 use arc_owners::error::TryReserveError;
-use arc_owners::hint::assert_unchecked;
 use arc_owners::mark::Mark;
 use arc_owners::owners::Pass;
 use std::alloc::Allocator;
@@ -73,7 +72,7 @@ impl<
     ///
     /// # Allocates
     ///
-    /// Once for a first block, and once where the block grows: where the places behind the items
+    /// Twice for a first block, and once where the block grows: where the places behind the items
     /// aren't enough, unless items that aren't dropped one by one are no more than the places in
     /// front of them, and the whole block is large enough.
     ///
@@ -100,10 +99,7 @@ impl<
     {
         match &mut self.parts {
             WriterStorage::Sole(parts) => parts.try_reserve_as(additional, pass),
-            WriterStorage::Several(_) => unsafe {
-                assert_unchecked(false);
-                unreachable!()
-            },
+            WriterStorage::Several(_) => unreachable!(),
         }
     }
 
@@ -116,10 +112,7 @@ impl<
     {
         match &mut self.parts {
             WriterStorage::Sole(parts) => parts.try_reclaim(additional),
-            WriterStorage::Several(_) => unsafe {
-                assert_unchecked(false);
-                unreachable!()
-            },
+            WriterStorage::Several(_) => unreachable!(),
         }
     }
 
@@ -171,10 +164,7 @@ impl<
     {
         match &mut self.parts {
             WriterStorage::Sole(parts) => parts.try_push_as(item, pass),
-            WriterStorage::Several(_) => unsafe {
-                assert_unchecked(false);
-                unreachable!()
-            },
+            WriterStorage::Several(_) => unreachable!(),
         }
     }
 
@@ -215,10 +205,7 @@ impl<
     {
         match &mut self.parts {
             WriterStorage::Sole(parts) => parts.try_extend_from_slice_as(items, pass),
-            WriterStorage::Several(_) => unsafe {
-                assert_unchecked(false);
-                unreachable!()
-            },
+            WriterStorage::Several(_) => unreachable!(),
         }
     }
 }

@@ -261,7 +261,7 @@ where
     ///
     /// # Allocates
     ///
-    /// Once.
+    /// Twice, or once for no places.
     ///
     /// # History
     ///

@@ -8,7 +8,6 @@ use crate::slice_mut::parts::WriterStorage;
 use arc_block::layout::LayoutMut;
 use arc_buffer::buffer::BufferMut;
 use arc_buffer::kinds::Subsliceable;
-use arc_owners::hint::assert_unchecked;
 use arc_owners::mark::Mark;
 use std::alloc::Allocator;
 
@@ -28,10 +27,7 @@ impl<
     {
         match &mut self.parts {
             WriterStorage::Several(parts) => parts.advance(n),
-            WriterStorage::Sole(_) => unsafe {
-                assert_unchecked(false);
-                unreachable!()
-            },
+            WriterStorage::Sole(_) => unreachable!(),
         }
     }
 
@@ -48,10 +44,7 @@ impl<
                 parts.known_kind();
                 parts.truncate(n);
             }
-            WriterStorage::Sole(_) => unsafe {
-                assert_unchecked(false);
-                unreachable!()
-            },
+            WriterStorage::Sole(_) => unreachable!(),
         }
     }
 }

@@ -10,7 +10,6 @@ use arc_block::layout::LayoutMut;
 use arc_buffer::buffer::BufferMut;
 use arc_buffer::kinds::{Slice, Subsliceable, Text};
 use arc_owners::error::RangeError;
-use arc_owners::hint::assert_unchecked;
 use arc_owners::mark::Mark;
 use std::alloc::Allocator;
 use std::str;
@@ -30,10 +29,7 @@ impl<
     {
         match &self.parts {
             WriterStorage::Several(parts) => parts.len(),
-            WriterStorage::Sole(_) => unsafe {
-                assert_unchecked(false);
-                unreachable!()
-            },
+            WriterStorage::Sole(_) => unreachable!(),
         }
     }
 
@@ -52,10 +48,7 @@ impl<
     {
         match &self.parts {
             WriterStorage::Several(parts) => parts.as_slice(),
-            WriterStorage::Sole(_) => unsafe {
-                assert_unchecked(false);
-                unreachable!()
-            },
+            WriterStorage::Sole(_) => unreachable!(),
         }
     }
 
@@ -67,10 +60,7 @@ impl<
     {
         match &self.parts {
             WriterStorage::Several(parts) => parts.capacity(),
-            WriterStorage::Sole(_) => unsafe {
-                assert_unchecked(false);
-                unreachable!()
-            },
+            WriterStorage::Sole(_) => unreachable!(),
         }
     }
 

@@ -1,0 +1,69 @@
+-- `of` parts a vector from the right to free its block, for which it waits.
+use Rattle.std.proofs.Common.{◌<◌, List, [], ◌∷◌, ◌++◌, refl, sym, subst}
+use mir.Syntax.{a_type, dcons, dnil}
+use mir.Val.{Val, vstruct, vcons, vnil, of_list}
+use mir.MapTy.{inst_fn}
+use base.Logic.{SProp, ent, emp, id⊢}
+use base.Fml.{ftrue, fsep, feq, flft}
+use prog.Wp.{WpFn}
+use types.Kit.{‵, raw, ◌⊛◌, drop, ◌$◌, ◌∵◌, !, qed, by, move, keep, split, fsplit, fjoin, fpack, suffices, use0, use2, feq_i}
+use types.Run.{of_opd, no_more, and_then, returns, enter}
+use types.ByLocal.{alloc_all, pass_all, free_all, look_at, get, sets}
+use types.Part.{agg}
+use contract.Monad.{fact, fact_i}
+use contract.BorrowLft.{◌⊑◌}
+use contract.Running.{tables}
+use denote.Exit.{no}
+use denote.Laws.{Typed}
+use denote.RattleType.{RattleType, Valss, owns}
+use denote.Signature.{types_at, plain}
+use denote.Steps.{nothing, heard}
+use denote.Param.{layout, bounded}
+use denote.Struct.Struct.{as_fields}
+use denote.Triple.Walked.{Stays, stay_dropped, walk_of}
+use Rattle.core.proofs.alloc.Calls.{Goes-blank}
+use Rattle.std.proofs.raw_atomic.Walks.{proved_at}
+use Rattle.std_alloc.proofs.VecSteps.El.{El, R, P, Vr, el_d, vec_val, vec_typed}
+use Rattle.std_alloc.proofs.VecSteps.Opens.{vec_had}
+use Rattle.logbook.proofs.Fields.{token as marker, Token, token_made, ends}
+use Rattle.arc_owners.proofs.Markers.{told}
+use Rattle.arc_memory.specs.contracts.vec_without_right.VecWithoutRight as VecWithoutRight
+use Rattle.arc_memory.specs.contracts.vec_without_right.RightToFree as Right
+use Rattle.arc_memory.specs.Headers.{right_of}
+use denote.Struct.Tuple.{Tuple}
+use Rattle.arc_memory.proofs.Parted.{one}
+use Rattle.arc_memory.proofs.Rights.{Row, apart}
+use Rattle.arc_memory.specs.contracts.vec_without_right.VecWithoutRight.of as f
+use Rattle.arc_memory.proofs.vec_without_right.VecWithoutRight.of.Statement.{statement}
+use Rattle.arc_memory.proofs.vec_without_right.VecWithoutRight.of.Code as code
+
+pub of_spec : {M : Type 1} → statement M
+of_spec 𝓤 𝓛 𝓜 𝓡 wired T A L LA g d da allocator glued =
+    let H = 𝓛.H in let 𝓣 = tables 𝓤 H 𝓜 𝓡 𝓡.env in let E : El = record { row = T; laws = L; al = record { row = A; laws = LA; g = g; d = d; drops = da } } in
+    let En = f.ended T A g d da in let c = f.clauses T A g d da 𝓛 𝓜.mem 𝓡.returns in
+    let inst = bounded (a_type ∷ a_type ∷ []) (T, (A, tt)) (dcons d (dcons da dnil)) in let fn = inst_fn inst code.function in let Both : RattleType = Tuple (R E ∷ P E ∷ []) in let Free : RattleType = Right.the_row (R E) (P E) g in
+    let hs : Stays En.signature.params En.kept = (stay_dropped (plain (λ _. Vr E)) no, tt) in
+    proved_at 𝓛 En hs c 𝓜 𝓡 (Goes-blank 𝓛 2 (plain (λ _. Vr E)) no (λ κs x w. tt), tt) (f.Key.name inst) fn (code.unfolded 𝓤 H 𝓜 𝓡 wired (T, (A, tt)) d da) (λ y are.
+    let κs = y.0.0 in let qs = y.0.1 in let was : el_d E = y.0.3.0 in let vss = y.0.4 in let Post : Val → SProp 𝓤 = (walk_of 𝓛 En hs c).post y in let Run : List Val → SProp 𝓤 = λ ws. WpFn 𝓤 H 𝓣.C 𝓣.Λ fn ws Post in
+    qed 𝓛 ((‵ (fsep (flft κs.0 qs.0) (fsep (flft κs.1.0 qs.1.0) ftrue)) ⊛ ‵ (owns (types_at En.signature.params κs) y.0.3 vss)) ∷ (raw (fact 𝓤 (κs.0 ⊑ T.lives)) ⊛ raw (fact 𝓤 (κs.1.0 ⊑ A.lives)) ⊛ raw (fact 𝓤 (0 < was.cap))) ∷ []) ∵
+    move ! (1 ∷ []) $ split ! $ drop ! $ split ! $ drop ! $ heard ! (0 < was.cap) (λ pos. split ! $ move ! (1 ∷ []) $ fsplit ! $
+    vec_had E ! was vss.0 (λ b o hv at_b is fl fc fit fa.
+    -- [its block; its allocator; no more parameters; the tokens]
+    let u : Val = vec_val E hv b o was.len was.cap in let typed = vec_typed E hv b o was.len was.cap fa fl fc in
+    suffices ! (Run (u ∷ [])) (subst (λ (us : List Val). ent 𝓤 (Run (u ∷ [])) (Run (us ++ []))) (sym is) (id⊢ 𝓤 (Run (u ∷ [])))) $
+    enter ! 𝓣.C 𝓣.Λ fn (u ∷ []) Post $ alloc_all ! (λ l. pass_all ! refl (typed, tt) $
+    use2 𝓛 (‵ (right_of (R E) g.dealloc_token was) ⊛ ‵ (VecWithoutRight.the_own (R E) (P E) g was (one E u ∷ []))) (apart E 𝓛 was b o hv at_b fl fc fit pos) $ split ! $
+    use0 𝓛 (‵ ((Token Both).own_val (record {}, tt) (marker ∷ []))) (token_made Both 𝓛) $ fjoin ! $ move ! (1 ∷ []) $
+    let boxed = as_fields (layout (Vr E) ∷ []) (u ∷ []) (typed, tt) in
+    nothing ! $ fpack ! (Typed (Row E).mir (one E u ∷ [])) (λ _. ftrue) (boxed, tt) $ fjoin ! $
+    -- [the vector; the right; no more parameters; the tokens]
+    sets ! (agg ! (no_more !)) refl (tt, tt) $ sets ! (of_opd ! (get ! refl)) refl typed $ sets ! (agg ! (and_then ! (get ! refl) (no_more !))) refl boxed $
+    sets ! (agg ! (and_then ! (get ! refl) (no_more !))) refl (tt, (tt, tt)) $
+    sets ! (agg ! (and_then ! (get ! refl) (and_then ! (get ! refl) (no_more !)))) refl (as_fields (layout (Row E) ∷ layout Free ∷ []) (one E u ∷ marker ∷ []) (boxed, ((tt, (tt, tt)), tt))) $
+    let now : Free.Denot = record { marker = record {}; alloc = was.alloc; base = was.ptr; count = was.cap } in
+    let w : Val = vstruct (vcons (one E u) (vcons marker vnil)) in let Rs : List RattleType = Row E ∷ Free ∷ [] in
+    nothing ! $ move ! (2 ∷ 0 ∷ []) $ fjoin ! $ move ! (1 ∷ 0 ∷ []) $ fjoin ! $ feq_i ! (List Val) (w ∷ []) (w ∷ []) refl $ fjoin ! $
+    fpack ! (Valss Rs) (λ uss. fsep (feq (List Val) (w ∷ []) (vstruct (of_list (uss.0 ++ (uss.1.0 ++ []))) ∷ [])) (owns Rs (was, (now, tt)) uss)) (one E u ∷ [], (marker ∷ [], tt)) $
+    nothing ! $ nothing ! $ fjoin ! $
+    returns ! (look_at ! 0 refl) $ free_all ! refl $ keep ! (3 ∷ 0 ∷ 1 ∷ []) $
+    by ! (ends 𝓛 En hs c y w (was, now) ((tt, (tt, (tt, (tt, tt)))), tt) (tt, tt) (told 𝓤 refl (fact_i 𝓤 _ (emp 𝓤) (refl, refl, refl)) 𝓛))))))
