@@ -144,7 +144,7 @@ where
     }
 
     /// Carries out one command as `step` does, compiled where it is called. For callers who know
-    /// which command it is: one that ends a window, or makes another one beside it.
+    /// that it is a `Cmd::Drop`, a `Cmd::Clone` or a `Cmd::Sub`.
     #[inline(always)]
     pub fn step_here(
         &mut self,
