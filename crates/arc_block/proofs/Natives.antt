@@ -4,21 +4,22 @@ use Rattle.std.proofs.lemmas.Bool.{false≢true}
 use Rattle.arc_owners.specs.count.Calls.{Owner}
 use Rattle.arc_memory.specs.declared.frozen_places.FrozenPlaces.{FrozenPlaces}
 use Rattle.arc_memory.specs.declared.kept.Kept.{Kept}
-use Rattle.arc_memory.specs.declared.kept.Kept.TheVariants.{Nothing, Places, Items}
-use Rattle.arc_memory.specs.KeptPlaces.{IfKept}
-use Rattle.arc_memory.specs.Memory.{Extent}
+use Rattle.arc_memory.specs.declared.kept.Kept.TheVariants.{Places, Items}
+use denote.RawPtr.{Ptr}
+use Rattle.arc_owners.specs.declared.memory.header_room.HeaderRoom.{HeaderRoom}
+use Rattle.arc_memory.specs.KeptPlaces.{kept_in}
+use Rattle.arc_memory.specs.PieceParts.{IsRoomOf}
 use Rattle.arc_memory.specs.WriterParts.{IsSameRange}
 use Rattle.arc_memory.specs.declared.kept_items.KeptItems.{KeptItems}
 use Rattle.arc_memory.specs.declared.kept_places.KeptPlaces.{KeptPlaces}
 use Rattle.arc_memory.specs.declared.writer_memory.WriterMemory.{WriterMemory}
 use Rattle.arc_buffer.specs.Slice.{sub}
 use Rattle.arc_block.specs.Block.{full_places}
-use Rattle.arc_block.specs.Natives.{NativeView, IsKeptFor, native_over, native_view, native_taken, range_seen}
+use Rattle.arc_block.specs.Natives.{NativeView, IsKeptFor, IsLaidFor, native_over, native_view, native_taken, range_seen}
 
 module _ {T A : Type 0} (drops : Bool) (range other : FrozenPlaces T) where
   same-kept : (kept : Kept T A) → IsSameRange range other → IsKeptFor drops range kept
       → IsKeptFor drops other kept
-  same-kept Nothing same keeps = absurd keeps
   same-kept (Places kept) same keeps = (keeps.0, keeps.1 ∙ sym same.0)
   same-kept (Items kept) same keeps =
       (keeps.0, keeps.1 ∙ sym same.0, same.1 ∙ keeps.2, keeps.3 ∙ sym same.2)
@@ -29,26 +30,43 @@ module _ {T A : Type 0} (drops : Bool) (range other : FrozenPlaces T) where
   kept_alike kept kept' is same keeps =
       subst (λ k. IsKeptFor drops other k) (sym is) (same-kept kept same keeps)
 
-module _ {T A : Type 0} (drops : Bool) (range : FrozenPlaces T) (count : ℕ) where
-  -- the memory that is kept has as many places as the one that is read
-  pub kept_places : (kept : Kept T A) → IsKeptFor drops range kept
-      → IfKept kept (λ memory. count ≡ memory.whole) → count ≡ range.memory.whole
-  kept_places Nothing keeps counts = absurd keeps
-  kept_places (Places kept) keeps counts = counts ∙ ap (λ m. m.whole) keeps.1
-  kept_places (Items kept) keeps counts = counts ∙ ap (λ m. m.whole) keeps.1
+module _ {T A : Type 0} (place place' : Ptr) (head head' : ℕ × ℕ) (kept kept' : Kept T A) where
+  -- another one to whom the same is lent
+  pub laid_alike : kept' ≡ kept → place' ≡ place → head' ≡ head → IsLaidFor place head kept
+      → IsLaidFor place' head' kept'
+  laid_alike is there same laid = (
+    there ∙ laid.0 ∙ ap (λ k. (kept_in k).piece.right.place) (sym is),
+    same ∙ laid.1 ∙ ap (λ k. (kept_in k).piece.right.head) (sym is),
+  )
 
-module _ {T A : Type 0} (drops : Bool) (range : FrozenPlaces T) (ended : ℕ)
-    (is : ended ≡ range.memory.lifetime) where
-  lent-for : (kept : Kept T A) → IsKeptFor drops range kept → IfKept kept (λ m. m.lifetime ≡ ended)
-  lent-for Nothing keeps = absurd keeps
-  lent-for (Places kept) keeps = ap (λ m. m.lifetime) keeps.1 ∙ sym is
-  lent-for (Items kept) keeps = ap (λ m. m.lifetime) keeps.1 ∙ sym is
+-- the room in which it lay is that of the piece's header
+pub laid_room : {T A : Type 0} (place : Ptr) (head : ℕ × ℕ) (kept kept' : Kept T A)
+    {X : Type 0} (room : HeaderRoom X) → kept' ≡ kept → room.at ≡ place → IsLaidFor place head kept
+    → IsRoomOf room head (kept_in kept').piece
+laid_room place head kept kept' room is there laid = (
+  there ∙ laid.0 ∙ ap (λ k. (kept_in k).piece.right.place) (sym is),
+  laid.1 ∙ ap (λ k. (kept_in k).piece.right.head) (sym is),
+)
+
+module _ {T A : Type 0} (drops : Bool) (range : FrozenPlaces T) where
+  -- it is the memory of these places
+  pub kept_memory : (kept : Kept T A) → IsKeptFor drops range kept
+      → (kept_in kept).inheritance.memory ≡ range.memory
+  kept_memory (Places kept) keeps = keeps.1
+  kept_memory (Items kept) keeps = keeps.1
+
+  -- the memory that is kept has as many places as the one that is read
+  pub kept_places : (count : ℕ) (kept : Kept T A) → IsKeptFor drops range kept
+      → count ≡ (kept_in kept).inheritance.memory.whole → count ≡ range.memory.whole
+  kept_places count kept keeps counts = counts ∙ ap (λ m. m.whole) (kept_memory kept keeps)
 
   -- the lifetime has ended for which it is lent
-  pub kept_ended : (kept kept' : Kept T A) → kept' ≡ kept → IsKeptFor drops range kept
-      → IfKept kept' (λ m. m.lifetime ≡ ended)
-  kept_ended kept kept' same keeps =
-      subst (λ k. IfKept k (λ m. m.lifetime ≡ ended)) (sym same) (lent-for kept keeps)
+  pub kept_ended : (ended : ℕ) → ended ≡ range.memory.lifetime → (kept kept' : Kept T A)
+      → kept' ≡ kept → IsKeptFor drops range kept
+      → (kept_in kept').inheritance.memory.lifetime ≡ ended
+  kept_ended ended is kept kept' same keeps =
+      ap (λ k. (kept_in k).inheritance.memory.lifetime) same
+      ∙ ap (λ m. m.lifetime) (kept_memory kept keeps) ∙ sym is
 
 module _ {T A : Type 0} (o : Owner) (range : FrozenPlaces T) (memory : WriterMemory T A)
     (start end : ℕ) where
@@ -60,28 +78,28 @@ module _ {T A : Type 0} (o : Owner) (range : FrozenPlaces T) (memory : WriterMem
   pub places_taken : (drops : Bool) → drops ≡ false → (kept : KeptPlaces T A)
       → kept.inheritance.memory ≡ range.memory
       → memory.places.vec.items ≡ sub range.items (start - range.start) (end - range.start)
-      → ◌≡◌ {A = Extent A} memory.allocation kept.allocation → memory.places.under.start ≡ start
+      → memory.places.under.whole ≡ kept.inheritance.memory.whole → memory.places.under.start ≡ start
       → native_over drops o memory ≡ native_taken drops (range_seen drops o range) start end
-  places_taken true is kept lent items allocation front = absurd (false≢true (sym is))
-  places_taken false is kept lent items allocation front =
+  places_taken true is kept lent items size front = absurd (false≢true (sym is))
+  places_taken false is kept lent items size front =
       let make : List T → ℕ → ℕ → NativeView T = λ xs f n. native_view false o xs f n in
-      let whole : memory.allocation.count ≡ range.memory.whole =
-      ap (λ (e : Extent A). e.count) allocation ∙ sym kept.all.1 ∙ ap (λ m. m.whole) lent in
-      ap (λ xs. make xs memory.places.under.start memory.allocation.count) items
-      ∙ ap (λ f. make (sub range.items (start - range.start) (end - range.start)) f memory.allocation.count) front
+      let whole : memory.places.under.whole ≡ range.memory.whole =
+      size ∙ ap (λ m. m.whole) lent in
+      ap (λ xs. make xs memory.places.under.start memory.places.under.whole) items
+      ∙ ap (λ f. make (sub range.items (start - range.start) (end - range.start)) f memory.places.under.whole) front
       ∙ ap (λ n. make (sub range.items (start - range.start) (end - range.start)) start n) whole
 
   -- Of one whose items are dropped one by one it has all.
   pub items_taken : (drops : Bool) → drops ≡ true → (kept : KeptItems T A)
       → kept.kept.inheritance.memory ≡ range.memory → range.start ≡ 0 → kept.full.items ≡ range.items
       → memory.places.vec.items ≡ kept.full.items
-      → ◌≡◌ {A = Extent A} memory.allocation kept.kept.allocation → memory.places.under.start ≡ 0
+      → memory.places.under.whole ≡ kept.kept.inheritance.memory.whole → memory.places.under.start ≡ 0
       → native_over drops o memory ≡ native_taken drops (range_seen drops o range) start end
-  items_taken false is kept lent first full items allocation front = absurd (false≢true is)
-  items_taken true is kept lent first full items allocation front =
+  items_taken false is kept lent first full items size front = absurd (false≢true is)
+  items_taken true is kept lent first full items size front =
       let make : List T → ℕ → ℕ → NativeView T = λ xs f n. native_view true o xs f n in
-      let whole : memory.allocation.count ≡ range.memory.whole =
-      ap (λ (e : Extent A). e.count) allocation ∙ sym kept.kept.all.1 ∙ ap (λ m. m.whole) lent in
-      ap (λ xs. make xs memory.places.under.start memory.allocation.count) (items ∙ full)
-      ∙ ap (λ f. make range.items f memory.allocation.count) (front ∙ sym first)
+      let whole : memory.places.under.whole ≡ range.memory.whole =
+      size ∙ ap (λ m. m.whole) lent in
+      ap (λ xs. make xs memory.places.under.start memory.places.under.whole) (items ∙ full)
+      ∙ ap (λ f. make range.items f memory.places.under.whole) (front ∙ sym first)
       ∙ ap (λ n. make range.items range.start n) whole

@@ -1,13 +1,15 @@
 -- Native blocks: items in memory of our own, which is lent for the lease of the block's owners.
 use Rattle.std.specs.Prelude.{◌≡◌, ℕ, ◌+◌, ◌-◌, ◌≤◌, Bool, true, false, if◌then◌else◌, Option, None, List}
 use Rattle.std.specs.Prelude.{length}
+use denote.RawPtr.{Ptr}
 use Rattle.arc_owners.specs.declared.mark.Mark.{Ghosts}
 use Rattle.arc_owners.specs.count.Calls.{Owner}
 use Rattle.arc_owners.specs.memory.Boxes.{owner_in}
 use Rattle.arc_memory.specs.declared.frozen_places.FrozenPlaces.{FrozenPlaces}
 use Rattle.arc_memory.specs.declared.frozen_reader.FrozenReader.{FrozenReader}
 use Rattle.arc_memory.specs.declared.kept.Kept.{Kept}
-use Rattle.arc_memory.specs.declared.kept.Kept.TheVariants.{Nothing, Places, Items}
+use Rattle.arc_memory.specs.declared.kept.Kept.TheVariants.{Places, Items}
+use Rattle.arc_memory.specs.KeptPlaces.{kept_in}
 use Rattle.arc_memory.specs.declared.writer_memory.WriterMemory.{WriterMemory}
 use Rattle.arc_buffer.specs.Slice.{sub}
 use Rattle.arc_block.specs.Block.{BlockInfo, native, full_places}
@@ -60,23 +62,28 @@ module _ {T A : Type 0} where
   abbrev pub native_over : (drops : Bool) → Owner → WriterMemory T A → NativeView T
   native_over drops owner memory =
       native_view drops owner memory.places.vec.items memory.places.under.start
-      memory.allocation.count
+      memory.places.under.whole
 
   -- The block keeps that these places come back: of items that are dropped one by one all that are
   -- full, from the first on.
   abbrev pub IsKeptFor : (drops : Bool) → FrozenPlaces T → Kept T A → Type 0
-  IsKeptFor drops range Nothing = ⊥
   IsKeptFor drops range (Places kept) =
       (drops ≡ false) × (kept.inheritance.memory ≡ range.memory)
   IsKeptFor drops range (Items kept) =
       (drops ≡ true) × (kept.kept.inheritance.memory ≡ range.memory) × (range.start ≡ 0)
       × (kept.full.items ≡ range.items)
 
+  -- What the block keeps lies at this place, in the room for a header of this size that its piece of
+  -- memory has.
+  abbrev pub IsLaidFor : (place : Ptr) (head : ℕ × ℕ) → Kept T A → Type 0
+  IsLaidFor place head kept = (place ≡ (kept_in kept).piece.right.place)
+      × (head ≡ (kept_in kept).piece.right.head)
+
 -- what is seen of a block through an owner who reads these places
 abbrev pub range_seen : {T : Type 0} → (drops : Bool) → Owner → FrozenPlaces T → NativeView T
 range_seen drops owner range =
     native_view drops owner range.items range.start range.memory.whole
 
-abbrev pub native_seen : {T A H : Type 0} {MAX : ℕ} {G : Ghosts H} → (drops : Bool)
-    → FrozenReader T (Kept T A) A MAX H G → NativeView T
+abbrev pub native_seen : {T V Z H : Type 0} {MAX : ℕ} {G : Ghosts H} → (drops : Bool)
+    → FrozenReader T V Z MAX H G → NativeView T
 native_seen drops reader = range_seen drops (owner_in reader.owner) reader.range

@@ -1,4 +1,4 @@
--- The block that `HeaderAllocator` asks for, as a machine value. Assumes `Logic`.
+-- The block that a piece of memory is, as a machine value. Assumes `Logic`.
 --     block_told, block_made      what is owned of its fields tells that value, and is made of nothing
 use Rattle.std.proofs.Common.{◌≡◌, List, [], ◌∷◌, ◌++◌, refl, ◌∙◌}
 use seplogic.Ra.Ura.{Ura}

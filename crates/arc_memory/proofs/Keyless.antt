@@ -14,7 +14,7 @@ use Rattle.std_alloc.proofs.SendSync.{lies}
 use Rattle.arc_memory.specs.Memory.{place_at, side_by_side, places_own}
 use Rattle.arc_memory.specs.LentMemory.{LentMemory, Held, holds, named, contents, borrowed, opened, returning, settles, each_name, in_memory, names_from, part_owns, open_owns, inheritance_owns, frozen_owns}
 
-bare : (τ : Ty) (p : Ptr) → Keyless (room_for τ p)
+pub bare : (τ : Ty) (p : Ptr) → Keyless (room_for τ p)
 bare τ null_ptr = tt
 bare τ (block_ptr _ _) = tt
 

@@ -1,5 +1,5 @@
 -- Places as parts of an allocation, as contracts see them.
-use Rattle.std.specs.Prelude.{◌≡◌, ◌+◌}
+use Rattle.std.specs.Prelude.{◌≡◌}
 use Rattle.arc_memory.specs.Memory.{Extent}
 use Rattle.arc_memory.specs.LentMemory.{LentMemory}
 use Rattle.arc_memory.specs.declared.places.Places.{Places}
@@ -15,11 +15,6 @@ module _ {T : Type 0} where
   -- all the places that an allocation has
   abbrev pub IsAllOf : {A : Type 0} → Places T → Extent A → Type 0
   IsAllOf p e = (p.base ≡ e.base) × (p.whole ≡ e.count) × (p.start ≡ 0) × (p.count ≡ e.count)
-
-  -- both together are all the places that an allocation has, the first ones and those behind them
-  abbrev pub AreAllOf : {A : Type 0} → Places T → Places T → Extent A → Type 0
-  AreAllOf f p e = IsPart f p × (f.base ≡ e.base) × (f.whole ≡ e.count) × (f.start ≡ 0)
-      × (f.count ≡ p.start) × (p.start + p.count ≡ e.count)
 
   -- they lie in the memory that was lent
   abbrev pub IsPartOfLent : LentMemory → Places T → Type 0

@@ -32,11 +32,11 @@ abbrev pub with_all_written : {T A : Type 0} → ℕ → WriterMemory T A → Li
 with_all_written start m ws = record {
   before = m.before;
   places = with_written_from start m.places ws;
-  allocation = m.allocation;
+  source = m.source;
   front = m.front;
   unused = m.unused;
   own = m.own;
-  kept = m.kept;
+  from = m.from;
 }
 
 abbrev pub LendsMemory : (T A : RattleType) → Ghosts A.Denot → ℕ

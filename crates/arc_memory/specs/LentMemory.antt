@@ -17,7 +17,7 @@ use Rattle.core.specs.Mem.{type_size}
 use Rattle.arc_memory.specs.Memory.{is_small, place_at}
 
 -- which memory is lent: for which lifetime, the name of each place from the first of the allocation
--- on, where the allocation begins, and how many places it has
+-- on, where they begin, and how many places it has
 pub record LentMemory : Type 0 where
   pub lifetime : ℕ
   pub names : List ℕ

@@ -2,9 +2,6 @@ pub mod Memory
 pub mod LendsPlaces
 pub mod LentMemory
 pub mod Allocations
-pub mod Headers
-pub mod Rights
-pub mod HeaderPlaces
 pub mod WriterMemories
 pub mod WriterPlaces
 pub mod LeaseNotes
@@ -12,4 +9,7 @@ pub mod WriterParts
 pub mod LentRanges
 pub mod SharedWriters
 pub mod KeptPlaces
+pub mod PieceParts
+pub mod Pieces
+pub mod Sources
 pub mod LendsWriters

@@ -1,8 +1,9 @@
 -- One of several writers with its places, as contracts see it.
 use Rattle.std.specs.Prelude.{◌≡◌, ℕ, List}
+use denote.RawPtr.{Ptr}
 use Rattle.arc_owners.specs.declared.mark.Mark.{Ghosts}
 use Rattle.arc_owners.specs.count.Calls.{Owner}
-use Rattle.arc_owners.specs.memory.Boxes.{owner_in_rest, value_of_rest}
+use Rattle.arc_owners.specs.memory.Boxes.{owner_in_rest, value_of_rest, place_in_rest}
 use Rattle.arc_memory.specs.LentRanges.{LentRange}
 use Rattle.arc_memory.specs.declared.shared_writer.SharedWriter.{SharedWriter}
 
@@ -14,6 +15,10 @@ module _ {T V A H : Type 0} {MAX : ℕ} {G : Ghosts H} where
   abbrev pub writer_value : SharedWriter T V A MAX H G → V
   writer_value w = value_of_rest w.rest.rest
 
+  -- where its value lies
+  abbrev pub writer_place : SharedWriter T V A MAX H G → Ptr
+  writer_place w = place_in_rest w.rest.rest
+
   abbrev pub writer_range : SharedWriter T V A MAX H G → LentRange
   writer_range w = record {
     memory = w.rest.out.memory;
@@ -24,9 +29,10 @@ module _ {T V A H : Type 0} {MAX : ℕ} {G : Ghosts H} where
   abbrev pub writer_items : SharedWriter T V A MAX H G → List T
   writer_items w = w.places.vec.items
 
-  -- the same owner of the same value
+  -- the same owner of the same value in the same place
   abbrev pub IsSameWriter : SharedWriter T V A MAX H G → SharedWriter T V A MAX H G → Type 0
   IsSameWriter v w = (writer_owner w ≡ writer_owner v) × (writer_value w ≡ writer_value v)
+      × (writer_place w ≡ writer_place v)
 
   -- with this range and these items
   abbrev pub HasRange : SharedWriter T V A MAX H G → LentRange → List T → Type 0

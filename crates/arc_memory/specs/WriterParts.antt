@@ -3,18 +3,19 @@ use Rattle.std.specs.Prelude.{◌≡◌, ℕ}
 use Rattle.arc_owners.specs.declared.mark.Mark.{Ghosts}
 use Rattle.arc_owners.specs.declared.memory.counted_box.CountedBox.{CountedBox}
 use Rattle.arc_owners.specs.declared.memory.sole_box.SoleBox.{SoleBox}
-use Rattle.arc_owners.specs.memory.Boxes.{owner_in, value_of}
-use Rattle.arc_owners.specs.memory.SoleBoxes.{sole_in, sole_value}
+use Rattle.arc_owners.specs.memory.Boxes.{owner_in, value_of, place_in}
+use Rattle.arc_owners.specs.memory.SoleBoxes.{sole_in, sole_value, sole_place}
 use Rattle.arc_memory.specs.declared.frozen_places.FrozenPlaces.{FrozenPlaces}
 
 module _ {V A H : Type 0} {MAX : ℕ} {G : Ghosts H} where
-  -- the same owner of the same value
+  -- the same owner of the same value in the same place
   abbrev pub IsSameOwner : CountedBox V A MAX H G → CountedBox V A MAX H G → Type 0
-  IsSameOwner p q = (owner_in q ≡ owner_in p) × (value_of q ≡ value_of p)
+  IsSameOwner p q = (owner_in q ≡ owner_in p) × (value_of q ≡ value_of p) × (place_in q ≡ place_in p)
 
   -- the same, as the only one
   abbrev pub IsSoleAgain : CountedBox V A MAX H G → SoleBox V A MAX H G → Type 0
   IsSoleAgain p b = (sole_in b ≡ owner_in p) × (sole_value b ≡ value_of p)
+      × (sole_place b ≡ place_in p)
 
 -- the same items in the same memory
 abbrev pub IsSameRange : {T : Type 0} → FrozenPlaces T → FrozenPlaces T → Type 0

@@ -55,7 +55,7 @@ impl<T> FrozenPlaces<T> {
     ///
     /// # Safety
     ///
-    /// The allocation begins at this place.
+    /// The memory's places begin here.
     #[inline(always)]
     pub unsafe fn as_slice<'a>(
         &'a self,

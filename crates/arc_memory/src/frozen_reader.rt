@@ -1,6 +1,6 @@
 //! A reader of items in memory that is lent for the lease of a block's owners.
 ghost use Rattle.std.specs.Prelude.{◌≡◌, ◌+◌, ◌-◌, ◌≤◌, IfOk, IfErr, IfSome, length, take, drop};
-ghost use Rattle.std.specs.Prelude.{is_ok, is_some, true, false, None, IfNone};
+ghost use Rattle.std.specs.Prelude.{is_ok, is_some, true, false, IfNone};
 ghost use base.Fraction.{full_share};
 ghost use base.Stored.{Coded-set};
 ghost use Rattle.arc_owners.specs.count.LentNotes.{LentNote, note_coded};
@@ -12,9 +12,10 @@ use arc_owners::error::CountFull;
 use arc_owners::leave::RaiseLeave;
 use arc_owners::lifetime::{EndedLifetime, LifetimeToken};
 use arc_owners::mark::Mark;
-use arc_owners::owners::{CountedBox, Pass, SoleBox};
+use arc_owners::owners::{CountedBox, Header, HeaderRoom, Pass, SoleBox};
 use std::alloc::Allocator;
 use std::sync::Wait;
+use std_alloc::vec::Lodged;
 
 /// An owner of a block, and a range of items in the memory that is lent for the lease of the
 /// block's owners, which nobody changes while it lasts. Others may write beside it. V is what the
@@ -28,9 +29,8 @@ pub struct FrozenReader<T, V: Drop, A: Allocator + Copy, const MAX: u64, H: Mark
 
 impl<T, V: Drop, A: Allocator + Copy, const MAX: u64, H: Mark> FrozenReader<T, V, A, MAX, H> {
     ghost use Rattle.arc_owners.specs.count.Calls.{IsPassFor, Asks, MakesAnother, FindsFull};
-    ghost use Rattle.arc_owners.specs.count.Calls.{Leaves, EndsByItself, IsPassOfNone};
-    ghost use Rattle.arc_owners.specs.memory.Boxes.{owner_in, value_of};
-    ghost use Rattle.arc_owners.specs.memory.SoleBoxes.{sole_in, sole_value};
+    ghost use Rattle.arc_owners.specs.memory.Boxes.{owner_in, value_of, place_in};
+    ghost use Rattle.arc_owners.specs.memory.SoleBoxes.{sole_in, sole_value, sole_place};
     ghost use Rattle.arc_memory.specs.WriterParts.{IsSameOwner, IsSoleAgain, IsSameRange};
 
     /// The first reader of this range: the only owner lends the value anew, for the lifetime for
@@ -45,6 +45,7 @@ impl<T, V: Drop, A: Allocator + Copy, const MAX: u64, H: Mark> FrozenReader<T, V
         requires lent { range.memory.lifetime ≡ lifetime.lifetime }
         ensures same { (owner_in result.owner ≡ sole_in count)
             × (value_of result.owner ≡ sole_value count) }
+        ensures place { place_in result.owner ≡ sole_place count }
         ensures range { IsSameRange range result.range }
     {
         Self::lend_noted(count, lifetime, range)
@@ -63,6 +64,7 @@ impl<T, V: Drop, A: Allocator + Copy, const MAX: u64, H: Mark> FrozenReader<T, V
         requires noted { note_of range.memory ≡ note }
         ensures same { (owner_in result.owner ≡ sole_in count)
             × (value_of result.owner ≡ sole_value count) }
+        ensures place { place_in result.owner ≡ sole_place count }
         ensures range { IsSameRange range result.range }
     {
         FrozenReader {
@@ -76,7 +78,7 @@ impl<T, V: Drop, A: Allocator + Copy, const MAX: u64, H: Mark> FrozenReader<T, V
     ///
     /// # Safety
     ///
-    /// The allocation begins at this place.
+    /// The memory's places begin here.
     #[inline(always)]
     pub unsafe fn as_slice<'a>(&'a self, base: *const T, start: usize, end: usize) -> &'a [T]
         requires place { base ≡ self.now.range.memory.base }
@@ -109,6 +111,8 @@ impl<T, V: Drop, A: Allocator + Copy, const MAX: u64, H: Mark> FrozenReader<T, V
         ensures made { IfSome result (λ r. IfOk r (λ other.
             MakesAnother (owner_in self.now.owner) pass.old pass.new (owner_in other.owner)
             × (value_of other.owner ≡ value_of self.now.owner))) }
+        ensures place { IfSome result (λ r. IfOk r (λ other.
+            place_in other.owner ≡ place_in self.now.owner)) }
         ensures range { IfSome result (λ r. IfOk r (λ other.
             IsSameRange self.now.range other.range)) }
         ensures full { IfSome result (λ r.
@@ -147,6 +151,7 @@ impl<T, V: Drop, A: Allocator + Copy, const MAX: u64, H: Mark> FrozenReader<T, V
             × (end ≤ self.now.range.start + length self.now.range.items) }
         ensures made { IfOk result (λ r. MakesAnother (owner_in self.now.owner) pass.old pass.new
             (owner_in r.owner) × (value_of r.owner ≡ value_of self.now.owner)) }
+        ensures place { IfOk result (λ r. place_in r.owner ≡ place_in self.now.owner) }
         ensures range { IfOk result (λ r. (r.range.memory ≡ self.now.range.memory)
             × (r.range.start ≡ start)) }
         ensures items { IfOk result (λ r. r.range.items ≡ drop (start - self.now.range.start)
@@ -187,36 +192,44 @@ impl<T, V: Drop, A: Allocator + Copy, const MAX: u64, H: Mark> FrozenReader<T, V
             Err(owner) => Err(FrozenReader { owner, range }),
         }
     }
+}
 
-    /// Ends this reader. The last owner gets the value, and that the lifetime has ended, for which
-    /// all places come back. Takes no memory.
+impl<T, V: Drop, const MAX: u64, H: Mark> FrozenReader<T, V, Lodged, MAX, H> {
+    ghost use Rattle.arc_owners.specs.count.Calls.{IsPassFor, Leaves, EndsByItself, IsPassOfNone};
+    ghost use Rattle.arc_owners.specs.memory.Boxes.{owner_in, value_of, place_in};
+
+    /// Ends this reader. The last owner gets the value, the room in which it lay, and that the
+    /// lifetime has ended, for which all places come back. Takes no memory.
     ///
     /// # History
     ///
     /// Down.
     #[inline(always)]
-    pub fn release_as(self, pass: &mut Pass<H>) -> Option<(V, EndedLifetime)>
+    pub fn release_as(self, pass: &mut Pass<H>) -> Option<(V, HeaderRoom<Header<V>>, EndedLifetime)>
         requires pass { IsPassFor (owner_in self.owner) pass.old }
         ensures entry { Leaves (owner_in self.owner) pass.old pass.new (is_some result) }
         ensures value { IfSome result (λ r. r.0 ≡ value_of self.owner) }
-        ensures ended { IfSome result (λ r. r.1.lifetime ≡ self.range.memory.lifetime) }
+        ensures room { IfSome result (λ r. r.1.at ≡ place_in self.owner) }
+        ensures ended { IfSome result (λ r. r.2.lifetime ≡ self.range.memory.lifetime) }
     {
         let FrozenReader { owner, range: _ } = self;
-        owner.release_with_end_as(pass)
+        owner.release_with_room_as(pass)
     }
 
     /// What a drop does: under `Open` this reader ends with a new pass, and the last owner gets the
-    /// value, and that the lifetime has ended; under `Whole` it is forgotten, without a step. Takes
-    /// no memory. The pass is the one that the owner ended with; under `Whole` it is of no block.
+    /// value, the room in which it lay, and that the lifetime has ended; under `Whole` it is
+    /// forgotten, without a step. Takes no memory. The pass is the one that the owner ended with;
+    /// under `Whole` it is of no block.
     #[inline(always)]
-    pub fn let_go(self) -> (Option<(V, EndedLifetime)>, Pass<H>)
+    pub fn let_go(self) -> (Option<(V, HeaderRoom<Header<V>>, EndedLifetime)>, Pass<H>)
         ensures value { IfSome result.0 (λ r. r.0 ≡ value_of self.owner) }
-        ensures lifetime { IfSome result.0 (λ r. r.1.lifetime ≡ self.range.memory.lifetime) }
-        ensures forgotten { H.whole ≡ true → (result.0 ≡ None) × IsPassOfNone result.1 }
+        ensures room { IfSome result.0 (λ r. r.1.at ≡ place_in self.owner) }
+        ensures lifetime { IfSome result.0 (λ r. r.2.lifetime ≡ self.range.memory.lifetime) }
+        ensures forgotten { H.whole ≡ true → (is_some result.0 ≡ false) × IsPassOfNone result.1 }
         ensures ended { H.whole ≡ false
             → EndsByItself (owner_in self.owner) result.1 (is_some result.0) }
     {
         let FrozenReader { owner, range: _ } = self;
-        owner.let_go_with_end()
+        owner.let_go_with_room()
     }
 }

@@ -1,7 +1,7 @@
-//! The block that a `HeaderAllocator` asks for.
+//! The block that a piece of memory is.
 ghost use Rattle.std.specs.Prelude.{◌≡◌, ℕ, IfSome};
 ghost use Rattle.core.specs.Allocator.{owned_block};
-ghost use Rattle.arc_memory.specs.Headers.{IsWhole, units_of};
+ghost use Rattle.arc_memory.specs.Pieces.{IsWhole, units_of};
 
 use std::alloc::Allocator;
 use std::marker::{Model, PhantomData};

@@ -5,9 +5,12 @@ ghost use Rattle.arc_memory.specs.LentMemory.{LentMemory-set};
 
 use crate::base::Base;
 use crate::frozen_places::FrozenPlaces;
+use crate::head_size::HeadSize;
+use crate::kept::Kept;
 use crate::kept_places::KeptPlaces;
 use crate::writer_memory::WriterMemory;
 use arc_owners::lifetime::EndedLifetime;
+use arc_owners::owners::{Header, HeaderRoom};
 use std::alloc::Allocator;
 
 /// What is kept of memory whose places are lent, and the range of all items that lie there, which
@@ -27,6 +30,9 @@ pub struct KeptItems<T: Drop, A: Allocator> {
 }
 
 impl<T: Drop, A: Allocator> KeptItems<T, A> {
+    ghost use Rattle.arc_memory.specs.PieceParts.{IsRoomOf};
+    ghost use Rattle.arc_memory.specs.Sources.{IsPiece};
+
     /// This memory, with the frozen range of all items, of which there are `len`. It begins at
     /// `base`.
     pub fn of(kept: KeptPlaces<T, A>, full: FrozenPlaces<T>, base: *const T, len: usize) -> Self
@@ -47,17 +53,24 @@ impl<T: Drop, A: Allocator> KeptItems<T, A> {
     pub fn count(&self) -> usize
         ensures { result ≡ self.now.kept.inheritance.memory.whole }
     {
-        self.kept.allocation.count()
+        self.kept.piece.count()
     }
 
-    /// All items, once the lifetime has ended, with their memory, for its only writer. No item is
-    /// moved, and no memory read.
+    /// All items, once the lifetime has ended, with their memory, and the room for its header, for
+    /// its only writer. No item is moved, and no memory read.
     #[inline(always)]
-    pub fn regain(self, ended: EndedLifetime) -> WriterMemory<T, A>
+    pub fn regain(
+        self,
+        ended: EndedLifetime,
+        room: HeaderRoom<Header<Kept<T, A>>>,
+        head: HeadSize<Header<Kept<T, A>>>,
+    ) -> WriterMemory<T, A>
         requires ended { ended.lifetime ≡ self.kept.inheritance.memory.lifetime }
+        requires room { IsRoomOf room head.size self.kept.piece }
         ensures items { result.places.vec.items ≡ self.full.items }
-        ensures memory { (result.allocation ≡ self.kept.allocation)
+        ensures memory { (result.places.under.whole ≡ self.kept.inheritance.memory.whole)
             × (result.places.under.start ≡ 0) }
+        ensures block { IsPiece result.source }
     {
         let KeptItems {
             kept,
@@ -65,6 +78,6 @@ impl<T: Drop, A: Allocator> KeptItems<T, A> {
             base,
             len,
         } = self;
-        unsafe { kept.regain_frozen_writer(ended, &full, base.at, 0, len) }
+        unsafe { kept.regain_frozen_writer(ended, &full, room, head, base.at, 0, len) }
     }
 }

@@ -6,10 +6,10 @@
 //! writers (`LentPlaces`), who may freeze their items for readers (`FrozenPlaces`). Memory that is
 //! lent whole can be the value of a counted box (`LentAllocation`). Memory that is lent for the
 //! lease of a block's owners has several writers (`WriterPart`) and readers (`FrozenReader`), and
-//! leaves in the counted box what is kept for its end (`Kept`). An allocation of our own is
-//! one writer's (`WriterMemory`), who lends its places and has them back, and moves no item for it;
-//! no block uses it yet. `HeaderAllocator` leaves room for a header behind what it hands
-//! out, so that a vector's memory has room for a count; no block uses it yet.
+//! leaves in the counted box what is kept for its end (`Kept`). Memory of our own is one piece
+//! (`Piece`): in front the room for a header, in which that box lies, and behind it the places. It
+//! is one writer's (`WriterMemory`), who lends its places and has them back, and moves no item for
+//! it.
 #![tactic(auto)]
 
 pub use allocation::{Allocation, put_together, take_apart};
@@ -17,8 +17,7 @@ pub use arc_owners::lifetime::{EndedLifetime, LifetimeToken};
 pub use base::Base;
 pub use frozen_places::FrozenPlaces;
 pub use frozen_reader::FrozenReader;
-pub use header_allocator::HeaderAllocator;
-pub use header_room::{HeaderRoom, RightWithoutHeader};
+pub use head_size::HeadSize;
 pub use kept::Kept;
 pub use kept_items::KeptItems;
 pub use kept_places::KeptPlaces;
@@ -27,10 +26,10 @@ pub use lent_places::{LentPlaces, OpenPlaces, PlacesInheritance};
 pub use lodging::Lodging;
 pub use native::Native;
 pub use open_writer::OpenWriter;
+pub use piece::Piece;
 pub use places::Places;
 pub use shared_writer::SharedWriter;
-pub use vec_without_header::VecWithoutHeader;
-pub use vec_without_right::{RightToFree, VecWithoutRight};
+pub use source::{PieceWithRoom, Source};
 pub use writer_memory::WriterMemory;
 pub use writer_part::WriterPart;
 pub use writer_places::WriterPlaces;
@@ -40,9 +39,8 @@ mod base;
 mod emptied;
 mod frozen_places;
 mod frozen_reader;
-mod header_allocator;
+mod head_size;
 mod header_block;
-mod header_room;
 mod kept;
 mod kept_items;
 mod kept_places;
@@ -51,12 +49,13 @@ mod lent_places;
 mod lodging;
 mod native;
 mod open_writer;
+mod piece;
+mod piece_right;
 mod place_arrays;
 mod place_slots;
 mod places;
 mod shared_writer;
-mod vec_without_header;
-mod vec_without_right;
+mod source;
 mod writer_memory;
 mod writer_part;
 mod writer_places;

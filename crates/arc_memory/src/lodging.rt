@@ -31,7 +31,7 @@ impl<T> Lodging<T> {
     ///
     /// # Safety
     ///
-    /// The allocation begins at this place, and these are the range of the places.
+    /// The memory's places begin here, and these are the range of the places.
     pub unsafe fn house(
         places: Places<T>,
         base: *const T,

@@ -24,8 +24,8 @@ pub struct OpenWriter<T, V: Drop, A: Allocator + Copy, const MAX: u64, H: Mark> 
 }
 
 impl<T, V: Drop, A: Allocator + Copy, const MAX: u64, H: Mark> OpenWriter<T, V, A, MAX, H> {
-    ghost use Rattle.arc_owners.specs.memory.Boxes.{owner_in, value_of};
-    ghost use Rattle.arc_owners.specs.memory.Boxes.{owner_in_rest, value_of_rest};
+    ghost use Rattle.arc_owners.specs.memory.Boxes.{owner_in, value_of, place_in};
+    ghost use Rattle.arc_owners.specs.memory.Boxes.{owner_in_rest, value_of_rest, place_in_rest};
     ghost use Rattle.arc_memory.specs.Allocations.{IsPartOfLent};
 
     /// The writer again, with what lies in its places now. It adds no entry, takes no memory and is
@@ -36,6 +36,7 @@ impl<T, V: Drop, A: Allocator + Copy, const MAX: u64, H: Mark> OpenWriter<T, V, 
         requires places { (places.start ≡ self.out.start) × (places.count ≡ self.out.count) }
         ensures owner { (owner_in result.owner ≡ owner_in_rest self.rest)
             × (value_of result.owner ≡ value_of_rest self.rest) }
+        ensures place { place_in result.owner ≡ place_in_rest self.rest }
         ensures memory { result.part.memory ≡ self.out.memory }
         ensures part { (result.part.start ≡ self.out.start)
             × (result.part.count ≡ self.out.count) × (result.part.items ≡ places.items) }

@@ -33,7 +33,7 @@ impl<T> Places<T> {
     ///
     /// # Safety
     ///
-    /// The allocation begins at this place.
+    /// The memory's places begin here.
     #[inline(always)]
     pub unsafe fn as_slice<'a>(&'a self, base: *const T, start: usize, end: usize) -> &'a [T]
         requires place { (base ≡ self.now.base) × (self.now.start ≡ 0) }

@@ -1,7 +1,6 @@
 //! One of several writers on a block, as it is between its steps on the count: with its places.
 ghost use Rattle.std.specs.Prelude.{◌≡◌, ◌+◌, ◌-◌, ◌<◌, ◌≤◌, ◌⊎◌, ◌∷◌, [], ◌++◌, Bool, length};
 ghost use Rattle.std.specs.Prelude.{take, drop, IfOk, IfErr, IfSome, is_ok, is_some, true, false};
-ghost use Rattle.std.specs.Prelude.{None};
 
 use crate::frozen_reader::FrozenReader;
 use crate::lent_places::LentPlaces;
@@ -11,10 +10,11 @@ use crate::writer_places::WriterPlaces;
 use arc_owners::error::CountFull;
 use arc_owners::lifetime::EndedLifetime;
 use arc_owners::mark::{Mark, Stepping};
-use arc_owners::owners::{Pass, SoleBox};
+use arc_owners::owners::{Header, HeaderRoom, Pass, SoleBox};
 use core::mem::replace_with;
 use std::alloc::Allocator;
 use std::sync::Wait;
+use std_alloc::vec::Lodged;
 
 /// An owner of a block, with the places of its part, in which a vector lodges: it reads and edits
 /// the items by `places`, as a vector's. For a step on the count it is closed and opened again,
@@ -30,12 +30,13 @@ pub struct SharedWriter<T, V: Drop, A: Allocator + Copy, const MAX: u64, H: Mark
 
 impl<T, V: Drop, A: Allocator + Copy, const MAX: u64, H: Mark> SharedWriter<T, V, A, MAX, H> {
     ghost use Rattle.arc_owners.specs.count.Calls.{IsPassFor, Asks, MakesAnother, FindsFull};
-    ghost use Rattle.arc_owners.specs.count.Calls.{Leaves, Learns, EndsByItself, IsPassOfNone};
-    ghost use Rattle.arc_owners.specs.memory.Boxes.{owner_in, value_of};
-    ghost use Rattle.arc_owners.specs.memory.SoleBoxes.{sole_in, sole_value};
+    ghost use Rattle.arc_owners.specs.count.Calls.{Leaves, Learns};
+    ghost use Rattle.arc_owners.specs.memory.Boxes.{owner_in, value_of, place_in};
+    ghost use Rattle.arc_owners.specs.memory.SoleBoxes.{sole_in, sole_value, sole_place};
     ghost use Rattle.arc_memory.specs.LentRanges.{part_range, front_range, back_range};
     ghost use Rattle.arc_memory.specs.LentRanges.{longer_range};
     ghost use Rattle.arc_memory.specs.SharedWriters.{writer_owner, writer_value, writer_range};
+    ghost use Rattle.arc_memory.specs.SharedWriters.{writer_place};
     ghost use Rattle.arc_memory.specs.SharedWriters.{writer_items, IsSameWriter, HasRange};
     ghost use Rattle.arc_memory.specs.LendsWriters.{LendsWriter};
     ghost use Rattle.std.specs.Borrow.{sem};
@@ -44,7 +45,7 @@ impl<T, V: Drop, A: Allocator + Copy, const MAX: u64, H: Mark> SharedWriter<T, V
     ///
     /// # Safety
     ///
-    /// The allocation begins at `base`, and the others are the part's range and its number of
+    /// The memory's places begin at `base`, and the others are the part's range and its number of
     /// items.
     #[inline(always)]
     pub unsafe fn of(
@@ -57,7 +58,8 @@ impl<T, V: Drop, A: Allocator + Copy, const MAX: u64, H: Mark> SharedWriter<T, V
         requires place { (base ≡ part.part.memory.base) × (start ≡ part.part.start) }
         requires sizes { (len ≡ length part.part.items) × (capacity ≡ part.part.count) }
         ensures owner { (writer_owner result ≡ owner_in part.owner)
-            × (writer_value result ≡ value_of part.owner) }
+            × (writer_value result ≡ value_of part.owner)
+            × (writer_place result ≡ place_in part.owner) }
         ensures range { writer_range result ≡ part_range part.part }
         ensures items { writer_items result ≡ part.part.items }
     {
@@ -72,7 +74,8 @@ impl<T, V: Drop, A: Allocator + Copy, const MAX: u64, H: Mark> SharedWriter<T, V
     #[inline(always)]
     pub fn into_part(self) -> WriterPart<T, V, A, MAX, H>
         ensures owner { (owner_in result.owner ≡ writer_owner self)
-            × (value_of result.owner ≡ writer_value self) }
+            × (value_of result.owner ≡ writer_value self)
+            × (place_in result.owner ≡ writer_place self) }
         ensures range { part_range result.part ≡ writer_range self }
         ensures items { result.part.items ≡ writer_items self }
     {
@@ -169,7 +172,8 @@ impl<T, V: Drop, A: Allocator + Copy, const MAX: u64, H: Mark> SharedWriter<T, V
         requires pass { IsPassFor (writer_owner self) pass.old }
         requires at { at ≤ (writer_range self).count }
         ensures made { IfOk result (λ r. MakesAnother (writer_owner self) pass.old pass.new
-            (writer_owner r.1) × (writer_value r.1 ≡ writer_value self)) }
+            (writer_owner r.1) × (writer_value r.1 ≡ writer_value self)
+            × (writer_place r.1 ≡ writer_place self)) }
         ensures stays { IfOk result (λ r. IsSameWriter self r.0) }
         ensures front { IfOk result (λ r. HasRange r.0 (front_range at (writer_range self))
             (take at (writer_items self))) }
@@ -211,7 +215,8 @@ impl<T, V: Drop, A: Allocator + Copy, const MAX: u64, H: Mark> SharedWriter<T, V
         requires pass { IsPassFor (writer_owner self) pass.old }
         requires at { at ≤ (writer_range self).count }
         ensures made { IfOk result (λ r. MakesAnother (writer_owner self) pass.old pass.new
-            (writer_owner r.1) × (writer_value r.1 ≡ writer_value self)) }
+            (writer_owner r.1) × (writer_value r.1 ≡ writer_value self)
+            × (writer_place r.1 ≡ writer_place self)) }
         ensures stays { IfOk result (λ r. IsSameWriter self r.0) }
         ensures back { IfOk result (λ r. HasRange r.0 (back_range at (writer_range self))
             (drop at (writer_items self))) }
@@ -274,7 +279,8 @@ impl<T, V: Drop, A: Allocator + Copy, const MAX: u64, H: Mark> SharedWriter<T, V
         requires pass { IsPassFor (writer_owner self) pass.old }
         ensures entry { Asks (writer_owner self) pass.old pass.new (is_ok result) }
         ensures sole { IfOk result (λ r. (sole_in r.0 ≡ writer_owner self)
-            × (sole_value r.0 ≡ writer_value self)) }
+            × (sole_value r.0 ≡ writer_value self)
+            × (sole_place r.0 ≡ writer_place self)) }
         ensures ended { IfOk result (λ r. r.1.lifetime ≡ (writer_range self).memory.lifetime) }
         ensures part { IfOk result (λ r. (part_range r.2 ≡ writer_range self)
             × (r.2.items ≡ writer_items self)) }
@@ -287,37 +293,6 @@ impl<T, V: Drop, A: Allocator + Copy, const MAX: u64, H: Mark> SharedWriter<T, V
             Ok(alone) => Ok(alone),
             Err(part) => Err(unsafe { Self::of(part, base, start, len, capacity) }),
         }
-    }
-
-    /// Ends this writer. What lies in its places is forgotten: it is for items that need no drop.
-    /// The last owner gets the value, and that the lifetime has ended, for which all places come
-    /// back. Takes no memory.
-    ///
-    /// # History
-    ///
-    /// Down.
-    pub fn release_as(self, pass: &mut Pass<H>) -> Option<(V, EndedLifetime)>
-        requires pass { IsPassFor (writer_owner self) pass.old }
-        ensures entry { Leaves (writer_owner self) pass.old pass.new (is_some result) }
-        ensures value { IfSome result (λ r. r.0 ≡ writer_value self) }
-        ensures ended { IfSome result (λ r. r.1.lifetime ≡ (writer_range self).memory.lifetime) }
-    {
-        self.into_part().release_as(pass)
-    }
-
-    /// What a drop does: under `Open` this writer ends with a new pass, and the last owner gets the
-    /// value, and that the lifetime has ended; under `Whole` it is forgotten, without a step. What
-    /// lies in its places is forgotten. Takes no memory. The pass is the one that the owner ended
-    /// with; under `Whole` it is of no block.
-    pub fn let_go(self) -> (Option<(V, EndedLifetime)>, Pass<H>)
-        ensures value { IfSome result.0 (λ r. r.0 ≡ writer_value self) }
-        ensures lifetime { IfSome result.0 (λ r.
-            r.1.lifetime ≡ (writer_range self).memory.lifetime) }
-        ensures forgotten { H.whole ≡ true → (result.0 ≡ None) × IsPassOfNone result.1 }
-        ensures ended { H.whole ≡ false
-            → EndsByItself (writer_owner self) result.1 (is_some result.0) }
-    {
-        self.into_part().let_go()
     }
 
     /// Afterwards the first pass has seen at least what the other had. It adds no entry and takes
@@ -334,13 +309,53 @@ impl<T, V: Drop, A: Allocator + Copy, const MAX: u64, H: Mark> SharedWriter<T, V
     /// writers go on. The places behind them are given up. It adds no entry and takes no memory.
     pub fn freeze(self) -> FrozenReader<T, V, A, MAX, H>
         ensures owner { (owner_in result.owner ≡ writer_owner self)
-            × (value_of result.owner ≡ writer_value self) }
+            × (value_of result.owner ≡ writer_value self)
+            × (place_in result.owner ≡ writer_place self) }
         ensures range { (result.range.memory ≡ (writer_range self).memory)
             × (result.range.start ≡ (writer_range self).start)
             × (result.range.items ≡ writer_items self) }
     {
         let len = self.places.len();
         self.into_part().freeze(len)
+    }
+}
+
+impl<T, V: Drop, const MAX: u64, H: Mark> SharedWriter<T, V, Lodged, MAX, H> {
+    ghost use Rattle.arc_owners.specs.count.Calls.{IsPassFor, Leaves, EndsByItself, IsPassOfNone};
+    ghost use Rattle.arc_memory.specs.SharedWriters.{writer_owner, writer_value, writer_range};
+    ghost use Rattle.arc_memory.specs.SharedWriters.{writer_place};
+
+    /// Ends this writer. What lies in its places is forgotten: it is for items that need no drop.
+    /// The last owner gets the value, the room in which it lay, and that the lifetime has ended,
+    /// for which all places come back. Takes no memory.
+    ///
+    /// # History
+    ///
+    /// Down.
+    pub fn release_as(self, pass: &mut Pass<H>) -> Option<(V, HeaderRoom<Header<V>>, EndedLifetime)>
+        requires pass { IsPassFor (writer_owner self) pass.old }
+        ensures entry { Leaves (writer_owner self) pass.old pass.new (is_some result) }
+        ensures value { IfSome result (λ r. r.0 ≡ writer_value self) }
+        ensures room { IfSome result (λ r. r.1.at ≡ writer_place self) }
+        ensures ended { IfSome result (λ r. r.2.lifetime ≡ (writer_range self).memory.lifetime) }
+    {
+        self.into_part().release_as(pass)
+    }
+
+    /// What a drop does: under `Open` this writer ends with a new pass, and the last owner gets the
+    /// value, the room in which it lay, and that the lifetime has ended; under `Whole` it is
+    /// forgotten, without a step. What lies in its places is forgotten. Takes no memory. The pass
+    /// is the one that the owner ended with; under `Whole` it is of no block.
+    pub fn let_go(self) -> (Option<(V, HeaderRoom<Header<V>>, EndedLifetime)>, Pass<H>)
+        ensures value { IfSome result.0 (λ r. r.0 ≡ writer_value self) }
+        ensures room { IfSome result.0 (λ r. r.1.at ≡ writer_place self) }
+        ensures lifetime { IfSome result.0 (λ r.
+            r.2.lifetime ≡ (writer_range self).memory.lifetime) }
+        ensures forgotten { H.whole ≡ true → (is_some result.0 ≡ false) × IsPassOfNone result.1 }
+        ensures ended { H.whole ≡ false
+            → EndsByItself (writer_owner self) result.1 (is_some result.0) }
+    {
+        self.into_part().let_go()
     }
 }
 

@@ -1,54 +1,77 @@
 //! The memory of a native block while its only owner writes.
 ghost use Rattle.std.specs.Prelude.{◌≡◌, ◌+◌, ◌<◌, ◌≤◌, ◌∷◌, [], ◌++◌, length, take, drop};
-ghost use Rattle.std.specs.Prelude.{IfOk, IfErr, IsOk, OnOk, OnErr, slice_range, replicate};
+ghost use Rattle.std.specs.Prelude.{IfOk, IfErr, OnOk, OnErr, slice_range, replicate};
+ghost use Rattle.arc_memory.specs.Sources.{IsFrom, IsFrom-set};
 
-use crate::allocation::Allocation;
+use crate::allocation::take_apart;
+use crate::head_size::HeadSize;
+use crate::kept::Kept;
 use crate::kept_places::KeptPlaces;
 use crate::lent_places::LentPlaces;
+use crate::piece::Piece;
 use crate::places::Places;
+use crate::source::{PieceWithRoom, Source};
 use crate::writer_places::WriterPlaces;
 use arc_owners::error::AllocError;
 use arc_owners::lifetime::LifetimeToken;
+use arc_owners::owners::{Header, HeaderRoom};
 use core::mem::replace_with;
 use std::alloc::Allocator;
 use std::mem;
+use std::mem::ManuallyDrop;
+use std_alloc::vec::Lodged;
 
-/// All places of an allocation, for one writer, and the right to free it. The first may be empty:
-/// the writer's own begin behind them. Dropped, it drops each item and frees the memory.
+/// All places of one piece of memory, for one writer, the room for the piece's header, and the
+/// right to free it; or no places, and no memory. The first places may be empty: the writer's own
+/// begin behind them. Dropped, it drops each item and frees the memory.
 pub struct WriterMemory<T: Drop, A: Allocator> {
     pub before: Places<T>,
     pub places: WriterPlaces<T>,
-    pub allocation: Allocation<T, A>,
-    ghost front: { (before.base ≡ allocation.base) × (before.whole ≡ allocation.count)
+    pub source: Source<T, A>,
+    ghost front: { (before.base ≡ places.under.base) × (before.whole ≡ places.under.whole)
         × (before.start ≡ 0) × (before.count ≡ places.under.start) },
     ghost unused: { length before.items ≡ 0 },
-    ghost own: { (places.under.base ≡ allocation.base)
-        × (places.under.whole ≡ allocation.count)
-        × (places.under.start + places.under.count ≡ allocation.count) },
-    ghost kept: { allocation.len ≡ 0 },
+    ghost own: { places.under.start + places.under.count ≡ places.under.whole },
+    ghost from: { IsFrom source places.under.base places.under.whole } by { IsFrom-set source places.under.base places.under.whole },
 }
 
 impl<T: Drop, A: Allocator> WriterMemory<T, A> {
     ghost use Rattle.std.specs.Borrow.{sem};
-    ghost use Rattle.arc_memory.specs.Allocations.{AreAllOf};
+    ghost use Rattle.arc_memory.specs.PieceParts.{AreAllOfPiece, IsRoomOf};
+    ghost use Rattle.arc_memory.specs.Sources.{IsPiece};
     ghost use Rattle.arc_memory.specs.LendsPlaces.{LendsMemory};
     ghost use Rattle.arc_memory.specs.WriterMemories.{SameMemory};
 
-    /// New memory with this number of places, which are empty and all the writer's. For none
-    /// nothing is asked of the allocator.
+    /// No places, and no memory. Nothing is asked of an allocator.
+    pub fn nothing() -> Self
+        ensures items { result.places.vec.items ≡ [] }
+        ensures memory { (result.places.under.whole ≡ 0) × (result.places.under.start ≡ 0) }
+    {
+        let (base, allocation, places) = take_apart(Vec::new(Lodged));
+        let _none = unsafe { ManuallyDrop::new_unchecked(allocation) };
+        let (before, places) = places.split(0);
+        WriterMemory {
+            before,
+            places: unsafe { WriterPlaces::of(places, base, 0, 0, 0) },
+            source: Source::Nothing,
+        }
+    }
+
+    /// New memory with this number of places, which are empty and all the writer's, and with room
+    /// for a header in front of them.
     ///
     /// # Errors
     ///
-    /// `AllocError` where there is no memory, or where the places pass `isize::MAX` bytes.
+    /// `AllocError` where there is no memory, or where header and places, each counted in units of
+    /// 16 bytes, pass `isize::MAX` bytes together.
     ///
     /// # Allocates
     ///
-    /// Once, except for none.
+    /// Once.
     pub fn new(alloc: A, count: usize) -> Result<Self, AllocError>
         ensures items { IfOk result (λ m. m.places.vec.items ≡ []) }
-        ensures memory { IfOk result (λ m. (m.allocation.count ≡ count)
-            × (m.places.under.start ≡ 0)) }
-        ensures none { count ≡ 0 → IsOk result }
+        ensures memory { IfOk result (λ m. (m.places.under.whole ≡ count)
+            × (m.places.under.start ≡ 0) × IsPiece m.source) }
     {
         Self::beginning_at(alloc, 0, count)
     }
@@ -57,52 +80,53 @@ impl<T: Drop, A: Allocator> WriterMemory<T, A> {
     fn beginning_at(alloc: A, start: usize, count: usize) -> Result<Self, AllocError>
         requires { start ≤ count }
         ensures items { IfOk result (λ m. m.places.vec.items ≡ []) }
-        ensures memory { IfOk result (λ m. (m.allocation.count ≡ count)
-            × (m.places.under.start ≡ start)) }
-        ensures none { count ≡ 0 → IsOk result }
+        ensures memory { IfOk result (λ m. (m.places.under.whole ≡ count)
+            × (m.places.under.start ≡ start) × IsPiece m.source) }
     {
-        match Allocation::new(alloc, count) {
-            Ok((base, allocation, places)) => {
+        match Piece::new(alloc, count) {
+            Ok((room, base, piece, places)) => {
                 let (before, places) = places.split(start);
-                Ok(unsafe { Self::of(before, places, allocation, base, start, 0) })
+                let head = HeadSize::new();
+                let source = PieceWithRoom { piece, room, head };
+                Ok(unsafe { Self::of(before, places, source, base, start, 0) })
             }
             Err(e) => Err(e),
         }
     }
 
-    /// All places of an allocation, of which the first are empty, and the right to free it.
+    /// All places of a piece, of which the first are empty, with the right to free it.
     ///
     /// # Safety
     ///
-    /// The allocation begins at `base`, the places behind the empty ones at number `start`, and
-    /// `len` items lie in them.
+    /// The places begin at `base`, those behind the empty ones at number `start`, and `len` items
+    /// lie in them.
     pub(crate) unsafe fn of(
         before: Places<T>,
         places: Places<T>,
-        allocation: Allocation<T, A>,
+        source: PieceWithRoom<T, A>,
         base: *const T,
         start: usize,
         len: usize,
     ) -> Self
-        requires all { AreAllOf before places allocation }
+        requires all { AreAllOfPiece before places source.piece }
         requires before { before.items ≡ [] }
-        requires kept { allocation.len ≡ 0 }
-        requires place { (base ≡ allocation.base) × (start ≡ places.start) }
+        requires place { (base ≡ places.base) × (start ≡ places.start) }
         requires len { len ≡ length places.items }
         ensures items { result.places.vec.items ≡ places.items }
-        ensures memory { (result.allocation ≡ allocation)
+        ensures memory { (result.places.under.whole ≡ places.whole)
             × (result.places.under.start ≡ places.start) }
+        ensures base { result.places.under.base ≡ places.base }
+        ensures block { IsPiece result.source }
     {
-        let capacity = allocation.count() - start;
+        let capacity = source.piece.count() - start;
         WriterMemory {
             before,
             places: unsafe { WriterPlaces::of(places, base, start, len, capacity) },
-            allocation,
+            source: Source::Piece(source),
         }
     }
 
-    /// The items of an array, in new memory with a place for each. For none nothing is asked of the
-    /// allocator.
+    /// The items of an array, in new memory with a place for each.
     ///
     /// # Errors
     ///
@@ -110,13 +134,12 @@ impl<T: Drop, A: Allocator> WriterMemory<T, A> {
     ///
     /// # Allocates
     ///
-    /// Once, except for no items.
+    /// Once.
     pub fn from_array<const N: usize>(alloc: A, items: [T; N]) -> Result<Self, [T; N]>
         ensures items { IfOk result (λ m. m.places.vec.items ≡ items) }
-        ensures memory { IfOk result (λ m. (m.allocation.count ≡ N)
-            × (m.places.under.start ≡ 0)) }
+        ensures memory { IfOk result (λ m. (m.places.under.whole ≡ N)
+            × (m.places.under.start ≡ 0) × IsPiece m.source) }
         ensures refused { IfErr result (λ back. back ≡ items) }
-        ensures none { N ≡ 0 → IsOk result }
     {
         match Self::new(alloc, N) {
             Ok(memory) => Ok(memory.with_array(items)),
@@ -134,12 +157,12 @@ impl<T: Drop, A: Allocator> WriterMemory<T, A> {
         let WriterMemory {
             before,
             places,
-            allocation,
+            source,
         } = self;
         WriterMemory {
             before,
             places: places.with_array(items),
-            allocation,
+            source,
         }
     }
 
@@ -151,10 +174,10 @@ impl<T: Drop, A: Allocator> WriterMemory<T, A> {
         let WriterMemory {
             before,
             places,
-            allocation,
+            source,
         } = self;
         let (items, places) = places.into_array();
-        allocation.free(before.join(places));
+        source.free(before.join(places));
         items
     }
 
@@ -174,12 +197,12 @@ impl<T: Drop, A: Allocator> WriterMemory<T, A> {
         self.places.len()
     }
 
-    /// How many places the allocation has.
+    /// How many places there are, with those before the writer's.
     #[inline(always)]
     pub fn count(&self) -> usize
-        ensures { result ≡ self.now.allocation.count }
+        ensures { result ≡ self.now.places.under.whole }
     {
-        self.allocation.count()
+        self.places.start() + self.places.capacity()
     }
 
     /// How many of them are the writer's.
@@ -198,10 +221,10 @@ impl<T: Drop, A: Allocator> WriterMemory<T, A> {
         self.places.start()
     }
 
-    /// Where the allocation begins.
+    /// Where the places begin.
     #[inline(always)]
     pub fn base(&self) -> *const T
-        ensures { result ≡ self.now.allocation.base }
+        ensures { result ≡ self.now.places.under.base }
     {
         self.places.base()
     }
@@ -238,13 +261,14 @@ impl<T: Drop, A: Allocator> WriterMemory<T, A> {
         self.places.as_mut_part(start, end)
     }
 
-    /// Moves the items from `index` on to the first places of the allocation, all of which are the
+    /// Moves the items from `index` on to the first places of the memory, all of which are the
     /// writer's then. The items before those are forgotten: it is for items that need no drop.
     pub fn to_front(&mut self, index: usize)
         requires { index ≤ length self.old.places.vec.items }
         ensures items { self.new.places.vec.items ≡ drop index self.old.places.vec.items }
         ensures start { self.new.places.under.start ≡ 0 }
-        ensures memory { self.new.allocation ≡ self.old.allocation }
+        ensures memory { (self.new.places.under.whole ≡ self.old.places.under.whole)
+            × (self.new.source ≡ self.old.source) }
     {
         replace_with(self, index, Self::moved_to_front);
     }
@@ -254,18 +278,25 @@ impl<T: Drop, A: Allocator> WriterMemory<T, A> {
         requires { index ≤ length self.places.vec.items }
         ensures items { result.0.places.vec.items ≡ drop index self.places.vec.items }
         ensures start { result.0.places.under.start ≡ 0 }
-        ensures memory { result.0.allocation ≡ self.allocation }
+        ensures memory { (result.0.places.under.whole ≡ self.places.under.whole)
+            × (result.0.source ≡ self.source) }
     {
         let WriterMemory {
             before,
             places,
-            allocation,
+            source,
         } = self;
         let (base, start) = (places.base(), places.start());
         let len = places.len() - index;
+        let count = start + places.capacity();
         let front = unsafe { WriterPlaces::of(before, base, 0, 0, start) };
-        let (none, all) = places.moved_into(front, index).split(0);
-        (unsafe { Self::of(none, all, allocation, base, 0, len) }, ())
+        let (before, all) = places.moved_into(front, index).split(0);
+        let memory = WriterMemory {
+            before,
+            places: unsafe { WriterPlaces::of(all, base, 0, len, count) },
+            source,
+        };
+        (memory, ())
     }
 
     /// Makes it memory of so many places, with the same items in the same places.
@@ -276,12 +307,13 @@ impl<T: Drop, A: Allocator> WriterMemory<T, A> {
     ///
     /// # Allocates
     ///
-    /// Once, except for no places.
+    /// Once.
     pub fn grow(&mut self, alloc: A, count: usize) -> Result<(), AllocError>
         requires { self.old.places.under.start + length self.old.places.vec.items ≤ count }
         ensures items { self.new.places.vec.items ≡ self.old.places.vec.items }
         ensures start { self.new.places.under.start ≡ self.old.places.under.start }
-        ensures grown { OnOk result (self.new.allocation.count ≡ count) }
+        ensures grown { OnOk result ((self.new.places.under.whole ≡ count)
+            × IsPiece self.new.source) }
         ensures refused { OnErr result (self.new ≡ self.old) }
     {
         let larger = Self::beginning_at(alloc, self.start(), count)?;
@@ -301,38 +333,55 @@ impl<T: Drop, A: Allocator> WriterMemory<T, A> {
         let WriterMemory {
             before,
             mut places,
-            allocation,
+            source,
         } = other;
         self.places.take_items(&mut places);
-        allocation.free(before.join(places.into_places()));
+        source.free(before.join(places.into_places()));
     }
 
-    /// All places, lent for a lifetime: the part of those that are the writer's, with the items,
-    /// and what is kept. Those before them are given up, to come back with the rest. No item is
-    /// moved, and no memory read.
+    /// All places of a piece, lent for a lifetime: the part of those that are the writer's, with
+    /// the items, what is kept, and the room for the piece's header, with its size. Those before
+    /// the writer's are given up, to come back with the rest. No item is moved, and no memory read.
     #[inline(always)]
-    pub fn lend(self, lifetime: &LifetimeToken) -> (LentPlaces<T>, KeptPlaces<T, A>)
+    pub fn lend(
+        self,
+        lifetime: &LifetimeToken,
+    ) -> (
+        LentPlaces<T>,
+        KeptPlaces<T, A>,
+        HeaderRoom<Header<Kept<T, A>>>,
+        HeadSize<Header<Kept<T, A>>>,
+    )
+        requires piece { IsPiece self.source }
         ensures part { (result.0.start ≡ self.places.under.start)
             × (result.0.count ≡ self.places.under.count)
             × (result.0.items ≡ self.places.vec.items) }
         ensures memory { (result.0.memory ≡ result.1.inheritance.memory)
             × (result.0.memory.lifetime ≡ lifetime.now.lifetime) }
-        ensures allocation { result.1.allocation ≡ self.allocation }
+        ensures whole { (result.0.memory.base ≡ self.places.under.base)
+            × (result.0.memory.whole ≡ self.places.under.whole) }
+        ensures room { IsRoomOf result.2 result.3.size result.1.piece }
     {
         let WriterMemory {
             before,
             places,
-            allocation,
+            source,
         } = self;
-        KeptPlaces::lend(allocation, before, places.into_places(), lifetime)
+        match source {
+            Source::Nothing => unreachable!(),
+            Source::Piece(PieceWithRoom { piece, room, head }) => {
+                let (part, kept) = KeptPlaces::lend(piece, before, places.into_places(), lifetime);
+                (part, kept, room, head)
+            }
+        }
     }
 }
 
 impl<T: Copy + Drop, A: Allocator> WriterMemory<T, A> {
+    ghost use Rattle.arc_memory.specs.Sources.{IsPiece};
     ghost use Rattle.arc_memory.specs.WriterMemories.{SameMemory};
 
-    /// A copy of these items, in new memory with a place for each. For none nothing is asked of the
-    /// allocator.
+    /// A copy of these items, in new memory with a place for each.
     ///
     /// # Errors
     ///
@@ -340,12 +389,11 @@ impl<T: Copy + Drop, A: Allocator> WriterMemory<T, A> {
     ///
     /// # Allocates
     ///
-    /// Once, except for no items.
+    /// Once.
     pub fn from_slice(alloc: A, items: &[T]) -> Result<Self, AllocError>
         ensures items { IfOk result (λ m. m.places.vec.items ≡ items.now) }
-        ensures memory { IfOk result (λ m. (m.allocation.count ≡ length items.now)
-            × (m.places.under.start ≡ 0)) }
-        ensures none { items.now ≡ [] → IsOk result }
+        ensures memory { IfOk result (λ m. (m.places.under.whole ≡ length items.now)
+            × (m.places.under.start ≡ 0) × IsPiece m.source) }
     {
         match Self::new(alloc, items.len()) {
             Ok(mut memory) => {
@@ -356,8 +404,7 @@ impl<T: Copy + Drop, A: Allocator> WriterMemory<T, A> {
         }
     }
 
-    /// So many copies of an item, in new memory with a place for each. For none nothing is asked of
-    /// the allocator.
+    /// So many copies of an item, in new memory with a place for each.
     ///
     /// # Errors
     ///
@@ -365,12 +412,11 @@ impl<T: Copy + Drop, A: Allocator> WriterMemory<T, A> {
     ///
     /// # Allocates
     ///
-    /// Once, except for none.
+    /// Once.
     pub fn filled(alloc: A, item: T, count: usize) -> Result<Self, AllocError>
         ensures items { IfOk result (λ m. m.places.vec.items ≡ replicate count item) }
-        ensures memory { IfOk result (λ m. (m.allocation.count ≡ count)
-            × (m.places.under.start ≡ 0)) }
-        ensures none { count ≡ 0 → IsOk result }
+        ensures memory { IfOk result (λ m. (m.places.under.whole ≡ count)
+            × (m.places.under.start ≡ 0) × IsPiece m.source) }
     {
         match Self::new(alloc, count) {
             Ok(mut memory) => {
@@ -408,9 +454,9 @@ impl<T: Drop, A: Allocator> Drop for WriterMemory<T, A> {
         let WriterMemory {
             before,
             mut places,
-            allocation,
+            source,
         } = self;
         places.clear();
-        allocation.free(before.join(places.into_places()));
+        source.free(before.join(places.into_places()));
     }
 }

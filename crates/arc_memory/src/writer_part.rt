@@ -1,6 +1,6 @@
 //! One of several writers on a block, whose memory is lent for the lease of the block's owners.
 ghost use Rattle.std.specs.Prelude.{◌≡◌, ◌+◌, ◌-◌, ◌≤◌, ◌⊎◌, [], ◌++◌, Bool, length, take, drop};
-ghost use Rattle.std.specs.Prelude.{IfOk, IfErr, IfSome, is_ok, is_some, true, false, None};
+ghost use Rattle.std.specs.Prelude.{IfOk, IfErr, IfSome, is_ok, is_some, true, false};
 ghost use base.Fraction.{full_share};
 ghost use base.Stored.{Coded-set};
 ghost use Rattle.arc_owners.specs.count.LentNotes.{LentNote, note_coded};
@@ -14,9 +14,10 @@ use crate::places::Places;
 use arc_owners::error::CountFull;
 use arc_owners::lifetime::{EndedLifetime, LifetimeToken};
 use arc_owners::mark::Mark;
-use arc_owners::owners::{CountedBox, Pass, SoleBox};
+use arc_owners::owners::{CountedBox, Header, HeaderRoom, Pass, SoleBox};
 use std::alloc::Allocator;
 use std::sync::Wait;
+use std_alloc::vec::Lodged;
 
 /// An owner of a block, and a part of the memory that is lent for the lease of the block's owners,
 /// which no other owner reaches. To edit the items it is opened. V is what the counted box holds;
@@ -30,10 +31,10 @@ pub struct WriterPart<T, V: Drop, A: Allocator + Copy, const MAX: u64, H: Mark> 
 
 impl<T, V: Drop, A: Allocator + Copy, const MAX: u64, H: Mark> WriterPart<T, V, A, MAX, H> {
     ghost use Rattle.arc_owners.specs.count.Calls.{IsPassFor, Asks, MakesAnother, FindsFull};
-    ghost use Rattle.arc_owners.specs.count.Calls.{Leaves, EndsByItself, IsPassOfNone};
-    ghost use Rattle.arc_owners.specs.memory.Boxes.{owner_in, value_of};
+    ghost use Rattle.arc_owners.specs.count.Calls.{Leaves};
+    ghost use Rattle.arc_owners.specs.memory.Boxes.{owner_in, value_of, place_in, place_in_rest};
     ghost use Rattle.arc_owners.specs.memory.Boxes.{owner_in_rest, value_of_rest};
-    ghost use Rattle.arc_owners.specs.memory.SoleBoxes.{sole_in, sole_value};
+    ghost use Rattle.arc_owners.specs.memory.SoleBoxes.{sole_in, sole_value, sole_place};
     ghost use Rattle.arc_memory.specs.Allocations.{IsPartOfLent};
     ghost use Rattle.arc_memory.specs.WriterParts.{IsSameOwner, IsSoleAgain};
 
@@ -44,6 +45,7 @@ impl<T, V: Drop, A: Allocator + Copy, const MAX: u64, H: Mark> WriterPart<T, V, 
         requires lent { part.memory.lifetime ≡ lifetime.lifetime }
         ensures same { (owner_in result.owner ≡ sole_in count)
             × (value_of result.owner ≡ sole_value count) }
+        ensures place { place_in result.owner ≡ sole_place count }
         ensures part { result.part ≡ part }
     {
         Self::lend_noted(count, lifetime, part)
@@ -61,6 +63,7 @@ impl<T, V: Drop, A: Allocator + Copy, const MAX: u64, H: Mark> WriterPart<T, V, 
         requires noted { note_of part.memory ≡ note }
         ensures same { (owner_in result.owner ≡ sole_in count)
             × (value_of result.owner ≡ sole_value count) }
+        ensures place { place_in result.owner ≡ sole_place count }
         ensures part { result.part ≡ part }
     {
         WriterPart {
@@ -75,6 +78,7 @@ impl<T, V: Drop, A: Allocator + Copy, const MAX: u64, H: Mark> WriterPart<T, V, 
     pub fn open(self) -> (OpenWriter<T, V, A, MAX, H>, Places<T>)
         ensures owner { (owner_in_rest result.0.rest ≡ owner_in self.owner)
             × (value_of_rest result.0.rest ≡ value_of self.owner) }
+        ensures place { place_in_rest result.0.rest ≡ place_in self.owner }
         ensures memory { (result.0.out.memory ≡ self.part.memory)
             × IsPartOfLent self.part.memory result.1 }
         ensures range { (result.0.out.start ≡ self.part.start)
@@ -108,6 +112,7 @@ impl<T, V: Drop, A: Allocator + Copy, const MAX: u64, H: Mark> WriterPart<T, V, 
         requires at { at ≤ self.part.count }
         ensures made { IfOk result (λ r. MakesAnother (owner_in self.owner) pass.old pass.new
             (owner_in r.1.owner) × (value_of r.1.owner ≡ value_of self.owner)) }
+        ensures place { IfOk result (λ r. place_in r.1.owner ≡ place_in self.owner) }
         ensures stays { IfOk result (λ r. r.0.owner ≡ self.owner) }
         ensures memory { IfOk result (λ r. (r.0.part.memory ≡ self.part.memory)
             × (r.1.part.memory ≡ self.part.memory)) }
@@ -156,6 +161,7 @@ impl<T, V: Drop, A: Allocator + Copy, const MAX: u64, H: Mark> WriterPart<T, V, 
         requires at { at ≤ self.part.count }
         ensures made { IfOk result (λ r. MakesAnother (owner_in self.owner) pass.old pass.new
             (owner_in r.1.owner) × (value_of r.1.owner ≡ value_of self.owner)) }
+        ensures place { IfOk result (λ r. place_in r.1.owner ≡ place_in self.owner) }
         ensures stays { IfOk result (λ r. r.0.owner ≡ self.owner) }
         ensures memory { IfOk result (λ r. (r.0.part.memory ≡ self.part.memory)
             × (r.1.part.memory ≡ self.part.memory)) }
@@ -255,40 +261,6 @@ impl<T, V: Drop, A: Allocator + Copy, const MAX: u64, H: Mark> WriterPart<T, V, 
         }
     }
 
-    /// Ends this writer. What lies in its places is forgotten: it is for items that need no drop.
-    /// The last owner gets the value, and that the lifetime has ended, for which all places come
-    /// back. Takes no memory.
-    ///
-    /// # History
-    ///
-    /// Down.
-    pub fn release_as(self, pass: &mut Pass<H>) -> Option<(V, EndedLifetime)>
-        requires pass { IsPassFor (owner_in self.owner) pass.old }
-        ensures entry { Leaves (owner_in self.owner) pass.old pass.new (is_some result) }
-        ensures value { IfSome result (λ r. r.0 ≡ value_of self.owner) }
-        ensures ended { IfSome result (λ r. r.1.lifetime ≡ self.part.memory.lifetime) }
-    {
-        let WriterPart { owner, part } = self;
-        part.forget();
-        owner.release_with_end_as(pass)
-    }
-
-    /// What a drop does: under `Open` this writer ends with a new pass, and the last owner gets the
-    /// value, and that the lifetime has ended; under `Whole` it is forgotten, without a step. What
-    /// lies in its places is forgotten. Takes no memory. The pass is the one that the owner ended
-    /// with; under `Whole` it is of no block.
-    pub fn let_go(self) -> (Option<(V, EndedLifetime)>, Pass<H>)
-        ensures value { IfSome result.0 (λ r. r.0 ≡ value_of self.owner) }
-        ensures lifetime { IfSome result.0 (λ r. r.1.lifetime ≡ self.part.memory.lifetime) }
-        ensures forgotten { H.whole ≡ true → (result.0 ≡ None) × IsPassOfNone result.1 }
-        ensures ended { H.whole ≡ false
-            → EndsByItself (owner_in self.owner) result.1 (is_some result.0) }
-    {
-        let WriterPart { owner, part } = self;
-        part.forget();
-        owner.let_go_with_end()
-    }
-
     /// A reader of the items, of which there are `len`, for as long as the block is lent: nobody
     /// changes them again. Other writers go on. The places behind them are given up. It adds no
     /// entry and takes no memory.
@@ -304,5 +276,46 @@ impl<T, V: Drop, A: Allocator + Copy, const MAX: u64, H: Mark> WriterPart<T, V, 
         back.give_up();
         let range = front.freeze(owner.lifetime());
         FrozenReader { owner, range }
+    }
+}
+
+impl<T, V: Drop, const MAX: u64, H: Mark> WriterPart<T, V, Lodged, MAX, H> {
+    ghost use Rattle.arc_owners.specs.count.Calls.{IsPassFor, Leaves, EndsByItself, IsPassOfNone};
+    ghost use Rattle.arc_owners.specs.memory.Boxes.{owner_in, value_of, place_in};
+
+    /// Ends this writer. What lies in its places is forgotten: it is for items that need no drop.
+    /// The last owner gets the value, the room in which it lay, and that the lifetime has ended,
+    /// for which all places come back. Takes no memory.
+    ///
+    /// # History
+    ///
+    /// Down.
+    pub fn release_as(self, pass: &mut Pass<H>) -> Option<(V, HeaderRoom<Header<V>>, EndedLifetime)>
+        requires pass { IsPassFor (owner_in self.owner) pass.old }
+        ensures entry { Leaves (owner_in self.owner) pass.old pass.new (is_some result) }
+        ensures value { IfSome result (λ r. r.0 ≡ value_of self.owner) }
+        ensures room { IfSome result (λ r. r.1.at ≡ place_in self.owner) }
+        ensures ended { IfSome result (λ r. r.2.lifetime ≡ self.part.memory.lifetime) }
+    {
+        let WriterPart { owner, part } = self;
+        part.forget();
+        owner.release_with_room_as(pass)
+    }
+
+    /// What a drop does: under `Open` this writer ends with a new pass, and the last owner gets the
+    /// value, the room in which it lay, and that the lifetime has ended; under `Whole` it is
+    /// forgotten, without a step. What lies in its places is forgotten. Takes no memory. The pass
+    /// is the one that the owner ended with; under `Whole` it is of no block.
+    pub fn let_go(self) -> (Option<(V, HeaderRoom<Header<V>>, EndedLifetime)>, Pass<H>)
+        ensures value { IfSome result.0 (λ r. r.0 ≡ value_of self.owner) }
+        ensures room { IfSome result.0 (λ r. r.1.at ≡ place_in self.owner) }
+        ensures lifetime { IfSome result.0 (λ r. r.2.lifetime ≡ self.part.memory.lifetime) }
+        ensures forgotten { H.whole ≡ true → (is_some result.0 ≡ false) × IsPassOfNone result.1 }
+        ensures ended { H.whole ≡ false
+            → EndsByItself (owner_in self.owner) result.1 (is_some result.0) }
+    {
+        let WriterPart { owner, part } = self;
+        part.forget();
+        owner.let_go_with_room()
     }
 }

@@ -35,7 +35,7 @@ impl<T> WriterPlaces<T> {
     ///
     /// # Safety
     ///
-    /// The allocation begins at this place, and these are the range of the places.
+    /// The memory's places begin here, and these are the range of the places.
     #[inline(always)]
     pub unsafe fn of(
         places: Places<T>,
@@ -99,7 +99,7 @@ impl<T> WriterPlaces<T> {
         self.vec.slice_mut(start..end)
     }
 
-    /// Where the allocation begins.
+    /// Where the memory's places begin.
     #[inline(always)]
     pub fn base(&self) -> *const T
         ensures { result ≡ self.now.under.base }

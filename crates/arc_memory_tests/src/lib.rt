@@ -1,13 +1,12 @@
-//! Tests of the public functions of `arc_memory`, `arc_buffer`, `arc_block` and the crates of parts,
-//! which stand in a crate of their own so that the check of the tests doesn't prove those once more.
+//! Tests of the public functions of `arc_memory`, `arc_buffer`, `arc_block` and the crates of
+//! parts, which stand in a crate of their own so that the check of the tests doesn't prove those
+//! once more.
 #![tactic(auto)]
 
 #[cfg(test)]
 mod blocks;
 #[cfg(test)]
 mod buffer;
-#[cfg(test)]
-mod headers;
 #[cfg(test)]
 mod kinds;
 #[cfg(test)]
@@ -16,6 +15,8 @@ mod lease_writers;
 mod lent_allocations;
 #[cfg(test)]
 mod page;
+#[cfg(test)]
+mod pieces;
 #[cfg(test)]
 mod places;
 #[cfg(test)]

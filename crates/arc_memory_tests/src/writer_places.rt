@@ -1,6 +1,7 @@
-//! A writer's places and memory: items pushed, copied in, cut, moved and dropped, lent and had back,
-//! in memory that is given back.
+//! A writer's places and memory: items pushed, copied in, cut, moved and dropped, lent and had
+//! back, in memory that is given back.
 ghost use Rattle.std.specs.Prelude.{◌≡◌, ◌<◌, length, drop};
+ghost use Rattle.arc_memory.specs.Sources.{IsPiece};
 
 use arc_memory::{Allocation, KeptItems, LifetimeToken, WriterMemory, WriterPlaces};
 use linked_list_allocator::LocalHeap;
@@ -80,16 +81,17 @@ fn seen<T: Copy + Drop + PartialEq, A: Allocator>(
 fn without_first<T: Drop, A: Allocator>(memory: WriterMemory<T, A>) -> WriterMemory<T, A>
     requires start { memory.places.under.start ≡ 0 }
     requires some { 0 < length memory.places.vec.items }
+    requires block { IsPiece memory.source }
     ensures items { result.places.vec.items ≡ drop 1 memory.places.vec.items }
     ensures start { result.places.under.start ≡ 1 }
-    ensures allocation { result.allocation ≡ memory.allocation }
+    ensures whole { result.places.under.whole ≡ memory.places.under.whole }
 {
     let (base, len) = (memory.base(), memory.len());
     let lifetime = LifetimeToken::new();
-    let (part, kept) = memory.lend(&lifetime);
+    let (part, kept, room, head) = memory.lend(&lifetime);
     let (front, back) = part.split(1);
     front.forget();
-    unsafe { kept.regain_writer(lifetime.end(), back, base, 1, len - 1) }
+    unsafe { kept.regain_writer(lifetime.end(), back, room, head, base, 1, len - 1) }
 }
 
 /// Of memory of three places with two items: what is seen once the first place was given up, after
@@ -143,12 +145,13 @@ fn array_refused<A: Allocator>(alloc: A, items: [u64; 4]) -> Option<[u64; 4]> {
 fn end_regained<T: Drop, A: Allocator>(memory: WriterMemory<T, A>)
     requires start { memory.places.under.start ≡ 0 }
     requires full { length memory.places.vec.items ≡ memory.places.under.count }
+    requires block { IsPiece memory.source }
 {
     let (base, len) = (memory.base(), memory.len());
     let lifetime = LifetimeToken::new();
-    let (part, kept) = memory.lend(&lifetime);
+    let (part, kept, room, head) = memory.lend(&lifetime);
     let kept = KeptItems::of(kept, part.freeze(&lifetime), base, len);
-    drop(kept.regain(lifetime.end()));
+    drop(kept.regain(lifetime.end(), room, head));
 }
 
 /// Of two boxes that were frozen as one range: whether all memory is given back once the range has

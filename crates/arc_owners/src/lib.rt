@@ -3,6 +3,7 @@
 
 mod count;
 pub mod error;
+pub mod hint;
 mod history;
 pub mod leave;
 pub mod lend;

@@ -13,6 +13,8 @@ mod forgotten;
 #[cfg(test)]
 mod full;
 #[cfg(test)]
+mod hint;
+#[cfg(test)]
 mod histories;
 #[cfg(test)]
 mod lent_values;

@@ -8,6 +8,7 @@ pub mod Index
 pub mod Splits
 pub mod Filled
 pub mod FilledBeside
+pub mod Freezing
 pub mod Shared
 pub mod Ended
 pub mod Added

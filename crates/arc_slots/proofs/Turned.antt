@@ -29,7 +29,7 @@ use Rattle.arc_slots.specs.Answers.{Answers, around_in}
 use Rattle.arc_slots.specs.Slots.{SlotView, row_of, stand_of}
 use Rattle.arc_slots.specs.Stands.{numbered, stand_at}
 use Rattle.arc_slots.specs.Writing.{FreezesBy, is_new}
-use Rattle.arc_slots.proofs.Filled.{new-moved}
+use Rattle.arc_slots.proofs.Freezing.{new-moved}
 use Rattle.arc_slots.proofs.Answered.{begins-as, changes, for-role, same, stays-there}
 use Rattle.arc_slots.proofs.Roles.{writer_each}
 

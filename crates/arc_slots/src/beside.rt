@@ -85,8 +85,8 @@ where
         }
     }
 
-    /// Adds nothing to the history of the window's block, which is legal. Does nothing: its contract
-    /// is the law.
+    /// Adds nothing to the history of the window's block, which is legal. Does nothing: its
+    /// contract is the law.
     fn adds_nothing(&self, passes: &Passes<A>)
         requires { HasPassFor passes.now.of_blocks.items (stand_of (Some self.now)) }
         ensures { Along (stand_of (Some self.now)) passes.now.of_blocks.items
@@ -100,7 +100,8 @@ where
     ///
     /// # Errors
     ///
-    /// `AllocError` where memory is refused for the block to which a window of a vector moves first.
+    /// `AllocError` where memory is refused for the block to which a window of a vector moves
+    /// first.
     fn try_split_beside(
         &mut self,
         rt: &impl Wait,
@@ -132,8 +133,8 @@ where
         }
     }
 
-    /// Splits the places of the window, which is one of several, and hands out a part under the next
-    /// number, if there is room for it.
+    /// Splits the places of the window, which is one of several, and hands out a part under the
+    /// next number, if there is room for it.
     pub(crate) fn hand_out_places(
         &mut self,
         rt: &impl Wait,

@@ -80,7 +80,7 @@ where
 {
     /// Whether a first block has to be made for the window, which is written, to be read: it stands
     /// on none, and the layout has no static data.
-    #[tactic(auto, using(crate::proofs::Filled::new_is))]
+    #[tactic(auto, using(crate::proofs::Freezing::new_is))]
     pub fn wants_block_to_read(&self) -> bool
         requires { is_writer self.now.role ≡ true }
         ensures { result ≡ is_new (layout_move (layout_facts L.Layout) (row_of self.now).place) }

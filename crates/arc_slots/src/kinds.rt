@@ -207,7 +207,7 @@ pub trait ZeroOf<S: Slice> {
     ///
     /// # Allocates
     ///
-    /// Twice, except for no zeros.
+    /// Once, except for no zeros.
     ///
     /// # History
     ///

@@ -287,8 +287,8 @@ where
         }
     }
 
-    /// The window, which is written alone, as one of several, where it stands on no caller's buffer.
-    /// Takes no memory.
+    /// The window, which is written alone, as one of several, where it stands on no caller's
+    /// buffer. Takes no memory.
     ///
     /// # Errors
     ///

@@ -196,7 +196,8 @@ where
         }
     }
 
-    /// The window of one of several writers, on the block with this number, where the kind has such.
+    /// The window of one of several writers, on the block with this number, where the kind has
+    /// such.
     pub fn written_beside(
         window: ArcSliceMut<S, L::Writable, 0, B, M, A, Whole>,
         block: Option<usize>,
@@ -270,7 +271,8 @@ where
         }
     }
 
-    /// A window is read, or it is a writer's, or a small one. Does nothing: its contract is the law.
+    /// A window is read, or it is a writer's, or a small one. Does nothing: its contract is the
+    /// law.
     pub fn known_role(&self)
         ensures { IsSlotRole self.now.role }
     {

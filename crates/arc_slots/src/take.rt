@@ -244,8 +244,8 @@ where
         }
     }
 
-    /// The vector on which the window stands, which is one of several, taken out, as a reply: where it
-    /// can be had so, and no other owner lives.
+    /// The vector on which the window stands, which is one of several, taken out, as a reply: where
+    /// it can be had so, and no other owner lives.
     ///
     /// # Errors
     ///

@@ -2,15 +2,15 @@
 use Rattle.std.proofs.Math.Seq.{take-append-add}
 use Rattle.std.proofs.Common.{◌≡◌, ℕ, zero, suc, ◌+◌, ◌-◌, ◌≤◌, ◌<◌, ◌==◌, ◌&&◌, ◌++◌, ◌∷◌, [], not}
 use Rattle.std.proofs.Common.{Bool, true, false, if◌then◌else◌, List, length, take, drop, refl, sym}
-use Rattle.std.proofs.Common.{Option, Some, None, ap, ◌∙◌, subst, arith}
+use Rattle.std.proofs.Common.{Some, ap, ◌∙◌, subst, arith}
 use Rattle.std.proofs.lemmas.Bool.{eqb-true, eq-eqb, ne_eqb, lt-ltb, false≢true}
-use Rattle.std.proofs.lemmas.List.{take-take, take-append-le, length-drop, take_all, drop_all}
+use Rattle.std.proofs.lemmas.List.{take-append-le, length-drop, take_all, drop_all}
 use Rattle.std.proofs.lemmas.List.{length-append, length-take-le, drop-append-le}
 use Rattle.arc_owners.specs.count.Calls.{Owner}
 use Rattle.arc_owners.specs.declared.error.TryReserveError.{TryReserveError}
 use Rattle.arc_buffer.specs.Slice.{sub}
 use Rattle.arc_buffer.proofs.Sub.{length-sub}
-use Rattle.arc_block.specs.Block.{BlockView, buffer_info, vector, buffer, raw, IsMemory}
+use Rattle.arc_block.specs.Block.{buffer_info, vector, buffer, raw, IsMemory}
 use Rattle.arc_block.specs.Block.{IsBuffer}
 use Rattle.arc_block.specs.Contents.{held_in, content_items}
 use Rattle.arc_sort_writers.specs.Growth.{MayAnswer, AsksForRoom}

@@ -1,5 +1,5 @@
 -- Sole writers of native blocks: what is seen of them, and where more of their items stand.
-use Rattle.std.proofs.Common.{◌≡◌, ℕ, ◌+◌, ◌-◌, ◌≤◌, ◌<◌, nat_lt, if◌then◌else◌, Bool, true, false, List, [], ◌∷◌, ◌++◌, length, take, drop, Option, Some, None, refl, sym, ap, ◌∙◌, subst, arith}
+use Rattle.std.proofs.Common.{◌≡◌, ℕ, ◌+◌, ◌-◌, ◌≤◌, ◌<◌, nat_lt, if◌then◌else◌, Bool, true, false, ◌&&◌, not, List, [], ◌∷◌, ◌++◌, length, take, drop, Option, Some, None, refl, sym, ap, ◌∙◌, subst, arith}
 use Rattle.std.specs.Prelude.{slice_range}
 use Rattle.std.specs.Vec.{with_items_from}
 use Rattle.std.proofs.lemmas.Bool.{false≢true}
@@ -8,15 +8,19 @@ use Rattle.arc_owners.specs.count.Calls.{Owner, Asks}
 use Rattle.arc_owners.specs.declared.count.tokens.Pass.{Pass}
 use Rattle.arc_memory.specs.declared.writer_memory.WriterMemory.{WriterMemory}
 use Rattle.arc_memory.specs.LendsPlaces.{with_all_written}
+use Rattle.arc_memory.specs.Sources.{IsPiece}
+use Rattle.arc_memory.specs.WriterMemories.{SameMemory}
 use Rattle.arc_buffer.specs.Slice.{sub}
 use Rattle.arc_buffer.proofs.Sub.{length-sub, sub-whole}
 use Rattle.arc_block.specs.Block.{native, memory_info}
 use Rattle.arc_parts.specs.declared.storage.Storage.TheVariants.{Native}
 use Rattle.arc_block.specs.Natives.{NativeView, native_info, native_over, native_taken, IsAmong}
-use Rattle.arc_block.specs.Place.{Place, IsOnBlock, on_block}
+use Rattle.arc_block.specs.Place.{Place, IsOnBlock, on_block, size_at}
 use Rattle.arc_block.specs.Table.{reader, sole_writer}
 use Rattle.arc_parts.specs.Window.{PartsView, IsNativeOf, parts_of, window_seen}
-use Rattle.arc_parts.specs.Writers.{writer_capacity, capacity_of}
+use Rattle.arc_parts.specs.declared.room.Room.TheVariants.{Front}
+use Rattle.arc_parts.specs.Room.{ends_full}
+use Rattle.arc_parts.specs.Writers.{writer_capacity, capacity_of, with_room}
 use Rattle.arc_sort_writers.specs.SortParts.{memory_part, sole_native, sole_native_part, IsNativeWithin}
 use Rattle.arc_parts.specs.Writers.{with_more, with_full, with_fewer, IsWholeWriter, after_truncate, with_items, as_reader, as_sole, RefusesSole}
 use Rattle.arc_sort_writers.specs.SortParts.{CanLeave}
@@ -33,7 +37,7 @@ module _ {T A : Type 0} where
   first m = m.places.under.start
 
   abbrev size : WriterMemory T A → ℕ
-  size m = m.allocation.count
+  size m = m.places.under.whole
 
   -- where a part ends behind which so many items lie
   abbrev last : WriterMemory T A → ℕ → ℕ
@@ -105,6 +109,47 @@ module _ {T M A : Type 0} where
         ∙ view ∙ nothing_more seen
     push_native (Some o) m w start behind beyond (y ∷ ys) seen view within items places begins room =
         push-behind o m w start behind beyond (y ∷ ys) seen view within items places begins room (omega arith)
+
+    -- with more items behind the others, where there is room, the part lies within them, and as many
+    -- places are left
+    pub within_more : (owner : Option Owner) (m w : WriterMemory T A) (start behind beyond : ℕ) (ys : List T) (seen : PartsView T M)
+        → with_fewer beyond (sole_native {M = M} drops owner m start (last m behind)) ≡ seen → IsNativeWithin drops one_pass owner m start behind
+        → CanLeave drops owner m beyond → xs w ≡ xs m ++ ys → SameMemory m w → length seen.items + length ys ≤ capacity_of seen.role
+        → IsNativeWithin drops one_pass owner w start behind × CanLeave drops owner w beyond
+    within_more None m w start behind beyond [] seen view within left items same room =
+        ((within.0, within.1, items ∙ append-nil (xs m) ∙ within.2, same.whole ∙ within.3), left)
+    within_more None m w start behind beyond (y ∷ ys) seen view within left items same room =
+        absurd (omega (arith, subst (λ s. length s.items + length (y ∷ ys) ≤ capacity_of s.role) (sym view) room))
+    within_more (Some o) m w start behind beyond ys seen view within left items same room =
+        let long : length (xs w) ≡ length (xs m) + length ys = ap (λ zs. length zs) items ∙ length-append (xs m) ys in
+        let places : w.places.under.count ≡ m.places.under.count = omega (arith, m.own, w.own, same.start, same.whole) in
+        let few = few-left ys room in (
+          (
+            within.0,
+            omega (arith, within.1, long),
+            within.2,
+            λ owned. same.start ∙ within.3 owned,
+            subst (λ s. IsPiece s) (sym same.source) within.4,
+          ),
+          (left.0, omega (arith, long, places, few)),
+        )
+      where
+        spare : (full : Bool) (len n more : ℕ) → len + more ≤ (if full then len else n) - beyond → 1 ≤ more
+            → len + more + beyond ≤ n
+        spare true len n more room some = absurd (omega (arith, room, some))
+        spare false len n more room some = omega (arith, room, some)
+
+        few-left : (ys : List T) → length seen.items + length ys ≤ capacity_of seen.role → length (xs m) + length ys + beyond ≤ m.places.under.count
+        few-left [] room = omega (arith, left.1)
+        few-left (y ∷ ys) room =
+            let none = none_behind o m start behind beyond (length (y ∷ ys)) seen view within room (omega arith) in
+            let there = subst (λ s. length s.items + length (y ∷ ys) ≤ capacity_of s.role) (sym view) room in
+            let long = length-sub (xs m) start (last m behind) (omega (arith, within.1)) (omega (arith, within.1)) in
+            let info = memory_info {M = M} native drops (size m) (first m + length (xs m)) in
+            let fewer = subst (λ n. n + length (y ∷ ys) ≤ writer_capacity drops info (first m + start) (last m behind - start) - beyond) long there in
+            let fits = spare (drops && not (ends_full info ((first m + start) + (last m behind - start)))) (last m behind - start)
+            (size m - (first m + start)) (length (y ∷ ys)) fewer (omega arith) in
+            omega (arith, fits, none, within.1, m.own)
 
     -- how many items there are
     pub long_native : (owner : Option Owner) (m : WriterMemory T A) (start behind beyond : ℕ) (seen : PartsView T M)
@@ -178,6 +223,47 @@ module _ {T M A : Type 0} where
       (omega (arith, within.1)) (omega (arith, within.1)) (omega (arith, long, short)) (omega (arith, within.1))
       ∙ ap (after_truncate true n) same
 
+  -- where none lie behind them and they are moved to the front of the memory
+  pub front_native : (drops one_pass : Bool) (owner : Option Owner) (m w : WriterMemory T A) (start behind beyond : ℕ) (seen : PartsView T M)
+      → with_fewer beyond (sole_native {M = M} drops owner m start (last m behind)) ≡ seen → IsNativeWithin drops one_pass owner m start behind
+      → drops ≡ false → xs w ≡ drop start (xs m) → first w ≡ 0 → size w ≡ size m
+      → with_fewer 0 (sole_native {M = M} drops owner w 0 (last w behind)) ≡ with_room Front seen
+  front_native drops one_pass None m w start behind beyond seen view within copied items begins places = ap (with_room Front) view
+  front_native true one_pass (Some o) m w start behind beyond seen view within copied items begins places =
+      absurd (false≢true (sym copied))
+  front_native false one_pass (Some o) m w start behind beyond seen view within copied items begins places =
+      let none = within.2 refl in
+      let there : last w behind ≡ length (xs w) = omega (arith, none) in
+      let all : last m behind ≡ length (xs m) = omega (arith, none) in
+      let same : sub (xs w) 0 (last w behind) ≡ sub (xs m) start (last m behind) =
+      ap (sub (xs w) 0) there ∙ sub-whole (xs w) ∙ items ∙ sym (ap (sub (xs m) start) all ∙ ap (drop start) (sub-whole (xs m))) in
+      let at : first w + 0 ≡ 0 = omega (arith, begins) in
+      let room : (size w - (first w + 0)) - 0 ≡ size m = omega (arith, begins, places) in
+      (λ i. record {
+        items = same i;
+        place = on_block (Some o) (at i) (memory_info native false (places i) (first w + length (xs w)));
+        role = sole_writer (room i);
+      })
+      ∙ ap (with_room Front) view
+
+  -- then they are as many, with all of the memory's places
+  pub front_room : (drops one_pass : Bool) (owner : Option Owner) (m w : WriterMemory T A) (start behind beyond : ℕ) (seen : PartsView T M)
+      → with_fewer beyond (sole_native {M = M} drops owner m start (last m behind)) ≡ seen → IsNativeWithin drops one_pass owner m start behind
+      → drops ≡ false → xs w ≡ drop start (xs m) → first w ≡ 0 → size w ≡ size m
+      → (length (with_fewer 0 (sole_native {M = M} drops owner w 0 (last w behind))).items ≡ length seen.items)
+      × (size_at seen.place ≤ capacity_of (with_fewer 0 (sole_native {M = M} drops owner w 0 (last w behind))).role)
+  front_room drops one_pass owner m w start behind beyond seen view within copied items begins places =
+      let is = front_native drops one_pass owner m w start behind beyond seen view within copied items begins places in (
+        ap (λ (s : PartsView T M). length s.items) is,
+        subst (λ (s : PartsView T M). size_at seen.place ≤ capacity_of s.role) (sym is)
+            (subst (λ (s : PartsView T M). size_at s.place ≤ capacity_of (with_room Front s).role) view (room-of owner)),
+      )
+    where
+      room-of : (o : Option Owner) → let s = with_fewer beyond (sole_native {M = M} drops o m start (last m behind)) in
+          size_at s.place ≤ capacity_of (with_room Front s).role
+      room-of None = omega arith
+      room-of (Some o) = omega arith
+
   -- where items aren't dropped one by one, full places aren't counted
   pub uncounted_native : (drops : Bool) (owner : Option Owner) (m : WriterMemory T A) (start end beyond : ℕ) (seen : PartsView T M)
       → with_fewer beyond (sole_native {M = M} drops owner m start end) ≡ seen → drops ≡ false
@@ -194,7 +280,7 @@ module _ {T M A : Type 0} where
   whole_native drops one_pass (Some o) m start behind beyond n seen view within left whole =
       let long = (long_native drops one_pass (Some o) m start behind beyond seen view within).0 in
       let there = subst (λ s. IsOnBlock s.place → IsNativeOf n s.place) (sym view) whole.block tt in
-      let all : length (xs m) ≤ n = omega (arith, left.1, m.own.2, there.1) in
+      let all : length (xs m) ≤ n = omega (arith, left.1, m.own, there.1) in
       let front : start ≡ 0 = omega (arith, long, whole.items, all, within.1) in
       let ends : last m behind ≡ length (xs m) = omega (arith, long, whole.items, all, within.1) in
       sym ((λ i. sub (xs m) (front i) (ends i)) ∙ sub-whole (xs m)) ∙ ap (λ s. s.items) view

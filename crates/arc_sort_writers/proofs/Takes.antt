@@ -1,14 +1,58 @@
 -- What one of several writers on a native block took back.
-use Rattle.std.proofs.Common.{◌≡◌, ℕ, ap, ◌∙◌}
-use Rattle.arc_memory.specs.KeptPlaces.{IfKept}
+use Rattle.std.proofs.Common.{◌≡◌, ℕ, Bool, false, sym, ap, ◌∙◌, subst}
+use denote.RawPtr.{Ptr}
+use Rattle.arc_owners.specs.declared.memory.header_room.HeaderRoom.{HeaderRoom}
+use Rattle.arc_memory.specs.KeptPlaces.{kept_in}
 use Rattle.arc_memory.specs.LentMemory.{LentMemory}
+use Rattle.arc_memory.specs.PieceParts.{IsRoomOf}
 use Rattle.arc_memory.specs.declared.kept.Kept.{Kept}
-use Rattle.arc_memory.specs.declared.kept.Kept.TheVariants.{Nothing, Places, Items}
+use Rattle.arc_memory.specs.declared.kept.Kept.TheVariants.{Places, Items}
+use Rattle.arc_memory.specs.declared.frozen_places.FrozenPlaces.{FrozenPlaces}
+use Rattle.arc_block.specs.Natives.{IsKeptFor, IsLaidFor}
 use Rattle.arc_sort_writers.specs.NativeWriters.{KeepsPlaces}
 
 -- how many places the memory has that a block keeps
-pub kept_size : {T A : Type 0} (kept : Kept T A) (memory : LentMemory) (count : ℕ) → KeepsPlaces kept memory
-    → IfKept kept (λ m. count ≡ m.whole) → count ≡ memory.whole
-kept_size Nothing memory count keeps counts = absurd keeps
-kept_size (Places kept) memory count keeps counts = counts ∙ ap (λ m. m.whole) keeps
-kept_size (Items kept) memory count keeps counts = absurd keeps
+pub kept_size : {T A : Type 0} (kept kept' : Kept T A) (memory : LentMemory) (count : ℕ) → KeepsPlaces kept memory
+    → kept' ≡ kept → count ≡ (kept_in kept').inheritance.memory.whole → count ≡ memory.whole
+kept_size (Places kept) kept' memory count keeps is counts =
+    counts ∙ ap (λ k. (kept_in k).inheritance.memory.whole) is ∙ ap (λ m. m.whole) keeps
+kept_size (Items kept) kept' memory count keeps is counts = absurd keeps
+
+module _ {T A : Type 0} (kept kept' : Kept T A) (is : kept' ≡ kept) where
+  -- the lifetime for which its memory is lent
+  pub kept_until : (memory : LentMemory) (ended : ℕ) → KeepsPlaces kept memory
+      → ended ≡ memory.lifetime → (kept_in kept').inheritance.memory.lifetime ≡ ended
+  kept_until memory ended keeps same =
+      ap (λ k. (kept_in k).inheritance.memory.lifetime) is
+      ∙ ap (λ m. m.lifetime) (memory-of kept memory keeps) ∙ sym same
+    where
+      memory-of : (k : Kept T A) (m : LentMemory) → KeepsPlaces k m → (kept_in k).inheritance.memory ≡ m
+      memory-of (Places k) m keeps = keeps
+      memory-of (Items k) m keeps = absurd keeps
+
+  module _ (place : Ptr) (head : ℕ × ℕ) (laid : IsLaidFor place head kept) where
+    -- the room in which it lay is that of the piece's header
+    pub laid_room : {X : Type 0} (room : HeaderRoom X) → room.at ≡ place
+        → IsRoomOf room head (kept_in kept').piece
+    laid_room room there = (
+      there ∙ laid.0 ∙ ap (λ k. (kept_in k).piece.right.place) (sym is),
+      laid.1 ∙ ap (λ k. (kept_in k).piece.right.head) (sym is),
+    )
+
+    -- another one to whom the same is lent
+    pub laid_alike : (place' : Ptr) (head' : ℕ × ℕ) → place' ≡ place → head' ≡ head
+        → IsLaidFor place' head' kept'
+    laid_alike place' head' there same = (
+      there ∙ laid.0 ∙ ap (λ k. (kept_in k).piece.right.place) (sym is),
+      same ∙ laid.1 ∙ ap (λ k. (kept_in k).piece.right.head) (sym is),
+    )
+
+  -- a reader's places are those that it keeps
+  pub kept_frozen : (drops : Bool) → drops ≡ false → (memory : LentMemory) (range : FrozenPlaces T)
+      → KeepsPlaces kept memory → range.memory ≡ memory → IsKeptFor drops range kept'
+  kept_frozen drops none memory range keeps same =
+      subst (λ k. IsKeptFor drops range k) (sym is) (kept-by kept keeps)
+    where
+      kept-by : (k : Kept T A) → KeepsPlaces k memory → IsKeptFor drops range k
+      kept-by (Places k) keeps = (none, keeps ∙ sym same)
+      kept-by (Items k) keeps = absurd keeps

@@ -5,7 +5,7 @@ use Rattle.std.specs.List.{refill}
 use Rattle.arc_owners.specs.declared.mark.Mark.{Ghosts}
 use Rattle.arc_owners.specs.count.Calls.{Owner}
 use Rattle.arc_memory.specs.declared.kept.Kept.{Kept}
-use Rattle.arc_memory.specs.declared.kept.Kept.TheVariants.{Nothing, Places, Items}
+use Rattle.arc_memory.specs.declared.kept.Kept.TheVariants.{Places, Items}
 use Rattle.arc_memory.specs.declared.shared_writer.SharedWriter.{SharedWriter}
 use Rattle.arc_memory.specs.declared.writer_memory.WriterMemory.{WriterMemory}
 use Rattle.arc_memory.specs.LentMemory.{LentMemory}
@@ -69,6 +69,17 @@ module _ {T : Type 0} where
     size = places;
   }
 
+  -- what is seen of one that has this range of lent memory
+  abbrev pub native_writer_seen : {V Z H : Type 0} {MAX : ℕ} {G : Ghosts H}
+      → SharedWriter T V Z MAX H G → NativeWriter T
+  native_writer_seen w = record {
+    owner = writer_owner w;
+    items = writer_items w;
+    start = (writer_range w).start;
+    capacity = (writer_range w).count;
+    size = (writer_range w).memory.whole;
+  }
+
 module _ {T A : Type 0} where
   -- a block's only owner with so many places of its memory, as one of several
   abbrev pub native_writer_over : Owner → WriterMemory T A → (capacity : ℕ) → NativeWriter T
@@ -77,24 +88,13 @@ module _ {T A : Type 0} where
     items = memory.places.vec.items;
     start = memory.places.under.start;
     capacity = capacity;
-    size = memory.allocation.count;
+    size = memory.places.under.whole;
   }
 
   -- what the block keeps is that the places of this memory come back
   abbrev pub KeepsPlaces : Kept T A → LentMemory → Type 0
-  KeepsPlaces Nothing memory = ⊥
   KeepsPlaces (Places kept) memory = kept.inheritance.memory ≡ memory
   KeepsPlaces (Items kept) memory = ⊥
-
-  abbrev pub native_writer_seen : {H : Type 0} {MAX : ℕ} {G : Ghosts H}
-      → SharedWriter T (Kept T A) A MAX H G → NativeWriter T
-  native_writer_seen w = record {
-    owner = writer_owner w;
-    items = writer_items w;
-    start = (writer_range w).start;
-    capacity = (writer_range w).count;
-    size = (writer_range w).memory.whole;
-  }
 
 -- where he is by himself: on nothing, or on a vector
 abbrev pub IsAlonePlace : {N M : Type 0} → Place (Option N) M → Type 0

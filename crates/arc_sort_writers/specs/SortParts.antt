@@ -4,6 +4,7 @@ use Rattle.std.specs.Prelude.{Option, Some, None}
 use Rattle.std.specs.declared.vec.Vec.{Vec}
 use Rattle.std.specs.Vec.{vec_capacity}
 use Rattle.arc_owners.specs.count.Calls.{Owner}
+use Rattle.arc_memory.specs.Sources.{IsPiece}
 use Rattle.arc_memory.specs.declared.writer_memory.WriterMemory.{WriterMemory}
 use Rattle.arc_buffer.specs.Slice.{sub}
 use Rattle.arc_block.specs.declared.block.TheConstants.{MAX_OWNERS}
@@ -58,7 +59,7 @@ module _ {T M A : Type 0} where
   abbrev pub sole_native_part : Bool → Owner → WriterMemory T A → (start end : ℕ) → PartsView T M
   sole_native_part drops owner memory start end =
       let first = memory.places.under.start in let items = memory.places.vec.items in
-      memory_part native drops owner memory.allocation.count (first + length items)
+      memory_part native drops owner memory.places.under.whole (first + length items)
       (first + start) items start end
 
   -- what is seen of a sole writer from start to end of the items in memory that is a native block's
@@ -74,10 +75,12 @@ module _ {T A : Type 0} where
   abbrev pub IsNativeWithin : Bool → Bool → Option Owner → WriterMemory T A → (start behind : ℕ)
       → Type 0
   IsNativeWithin drops one_pass None memory start behind =
-      (start ≡ 0) × (behind ≡ 0) × (memory.places.vec.items ≡ []) × (memory.allocation.count ≡ 0)
+      (start ≡ 0) × (behind ≡ 0) × (memory.places.vec.items ≡ [])
+      × (memory.places.under.whole ≡ 0)
   IsNativeWithin drops one_pass (Some owner) memory start behind =
       IsLimited MAX_OWNERS one_pass owner × (start + behind ≤ length memory.places.vec.items)
       × (drops ≡ false → behind ≡ 0) × (drops ≡ true → memory.places.under.start ≡ 0)
+      × IsPiece memory.source
 
   -- So many of a native block's last places are left to nobody, where no items lie: none where
   -- items are dropped one by one, and none on nothing.

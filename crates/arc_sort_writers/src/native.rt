@@ -3,7 +3,8 @@ ghost use Rattle.std.specs.Prelude.{◌≡◌, ◌≤◌, ◌<◌, ◌+◌, ◌-
 ghost use Rattle.std.specs.Prelude.{[], length, replicate, true, false, IfOk, IfErr, OnOk, OnErr};
 ghost use Rattle.std.specs.Mem.{FitsInMemory, type_size};
 ghost use Rattle.arc_owners.specs.count.Calls.{IsPassOfNone};
-ghost use Rattle.arc_owners.specs.memory.SoleBoxes.{sole_in};
+ghost use Rattle.arc_owners.specs.memory.SoleCounts.{count_owner};
+ghost use Rattle.arc_memory.specs.Sources.{IsPiece};
 ghost use Rattle.arc_block.specs.declared.block.TheConstants.{MAX_OWNERS};
 ghost use Rattle.arc_parts.specs.declared.room.Room.TheVariants.{Behind, Front, Growth};
 ghost use Rattle.arc_block.specs.Block.{IsLimited, native};
@@ -25,10 +26,10 @@ ghost use Rattle.arc_parts.specs.Shared.{is_vector_at};
 
 use arc_block::block::{MAX_OWNERS, NativeCount};
 use arc_buffer::kinds::{Slice, Zeroable};
-use arc_memory::{Kept, WriterMemory};
+use arc_memory::WriterMemory;
 use arc_owners::error::{AllocError, TryReserveError};
 use arc_owners::mark::{Mark, Open};
-use arc_owners::owners::{Pass, SoleBox};
+use arc_owners::owners::Pass;
 use arc_parts::room::{Room, room_in};
 use ends::end_native;
 use std::alloc::{Allocator, Global};
@@ -41,7 +42,7 @@ use std::marker::{Model, PhantomData};
 /// Dropped, they end as a window does.
 pub struct SoleNative<S: Slice, M: Drop = (), A: Allocator + Copy = Global, H: Mark = Open> {
     // None where they stand on nothing: then there are no places.
-    count: Option<NativeCount<S::Item, A, MAX_OWNERS, H>>,
+    count: Option<NativeCount<MAX_OWNERS, H>>,
     memory: WriterMemory<S::Item, A>,
     start: usize,
     // How many items lie behind these in the memory: those that were cut off, where they are
@@ -58,19 +59,19 @@ pub struct SoleNative<S: Slice, M: Drop = (), A: Allocator + Copy = Global, H: M
 impl<S: Slice, M: Drop, A: Allocator + Copy, H: Mark> Model for SoleNative<S, M, A, H> {
     ghost use Rattle.std.specs.Prelude.{◌-◌, length};
     ghost use Rattle.std.specs.Option.{option_map};
-    ghost use Rattle.arc_owners.specs.memory.SoleBoxes.{sole_in};
+    ghost use Rattle.arc_owners.specs.memory.SoleCounts.{count_owner};
     ghost use Rattle.arc_parts.specs.Window.{PartsView};
     ghost use Rattle.arc_sort_writers.specs.SortParts.{sole_native, IsNativeWithin, CanLeave};
     ghost use Rattle.arc_parts.specs.Writers.{with_fewer};
 
     ghost Value = { PartsView S.Item M };
 
-    ghost view = { λ p. with_fewer p.beyond (sole_native S.DROPS (option_map sole_in p.count)
+    ghost view = { λ p. with_fewer p.beyond (sole_native S.DROPS (option_map count_owner p.count)
         p.memory p.start (length p.memory.places.vec.items - p.behind)) };
 
     ghost invariant = { λ p.
-        IsNativeWithin S.DROPS H.whole (option_map sole_in p.count) p.memory p.start p.behind
-        × CanLeave S.DROPS (option_map sole_in p.count) p.memory p.beyond };
+        IsNativeWithin S.DROPS H.whole (option_map count_owner p.count) p.memory p.start p.behind
+        × CanLeave S.DROPS (option_map count_owner p.count) p.memory p.beyond };
 }
 
 impl<S: Slice, M: Drop, A: Allocator + Copy, H: Mark> Drop for SoleNative<S, M, A, H> {
@@ -113,12 +114,9 @@ impl<S: Slice, M: Drop, A: Allocator + Copy, H: Mark> SoleNative<S, M, A, H> {
     pub fn on_nothing(alloc: A) -> Self
         ensures { result ≡ record { items = []; place = nowhere; role = sole_writer 0 } }
     {
-        let Ok(memory) = WriterMemory::new(alloc, 0) else {
-            unreachable!()
-        };
         SoleNative {
             count: None,
-            memory,
+            memory: WriterMemory::nothing(),
             start: 0,
             behind: 0,
             beyond: 0,
@@ -235,7 +233,7 @@ impl<S: Slice, M: Drop, A: Allocator + Copy, H: Mark> SoleNative<S, M, A, H> {
     ///
     /// # Allocates
     ///
-    /// Twice, except for none.
+    /// Once, except for none.
     pub fn try_with_capacity_as(
         alloc: A,
         capacity: usize,
@@ -250,10 +248,7 @@ impl<S: Slice, M: Drop, A: Allocator + Copy, H: Mark> SoleNative<S, M, A, H> {
             return Ok(Self::on_nothing(alloc));
         }
         match WriterMemory::new(alloc, capacity) {
-            Ok(memory) => match Self::try_over(alloc, memory, pass) {
-                Ok(parts) => Ok(parts),
-                Err(_) => Err(AllocError),
-            },
+            Ok(memory) => Ok(Self::on_new(alloc, memory, pass)),
             Err(AllocError) => Err(AllocError),
         }
     }
@@ -267,7 +262,7 @@ impl<S: Slice, M: Drop, A: Allocator + Copy, H: Mark> SoleNative<S, M, A, H> {
     ///
     /// # Allocates
     ///
-    /// Twice, except for no items.
+    /// Once, except for no items.
     pub fn try_from_slice_as(
         alloc: A,
         items: &[S::Item],
@@ -284,10 +279,7 @@ impl<S: Slice, M: Drop, A: Allocator + Copy, H: Mark> SoleNative<S, M, A, H> {
             return Ok(Self::on_nothing(alloc));
         }
         match WriterMemory::from_slice(alloc, items) {
-            Ok(memory) => match Self::try_over(alloc, memory, pass) {
-                Ok(parts) => Ok(parts),
-                Err(_) => Err(AllocError),
-            },
+            Ok(memory) => Ok(Self::on_new(alloc, memory, pass)),
             Err(AllocError) => Err(AllocError),
         }
     }
@@ -301,7 +293,7 @@ impl<S: Slice, M: Drop, A: Allocator + Copy, H: Mark> SoleNative<S, M, A, H> {
     ///
     /// # Allocates
     ///
-    /// Twice, except for none.
+    /// Once, except for none.
     pub fn try_zeroed_as(alloc: A, count: usize, pass: &mut Pass<H>) -> Result<Self, AllocError>
     where
         S: Zeroable,
@@ -315,10 +307,7 @@ impl<S: Slice, M: Drop, A: Allocator + Copy, H: Mark> SoleNative<S, M, A, H> {
             return Ok(Self::on_nothing(alloc));
         }
         match WriterMemory::filled(alloc, S::zero(), count) {
-            Ok(memory) => match Self::try_over(alloc, memory, pass) {
-                Ok(parts) => Ok(parts),
-                Err(_) => Err(AllocError),
-            },
+            Ok(memory) => Ok(Self::on_new(alloc, memory, pass)),
             Err(AllocError) => Err(AllocError),
         }
     }
@@ -331,7 +320,7 @@ impl<S: Slice, M: Drop, A: Allocator + Copy, H: Mark> SoleNative<S, M, A, H> {
     ///
     /// # Allocates
     ///
-    /// Twice, except for no items.
+    /// Once, except for no items.
     pub fn try_from_array_as<const N: usize>(
         alloc: A,
         array: [S::Item; N],
@@ -348,43 +337,28 @@ impl<S: Slice, M: Drop, A: Allocator + Copy, H: Mark> SoleNative<S, M, A, H> {
             return Ok(Self::on_nothing(alloc));
         }
         match WriterMemory::from_array(alloc, array) {
-            Ok(memory) => match Self::try_over(alloc, memory, pass) {
-                Ok(parts) => Ok(parts),
-                Err(memory) => Err(memory.into_array()),
-            },
+            Ok(memory) => Ok(Self::on_new(alloc, memory, pass)),
             Err(array) => Err(array),
         }
     }
 
     /// All items of this memory, which becomes that of a new block. The pass becomes the block's.
-    ///
-    /// # Errors
-    ///
-    /// The memory comes back where memory for the count is refused; the pass is then as before.
-    fn try_over(
-        alloc: A,
-        memory: WriterMemory<S::Item, A>,
-        pass: &mut Pass<H>,
-    ) -> Result<Self, WriterMemory<S::Item, A>>
-        requires { memory.places.under.start ≡ 0 }
-        ensures made { IfOk result (λ parts. IsWriterOver native S.DROPS H.whole
-            memory.places.vec.items memory.allocation.count parts pass.new) }
-        ensures refused { IfErr result (λ back. (back ≡ memory) × (pass.new ≡ pass.old)) }
+    fn on_new(alloc: A, memory: WriterMemory<S::Item, A>, pass: &mut Pass<H>) -> Self
+        requires start { memory.places.under.start ≡ 0 }
+        requires block { IsPiece memory.source }
+        ensures { IsWriterOver native S.DROPS H.whole memory.places.vec.items
+            memory.places.under.whole result pass.new }
     {
-        match SoleBox::new(alloc, Kept::Nothing) {
-            Ok((count, new)) => {
-                *pass = new;
-                Ok(SoleNative {
-                    count: Some(count),
-                    memory,
-                    start: 0,
-                    behind: 0,
-                    beyond: 0,
-                    alloc,
-                    marker: PhantomData,
-                })
-            }
-            Err(_) => Err(memory),
+        let (count, new) = NativeCount::<MAX_OWNERS, H>::new();
+        *pass = new;
+        SoleNative {
+            count: Some(count),
+            memory,
+            start: 0,
+            behind: 0,
+            beyond: 0,
+            alloc,
+            marker: PhantomData,
         }
     }
 
@@ -392,15 +366,16 @@ impl<S: Slice, M: Drop, A: Allocator + Copy, H: Mark> SoleNative<S, M, A, H> {
     /// let go, but for items that are dropped one by one, which stay.
     pub fn over(
         alloc: A,
-        count: NativeCount<S::Item, A, MAX_OWNERS, H>,
+        count: NativeCount<MAX_OWNERS, H>,
         memory: WriterMemory<S::Item, A>,
         start: usize,
         end: usize,
     ) -> Self
-        requires count { IsLimited MAX_OWNERS H.whole (sole_in count) }
+        requires count { IsLimited MAX_OWNERS H.whole (count_owner count) }
         requires range { (start ≤ end) × (end ≤ length memory.places.vec.items) }
         requires first { S.DROPS ≡ true → memory.places.under.start ≡ 0 }
-        ensures { result ≡ sole_native_part S.DROPS (sole_in count) memory start end }
+        requires block { IsPiece memory.source }
+        ensures { result ≡ sole_native_part S.DROPS (count_owner count) memory start end }
     {
         let mut memory = memory;
         if !S::DROPS {
@@ -432,7 +407,7 @@ impl<S: Slice, M: Drop, A: Allocator + Copy, H: Mark> SoleNative<S, M, A, H> {
     ///
     /// # Allocates
     ///
-    /// Twice for a first block, and once where the block grows: where the places behind the items
+    /// Once for a first block, and once where the block grows: where the places behind the items
     /// aren't enough, unless items that aren't dropped one by one are no more than the places in
     /// front of them, and the whole block is large enough.
     ///

@@ -12,24 +12,27 @@ ghost use Rattle.arc_block.specs.Natives.{native_view};
 ghost use Rattle.arc_block.specs.declared.block.TheConstants.{MAX_OWNERS};
 ghost use Rattle.arc_owners.specs.count.Calls.{Asks, IsFirst, IsFreshPass};
 ghost use Rattle.arc_owners.specs.memory.SoleBoxes.{sole_in};
+ghost use Rattle.arc_owners.specs.memory.SoleCounts.{count_owner};
+ghost use Rattle.arc_memory.specs.Sources.{IsPiece};
 
 use arc_block::block::{MAX_OWNERS, NativeBlock, NativeCount};
 use arc_buffer::kinds::Slice;
-use arc_memory::{Base, Kept, LifetimeToken, SharedWriter, WriterMemory, WriterPart};
+use arc_memory::{Base, HeadSize, Kept, LifetimeToken, SharedWriter, WriterMemory, WriterPart};
 use arc_owners::error::{AllocError, CountFull};
 use arc_owners::mark::{Mark, Open, Stepping};
-use arc_owners::owners::{Pass, SoleBox};
+use arc_owners::owners::{Header, Pass, SoleBox};
 use std::alloc::{Allocator, Global};
 use std::marker::Model;
-use std::mem;
 use std::sync::Wait;
+use std_alloc::vec::Lodged;
 
 /// One of several writers on a native block: an owner, with places that no other owner reaches. Its
 /// items need no drop.
 ///
 /// Dropped, it ends as a window does.
 pub struct SharedNative<T: Drop, A: Allocator + Copy = Global, H: Mark = Open> {
-    writer: SharedWriter<T, Kept<T, A>, A, MAX_OWNERS, H>,
+    writer: SharedWriter<T, Kept<T, A>, Lodged, MAX_OWNERS, H>,
+    head: HeadSize<Header<Kept<T, A>>>,
 }
 
 impl<T: Drop, A: Allocator + Copy, H: Mark> Model for SharedNative<T, A, H> {
@@ -37,6 +40,8 @@ impl<T: Drop, A: Allocator + Copy, H: Mark> Model for SharedNative<T, A, H> {
     ghost use Rattle.arc_memory.specs.SharedWriters.{writer_owner, writer_value, writer_range};
     ghost use Rattle.arc_block.specs.Block.{IsLimited};
     ghost use Rattle.arc_sort_writers.specs.NativeWriters.{NativeWriter, native_writer_seen};
+    ghost use Rattle.arc_memory.specs.SharedWriters.{writer_place};
+    ghost use Rattle.arc_block.specs.Natives.{IsLaidFor};
     ghost use Rattle.arc_sort_writers.specs.NativeWriters.{KeepsPlaces};
     ghost use Rattle.arc_block.specs.declared.block.TheConstants.{MAX_OWNERS};
 
@@ -45,7 +50,8 @@ impl<T: Drop, A: Allocator + Copy, H: Mark> Model for SharedNative<T, A, H> {
     ghost view = { λ w. native_writer_seen w.writer };
 
     ghost invariant = { λ w. IsLimited MAX_OWNERS H.whole (writer_owner w.writer)
-        × KeepsPlaces (writer_value w.writer) (writer_range w.writer).memory };
+        × KeepsPlaces (writer_value w.writer) (writer_range w.writer).memory
+        × IsLaidFor (writer_place w.writer) w.head.size (writer_value w.writer) };
 }
 
 impl<T: Drop, A: Allocator + Copy, H: Mark> Drop for SharedNative<T, A, H> {
@@ -64,26 +70,27 @@ impl<T: Drop, A: Allocator + Copy, H: Mark> SharedNative<T, A, H> {
     /// the same items, and the first `capacity` of the memory's places. It adds no entry and takes
     /// no memory.
     pub fn of_sole(
-        count: NativeCount<T, A, MAX_OWNERS, H>,
+        count: NativeCount<MAX_OWNERS, H>,
         memory: WriterMemory<T, A>,
         capacity: usize,
     ) -> Self
-        requires owner { IsLimited MAX_OWNERS H.whole (sole_in count) }
+        requires owner { IsLimited MAX_OWNERS H.whole (count_owner count) }
         requires places { (length memory.places.vec.items ≤ capacity)
             × (capacity ≤ memory.places.under.count) }
-        ensures { result ≡ native_writer_over (sole_in count) memory capacity }
+        requires block { IsPiece memory.source }
+        ensures { result ≡ native_writer_over (count_owner count) memory capacity }
     {
-        let mut count = count;
         let (base, start) = (memory.base(), memory.start());
         let len = memory.len();
         let lifetime = LifetimeToken::new();
-        let (part, kept) = memory.lend(&lifetime);
+        let (part, kept, room, head) = memory.lend(&lifetime);
         let (part, beyond) = part.split(capacity);
         beyond.give_up();
-        drop(mem::replace(count.get_mut(), Kept::Places(kept)));
-        let part = WriterPart::lend(count, lifetime, part);
+        let sole = SoleBox::lay(count, room, Kept::Places(kept));
+        let part = WriterPart::lend(sole, lifetime, part);
         SharedNative {
             writer: unsafe { SharedWriter::of(part, base, start, len, capacity) },
+            head,
         }
     }
 
@@ -93,30 +100,35 @@ impl<T: Drop, A: Allocator + Copy, H: Mark> SharedNative<T, A, H> {
     /// # History
     ///
     /// Alone with the answer.
+    #[tactic(auto, using(crate::proofs::Takes::laid_room, crate::proofs::Takes::laid_alike))]
     pub fn try_into_sole_as(
         self,
         pass: &mut Pass<H>,
-    ) -> Result<(NativeCount<T, A, MAX_OWNERS, H>, WriterMemory<T, A>), Self>
+    ) -> Result<(NativeCount<MAX_OWNERS, H>, WriterMemory<T, A>), Self>
         requires pass { IsPassFor self.owner pass.old }
         ensures entry { Asks self.owner pass.old pass.new (is_ok result) }
-        ensures owner { IfOk result (λ r. (sole_in r.0 ≡ self.owner)
-            × IsLimited MAX_OWNERS H.whole (sole_in r.0)) }
+        ensures owner { IfOk result (λ r. (count_owner r.0 ≡ self.owner)
+            × IsLimited MAX_OWNERS H.whole (count_owner r.0)) }
         ensures memory { IfOk result (λ r. (r.1.places.vec.items ≡ self.items)
-            × (r.1.places.under.start ≡ self.start) × (r.1.allocation.count ≡ self.size)) }
+            × (r.1.places.under.start ≡ self.start) × (r.1.places.under.whole ≡ self.size)) }
+        ensures block { IfOk result (λ r. IsPiece r.1.source) }
         ensures others { IfErr result (λ back. back ≡ self) }
     {
-        let SharedNative { writer } = self;
+        let SharedNative { writer, head } = self;
         let (base, start) = (writer.places.base(), writer.places.start());
         let len = writer.places.len();
         match writer.try_into_sole_as(pass) {
-            Ok((mut count, ended, part)) => {
-                let Kept::Places(kept) = mem::replace(count.get_mut(), Kept::Nothing) else {
+            Ok((sole, ended, part)) => {
+                let (count, room, kept) = sole.take_up();
+                let Kept::Places(kept) = kept else {
                     unreachable!()
                 };
-                let memory = unsafe { kept.regain_writer(ended, part, base, start, len) };
+                let memory = unsafe {
+                    kept.regain_writer(ended, part, room, head, base, start, len)
+                };
                 Ok((count, memory))
             }
-            Err(writer) => Err(SharedNative { writer }),
+            Err(writer) => Err(SharedNative { writer, head }),
         }
     }
 
@@ -201,6 +213,7 @@ impl<T: Drop, A: Allocator + Copy, H: Mark> SharedNative<T, A, H> {
     /// # History
     ///
     /// Up, or Full where refused.
+    #[tactic(auto, using(crate::proofs::Takes::laid_alike))]
     pub fn try_split_off_as(
         self,
         rt: &impl Wait,
@@ -216,13 +229,22 @@ impl<T: Drop, A: Allocator + Copy, H: Mark> SharedNative<T, A, H> {
         ensures full { IfErr result (λ r. (r.0 ≡ self)
             × FindsFull self.owner pass.old pass.new) }
     {
-        let SharedNative { writer } = self;
+        let SharedNative { writer, head } = self;
         match writer.try_split_off_as(rt, at, pass) {
-            Ok((front, back)) => Ok((
-                SharedNative { writer: front },
-                SharedNative { writer: back },
-            )),
-            Err((writer, e)) => Err((SharedNative { writer }, e)),
+            Ok((front, back)) => {
+                let other = head.again();
+                Ok((
+                    SharedNative {
+                        writer: front,
+                        head,
+                    },
+                    SharedNative {
+                        writer: back,
+                        head: other,
+                    },
+                ))
+            }
+            Err((writer, e)) => Err((SharedNative { writer, head }, e)),
         }
     }
 
@@ -236,6 +258,7 @@ impl<T: Drop, A: Allocator + Copy, H: Mark> SharedNative<T, A, H> {
     /// # History
     ///
     /// Up, or Full where refused.
+    #[tactic(auto, using(crate::proofs::Takes::laid_alike))]
     pub fn try_split_to_as(
         self,
         rt: &impl Wait,
@@ -251,13 +274,19 @@ impl<T: Drop, A: Allocator + Copy, H: Mark> SharedNative<T, A, H> {
         ensures full { IfErr result (λ r. (r.0 ≡ self)
             × FindsFull self.owner pass.old pass.new) }
     {
-        let SharedNative { writer } = self;
+        let SharedNative { writer, head } = self;
         match writer.try_split_to_as(rt, at, pass) {
-            Ok((back, front)) => Ok((
-                SharedNative { writer: back },
-                SharedNative { writer: front },
-            )),
-            Err((writer, e)) => Err((SharedNative { writer }, e)),
+            Ok((back, front)) => {
+                let other = head.again();
+                Ok((
+                    SharedNative { writer: back, head },
+                    SharedNative {
+                        writer: front,
+                        head: other,
+                    },
+                ))
+            }
+            Err((writer, e)) => Err((SharedNative { writer, head }, e)),
         }
     }
 
@@ -277,12 +306,20 @@ impl<T: Drop, A: Allocator + Copy, H: Mark> SharedNative<T, A, H> {
         sole.apart_from_rest(&self.writer.rest.rest);
     }
 
+    /// The same of who has a native block to himself. Does nothing: its contract is the law.
+    pub fn apart_from_count(&self, sole: &NativeCount<MAX_OWNERS, H>)
+        ensures { ¬ (self.now.owner.block ≡ (count_owner sole.now).block) }
+    {
+        sole.apart_from_rest(&self.writer.rest.rest);
+    }
+
     /// The places of both as this writer's: the other's begin where these end, and both are owners
     /// of one block. These are full. The other owner ends. Takes no memory.
     ///
     /// # History
     ///
     /// Down of the other owner.
+    #[tactic(auto, using(crate::proofs::Takes::laid_alike))]
     pub fn unsplit_as(self, other: Self, pass: &mut Pass<H>) -> Self
         requires pass { IsPassFor other.owner pass.old }
         requires block { other.owner.block ≡ self.owner.block }
@@ -291,10 +328,14 @@ impl<T: Drop, A: Allocator + Copy, H: Mark> SharedNative<T, A, H> {
         ensures joined { result ≡ joined_writer self other }
         ensures entry { (last : Bool) × Leaves other.owner pass.old pass.new last }
     {
-        let SharedNative { writer } = self;
-        let SharedNative { writer: back } = other;
+        let SharedNative { writer, head } = self;
+        let SharedNative {
+            writer: back,
+            head: _,
+        } = other;
         SharedNative {
             writer: writer.unsplit_as(back, pass),
+            head,
         }
     }
 
@@ -304,9 +345,9 @@ impl<T: Drop, A: Allocator + Copy, H: Mark> SharedNative<T, A, H> {
         requires { S.DROPS ≡ false }
         ensures { result ≡ native_view S.DROPS self.owner self.items self.start self.size }
     {
-        let SharedNative { writer } = self;
+        let SharedNative { writer, head } = self;
         let at = writer.places.base();
-        NativeBlock::of_reader(Base { at }, writer.freeze())
+        NativeBlock::of_reader(Base { at }, writer.freeze(), head)
     }
 
     /// Ends this writer; the last owner gives the block back. Takes no memory.
@@ -314,13 +355,14 @@ impl<T: Drop, A: Allocator + Copy, H: Mark> SharedNative<T, A, H> {
     /// # History
     ///
     /// Down.
+    #[tactic(auto, using(crate::proofs::Takes::kept_until, crate::proofs::Takes::laid_room))]
     pub fn release_as(self, pass: &mut Pass<H>)
         requires pass { IsPassFor self.owner pass.old }
         ensures entry { (last : Bool) × Leaves self.owner pass.old pass.new last }
     {
-        let SharedNative { writer } = self;
-        if let Some((kept, ended)) = writer.release_as(pass) {
-            kept.free(ended);
+        let SharedNative { writer, head } = self;
+        if let Some((kept, room, ended)) = writer.release_as(pass) {
+            kept.free(ended, room, head);
         }
     }
 
@@ -330,19 +372,22 @@ impl<T: Drop, A: Allocator + Copy, H: Mark> SharedNative<T, A, H> {
     /// # History
     ///
     /// Alone with the answer, then Down.
+    #[tactic(auto, using(crate::proofs::Takes::kept_until, crate::proofs::Takes::laid_room))]
     pub fn release_with_unique_hint_as(self, pass: &mut Pass<H>)
         requires pass { IsPassFor self.owner pass.old }
         ensures entry { AsksAndLeaves self.owner pass.old pass.new }
     {
-        let SharedNative { writer } = self;
+        let SharedNative { writer, head } = self;
         match writer.try_into_sole_as(pass) {
-            Ok((count, ended, part)) => {
+            Ok((sole, ended, part)) => {
                 part.forget();
-                count.into_value_as(pass).free(ended);
+                let (count, room, kept) = sole.take_up();
+                count.end_as(pass);
+                kept.free(ended, room, head);
             }
             Err(writer) => {
-                if let Some((kept, ended)) = writer.release_as(pass) {
-                    kept.free(ended);
+                if let Some((kept, room, ended)) = writer.release_as(pass) {
+                    kept.free(ended, room, head);
                 }
             }
         }
@@ -351,14 +396,15 @@ impl<T: Drop, A: Allocator + Copy, H: Mark> SharedNative<T, A, H> {
     /// What a drop does: under `Open` this owner ends with a new pass, and the last one gives the
     /// block back; under `Whole` it is forgotten, without a step. Takes no memory. The pass is the
     /// one that the owner ended with; under `Whole` it is of no block.
+    #[tactic(auto, using(crate::proofs::Takes::kept_until, crate::proofs::Takes::laid_room))]
     pub fn let_go(self) -> Pass<H>
         ensures forgotten { H.whole ≡ true → IsPassOfNone result }
         ensures ended { H.whole ≡ false → (last : Bool) × EndsByItself self.owner result last }
     {
-        let SharedNative { writer } = self;
+        let SharedNative { writer, head } = self;
         let (last, pass) = writer.let_go();
-        if let Some((kept, ended)) = last {
-            kept.free(ended);
+        if let Some((kept, room, ended)) = last {
+            kept.free(ended, room, head);
         }
         pass
     }
@@ -383,7 +429,7 @@ impl<T: Copy + Drop, A: Allocator + Copy, H: Mark> SharedNative<T, A, H> {
     ///
     /// # Allocates
     ///
-    /// Twice, or once for no places.
+    /// Once.
     pub fn try_copy(alloc: A, items: &[T], capacity: usize) -> Result<(Self, Pass<H>), AllocError>
         requires { length items.now ≤ capacity }
         ensures made { IfOk result (λ r. (r.0 ≡ new_native_writer r.0.owner items.now capacity)
@@ -392,10 +438,8 @@ impl<T: Copy + Drop, A: Allocator + Copy, H: Mark> SharedNative<T, A, H> {
     {
         let mut memory = WriterMemory::new(alloc, capacity)?;
         memory.extend_from_slice(items);
-        match SoleBox::new(alloc, Kept::Nothing) {
-            Ok((count, pass)) => Ok((Self::of_sole(count, memory, capacity), pass)),
-            Err(_) => Err(AllocError),
-        }
+        let (count, pass) = NativeCount::<MAX_OWNERS, H>::new();
+        Ok((Self::of_sole(count, memory, capacity), pass))
     }
 
     /// A copy of these items, behind the others, where there are places for them.

@@ -20,6 +20,8 @@ mod layouts;
 #[cfg(test)]
 mod living;
 #[cfg(test)]
+mod one_piece;
+#[cfg(test)]
 mod owned;
 #[cfg(test)]
 mod owned_buffers;

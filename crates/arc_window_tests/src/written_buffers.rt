@@ -26,8 +26,8 @@ fn vector(alloc: Global, places: usize, bytes: &[u8]) -> Option<Vec<u8>> {
     Some(vector)
 }
 
-/// What refuses four bytes behind the three of a buffer of five places, what comes next, and whether
-/// the window and then the buffer, taken back, have the first five.
+/// What refuses four bytes behind the three of a buffer of five places, what comes next, and
+/// whether the window and then the buffer, taken back, have the first five.
 fn pushed_without_room(alloc: Global) -> Option<(Refusal, Option<u8>, [bool; 2])> {
     let bytes = vector(alloc, 5, &[1, 2, 3])?;
     let mut window = Over::<NoRoom>::try_from_buffer(alloc, NoRoom { bytes }).ok()?;
@@ -110,9 +110,9 @@ fn shifted(alloc: Global) -> Option<(([Refusal; 2], [usize; 2], bool), bool)> {
 }
 
 /// A buffer without room takes what it has places for, asks for no item after that, and is taken
-/// back once it is full; of formatted text it keeps what came first. One that refuses once hands its refusal on, with the item, and grows then. A vector as a buffer takes a
-/// thousand items. What is lent never grows; a window that begins further in moves to the front of
-/// it.
+/// back once it is full; of formatted text it keeps what came first. One that refuses once hands
+/// its refusal on, with the item, and grows then. A vector as a buffer takes a thousand items. What
+/// is lent never grows; a window that begins further in moves to the front of it.
 #[test]
 fn pushed_to_buffers(rt: HostRuntime) -> Result<(), Fail> {
     let told = pushed_without_room(rt.alloc());

@@ -20,7 +20,8 @@ use std::marker::{Model, PhantomData};
 /// nothing, with no items and no places.
 ///
 /// Where `UNIQUE` is 1 the window is its block's only owner, and where it is 0 one of several
-/// writers: there are no others. `B` is the type of callers' buffers and `M` that of their metadata.
+/// writers: there are no others. `B` is the type of callers' buffers and `M` that of their
+/// metadata.
 ///
 /// Each call that makes a block, makes room in it or leaves it has a form that ends in `_as` and
 /// takes a pass of the block, in which contracts read what was added to the block's history; a

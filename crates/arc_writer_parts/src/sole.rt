@@ -200,7 +200,7 @@ impl<S: Slice, B: BufferMut<S::Item> + Drop, M: Drop, A: Allocator + Copy, H: Ma
     ///
     /// # Allocates
     ///
-    /// Twice, except for none.
+    /// Once, except for none.
     pub fn try_with_capacity_as(
         alloc: A,
         capacity: usize,
@@ -226,7 +226,7 @@ impl<S: Slice, B: BufferMut<S::Item> + Drop, M: Drop, A: Allocator + Copy, H: Ma
     ///
     /// # Allocates
     ///
-    /// Twice, except for no items.
+    /// Once, except for no items.
     pub fn try_from_slice_as(
         alloc: A,
         items: &[S::Item],
@@ -254,7 +254,7 @@ impl<S: Slice, B: BufferMut<S::Item> + Drop, M: Drop, A: Allocator + Copy, H: Ma
     ///
     /// # Allocates
     ///
-    /// Twice, except for none.
+    /// Once, except for none.
     pub fn try_zeroed_as(alloc: A, count: usize, pass: &mut Pass<H>) -> Result<Self, AllocError>
     where
         S: Zeroable,
@@ -278,7 +278,7 @@ impl<S: Slice, B: BufferMut<S::Item> + Drop, M: Drop, A: Allocator + Copy, H: Ma
     ///
     /// # Allocates
     ///
-    /// Twice, except for no items.
+    /// Once, except for no items.
     pub fn try_from_array_as<const N: usize>(
         alloc: A,
         array: [S::Item; N],
@@ -310,7 +310,7 @@ impl<S: Slice, B: BufferMut<S::Item> + Drop, M: Drop, A: Allocator + Copy, H: Ma
     ///
     /// # Allocates
     ///
-    /// Twice for a first block, and once where the block grows: where the places behind the items
+    /// Once for a first block, and once where the block grows: where the places behind the items
     /// aren't enough, unless items that aren't dropped one by one are no more than the places in
     /// front of them, and the whole block is large enough.
     ///

@@ -1,36 +1,41 @@
 //! Native blocks: items in memory of this crate's own making, which is lent for the lease of the
 //! block's owners.
 //!
-//! What its counted box keeps is that the memory comes back at the end. An owner reads by where the
-//! memory begins, and touches neither the count nor what is kept.
+//! What its counted box keeps is that the memory comes back at the end. The box lies in front of
+//! the items, in the same piece of memory. An owner reads by where the items begin, and touches
+//! neither the count nor what is kept.
 ghost use Rattle.std.specs.Prelude.{◌≡◌, ◌≤◌, ◌+◌, ◌-◌, ◌↔◌, Bool, true, false, IsTrue};
 ghost use Rattle.std.specs.Prelude.{IfOk, IfErr, IfSome, IfNone, is_some};
 ghost use Rattle.arc_owners.specs.count.Calls.{IsPassFor, IsNewPass, Learns, Asks, FindsFull};
 ghost use Rattle.arc_owners.specs.count.Calls.{MakesAnother, Leaves, AsksAndLeaves, EndsByItself};
 ghost use Rattle.arc_owners.specs.count.Calls.{IsPassOfNone, EndsShown, TakesBlock};
-ghost use Rattle.arc_memory.specs.KeptPlaces.{IfKept};
+ghost use Rattle.arc_memory.specs.KeptPlaces.{kept_in};
+ghost use Rattle.arc_memory.specs.PieceParts.{IsRoomOf};
+ghost use Rattle.arc_memory.specs.Sources.{IsPiece};
 ghost use Rattle.arc_buffer.specs.Slice.{sub};
 ghost use Rattle.std.specs.Prelude.{length, is_ok};
 ghost use Rattle.arc_owners.specs.count.Calls.{Owner, IsFirst, IsFreshPass};
-ghost use Rattle.arc_owners.specs.memory.Boxes.{owner_in, value_of};
-ghost use Rattle.arc_owners.specs.memory.SoleBoxes.{sole_in};
+ghost use Rattle.arc_owners.specs.memory.Boxes.{owner_in, value_of, place_in};
+ghost use Rattle.arc_owners.specs.memory.SoleCounts.{count_owner};
 ghost use Rattle.arc_block.specs.Block.{IsLimited};
-ghost use Rattle.arc_block.specs.Natives.{IsAmong, IsKeptFor, made_native, native_over};
+ghost use Rattle.arc_block.specs.Natives.{IsAmong, IsKeptFor, IsLaidFor, made_native, native_over};
 ghost use Rattle.arc_block.specs.Natives.{native_taken, native_seen, range_seen};
 
 use arc_buffer::kinds::Slice;
-use arc_memory::{Base, FrozenPlaces, FrozenReader, Kept, KeptItems, KeptPlaces, WriterMemory};
+use arc_memory::{
+    Base, FrozenPlaces, FrozenReader, HeadSize, Kept, KeptItems, KeptPlaces, WriterMemory,
+};
 use arc_owners::error::{AllocError, CountFull};
 use arc_owners::leave::RaiseLeave;
 use arc_owners::lifetime::{EndedLifetime, LifetimeToken};
 use arc_owners::mark::{Mark, Open, Stepping};
-use arc_owners::owners::{Pass, SoleBox};
+use arc_owners::owners::{Header, HeaderRoom, Pass, SoleBox, SoleCount};
 use std::alloc::Allocator;
 use std::marker::Model;
-use std::mem;
+use std_alloc::vec::Lodged;
 
-/// The count of a native block, with its only owner.
-pub type NativeCount<T, A, const MAX: u64, H> = SoleBox<Kept<T, A>, A, MAX, H>;
+/// The count of a native block by value, with its only owner.
+pub type NativeCount<const MAX: u64, H> = SoleCount<MAX, H>;
 
 /// An owner of a native block, which at most `MAX` owners share, and who reads items that lie side
 /// by side in the block. Its memory is given back with its last owner.
@@ -39,19 +44,25 @@ pub type NativeCount<T, A, const MAX: u64, H> = SoleBox<Kept<T, A>, A, MAX, H>;
 /// the block stays for good.
 pub struct NativeBlock<S: Slice, A: Allocator + Copy, const MAX: u64, H: Mark = Open> {
     base: Base<S::Item>,
-    reader: FrozenReader<S::Item, Kept<S::Item, A>, A, MAX, H>,
+    reader: FrozenReader<S::Item, Kept<S::Item, A>, Lodged, MAX, H>,
+    head: HeadSize<Header<Kept<S::Item, A>>>,
 }
 
 /// Gives the block back that the last owner had, where it was the last one, and says whether it
 /// was.
 #[inline(always)]
-fn give_back<T: Drop, A: Allocator>(last: Option<(Kept<T, A>, EndedLifetime)>) -> bool
-    requires { IfSome last (λ r. IfKept r.0 (λ memory. memory.lifetime ≡ r.1.lifetime)) }
+fn give_back<T: Drop, A: Allocator>(
+    last: Option<(Kept<T, A>, HeaderRoom<Header<Kept<T, A>>>, EndedLifetime)>,
+    head: HeadSize<Header<Kept<T, A>>>,
+) -> bool
+    requires ended { IfSome last (λ r.
+        (kept_in r.0).inheritance.memory.lifetime ≡ r.2.lifetime) }
+    requires room { IfSome last (λ r. IsRoomOf r.1 head.size (kept_in r.0).piece) }
     ensures { result ≡ is_some last }
 {
     match last {
-        Some((kept, ended)) => {
-            kept.free(ended);
+        Some((kept, room, ended)) => {
+            kept.free(ended, room, head);
             true
         }
         None => false,
@@ -60,9 +71,9 @@ fn give_back<T: Drop, A: Allocator>(last: Option<(Kept<T, A>, EndedLifetime)>) -
 
 impl<S: Slice, A: Allocator + Copy, const MAX: u64, H: Mark> Model for NativeBlock<S, A, MAX, H> {
     ghost use Rattle.std.specs.Prelude.{◌≡◌};
-    ghost use Rattle.arc_owners.specs.memory.Boxes.{owner_in, value_of};
+    ghost use Rattle.arc_owners.specs.memory.Boxes.{owner_in, value_of, place_in};
     ghost use Rattle.arc_block.specs.Block.{IsLimited};
-    ghost use Rattle.arc_block.specs.Natives.{NativeView, native_seen, IsKeptFor};
+    ghost use Rattle.arc_block.specs.Natives.{NativeView, native_seen, IsKeptFor, IsLaidFor};
 
     ghost Value = { NativeView S.Item };
 
@@ -70,7 +81,8 @@ impl<S: Slice, A: Allocator + Copy, const MAX: u64, H: Mark> Model for NativeBlo
 
     ghost invariant = { λ b. IsLimited MAX H.whole (owner_in b.reader.owner)
         × (b.base.at ≡ b.reader.range.memory.base)
-        × IsKeptFor S.DROPS b.reader.range (value_of b.reader.owner) };
+        × IsKeptFor S.DROPS b.reader.range (value_of b.reader.owner)
+        × IsLaidFor (place_in b.reader.owner) b.head.size (value_of b.reader.owner) };
 }
 
 impl<S: Slice, A: Allocator + Copy, const MAX: u64, H: Mark> Drop for NativeBlock<S, A, MAX, H> {
@@ -97,7 +109,7 @@ impl<S: Slice, A: Allocator + Copy, const MAX: u64, H: Mark> NativeBlock<S, A, M
     ///
     /// Up, or Full where refused.
     #[inline(always)]
-    #[tactic(auto, using(crate::proofs::Natives::kept_alike))]
+    #[tactic(auto, using(crate::proofs::Natives::kept_alike, crate::proofs::Natives::laid_alike))]
     pub fn try_share_once_as(
         &self,
         leave: RaiseLeave,
@@ -114,7 +126,10 @@ impl<S: Slice, A: Allocator + Copy, const MAX: u64, H: Mark> NativeBlock<S, A, M
     {
         let base = Base { at: self.base.at };
         match self.reader.try_again_once_as(leave, pass) {
-            Some(Ok(reader)) => Some(Ok(NativeBlock { base, reader })),
+            Some(Ok(reader)) => {
+                let head = self.head.again();
+                Some(Ok(NativeBlock { base, reader, head }))
+            }
             Some(Err(e)) => Some(Err(e)),
             None => None,
         }
@@ -160,25 +175,35 @@ impl<S: Slice, A: Allocator + Copy, const MAX: u64, H: Mark> NativeBlock<S, A, M
     /// Ends this owner by one subtraction, and answers whether it was the last one: then the block
     /// is given back. Adds its Down. Takes no memory.
     #[inline(always)]
+    #[tactic(auto, using(crate::proofs::Natives::kept_ended, crate::proofs::Natives::laid_room))]
     pub fn release_as(self, pass: &mut Pass<H>) -> bool
         requires pass { IsPassFor self.owner pass.old }
         ensures entry { Leaves self.owner pass.old pass.new result }
     {
-        let NativeBlock { base: _, reader } = self;
-        give_back(reader.release_as(pass))
+        let NativeBlock {
+            base: _,
+            reader,
+            head,
+        } = self;
+        give_back(reader.release_as(pass), head)
     }
 
     /// What a drop does: under `Open` this owner ends with a new pass, and the last one gives the
     /// block back; under `Whole` it is forgotten, without a step. Takes no memory. The pass is the
     /// one that the owner ended with; under `Whole` it is of no block.
     #[inline(always)]
+    #[tactic(auto, using(crate::proofs::Natives::kept_ended, crate::proofs::Natives::laid_room))]
     pub fn let_go(self) -> Pass<H>
         ensures forgotten { H.whole ≡ true → IsPassOfNone result }
         ensures ended { H.whole ≡ false → (last : Bool) × EndsByItself self.owner result last }
     {
-        let NativeBlock { base: _, reader } = self;
+        let NativeBlock {
+            base: _,
+            reader,
+            head,
+        } = self;
         let (last, pass) = reader.let_go();
-        let _ = give_back(last);
+        let _ = give_back(last, head);
         pass
     }
 
@@ -188,16 +213,20 @@ impl<S: Slice, A: Allocator + Copy, const MAX: u64, H: Mark> NativeBlock<S, A, M
     /// # History
     ///
     /// Alone with what was found, then Down.
-    #[tactic(auto, using(crate::proofs::Natives::kept_ended, crate::proofs::Natives::kept_alike))]
+    #[tactic(auto, using(crate::proofs::Natives::kept_ended, crate::proofs::Natives::kept_alike, crate::proofs::Natives::laid_room, crate::proofs::Natives::laid_alike))]
     pub fn drop_with_unique_hint_as(self, pass: &mut Pass<H>)
         requires pass { IsPassFor self.owner pass.old }
         ensures entries { AsksAndLeaves self.owner pass.old pass.new }
     {
-        let NativeBlock { base, reader } = self;
+        let NativeBlock { base, reader, head } = self;
         match reader.try_into_sole_as(pass) {
-            Ok((count, ended, _)) => count.into_value_as(pass).free(ended),
+            Ok((sole, ended, _)) => {
+                let (count, room, kept) = sole.take_up();
+                count.end_as(pass);
+                kept.free(ended, room, head);
+            }
             Err(reader) => {
-                let _ = NativeBlock::<S, A, MAX, H> { base, reader }.release_as(pass);
+                let _ = NativeBlock::<S, A, MAX, H> { base, reader, head }.release_as(pass);
             }
         }
     }
@@ -219,8 +248,8 @@ impl<S: Slice, A: Allocator + Copy, const MAX: u64, H: Mark> NativeBlock<S, A, M
         requires { K.DROPS ≡ S.DROPS }
         ensures { result ≡ self }
     {
-        let NativeBlock { base, reader } = self;
-        NativeBlock { base, reader }
+        let NativeBlock { base, reader, head } = self;
+        NativeBlock { base, reader, head }
     }
 }
 
@@ -246,7 +275,8 @@ fn kept_of<S: Slice, A: Allocator>(
     requires lent { range.now.memory ≡ kept.inheritance.memory }
     requires front { S.DROPS ≡ true → range.now.start ≡ 0 }
     requires sizes { (base ≡ range.now.memory.base) × (len ≡ length range.now.items) }
-    ensures { IsKeptFor S.DROPS range.now result }
+    ensures kept { IsKeptFor S.DROPS range.now result }
+    ensures piece { (kept_in result).piece ≡ kept.piece }
 {
     if S::DROPS {
         return Kept::Items(KeptItems::of(kept, range.again(), base, len));
@@ -264,26 +294,29 @@ fn regain<S: Slice, A: Allocator>(
     kept: Kept<S::Item, A>,
     ended: EndedLifetime,
     range: &FrozenPlaces<S::Item>,
+    room: HeaderRoom<Header<Kept<S::Item, A>>>,
+    head: HeadSize<Header<Kept<S::Item, A>>>,
     base: *const S::Item,
     start: usize,
     end: usize,
 ) -> WriterMemory<S::Item, A>
     requires kept { IsKeptFor S.DROPS range.now kept }
     requires ended { ended.lifetime ≡ range.now.memory.lifetime }
+    requires room { IsRoomOf room head.size (kept_in kept).piece }
     requires place { base ≡ range.now.memory.base }
     requires range { (range.now.start ≤ start) × (start ≤ end)
         × (end ≤ range.now.start + length range.now.items) }
     ensures taken { (o : Owner) → native_over S.DROPS o result
         ≡ native_taken S.DROPS (range_seen S.DROPS o range.now) start end }
     ensures front { S.DROPS ≡ true → result.places.under.start ≡ 0 }
+    ensures block { IsPiece result.source }
 {
     match kept {
-        Kept::Nothing => unreachable!(),
         Kept::Places(kept) => {
-            let part = range.part(start, end);
-            unsafe { kept.regain_frozen_writer(ended, &part, base, start, end - start) }
+            let (part, len) = (range.part(start, end), end - start);
+            unsafe { kept.regain_frozen_writer(ended, &part, room, head, base, start, len) }
         }
-        Kept::Items(kept) => kept.regain(ended),
+        Kept::Items(kept) => kept.regain(ended, room, head),
     }
 }
 
@@ -301,10 +334,10 @@ impl<S: Slice, A: Allocator + Copy, const MAX: u64, H: Mark> NativeBlock<S, A, M
         ensures pass { IfOk result (λ r. IsFreshPass r.0.owner r.1) }
     {
         match WriterMemory::from_slice(alloc, items) {
-            Ok(memory) => match SoleBox::new(alloc, Kept::Nothing) {
-                Ok((count, pass)) => Ok((Self::of_sole(count, memory), pass)),
-                Err(_) => Err(AllocError),
-            },
+            Ok(memory) => {
+                let (count, pass) = NativeCount::<MAX, H>::new();
+                Ok((Self::of_sole(count, memory), pass))
+            }
             Err(AllocError) => Err(AllocError),
         }
     }
@@ -324,10 +357,10 @@ impl<S: Slice, A: Allocator + Copy, const MAX: u64, H: Mark> NativeBlock<S, A, M
         ensures refused { IfErr result (λ back. back ≡ array) }
     {
         match WriterMemory::from_array(alloc, array) {
-            Ok(memory) => match SoleBox::new(alloc, Kept::Nothing) {
-                Ok((count, pass)) => Ok((Self::of_sole(count, memory), pass)),
-                Err(_) => Err(memory.into_array()),
-            },
+            Ok(memory) => {
+                let (count, pass) = NativeCount::<MAX, H>::new();
+                Ok((Self::of_sole(count, memory), pass))
+            }
             Err(back) => Err(back),
         }
     }
@@ -335,38 +368,42 @@ impl<S: Slice, A: Allocator + Copy, const MAX: u64, H: Mark> NativeBlock<S, A, M
     /// The same owner of the same block, whose memory is lent anew: it may be shared from now on.
     /// It adds no entry and takes no memory.
     #[inline(always)]
-    pub fn of_sole(count: NativeCount<S::Item, A, MAX, H>, memory: WriterMemory<S::Item, A>) -> Self
-        requires limited { IsLimited MAX H.whole (sole_in count) }
+    pub fn of_sole(count: NativeCount<MAX, H>, memory: WriterMemory<S::Item, A>) -> Self
+        requires limited { IsLimited MAX H.whole (count_owner count) }
         requires front { S.DROPS ≡ true → memory.places.under.start ≡ 0 }
-        ensures { result ≡ native_over S.DROPS (sole_in count) memory }
+        requires block { IsPiece memory.source }
+        ensures { result ≡ native_over S.DROPS (count_owner count) memory }
     {
         let (at, len) = (memory.base(), memory.len());
         let lifetime = LifetimeToken::new();
-        let (part, kept) = memory.lend(&lifetime);
+        let (part, kept, room, head) = memory.lend(&lifetime);
         let (full, behind) = part.split(len);
         behind.give_up();
         let range = full.freeze(&lifetime);
         let kept = kept_of::<S, A>(kept, &range, at, len);
-        let mut count = count;
-        drop(mem::replace(count.get_mut(), kept));
+        let sole = SoleBox::lay(count, room, kept);
         NativeBlock {
             base: Base { at },
-            reader: FrozenReader::lend(count, lifetime, range),
+            reader: FrozenReader::lend(sole, lifetime, range),
+            head,
         }
     }
 
-    /// An owner who reads a range of the block's places, in memory that begins at this base.
+    /// An owner who reads a range of the block's places, in memory that begins at this base, with a
+    /// header of this size in front.
     #[inline(always)]
     pub fn of_reader(
         base: Base<S::Item>,
-        reader: FrozenReader<S::Item, Kept<S::Item, A>, A, MAX, H>,
+        reader: FrozenReader<S::Item, Kept<S::Item, A>, Lodged, MAX, H>,
+        head: HeadSize<Header<Kept<S::Item, A>>>,
     ) -> Self
         requires limited { IsLimited MAX H.whole (owner_in reader.owner) }
         requires base { base.at ≡ reader.range.memory.base }
         requires kept { IsKeptFor S.DROPS reader.range (value_of reader.owner) }
+        requires laid { IsLaidFor (place_in reader.owner) head.size (value_of reader.owner) }
         ensures { result ≡ native_seen S.DROPS reader }
     {
-        NativeBlock { base, reader }
+        NativeBlock { base, reader, head }
     }
 
     /// The only owner of the same block, where no other one lives, and the block's memory, with the
@@ -377,29 +414,30 @@ impl<S: Slice, A: Allocator + Copy, const MAX: u64, H: Mark> NativeBlock<S, A, M
     /// # History
     ///
     /// Alone with the answer.
-    #[tactic(auto, using(crate::proofs::Natives::kept_alike))]
+    #[tactic(auto, using(crate::proofs::Natives::kept_alike, crate::proofs::Natives::laid_alike, crate::proofs::Natives::laid_room))]
     pub fn try_into_sole_as(
         self,
         start: usize,
         end: usize,
         pass: &mut Pass<H>,
-    ) -> Result<(NativeCount<S::Item, A, MAX, H>, WriterMemory<S::Item, A>), Self>
+    ) -> Result<(NativeCount<MAX, H>, WriterMemory<S::Item, A>), Self>
         requires pass { IsPassFor self.owner pass.old }
         requires range { IsAmong self start end }
         ensures entry { Asks self.owner pass.old pass.new (is_ok result) }
-        ensures sole { IfOk result (λ r. (native_over S.DROPS (sole_in r.0) r.1
-            ≡ native_taken S.DROPS self start end) × IsLimited MAX H.whole (sole_in r.0)) }
+        ensures sole { IfOk result (λ r. (native_over S.DROPS (count_owner r.0) r.1
+            ≡ native_taken S.DROPS self start end) × IsLimited MAX H.whole (count_owner r.0)) }
         ensures front { IfOk result (λ r. S.DROPS ≡ true → r.1.places.under.start ≡ 0) }
+        ensures block { IfOk result (λ r. IsPiece r.1.source) }
         ensures others { IfErr result (λ back. back ≡ self) }
     {
-        let NativeBlock { base, reader } = self;
+        let NativeBlock { base, reader, head } = self;
         match reader.try_into_sole_as(pass) {
-            Ok((mut count, ended, range)) => {
-                let kept = mem::replace(count.get_mut(), Kept::Nothing);
-                let memory = regain::<S, A>(kept, ended, &range, base.at, start, end);
+            Ok((sole, ended, range)) => {
+                let (count, room, kept) = sole.take_up();
+                let memory = regain::<S, A>(kept, ended, &range, room, head, base.at, start, end);
                 Ok((count, memory))
             }
-            Err(reader) => Err(NativeBlock { base, reader }),
+            Err(reader) => Err(NativeBlock { base, reader, head }),
         }
     }
 
@@ -410,7 +448,7 @@ impl<S: Slice, A: Allocator + Copy, const MAX: u64, H: Mark> NativeBlock<S, A, M
     /// # History
     ///
     /// Taken, Alone and Down. Refused, Alone with no.
-    #[tactic(auto, using(crate::proofs::Natives::kept_alike))]
+    #[tactic(auto, using(crate::proofs::Natives::kept_alike, crate::proofs::Natives::laid_alike, crate::proofs::Natives::laid_room))]
     pub fn try_into_memory_as(
         self,
         start: usize,
@@ -421,17 +459,20 @@ impl<S: Slice, A: Allocator + Copy, const MAX: u64, H: Mark> NativeBlock<S, A, M
         requires range { IsAmong self start end }
         ensures taken { IfOk result (λ memory. native_over S.DROPS self.owner memory
             ≡ native_taken S.DROPS self start end) }
+        ensures front { IfOk result (λ memory. S.DROPS ≡ true → memory.places.under.start ≡ 0) }
+        ensures block { IfOk result (λ memory. IsPiece memory.source) }
         ensures alone { IfOk result (λ _. TakesBlock self.owner pass.old pass.new) }
         ensures others { IfErr result (λ back. (back ≡ self)
             × Asks self.owner pass.old pass.new false) }
     {
-        let NativeBlock { base, reader } = self;
+        let NativeBlock { base, reader, head } = self;
         match reader.try_into_sole_as(pass) {
-            Ok((count, ended, range)) => {
-                let kept = count.into_value_as(pass);
-                Ok(regain::<S, A>(kept, ended, &range, base.at, start, end))
+            Ok((sole, ended, range)) => {
+                let (count, room, kept) = sole.take_up();
+                count.end_as(pass);
+                Ok(regain::<S, A>(kept, ended, &range, room, head, base.at, start, end))
             }
-            Err(reader) => Err(NativeBlock { base, reader }),
+            Err(reader) => Err(NativeBlock { base, reader, head }),
         }
     }
 }

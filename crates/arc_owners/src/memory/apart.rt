@@ -4,6 +4,7 @@ ghost use Rattle.std.specs.Prelude.{◌≡◌};
 use super::counted_box::CountedBox;
 use super::counted_box_without_lifetime::CountedBoxWithoutLifetime;
 use super::sole_box::SoleBox;
+use super::sole_count::SoleCount;
 use crate::mark::Mark;
 use std::alloc::Allocator;
 
@@ -20,7 +21,10 @@ impl<V: Drop, A: Allocator + Copy, const MAX: u64, H: Mark> SoleBox<V, A, MAX, H
     }
 
     /// The same of an owner whose share of the lifetime is elsewhere.
-    pub fn apart_from_rest<W: Drop>(&self, other: &CountedBoxWithoutLifetime<W, A, MAX, H>)
+    pub fn apart_from_rest<W: Drop, B: Allocator + Copy>(
+        &self,
+        other: &CountedBoxWithoutLifetime<W, B, MAX, H>,
+    )
         ensures { ¬ ((owner_in_rest other.now).block ≡ (sole_in self.now).block) }
     {
         other.share.right.same_lease(&self.sole.right);
@@ -35,5 +39,21 @@ impl<V: Drop, A: Allocator + Copy, const MAX: u64, H: Mark> SoleBox<V, A, MAX, H
         ensures apart { ¬ ((sole_in other.now).block ≡ (sole_in self.old).block) }
     {
         other.sole.right.lives_apart(&mut self.sole.right);
+    }
+}
+
+impl<const MAX: u64, H: Mark> SoleCount<MAX, H> {
+    ghost use Rattle.arc_owners.specs.memory.Boxes.{owner_in_rest};
+    ghost use Rattle.arc_owners.specs.memory.SoleCounts.{count_owner};
+
+    /// An owner to whom a value is lent, and whose share of the lifetime is elsewhere, is of another
+    /// block than a sole owner. It does nothing: what it says is so.
+    pub fn apart_from_rest<W: Drop, B: Allocator + Copy>(
+        &self,
+        other: &CountedBoxWithoutLifetime<W, B, MAX, H>,
+    )
+        ensures { ¬ ((owner_in_rest other.now).block ≡ (count_owner self.now).block) }
+    {
+        other.share.right.same_lease(&self.sole.right);
     }
 }

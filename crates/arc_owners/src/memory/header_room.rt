@@ -42,3 +42,6 @@ impl<X> HeaderRoom<X> {
 }
 
 unsafe impl<X> Send for HeaderRoom<X> {}
+
+// A `&` to it does nothing.
+unsafe impl<X> Sync for HeaderRoom<X> {}

@@ -23,7 +23,7 @@ impl<const MAX: u64, H: Mark> SoleCount<MAX, H> {
     ghost use Rattle.arc_owners.specs.history.Histories.{LivesAlone};
     ghost use Rattle.arc_owners.specs.count.Calls.{IsPassFor, IsPassOfNone, IsFirst, IsFreshPass};
     ghost use Rattle.arc_owners.specs.count.Calls.{Learns, Leaves, SeesAlone, EndsByItself};
-    ghost use Rattle.arc_owners.specs.count.Calls.{EndsWithoutStep, seen, history_of};
+    ghost use Rattle.arc_owners.specs.count.Calls.{EndsWithoutStep, seen, history_of, Asks};
     ghost use Rattle.arc_owners.specs.memory.SoleCounts.{count_owner};
 
     /// The count of a new block, which is 1, with its only owner, and a pass that has seen nothing.
@@ -45,6 +45,16 @@ impl<const MAX: u64, H: Mark> SoleCount<MAX, H> {
         ensures { SeesAlone (count_owner self.now) pass.old pass.new }
     {
         self.sole.only(pass);
+    }
+
+    /// Whether no other owner lives, by one load, as an owner asks to whom a value is lent. Adds
+    /// Alone with the answer. Takes no memory.
+    #[tactic(auto, using(crate::proofs::count::Calls::asks_of))]
+    pub fn is_unique_as(&self, pass: &mut Pass<H>) -> bool
+        requires pass { IsPassFor (count_owner self.now) pass.old }
+        ensures entry { Asks (count_owner self.now) pass.old pass.new result }
+    {
+        self.owners.word.load(&self.sole.right, &mut pass.trace) == 1
     }
 
     /// Ends this owner, the last one, without a step. Takes no memory.

@@ -110,7 +110,7 @@ pub trait CallsOf<S: Subsliceable> {
     ///
     /// # Allocates
     ///
-    /// Twice, except for no items.
+    /// Once, except for no items.
     ///
     /// # History
     ///
@@ -256,7 +256,8 @@ pub trait CallsOf<S: Subsliceable> {
         requires at { CanSplit S.boundary window.old.items (capacity_of window.old.role) at }
         requires pass { IsPassAt window.old.place pass.old }
         ensures call { is_some result ≡ calls.shares }
-        ensures made { IfSome result (λ made. IfOk made (λ back. SplitsWriterOff whole_mark is_any false true at
+        ensures made { IfSome result (λ made. IfOk made (λ back.
+            SplitsWriterOff whole_mark is_any false true at
             window.old window.new back pass.old pass.new)) }
         ensures kept { IfSome result (λ made. IfErr made (λ _. window.new ≡ window.old)) }
         ensures refused { IfSome result (λ made. IfErr made
@@ -285,7 +286,8 @@ pub trait CallsOf<S: Subsliceable> {
         requires at { CanSplit S.boundary window.old.items (capacity_of window.old.role) at }
         requires pass { IsPassAt window.old.place pass.old }
         ensures call { is_some result ≡ calls.shares }
-        ensures made { IfSome result (λ made. IfOk made (λ front. SplitsWriterTo whole_mark is_any false true at
+        ensures made { IfSome result (λ made. IfOk made (λ front.
+            SplitsWriterTo whole_mark is_any false true at
             window.old front window.new pass.old pass.new)) }
         ensures kept { IfSome result (λ made. IfErr made (λ _. window.new ≡ window.old)) }
         ensures refused { IfSome result (λ made. IfErr made
@@ -348,7 +350,8 @@ pub trait CallsOf<S: Subsliceable> {
         ensures none { IfNone result ((window.new ≡ window.old) × (pass.new ≡ pass.old)) };
 
     /// A copy of the items more in a window of several, which are legal, as
-    /// `ArcSliceMut::try_extend_from_slice_as` or `try_extend_from_str_as` puts it behind the others.
+    /// `ArcSliceMut::try_extend_from_slice_as` or `try_extend_from_str_as` puts it behind the
+    /// others.
     ///
     /// # Errors
     ///

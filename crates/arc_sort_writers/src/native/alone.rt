@@ -57,7 +57,7 @@ impl<S: Slice, M: Drop, A: Allocator + Copy, H: Mark> SoleNative<S, M, A, H> {
         ensures { at_owner self.now.place (Unit {0}) (λ o. ¬ (writer.now.owner.block ≡ o.block)) }
     {
         if let Some(count) = &self.count {
-            writer.apart_from(count);
+            writer.apart_from_count(count);
         }
     }
 

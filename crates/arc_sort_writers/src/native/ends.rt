@@ -3,7 +3,7 @@ ghost use Rattle.std.specs.Prelude.{◌≡◌, ◌↔◌, true, false, length, I
 ghost use Rattle.std.specs.Prelude.{IfSome, IfNone, Some, None};
 ghost use Rattle.arc_owners.specs.count.Calls.{Leaves, Learns, IsNewPass, IsPassOfNone};
 ghost use Rattle.arc_owners.specs.count.Calls.{SeesAlone, EndsByItself};
-ghost use Rattle.arc_owners.specs.memory.SoleBoxes.{sole_in};
+ghost use Rattle.arc_owners.specs.memory.SoleCounts.{count_owner};
 ghost use Rattle.arc_block.specs.LayoutFacts.{layout_facts};
 ghost use Rattle.arc_block.specs.Metadata.{IsMetadataAt, IsOnCallers};
 ghost use Rattle.arc_block.specs.Place.{at_owner, metadata_at, IsOnBlock};
@@ -31,14 +31,14 @@ use std::mem;
 /// `Whole` it is forgotten, and so are its items, which stay where they are. The pass is the one
 /// that the owner ended with; under `Whole` it is of no block.
 pub(super) fn end_native<T: Drop, A: Allocator + Copy, const MAX: u64, H: Mark>(
-    count: NativeCount<T, A, MAX, H>,
+    count: NativeCount<MAX, H>,
     memory: WriterMemory<T, A>,
 ) -> Pass<H>
     ensures forgotten { H.whole ≡ true → IsPassOfNone result }
-    ensures ended { H.whole ≡ false → EndsByItself (sole_in count) result true }
+    ensures ended { H.whole ≡ false → EndsByItself (count_owner count) result true }
 {
-    let (value, pass) = count.let_go();
-    if value.is_some() {
+    let (ended, pass) = count.let_go();
+    if ended {
         drop(memory);
     } else {
         mem::forget(memory);
@@ -201,7 +201,7 @@ impl<S: Slice, M: Drop, A: Allocator + Copy, H: Mark> SoleNative<S, M, A, H> {
             marker: _,
         } = self;
         if let Some(count) = count {
-            drop(count.into_value_as(pass));
+            count.end_as(pass);
         }
         Ok(memory.into_array())
     }
@@ -251,7 +251,7 @@ impl<S: Slice, M: Drop, A: Allocator + Copy, H: Mark> SoleNative<S, M, A, H> {
             marker: _,
         } = self;
         if let Some(count) = count {
-            drop(count.into_value_as(pass));
+            count.end_as(pass);
         }
         drop(memory);
     }

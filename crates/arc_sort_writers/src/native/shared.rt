@@ -1,6 +1,7 @@
 //! A sole writer on a native block, as one of several writers, and one who was one of several.
 ghost use Rattle.std.specs.Prelude.{◌≡◌, ℕ, ◌≤◌, ◌↔◌, IsTrue, false, length, IfOk, IfErr};
-ghost use Rattle.arc_owners.specs.memory.SoleBoxes.{sole_in};
+ghost use Rattle.arc_owners.specs.memory.SoleCounts.{count_owner};
+ghost use Rattle.arc_memory.specs.Sources.{IsPiece};
 ghost use Rattle.arc_block.specs.Block.{IsLimited};
 ghost use Rattle.arc_sort_writers.specs.NativeWriters.{native_row, native_writer_over};
 ghost use Rattle.arc_sort_writers.specs.NativeWriters.{IsAlonePlace};
@@ -86,16 +87,17 @@ impl<S: Slice, M: Drop, A: Allocator + Copy, H: Mark> SoleNative<S, M, A, H> {
     /// memory's places.
     pub fn of_several(
         alloc: A,
-        count: NativeCount<S::Item, A, MAX_OWNERS, H>,
+        count: NativeCount<MAX_OWNERS, H>,
         memory: WriterMemory<S::Item, A>,
         capacity: usize,
     ) -> Self
         requires kind { S.DROPS ≡ false }
-        requires count { IsLimited MAX_OWNERS H.whole (sole_in count) }
+        requires count { IsLimited MAX_OWNERS H.whole (count_owner count) }
         requires places { (length memory.places.vec.items ≤ capacity)
             × (capacity ≤ memory.places.under.count) }
+        requires block { IsPiece memory.source }
         ensures { result
-            ≡ as_unique (native_row (native_writer_over (sole_in count) memory capacity)) }
+            ≡ as_unique (native_row (native_writer_over (count_owner count) memory capacity)) }
     {
         let beyond = memory.capacity() - capacity;
         SoleNative {

@@ -3,7 +3,7 @@ ghost use Rattle.std.specs.Prelude.{◌≡◌, ◌↔◌, false, IfOk, IfErr, Is
 ghost use Rattle.arc_owners.specs.count.Calls.{Asks, IsPassFor, TakesBlock};
 
 use super::SharedNative;
-use arc_memory::{Kept, SharedWriter};
+use arc_memory::SharedWriter;
 use arc_owners::mark::Mark;
 use arc_owners::owners::Pass;
 use std::alloc::Allocator;
@@ -15,13 +15,13 @@ impl<T: Drop, A: Allocator + Copy, H: Mark> SharedNative<T, A, H> {
         ensures same { result.0 ≡ self }
         ensures answer { IsTrue result.1 ↔ (self.size ≡ size) }
     {
-        let SharedNative { writer } = self;
+        let SharedNative { writer, head } = self;
         let (base, start) = (writer.places.base(), writer.places.start());
         let (len, capacity) = (writer.places.len(), writer.places.capacity());
         let part = writer.into_part();
         let is = part.owner.get().count() == size;
         let writer = unsafe { SharedWriter::of(part, base, start, len, capacity) };
-        (SharedNative { writer }, is)
+        (SharedNative { writer, head }, is)
     }
 
     /// The items as an array, where there are `N` of them, which are all places of the block, and
@@ -51,7 +51,7 @@ impl<T: Drop, A: Allocator + Copy, H: Mark> SharedNative<T, A, H> {
         }
         match writer.try_into_sole_as(pass) {
             Ok((count, memory)) => {
-                drop(count.into_value_as(pass));
+                count.end_as(pass);
                 Ok(memory.into_array())
             }
             Err(writer) => Err(writer),

@@ -36,7 +36,8 @@ pub enum Make {
     WrittenBufferWith(&'static str, u8),
 }
 
-/// A window that is made of one that is read, or of one of several writers, which can only be split.
+/// A window that is made of one that is read, or of one of several writers, which can only be
+/// split.
 #[derive(Clone, Copy)]
 pub enum Part {
     /// A clone.

@@ -76,8 +76,8 @@ impl<
     ghost use Rattle.arc_write.specs.Lends.{lends_items};
 
     fn deref_mut(&mut self) -> &mut [S::Item]
-        ensures* writes_back { sem 𝓛 (lends_items S.row L.row UNIQUE B.row M.row A.row H.row S.Item.row
-            S.TryFromSliceError.row S.Slice L.Layout
+        ensures* writes_back { sem 𝓛 (lends_items S.row L.row UNIQUE B.row M.row A.row H.row
+            S.Item.row S.TryFromSliceError.row S.Slice L.Layout
             (record {
               with_list = B.with_list;
               with_part = B.with_part;

@@ -8,6 +8,7 @@ use super::parts::WriterStorage;
 use arc_block::layout::LayoutMut;
 use arc_buffer::buffer::BufferMut;
 use arc_buffer::kinds::Subsliceable;
+use arc_owners::hint::assert_unchecked;
 use arc_owners::mark::Mark;
 use std::alloc::Allocator;
 
@@ -27,7 +28,10 @@ impl<
     {
         match &mut self.parts {
             WriterStorage::Sole(parts) => parts.advance(n),
-            WriterStorage::Several(_) => unreachable!(),
+            WriterStorage::Several(_) => unsafe {
+                assert_unchecked(false);
+                unreachable!()
+            },
         }
     }
 
@@ -41,7 +45,10 @@ impl<
     {
         match &mut self.parts {
             WriterStorage::Sole(parts) => parts.truncate(n),
-            WriterStorage::Several(_) => unreachable!(),
+            WriterStorage::Several(_) => unsafe {
+                assert_unchecked(false);
+                unreachable!()
+            },
         }
     }
 }

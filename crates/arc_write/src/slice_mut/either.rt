@@ -76,8 +76,8 @@ impl<
     pub(crate) fn mut_slice_of_either(&mut self) -> &mut [S::Item]
     where
         S: AnyItems,
-        ensures* writes_back { sem 𝓛 (lends_items S.row L.row UNIQUE B.row M.row A.row H.row S.Item.row
-            S.TryFromSliceError.row S.Slice L.Layout
+        ensures* writes_back { sem 𝓛 (lends_items S.row L.row UNIQUE B.row M.row A.row H.row
+            S.Item.row S.TryFromSliceError.row S.Slice L.Layout
             (record {
               with_list = B.with_list;
               with_part = B.with_part;

@@ -30,7 +30,7 @@ impl<
     ///
     /// # Allocates
     ///
-    /// Twice, except for no places.
+    /// Once, except for no places.
     #[tactic(auto, using(crate::proofs::Held::native_held))]
     pub fn try_with_capacity_as(
         alloc: A,
@@ -60,7 +60,7 @@ impl<
     ///
     /// # Allocates
     ///
-    /// Twice, except for no items.
+    /// Once, except for no items.
     pub fn try_from_slice_as(
         alloc: A,
         items: &[S::Item],
@@ -90,7 +90,7 @@ impl<
     ///
     /// # Allocates
     ///
-    /// Twice, except for no zeros.
+    /// Once, except for no zeros.
     pub fn try_zeroed_as(alloc: A, count: usize, pass: &mut Pass<H>) -> Result<Self, AllocError>
     where
         S: Zeroable,
@@ -114,7 +114,7 @@ impl<
     ///
     /// # Allocates
     ///
-    /// Twice, except for no items.
+    /// Once, except for no items.
     pub fn try_from_array_as<const N: usize>(
         alloc: A,
         array: [S::Item; N],

@@ -42,7 +42,7 @@ impl<
     ///
     /// # Allocates
     ///
-    /// Twice, except for no places.
+    /// Once, except for no places.
     pub fn try_with_capacity(alloc: A, capacity: usize) -> Result<Self, AllocError>
     where
         S: Emptyable,
@@ -65,7 +65,7 @@ impl<
     ///
     /// # Allocates
     ///
-    /// Twice, except for no items.
+    /// Once, except for no items.
     pub fn try_from_slice(alloc: A, items: &[S::Item]) -> Result<Self, AllocError>
     where
         S: CopySlice,
@@ -89,7 +89,7 @@ impl<
     ///
     /// # Allocates
     ///
-    /// Twice, except for no zeros.
+    /// Once, except for no zeros.
     pub fn try_zeroed(alloc: A, count: usize) -> Result<Self, AllocError>
     where
         S: Zeroable,
@@ -113,7 +113,7 @@ impl<
     ///
     /// # Allocates
     ///
-    /// Twice, except for no items.
+    /// Once, except for no items.
     pub fn try_from_array<const N: usize>(
         alloc: A,
         array: [S::Item; N],
@@ -328,7 +328,7 @@ impl<L: LayoutMut, B: BufferMut<u8> + Drop, M: Drop, A: Allocator + Copy, H: Ste
     ///
     /// # Allocates
     ///
-    /// Twice, except for no text.
+    /// Once, except for no text.
     pub fn try_from_str(alloc: A, text: &str) -> Result<Self, AllocError>
         ensures made { IfOk result (λ window.
             WithNewPass {M = M} {H = H} H.real nowhere (λ first last.

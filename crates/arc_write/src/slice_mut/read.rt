@@ -10,6 +10,7 @@ use arc_block::layout::LayoutMut;
 use arc_buffer::buffer::BufferMut;
 use arc_buffer::kinds::{Slice, Subsliceable};
 use arc_owners::error::RangeError;
+use arc_owners::hint::assert_unchecked;
 use arc_owners::mark::Mark;
 use std::alloc::Allocator;
 
@@ -28,7 +29,10 @@ impl<
     {
         match &self.parts {
             WriterStorage::Sole(parts) => parts.len(),
-            WriterStorage::Several(_) => unreachable!(),
+            WriterStorage::Several(_) => unsafe {
+                assert_unchecked(false);
+                unreachable!()
+            },
         }
     }
 
@@ -47,7 +51,10 @@ impl<
     {
         match &self.parts {
             WriterStorage::Sole(parts) => parts.as_slice(),
-            WriterStorage::Several(_) => unreachable!(),
+            WriterStorage::Several(_) => unsafe {
+                assert_unchecked(false);
+                unreachable!()
+            },
         }
     }
 
@@ -59,7 +66,10 @@ impl<
     {
         match &self.parts {
             WriterStorage::Sole(parts) => parts.capacity(),
-            WriterStorage::Several(_) => unreachable!(),
+            WriterStorage::Several(_) => unsafe {
+                assert_unchecked(false);
+                unreachable!()
+            },
         }
     }
 

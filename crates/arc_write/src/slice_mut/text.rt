@@ -56,7 +56,7 @@ impl<L: LayoutMut, B: BufferMut<u8> + Drop, M: Drop, A: Allocator + Copy, H: Mar
     ///
     /// # Allocates
     ///
-    /// Twice, except for no text.
+    /// Once, except for no text.
     #[tactic(auto, using(crate::proofs::Held::native_held))]
     pub fn try_from_str_as(alloc: A, text: &str, pass: &mut Pass<H>) -> Result<Self, AllocError>
         requires pass { IsPassOfNone pass.old }

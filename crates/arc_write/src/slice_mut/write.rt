@@ -15,6 +15,7 @@ use arc_block::layout::LayoutMut;
 use arc_buffer::buffer::BufferMut;
 use arc_buffer::kinds::{AnyItems, CopySlice, Extendable, Slice};
 use arc_owners::error::TryReserveError;
+use arc_owners::hint::assert_unchecked;
 use arc_owners::mark::Mark;
 use arc_owners::owners::Pass;
 use std::alloc::Allocator;
@@ -72,7 +73,7 @@ impl<
     ///
     /// # Allocates
     ///
-    /// Twice for a first block, and once where the block grows: where the places behind the items
+    /// Once for a first block, and once where the block grows: where the places behind the items
     /// aren't enough, unless items that aren't dropped one by one are no more than the places in
     /// front of them, and the whole block is large enough.
     ///
@@ -99,7 +100,10 @@ impl<
     {
         match &mut self.parts {
             WriterStorage::Sole(parts) => parts.try_reserve_as(additional, pass),
-            WriterStorage::Several(_) => unreachable!(),
+            WriterStorage::Several(_) => unsafe {
+                assert_unchecked(false);
+                unreachable!()
+            },
         }
     }
 
@@ -112,7 +116,10 @@ impl<
     {
         match &mut self.parts {
             WriterStorage::Sole(parts) => parts.try_reclaim(additional),
-            WriterStorage::Several(_) => unreachable!(),
+            WriterStorage::Several(_) => unsafe {
+                assert_unchecked(false);
+                unreachable!()
+            },
         }
     }
 
@@ -164,7 +171,10 @@ impl<
     {
         match &mut self.parts {
             WriterStorage::Sole(parts) => parts.try_push_as(item, pass),
-            WriterStorage::Several(_) => unreachable!(),
+            WriterStorage::Several(_) => unsafe {
+                assert_unchecked(false);
+                unreachable!()
+            },
         }
     }
 
@@ -205,7 +215,10 @@ impl<
     {
         match &mut self.parts {
             WriterStorage::Sole(parts) => parts.try_extend_from_slice_as(items, pass),
-            WriterStorage::Several(_) => unreachable!(),
+            WriterStorage::Several(_) => unsafe {
+                assert_unchecked(false);
+                unreachable!()
+            },
         }
     }
 }

@@ -38,7 +38,7 @@ impl<S: Slice, B: BufferMut<S::Item> + Drop, M: Drop, A: Allocator + Copy, H: Ma
     ///
     /// # Allocates
     ///
-    /// Twice for a first block, and once where the block grows, as a sole writer's.
+    /// Once for a first block, and once where the block grows, as a sole writer's.
     ///
     /// # History
     ///

@@ -261,7 +261,7 @@ where
     ///
     /// # Allocates
     ///
-    /// Twice, or once for no places.
+    /// Once.
     ///
     /// # History
     ///

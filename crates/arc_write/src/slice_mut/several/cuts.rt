@@ -8,6 +8,7 @@ use crate::slice_mut::parts::WriterStorage;
 use arc_block::layout::LayoutMut;
 use arc_buffer::buffer::BufferMut;
 use arc_buffer::kinds::Subsliceable;
+use arc_owners::hint::assert_unchecked;
 use arc_owners::mark::Mark;
 use std::alloc::Allocator;
 
@@ -27,7 +28,10 @@ impl<
     {
         match &mut self.parts {
             WriterStorage::Several(parts) => parts.advance(n),
-            WriterStorage::Sole(_) => unreachable!(),
+            WriterStorage::Sole(_) => unsafe {
+                assert_unchecked(false);
+                unreachable!()
+            },
         }
     }
 
@@ -44,7 +48,10 @@ impl<
                 parts.known_kind();
                 parts.truncate(n);
             }
-            WriterStorage::Sole(_) => unreachable!(),
+            WriterStorage::Sole(_) => unsafe {
+                assert_unchecked(false);
+                unreachable!()
+            },
         }
     }
 }

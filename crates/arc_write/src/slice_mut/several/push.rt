@@ -14,6 +14,7 @@ use arc_block::layout::LayoutMut;
 use arc_buffer::buffer::BufferMut;
 use arc_buffer::kinds::{AnyItems, CopySlice, Extendable, Slice, Text};
 use arc_owners::error::TryReserveError;
+use arc_owners::hint::assert_unchecked;
 use arc_owners::mark::{Mark, Stepping};
 use arc_owners::owners::Pass;
 use std::alloc::Allocator;
@@ -89,7 +90,10 @@ impl<
     {
         match &mut self.parts {
             WriterStorage::Several(parts) => parts.try_push_as(item, pass),
-            WriterStorage::Sole(_) => unreachable!(),
+            WriterStorage::Sole(_) => unsafe {
+                assert_unchecked(false);
+                unreachable!()
+            },
         }
     }
 }
@@ -138,7 +142,10 @@ where
     {
         match &mut self.parts {
             WriterStorage::Several(parts) => parts.try_extend_from_slice_as(items, pass),
-            WriterStorage::Sole(_) => unreachable!(),
+            WriterStorage::Sole(_) => unsafe {
+                assert_unchecked(false);
+                unreachable!()
+            },
         }
     }
 }
@@ -183,7 +190,10 @@ impl<L: LayoutMut, B: BufferMut<u8> + Drop, M: Drop, A: Allocator + Copy, H: Mar
     {
         match &mut self.parts {
             WriterStorage::Several(parts) => parts.try_extend_from_slice_as(text.as_bytes(), pass),
-            WriterStorage::Sole(_) => unreachable!(),
+            WriterStorage::Sole(_) => unsafe {
+                assert_unchecked(false);
+                unreachable!()
+            },
         }
     }
 }

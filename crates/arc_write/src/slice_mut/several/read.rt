@@ -10,6 +10,7 @@ use arc_block::layout::LayoutMut;
 use arc_buffer::buffer::BufferMut;
 use arc_buffer::kinds::{Slice, Subsliceable, Text};
 use arc_owners::error::RangeError;
+use arc_owners::hint::assert_unchecked;
 use arc_owners::mark::Mark;
 use std::alloc::Allocator;
 use std::str;
@@ -29,7 +30,10 @@ impl<
     {
         match &self.parts {
             WriterStorage::Several(parts) => parts.len(),
-            WriterStorage::Sole(_) => unreachable!(),
+            WriterStorage::Sole(_) => unsafe {
+                assert_unchecked(false);
+                unreachable!()
+            },
         }
     }
 
@@ -48,7 +52,10 @@ impl<
     {
         match &self.parts {
             WriterStorage::Several(parts) => parts.as_slice(),
-            WriterStorage::Sole(_) => unreachable!(),
+            WriterStorage::Sole(_) => unsafe {
+                assert_unchecked(false);
+                unreachable!()
+            },
         }
     }
 
@@ -60,7 +67,10 @@ impl<
     {
         match &self.parts {
             WriterStorage::Several(parts) => parts.capacity(),
-            WriterStorage::Sole(_) => unreachable!(),
+            WriterStorage::Sole(_) => unsafe {
+                assert_unchecked(false);
+                unreachable!()
+            },
         }
     }
 

@@ -39,7 +39,7 @@ impl<
     ///
     /// # Allocates
     ///
-    /// Twice for a first block, and once where the block grows, as a sole writer's.
+    /// Once for a first block, and once where the block grows, as a sole writer's.
     ///
     /// # History
     ///

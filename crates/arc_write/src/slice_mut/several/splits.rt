@@ -1,6 +1,7 @@
 //! How the places of one of several writers are split, and joined again.
 ghost use Rattle.std.specs.Prelude.{◌≡◌, ◌≤◌, false, true, IfOk, IfErr, OnErr, OnOk};
-ghost use Rattle.arc_parts.specs.Shared.{CanSplit, IsOneBlock, LeavesAt, LeavesVector, RefusesSplitAt};
+ghost use Rattle.arc_parts.specs.Shared.{CanSplit, IsOneBlock, LeavesAt, LeavesVector};
+ghost use Rattle.arc_parts.specs.Shared.{RefusesSplitAt};
 ghost use Rattle.arc_parts.specs.Shared.{is_vector_at};
 ghost use Rattle.arc_parts.specs.Shared.{SplitsWriterOff, SplitsWriterTo, can_join, joined_row};
 ghost use Rattle.arc_parts.specs.Steps.{IsPassAt};
@@ -116,7 +117,7 @@ where
     ///
     /// # Allocates
     ///
-    /// Twice, or once for no places.
+    /// Once.
     ///
     /// # History
     ///
@@ -235,7 +236,8 @@ where
     /// That of `try_split_off_as`.
     pub fn try_split_to(&mut self, rt: &impl Wait, at: usize) -> Result<Self, OwnerError>
         requires { CanSplit S.boundary self.old.items (capacity_of self.old.role) at }
-        ensures made { IfOk result (λ front. WithNewPass {H = H} H.real self.old.place (λ first last.
+        ensures made { IfOk result (λ front. WithNewPass {H = H} H.real self.old.place
+            (λ first last.
             SplitsWriterTo H H.real false H.whole at self.old front self.new first last)) }
         ensures block { IfOk result (λ front. IsOneBlock front.place self.new.place) }
         ensures refused { IfErr result (λ e. (self.new ≡ self.old)

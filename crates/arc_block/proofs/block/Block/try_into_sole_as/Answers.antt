@@ -1,5 +1,5 @@
 -- The vector has the block's memory.
-use Rattle.std.proofs.Common.{◌≡◌, sym, ap, ◌∙◌, subst}
+use Rattle.std.proofs.Common.{sym, ap, ◌∙◌, subst}
 use Rattle.arc_owners.specs.memory.Boxes.{value_of}
 use Rattle.arc_owners.specs.memory.SoleBoxes.{sole_in}
 use Rattle.arc_block.specs.Block.{BlockView, IsLimited}

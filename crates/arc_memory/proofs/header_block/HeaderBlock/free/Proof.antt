@@ -31,7 +31,7 @@ use Rattle.core.proofs.alloc.Shapes.{after}
 use Rattle.core.proofs.atomic.Steps.{fm}
 use Rattle.core.specs.Allocator.{owned_block}
 use Rattle.std.proofs.raw_atomic.Walks.{proved_at, leaves}
-use Rattle.arc_memory.specs.Headers.{units_of}
+use Rattle.arc_memory.specs.Pieces.{units_of}
 use Rattle.arc_memory.specs.contracts.header_block.HeaderBlock as block
 use Rattle.arc_memory.proofs.HeaderBlocks.{block_val, block_told}
 use Rattle.arc_memory.specs.contracts.header_block.HeaderBlock.free as f

@@ -30,7 +30,7 @@ use Rattle.core.proofs.alloc.Shapes.{after, head, arm_body}
 use Rattle.core.proofs.atomic.Steps.{fm}
 use Rattle.core.proofs.option.Made.{Some-of, none_of}
 use Rattle.std.proofs.raw_atomic.Walks.{proved_at, leaves}
-use Rattle.arc_memory.specs.Headers.{IsWhole, units_of}
+use Rattle.arc_memory.specs.Pieces.{IsWhole, units_of}
 use Rattle.arc_memory.specs.contracts.header_block.HeaderBlock as block
 use Rattle.arc_memory.proofs.HeaderBlocks.{block_val, block_own, block_made}
 use Rattle.arc_memory.specs.contracts.header_block.HeaderBlock.new as f

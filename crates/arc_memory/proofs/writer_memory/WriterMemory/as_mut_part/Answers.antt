@@ -1,32 +1,33 @@
--- What is written stands in the same places of the same allocation: two proofs of what else is
--- known of them are one.
+-- What is written stands in the same places of the same memory: two proofs of what else is known of
+-- them are one.
 use Rattle.std.proofs.Common.{◌≡◌, ℕ, ◌+◌, length, refl, List}
 use Rattle.std.specs.Coded.{coded_ℕ}
 use base.Stored.{Coded-set}
 use denote.RawPtr.{coded_ptr}
 use Rattle.arc_memory.specs.LendsPlaces.{with_written_from, with_all_written}
+use Rattle.arc_memory.specs.Sources.{IsFrom, IsFrom-set}
 use Rattle.arc_memory.specs.declared.writer_memory.WriterMemory.{WriterMemory}
 use Rattle.arc_memory.proofs.writer_memory.WriterMemory.as_mut_part.Goals as goal
 
 module _ {T A : Type 0} (m : WriterMemory T A) (start : ℕ) (ws : List T) where
-  same_memory : (f : (m.before.base ≡ m.allocation.base) × (m.before.whole ≡ m.allocation.count)
+  same_memory : (f : (m.before.base ≡ m.places.under.base) × (m.before.whole ≡ m.places.under.whole)
       × (m.before.start ≡ 0) × (m.before.count ≡ m.places.under.start))
-      → (u : length m.before.items ≡ 0) → (o : (m.places.under.base ≡ m.allocation.base)
-      × (m.places.under.whole ≡ m.allocation.count)
-      × (m.places.under.start + m.places.under.count ≡ m.allocation.count))
-      → (k : m.allocation.len ≡ 0) → ◌≡◌ {A = WriterMemory T A} (record {
+      → (u : length m.before.items ≡ 0)
+      → (o : m.places.under.start + m.places.under.count ≡ m.places.under.whole)
+      → (k : IsFrom m.source m.places.under.base m.places.under.whole)
+      → ◌≡◌ {A = WriterMemory T A} (record {
         before = m.before;
         places = with_written_from start m.places ws;
-        allocation = m.allocation;
+        source = m.source;
         front = f;
         unused = u;
         own = o;
-        kept = k;
+        from = k;
       }) (with_all_written start m ws)
   same_memory f u o k i = record {
     before = m.before;
     places = with_written_from start m.places ws;
-    allocation = m.allocation;
+    source = m.source;
     front = (
       Coded-set coded_ptr _ _ f.0 m.front.0 i,
       Coded-set coded_ℕ _ _ f.1 m.front.1 i,
@@ -34,12 +35,8 @@ module _ {T A : Type 0} (m : WriterMemory T A) (start : ℕ) (ws : List T) where
       Coded-set coded_ℕ _ _ f.3 m.front.3 i,
     );
     unused = Coded-set coded_ℕ _ _ u m.unused i;
-    own = (
-      Coded-set coded_ptr _ _ o.0 m.own.0 i,
-      Coded-set coded_ℕ _ _ o.1 m.own.1 i,
-      Coded-set coded_ℕ _ _ o.2 m.own.2 i,
-    );
-    kept = Coded-set coded_ℕ _ _ k m.kept i;
+    own = Coded-set coded_ℕ _ _ o m.own i;
+    from = IsFrom-set m.source m.places.under.base m.places.under.whole k m.from i;
   }
 
 pub returns : goal.returns

@@ -4,7 +4,7 @@ use Rattle.std.proofs.Common.{Some, ◌<◌, length, refl, sym, ap, ◌∙◌, s
 use Rattle.std.specs.Vec.{vec_capacity}
 use Rattle.arc_slots.specs.Slots.{held, parts_in, stand_of, window_in}
 use Rattle.arc_slots.specs.Stands.{HasPassFor}
-use Rattle.arc_slots.proofs.Filled.{slot-frozen, slot-numbered, room-to-read}
+use Rattle.arc_slots.proofs.Freezing.{slot-frozen, slot-numbered, room-to-read}
 use Rattle.arc_slots.proofs.Slots.{still-number, window-pass}
 use Rattle.arc_slots.proofs.Taken.{back-same}
 use Rattle.arc_slots.proofs.slot.Slot.try_freeze.Goals as goal

@@ -1,5 +1,5 @@
 -- What is written stands in the same places of the buffer.
-use Rattle.std.proofs.Common.{List, refl, sym, ap, ◌∙◌}
+use Rattle.std.proofs.Common.{refl, ap, ◌∙◌}
 use Rattle.arc_owners.specs.memory.SoleBoxes.{sole_in, sole_value}
 use Rattle.arc_buffer.specs.Slice.{sub}
 use Rattle.arc_block.specs.Contents.{content_items}

@@ -1,5 +1,5 @@
 -- The item stands behind the others.
-use Rattle.std.proofs.Common.{◌+◌, ap, sym, ◌∙◌}
+use Rattle.std.proofs.Common.{ap, sym, ◌∙◌}
 use Rattle.arc_owners.specs.memory.SoleBoxes.{sole_in, sole_value}
 use Rattle.arc_block.specs.Contents.{held_in}
 use Rattle.arc_sort_writers.specs.SortParts.{block_part}

@@ -1,5 +1,4 @@
 -- What is left is the first items.
-use Rattle.std.proofs.Common.{refl}
 use Rattle.arc_owners.specs.memory.SoleBoxes.{sole_in, sole_value}
 use Rattle.arc_sort_writers.proofs.SoleBuffers.{cut_held}
 use Rattle.arc_sort_writers.proofs.buffer.SoleBuffer.truncate.Goals as goal

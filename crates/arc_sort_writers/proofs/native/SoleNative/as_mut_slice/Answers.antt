@@ -1,14 +1,14 @@
 -- What is written stands in the same places.
 use Rattle.std.proofs.Common.{refl, ◌∙◌}
 use Rattle.std.specs.Option.{option_map}
-use Rattle.arc_owners.specs.memory.SoleBoxes.{sole_in}
+use Rattle.arc_owners.specs.memory.SoleCounts.{count_owner}
 use Rattle.arc_sort_writers.proofs.SoleNatives.{slice_native, lent_native}
 use Rattle.arc_sort_writers.proofs.native.SoleNative.as_mut_slice.Goals as goal
 
 pub returns : goal.returns
 returns g c =
     let drops = g.S.Slice.DROPS in let whole = g.H.Mark.whole in
-    let owner = option_map sole_in c.self.inside.count in let m = c.self.inside.memory in
+    let owner = option_map count_owner c.self.inside.count in let m = c.self.inside.memory in
     let start = c.self.inside.start in let behind = c.self.inside.behind in
     let beyond = c.self.inside.beyond in (
       (

@@ -1,14 +1,21 @@
 -- The items stand behind the others.
-use Rattle.std.proofs.Common.{ap}
 use Rattle.std.specs.Option.{option_map}
-use Rattle.arc_owners.specs.memory.SoleBoxes.{sole_in}
-use Rattle.arc_sort_writers.proofs.SoleNatives.{push_native}
+use Rattle.arc_owners.specs.memory.SoleCounts.{count_owner}
+use Rattle.arc_sort_writers.proofs.SoleNatives.{push_native, within_more}
 use Rattle.arc_sort_writers.proofs.native.SoleNative.extend_reserved.Goals as goal
 
 pub returns : goal.returns
 returns g c =
     let m = c.self.inside.memory in let w = c.extend_from_slice.new.self in
-    push_native g.S.Slice.DROPS g.H.Mark.whole (option_map sole_in c.self.inside.count) m w
+    push_native g.S.Slice.DROPS g.H.Mark.whole (option_map count_owner c.self.inside.count) m w
     c.self.inside.start c.self.inside.behind c.self.inside.beyond c.args.items.now c.args.self.now c.self.view_is
     c.self.invariant.0 c.extend_from_slice.ensures.items
-    (ap (λ e. e.count) c.extend_from_slice.ensures.memory.allocation) c.extend_from_slice.ensures.memory.start c.requires
+    c.extend_from_slice.ensures.memory.whole c.extend_from_slice.ensures.memory.start c.requires
+
+pub invariant_of-self : goal.invariant_of-self
+invariant_of-self g c =
+    let m = c.self.inside.memory in let w = c.extend_from_slice.new.self in
+    within_more g.S.Slice.DROPS g.H.Mark.whole (option_map count_owner c.self.inside.count) m w
+    c.self.inside.start c.self.inside.behind c.self.inside.beyond c.args.items.now c.args.self.now c.self.view_is
+    c.self.invariant.0 c.self.invariant.1 c.extend_from_slice.ensures.items
+    c.extend_from_slice.ensures.memory c.requires

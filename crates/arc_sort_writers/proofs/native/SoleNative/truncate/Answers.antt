@@ -1,14 +1,14 @@
 -- What is left is the first items.
 use Rattle.std.proofs.Common.{◌≡◌, ◌+◌, ◌-◌, ◌<◌, length, take, sym, ap, ◌∙◌, arith}
 use Rattle.std.specs.Option.{option_map}
-use Rattle.arc_owners.specs.memory.SoleBoxes.{sole_in}
+use Rattle.arc_owners.specs.memory.SoleCounts.{count_owner}
 use Rattle.arc_sort_writers.proofs.SoleNatives.{long_native, cut_native, cut_native_owned}
 use Rattle.arc_sort_writers.proofs.SoleNatives.{none_left}
 use Rattle.arc_sort_writers.proofs.native.SoleNative.truncate.Goals as goal
 
 pub returns-then-DROPS : goal.returns-then-DROPS
 returns-then-DROPS g c =
-    let in_self = c.self.inside in let owner = option_map sole_in in_self.count in
+    let in_self = c.self.inside in let owner = option_map count_owner in_self.count in
     let long = long_native g.S.Slice.DROPS g.H.Mark.whole owner in_self.memory in_self.start in_self.behind
     in_self.beyond c.args.self.now c.self.view_is c.self.invariant.0 in
     let there = c.in-Some.ensures in
@@ -33,7 +33,7 @@ returns-then-DROPS g c =
 
 pub returns-else-DROPS : goal.returns-else-DROPS
 returns-else-DROPS g c =
-    let in_self = c.self.inside in let owner = option_map sole_in in_self.count in
+    let in_self = c.self.inside in let owner = option_map count_owner in_self.count in
     let long = long_native g.S.Slice.DROPS g.H.Mark.whole owner in_self.memory in_self.start in_self.behind
     in_self.beyond c.args.self.now c.self.view_is c.self.invariant.0 in
     let there = c.in-Some.ensures in
@@ -49,4 +49,4 @@ returns-else-DROPS g c =
     in_self.start in_self.behind in_self.beyond c.args.len c.args.self.now c.self.view_is
     c.self.invariant.0 short (sym c.DROPS.ensures ∙ c.if-DROPS.false)
     (c.truncate.ensures.items ∙ ap (λ k. take k in_self.memory.places.vec.items) at)
-    (ap (λ e. e.count) c.truncate.ensures.memory.allocation) c.truncate.ensures.memory.start
+    c.truncate.ensures.memory.whole c.truncate.ensures.memory.start

@@ -1,4 +1,5 @@
-use Rattle.std.proofs.Common.{rules}
+use Rattle.std.proofs.Common.{rules, arith}
+use Rattle.std.proofs.lemmas.Grind.{common_steps}
 use Rattle.arc_write.proofs.ReadParts.{read_bytes}
 use Rattle.arc_write.proofs.adapters.io.ArcSliceMutPlainU8Read.read.Goals as goal
 
@@ -6,3 +7,15 @@ pub returns-clause-bytes : goal.returns-clause-bytes
 returns-clause-bytes g c = read_bytes c.args.self.now.items c.args.buffer.now
     c.copy_from_slice.new.self c.advance_of_either.new.self.items c.min-count.result
     (search rules) (search rules) (search rules)
+
+pub slice_bounds-copy_from_slice-end-2 : goal.slice_bounds-copy_from_slice-end-2
+slice_bounds-copy_from_slice-end-2 g c = grind (arith, common_steps) steps 20000000
+
+pub slice_bounds-copy_from_slice-end-3 : goal.slice_bounds-copy_from_slice-end-3
+slice_bounds-copy_from_slice-end-3 g c = grind (arith, common_steps) steps 20000000
+
+pub copy_from_slice-requires : goal.copy_from_slice-requires
+copy_from_slice-requires g c = grind (arith, common_steps) steps 20000000
+
+pub returns-clause-bound : goal.returns-clause-bound
+returns-clause-bound g c = grind (arith, common_steps) steps 20000000

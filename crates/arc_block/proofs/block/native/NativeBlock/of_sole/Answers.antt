@@ -1,0 +1,24 @@
+-- What the block keeps lies in front of the places that it is kept for.
+use Rattle.std.proofs.Common.{sym, ap, ◌∙◌, subst}
+use Rattle.arc_owners.specs.memory.Boxes.{value_of}
+use Rattle.arc_memory.specs.KeptPlaces.{kept_in}
+use Rattle.arc_block.specs.Block.{IsLimited}
+use Rattle.arc_block.proofs.Natives.{kept_alike}
+use Rattle.arc_block.proofs.block.native.NativeBlock.of_sole.Goals as goal
+
+pub invariant_of-result : goal.invariant_of-result
+invariant_of-result g c =
+    let owner = c.lend.ensures.same.0 ∙ c.lay-sole.ensures.same.0 in
+    let is = c.lend.ensures.same.1 ∙ c.lay-sole.ensures.same.1 in
+    let memory = c.lend.ensures.range.0 ∙ c.freeze-range.ensures.0 ∙ c.split-full.ensures.memory.0 in
+    let piece = ap (λ k. (kept_in k).piece) is ∙ c.kept_of-kept.ensures.piece in (
+      subst (IsLimited g.row.MAX g.H.Mark.whole) (sym owner) c.requires.limited,
+      c.base-at.ensures ∙ sym (ap (λ m. m.base) memory ∙ c.lend-part.ensures.whole.0),
+      kept_alike g.S.Slice.DROPS c.freeze-range.result c.lend.result.range c.kept_of-kept.result
+          (value_of c.lend.result.owner) is c.lend.ensures.range c.kept_of-kept.ensures.kept,
+      (
+        c.lend.ensures.place ∙ c.lay-sole.ensures.place ∙ c.lend-part.ensures.room.0
+            ∙ ap (λ p. p.right.place) (sym piece),
+        c.lend-part.ensures.room.1 ∙ ap (λ p. p.right.head) (sym piece),
+      ),
+    )
