@@ -82,6 +82,10 @@ module _ {T M : Type 0} where
     block = block;
   }
 
+  -- a window that is read, on the block with this number, as it is seen of a slot
+  abbrev pub read_slot : Window T M → Option ℕ → SlotView T M
+  read_slot window block = record { window = window; role = reader; block = block }
+
   -- a slot as a row
   abbrev pub row_of : SlotView T M → Row T M
   row_of s = record {

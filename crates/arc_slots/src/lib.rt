@@ -11,6 +11,7 @@ pub mod list;
 pub mod maker;
 pub mod part;
 pub mod passes;
+pub mod read;
 pub mod several;
 pub mod slot;
 pub mod take;

@@ -118,7 +118,7 @@ fn write_as<
 }
 
 /// The block on which a part with so many items stands, if it stands on one.
-fn part_block<L: Layout>(block: Option<usize>, len: usize) -> Option<usize>
+pub(crate) fn part_block<L: Layout>(block: Option<usize>, len: usize) -> Option<usize>
     ensures { result ≡ (if L.STATIC && (len == 0) then None else block) }
 {
     if stands_on_nothing::<L>(len) {

@@ -8,8 +8,8 @@ use Rattle.arc_slots.specs.Parts.{is_itself, part_command}
 use Rattle.arc_slots.specs.Slots.{row_of}
 use Rattle.arc_commands.specs.declared.command.Reply.TheVariants as reply
 use Rattle.arc_slots.proofs.HandedOut.{beside, itself, part-refused}
-use Rattle.arc_slots.proofs.slot.Slot.hand_out.Given.{Over}
-use Rattle.arc_slots.proofs.slot.Slot.hand_out.Goals as goal
+use Rattle.arc_slots.proofs.slot.Slot.hand_out_any.Given.{Over}
+use Rattle.arc_slots.proofs.slot.Slot.hand_out_any.Goals as goal
 
 abbrev setting : (g : Over) → Setting g.row.S-Item.Denot
 setting g =
