@@ -69,7 +69,7 @@ where
     }
 
     /// The same of any window, whatever it is handed out of.
-    #[inline(never)]
+    #[inline(always)]
     fn hand_out_any(
         &mut self,
         rt: &impl Wait,

@@ -130,6 +130,7 @@ where
     /// # History
     ///
     /// What `Adds` says of the command and its reply.
+    #[inline(never)]
     pub fn step(&mut self, rt: &impl Wait, command: TableCmd<S, B, M, A>) -> TableReply<S, B, M, A>
         requires item { FitsInMemory S.Item.row }
         ensures { CarriesOut (setting_of (layout_facts L.Layout) L.Writable.ANY L.clone_wants
@@ -193,10 +194,47 @@ where
         }
     }
 
+    /// The reply to one command. For those that leave every window where it is the call below is
+    /// compiled by itself, so that nothing is cleared for a window that may be made.
+    #[inline(always)]
+    fn answer(&mut self, rt: &impl Wait, command: TableCmd<S, B, M, A>) -> TableReply<S, B, M, A>
+        requires item { FitsInMemory S.Item.row }
+        ensures rows { Step (setting_of (layout_facts L.Layout) L.Writable.ANY L.clone_wants S.DROPS
+            S.boundary
+            (type_size S.Item.row) S.Zero.zero S.Calls.calls) self.old.table
+            (map_command S.items_in S.static_in B.list command) (seen_reply S.items_in
+            S.items_in_box B.list result) self.new.table }
+        ensures passes { Adds (setting_of (layout_facts L.Layout) L.Writable.ANY L.clone_wants
+            S.DROPS S.boundary
+            (type_size S.Item.row) S.Zero.zero S.Calls.calls) self.old.table self.old.standing
+            (map_command S.items_in S.static_in B.list command)
+            (seen_reply S.items_in S.items_in_box B.list result) self.new.standing }
+    {
+        match command {
+            Cmd::Len { window } => self.on_window(rt, window, Cmd::Len { window }),
+            Cmd::Room { window } => self.on_window(rt, window, Cmd::Room { window }),
+            Cmd::Uniq { window } => self.on_window(rt, window, Cmd::Uniq { window }),
+            Cmd::Push { window, item } => self.on_window(rt, window, Cmd::Push { window, item }),
+            Cmd::Ext { window, items } => self.on_window(rt, window, Cmd::Ext { window, items }),
+            Cmd::Res { window, additional } => {
+                self.on_window(rt, window, Cmd::Res { window, additional })
+            }
+            Cmd::Rec { window, additional } => {
+                self.on_window(rt, window, Cmd::Rec { window, additional })
+            }
+            Cmd::Trunc { window, len } => self.on_window(rt, window, Cmd::Trunc { window, len }),
+            command => self.answer_any(rt, command),
+        }
+    }
+
     /// The reply to one command: on the window under its number; or the window is made of what it
     /// brings.
-    #[inline(never)]
-    fn answer(&mut self, rt: &impl Wait, command: TableCmd<S, B, M, A>) -> TableReply<S, B, M, A>
+    #[inline(always)]
+    fn answer_any(
+        &mut self,
+        rt: &impl Wait,
+        command: TableCmd<S, B, M, A>,
+    ) -> TableReply<S, B, M, A>
         requires item { FitsInMemory S.Item.row }
         ensures rows { Step (setting_of (layout_facts L.Layout) L.Writable.ANY L.clone_wants S.DROPS
             S.boundary

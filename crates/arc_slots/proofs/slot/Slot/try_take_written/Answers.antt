@@ -6,7 +6,7 @@ use Rattle.arc_slots.specs.Stands.{is_numbered}
 use Rattle.arc_slots.specs.Taking.{can_have, CanHave}
 use Rattle.arc_slots.proofs.Have.{have-is, have-numbered, have-says}
 use Rattle.arc_slots.proofs.Filled.{writes-fits, writes-view}
-use Rattle.arc_slots.proofs.Takes.{by-writer, fit-writer, parts-number, sole-back}
+use Rattle.arc_slots.proofs.Takes.{by-writer, fit-writer, parts-number, parts-pass, sole-back}
 use Rattle.arc_slots.proofs.Takes.{sole-leaves, sole-unwanted, sole-wanted}
 use Rattle.arc_slots.proofs.slot.Slot.try_take_written.Given.{Over}
 use Rattle.arc_slots.proofs.slot.Slot.try_take_written.Goals.{After-into_parts}
@@ -32,6 +32,14 @@ fits g c =
     c.into_parts.ensures.parts
     (writes-fits g.S.Small.SmallOf.seen c.self.inside.window c.in-Write.window c.self.inside.block c.in-Write.is
     c.self.invariant.0)
+
+pub try_sole_into_reply-taken-requires-clause-pass :
+    goal.try_sole_into_reply-taken-requires-clause-pass
+try_sole_into_reply-taken-requires-clause-pass g c =
+    let a = (goal.at.try_sole_into_reply-taken-requires-clause-pass g c).After-into_parts in
+    parts-pass c.self.inside.block c.args.self c.in-Write.window.role c.into_parts.result (seen g a) (fits g a)
+    c.args.passes.now.of_blocks.items c.lend-pass.new.self.of_blocks.items c.lend-pass.result
+    c.requires.pass c.lend-pass.ensures.taken
 
 pub give_back-requires : goal.give_back-requires
 give_back-requires g c =

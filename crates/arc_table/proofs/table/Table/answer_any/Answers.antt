@@ -14,9 +14,9 @@ use Rattle.arc_slots.proofs.Index.{many-windows, same-indexed, same-parts}
 use Rattle.arc_slots.specs.Index.{windows_of}
 use Rattle.arc_slots.specs.Slots.{with_slot}
 use Rattle.arc_table.proofs.Stepped.{made-window}
-use Rattle.arc_table.proofs.table.Table.answer.Given.{Over}
-use Rattle.arc_table.proofs.table.Table.answer.Goals.{After-push_made}
-use Rattle.arc_table.proofs.table.Table.answer.Goals as goal
+use Rattle.arc_table.proofs.table.Table.answer_any.Given.{Over}
+use Rattle.arc_table.proofs.table.Table.answer_any.Goals.{After-push_made}
+use Rattle.arc_table.proofs.table.Table.answer_any.Goals as goal
 
 abbrev setting : (g : Over) → Setting g.row.S-Item.Denot
 setting g =
