@@ -130,7 +130,6 @@ where
     /// # History
     ///
     /// What `Adds` says of the command and its reply.
-    #[inline(never)]
     pub fn step(&mut self, rt: &impl Wait, command: TableCmd<S, B, M, A>) -> TableReply<S, B, M, A>
         requires item { FitsInMemory S.Item.row }
         ensures { CarriesOut (setting_of (layout_facts L.Layout) L.Writable.ANY L.clone_wants
@@ -196,7 +195,7 @@ where
 
     /// The reply to one command. For those that leave every window where it is the call below is
     /// compiled by itself, so that nothing is cleared for a window that may be made.
-    #[inline(always)]
+    #[inline(never)]
     fn answer(&mut self, rt: &impl Wait, command: TableCmd<S, B, M, A>) -> TableReply<S, B, M, A>
         requires item { FitsInMemory S.Item.row }
         ensures rows { Step (setting_of (layout_facts L.Layout) L.Writable.ANY L.clone_wants S.DROPS
