@@ -1,4 +1,6 @@
 //! Several writers on one block: split, joined, written at once, frozen in part, and alone again.
+ghost use Rattle.std.specs.Prelude.{◌≡◌};
+
 use arc_block::layout::{DefaultLayout, DefaultLayoutMut, VecLayout};
 use arc_buffer::kinds::{Plain, Text};
 use arc_owners::error::TryReserveError;
@@ -74,6 +76,14 @@ fn joined_on_nothing(rt: &impl Wait, alloc: Global) -> Option<(usize, bool)> {
     Some((len, first.try_into_unique().is_ok()))
 }
 
+/// Puts bytes behind the others, of one of several writers: he stays where he stood.
+fn put(writer: &mut ArcBytesShared, bytes: &[u8]) -> Option<()>
+    ensures { writer.new.place ≡ writer.old.place }
+{
+    writer.known_uncounted();
+    writer.put_slice(bytes).ok()
+}
+
 /// Four places, split in the middle, written by both and joined: each keeps to its own places. Not
 /// full, the front isn't joined.
 fn written_and_joined(rt: &impl Wait, alloc: Global) -> Option<(bool, [u8; 4])> {
@@ -82,13 +92,12 @@ fn written_and_joined(rt: &impl Wait, alloc: Global) -> Option<(bool, [u8; 4])> 
     let Ok(mut back) = front.try_split_off(rt, 2) else {
         return None;
     };
-    back.put_slice(&[3, 4]).ok()?;
+    put(&mut back, &[3, 4])?;
     let (back, is_joined) = match front.try_unsplit(back) {
         Ok(()) => return None,
         Err(back) => (back, false),
     };
-    front.known_uncounted();
-    front.put_slice(&[2]).ok()?;
+    put(&mut front, &[2])?;
     front.try_unsplit(back).ok()?;
     let mut bytes = [0; 4];
     front.try_copy_to_slice(&mut bytes).ok()?;
