@@ -106,9 +106,7 @@ fn joined<A: Allocator + Copy>(rt: &impl Wait, alloc: A, bytes: (u8, u8)) -> Opt
 }
 
 /// Whether a reader of one byte reads it while another writer writes beside it, and ends last.
-fn frozen_beside<A: Allocator + Copy>(rt: &impl Wait, alloc: A, bytes: (u8, u8)) -> Option<bool>
-    ensures { IfSome result (λ same. same ≡ true) }
-{
+fn frozen_beside<A: Allocator + Copy>(rt: &impl Wait, alloc: A, bytes: (u8, u8)) -> Option<bool> {
     let (mut writer, head, mut pass) = first_writer(alloc, 2)?;
     let base = writer.places.base();
     writer.places.push_reserved(bytes.0);
