@@ -9,7 +9,7 @@ use Rattle.std.proofs.lemmas.List.Sorted.{IsPermutation-append_left, IsPermutati
 use Rattle.arc_owners.specs.declared.history.entry.Entry.{Entry}
 use Rattle.arc_owners.specs.declared.count.tokens.Pass.{Pass}
 use Rattle.arc_owners.specs.count.Invariant.{Line, BlockId, entries_of}
-use Rattle.arc_owners.specs.history.Histories.{is_in, live_owners, owners_ever, owners_ended}
+use Rattle.arc_owners.specs.history.Histories.{Beginning, is_in, live_owners, owners_ever, owners_ended}
 use Rattle.arc_owners.specs.count.Calls.{Owner, Appends, IsSamePass, IsFirst, IsPassFor, IsFreshPass, Asks, FindsFull, MakesAnother, Leaves, seen}
 use Rattle.arc_owners.proofs.Numbers.{times}
 use Rattle.arc_owners.proofs.Steps.{one_is}
@@ -92,7 +92,7 @@ module _ {H : Type 0} where
     live = λ n p here. permuted-then (k.live n p here) (sym (filter_map-set (number_on n) stands i None None there refl));
   }
 
-  pub kept-new : {g : ℕ} {stands : List Stand} {passes : List (Pass H)} {o : Owner} (p : Pass H) → IsKept g stands passes → IsFirst g true o → IsFreshPass o p → IsKept g (stands ++ Some (length passes, o) ∷ []) (passes ++ p ∷ [])
+  pub kept-new : {g : ℕ} {stands : List Stand} {passes : List (Pass H)} {o : Owner} {b : Beginning} (p : Pass H) → IsKept g stands passes → IsFirst g true b o → IsFreshPass o p → IsKept g (stands ++ Some (length passes, o) ∷ []) (passes ++ p ∷ [])
   kept-new {g = g} {stands = stands} {passes = passes} {o = o} p k first fresh =
       let n = length passes in
       let none : owners_on n stands ≡ [] = no-owners n stands (λ i m q here e. omega (arith, e, (k.known i m q here).0)) in
@@ -132,7 +132,7 @@ module _ {H : Type 0} where
   }
 
   -- a window that stood on nothing is the first owner of a new block
-  pub kept-begun : {g : ℕ} {stands : List Stand} {passes : List (Pass H)} {o : Owner} (i : ℕ) (p : Pass H) → IsKept g stands passes → slice_get stands i ≡ Some None → IsFirst g true o → IsFreshPass o p → IsKept g (slice_set stands i (Some (length passes, o))) (passes ++ p ∷ [])
+  pub kept-begun : {g : ℕ} {stands : List Stand} {passes : List (Pass H)} {o : Owner} {b : Beginning} (i : ℕ) (p : Pass H) → IsKept g stands passes → slice_get stands i ≡ Some None → IsFirst g true b o → IsFreshPass o p → IsKept g (slice_set stands i (Some (length passes, o))) (passes ++ p ∷ [])
   kept-begun {stands = stands} {passes = passes} {o = o} i p k there first fresh =
       let st : Stand = Some (length passes, o) in
       kept-front (slice_set stands i st) (kept-turned stands i None st (kept-new p k first fresh) there)

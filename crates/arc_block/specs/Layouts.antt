@@ -1,7 +1,10 @@
 -- What layouts differ in.
 use Rattle.std.specs.Prelude.{◌≡◌, ◌==◌, ◌&&◌, ℕ, Bool, true, false, not, refl, Option, Some, None}
+use Rattle.std.specs.Prelude.{List, length}
 use Rattle.std.proofs.lemmas.Bool.{false≢true}
+use Rattle.arc_owners.specs.history.Histories.{Beginning, Counted}
 use Rattle.arc_block.specs.Block.{Sort, native, vector, buffer, raw, IsWritable}
+use Rattle.arc_block.specs.Block.{BlockInfo, memory_info}
 
 -- what windows under a layout may stand on
 pub record LayoutFacts : Type 0 where
@@ -24,6 +27,18 @@ always length capacity = true
 
 abbrev pub where_full : ℕ → ℕ → Bool
 where_full length capacity = length == capacity
+
+-- how the word of a block begins of which this is known, and which holds so many items, under a
+-- layout with these lone vectors: with a count, whatever the block is
+abbrev pub begins_as : {M : Type 0} → (lone : ℕ → ℕ → Bool) → BlockInfo M → (length : ℕ)
+    → Beginning
+begins_as lone info length = Counted
+
+-- that of a vector of so many places, with these items
+abbrev pub vector_begins : {T : Type 0} → (lone : ℕ → ℕ → Bool) → (drops : Bool) → (places : ℕ)
+    → List T → Beginning
+vector_begins lone drops places items =
+    begins_as {M = Unit {0}} lone (memory_info vector drops places (length items)) (length items)
 
 -- The sorts of blocks on which a clone may want memory: a vector that stood alone gets a count, and
 -- an `Arc` that is a block by itself may refuse to be cloned.

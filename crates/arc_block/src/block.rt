@@ -4,7 +4,9 @@ ghost use Rattle.std.specs.Prelude.{◌≡◌, ◌≤◌, ◌↔◌, length, tru
 ghost use Rattle.std.specs.Prelude.{IfOk, IfErr, OnErr, IfSome, IfNone};
 ghost use Rattle.std.specs.Vec.{vec_capacity};
 ghost use Rattle.arc_owners.specs.count.Calls.{IsFirst, IsPassFor, IsFreshPass, IsNewPass, Learns};
-ghost use Rattle.arc_owners.specs.count.Calls.{Asks, FindsFull, MakesAnother, Leaves, TakesBlock};
+ghost use Rattle.arc_owners.specs.count.Calls.{Asks, RefusesOwner, MakesAnother, Leaves};
+ghost use Rattle.arc_owners.specs.count.Calls.{TakesBlock};
+ghost use Rattle.arc_owners.specs.history.Histories.{Counted};
 ghost use Rattle.arc_owners.specs.count.Calls.{IsPassOfNone, EndsByItself, EndsShown};
 ghost use Rattle.arc_buffer.specs.Slice.{sub};
 ghost use Rattle.arc_block.specs.Block.{native, vector, buffer, raw, IsLimited};
@@ -29,7 +31,7 @@ use crate::layout::{Layout, Move};
 use arc_buffer::buffer::Buffer;
 use arc_buffer::kinds::Slice;
 use arc_memory::{Base, Native};
-use arc_owners::error::{AllocError, CountFull};
+use arc_owners::error::{AllocError, OwnerError};
 use arc_owners::leave::RaiseLeave;
 use arc_owners::mark::{Mark, Open, Stepping};
 use arc_owners::owners::{CountedBox, Pass, Shown};
@@ -178,7 +180,7 @@ impl<
     ) -> Result<(Self, Pass<H>), Vec<S::Item, A>>
         requires { 2 ≤ MAX }
         ensures made { IfOk result (λ r. (r.0 ≡ held_as vector S.DROPS r.0.owner items)
-            × IsFirst MAX H.whole r.0.owner) }
+            × IsFirst MAX H.whole Counted r.0.owner) }
         ensures pass { IfOk result (λ r. IsFreshPass r.0.owner r.1) }
         ensures refused { IfErr result (λ back. back ≡ items) }
     {
@@ -200,7 +202,7 @@ impl<
     ) -> Result<(Self, Pass<H>), (B, Option<M>)>
         requires { 2 ≤ MAX }
         ensures made { IfOk result (λ r. (r.0 ≡ buffer_block (B.list buffer) (B.places buffer)
-            metadata r.0.owner) × IsFirst MAX H.whole r.0.owner) }
+            metadata r.0.owner) × IsFirst MAX H.whole Counted r.0.owner) }
         ensures pass { IfOk result (λ r. IsFreshPass r.0.owner r.1) }
         ensures refused { IfErr result (λ back. (back.0 ≡ buffer) × (back.1 ≡ metadata)) }
     {
@@ -225,7 +227,7 @@ impl<
     pub fn try_from_raw(alloc: A, shared: Arc<B, A>) -> Result<(Self, Pass<H>), Arc<B, A>>
         requires { 2 ≤ MAX }
         ensures made { IfOk result (λ r. (r.0 ≡ raw_block (B.list (arc_value shared)) r.0.owner)
-            × IsFirst MAX H.whole r.0.owner) }
+            × IsFirst MAX H.whole Counted r.0.owner) }
         ensures pass { IfOk result (λ r. IsFreshPass r.0.owner r.1) }
         ensures refused { IfErr result (λ back. back ≡ shared) }
     {
@@ -242,7 +244,7 @@ impl<
     ///
     /// # Errors
     ///
-    /// `CountFull` exactly where `MAX` owners live.
+    /// `CountFull` exactly where `MAX` owners live, and no other.
     ///
     /// # History
     ///
@@ -252,21 +254,21 @@ impl<
         &self,
         leave: RaiseLeave,
         pass: &mut Pass<H>,
-    ) -> Option<Result<Self, CountFull>>
+    ) -> Option<Result<Self, OwnerError>>
         requires pass { IsPassFor self.now.owner pass.old }
         ensures made { IfSome result (λ r. IfOk r (λ other.
             MakesAnother self.now.owner pass.old pass.new other.owner)) }
         ensures alike { IfSome result (λ r. IfOk r (λ other. (other.items ≡ self.now.items)
             × (other.facts ≡ self.now.facts))) }
-        ensures full { IfSome result (λ r.
-            IfErr r (λ _. FindsFull self.now.owner pass.old pass.new)) }
+        ensures refused { IfSome result (λ r.
+            IfErr r (λ e. RefusesOwner false self.now.owner pass.old pass.new e)) }
         ensures again { IfNone result (pass.new ≡ pass.old) }
     {
         let base = Base { at: self.base.at };
         let shown = self.shown.again();
         match self.piece.try_clone_once_as(leave, pass)? {
             Ok(piece) => Some(Ok(Block { piece, base, shown })),
-            Err(e) => Some(Err(e)),
+            Err(e) => Some(Err(e.into())),
         }
     }
 }

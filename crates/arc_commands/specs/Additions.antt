@@ -3,6 +3,7 @@ use Rattle.std.specs.Prelude.{◌≡◌, ℕ, ◌==◌, Bool, true, false, if◌
 use Rattle.std.specs.Prelude.{length, Option, Some, None, slice_get, slice_set, MatchOption}
 use Rattle.std.specs.Prelude.{◌&&◌, is_some}
 use Rattle.std.specs.Option.{option_flatten}
+use Rattle.arc_owners.specs.history.Histories.{Counted}
 use Rattle.arc_owners.specs.declared.count.tokens.Pass.{Pass}
 use Rattle.arc_owners.specs.declared.history.entry.Entry.{Entry}
 use Rattle.arc_owners.specs.declared.history.entry.Entry.TheVariants as entry
@@ -101,7 +102,7 @@ module _ {H : Type 0} where
   abbrev pub Founds : Stand → List (Pass H) → List (Pass H) → Type 0
   Founds None old new = new ≡ old
   Founds (Some (number, owner)) old new =
-      (number ≡ length old) × IsFirst MAX_OWNERS true owner
+      (number ≡ length old) × IsFirst MAX_OWNERS true Counted owner
       × (p : Pass H) × IsFreshPass owner p × (new ≡ old ++ p ∷ [])
 
   -- The window stands where it stood. Where that was on nothing it may be the first owner of a

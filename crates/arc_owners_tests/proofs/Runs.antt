@@ -6,7 +6,7 @@ use Rattle.std.proofs.lemmas.List.Elements.{Contains-append_right}
 use Rattle.arc_owners.specs.declared.history.entry.Entry.{Entry}
 use Rattle.arc_owners.specs.declared.history.entry.Entry.TheVariants.{Up, Full, Down}
 use Rattle.arc_owners.specs.declared.count.tokens.Pass.{Pass}
-use Rattle.arc_owners.specs.history.Histories.{owners_ever, live_owners, LivesAlone}
+use Rattle.arc_owners.specs.history.Histories.{Counted, owners_ever, live_owners, LivesAlone}
 use Rattle.arc_owners.specs.count.Invariant.{BlockId, Line, entries_of, made_by, next_owner}
 use Rattle.arc_owners.specs.count.Calls.{Owner, IsFirst, IsFreshPass, Appends, MakesAnother, FindsFull, Leaves, HasCountIn, mine, seen}
 use Rattle.arc_owners.proofs.Wholes.{counted_first, seen-after, seen-more, mine-more, before-is, counted-still, may-stand, counted-makes, counted-full, full-exact, last-exact, made-number}
@@ -17,7 +17,7 @@ pub record Ran {H : Type 0} (t : BlockId) (p : Pass H) (h : List Entry) : Type 0
   pub made : mine p ≡ h
   pub counted : HasCountIn t (seen p)
 
-pub ran-none : {H : Type 0} {most : ℕ} {whole : Bool} {o : Owner} {p : Pass H} → IsFirst most whole o → IsFreshPass o p → Ran o.block p []
+pub ran-none : {H : Type 0} {most : ℕ} {whole : Bool} {o : Owner} {p : Pass H} → IsFirst most whole Counted o → IsFreshPass o p → Ran o.block p []
 ran-none {o = o} {p = p} first fresh = record {
   entries = ap entries_of fresh.1;
   made = ap (made_by p.trace.number) fresh.1;

@@ -2,5 +2,6 @@ pub mod NativeWindows
 pub mod Windows
 pub mod Raws
 pub mod Held
+pub mod Attempts
 pub mod Moves
 pub mod More

@@ -1,6 +1,7 @@
 -- What a window's parts are seen as over a native block, whose places they count by their numbers.
 use Rattle.std.proofs.Common.{◌≡◌, ℕ, ◌+◌, ◌-◌, ◌≤◌, ◌==◌, ◌&&◌, Bool, true, false, if◌then◌else◌, List, length}
 use Rattle.std.proofs.Common.{Option, Some, refl, sym, ap, ◌∙◌, subst, arith}
+use Rattle.arc_owners.specs.history.Histories.{Counted}
 use Rattle.arc_owners.specs.declared.count.tokens.Pass.{Pass}
 use Rattle.arc_owners.specs.count.Calls.{Owner, IsFirst, MakesAnother, Asks}
 use Rattle.arc_memory.specs.declared.writer_memory.WriterMemory.{WriterMemory}
@@ -153,7 +154,7 @@ module _ {T M : Type 0} (inner : StandsBy T M) (from to : ℕ) (p : PartsView T 
 module _ {T M : Type 0} (has_static drops one_pass : Bool) (items : List T) where
   -- all of a new block
   pub made_on_native : (b : NativeView T) → b ≡ made_native drops b.owner items
-      → IsFirst MAX_OWNERS one_pass b.owner → (has_static && (length items == 0)) ≡ false
+      → IsFirst MAX_OWNERS one_pass Counted b.owner → (has_static && (length items == 0)) ≡ false
       → Makes {M = M} has_static drops one_pass items
       (window_of (parts_of (window_seen (Native b) 0 (length items))))
   made_on_native b is first kept =

@@ -3,6 +3,7 @@ use Rattle.std.proofs.Common.{Fits, Fits-le, ◌≡◌, ℕ, ◌+◌, ◌-◌, �
 use mir.Syntax.{w64}
 use Rattle.std.proofs.lemmas.Bool.{eqb-true, false≢true}
 use Rattle.std.proofs.lemmas.List.{nil_from_length}
+use Rattle.arc_owners.specs.history.Histories.{Counted}
 use Rattle.arc_owners.specs.declared.count.tokens.Pass.{Pass}
 use Rattle.arc_owners.specs.count.Calls.{Owner, IsFirst, MakesAnother, Asks}
 use Rattle.arc_buffer.specs.Slice.{sub}
@@ -251,12 +252,12 @@ none_needs true [] places few none needs = absurd needs
 none_needs true (x ∷ xs) places few none needs = absurd (omega (arith, few))
 none_needs false xs places few none needs = refl
 
-module _ {T M : Type 0} (has_static drops one_pass : Bool) (items : List T) (places : ℕ)
-    (fit : length items ≤ places) where
+module _ {T M : Type 0} (has_static drops one_pass : Bool) (lone : ℕ → ℕ → Bool) (items : List T)
+    (places : ℕ) (fit : length items ≤ places) where
   -- a vector without places, as a list of no items
   pub vec_of_none : places ≡ 0 → (xs : List T) → length xs ≡ 0 → (w : Window T M)
       → Makes has_static drops one_pass xs w
-      → MakesOfVec has_static drops one_pass items places w
+      → MakesOfVec has_static lone drops one_pass items places w
   vec_of_none zero xs few w made =
       let none : items ≡ [] = nil_from_length items (omega (arith, fit, zero)) in record {
         none = λ _. subst (λ ys. Makes has_static drops one_pass ys w)
@@ -271,9 +272,9 @@ module _ {T M : Type 0} (has_static drops one_pass : Bool) (items : List T) (pla
         items = items;
         facts = memory_info vector drops places (length items);
       }
-      → IsFirst MAX_OWNERS one_pass b.owner → (places ≡ 0 → ⊥) → (w : PartsView T M)
+      → IsFirst MAX_OWNERS one_pass Counted b.owner → (places ≡ 0 → ⊥) → (w : PartsView T M)
       → w ≡ record { items = b.items; place = on_block (Some b.owner) 0 b.facts; role = reader }
-      → MakesOfVec has_static drops one_pass items places (window_of w)
+      → MakesOfVec has_static lone drops one_pass items places (window_of w)
   vec_on_block b is first many w seen = record {
     none = λ zero. absurd (many zero);
     some = λ more. record {

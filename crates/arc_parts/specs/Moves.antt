@@ -1,5 +1,6 @@
 -- What a move to another layout makes of parts.
 use Rattle.std.specs.Prelude.{◌≡◌, Bool, false, Some, None}
+use Rattle.arc_owners.specs.history.Histories.{Counted}
 use Rattle.arc_owners.specs.declared.count.tokens.Pass.{Pass}
 use Rattle.arc_owners.specs.count.Calls.{Owner, IsFirst, IsFreshPass, Leaves}
 use Rattle.arc_block.specs.Place.{at_owner, owned_by}
@@ -23,7 +24,7 @@ module _ {T M H : Type 0} where
       × (v.role ≡ w.role)
   Moves NewCount drops one_pass w v before after = (owner : Owner)
       × (v ≡ record { items = w.items; place = owned_by (Some owner) w.place; role = w.role })
-      × IsFirst MAX_OWNERS one_pass owner × IsFreshPass owner after
+      × IsFirst MAX_OWNERS one_pass Counted owner × IsFreshPass owner after
   Moves LeavesCount drops one_pass w v before after =
       (v ≡ record { items = w.items; place = owned_by None w.place; role = w.role })
       × at_owner w.place ⊥ (λ o. (last : Bool) × Leaves o before after last)

@@ -3,6 +3,7 @@
 use Rattle.std.specs.Prelude.{◌≡◌, ℕ, ◌+◌, ◌-◌, ◌<◌, ◌≤◌, ◌==◌, nat_lt, Bool, true, false, ◌&&◌}
 use Rattle.std.specs.Prelude.{◌++◌, length, List, Option, Some, None, Result, Ok, Err, take}
 use Rattle.std.specs.Prelude.{if◌then◌else◌}
+use Rattle.arc_owners.specs.history.Histories.{Counted}
 use Rattle.arc_owners.specs.declared.error.OwnerError.{OwnerError}
 use Rattle.arc_owners.specs.declared.error.OwnerError.TheVariants as owner_error
 use Rattle.arc_owners.specs.declared.error.TryReserveError.{TryReserveError}
@@ -124,7 +125,7 @@ module _ {T M : Type 0} where
       (before left after : Pass H) : Type 0 where
     pub owner : Owner
     pub made : v ≡ on_native drops (Some owner) w
-    pub first : IsFirst MAX_OWNERS one_pass owner
+    pub first : IsFirst MAX_OWNERS one_pass Counted owner
     pub pass : IsFreshPass owner after
     pub ended : at_owner w.place ⊥ (λ o. (last : Bool) × Leaves o before left last)
 
@@ -135,7 +136,7 @@ module _ {T M : Type 0} where
         (before after : Pass H) : Type 0 where
       pub owner : Owner
       pub made : v ≡ on_native drops (Some owner) w
-      pub first : IsFirst MAX_OWNERS one_pass owner
+      pub first : IsFirst MAX_OWNERS one_pass Counted owner
       pub pass : IsFreshPass owner after
       pub left : at_owner w.place ⊥ (λ o. LeavesShown H real o before)
 

@@ -5,12 +5,14 @@ use Rattle.std.specs.Prelude.{None, List, [], length}
 use Rattle.arc_owners.specs.declared.error.OwnerError.{OwnerError}
 use Rattle.arc_owners.specs.declared.error.OwnerError.TheVariants.{AllocError, CountFull}
 use Rattle.arc_owners.specs.declared.count.tokens.Pass.{Pass}
+use Rattle.arc_owners.specs.history.Histories.{Beginning, Counted}
 use Rattle.arc_owners.specs.count.Invariant.{BlockId, Line}
-use Rattle.arc_owners.specs.count.Calls.{Owner, Appends, IsPassOf, IsPassOfNone}
+use Rattle.arc_owners.specs.count.Calls.{Owner, IsPassOf, IsPassOfNone, MayJoin, RefusesOwner}
 use Rattle.arc_owners.specs.count.Calls.{IsFirst, IsFreshPass}
-use Rattle.arc_owners.specs.count.Calls.{FindsFull, MakesAnother, Asks, EndsByItself, EndsShown}
+use Rattle.arc_owners.specs.count.Calls.{MakesAnother, Asks, EndsByItself, EndsShown}
 use Rattle.arc_owners.specs.count.Calls.{TakesBlock}
 use Rattle.arc_block.specs.Block.{Sort, vector, BlockInfo, memory_info, raw_info}
+use Rattle.arc_block.specs.Layouts.{vector_begins}
 use Rattle.arc_block.specs.Place.{Place, nowhere, static_data, on_block, at_owner}
 use Rattle.arc_block.specs.declared.block.TheConstants.{MAX_OWNERS}
 use Rattle.arc_parts.specs.Window.{Window, made_window, IsWholeOf}
@@ -26,6 +28,10 @@ module _ {M H : Type 0} where
   EndsAt place after =
       at_owner place (IsPassOfNone after) (λ o. (last : Bool) × EndsByItself o after last)
 
+  -- An attempt was lost through the owner that stands at a place. On no block none is lost.
+  abbrev pub MayJoinAt : Place (Option Owner) M → Pass H → Pass H → Type 0
+  MayJoinAt place old new = at_owner place ⊥ (λ o. MayJoin o old new)
+
   -- a window was made that stands where this one does, as another owner of the same block
   abbrev pub Shares : Place (Option Owner) M → Pass H → Pass H → Place (Option Owner) M → Type 0
   Shares nowhere old new there = (there ≡ nowhere) × (new ≡ old)
@@ -36,7 +42,7 @@ module _ {M H : Type 0} where
       × MakesAnother o old new other × (there ≡ on_block (Some other) offset facts)
 
   -- no window was made: the count was found at its greatest, or the layout's clones want memory on
-  -- a block of this sort, and nothing was added
+  -- a block of this sort, which was refused, and nothing was added
   abbrev pub Refuses : (Sort → Bool) → Place (Option Owner) M → Pass H → Pass H → OwnerError
       → Type 0
   Refuses wants nowhere old new e = ⊥
@@ -44,9 +50,8 @@ module _ {M H : Type 0} where
   Refuses wants (on_block None offset facts) old new CountFull = ⊥
   Refuses wants (on_block None offset facts) old new AllocError =
       (wants facts.sort ≡ true) × (new ≡ old)
-  Refuses wants (on_block (Some o) offset facts) old new CountFull = FindsFull o old new
-  Refuses wants (on_block (Some o) offset facts) old new AllocError =
-      (wants facts.sort ≡ true) × (before : List Line) × Appends o.block old new before []
+  Refuses wants (on_block (Some o) offset facts) old new e =
+      RefusesOwner (wants facts.sort) o old new e
 
 -- what a drop leaves of the owner that stands at a place, where a block has many passes
 abbrev pub EndsShownAt : {M : Type 0} → (H : Type 0) → (BlockId → ℕ → List Line → Type 0)
@@ -59,14 +64,15 @@ module _ {T M : Type 0} where
       : Type 0 where
     pub owner : Owner
     pub made : w ≡ made_window has_static drops owner items
-    pub first : at_owner w.place (Unit {0}) (λ o. IsFirst MAX_OWNERS one_pass o)
+    pub first : at_owner w.place (Unit {0}) (λ o. IsFirst MAX_OWNERS one_pass Counted o)
 
-  -- a window was made of all items of a new block, of which this is known: as its first owner
-  pub record MakesOver (one_pass : Bool) (info : BlockInfo M) (items : List T) (w : Window T M)
-      : Type 0 where
+  -- a window was made of all items of a new block, of which this is known, and whose word begins
+  -- so: as its first owner
+  pub record MakesOver (beginning : Beginning) (one_pass : Bool) (info : BlockInfo M)
+      (items : List T) (w : Window T M) : Type 0 where
     pub owner : Owner
     pub made : w ≡ record { items = items; place = on_block (Some owner) 0 info }
-    pub first : IsFirst MAX_OWNERS one_pass owner
+    pub first : IsFirst MAX_OWNERS one_pass beginning owner
 
   -- a window was made of all items of a caller's buffer behind an `Arc`: on that, where it is a
   -- block by itself, and else as the first owner of a new block
@@ -74,14 +80,15 @@ module _ {T M : Type 0} where
       : Type 0 where
     pub alone : by_itself ≡ true
         → w ≡ record { items = items; place = on_block None 0 (raw_info (length items)) }
-    pub counted : by_itself ≡ false → MakesOver one_pass (raw_info (length items)) items w
+    pub counted : by_itself ≡ false → MakesOver Counted one_pass (raw_info (length items)) items w
 
   -- a window was made of a vector of so many places: of none, as one of a list of no items
-  pub record MakesOfVec (has_static drops one_pass : Bool) (items : List T) (places : ℕ)
-      (w : Window T M) : Type 0 where
+  pub record MakesOfVec (has_static : Bool) (lone : ℕ → ℕ → Bool) (drops one_pass : Bool)
+      (items : List T) (places : ℕ) (w : Window T M) : Type 0 where
     pub none : places ≡ 0 → Makes has_static drops one_pass items w
     pub some : 1 ≤ places
-        → MakesOver one_pass (memory_info vector drops places (length items)) items w
+        → MakesOver (vector_begins lone drops places items) one_pass
+        (memory_info vector drops places (length items)) items w
 
 -- a vector of so many places needs a block
 abbrev pub NeedsVecBlock : (has_static : Bool) → (places : ℕ) → Type 0

@@ -7,19 +7,20 @@ use Rattle.std.specs.Option.{option_map}
 use Rattle.arc_owners.specs.declared.error.TryReserveError.{TryReserveError}
 use Rattle.arc_owners.specs.declared.error.TryReserveError.TheVariants.{AllocError}
 use Rattle.arc_owners.specs.declared.count.tokens.Pass.{Pass}
+use Rattle.arc_owners.specs.history.Histories.{Beginning, Counted}
 use Rattle.arc_owners.specs.count.Calls.{Owner, IsFirst, IsFreshPass, Asks}
 use Rattle.arc_block.specs.declared.block.TheConstants.{MAX_OWNERS}
 use Rattle.arc_parts.specs.declared.room.Room.{Room}
 use Rattle.arc_parts.specs.declared.room.Room.TheVariants.{Spare, Fresh, Behind, Front}
 use Rattle.arc_parts.specs.declared.room.Room.TheVariants.{Growth, Own, Refused}
-use Rattle.arc_block.specs.Block.{Sort, native, BlockInfo}
+use Rattle.arc_block.specs.Block.{Sort, native, vector, BlockInfo}
 use Rattle.arc_block.specs.Block.{IsWritable, memory_info}
 use Rattle.arc_block.specs.Place.{Place, nowhere, static_data, on_block, IsOnBlock, moved}
 use Rattle.arc_block.specs.Table.{RowOf, Role, reader, sole_writer, one_writer_of_several}
 use Rattle.arc_block.specs.Table.{inline, forgotten}
 use Rattle.arc_parts.specs.Window.{PartsView, IsNativeOf}
 use Rattle.arc_block.specs.Place.{size_at, offset_at, at_front}
-use Rattle.arc_block.specs.Layouts.{LayoutFacts, MayWrite}
+use Rattle.arc_block.specs.Layouts.{LayoutFacts, MayWrite, vector_begins}
 use Rattle.arc_parts.specs.Moves.{Moves}
 use Rattle.arc_block.specs.Moves.{layout_move}
 use Rattle.arc_parts.specs.Room.{ends_full, room_in, IsBuffersRefusal}
@@ -190,12 +191,12 @@ with_more xs w = record w {
 
 module _ {T M H : Type 0} where
   -- a writer of these items was made, as the first owner of a new block of this sort and so many
-  -- places
-  pub record IsWriterOver (sort : Sort) (drops one_pass : Bool) (items : List T) (places : ℕ)
-      (w : PartsView T M) (p : Pass H) : Type 0 where
+  -- places, whose word begins so
+  pub record IsWriterOver (beginning : Beginning) (sort : Sort) (drops one_pass : Bool)
+      (items : List T) (places : ℕ) (w : PartsView T M) (p : Pass H) : Type 0 where
     pub owner : Owner
     pub made : w ≡ writer_over sort drops (Some owner) items places
-    pub first : IsFirst MAX_OWNERS one_pass owner
+    pub first : IsFirst MAX_OWNERS one_pass beginning owner
     pub pass : IsFreshPass owner p
 
   -- a writer of these items was made, as the first owner of a new block with all of them, of which
@@ -208,24 +209,30 @@ module _ {T M H : Type 0} where
       place = on_block (Some owner) 0 info;
       role = sole_writer info.size;
     }
-    pub first : IsFirst MAX_OWNERS one_pass owner
+    pub first : IsFirst MAX_OWNERS one_pass Counted owner
     pub pass : IsFreshPass owner p
 
   -- of a native block
   abbrev pub IsNewWriter : (drops one_pass : Bool) → List T → ℕ → PartsView T M → Pass H → Type 0
-  IsNewWriter = IsWriterOver native
+  IsNewWriter = IsWriterOver Counted native
 
   -- a writer of these items was made, with so many places: for none on nothing, and else on a new
   -- block of this sort
-  pub record MakesWriterOver (sort : Sort) (drops one_pass : Bool) (items : List T) (places : ℕ)
-      (w : PartsView T M) (before after : Pass H) : Type 0 where
+  pub record MakesWriterOver (beginning : Beginning) (sort : Sort) (drops one_pass : Bool)
+      (items : List T) (places : ℕ) (w : PartsView T M) (before after : Pass H) : Type 0 where
     pub idle : places ≡ 0 → (w ≡ idle_writer) × (after ≡ before)
-    pub new : 1 ≤ places → IsWriterOver sort drops one_pass items places w after
+    pub new : 1 ≤ places → IsWriterOver beginning sort drops one_pass items places w after
 
   -- on a native block
   abbrev pub MakesWriter : (drops one_pass : Bool) → List T → ℕ → PartsView T M → Pass H → Pass H
       → Type 0
-  MakesWriter = MakesWriterOver native
+  MakesWriter = MakesWriterOver Counted native
+
+  -- on a vector of so many places
+  abbrev pub MakesVecWriter : (lone : ℕ → ℕ → Bool) → (drops one_pass : Bool) → List T → ℕ
+      → PartsView T M → Pass H → Pass H → Type 0
+  MakesVecWriter lone drops one_pass items places =
+      MakesWriterOver (vector_begins lone drops places items) vector drops one_pass items places
 
   -- the window has this room now, without memory
   abbrev pub HasRoom : Room → (old new : PartsView T M) → (before after : Pass H)

@@ -3,6 +3,7 @@
 //! What all windows have in common stands here once: where a window without items stands, how far
 //! into its block a part begins, and how items and owner are reached. That a list is legal for its
 //! kind, and where it may be cut, is known to the windows alone.
+ghost use Rattle.arc_owners.specs.history.Histories.{Counted};
 ghost use Rattle.std.specs.Prelude.{◌≡◌, ◌≤◌, ◌==◌, ◌&&◌, false, length, []};
 ghost use Rattle.std.specs.Prelude.{Some, IfOk, IfErr, OnErr};
 ghost use Rattle.arc_buffer.specs.Slice.{sub};
@@ -166,7 +167,7 @@ impl<S: Slice, B: Buffer<S::Item> + Drop, M: Drop, A: Allocator + Copy, H: Mark>
         pass: &mut Pass<H>,
     ) -> Self
         requires made { (block ≡ made_native S.DROPS block.owner block.items)
-            × IsFirst MAX_OWNERS H.whole block.owner × IsFreshPass block.owner new }
+            × IsFirst MAX_OWNERS H.whole Counted block.owner × IsFreshPass block.owner new }
         requires all { end ≡ length block.items }
         requires stands { (L.STATIC && (length block.items == 0)) ≡ false }
         ensures made { Makes L.STATIC S.DROPS H.whole block.items (window_of result) }

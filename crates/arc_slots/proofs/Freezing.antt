@@ -5,6 +5,7 @@ use Rattle.std.proofs.Common.{if◌then◌else◌, List, [], ◌∷◌, ◌++◌
 use Rattle.std.proofs.Common.{is_some, refl, sym, ap, ◌∙◌, subst}
 use Rattle.std.specs.Prelude.{◌+◌}
 use Rattle.std.proofs.lemmas.Bool.{false≢true, and_parts}
+use Rattle.arc_owners.specs.history.Histories.{Counted}
 use Rattle.arc_owners.specs.declared.mark.Whole.{Whole}
 use Rattle.arc_owners.specs.declared.count.tokens.Pass.{Pass}
 use Rattle.arc_owners.specs.count.Calls.{Owner, IsFirst, IsFreshPass}
@@ -94,7 +95,7 @@ module _ {T M : Type 0} (layout : LayoutFacts) (drops : Bool) (items : List T) (
   }
 
   -- or is what is made of its items, on a block more
-  founded : left ≡ passes → (o : Owner) → v ≡ made_by o → IsFirst MAX_OWNERS true o
+  founded : left ≡ passes → (o : Owner) → v ≡ made_by o → IsFirst MAX_OWNERS true Counted o
       → IsFreshPass o q → (n ≡ Some (length left)) × (passes' ≡ left ++ q ∷ [])
       → (row_of (read_slot v n) ≡ made_row false drops (length passes) items)
       × Founds (stand_of (Some (read_slot v n))) passes passes'
@@ -124,7 +125,7 @@ module _ {T M : Type 0} (layout : LayoutFacts) (drops : Bool) (items : List T) (
     from-nowhere false took moved begun same new =
         let made = moved.0 in
         founded took.1 made.owner made.made
-        (subst (λ (x : Window T M). at_owner x.place (Unit {0}) (λ y. IsFirst MAX_OWNERS true y))
+        (subst (λ (x : Window T M). at_owner x.place (Unit {0}) (λ y. IsFirst MAX_OWNERS true Counted y))
         made.made made.first)
         (subst (λ (x : Window T M). at_owner x.place (q ≡ p) (λ y. IsFreshPass y q)) made.made
         moved.1) (new begun)

@@ -216,7 +216,7 @@ module _ {M H : Type 0} (passes : List (Pass H)) where
       refuses wants AllocError (Some n) (on_block None offset facts) fits has took why =
           absurd (false≢true fits)
       refuses wants AllocError (Some n) (on_block (Some owner) offset facts) fits has took why =
-          (why.0, through passes left p new n owner AddsNothing has took (why.1, why.2))
+          (why.0, through passes left p new n owner AddsNothing has took (why.2, why.3))
 
       -- the same for a part
       pub shares-part : (nothing : Bool) (start : ℕ) (b : Option ℕ) (place there : At M)

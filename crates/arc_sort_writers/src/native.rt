@@ -1,4 +1,5 @@
 //! Parts of a window that writes as the only owner of a native block, or on nothing.
+ghost use Rattle.arc_owners.specs.history.Histories.{Counted};
 ghost use Rattle.std.specs.Prelude.{◌≡◌, ◌≤◌, ◌<◌, ◌+◌, ◌-◌, ◌^◌, ◌++◌, ◌∷◌};
 ghost use Rattle.std.specs.Prelude.{[], length, replicate, true, false, IfOk, IfErr, OnOk, OnErr};
 ghost use Rattle.std.specs.Mem.{FitsInMemory, type_size};
@@ -346,7 +347,7 @@ impl<S: Slice, M: Drop, A: Allocator + Copy, H: Mark> SoleNative<S, M, A, H> {
     fn on_new(alloc: A, memory: WriterMemory<S::Item, A>, pass: &mut Pass<H>) -> Self
         requires start { memory.places.under.start ≡ 0 }
         requires block { IsPiece memory.source }
-        ensures { IsWriterOver native S.DROPS H.whole memory.places.vec.items
+        ensures { IsWriterOver Counted native S.DROPS H.whole memory.places.vec.items
             memory.places.under.whole result pass.new }
     {
         let (count, new) = NativeCount::<MAX_OWNERS, H>::new();

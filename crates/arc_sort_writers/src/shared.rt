@@ -1,4 +1,5 @@
 //! One of several writers on a native block.
+ghost use Rattle.arc_owners.specs.history.Histories.{Counted};
 ghost use Rattle.std.specs.Prelude.{◌≡◌, ◌==◌, ◌+◌, ◌-◌, ◌^◌, ◌<◌, ◌≤◌, ◌++◌, ◌∷◌, [], Bool};
 ghost use Rattle.std.specs.Prelude.{length, take, true, false, ◌&&◌, IfOk, IfErr, is_ok};
 ghost use Rattle.arc_owners.specs.count.Calls.{IsPassFor, IsPassOfNone, IsNewPass, Learns};
@@ -433,7 +434,7 @@ impl<T: Copy + Drop, A: Allocator + Copy, H: Mark> SharedNative<T, A, H> {
     pub fn try_copy(alloc: A, items: &[T], capacity: usize) -> Result<(Self, Pass<H>), AllocError>
         requires { length items.now ≤ capacity }
         ensures made { IfOk result (λ r. (r.0 ≡ new_native_writer r.0.owner items.now capacity)
-            × IsFirst MAX_OWNERS H.whole r.0.owner) }
+            × IsFirst MAX_OWNERS H.whole Counted r.0.owner) }
         ensures pass { IfOk result (λ r. IsFreshPass r.0.owner r.1) }
     {
         let mut memory = WriterMemory::new(alloc, capacity)?;

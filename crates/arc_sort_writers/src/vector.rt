@@ -1,4 +1,5 @@
 //! Parts of a window that writes as the only owner of a vector.
+ghost use Rattle.arc_owners.specs.history.Histories.{Counted};
 ghost use Rattle.std.specs.Prelude.{◌≡◌, ◌≤◌, ◌<◌, ◌+◌, ◌-◌, ◌^◌, ◌++◌, ◌∷◌};
 ghost use Rattle.std.specs.Prelude.{[], length, false, IfOk, IfErr, OnOk, OnErr};
 ghost use Rattle.std.specs.Mem.{FitsInMemory, type_size};
@@ -185,7 +186,7 @@ impl<S: Slice, B: Buffer<S::Item> + Drop, M: Drop, A: Allocator + Copy, H: Mark>
         items: Vec<S::Item, A>,
         pass: &mut Pass<H>,
     ) -> Result<Self, Vec<S::Item, A>>
-        ensures made { IfOk result (λ parts. IsWriterOver vector S.DROPS H.whole items.items
+        ensures made { IfOk result (λ parts. IsWriterOver Counted vector S.DROPS H.whole items.items
             (vec_capacity items) parts pass.new) }
         ensures refused { IfErr result (λ back. (back ≡ items) × (pass.new ≡ pass.old)) }
     {

@@ -2,6 +2,7 @@
 use Rattle.std.proofs.Common.{◌≡◌, ℕ, zero, suc, Bool, true, false, List, [], ◌∷◌, if◌then◌else◌}
 use Rattle.std.proofs.Common.{Option, Some, None, refl, sym, ap, ◌∙◌, subst, length, take, arith}
 use Rattle.std.specs.Prelude.{nat_lt, Result, Ok, Err, OnOk, IfErr}
+use Rattle.arc_owners.specs.history.Histories.{Beginning, Counted}
 use Rattle.arc_owners.specs.count.Calls.{Owner}
 use Rattle.arc_owners.specs.declared.count.tokens.Pass.{Pass}
 use Rattle.arc_owners.specs.declared.error.TryReserveError.{TryReserveError}
@@ -153,27 +154,27 @@ module _ {T M : Type 0} (layout : LayoutFacts) where
       (λ (r : TryReserveError × T). r.0) (Err r) tt refused.1 held
 
   -- a new window, on nothing or on a block of a sort that the layout holds
-  over-held : {H : Type 0} (sort : Sort) (drops one_pass : Bool) (items : List T) (places : ℕ)
+  over-held : {H : Type 0} (beginning : Beginning) (sort : Sort) (drops one_pass : Bool) (items : List T) (places : ℕ)
       (w : PartsView T M) (before after : Pass H)
       → ((o : Owner) → holds_block layout (Some o) sort ≡ true)
-      → MakesWriterOver sort drops one_pass items places w before after → HoldsRow w
-  over-held sort drops one_pass items zero w before after holds made = same (made.idle refl).0 tt
-  over-held sort drops one_pass items (suc n) w before after holds made =
+      → MakesWriterOver beginning sort drops one_pass items places w before after → HoldsRow w
+  over-held beginning sort drops one_pass items zero w before after holds made = same (made.idle refl).0 tt
+  over-held beginning sort drops one_pass items (suc n) w before after holds made =
       let new = made.new (omega arith) in same new.made (holds new.owner)
 
   pub native_held : {H : Type 0} (drops one_pass : Bool) (items : List T) (places : ℕ)
       (w : PartsView T M) (before after : Pass H)
-      → MakesWriterOver native drops one_pass items places w before after
+      → MakesWriterOver Counted native drops one_pass items places w before after
       → IsBlockHeld layout w.place
   native_held drops one_pass items places w before after made =
-      over-held native drops one_pass items places w before after (λ o. refl) made
+      over-held Counted native drops one_pass items places w before after (λ o. refl) made
 
   pub vector_held : {H : Type 0} (drops one_pass : Bool) (items : List T) (places : ℕ)
       (w : PartsView T M) (before after : Pass H) → layout.has_any ≡ true
-      → MakesWriterOver vector drops one_pass items places w before after
+      → MakesWriterOver Counted vector drops one_pass items places w before after
       → IsBlockHeld layout w.place
   vector_held drops one_pass items places w before after any made =
-      over-held vector drops one_pass items places w before after (λ o. any) made
+      over-held Counted vector drops one_pass items places w before after (λ o. any) made
 
   pub buffer_held : {H : Type 0} (one_pass : Bool) (places full : ℕ) (metadata : Option M)
       (items : List T) (w : PartsView T M) (p : Pass H) → layout.has_any ≡ true

@@ -1,5 +1,6 @@
 -- How the places of one of several writers were split in two.
 use Rattle.std.proofs.Common.{◌≡◌, ℕ, ◌≤◌, Bool, true, false, List, Option, Some, None, refl, sym, ap, ◌∙◌, subst, arith}
+use Rattle.arc_owners.specs.history.Histories.{Counted}
 use Rattle.arc_owners.specs.declared.count.tokens.Pass.{Pass}
 use Rattle.arc_owners.specs.count.Invariant.{BlockId, Line}
 use Rattle.arc_owners.specs.count.Calls.{Owner, IsFirst, IsFreshPass, IsOfBlock, Leaves, MakesAnother}
@@ -81,7 +82,7 @@ module _ {T M H : Type 0} (real : BlockId → ℕ → List Line → Type 0) (one
   -- who has a vector moves first
   pub moves_to_split : (items : List T) (place : Place (Option Owner) M) (capacity : ℕ) (owner : Owner)
       (before between : Pass H) → IsAlonePlace place → IsOnBlock place
-      → IsFirst MAX_OWNERS one_pass owner → IsFreshPass owner between
+      → IsFirst MAX_OWNERS one_pass Counted owner → IsFreshPass owner between
       → at_owner place ⊥ (λ o. LeavesShown H real o before)
       → StandsToSplitAt H real false one_pass (record { items = items; place = place; role = one_writer_of_several capacity })
       (native_row (new_native_writer owner items capacity)) before between place

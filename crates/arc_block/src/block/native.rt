@@ -6,7 +6,9 @@
 //! neither the count nor what is kept.
 ghost use Rattle.std.specs.Prelude.{◌≡◌, ◌≤◌, ◌+◌, ◌-◌, ◌↔◌, Bool, true, false, IsTrue};
 ghost use Rattle.std.specs.Prelude.{IfOk, IfErr, IfSome, IfNone, is_some};
-ghost use Rattle.arc_owners.specs.count.Calls.{IsPassFor, IsNewPass, Learns, Asks, FindsFull};
+ghost use Rattle.arc_owners.specs.count.Calls.{IsPassFor, IsNewPass, Learns, Asks};
+ghost use Rattle.arc_owners.specs.count.Calls.{RefusesOwner};
+ghost use Rattle.arc_owners.specs.history.Histories.{Counted};
 ghost use Rattle.arc_owners.specs.count.Calls.{MakesAnother, Leaves, AsksAndLeaves, EndsByItself};
 ghost use Rattle.arc_owners.specs.count.Calls.{IsPassOfNone, EndsShown, TakesBlock};
 ghost use Rattle.arc_memory.specs.KeptPlaces.{kept_in};
@@ -25,7 +27,7 @@ use arc_buffer::kinds::Slice;
 use arc_memory::{
     Base, FrozenPlaces, FrozenReader, HeadSize, Kept, KeptItems, KeptPlaces, WriterMemory,
 };
-use arc_owners::error::{AllocError, CountFull};
+use arc_owners::error::{AllocError, OwnerError};
 use arc_owners::leave::RaiseLeave;
 use arc_owners::lifetime::{EndedLifetime, LifetimeToken};
 use arc_owners::mark::{Mark, Open, Stepping};
@@ -103,7 +105,7 @@ impl<S: Slice, A: Allocator + Copy, const MAX: u64, H: Mark> NativeBlock<S, A, M
     ///
     /// # Errors
     ///
-    /// `CountFull` exactly where `MAX` owners live.
+    /// `CountFull` exactly where `MAX` owners live, and no other.
     ///
     /// # History
     ///
@@ -114,14 +116,14 @@ impl<S: Slice, A: Allocator + Copy, const MAX: u64, H: Mark> NativeBlock<S, A, M
         &self,
         leave: RaiseLeave,
         pass: &mut Pass<H>,
-    ) -> Option<Result<Self, CountFull>>
+    ) -> Option<Result<Self, OwnerError>>
         requires pass { IsPassFor self.now.owner pass.old }
         ensures made { IfSome result (λ r. IfOk r (λ other.
             MakesAnother self.now.owner pass.old pass.new other.owner)) }
         ensures alike { IfSome result (λ r. IfOk r (λ other.
             other ≡ record self.now { owner = other.owner })) }
-        ensures full { IfSome result (λ r.
-            IfErr r (λ _. FindsFull self.now.owner pass.old pass.new)) }
+        ensures refused { IfSome result (λ r.
+            IfErr r (λ e. RefusesOwner false self.now.owner pass.old pass.new e)) }
         ensures again { IfNone result (pass.new ≡ pass.old) }
     {
         let base = Base { at: self.base.at };
@@ -130,7 +132,7 @@ impl<S: Slice, A: Allocator + Copy, const MAX: u64, H: Mark> NativeBlock<S, A, M
                 let head = self.head.again();
                 Some(Ok(NativeBlock { base, reader, head }))
             }
-            Some(Err(e)) => Some(Err(e)),
+            Some(Err(e)) => Some(Err(e.into())),
             None => None,
         }
     }
@@ -330,7 +332,7 @@ impl<S: Slice, A: Allocator + Copy, const MAX: u64, H: Mark> NativeBlock<S, A, M
         S::Item: Copy,
         requires { 2 ≤ MAX }
         ensures made { IfOk result (λ r. (r.0 ≡ made_native S.DROPS r.0.owner items.now)
-            × IsFirst MAX H.whole r.0.owner) }
+            × IsFirst MAX H.whole Counted r.0.owner) }
         ensures pass { IfOk result (λ r. IsFreshPass r.0.owner r.1) }
     {
         match WriterMemory::from_slice(alloc, items) {
@@ -352,7 +354,7 @@ impl<S: Slice, A: Allocator + Copy, const MAX: u64, H: Mark> NativeBlock<S, A, M
     ) -> Result<(Self, Pass<H>), [S::Item; N]>
         requires { 2 ≤ MAX }
         ensures made { IfOk result (λ r. (r.0 ≡ made_native S.DROPS r.0.owner array)
-            × IsFirst MAX H.whole r.0.owner) }
+            × IsFirst MAX H.whole Counted r.0.owner) }
         ensures pass { IfOk result (λ r. IsFreshPass r.0.owner r.1) }
         ensures refused { IfErr result (λ back. back ≡ array) }
     {

@@ -3,6 +3,7 @@
 //! So its items are read and written by the vector's own code, and nothing is asked of the count.
 //! Meanwhile the memory of the count holds none of them.
 ghost use Rattle.std.specs.Prelude.{◌≡◌, ◌≤◌, true, false, is_ok, IfOk, IfErr};
+ghost use Rattle.arc_owners.specs.history.Histories.{Counted};
 ghost use Rattle.arc_owners.specs.count.Calls.{IsFirst, IsPassFor, IsFreshPass, Asks};
 ghost use Rattle.arc_owners.specs.count.Calls.{IsPassOfNone, EndsByItself};
 ghost use Rattle.arc_owners.specs.memory.SoleBoxes.{sole_in, sole_value};
@@ -36,7 +37,7 @@ pub fn new_count<T: Drop, B: Drop, M: Drop, A: Allocator + Copy, const MAX: u64,
     alloc: A,
 ) -> Result<(SoleCount<T, B, M, A, MAX, H>, Pass<H>), AllocError>
     requires { 2 ≤ MAX }
-    ensures made { IfOk result (λ r. IsFirst MAX H.whole (sole_in r.0)) }
+    ensures made { IfOk result (λ r. IsFirst MAX H.whole Counted (sole_in r.0)) }
     ensures pass { IfOk result (λ r. IsFreshPass (sole_in r.0) r.1) }
 {
     let (_, empty) = Native::of(Vec::new(alloc));

@@ -14,7 +14,7 @@ use Rattle.arc_owners.specs.count.Invariant.{BlockId, Line, entries_of, made_by,
 use Rattle.arc_owners.specs.history.Histories.{Beginning, Counted, LivesAlone, owners_ever, owners_ended, live_owners, is_counted, IsLegal}
 use Rattle.arc_owners.specs.history.Agreement.{Tells, Agrees}
 use Rattle.arc_owners.specs.count.Steps.{IsOf, SamePass, Wrote, FullIf, RaisedIf, Ends, IsOpened, EndsWithNew, SeesSole}
-use Rattle.arc_owners.specs.count.Calls.{Owner, Appends, Asks, MakesAnother, FindsFull, Leaves, SeesAlone, EndsInOneStep, EndsWithoutStep, EndsByItself, IsFirst, history_of}
+use Rattle.arc_owners.specs.count.Calls.{Owner, Appends, Asks, MakesAnother, FindsFull, Leaves, SeesAlone, EndsInOneStep, EndsWithoutStep, EndsByItself, IsFirst, HasCountIn, history_of}
 use Rattle.arc_owners.proofs.history.Legality.{legal-front, legal-at}
 use Rattle.arc_owners.proofs.count.Rolls.{entries-append, made-after}
 use Rattle.arc_owners.proofs.history.Events.{one_step}
@@ -124,19 +124,20 @@ module _ {H : Type 0} (t : BlockId) (p r : Pass H) where
         )) tells;
   }
 
-counted-first : is_counted Counted [] ≡ true
-unfolding is_counted
-counted-first = refl
-
 -- the first owner of a new block
-pub first_of : {K : Type 0} (most : ℕ) (whole lent : Bool) (t : BlockId) (r : OwnerToken K) (p : PassState) → IsOpened most whole lent t r p → IsFirst most whole (record { block = r.block; number = r.owner; born = r.born })
+pub first_of : {K : Type 0} (most : ℕ) (whole lent : Bool) (t : BlockId) (r : OwnerToken K) (p : PassState) → IsOpened most whole lent t r p → IsFirst most whole Counted (record { block = r.block; number = r.owner; born = r.born })
 first_of most whole lent t r p so = let same : r.block ≡ t = so.3.1 in record {
   number = so.5;
   born = so.6;
   most = ap (λ (k : BlockId). k.most) same ∙ so.0;
   whole = ap (λ (k : BlockId). k.whole) same ∙ so.2;
-  counted = subst (λ (b : Beginning). is_counted b [] ≡ true) (sym (ap (λ (k : BlockId). k.began) same ∙ so.1)) counted-first;
+  began = ap (λ (k : BlockId). k.began) same ∙ so.1;
 }
+
+-- its word has a count
+pub begins_counted : (t : BlockId) → t.began ≡ Counted → HasCountIn t []
+unfolding is_counted
+begins_counted t began = ap (λ (b : Beginning). is_counted b []) began
 
 -- a sole owner showed the pass the whole history
 pub sees_alone : {H : Type 0} (own : OwnerToken H) (p r : Pass H) → SeesSole own p.trace r.trace → SeesAlone (record { block = own.block; number = own.owner; born = own.born }) p r

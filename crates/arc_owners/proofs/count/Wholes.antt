@@ -7,17 +7,20 @@ use Rattle.std.specs.List.{All}
 use Rattle.std.proofs.lemmas.List.Elements.{All-head, All-tail}
 use Rattle.arc_owners.specs.declared.history.entry.Entry.{Entry}
 use Rattle.arc_owners.specs.declared.history.entry.Entry.TheVariants.{Up, Full, Alone, Promote, Joined}
+use Rattle.arc_owners.specs.declared.error.OwnerError.{OwnerError}
+use Rattle.arc_owners.specs.declared.error.OwnerError.TheVariants.{AllocError, CountFull}
 use Rattle.arc_owners.specs.declared.mark.Mark.{Ghosts}
 use Rattle.arc_owners.specs.declared.count.tokens.Pass.{Pass}
 use Rattle.arc_owners.specs.declared.count.tokens.Share.{Share}
 use Rattle.arc_owners.specs.count.Invariant.{BlockId, Line, entries_of, made_by, next_owner}
-use Rattle.arc_owners.specs.history.Histories.{Beginning, LivesAlone, NeverLived, owner_made, owner_ended, owners_ever, live_owners, is_counted, is_in, MayFollow}
+use Rattle.arc_owners.specs.history.Histories.{Beginning, LivesAlone, NeverLived, owner_made, owner_ended, owners_ever, live_owners, is_counted, is_promoted, is_in, MayFollow, Lone, Counted}
 use Rattle.arc_owners.specs.history.Machine.{without_number}
-use Rattle.arc_owners.specs.count.Calls.{Owner, Appends, Asks, MayJoin, MakesAnother, FindsFull, Leaves, HasCountIn, IsFirst, IsFreshPass, IsPassOf, IsNewPass, IsSamePass, owner_of, mine, seen}
+use Rattle.arc_owners.specs.count.Calls.{Owner, Appends, Asks, MayJoin, MakesAnother, FindsFull, RefusesOwner, Leaves, HasCountIn, IsFirst, IsFreshPass, IsPassOf, IsNewPass, IsSamePass, owner_of, mine, seen}
 use Rattle.arc_owners.proofs.history.Legality.{legal-at, legal-front}
 use Rattle.arc_owners.proofs.history.Owned.{live-same, live-ended, ever-append}
 use Rattle.arc_owners.proofs.history.Steps.{counted-more}
 use Rattle.arc_owners.proofs.history.Told.{Owned, grown, legal-owned}
+use Rattle.arc_owners.proofs.count.Calls.{begins_counted}
 use Rattle.arc_owners.proofs.count.Rolls.{entries-after, made-after}
 
 -- lines that one pass made
@@ -89,6 +92,53 @@ may-stand {t = t} {new = new} {before = before} {e = e} a = legal-at t.most t.be
 unjoined : {H : Type 0} (o : Owner) {old middle : Pass H} → HasCountIn o.block (seen old) → MayJoin o old middle → middle ≡ old
 unjoined o c (inl same) = same
 unjoined o c (inr joined) = absurd (false≢true (sym joined.1 ∙ c))
+
+promoted-counted : (b : Beginning) (h : List Entry) → IsTrue (is_promoted h) → is_counted b h ≡ true
+unfolding is_counted
+promoted-counted Counted h p = refl
+promoted-counted Lone h p = p
+
+-- a pass whose exchange was lost knows since that the word has a count
+joined-counted : {H : Type 0} (o : Owner) {old new : Pass H} {before : List Line} → Appends o.block old new before (Joined o.number ∷ []) → HasCountIn o.block (seen new)
+joined-counted o {before = before} a =
+    subst (λ (h : List Entry). is_counted o.block.began h ≡ true) (sym (seen-after a))
+    (counted-after o.block.began (entries_of before) (Joined o.number ∷ []) (promoted-counted o.block.began (entries_of before) (may-stand a).1))
+
+-- attempts that were lost, and then one that wasn't, are one call
+pub joins-again : {H : Type 0} (o : Owner) {old middle new : Pass H} → MayJoin o old middle → MayJoin o middle new → MayJoin o old new
+joins-again o {new = new} (inl same) again = subst (λ (p : Pass _). MayJoin o p new) same again
+joins-again o {old = old} (inr joined) again =
+    subst (λ (p : Pass _). MayJoin o old p) (sym (unjoined o (joined-counted o joined.2) again)) (inr joined)
+
+pub joins-makes : {H : Type 0} (o : Owner) {old middle new : Pass H} {other : Owner} → MayJoin o old middle → MakesAnother o middle new other → MakesAnother o old new other
+joins-makes o lost makes = record {
+  middle = makes.middle;
+  joined = joins-again o lost makes.joined;
+  before = makes.before;
+  added = makes.added;
+  made = makes.made;
+}
+
+pub joins-refuses : {H : Type 0} (o : Owner) (old middle new : Pass H) (wants : Bool) (e : OwnerError) → MayJoin o old middle → RefusesOwner wants o middle new e → RefusesOwner wants o old new e
+joins-refuses o old middle new wants CountFull lost full = record {
+  middle = full.middle;
+  joined = joins-again o lost full.joined;
+  before = full.before;
+  added = full.added;
+  full = full.full;
+}
+joins-refuses o old middle new wants AllocError (inl same) why = subst (λ (p : Pass _). RefusesOwner wants o p new AllocError) same why
+joins-refuses o old middle new wants AllocError (inr joined) why = absurd (false≢true (sym why.1 ∙ joined-counted o joined.2))
+
+-- what is refused where no memory may be wanted is refused where some may
+pub refuses-more : {H : Type 0} (o : Owner) (old new : Pass H) (wants : Bool) (e : OwnerError) → RefusesOwner false o old new e → RefusesOwner wants o old new e
+refuses-more o old new wants CountFull full = full
+refuses-more o old new wants AllocError why = absurd (false≢true why.0)
+
+-- the pass is of the same block after an exchange that was lost
+pub joins-pass : {H : Type 0} (o : Owner) {old middle : Pass H} → MayJoin o old middle → IsPassOf o.block old → IsPassOf o.block middle
+joins-pass o (inl same) of = subst (λ (p : Pass _). IsPassOf o.block p) (sym same) of
+joins-pass o (inr joined) of = joined.2.same.0
 
 -- the entry by which a new owner is made
 abbrev making : Bool → ℕ → ℕ → Entry
@@ -186,14 +236,14 @@ counted-new o p c new =
     (counted-after o.block.began (entries_of o.born) (entries_of new.1.0) c)
 
 -- so do the first pass of a block that began with a count, and each new one
-pub counted_first : {H : Type 0} {most : ℕ} {whole : Bool} {o : Owner} (p : Pass H) → IsFirst most whole o → IsFreshPass o p → HasCountIn o.block (seen p)
-counted_first {o = o} p first fresh = subst (λ (ls : List Line). HasCountIn o.block (entries_of ls)) (sym fresh.1) first.counted
+pub counted_first : {H : Type 0} {most : ℕ} {whole : Bool} {o : Owner} (p : Pass H) → IsFirst most whole Counted o → IsFreshPass o p → HasCountIn o.block (seen p)
+counted_first {o = o} p first fresh = subst (λ (ls : List Line). HasCountIn o.block (entries_of ls)) (sym fresh.1) (begins_counted o.block first.began)
 
-pub knows-first : {H : Type 0} {most : ℕ} {whole : Bool} {o : Owner} {t : BlockId} (p : Pass H) → IsFirst most whole o → IsFreshPass o p → o.block ≡ t → KnowsCount t p
+pub knows-first : {H : Type 0} {most : ℕ} {whole : Bool} {o : Owner} {t : BlockId} (p : Pass H) → IsFirst most whole Counted o → IsFreshPass o p → o.block ≡ t → KnowsCount t p
 knows-first p first fresh at = ((fresh.0.0, fresh.0.1 ∙ at), subst (λ (b : BlockId). HasCountIn b (seen p)) at (counted_first p first fresh))
 
-pub counted_forked : {H : Type 0} {most : ℕ} {whole : Bool} {o : Owner} (p : Pass H) → IsFirst most whole o → IsNewPass o p → HasCountIn o.block (seen p)
-counted_forked {o = o} p first new = counted-new o p (subst (λ (ls : List Line). HasCountIn o.block (entries_of ls)) (sym first.born) first.counted) new
+pub counted_forked : {H : Type 0} {most : ℕ} {whole : Bool} {o : Owner} (p : Pass H) → IsFirst most whole Counted o → IsNewPass o p → HasCountIn o.block (seen p)
+counted_forked {o = o} p first new = counted-new o p (subst (λ (ls : List Line). HasCountIn o.block (entries_of ls)) (sym first.born) (begins_counted o.block first.began)) new
 
 -- who was found alone lives alone in what the pass has seen since
 alone-read : {H : Type 0} {t : BlockId} {old new : Pass H} {before : List Line} (by : ℕ) (c : Bool) → Appends t old new before (if c then Alone by true ∷ [] else []) → LivesAlone by (entries_of before) → LivesAlone by (seen new)

@@ -7,14 +7,16 @@ use Rattle.arc_owners.specs.declared.mark.Mark.{Ghosts}
 use Rattle.arc_owners.specs.declared.history.entry.Entry.{Entry}
 use Rattle.arc_owners.specs.declared.history.entry.Entry.TheVariants.{Up, Full, Down, Alone}
 use Rattle.arc_owners.specs.declared.history.entry.Entry.TheVariants.{Promote, Joined}
+use Rattle.arc_owners.specs.declared.error.OwnerError.{OwnerError}
+use Rattle.arc_owners.specs.declared.error.OwnerError.TheVariants.{AllocError, CountFull}
 use Rattle.arc_owners.specs.declared.count.tokens.Owners.{Owners}
 use Rattle.arc_owners.specs.declared.count.tokens.Share.{Share}
 use Rattle.arc_owners.specs.declared.count.tokens.Sole.{Sole}
 use Rattle.arc_owners.specs.declared.count.tokens.Pass.{Pass}
 use Rattle.arc_owners.specs.declared.count.tokens.LifetimeEnd.{LifetimeEnd}
 use Rattle.arc_owners.specs.count.Invariant.{BlockId, Line, Lease, entries_of, made_by}
-use Rattle.arc_owners.specs.history.Histories.{LivesAlone, owners_ever, live_owners, is_counted}
-use Rattle.arc_owners.specs.history.Histories.{IsLegal}
+use Rattle.arc_owners.specs.history.Histories.{IsAlone, owners_ever, live_owners, is_counted}
+use Rattle.arc_owners.specs.history.Histories.{IsLegal, Beginning}
 use Rattle.arc_owners.specs.history.Agreement.{IsOneStep, IsEndWithoutStep}
 
 -- an owner: of which block, its number there, and the history in which it was made, with the entry
@@ -117,7 +119,7 @@ module _ {H : Type 0} where
     pub kept : IsPrefix (history_of old) (history_of new)
     pub own : mine new ≡ mine old
     pub undisturbed : o.block.whole ≡ true → history_of new ≡ history_of old
-    pub alone : LivesAlone o.number (seen new)
+    pub alone : IsAlone o.number (seen new)
 
   -- uniqueness was read: the answer is yes exactly where no other owner lived. On a lone word that
   -- is so, and adds nothing
@@ -125,7 +127,7 @@ module _ {H : Type 0} where
     pub before : List Line
     pub added : Appends o.block old new before
         (if is_counted o.block.began (entries_of before) then Alone o.number found ∷ [] else [])
-    pub exact : IsTrue found ↔ LivesAlone o.number (entries_of before)
+    pub exact : IsTrue found ↔ IsAlone o.number (entries_of before)
 
   -- nothing was done yet, or the exchange was lost that was to promote a word which the pass didn't
   -- know to be counted
@@ -158,11 +160,20 @@ module _ {H : Type 0} where
     pub added : Appends o.block middle new before (Full o.number ∷ [])
     pub full : length (live_owners (entries_of before)) ≡ o.block.most
 
+  -- No owner more was made: the count was found at its greatest; or, where an owner more may want
+  -- memory and the pass didn't know that the word has a count, that was refused, and nothing was
+  -- added.
+  abbrev pub RefusesOwner : (wants : Bool) → Owner → Pass H → Pass H → OwnerError → Type 0
+  RefusesOwner wants o old new CountFull = FindsFull o old new
+  RefusesOwner wants o old new AllocError =
+      (wants ≡ true) × (is_counted o.block.began (entries_of old.trace.lines) ≡ false)
+      × (before : List Line) × Appends o.block old new before []
+
   -- this owner ended: as the last one exactly where no other owner lived
   pub record Leaves (o : Owner) (old new : Pass H) (last : Bool) : Type 0 where
     pub before : List Line
     pub added : Appends o.block old new before (Down o.number ∷ [])
-    pub exact : IsTrue last ↔ LivesAlone o.number (entries_of before)
+    pub exact : IsTrue last ↔ IsAlone o.number (entries_of before)
 
   -- this owner asked, was alone, and ended as the last one
   pub record TakesBlock (o : Owner) (old new : Pass H) : Type 0 where
@@ -194,14 +205,15 @@ pub record EndsShown (H : Type 0) (real : BlockId → ℕ → List Line → Type
   pub ended : EndsByItself o after last
   pub there : IsOfBlock after → real (pass_block after) (pass_number after) (history_of after)
 
--- the first owner of a block that so many owners may have at most, under a mark. Its word has a
--- count
-pub record IsFirst (greatest : ℕ) (one_pass : Bool) (o : Owner) : Type 0 where
+-- the first owner of a block that so many owners may have at most, under a mark, and how its word
+-- begins
+pub record IsFirst (greatest : ℕ) (one_pass : Bool) (beginning : Beginning) (o : Owner)
+    : Type 0 where
   pub number : o.number ≡ 0
   pub born : o.born ≡ []
   pub most : o.block.most ≡ greatest
   pub whole : o.block.whole ≡ one_pass
-  pub counted : HasCountIn o.block []
+  pub began : o.block.began ≡ beginning
 
 -- a pass of a block in which nothing has happened yet
 abbrev pub IsFreshPass : {H : Type 0} → Owner → Pass H → Type 0

@@ -3,7 +3,7 @@ use Rattle.std.specs.Prelude.{◌≡◌, ℕ, ◌+◌, ◌-◌, ◌^◌, ◌<◌
 use mathlib.Core.List.{IsPrefix}
 use Rattle.arc_owners.specs.declared.history.entry.Entry.{Entry}
 use Rattle.arc_owners.specs.declared.history.entry.Entry.TheVariants.{Down}
-use Rattle.arc_owners.specs.history.Histories.{Counted, LivesAlone}
+use Rattle.arc_owners.specs.history.Histories.{Counted, IsAlone}
 use Rattle.arc_owners.specs.declared.count.word.OwnerToken.{OwnerToken}
 use Rattle.arc_owners.specs.declared.count.word.PassState.{PassState}
 use Rattle.arc_owners.specs.declared.count.word.WordBorrow.{WordBorrow}
@@ -72,13 +72,17 @@ abbrev pub Claimed : {H : Type 0} → BlockId → OwnerToken H → OwnerToken H 
 Claimed t own new found = (new.held ≡ true) × (new.block ≡ t) × (new.owner ≡ own.owner)
     × (new.born ≡ own.born) × (new.lease ≡ lease_after own.lease found)
 
-abbrev pub IsNext : ℕ → ℕ → Type 0
-IsNext old next = old < 2 ^ 64 - 1 → next ≡ old + 1
+-- what the word counts once there is an owner more, of a block that so many may have
+abbrev pub next_count : (most count : ℕ) → ℕ
+next_count most count = count + 1
+
+abbrev pub IsNext : (most old next : ℕ) → Type 0
+IsNext most old next = old < 2 ^ 64 - 1 → next ≡ next_count most old
 
 -- this owner ended, and whether it was the last one
 abbrev pub Ends : BlockId → PassState → PassState → ℕ → Bool → Type 0
 Ends t p r o last = (before : List Line) × AddedTo t p.number p.lines (λ _. Down o) before r.lines
-    × (IsTrue last ↔ LivesAlone o (entries_of before))
+    × (IsTrue last ↔ IsAlone o (entries_of before))
 
 -- the pass sees the block's whole history, in which this owner lives alone; it added nothing, and
 -- under `Whole` it had seen it all
@@ -86,7 +90,7 @@ abbrev pub SeesSole : {H : Type 0} → OwnerToken H → PassState → PassState 
 SeesSole own p r =
     SamePass own.block p r × IsPrefix p.lines r.lines
     × (made_by p.number r.lines ≡ made_by p.number p.lines)
-    × (own.block.whole ≡ true → r.lines ≡ p.lines) × LivesAlone own.owner (entries_of r.lines)
+    × (own.block.whole ≡ true → r.lines ≡ p.lines) × IsAlone own.owner (entries_of r.lines)
 
 -- a new pass of a block: it has seen these lines, and made nothing
 abbrev pub IsForkOf : BlockId → List Line → PassState → Type 0

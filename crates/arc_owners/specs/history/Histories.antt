@@ -72,6 +72,10 @@ Lives owner history = IsTrue (is_in owner (live_owners history))
 abbrev pub LivesAlone : ℕ → List Entry → Type 0
 LivesAlone owner history = live_owners history ≡ owner ∷ []
 
+-- the owner is alone with the block: what a look at the count finds, and what the last one is
+abbrev pub IsAlone : ℕ → List Entry → Type 0
+IsAlone owner history = LivesAlone owner history
+
 -- the owner never lived
 abbrev pub NeverLived : ℕ → List Entry → Type 0
 NeverLived owner history = is_in owner (owners_ever history) ≡ false
@@ -93,7 +97,7 @@ MayFollow most began before (Full by) =
     Lives by before × (is_counted began before ≡ true) × (length (live_owners before) ≡ most)
 MayFollow most began before (Down owner) = Lives owner before
 MayFollow most began before (Alone by found) =
-    Lives by before × (is_counted began before ≡ true) × (IsTrue found ↔ LivesAlone by before)
+    Lives by before × (is_counted began before ≡ true) × (IsTrue found ↔ IsAlone by before)
 MayFollow most began before (Promote by new) =
     LivesAlone by before × (is_in new (owners_ever before) ≡ false)
     × (is_counted began before ≡ false)

@@ -2,7 +2,7 @@
 use Rattle.std.specs.Prelude.{◌≡◌, ℕ, ◌≤◌, Bool, IsTrue, ◌↔◌, List, [], ◌∷◌, ◌++◌, length, filter}
 use Rattle.arc_owners.specs.declared.history.entry.Entry.{Entry}
 use Rattle.arc_owners.specs.declared.history.entry.Entry.TheVariants.{Down, Alone, Joined}
-use Rattle.arc_owners.specs.history.Histories.{live_owners, is_promotion, is_promoted, LivesAlone}
+use Rattle.arc_owners.specs.history.Histories.{live_owners, is_promotion, is_promoted, IsAlone}
 
 -- one exchange wins at most
 abbrev pub PromotedOnce : List Entry → Type 0
@@ -23,9 +23,9 @@ abbrev pub ReleasedByLast : List Entry → Type 0
 ReleasedByLast history =
     (before after : List Entry) (entry : Entry) → history ≡ before ++ entry ∷ after
     → live_owners (before ++ entry ∷ []) ≡ []
-    → (owner : ℕ) × (entry ≡ Down owner) × LivesAlone owner before
+    → (owner : ℕ) × (entry ≡ Down owner) × IsAlone owner before
 
 -- uniqueness is found exactly where no other owner lives
 abbrev pub AloneIsExact : List Entry → Type 0
 AloneIsExact history = (before after : List Entry) (by : ℕ) (found : Bool)
-    → history ≡ before ++ Alone by found ∷ after → (IsTrue found ↔ LivesAlone by before)
+    → history ≡ before ++ Alone by found ∷ after → (IsTrue found ↔ IsAlone by before)

@@ -2,6 +2,7 @@
 ghost use Rattle.std.specs.Prelude.{◌≡◌, ◌≢◌, ◌≤◌, ◌==◌, true, false, [], IfSome, IfNone, IfOk};
 ghost use Rattle.std.specs.Prelude.{IfErr};
 ghost use mathlib.Core.List.{IsPrefix};
+ghost use Rattle.arc_owners.specs.history.Histories.{Counted};
 ghost use Rattle.arc_owners.specs.count.Calls.{block_of, owner_of, lease_of, IsFirst, IsFreshPass};
 ghost use Rattle.arc_owners.specs.count.Calls.{IsOwnerOf, IsPassOf, IsPassOfNone, IsSamePass};
 ghost use Rattle.arc_owners.specs.count.Calls.{IsNewPass, Learns, Asks, MakesAnother, FindsFull};
@@ -76,7 +77,8 @@ impl<const MAX: u64, H: Mark> Owners<MAX, H> {
     pub fn new() -> (Owners<MAX, H>, Share<H>, Pass<H>)
         requires { 2 ≤ MAX }
         ensures share { IsOwnerOf (block_of result.0) result.1 }
-        ensures first { IsFirst MAX H.whole (owner_of result.1) }
+        ensures first { IsFirst MAX H.whole Counted (owner_of result.1) }
+        ensures counted { HasCountIn (block_of result.0) [] }
         ensures pass { IsFreshPass (owner_of result.1) result.2 }
     {
         let (word, right, trace) = H::open(Internal, MAX, true);

@@ -1,6 +1,6 @@
 //! Sole owners: a block that one owner has to itself, lent, or ended without a step.
 ghost use Rattle.std.specs.Prelude.{◌≡◌, ◌≢◌, ◌≤◌, ◌==◌, true, false, IfOk, IfErr, is_ok};
-ghost use Rattle.arc_owners.specs.history.Histories.{LivesAlone};
+ghost use Rattle.arc_owners.specs.history.Histories.{Counted, IsAlone};
 ghost use Rattle.arc_owners.specs.count.Calls.{block_of, owner_of, sole_owner, lease_of, seen};
 ghost use Rattle.arc_owners.specs.count.Calls.{IsOwnerOf, IsPassOf, IsFirst, IsFreshPass};
 ghost use Rattle.arc_owners.specs.count.Calls.{SeesAlone, Asks, Leaves, IsTermOf, EndsInOneStep};
@@ -51,9 +51,9 @@ impl<const MAX: u64, H: Mark> Owners<MAX, H> {
     pub fn new_sole() -> (Owners<MAX, H>, Sole<H>, Pass<H>)
         requires { 2 ≤ MAX }
         ensures sole { (sole_owner result.1).block ≡ block_of result.0 }
-        ensures first { IsFirst MAX H.whole (sole_owner result.1) }
+        ensures first { IsFirst MAX H.whole Counted (sole_owner result.1) }
         ensures pass { IsFreshPass (sole_owner result.1) result.2 }
-        ensures alone { LivesAlone (sole_owner result.1).number (seen result.2) }
+        ensures alone { IsAlone (sole_owner result.1).number (seen result.2) }
     {
         let (word, right, trace) = H::open(Internal, MAX, false);
         (

@@ -156,7 +156,7 @@ impl Word {
         next: u64,
     ) -> u64
         requires { IsHeld self.now by.now × IsOf self.now pass.old × (old ≢ self.now.most)
-            × IsNext old next }
+            × IsNext self.now.most old next }
         ensures { SamePass self.now pass.old pass.new
             × RaisedIf self.now pass.old pass.new by.now new.new (result == old) }
     {
@@ -174,7 +174,7 @@ impl Word {
         next: u64,
     ) -> u64
         requires { IsHeld self.now by.now × IsOf self.now pass.old × (old ≢ self.now.most)
-            × IsNext old next }
+            × IsNext self.now.most old next }
         ensures { SamePass self.now pass.old pass.new
             × RaisedIf self.now pass.old pass.new by.now new.new (result == old) }
     {

@@ -112,6 +112,7 @@ const _: () = prove!(size_of::<CountedBox<u64, Global, 3>>() == 8);
 impl<V: Drop, A: Allocator + Copy, const MAX: u64, H: Mark> CountedBox<V, A, MAX, H> {
     ghost use Rattle.std.specs.Prelude.{◌≡◌, ◌≤◌, IfOk, IfErr, IfSome, is_some, is_ok, true, false};
     ghost use Rattle.std.specs.Prelude.{None, length, take, drop};
+    ghost use Rattle.arc_owners.specs.history.Histories.{Counted};
     ghost use Rattle.arc_owners.specs.count.Calls.{IsPassFor, IsPassOfNone, IsFirst, IsFreshPass};
     ghost use Rattle.arc_owners.specs.count.Calls.{IsNewPass, Learns, Asks, FindsFull};
     ghost use Rattle.arc_owners.specs.count.Calls.{MakesAnother, Leaves, TakesBlock, EndsByItself};
@@ -127,7 +128,7 @@ impl<V: Drop, A: Allocator + Copy, const MAX: u64, H: Mark> CountedBox<V, A, MAX
     /// live at once.
     pub fn new(alloc: A, value: V) -> Result<(Self, Pass<H>), V>
         requires { 2 ≤ MAX }
-        ensures made { IfOk result (λ r. IsFirst MAX H.whole (owner_in r.0)
+        ensures made { IfOk result (λ r. IsFirst MAX H.whole Counted (owner_in r.0)
             × (value_of r.0 ≡ value)) }
         ensures pass { IfOk result (λ r. IsFreshPass (owner_in r.0) r.1) }
         ensures refused { IfErr result (λ back. back ≡ value) }

@@ -40,7 +40,7 @@ pub(crate) fn housed_parts<V: Drop, A: Allocator + Copy>(
 
 impl<V: Drop, A: Allocator + Copy, const MAX: u64, H: Mark> SoleBox<V, A, MAX, H> {
     ghost use Rattle.std.specs.Prelude.{◌≡◌, ◌≤◌, IfOk, IfErr, IfSome, is_some, true, false, None};
-    ghost use Rattle.arc_owners.specs.history.Histories.{LivesAlone};
+    ghost use Rattle.arc_owners.specs.history.Histories.{Counted, IsAlone};
     ghost use Rattle.arc_owners.specs.count.Calls.{IsPassFor, IsPassOfNone, IsFirst, IsFreshPass};
     ghost use Rattle.arc_owners.specs.count.Calls.{Learns, Leaves, SeesAlone, EndsByItself, Asks};
     ghost use Rattle.arc_owners.specs.count.Calls.{EndsWithoutStep, seen, history_of, sole_owner};
@@ -57,10 +57,10 @@ impl<V: Drop, A: Allocator + Copy, const MAX: u64, H: Mark> SoleBox<V, A, MAX, H
     /// may live at once.
     pub fn new(alloc: A, value: V) -> Result<(Self, Pass<H>), V>
         requires { 2 ≤ MAX }
-        ensures made { IfOk result (λ r. IsFirst MAX H.whole (sole_in r.0)
+        ensures made { IfOk result (λ r. IsFirst MAX H.whole Counted (sole_in r.0)
             × (sole_value r.0 ≡ value)) }
         ensures pass { IfOk result (λ r. IsFreshPass (sole_in r.0) r.1) }
-        ensures alone { IfOk result (λ r. LivesAlone (sole_in r.0).number (seen r.1)) }
+        ensures alone { IfOk result (λ r. IsAlone (sole_in r.0).number (seen r.1)) }
         ensures refused { IfErr result (λ back. back ≡ value) }
     {
         let (owners, sole, pass) = Owners::<MAX, H>::new_sole();

@@ -20,7 +20,7 @@ const _: () = prove!(size_of::<SoleCount<3>>() == 8);
 
 impl<const MAX: u64, H: Mark> SoleCount<MAX, H> {
     ghost use Rattle.std.specs.Prelude.{◌≤◌, is_some, true, false, None};
-    ghost use Rattle.arc_owners.specs.history.Histories.{LivesAlone};
+    ghost use Rattle.arc_owners.specs.history.Histories.{Counted, IsAlone};
     ghost use Rattle.arc_owners.specs.count.Calls.{IsPassFor, IsPassOfNone, IsFirst, IsFreshPass};
     ghost use Rattle.arc_owners.specs.count.Calls.{Learns, Leaves, SeesAlone, EndsByItself};
     ghost use Rattle.arc_owners.specs.count.Calls.{EndsWithoutStep, seen, history_of, Asks};
@@ -30,9 +30,9 @@ impl<const MAX: u64, H: Mark> SoleCount<MAX, H> {
     /// `MAX`, at least 2, is how many owners may live at once. Takes no memory.
     pub fn new() -> (Self, Pass<H>)
         requires { 2 ≤ MAX }
-        ensures first { IsFirst MAX H.whole (count_owner result.0) }
+        ensures first { IsFirst MAX H.whole Counted (count_owner result.0) }
         ensures pass { IsFreshPass (count_owner result.0) result.1 }
-        ensures alone { LivesAlone (count_owner result.0).number (seen result.1) }
+        ensures alone { IsAlone (count_owner result.0).number (seen result.1) }
     {
         let (owners, sole, pass) = Owners::<MAX, H>::new_sole();
         (SoleCount { owners, sole }, pass)

@@ -1,4 +1,5 @@
 //! Parts over a caller's buffer, or over an `Arc` of one: made of them, and taken back.
+ghost use Rattle.arc_owners.specs.history.Histories.{Counted};
 ghost use Rattle.std.specs.Prelude.{◌≡◌, ◌↔◌, false, length, Some, None};
 ghost use Rattle.std.specs.Prelude.{IfOk, IfErr, IfSome, IfNone, IsTrue};
 ghost use Rattle.std.specs.Arc.{arc_value};
@@ -49,7 +50,7 @@ impl<S: Slice, B: Buffer<S::Item> + Drop, M: Drop, A: Allocator + Copy, H: Mark>
         pass: &mut Pass<H>,
     ) -> Result<Self, (B, Option<M>)>
         requires pass { IsPassOfNone pass.old }
-        ensures made { IfOk result (λ parts. MakesOver H.whole
+        ensures made { IfOk result (λ parts. MakesOver Counted H.whole
             (buffer_info false (B.places buffer) (length (B.list buffer)) metadata)
             (B.list buffer) (window_of parts)) }
         ensures role { IfOk result (λ parts. parts.role ≡ reader) }
@@ -102,7 +103,7 @@ impl<S: Slice, B: Buffer<S::Item> + Drop, M: Drop, A: Allocator + Copy, H: Mark>
     /// All items of a caller's buffer behind an `Arc`, on a block that keeps the `Arc` and counts
     /// its own owners. The pass becomes the block's.
     fn try_over_raw_as(alloc: A, shared: Arc<B, A>, pass: &mut Pass<H>) -> Result<Self, Arc<B, A>>
-        ensures made { IfOk result (λ parts. MakesOver H.whole
+        ensures made { IfOk result (λ parts. MakesOver Counted H.whole
             (raw_info (length (B.list (arc_value shared)))) (B.list (arc_value shared))
             (window_of parts)) }
         ensures role { IfOk result (λ parts. parts.role ≡ reader) }

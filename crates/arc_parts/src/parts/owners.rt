@@ -6,7 +6,7 @@ ghost use Rattle.arc_block.specs.Block.{IsLimited};
 ghost use Rattle.arc_block.specs.LayoutFacts.{layout_facts};
 ghost use Rattle.arc_block.specs.Place.{at_owner, part_place};
 ghost use Rattle.arc_block.specs.Table.{reader};
-ghost use Rattle.arc_parts.specs.Steps.{IsPassAt, Shares, Refuses};
+ghost use Rattle.arc_parts.specs.Steps.{IsPassAt, MayJoinAt, Shares, Refuses};
 ghost use Rattle.arc_block.specs.Unique.{AsksUniqueAt, AsksOwnAt, IsAnswerAt};
 ghost use Rattle.arc_parts.specs.Window.{IsHeld};
 
@@ -30,7 +30,8 @@ impl<S: Slice, B: Buffer<S::Item> + Drop, M: Drop, A: Allocator + Copy, H: Mark>
     H,
 > {
     /// One attempt to make another owner of the same items at the same place: nothing where another
-    /// thread's step came between, which only a block's owner can meet, and then no entry is added.
+    /// thread's step came between, which only a block's owner can meet. On a word that has a count
+    /// no entry is added then; where the exchange was lost that was to promote it, Joined.
     ///
     /// # Errors
     ///
@@ -56,17 +57,16 @@ impl<S: Slice, B: Buffer<S::Item> + Drop, M: Drop, A: Allocator + Copy, H: Mark>
         ensures role { IfSome result (λ r. IfOk r (λ parts. parts.role ≡ reader)) }
         ensures refused { IfSome result (λ r. IfErr r (λ e.
             Refuses L.clone_wants self.now.place pass.old pass.new e)) }
-        ensures owned { IfNone result (at_owner self.now.place ⊥ (λ _. Unit {0})) }
-        ensures again { IfNone result (pass.new ≡ pass.old) }
+        ensures again { IfNone result (MayJoinAt self.now.place pass.old pass.new) }
     {
         let on = match &self.on {
             Storage::Native(block) => match block.try_share_once_as(leave, pass)? {
                 Ok(block) => Storage::Native(block),
-                Err(e) => return Some(Err(e.into())),
+                Err(e) => return Some(Err(e)),
             },
             Storage::Block(block) => match block.try_share_once_as(leave, pass)? {
                 Ok(block) => Storage::Block(block),
-                Err(e) => return Some(Err(e.into())),
+                Err(e) => return Some(Err(e)),
             },
             Storage::Static(items) => Storage::Static(items.again()),
             Storage::Nothing(items) => Storage::Nothing(items.again()),
@@ -116,10 +116,9 @@ impl<S: Slice, B: Buffer<S::Item> + Drop, M: Drop, A: Allocator + Copy, H: Mark>
             Refuses L.clone_wants
             (part_place L.STATIC (sub self.now.items start end) start self.now.place)
             pass.old pass.new e)) }
-        ensures owned { IfNone result (at_owner
+        ensures again { IfNone result (MayJoinAt
             (part_place L.STATIC (sub self.now.items start end) start self.now.place)
-            ⊥ (λ _. Unit {0})) }
-        ensures again { IfNone result (pass.new ≡ pass.old) }
+            pass.old pass.new) }
     {
         if stands_on_nothing::<L>(end - start) {
             return Some(Ok(Self::on_nothing(self.alloc)));
@@ -135,7 +134,7 @@ impl<S: Slice, B: Buffer<S::Item> + Drop, M: Drop, A: Allocator + Copy, H: Mark>
                     end: to,
                     alloc: self.alloc,
                 })),
-                Err(e) => Some(Err(e.into())),
+                Err(e) => Some(Err(e)),
             },
             Storage::Block(block) => match block.try_share_once_as(leave, pass)? {
                 Ok(block) => Some(Ok(Parts {
@@ -144,7 +143,7 @@ impl<S: Slice, B: Buffer<S::Item> + Drop, M: Drop, A: Allocator + Copy, H: Mark>
                     end: to,
                     alloc: self.alloc,
                 })),
-                Err(e) => Some(Err(e.into())),
+                Err(e) => Some(Err(e)),
             },
             Storage::Static(items) => Some(Ok(Parts {
                 on: Storage::Static(items.again()),

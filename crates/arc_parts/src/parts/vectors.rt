@@ -57,7 +57,7 @@ impl<S: Slice, B: Buffer<S::Item> + Drop, M: Drop, A: Allocator + Copy, H: Mark>
         pass: &mut Pass<H>,
     ) -> Result<Self, Vec<S::Item, A>>
         requires pass { IsPassOfNone pass.old }
-        ensures made { IfOk result (λ parts. MakesOfVec L.STATIC S.DROPS H.whole items.items
+        ensures made { IfOk result (λ parts. MakesOfVec L.STATIC L.lone S.DROPS H.whole items.items
             (vec_capacity items) (window_of parts)) }
         ensures role { IfOk result (λ parts. parts.role ≡ reader) }
         ensures pass { IfOk result (λ parts. Begins (window_of parts) pass.old pass.new) }

@@ -1,4 +1,5 @@
 //! Read windows over a caller's buffer, or over an `Arc` of one: made of them, and taken back.
+ghost use Rattle.arc_owners.specs.history.Histories.{Counted};
 ghost use Rattle.std.specs.Prelude.{◌≡◌, false, length, Some, None};
 ghost use Rattle.std.specs.Prelude.{IfOk, IfErr, IfSome, IfNone};
 ghost use Rattle.std.specs.Arc.{arc_value};
@@ -39,7 +40,7 @@ impl<
         pass: &mut Pass<H>,
     ) -> Result<Self, (B, Option<M>)>
         requires pass { IsPassOfNone pass.old }
-        ensures made { IfOk result (λ window. MakesOver H.whole
+        ensures made { IfOk result (λ window. MakesOver Counted H.whole
             (buffer_info false (B.places buffer) (length (B.list buffer)) metadata)
             (B.list buffer) window) }
         ensures pass { IfOk result (λ window. Begins window pass.old pass.new) }
@@ -65,7 +66,7 @@ impl<
     /// Once.
     pub fn try_from_buffer_as(alloc: A, buffer: B, pass: &mut Pass<H>) -> Result<Self, B>
         requires pass { IsPassOfNone pass.old }
-        ensures made { IfOk result (λ window. MakesOver H.whole
+        ensures made { IfOk result (λ window. MakesOver Counted H.whole
             (buffer_info false (B.places buffer) (length (B.list buffer)) None)
             (B.list buffer) window) }
         ensures pass { IfOk result (λ window. Begins window pass.old pass.new) }
@@ -95,7 +96,7 @@ impl<
         pass: &mut Pass<H>,
     ) -> Result<Self, (B, M)>
         requires pass { IsPassOfNone pass.old }
-        ensures made { IfOk result (λ window. MakesOver H.whole
+        ensures made { IfOk result (λ window. MakesOver Counted H.whole
             (buffer_info false (B.places buffer) (length (B.list buffer)) (Some metadata))
             (B.list buffer) window) }
         ensures pass { IfOk result (λ window. Begins window pass.old pass.new) }
@@ -243,7 +244,7 @@ impl<
     ///
     /// Once.
     pub fn try_from_buffer(alloc: A, buffer: B) -> Result<Self, B>
-        ensures made { IfOk result (λ window. MakesOver H.whole
+        ensures made { IfOk result (λ window. MakesOver Counted H.whole
             (buffer_info false (B.places buffer) (length (B.list buffer)) None)
             (B.list buffer) window) }
         ensures pass { IfOk result (λ window.
@@ -267,7 +268,7 @@ impl<
     ///
     /// Once.
     pub fn try_from_buffer_with_metadata(alloc: A, buffer: B, metadata: M) -> Result<Self, (B, M)>
-        ensures made { IfOk result (λ window. MakesOver H.whole
+        ensures made { IfOk result (λ window. MakesOver Counted H.whole
             (buffer_info false (B.places buffer) (length (B.list buffer)) (Some metadata))
             (B.list buffer) window) }
         ensures pass { IfOk result (λ window.

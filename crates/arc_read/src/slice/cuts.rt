@@ -3,7 +3,7 @@ ghost use Rattle.std.specs.Prelude.{◌≡◌, ◌<◌, length, drop, take, slic
 ghost use Rattle.std.specs.Prelude.{IfOk, IfErr, IfSome, IfNone};
 ghost use Rattle.arc_buffer.specs.Slice.{IsEdge, IsRange, sub};
 ghost use Rattle.arc_block.specs.Place.{at_owner, moved};
-ghost use Rattle.arc_parts.specs.Steps.{IsPassAt, Shares, Refuses};
+ghost use Rattle.arc_parts.specs.Steps.{IsPassAt, MayJoinAt, Shares, Refuses};
 ghost use Rattle.arc_read.specs.Cuts.{sub_place};
 
 use super::ArcSlice;
@@ -26,7 +26,7 @@ impl<
     H: Mark,
 > ArcSlice<S, L, B, M, A, H> {
     /// One attempt of `try_clone_as`: nothing where another thread's step came between, which only
-    /// a block's owner can meet, and then no entry is added.
+    /// a block's owner can meet. On a word that has a count no entry is added then.
     #[tactic(auto, using(arc_parts::proofs::Held::shared_held))]
     #[inline(always)]
     pub(super) fn try_clone_once_as(
@@ -40,8 +40,7 @@ impl<
             Shares self.now.place pass.old pass.new window.place)) }
         ensures refused { IfSome result (λ r. IfErr r (λ e.
             Refuses L.clone_wants self.now.place pass.old pass.new e)) }
-        ensures owned { IfNone result (at_owner self.now.place ⊥ (λ _. Unit {0})) }
-        ensures again { IfNone result (pass.new ≡ pass.old) }
+        ensures again { IfNone result (MayJoinAt self.now.place pass.old pass.new) }
     {
         match self.parts.try_clone_once_as::<L>(leave, pass)? {
             Ok(parts) => Some(Ok(Self::from_parts(parts))),
@@ -88,8 +87,8 @@ impl<
         unreachable!()
     }
 
-    /// One attempt of `try_subslice_as`: nothing where another thread's step came between, and then
-    /// no entry is added.
+    /// One attempt of `try_subslice_as`: nothing where another thread's step came between. On a word
+    /// that has a count no entry is added then.
     #[inline(always)]
     pub(super) fn try_subslice_once_as(
         &self,
@@ -108,9 +107,8 @@ impl<
             Shares (sub_place L.STATIC self.now start end) pass.old pass.new part.place)) }
         ensures refused { IfSome result (λ r. IfErr r (λ e.
             Refuses L.clone_wants (sub_place L.STATIC self.now start end) pass.old pass.new e)) }
-        ensures owned { IfNone result
-            (at_owner (sub_place L.STATIC self.now start end) ⊥ (λ _. Unit {0})) }
-        ensures again { IfNone result (pass.new ≡ pass.old) }
+        ensures again { IfNone result
+            (MayJoinAt (sub_place L.STATIC self.now start end) pass.old pass.new) }
     {
         match self.parts.try_part_once_as::<L>(leave, start, end, pass)? {
             Ok(parts) => Some(Ok(Self::from_parts(parts))),

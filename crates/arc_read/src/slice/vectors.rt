@@ -37,7 +37,7 @@ impl<
     ) -> Result<Self, Vec<S::Item, A>>
         requires legal { S.is_legal items.items }
         requires pass { IsPassOfNone pass.old }
-        ensures made { IfOk result (λ window. MakesOfVec L.STATIC S.DROPS H.whole items.items
+        ensures made { IfOk result (λ window. MakesOfVec L.STATIC L.lone S.DROPS H.whole items.items
             (vec_capacity items) window) }
         ensures pass { IfOk result (λ window. Begins window pass.old pass.new) }
         ensures refused { IfErr result (λ back. (back ≡ items)
@@ -66,7 +66,7 @@ impl<
         S: VecIn<A>,
         requires pass { IsPassOfNone pass.old }
         ensures made { IfOk result (λ window. (inner : Vec S.Item A) × S.Vec.wraps items inner
-            × MakesOfVec L.STATIC S.DROPS H.whole (S.list_in_vec items) (vec_capacity inner)
+            × MakesOfVec L.STATIC L.lone S.DROPS H.whole (S.list_in_vec items) (vec_capacity inner)
             window) }
         ensures pass { IfOk result (λ window. Begins window pass.old pass.new) }
         ensures refused { IfErr result (λ back. (inner : Vec S.Item A) × S.Vec.wraps items inner
@@ -100,7 +100,7 @@ impl<
     where
         S: VecIn<A>,
         requires pass { IsPassOfNone pass.old }
-        ensures made { IfOk result (λ window. MakesOfVec L.STATIC S.DROPS H.whole
+        ensures made { IfOk result (λ window. MakesOfVec L.STATIC L.lone S.DROPS H.whole
             (S.list_in_boxed items) (length (S.list_in_boxed items)) window) }
         ensures pass { IfOk result (λ window. Begins window pass.old pass.new) }
         ensures refused { IfErr result (λ back. (S.list_in_boxed back ≡ S.list_in_boxed items)
@@ -206,7 +206,7 @@ impl<
     where
         S: VecIn<A>,
         ensures made { IfOk result (λ window. (inner : Vec S.Item A) × S.Vec.wraps items inner
-            × MakesOfVec L.STATIC S.DROPS H.whole (S.list_in_vec items) (vec_capacity inner)
+            × MakesOfVec L.STATIC L.lone S.DROPS H.whole (S.list_in_vec items) (vec_capacity inner)
             window) }
         ensures pass { IfOk result (λ window.
             WithNewPass {M = M} {H = H} H.real nowhere (λ first last. Begins window first last)) }
@@ -231,7 +231,7 @@ impl<
     pub fn try_from_boxed(alloc: A, items: S::Boxed) -> Result<Self, S::Boxed>
     where
         S: VecIn<A>,
-        ensures made { IfOk result (λ window. MakesOfVec L.STATIC S.DROPS H.whole
+        ensures made { IfOk result (λ window. MakesOfVec L.STATIC L.lone S.DROPS H.whole
             (S.list_in_boxed items) (length (S.list_in_boxed items)) window) }
         ensures pass { IfOk result (λ window.
             WithNewPass {M = M} {H = H} H.real nowhere (λ first last. Begins window first last)) }

@@ -42,7 +42,7 @@ impl<
         requires pass { IsPassOfNone pass.old }
         ensures role { IfOk result (λ window. window.role ≡ reader) }
         ensures made { IfOk result (λ window. (inner : Vec ℕ A) × S.Vec.wraps items inner
-            × MakesOfVec L.STATIC S.DROPS H.whole (S.list_in_vec items) (vec_capacity inner)
+            × MakesOfVec L.STATIC L.lone S.DROPS H.whole (S.list_in_vec items) (vec_capacity inner)
             (window_of window)) }
         ensures pass { IfOk result (λ window. Begins (window_of window) pass.old pass.new) }
         ensures refused { IfErr result (λ back. (inner : Vec ℕ A) × S.Vec.wraps items inner
@@ -74,7 +74,7 @@ impl<
         S: VecIn<A>,
         requires pass { IsPassOfNone pass.old }
         ensures role { IfOk result (λ window. window.role ≡ reader) }
-        ensures made { IfOk result (λ window. MakesOfVec L.STATIC S.DROPS H.whole
+        ensures made { IfOk result (λ window. MakesOfVec L.STATIC L.lone S.DROPS H.whole
             (S.list_in_boxed items) (length (S.list_in_boxed items)) (window_of window)) }
         ensures pass { IfOk result (λ window. Begins (window_of window) pass.old pass.new) }
         ensures refused { IfErr result (λ back. (S.list_in_boxed back ≡ S.list_in_boxed items)
@@ -111,7 +111,7 @@ impl<
         S: VecIn<A>,
         ensures role { IfOk result (λ window. window.role ≡ reader) }
         ensures made { IfOk result (λ window. (inner : Vec ℕ A) × S.Vec.wraps items inner
-            × MakesOfVec L.STATIC S.DROPS H.whole (S.list_in_vec items) (vec_capacity inner)
+            × MakesOfVec L.STATIC L.lone S.DROPS H.whole (S.list_in_vec items) (vec_capacity inner)
             (window_of window)) }
         ensures pass { IfOk result (λ window.
             WithNewPass {M = M} {H = H} H.real nowhere (λ first last.
@@ -138,7 +138,7 @@ impl<
     where
         S: VecIn<A>,
         ensures role { IfOk result (λ window. window.role ≡ reader) }
-        ensures made { IfOk result (λ window. MakesOfVec L.STATIC S.DROPS H.whole
+        ensures made { IfOk result (λ window. MakesOfVec L.STATIC L.lone S.DROPS H.whole
             (S.list_in_boxed items) (length (S.list_in_boxed items)) (window_of window)) }
         ensures pass { IfOk result (λ window.
             WithNewPass {M = M} {H = H} H.real nowhere (λ first last.

@@ -6,7 +6,7 @@ ghost use Rattle.arc_owners.specs.count.Calls.{IsPassOfNone, Leaves};
 ghost use Rattle.arc_block.specs.Block.{vector};
 ghost use Rattle.arc_block.specs.Place.{nowhere, at_owner};
 ghost use Rattle.arc_parts.specs.Window.{IsVecPart, IsBoxWhole};
-ghost use Rattle.arc_parts.specs.Writers.{MakesWriterOver};
+ghost use Rattle.arc_parts.specs.Writers.{MakesVecWriter};
 ghost use Rattle.arc_block.specs.Place.{size_at};
 ghost use Rattle.arc_parts.specs.Steps.{IsPassAt};
 ghost use Rattle.arc_read.specs.Steps.{WithNewPass};
@@ -37,7 +37,7 @@ impl<
     ) -> Result<Self, Vec<S::Item, A>>
         requires legal { S.is_legal items.items }
         requires pass { IsPassOfNone pass.old }
-        ensures made { IfOk result (λ window. MakesWriterOver vector S.DROPS H.whole items.items
+        ensures made { IfOk result (λ window. MakesVecWriter L.lone S.DROPS H.whole items.items
             (vec_capacity items) window pass.old pass.new) }
         ensures refused { IfErr result (λ back. (back ≡ items) × (1 ≤ vec_capacity items)
             × (pass.new ≡ pass.old)) }
@@ -64,7 +64,7 @@ impl<
         S: VecIn<A>,
         requires pass { IsPassOfNone pass.old }
         ensures made { IfOk result (λ window. (inner : Vec S.Item A) × S.Vec.wraps items inner
-            × MakesWriterOver vector S.DROPS H.whole (S.list_in_vec items) (vec_capacity inner)
+            × MakesVecWriter L.lone S.DROPS H.whole (S.list_in_vec items) (vec_capacity inner)
             window pass.old pass.new) }
         ensures refused { IfErr result (λ back. (inner : Vec S.Item A) × S.Vec.wraps items inner
             × S.Vec.wraps back inner × (1 ≤ vec_capacity inner) × (pass.new ≡ pass.old)) }
@@ -167,7 +167,7 @@ impl<
         S: VecIn<A>,
         ensures made { IfOk result (λ window.
             WithNewPass {M = M} {H = H} H.real nowhere (λ first last. (inner : Vec S.Item A)
-            × S.Vec.wraps items inner × MakesWriterOver vector S.DROPS H.whole (S.list_in_vec items)
+            × S.Vec.wraps items inner × MakesVecWriter L.lone S.DROPS H.whole (S.list_in_vec items)
             (vec_capacity inner) window first last)) }
         ensures refused { IfErr result (λ back. (inner : Vec S.Item A) × S.Vec.wraps items inner
             × S.Vec.wraps back inner × (1 ≤ vec_capacity inner)) }

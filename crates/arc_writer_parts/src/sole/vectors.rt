@@ -1,4 +1,5 @@
 //! A sole writer's parts over a vector: made of one, and taken back as one.
+ghost use Rattle.arc_owners.specs.history.Histories.{Counted};
 ghost use Rattle.std.specs.Prelude.{◌≡◌, ◌≤◌, true, IfOk, IfErr};
 ghost use Rattle.std.specs.Vec.{vec_capacity};
 ghost use Rattle.arc_owners.specs.count.Calls.{IsPassOfNone, Leaves};
@@ -40,7 +41,7 @@ impl<S: Slice, B: BufferMut<S::Item> + Drop, M: Drop, A: Allocator + Copy, H: Ma
         pass: &mut Pass<H>,
     ) -> Result<Self, Vec<S::Item, A>>
         requires pass { IsPassOfNone pass.old }
-        ensures made { IfOk result (λ parts. MakesWriterOver vector S.DROPS H.whole items.items
+        ensures made { IfOk result (λ parts. MakesWriterOver Counted vector S.DROPS H.whole items.items
             (vec_capacity items) parts pass.old pass.new) }
         ensures refused { IfErr result (λ back. (back ≡ items) × (1 ≤ vec_capacity items)
             × (pass.new ≡ pass.old)) }

@@ -1,7 +1,7 @@
 use Rattle.std.proofs.Common.{◌≡◌, true, false, [], ◌∷◌, ◌∙◌, refl, subst, lit<}
 use Rattle.arc_owners.specs.declared.history.entry.Entry.TheVariants.{Up, Full, Down}
 use Rattle.arc_owners.specs.declared.count.tokens.Pass.{Pass}
-use Rattle.arc_owners.specs.history.Histories.{owners_ever, owners_ended, live_owners}
+use Rattle.arc_owners.specs.history.Histories.{Counted, owners_ever, owners_ended, live_owners}
 use Rattle.arc_owners.specs.count.Invariant.{BlockId}
 use Rattle.arc_owners.specs.count.Calls.{Owner, IsFirst, IsFreshPass, IsPassOf, HasCountIn, MakesAnother, FindsFull, Leaves, seen}
 use Rattle.arc_owners_tests.proofs.Runs.{Ran, ran-none, made-one, ran-up, ran-full, ran-down, no-up, no-full, not-last}
@@ -9,7 +9,7 @@ use Rattle.arc_owners.proofs.Wholes.{same-made, same-left}
 use Rattle.arc_owners_tests.proofs.counted.worked_run.Goals as goal
 
 -- the history after each call of the run, all of them through the first owner but for the end
-module _ {H : Type 0} {o : Owner} (f : IsFirst 3 true o) where
+module _ {H : Type 0} {o : Owner} (f : IsFirst 3 true Counted o) where
   one : {p q : Pass H} {a : Owner} → IsFreshPass o p → MakesAnother o p q a → Ran o.block q (Up 0 1 ∷ [])
   unfolding owners_ever
   one fresh makes = ran-up f.whole (ran-none f fresh) refl 0 1 f.number refl makes

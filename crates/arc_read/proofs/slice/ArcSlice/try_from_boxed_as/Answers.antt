@@ -13,7 +13,8 @@ returns-in-Ok-try_from_legal_vec_as-clause-made g c =
     let exact = c.in-Ok.ensures.exact in
     let list = exact.0 ∙ c.into_vec.ensures.items
     ∙ g.met.S.VecIn.boxed_list c.args.items c.into_inner.result c.into_inner.ensures.inner in
-    subst (λ n. MakesOfVec static drops whole (g.S.VecIn.list_in_boxed c.args.items) n w)
+    subst (λ n.
+    MakesOfVec static g.L.Layout.lone drops whole (g.S.VecIn.list_in_boxed c.args.items) n w)
     (exact.1 ∙ ap length list)
-    (subst (λ xs. MakesOfVec static drops whole xs (vec_capacity inner) w) list
+    (subst (λ xs. MakesOfVec static g.L.Layout.lone drops whole xs (vec_capacity inner) w) list
     c.in-Ok-try_from_legal_vec_as.ensures.made)

@@ -9,7 +9,7 @@ returns-in-Ok-clause-made g c =
     let inner = c.into_inner.result in let wrapped = c.into_inner.ensures.inner in (
       inner,
       wrapped,
-      subst (λ xs. MakesOfVec g.L.Layout.STATIC g.S.Slice.DROPS g.H.Mark.whole xs
+      subst (λ xs. MakesOfVec g.L.Layout.STATIC g.L.Layout.lone g.S.Slice.DROPS g.H.Mark.whole xs
           (vec_capacity inner) c.in-Ok.window)
           (g.met.S.VecIn.vec_list c.args.items inner wrapped) c.in-Ok.ensures.made,
     )
