@@ -305,8 +305,8 @@ fn one_hex(rest: Rest) -> Option<Hex>
     }
 }
 
-/// The form whose first word this is. A match tests the length and then bytes; seven words are what
-/// the proof of one takes by search, so there are five.
+/// The form whose first word this is. A match tests the length and then bytes, and search proves
+/// one of a few words; so the forms stand in six groups.
 fn verb_named(word: &[u8]) -> Option<Verb>
     ensures { result ≡ named word.now verbs }
 {

@@ -5,7 +5,7 @@ ghost use Rattle.arc_block.specs.Natives.{IsAmong};
 
 use arc_block::block::NativeBlock;
 use arc_buffer::kinds::Plain;
-use arc_owners::error::CountFull;
+use arc_owners::error::OwnerError;
 use arc_owners::leave::RaiseLeave;
 use arc_owners::mark::Open;
 use arc_owners::owners::Pass;
@@ -30,15 +30,15 @@ fn shared<A: Allocator + Copy>(
 {
     match block.try_share_once_as(leave, pass) {
         Some(Ok(made)) => Some(made),
-        Some(Err(CountFull)) => None,
+        Some(Err(_)) => None,
         None => None,
     }
 }
 
 /// Whether an owner wasn't made since the count is full.
-fn is_full<A: Allocator + Copy>(tried: Option<Result<Bytes<A>, CountFull>>) -> bool {
+fn is_full<A: Allocator + Copy>(tried: Option<Result<Bytes<A>, OwnerError>>) -> bool {
     match tried {
-        Some(Err(CountFull)) => true,
+        Some(Err(OwnerError::CountFull)) => true,
         _ => false,
     }
 }

@@ -2,46 +2,41 @@
 use Rattle.std.proofs.Common.{◌≡◌, ℕ, ◌+◌, Bool, true, false, if◌then◌else◌, List, [], ◌∷◌}
 use Rattle.std.proofs.Common.{length, Option, Some, None, Result, Ok, Err, is_some, refl, sym, ap}
 use Rattle.std.proofs.Common.{◌∙◌, subst, arith}
-use Rattle.std.specs.Prelude.{nat_lt, max}
+use Rattle.std.specs.Prelude.{max}
 use Rattle.std.specs.Result.{result_err}
 use Rattle.std.proofs.lemmas.Bool.{false≢true}
 use Rattle.std.proofs.lemmas.Option.{same_Some}
 use Rattle.arc_owners.specs.declared.mark.Whole.{Whole}
 use Rattle.arc_owners.specs.declared.count.tokens.Pass.{Pass}
-use Rattle.arc_owners.specs.declared.error.RangeError.{RangeError}
 use Rattle.arc_owners.specs.declared.error.TryReserveError.{TryReserveError}
 use Rattle.arc_owners.specs.declared.error.TryReserveError.TheVariants as reserve
 use Rattle.arc_owners.specs.declared.history.entry.Entry.TheVariants as entry
 use Rattle.arc_owners.specs.count.Calls.{Owner}
-use Rattle.arc_buffer.specs.Slice.{edge_answer}
 use Rattle.arc_parts.specs.declared.room.Room.{Room}
 use Rattle.arc_parts.specs.declared.room.Room.TheVariants as from
 use Rattle.arc_block.specs.Owned.{Stand}
-use Rattle.arc_block.specs.Place.{Place, nowhere, static_data, on_block, metadata_at}
-use Rattle.std.specs.Option.{option_map_or}
+use Rattle.arc_block.specs.Place.{Place, nowhere, static_data, on_block}
 use Rattle.arc_block.specs.Table.{Row, Role, reader, sole_writer, one_writer_of_several, inline}
 use Rattle.arc_block.specs.Table.{forgotten, block_of}
 use Rattle.arc_parts.specs.Writers.{new_writer, with_more, with_room}
-use Rattle.arc_parts.specs.Writers.{after_advance, capacity_of}
 use Rattle.arc_commands.specs.Additions.{RowAdds, Founds, MayBegin, Stays}
-use Rattle.arc_commands.specs.Changes.{Setting, Shortage, no_shortage, of_table}
+use Rattle.arc_commands.specs.Changes.{Setting, Shortage, no_shortage}
 use Rattle.arc_commands.specs.Changes.{of_blocks}
 use Rattle.arc_commands.specs.Changes.{Around, Change, begun}
 use Rattle.arc_commands.specs.Step.{answer_any, answer_row}
-use Rattle.arc_commands.specs.Changes.{filled, in_range, is_now}
+use Rattle.arc_commands.specs.Changes.{filled, is_now}
 use Rattle.arc_commands.specs.Step.{is_allowed}
 use Rattle.arc_commands.specs.Changes.{is_on_block}
-use Rattle.arc_commands.specs.Changes.{room_of, truncated}
+use Rattle.arc_commands.specs.Changes.{room_of}
 use Rattle.arc_commands.specs.Step.{shortage}
 use Rattle.arc_commands.specs.Changes.{gone}
-use Rattle.arc_commands.specs.Blocks.{is_reader, is_several, is_small, is_sole, is_writer}
+use Rattle.arc_commands.specs.Blocks.{is_several, is_sole}
 use Rattle.arc_commands.specs.Several.{filled_shared}
 use Rattle.arc_commands.specs.Step.{written}
 use Rattle.arc_commands.specs.Commands.{ListCmd, ListReply}
 use Rattle.arc_commands.specs.declared.command.Cmd.TheVariants as command
 use Rattle.arc_commands.specs.declared.command.Reply.TheVariants as reply
 use Rattle.arc_commands.proofs.Roles.{sole_each, sole-several}
-use Rattle.arc_slots.proofs.Roles.{writer_each}
 use Rattle.arc_slots.specs.Answers.{Answers, around_in}
 use Rattle.arc_slots.specs.Calls.{Along}
 use Rattle.arc_slots.specs.Slots.{IsSlotRole, SlotView, row_of, stand_of}
@@ -60,14 +55,6 @@ use Rattle.arc_slots.proofs.Told.{many_along}
 use Rattle.arc_slots.proofs.Told.{many-founded, row-begins}
 use Rattle.arc_slots.proofs.Told.{stand_block}
 
--- a block's metadata is the same by whatever it goes
-metadata-numbered : {M : Type 0} (b : Option ℕ) (place : Place (Option Owner) M)
-    → metadata_at (numbered b place) ≡ metadata_at place
-metadata-numbered b nowhere = refl
-metadata-numbered b static_data = refl
-metadata-numbered b (on_block None offset info) = refl
-metadata-numbered b (on_block (Some o) offset info) = refl
-
 -- what is refused for one reason is refused for no other
 pub refused-same : (e f : TryReserveError)
     → ◌≡◌ {A = Result (Unit {0}) TryReserveError} (Err e) (Err f) → e ≡ f
@@ -82,13 +69,6 @@ slot_each P reads writes beside small (sole_writer places) known = writes places
 slot_each P reads writes beside small (one_writer_of_several places) known = beside places
 slot_each P reads writes beside small inline known = small
 slot_each P reads writes beside small forgotten known = absurd known
-
-small_each : (P : Role → Type 0) → P inline → (role : Role) → is_small role ≡ true → P role
-small_each P small reader is = absurd (false≢true is)
-small_each P small (sole_writer places) is = absurd (false≢true is)
-small_each P small (one_writer_of_several places) is = absurd (false≢true is)
-small_each P small inline is = small
-small_each P small forgotten is = absurd (false≢true is)
 
 module _ {T M : Type 0} (setting : Setting T) (windows : ℕ) (s : SlotView T M)
     (passes : List (Pass Whole)) where
@@ -215,58 +195,6 @@ module _ {T M : Type 0} (setting : Setting T) (windows : ℕ) (s : SlotView T M)
     adds = adds;
   }
 
-  module _ (new : SlotView T M) (stays : stand_of (Some new) ≡ here) where
-    pub advanced : (i by : ℕ) → IsFor (command.Adv i by)
-        → edge_answer setting.boundary s.window.items by ≡ Ok tt
-        → row_of new ≡ after_advance by row
-        → Said (command.Adv i by) reply.Ok (Some new) None passes
-    advanced i by for edge is =
-        changes (command.Adv i by) reply.Ok new
-        (for-role no_shortage (command.Adv i by) for
-        ∙ ap (λ a. in_range a row (is_now reply.Ok (after_advance by row))) edge
-        ∙ ap (is_now reply.Ok) (sym is)) (stays, refl, refl)
-
-    pub truncates : (i len : ℕ) → IsFor (command.Trunc i len)
-        → nat_lt len (length s.window.items) ≡ true
-        → edge_answer setting.boundary s.window.items len ≡ Ok tt
-        → row_of new ≡ truncated setting.drops row len
-        → Said (command.Trunc i len) reply.Ok (Some new) None passes
-    truncates i len for short edge is =
-        changes (command.Trunc i len) reply.Ok new
-        (for-role no_shortage (command.Trunc i len) for
-        ∙ ap (λ b. if b then in_range (edge_answer setting.boundary row.items len) row
-        (is_now reply.Ok (truncated setting.drops row len)) else is_now reply.Ok row) short
-        ∙ ap (λ a. in_range a row (is_now reply.Ok (truncated setting.drops row len))) edge
-        ∙ ap (is_now reply.Ok) (sym is)) (stays, refl, refl)
-
-  pub adv-range : (i by : ℕ) (e : RangeError) → IsFor (command.Adv i by)
-      → edge_answer setting.boundary s.window.items by ≡ Err e
-      → Said (command.Adv i by) (reply.Range e) (Some s) None passes
-  adv-range i by e for edge =
-      same (command.Adv i by) (reply.Range e) (for-role no_shortage (command.Adv i by) for
-      ∙ ap (λ a. in_range a row (is_now reply.Ok (after_advance by row))) edge) (refl, refl, refl)
-
-  pub trunc-range : (i len : ℕ) (e : RangeError)
-      → IsFor (command.Trunc i len)
-      → nat_lt len (length s.window.items) ≡ true
-      → edge_answer setting.boundary s.window.items len ≡ Err e
-      → Said (command.Trunc i len) (reply.Range e) (Some s) None passes
-  trunc-range i len e for short edge =
-      same (command.Trunc i len) (reply.Range e) (for-role no_shortage (command.Trunc i len) for
-      ∙ ap (λ b. if b then in_range (edge_answer setting.boundary row.items len) row
-      (is_now reply.Ok (truncated setting.drops row len)) else is_now reply.Ok row) short
-      ∙ ap (λ a. in_range a row (is_now reply.Ok (truncated setting.drops row len))) edge)
-      (refl, refl, refl)
-
-  pub trunc-longer : (i len : ℕ) → IsFor (command.Trunc i len)
-      → nat_lt len (length s.window.items) ≡ false
-      → Said (command.Trunc i len) reply.Ok (Some s) None passes
-  trunc-longer i len for long =
-      same (command.Trunc i len) reply.Ok (for-role no_shortage (command.Trunc i len) for
-      ∙ ap (λ b. if b then in_range (edge_answer setting.boundary row.items len) row
-      (is_now reply.Ok (truncated setting.drops row len)) else is_now reply.Ok row) long)
-      (refl, refl, refl)
-
   -- what is for a reader, for each writer and for a small window is for a slot's window
   pub for-each : IsSlotRole s.role → (c : Command) → allowed c reader ≡ true
       → ((places : ℕ) → allowed c (sole_writer places) ≡ true)
@@ -274,31 +202,6 @@ module _ {T M : Type 0} (setting : Setting T) (windows : ℕ) (s : SlotView T M)
       → allowed c inline ≡ true → IsFor c
   for-each known c reads writes beside small =
       slot_each (λ role. allowed c role ≡ true) reads writes beside small s.role known
-
-  -- and what is for these but the last, for one that is no small one
-  pub for-large : IsSlotRole s.role → is_small s.role ≡ false → (c : Command)
-      → allowed c reader ≡ true → ((places : ℕ) → allowed c (sole_writer places) ≡ true)
-      → ((places : ℕ) → allowed c (one_writer_of_several places) ≡ true) → IsFor c
-  for-large known large c reads writes beside =
-      slot_each (λ role. is_small role ≡ false → allowed c role ≡ true) (λ is. reads)
-      (λ places is. writes places) (λ places is. beside places)
-      (λ is. absurd (false≢true (sym is))) s.role known large
-
-  -- what isn't for small windows
-  pub small-kind : (c : Command) → is_small s.role ≡ true → allowed c inline ≡ false
-      → RowAdds here here None passes passes setting row c reply.Kind
-      → Said c reply.Kind (Some s) None passes
-  small-kind c is not adds =
-      same c reply.Kind
-      (not-for no_shortage c (small_each (λ role. allowed c role ≡ false) not s.role is)) adds
-
-  -- what is for readers alone
-  pub reader-kind : (c : Command) → is_reader s.role ≡ false
-      → ((role : Role) → is_reader role ≡ false → allowed c role ≡ false)
-      → RowAdds here here None passes passes setting row c reply.Kind
-      → Said c reply.Kind (Some s) None passes
-  reader-kind c is not adds =
-      same c reply.Kind (not-for no_shortage c (not s.role is)) adds
 
   -- ---- who is one of several, or the only one
 
@@ -328,17 +231,6 @@ module _ {T M : Type 0} (setting : Setting T) (windows : ℕ) (s : SlotView T M)
       (λ is. refl) (λ places is. refl) (λ places is. absurd (false≢true (sym is))) (λ is. refl)
       s.role known other)) (refl, refl, refl)
 
-  -- of one window alone there is no join
-  pub join-kind : (i j : ℕ) → Said (command.Join i j) reply.Kind (Some s) None passes
-  join-kind i j =
-      same (command.Join i j) reply.Kind (either (allowed (command.Join i j) s.role))
-      (refl, refl, refl)
-    where
-      either : (b : Bool) → (if b then is_now reply.Kind row else is_now reply.Kind row)
-          ≡ is_now reply.Kind row
-      either true = refl
-      either false = refl
-
   -- ---- what is only told
 
   pub shown : (i : ℕ) → IsFor (command.Show i)
@@ -347,72 +239,13 @@ module _ {T M : Type 0} (setting : Setting T) (windows : ℕ) (s : SlotView T M)
       same (command.Show i) (reply.Items s.window.items)
       (for-role no_shortage (command.Show i) for) (refl, refl, refl)
 
-  pub show-alloc : (i : ℕ) → IsFor (command.Show i)
-      → Said (command.Show i) reply.Alloc (Some s) None passes
-  show-alloc i for =
-      same (command.Show i) reply.Alloc (for-role of_table (command.Show i) for) (refl, refl, refl)
-
-  pub told-metadata : (i : ℕ) (metadata : M) → IsFor (command.Meta i)
-      → metadata_at s.window.place ≡ Some metadata
-      → Said (command.Meta i) (reply.Meta metadata) (Some s) None passes
-  told-metadata i metadata for is =
-      same (command.Meta i) (reply.Meta metadata)
-      (for-role no_shortage (command.Meta i) for
-      ∙ ap (λ x. is_now (option_map_or reply.Meta x reply.None) row)
-      (metadata-numbered s.block s.window.place ∙ is)) (refl, refl, refl)
-
-  pub told-none : (i : ℕ) → IsFor (command.Meta i) → metadata_at s.window.place ≡ None
-      → Said (command.Meta i) reply.None (Some s) None passes
-  told-none i for is =
-      same (command.Meta i) reply.None
-      (for-role no_shortage (command.Meta i) for
-      ∙ ap (λ x. is_now (option_map_or reply.Meta x reply.None) row)
-      (metadata-numbered s.block s.window.place ∙ is)) (refl, refl, refl)
-
   pub counted : (i : ℕ) → IsFor (command.Len i)
       → Said (command.Len i) (reply.Number (length s.window.items)) (Some s) None passes
   counted i for =
       same (command.Len i) (reply.Number (length s.window.items))
       (for-role no_shortage (command.Len i) for) (refl, refl, refl)
 
-  pub places-told : (i places : ℕ) → is_writer s.role ≡ true → places ≡ capacity_of s.role
-      → Said (command.Room i) (reply.Number places) (Some s) None passes
-  places-told i places writes is =
-      same (command.Room i) (reply.Number places)
-      (for-role no_shortage (command.Room i)
-      (writer_each (λ role. allowed (command.Room i) role ≡ true) (λ n. refl) (λ n. refl) s.role
-      writes)
-      ∙ ap (λ n. is_now (reply.Number n) row) (sym is)) (refl, refl, refl)
-
-  -- what is for writers alone
-  writers-for : (c : Command) (role : Role) → is_writer role ≡ false → allowed c reader ≡ false
-      → allowed c inline ≡ false → allowed c forgotten ≡ false → allowed c role ≡ false
-  writers-for c reader other reads small gone = reads
-  writers-for c (sole_writer places) other reads small gone = absurd (false≢true (sym other))
-  writers-for c (one_writer_of_several places) other reads small gone =
-      absurd (false≢true (sym other))
-  writers-for c inline other reads small gone = small
-  writers-for c forgotten other reads small gone = gone
-
-  pub room-kind : (i : ℕ) → is_writer s.role ≡ false
-      → Said (command.Room i) reply.Kind (Some s) None passes
-  room-kind i other =
-      same (command.Room i) reply.Kind (not-for no_shortage (command.Room i)
-      (writers-for (command.Room i) s.role other refl refl refl)) (refl, refl, refl)
-
   -- ---- what is written into a window
-
-  pub write-kind : (i : ℕ) (what : Writing (List T) T) → is_writer s.role ≡ false
-      → Said (write_command i what) reply.Kind (Some s) None passes
-  write-kind i (writing.Nothing additional) other =
-      same (command.Res i additional) reply.Kind (not-for no_shortage (command.Res i additional)
-      (writers-for (command.Res i additional) s.role other refl refl refl)) (refl, refl, refl)
-  write-kind i (writing.Item item) other =
-      same (command.Push i item) reply.Kind (not-for no_shortage (command.Push i item)
-      (writers-for (command.Push i item) s.role other refl refl refl)) (refl, refl, refl)
-  write-kind i (writing.Items items) other =
-      same (command.Ext i items) reply.Kind (not-for no_shortage (command.Ext i items)
-      (writers-for (command.Ext i items) s.role other refl refl refl)) (refl, refl, refl)
 
   -- a first block begins under the window
   pub begins-as : (c : Command) (new : SlotView T M) (r : Row T M) (passes' : List (Pass Whole))

@@ -14,7 +14,8 @@ use Rattle.arc_parts.specs.Steps.{IsPassAt, Shares, Refuses}
 use Rattle.arc_block.specs.Table.{Row, Role, reader}
 use Rattle.arc_parts.specs.Window.{Window, PartsView}
 use Rattle.arc_parts.specs.Writers.{sole_at}
-use Rattle.arc_slots.specs.Slots.{AnyWindow, held, row_of, window_in, writer_slot}
+use Rattle.arc_slots.specs.Slots.{AnyWindow, SlotView, held, row_of, window_in, read_slot}
+use Rattle.arc_slots.specs.Slots.{stand_of, writer_slot}
 use Rattle.arc_slots.specs.declared.window.Held.TheVariants.{Read}
 use Rattle.arc_slots.specs.Calls.{Through, Along, Beside, RefusesAt, AddsNothing}
 use Rattle.arc_slots.specs.Stands.{numbered, is_numbered, stand_at, HasPassFor, TakenOut, put_back}
@@ -34,6 +35,26 @@ module _ {T M K : Type 0} (small : K → PartsView T M) (h : AnyWindow T M K) (w
   pub reads-fits : is_numbered b (window_in small h).place ≡ true
       → is_numbered b w.place ≡ true
   reads-fits fits = ap (λ x. is_numbered b (window_in small x).place) (sym is) ∙ fits
+
+-- what a call by a slot finds whose window is read: how it is seen, that its number is that of its
+-- place, and that the passes have the one of its block
+pub record ReadSlot {T M H : Type 0} (w : Window T M) (b : Option ℕ) (s : SlotView T M)
+    (passes : List (Pass H)) : Type 0 where
+  pub view : read_slot w b ≡ s
+  pub fits : is_numbered b w.place ≡ true
+  pub has : HasPassFor passes (stand_at b w.place)
+
+pub reads-slot : {T M K H : Type 0} (small : K → PartsView T M) (h : AnyWindow T M K)
+    (w : Window T M) (b : Option ℕ) {s : SlotView T M} (passes : List (Pass H)) → h ≡ Read w
+    → held small h b ≡ s → is_numbered b (window_in small h).place ≡ true
+    → HasPassFor passes (stand_of (Some s)) → ReadSlot w b s passes
+reads-slot small h w b {s = s} passes is seen fits has =
+    let view : read_slot w b ≡ s = sym (reads-view small h w b is) ∙ seen in
+    record {
+      view = view;
+      fits = reads-fits small h w b is fits;
+      has = subst (λ x. HasPassFor passes (stand_of (Some x))) (sym view) has;
+    }
 
 -- what a call does to the pass of the owner by which it goes
 abbrev Call : Type 0 → Type 1

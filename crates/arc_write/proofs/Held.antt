@@ -183,24 +183,14 @@ module _ {T M : Type 0} (layout : LayoutFacts) where
   buffer_held one_pass places full metadata items w p any made = same made.made any
 
 -- a block that may be written under a layout stays there
-may-stays : (layout : LayoutFacts) (sort : Sort) → MayWrite layout.has_any sort
+pub may-stays : (layout : LayoutFacts) (sort : Sort) → MayWrite layout.has_any sort
     → counted_move layout sort ≡ Stays
 may-stays layout native may = refl
 may-stays layout vector may = ap (λ b. if b then Stays else HandedBack) may.1
 may-stays layout (buffer writable) may = ap (λ b. if b then Stays else HandedBack) may.1
 may-stays layout raw may = absurd may.0
 
--- what becomes a sole writer's stays, where it stands on a block
-pub sole_stays : {M H : Type 0} (layout : LayoutFacts) (place : Place (Option Owner) M) (len : ℕ)
-    (before after : Pass H) → BecomesSoleAt layout.has_any place len before after
-    → IsOnBlock place → layout_move layout place ≡ Stays
-sole_stays layout nowhere len before after made on = absurd on
-sole_stays layout static_data len before after made on = absurd on
-sole_stays layout (on_block None offset info) len before after made on = absurd made
-sole_stays layout (on_block (Some o) offset info) len before after made on =
-    may-stays layout info.sort made.0
-
--- and of what the layout hands back nothing was asked
+-- of what the layout hands back nothing was asked
 pub unasked_back : {M H : Type 0} (layout : LayoutFacts) (place : Place (Option Owner) M) (len : ℕ)
     (before after : Pass H) → RefusesSoleAt layout.has_any place len before after
     → layout_move layout place ≡ HandedBack → after ≡ before

@@ -9,3 +9,4 @@ pub mod Parts
 pub mod ReadParts
 pub mod RefusedSeveral
 mod Zeros
+pub mod Moves

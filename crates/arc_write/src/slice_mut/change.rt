@@ -4,16 +4,19 @@ ghost use Rattle.std.specs.Str.{IsUtf8, valid_up_to, error_len};
 ghost use Rattle.std.specs.Str.Lossy.{utf8_valid_len, utf8_error_len};
 ghost use Rattle.arc_block.specs.LayoutFacts.{layout_facts};
 ghost use Rattle.arc_block.specs.Moves.{IsRefused, layout_move};
-ghost use Rattle.arc_parts.specs.Window.{parts_of, IsBlockHeld};
+ghost use Rattle.arc_parts.specs.Window.{parts_of};
 ghost use Rattle.arc_block.specs.Place.{IsOnBlock};
+ghost use Rattle.arc_parts.specs.Moves.{Moves};
 ghost use Rattle.arc_parts.specs.Steps.{IsPassAt, Makes, Begins};
+ghost use Rattle.arc_read.specs.Steps.{WithNewPass};
+ghost use Rattle.arc_write.specs.Moves.{writer_move};
 ghost use Rattle.arc_parts.specs.Writers.{Freezes, as_reader};
 
 use super::ArcSliceMut;
 use arc_block::layout::{Layout, LayoutMut};
 use arc_buffer::buffer::BufferMut;
 use arc_buffer::kinds::{ByteText, Plain, Slice, Text};
-use arc_owners::mark::Mark;
+use arc_owners::mark::{Mark, Stepping};
 use arc_owners::owners::Pass;
 use arc_read::slice::ArcSlice;
 use std::alloc::Allocator;
@@ -63,42 +66,64 @@ impl<
         }
     }
 
-    /// The same window, under the layout `K`, where that holds its block. It adds nothing and takes
-    /// no memory.
+    /// The same window, under the layout `K`: it goes where `writer_move` says. One on no block, or
+    /// on one that the layout holds, stays where it stands. It adds nothing and takes no memory.
     ///
     /// # Errors
     ///
-    /// The window, exactly where it stands on a block that the layout doesn't hold.
-    pub fn try_with_layout<K: LayoutMut>(self) -> Result<ArcSliceMut<S, K, 1, B, M, A, H>, Self>
-        ensures moved { IfOk result (λ window. (window ≡ self)
-            × IsBlockHeld (layout_facts K.Layout) self.place) }
-        ensures refused { IfErr result (λ back. (back ≡ self)
-            × (¬ IsBlockHeld (layout_facts K.Layout) self.place)) }
-    {
-        match self.into_parts().try_with_layout::<K>() {
-            Ok(parts) => Ok(ArcSliceMut::from_parts(parts)),
-            Err(parts) => Err(Self::from_parts(parts)),
-        }
-    }
-
-    /// `try_with_layout`, with a pass, which stays as it is.
-    ///
-    /// # Errors
-    ///
-    /// Those of `try_with_layout`.
+    /// The window, exactly where it stands on a block that the layout doesn't hold; the pass is then
+    /// as before.
+    #[tactic(auto, using(crate::proofs::Moves::held_moves, crate::proofs::Moves::back_refused))]
     pub fn try_with_layout_as<K: LayoutMut>(
         self,
         pass: &mut Pass<H>,
     ) -> Result<ArcSliceMut<S, K, 1, B, M, A, H>, Self>
         requires pass { IsPassAt self.place pass.old }
-        ensures moved { IfOk result (λ window. (window ≡ self)
-            × IsBlockHeld (layout_facts K.Layout) self.place) }
+        ensures moved { IfOk result (λ window.
+            Moves (writer_move (layout_facts K.Layout) self.place) S.DROPS H.whole self window
+            pass.old pass.new) }
+        ensures items { IfOk result (λ window. window.items ≡ self.items) }
+        ensures pass { IfOk result (λ window. IsPassAt window.place pass.new) }
         ensures refused { IfErr result (λ back. (back ≡ self)
-            × (¬ IsBlockHeld (layout_facts K.Layout) self.place)) }
-        ensures pass { pass.new ≡ pass.old }
+            × IsRefused (writer_move (layout_facts K.Layout) self.place)
+            × (pass.new ≡ pass.old)) }
     {
         let _ = pass;
-        self.try_with_layout()
+        match self.into_parts().try_with_layout::<K>() {
+            Ok(parts) => Ok(ArcSliceMut::from_parts(parts)),
+            Err(parts) => Err(Self::from_parts(parts)),
+        }
+    }
+}
+
+// The plain form. It is generic over the marks under which a block has many passes, as the other
+// plain forms are.
+impl<
+    S: Slice,
+    L: LayoutMut,
+    B: BufferMut<S::Item> + Drop,
+    M: Drop,
+    A: Allocator + Copy,
+    H: Stepping,
+> ArcSliceMut<S, L, 1, B, M, A, H> {
+    /// The same window, under the layout `K`: `try_with_layout_as` with a new pass.
+    ///
+    /// # Errors
+    ///
+    /// Those of `try_with_layout_as`.
+    pub fn try_with_layout<K: LayoutMut>(self) -> Result<ArcSliceMut<S, K, 1, B, M, A, H>, Self>
+        ensures moved { IfOk result (λ window. WithNewPass {H = H} H.real self.place (λ first last.
+            Moves (writer_move (layout_facts K.Layout) self.place) S.DROPS H.whole self window
+            first last)) }
+        ensures items { IfOk result (λ window. window.items ≡ self.items) }
+        ensures refused { IfErr result (λ back. (back ≡ self)
+            × IsRefused (writer_move (layout_facts K.Layout) self.place)
+            × WithNewPass {H = H} H.real self.place (λ first last. last ≡ first)) }
+    {
+        let mut pass = self.pass();
+        let moved = self.try_with_layout_as(&mut pass);
+        pass.show();
+        moved
     }
 }
 

@@ -2,12 +2,12 @@
 ghost use Rattle.std.specs.Prelude.{◌≡◌, IfOk, IfErr};
 ghost use Rattle.arc_block.specs.LayoutFacts.{layout_facts};
 ghost use Rattle.arc_block.specs.Moves.{layout_move};
-ghost use Rattle.arc_block.specs.Place.{IsOnBlock};
-ghost use Rattle.arc_block.specs.declared.layout.Move.TheVariants.{Stays, HandedBack};
+ghost use Rattle.arc_block.specs.declared.layout.Move.TheVariants.{HandedBack};
 ghost use Rattle.arc_parts.specs.Window.{Window, parts_of};
 ghost use Rattle.arc_parts.specs.Steps.{IsPassAt};
-ghost use Rattle.arc_parts.specs.Writers.{as_sole, BecomesSole, RefusesSole};
+ghost use Rattle.arc_parts.specs.Writers.{RefusesSole};
 ghost use Rattle.arc_read.specs.Steps.{WithNewPass};
+ghost use Rattle.arc_write.specs.Moves.{BecomesWriter};
 
 use super::ArcSliceMut;
 use arc_block::layout::{Layout, LayoutMut};
@@ -41,9 +41,9 @@ pub trait IntoMut: Sized {
     // The window's items, and where it stands.
     ghost seen: { Self → Window Self.Kind.Item Self.Metadata };
 
-    /// The same items at the same place, as their only writer under the layout `K`, where the
-    /// window stands on a block that may be written and that the layout holds, and that no other
-    /// owner has, or where it has none and stands on no block. A native block may be written, and a
+    /// The same items, as their only writer under the layout `K`, where the window stands on a block
+    /// that may be written and that the layout holds, and that no other owner has, or where it has
+    /// none and stands on no block: at the same place, which is where `writer_move` says. A native block may be written, and a
     /// vector; a caller's buffer that was made a window to be read may not, nor an `Arc`.
     ///
     /// # Errors
@@ -62,10 +62,10 @@ pub trait IntoMut: Sized {
         Self,
     >
         requires pass { IsPassAt (seen self).place pass.old }
-        ensures sole { IfOk result (λ sole. (sole ≡ as_sole Self.Kind.DROPS (parts_of (seen self)))
-            × BecomesSole K.ANY (parts_of (seen self)) pass.old pass.new) }
-        ensures moved { IfOk result (λ _. IsOnBlock (seen self).place
-            → layout_move (layout_facts K.Layout) (seen self).place ≡ Stays) }
+        ensures sole { IfOk result (λ sole. BecomesWriter (layout_facts K.Layout) Self.Kind.DROPS
+            Self.Mark.whole (parts_of (seen self)) sole pass.old pass.new) }
+        ensures items { IfOk result (λ sole. sole.items ≡ (seen self).items) }
+        ensures pass { IfOk result (λ sole. IsPassAt sole.place pass.new) }
         ensures refused { IfErr result (λ back. (back ≡ self)
             × RefusesSole K.ANY (parts_of (seen self)) pass.old pass.new) }
         ensures unasked { IfErr result (λ _.
@@ -89,11 +89,11 @@ pub trait IntoMut: Sized {
     >
     where
         Self::Mark: Stepping,
-        ensures sole { IfOk result (λ sole. (sole ≡ as_sole Self.Kind.DROPS (parts_of (seen self)))
-            × WithNewPass {H = Self.Mark} Self.Mark.real (seen self).place (λ first last.
-            BecomesSole K.ANY (parts_of (seen self)) first last)) }
-        ensures moved { IfOk result (λ _. IsOnBlock (seen self).place
-            → layout_move (layout_facts K.Layout) (seen self).place ≡ Stays) }
+        ensures sole { IfOk result (λ sole.
+            WithNewPass {H = Self.Mark} Self.Mark.real (seen self).place (λ first last.
+            BecomesWriter (layout_facts K.Layout) Self.Kind.DROPS Self.Mark.whole
+            (parts_of (seen self)) sole first last)) }
+        ensures items { IfOk result (λ sole. sole.items ≡ (seen self).items) }
         ensures refused { IfErr result (λ back. (back ≡ self)
             × WithNewPass {H = Self.Mark} Self.Mark.real (seen self).place (λ first last.
             RefusesSole K.ANY (parts_of (seen self)) first last)) };
@@ -124,10 +124,10 @@ impl<
         pass: &mut Pass<H>,
     ) -> Result<ArcSliceMut<S, K, 1, B, M, A, H>, Self>
         requires pass { IsPassAt self.place pass.old }
-        ensures sole { IfOk result (λ sole. (sole ≡ as_sole S.DROPS (parts_of self))
-            × BecomesSole K.ANY (parts_of self) pass.old pass.new) }
-        ensures moved { IfOk result (λ _. IsOnBlock self.place
-            → layout_move (layout_facts K.Layout) self.place ≡ Stays) }
+        ensures sole { IfOk result (λ sole. BecomesWriter (layout_facts K.Layout) S.DROPS H.whole
+            (parts_of self) sole pass.old pass.new) }
+        ensures items { IfOk result (λ sole. sole.items ≡ self.items) }
+        ensures pass { IfOk result (λ sole. IsPassAt sole.place pass.new) }
         ensures refused { IfErr result (λ back. (back ≡ self)
             × RefusesSole K.ANY (parts_of self) pass.old pass.new) }
         ensures unasked { IfErr result (λ _.

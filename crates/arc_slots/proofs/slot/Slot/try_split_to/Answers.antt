@@ -1,11 +1,10 @@
 -- Of the two parts one has the owner, and what the other adds to the pass that was lent for it, it
 -- adds to the passes.
-use Rattle.std.proofs.Common.{◌≡◌, ◌<◌, length, Some, sym, subst, ◌∙◌}
-use Rattle.arc_slots.specs.Slots.{SlotView, row_of, stand_of}
+use Rattle.std.proofs.Common.{◌≡◌, ◌<◌, length, subst}
+use Rattle.arc_slots.specs.Slots.{SlotView, row_of}
 use Rattle.arc_slots.specs.Splits.{IsSplit}
-use Rattle.arc_slots.specs.Stands.{HasPassFor}
 use Rattle.arc_commands.specs.Changes.{to_part, cut_row}
-use Rattle.arc_slots.proofs.Slots.{still-number, reads-view, reads-fits}
+use Rattle.arc_slots.proofs.Slots.{still-number, reads-slot}
 use Rattle.arc_slots.proofs.Splits.{slot, to-end, to-earlier}
 use Rattle.arc_slots.proofs.slot.Slot.try_split_to.Goals as goal
 
@@ -13,36 +12,30 @@ pub give_back-requires : goal.give_back-requires
 give_back-requires g c =
     let b = c.self.inside.block in
     let w = c.in-Read.back in
-    let view =
-    sym (reads-view g.S.Small.SmallOf.seen c.self.inside.window w b c.in-Read.is) ∙ c.self.view_is in
-    let fits =
-    reads-fits g.S.Small.SmallOf.seen c.self.inside.window w b c.in-Read.is c.self.invariant.0 in
     let passes = c.args.passes.now.of_blocks.items in
-    let has =
-    subst (λ s. HasPassFor passes (stand_of (Some s))) (sym view) c.requires.pass in
+    let r =
+    reads-slot g.S.Small.SmallOf.seen c.self.inside.window w b passes c.in-Read.is
+    c.self.view_is c.self.invariant.0 c.requires.pass in
     still-number passes c.lend-pass.new.self.of_blocks.items c.lend-pass.result
-    b w.place fits has c.lend-pass.ensures.taken
+    b w.place r.fits r.has c.lend-pass.ensures.taken
 
 pub returns-then-len-at-clause-end : goal.returns-then-len-at-clause-end
 returns-then-len-at-clause-end g c =
     let b = c.self.inside.block in
     let w = c.in-Read.back in
-    let view =
-    sym (reads-view g.S.Small.SmallOf.seen c.self.inside.window w b c.in-Read.is) ∙ c.self.view_is in
-    let fits =
-    reads-fits g.S.Small.SmallOf.seen c.self.inside.window w b c.in-Read.is c.self.invariant.0 in
     let passes = c.args.passes.now.of_blocks.items in
+    let r =
+    reads-slot g.S.Small.SmallOf.seen c.self.inside.window w b passes c.in-Read.is
+    c.self.view_is c.self.invariant.0 c.requires.pass in
     let after = c.give_back.new.self.of_blocks.items in
-    let has =
-    subst (λ s. HasPassFor passes (stand_of (Some s))) (sym view) c.requires.pass in
     let one = slot c.in-Ok.window b in
     let other = slot c.try_split_to_as-made.new.self c.part_block-self-inside.result in
     subst (λ (s : SlotView g.row.S-Item.Denot g.row.M.Denot).
     c.args.at ≡ length s.window.items → IsSplit s one other
     (row_of s) (to_part g.L.Layout.STATIC (row_of s) c.args.at) passes after)
-    view
+    r.view
     (to-end g.L.Layout.STATIC passes c.lend-pass.new.self.of_blocks.items c.lend-pass.result
-    c.try_split_to_as-made.new.pass after w b c.give_back.ensures fits has
+    c.try_split_to_as-made.new.pass after w b c.give_back.ensures r.fits r.has
     c.lend-pass.ensures.taken c.args.at c.in-Ok.window c.try_split_to_as-made.new.self c.part_block-self-inside.result c.len.result
     c.in-Ok.ensures.ok c.len.ensures c.part_block-self-inside.ensures)
 
@@ -50,21 +43,18 @@ pub returns-clause-earlier : goal.returns-clause-earlier
 returns-clause-earlier g c =
     let b = c.self.inside.block in
     let w = c.in-Read.back in
-    let view =
-    sym (reads-view g.S.Small.SmallOf.seen c.self.inside.window w b c.in-Read.is) ∙ c.self.view_is in
-    let fits =
-    reads-fits g.S.Small.SmallOf.seen c.self.inside.window w b c.in-Read.is c.self.invariant.0 in
     let passes = c.args.passes.now.of_blocks.items in
+    let r =
+    reads-slot g.S.Small.SmallOf.seen c.self.inside.window w b passes c.in-Read.is
+    c.self.view_is c.self.invariant.0 c.requires.pass in
     let after = c.give_back.new.self.of_blocks.items in
-    let has =
-    subst (λ s. HasPassFor passes (stand_of (Some s))) (sym view) c.requires.pass in
     let one = slot c.try_split_to_as-made.new.self b in
     let other = slot c.in-Ok.window c.part_block-block.result in
     subst (λ (s : SlotView g.row.S-Item.Denot g.row.M.Denot).
     c.args.at < length s.window.items → IsSplit s one other
     (cut_row (row_of s) c.args.at (length s.window.items)) (to_part g.L.Layout.STATIC (row_of s) c.args.at) passes after)
-    view
+    r.view
     (to-earlier g.L.Layout.STATIC passes c.lend-pass.new.self.of_blocks.items c.lend-pass.result
-    c.try_split_to_as-made.new.pass after w b c.give_back.ensures fits has
+    c.try_split_to_as-made.new.pass after w b c.give_back.ensures r.fits r.has
     c.lend-pass.ensures.taken c.args.at c.in-Ok.window c.try_split_to_as-made.new.self c.part_block-block.result c.len-2.result
     c.in-Ok.ensures.ok c.len-2.ensures c.part_block-block.ensures)

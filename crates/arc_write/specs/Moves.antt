@@ -1,0 +1,25 @@
+-- Where a writer goes that is to be one of another layout, and what a reader becomes who is to be
+-- one.
+use Rattle.std.specs.Prelude.{Bool, Option}
+use Rattle.arc_owners.specs.declared.count.tokens.Pass.{Pass}
+use Rattle.arc_block.specs.Layouts.{LayoutFacts}
+use Rattle.arc_block.specs.Moves.{layout_move}
+use Rattle.arc_block.specs.Place.{Place, nowhere, static_data, on_block}
+use Rattle.arc_block.specs.declared.layout.Move.{Move}
+use Rattle.arc_block.specs.declared.layout.Move.TheVariants.{Stays}
+use Rattle.arc_parts.specs.Moves.{Moves}
+use Rattle.arc_parts.specs.Window.{PartsView}
+use Rattle.arc_parts.specs.Writers.{BecomesSole, as_sole}
+
+-- By what the layout holds. On no block there is nothing to be held.
+abbrev pub writer_move : {O M : Type 0} → LayoutFacts → Place (Option O) M → Move
+writer_move layout nowhere = Stays
+writer_move layout static_data = Stays
+writer_move layout (on_block owner offset info) = layout_move layout (on_block owner offset info)
+
+-- A reader became the only writer of the block, by one Alone, and went under the layout.
+pub record BecomesWriter {T M H : Type 0} (layout : LayoutFacts) (drops one_pass : Bool)
+    (w v : PartsView T M) (before after : Pass H) : Type 0 where
+  pub between : Pass H
+  pub asked : BecomesSole layout.has_any w before between
+  pub moved : Moves (writer_move layout w.place) drops one_pass (as_sole drops w) v between after
