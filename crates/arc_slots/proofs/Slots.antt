@@ -119,6 +119,13 @@ same-row {items = items} {place = place} {place' = place'} {role' = role'} same 
     ap (λ xs. any_row role' xs place') same ∙ ap (any_row role' items) there
     ∙ ap (λ r. any_row r items place) can
 
+-- a sole writer stands where the reader stood
+pub sole-stand : {T M : Type 0} (drops : Bool) (b : Option ℕ) (items : List T) (place : At M)
+    → stand_at b (sole_at drops items place).place ≡ stand_at b place
+sole-stand drops b items nowhere = refl
+sole-stand drops b items static_data = refl
+sole-stand drops b items (on_block owner offset info) = refl
+
 -- the only writer of what stands on a block with this number is one of that number's row
 pub sole-numbered : {T M : Type 0} (drops : Bool) (b : Option ℕ) (items : List T) (place : At M)
     → is_numbered b place ≡ true

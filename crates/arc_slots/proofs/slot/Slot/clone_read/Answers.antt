@@ -22,9 +22,11 @@ pub returns-in-Ok-clause-number : goal.returns-in-Ok-clause-number
 returns-in-Ok-clause-number g c =
     let b = c.self.inside.block in
     let w = c.in-Read.window in
-    let fits =
-    reads-fits g.S.Small.SmallOf.seen c.self.inside.window w b c.in-Read.is c.self.invariant.0 in
-    shares-fits c.lend-pass.result c.try_clone_as-made.new.pass b w.place c.in-Ok.window.place fits
+    let passes = c.args.passes.now.of_blocks.items in
+    let r =
+    reads-slot g.S.Small.SmallOf.seen c.self.inside.window w b passes c.in-Read.is
+    c.self.view_is c.self.invariant.0 c.requires.pass in
+    shares-fits c.lend-pass.result c.try_clone_as-made.new.pass b w.place c.in-Ok.window.place r.fits
     c.in-Ok.ensures.place
 
 pub returns-in-Ok-clause-row : goal.returns-in-Ok-clause-row

@@ -10,6 +10,7 @@ use Rattle.arc_slots.specs.Stands.{numbered, stand_at}
 use Rattle.arc_write.proofs.Moves.{writer_is_sole}
 use Rattle.arc_slots.proofs.Native.{becomes, refuses-sole}
 use Rattle.arc_slots.proofs.Slots.{still-number, reads-slot, sole-numbered}
+use Rattle.arc_slots.proofs.Slots.{sole-stand}
 use Rattle.arc_slots.proofs.slot.Slot.try_into_mut.Goals as goal
 
 pub give_back-requires : goal.give_back-requires
@@ -133,3 +134,22 @@ returns-in-Ok-clause-row g c =
     ∙ ap (λ (v : PartsView g.row.S-Item.Denot g.row.M.Denot). row_of (writer_slot v b))
     sole.0
     ∙ sole-numbered drops b w.items w.place r.fits)
+
+pub returns-in-Ok-clause-stand : goal.returns-in-Ok-clause-stand
+returns-in-Ok-clause-stand g c =
+    let b = c.self.inside.block in
+    let w = c.in-Read.window in
+    let drops = g.S.Slice.DROPS in
+    let passes = c.args.passes.now.of_blocks.items in
+    let r =
+    reads-slot g.S.Small.SmallOf.seen c.self.inside.window w b passes c.in-Read.is
+    c.self.view_is c.self.invariant.0 c.requires.pass in
+    let sole =
+    writer_is_sole (layout_facts g.L.Writable.Layout) drops true (parts_of w)
+    c.in-Ok.window c.lend-pass.result c.try_into_mut_as-asked.new.pass c.in-Ok.ensures.sole in
+    subst (λ (s : SlotView g.row.S-Item.Denot g.row.M.Denot).
+    stand_of (Some c.written.result) ≡ stand_of (Some s)) r.view
+    (ap (λ (s : SlotView g.row.S-Item.Denot g.row.M.Denot). stand_of (Some s)) c.written.ensures
+    ∙ ap (λ (v : PartsView g.row.S-Item.Denot g.row.M.Denot). stand_of (Some (writer_slot v b)))
+    sole.0
+    ∙ sole-stand drops b w.items w.place)
